@@ -1,0 +1,45 @@
+-- The shelf and the sink in memory, as contracts see them.
+use Rattle.std.specs.Prelude.{◌≡◌, ℕ, ◌+◌, ◌-◌, ◌<◌, ◌⊎◌, min, List, [], ◌∷◌, length, drop, map, Option, None, Some, Contains, Bool, is_ok, is_some, Result, if◌then◌else◌, string_bytes}
+use Rattle.std.specs.Str.{bytes_eq}
+use Rattle.std.specs.declared.vec.Vec.{Vec}
+use Rattle.std.specs.declared.string.String.{String}
+use Rattle.std.specs.declared.alloc.Global.{Global}
+use Rattle.bt_io.specs.Causes.{counted}
+
+-- a file: its name and its bytes
+pub record File : Type 0 where
+  pub name : List ℕ
+  pub bytes : List ℕ
+
+-- the bytes of the first file of that name
+abbrev pub file_named : List File → List ℕ → Option (List ℕ)
+file_named [] name = None
+file_named (file ∷ files) name = if bytes_eq file.name name then Some file.bytes else file_named files name
+
+-- the files that code holds as pairs
+abbrev pub files_in : List (String Global × Vec ℕ Global) → List File
+files_in pairs = map (λ pair. record { name = string_bytes pair.0; bytes = pair.1.items }) pairs
+
+-- A shelf in memory: its files; the most that one read gives; which calls fail, counted from 0, and how many
+-- were made; what is left of the chosen file; how many calls have failed.
+pub record MemoryShelf : Type 0 where
+  pub files : List File
+  pub cut : ℕ
+  pub fails : List ℕ
+  pub calls : ℕ
+  pub left : Option (List ℕ)
+  pub faults : ℕ
+
+-- A sink in memory: what it took; how much it takes in all, and the most that one write takes; which writes
+-- fail, counted from 0, and how many were made; how many have failed.
+pub record MemorySink : Type 0 where
+  pub taken : List ℕ
+  pub room : ℕ
+  pub cut : ℕ
+  pub fails : List ℕ
+  pub calls : ℕ
+  pub faults : ℕ
+
+-- the count of faults after a call
+abbrev pub faults_after : {T E : Type 0} → ℕ → Result T E → ℕ
+faults_after faults result = if is_ok result then faults else counted faults

@@ -1,0 +1,80 @@
+//! A shelf over the system's files and standard input.
+ghost use Rattle.std.specs.Prelude.{true, false, None, is_some};
+
+use crate::{Failed, Shelf};
+use std::fs;
+use std::io::Read;
+use std::rt::Files;
+
+/// An opened file, or standard input.
+#[derive(Drop)]
+enum Opened<F, I> {
+    File(F),
+    Input(I),
+}
+
+/// The system's files under their paths, and standard input under the name `-`. It tells no bytes.
+#[derive(Drop)]
+pub struct StdShelf<'a, R: Files + Input> {
+    rt: &'a R,
+    opened: Option<Opened<R::File, R::Reader>>,
+    faults: u64,
+}
+
+impl<'a, R: Files + Input> StdShelf<'a, R> {
+    /// A shelf of which nothing is chosen.
+    pub fn make(rt: &'a R) -> StdShelf<'a, R> {
+        StdShelf {
+            rt,
+            opened: None,
+            faults: 0,
+        }
+    }
+}
+
+impl<'a, R: Files + Input> Shelf for StdShelf<'a, R> {
+    ghost may = { λ _ _. true };
+
+    ghost held = { λ _ _. None };
+
+    ghost ready = { λ s. is_some s.opened };
+
+    ghost left = { λ _. None };
+
+    ghost faults = { λ s. s.faults };
+
+    ghost never_fails = { λ _. false };
+
+    fn choose(&mut self, name: &str) -> Result<(), Failed> {
+        if name == "-" {
+            self.opened = Some(Opened::Input(self.rt.reader()));
+            return Ok(());
+        }
+        match fs::open(self.rt, name) {
+            Ok(file) => {
+                self.opened = Some(Opened::File(file));
+                Ok(())
+            }
+            Err(_) => {
+                self.opened = None;
+                self.faults = self.faults.saturating_add(1);
+                Err(Failed)
+            }
+        }
+    }
+
+    fn read(&mut self, buf: &mut [u8]) -> Result<usize, Failed> {
+        let got = match &mut self.opened {
+            None => unreachable!(),
+            Some(Opened::File(file)) => file.read(buf),
+            Some(Opened::Input(input)) => input.read(buf),
+        };
+        match got {
+            Ok(count) => Ok(count),
+            Err(_) => {
+                self.faults = self.faults.saturating_add(1);
+                Err(Failed)
+            }
+        }
+    }
+}

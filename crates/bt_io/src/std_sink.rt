@@ -1,0 +1,41 @@
+//! A sink over a writer of std: standard output or standard error.
+ghost use Rattle.std.specs.Prelude.{None};
+
+use crate::{Failed, Sink};
+use std::io::Write;
+
+/// A writer of std as a sink. It tells no bytes. A write that takes none of a piece that has some is a fault.
+#[derive(Drop)]
+pub struct StdSink<W: Write> {
+    inner: W,
+    faults: u64,
+}
+
+impl<W: Write> StdSink<W> {
+    /// A sink that writes to `inner`.
+    pub fn make(inner: W) -> StdSink<W> {
+        StdSink { inner, faults: 0 }
+    }
+}
+
+impl<W: Write> Sink for StdSink<W> {
+    ghost taken = { λ _. None };
+
+    ghost faults = { λ s. s.faults };
+
+    ghost sure = { λ _. 0 };
+
+    fn write(&mut self, piece: &[u8]) -> Result<usize, Failed> {
+        match self.inner.write(piece) {
+            Ok(0) if !piece.is_empty() => {
+                self.faults = self.faults.saturating_add(1);
+                Err(Failed)
+            }
+            Ok(count) => Ok(count),
+            Err(_) => {
+                self.faults = self.faults.saturating_add(1);
+                Err(Failed)
+            }
+        }
+    }
+}

@@ -1,0 +1,36 @@
+-- A book is a list of batches, and a batch is a list of entries. Batches are numbered from 0, and so are the
+-- places in a batch.
+use Rattle.std.specs.Prelude.{◌≡◌, ◌≢◌, ℕ, ◌<◌, ◌^◌, List, [], ◌∷◌, ◌++◌, map}
+use Rattle.std.specs.List.{AllByRecursion}
+use Rattle.seq_objects.specs.Objects.{Objects, opening, after, reply_to}
+use Rattle.seq_objects.specs.BatchOrder.{ComesFirst}
+use Rattle.batch_history.specs.Pairs.{EachPair, AreDistinct}
+use Rattle.batch_history.specs.declared.batch.Entry.{Entry}
+
+-- the entries of a book, one batch after another
+abbrev pub flat : List (List Entry) → List Entry
+flat [] = []
+flat (batch ∷ book) = batch ++ flat book
+
+-- serving the operations one after another, from these objects on, gives exactly the replies
+abbrev pub IsLegalFrom : Objects → List Entry → Type 0
+IsLegalFrom objects [] = Unit {0}
+IsLegalFrom objects (entry ∷ entries) = (entry.reply ≡ reply_to objects entry.op) × IsLegalFrom (after objects entry.op) entries
+
+-- the book is a history of the serial objects
+abbrev pub IsLegal : List (List Entry) → Type 0
+IsLegal book = IsLegalFrom opening (flat book)
+
+-- a batch: not empty, in batch order, and of distinct workers
+pub record IsBatch (batch : List Entry) : Type 0 where
+  pub some : batch ≢ []
+  pub order : EachPair (λ first second. ComesFirst first.op first.worker second.op second.worker) batch
+  pub workers : AreDistinct (map (λ entry. entry.worker) batch)
+
+-- what a `History` keeps: legal batches of workers below 32, and no leaf twice
+pub record IsHistory (book : List (List Entry)) : Type 0 where
+  pub legal : IsLegal book
+  pub batches : AllByRecursion IsBatch book
+  pub workers : AllByRecursion (λ entry. entry.worker < 32) (flat book)
+  pub leaves : AreDistinct (map (λ entry. entry.leaf) (flat book))
+  pub numbers : AllByRecursion (λ leaf. leaf < 2 ^ 32) (map (λ entry. entry.leaf) (flat book))

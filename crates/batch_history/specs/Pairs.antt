@@ -1,0 +1,18 @@
+-- Lists without repeats.
+use Rattle.std.specs.Prelude.{◌≢◌, ℕ, List, [], ◌∷◌, Contains}
+use Rattle.std.specs.List.{AllByRecursion}
+
+-- the relation holds of each element and each later one
+abbrev pub EachPair : {X : Type 0} → (X → X → Type 0) → List X → Type 0
+EachPair R [] = Unit {0}
+EachPair R (x ∷ xs) = AllByRecursion (λ y. R x y) xs × EachPair R xs
+
+-- no number stands twice
+abbrev pub AreDistinct : List ℕ → Type 0
+AreDistinct numbers = EachPair (λ m n. m ≢ n) numbers
+
+-- the list has each number that passes, once, and no other
+pub record HasEachOnce (Passes : ℕ → Type 0) (numbers : List ℕ) : Type 0 where
+  pub distinct : AreDistinct numbers
+  pub only : AllByRecursion Passes numbers
+  pub each : (n : ℕ) → Passes n → Contains numbers n

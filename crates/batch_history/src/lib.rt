@@ -1,0 +1,18 @@
+//! What a run did: the history of its batches, the rows of its leaves, and the report made of both.
+//!
+//! The headline of the whole project is defined here: when a report is lawful for a job and a number of
+//! workers. A `History` keeps, at every moment, that its batches are what the serial objects would have
+//! given. The report's text is made here too. The crate stands on `sp_order` and `seq_objects`.
+#![tactic(auto)]
+
+pub mod batch;
+pub mod history;
+pub mod lines;
+pub mod report;
+pub mod row;
+
+pub use batch::{Batch, Entry};
+pub use history::History;
+pub use lines::text;
+pub use report::Report;
+pub use row::{Row, Rows};

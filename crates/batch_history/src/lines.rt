@@ -1,0 +1,123 @@
+//! The text of a report.
+ghost use Rattle.std.specs.Prelude.{◌≡◌, ◌++◌, ◌+◌, ◌<◌, ◌^◌, length, IfOk, OnOk, string_bytes};
+ghost use Rattle.std.specs.List.{flat_map};
+ghost use Rattle.sp_order.specs.Precedence.{leaf_count};
+ghost use Rattle.batch_history.specs.Book.{flat};
+ghost use Rattle.batch_history.specs.Text.{batch_lines, book_lines, row_line, report_text, head_line, entry_line};
+
+use crate::batch::{Batch, Entry};
+use crate::report::Report;
+use crate::row::Row;
+use sp_order::Job;
+use std::alloc::{AllocError, Global};
+use std::fmt::Write;
+
+/// How many entries the batches have.
+fn count_calls(book: &[Batch]) -> usize
+    requires { length (flat book.now) < 2 ^ 64 }
+    ensures { result ≡ length (flat book.now) }
+{
+    let mut count = 0;
+    for batch in book {
+        count += batch.entries().len();
+    }
+    count
+}
+
+#[tactic(auto, unfolding(crate::specs::Text::head_line))]
+fn push_head(
+    text: &mut String,
+    workers: u32,
+    leaves: usize,
+    calls: usize,
+    batches: usize,
+) -> Result<(), AllocError>
+    ensures { OnOk result (string_bytes text.new ≡ string_bytes text.old ++ head_line workers leaves calls batches) }
+{
+    write!(
+        text,
+        "workers {workers} leaves {leaves} calls {calls} batches {batches}\n"
+    )
+}
+
+#[tactic(auto, unfolding(crate::specs::Text::entry_line))]
+fn push_entry(
+    text: &mut String,
+    batch: usize,
+    place: usize,
+    entry: &Entry,
+) -> Result<(), AllocError>
+    ensures { OnOk result (string_bytes text.new ≡ string_bytes text.old ++ entry_line batch place entry.now) }
+{
+    let Entry {
+        leaf,
+        worker,
+        op,
+        reply,
+    } = *entry;
+    write!(text, "batch {batch} place {place} worker {worker}")?;
+    write!(text, " leaf {leaf} {op}")?;
+    write!(text, " -> {reply}\n")
+}
+
+fn push_batch(text: &mut String, batch: usize, entries: &[Entry]) -> Result<(), AllocError>
+    ensures { OnOk result (string_bytes text.new ≡ string_bytes text.old ++ batch_lines batch 0 entries.now) }
+{
+    for (place, entry) in entries.iter().enumerate() {
+        push_entry(text, batch, place, entry)?;
+    }
+    Ok(())
+}
+
+fn push_book(text: &mut String, book: &[Batch]) -> Result<(), AllocError>
+    ensures { OnOk result (string_bytes text.new ≡ string_bytes text.old ++ book_lines 0 book.now) }
+{
+    for (number, batch) in book.iter().enumerate() {
+        push_batch(text, number, batch.entries())?;
+    }
+    Ok(())
+}
+
+#[tactic(auto, unfolding(crate::specs::Text::row_line))]
+fn push_row(text: &mut String, row: &Row) -> Result<(), AllocError>
+    ensures { OnOk result (string_bytes text.new ≡ string_bytes text.old ++ row_line row.now) }
+{
+    let Row {
+        leaf,
+        worker,
+        start,
+        end,
+        value,
+    } = *row;
+    write!(text, "leaf {leaf} worker {worker} start {start}")?;
+    write!(text, " end {end} value {value}\n")
+}
+
+fn push_rows(text: &mut String, rows: &[Row]) -> Result<(), AllocError>
+    ensures { OnOk result (string_bytes text.new ≡ string_bytes text.old ++ flat_map row_line rows.now) }
+{
+    for row in rows {
+        push_row(text, row)?;
+    }
+    Ok(())
+}
+
+/// The text of a report of the job: a head line, a line for each call in the order of the batches, and a line
+/// for each leaf, each ended by a line feed.
+pub fn text(alloc: Global, job: &Job, report: &Report) -> Result<Vec<u8>, AllocError>
+    requires { length report.now.rows ≡ leaf_count job.now.shape }
+    ensures { IfOk result (λ bytes. bytes.items ≡ report_text report.now) }
+{
+    let mut text = String::new(alloc);
+    let book = report.history.batches();
+    push_head(
+        &mut text,
+        report.workers,
+        job.acts().len(),
+        count_calls(book),
+        book.len(),
+    )?;
+    push_book(&mut text, book)?;
+    push_rows(&mut text, report.rows.list())?;
+    Ok(text.into_bytes())
+}

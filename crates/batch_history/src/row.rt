@@ -1,0 +1,46 @@
+//! What each leaf of a run did.
+ghost use Rattle.std.specs.Prelude.{◌≡◌};
+
+use std::marker::Model;
+
+/// What one leaf did: the worker that ran it, the ticks at which it started and ended, and its value. The
+/// ticks of a run are drawn from one counter, which starts at 0.
+#[derive(Clone, Copy, Debug, PartialEq, Eq)]
+pub struct Row {
+    pub leaf: u32,
+    pub worker: u32,
+    pub start: u64,
+    pub end: u64,
+    pub value: u64,
+}
+
+/// The rows of a run's leaves. Contracts see it as a list.
+#[derive(Drop)]
+pub struct Rows {
+    rows: Vec<Row>,
+}
+
+impl Model for Rows {
+    ghost use Rattle.std.specs.Prelude.{List};
+    ghost use Rattle.batch_history.specs.declared.row.Row.{Row};
+
+    ghost Value = { List Row };
+
+    ghost view = { λ r. r.rows.items };
+}
+
+impl Rows {
+    /// These rows, in their order. It takes no memory.
+    pub fn of(rows: Vec<Row>) -> Rows
+        ensures { result ≡ rows.items }
+    {
+        Rows { rows }
+    }
+
+    /// The rows, in their order.
+    pub fn list(&self) -> &[Row]
+        ensures { result.now ≡ self.now }
+    {
+        self.rows.as_slice()
+    }
+}

@@ -1,0 +1,4 @@
+pub mod Objects
+pub mod BatchOrder
+pub mod Spin
+pub mod Words

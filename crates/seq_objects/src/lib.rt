@@ -1,0 +1,20 @@
+//! The operations on the shared objects, and what one thread would get from them.
+//!
+//! The meaning of every run rests on this crate: the serial objects say what each operation does and
+//! replies, `Plain` serves them one after another, and the batch order says in which order the calls of one
+//! batch are served. The work of a leaf without a call is here too. The crate stands on nothing but std.
+#![tactic(auto)]
+
+pub mod act;
+pub mod call;
+pub mod op;
+pub mod plain;
+pub mod reply;
+pub mod work;
+
+pub use act::Act;
+pub use call::{Call, comes_first};
+pub use op::Op;
+pub use plain::Plain;
+pub use reply::{Reply, value};
+pub use work::spin;

@@ -1,0 +1,15 @@
+//! The work of a leaf without a call.
+ghost use Rattle.std.specs.Prelude.{◌≡◌};
+ghost use Rattle.seq_objects.specs.Spin.{spin_of};
+
+/// The value of `n` steps of work: from `n` on, `n` times five times the number and one more, modulo 2^32.
+/// It takes no memory, and as many steps as it says.
+pub fn spin(n: u32) -> u32
+    ensures { result ≡ spin_of n }
+{
+    let mut x = n;
+    for _ in 0..n {
+        x = x.wrapping_mul(5).wrapping_add(1);
+    }
+    x
+}

@@ -1,0 +1,22 @@
+-- Jobs, as contracts see them.
+use Rattle.std.specs.Prelude.{◌≡◌, ◌≤◌, List, length, Option, refl}
+use Rattle.std.specs.Coded.{Coded, code_by, coded×, coded_list, coded_option}
+use Rattle.seq_objects.specs.declared.act.Act.{Act}
+use Rattle.seq_objects.specs.contracts.act.Act as act
+use Rattle.sp_order.specs.Precedence.{Tree, leaf_count}
+use Rattle.sp_order.specs.TreeCode.{coded_tree}
+
+-- the shape, and what the leaves do, from left to right
+pub record JobValue : Type 0 where
+  pub shape : Option Tree
+  pub acts : List Act
+
+-- there is one act for each leaf, and there are not too many
+pub record IsJob (job : JobValue) : Type 0 where
+  pub leaves : leaf_count job.shape ≡ length job.acts
+  pub most : length job.acts ≤ 20000
+
+-- by what a proof tells jobs apart
+abbrev pub coded_job : Coded JobValue
+coded_job =
+    code_by (Option Tree × List Act) (coded× (coded_option coded_tree) (coded_list act.the_row.coded)) (λ job. (job.shape, job.acts)) (λ parts. record { shape = parts.0; acts = parts.1 }) (λ _. refl)

@@ -1,0 +1,4 @@
+pub use Rattle.seq_objects.specs.Objects
+pub mod Precedence
+pub mod Jobs
+pub mod TreeCode

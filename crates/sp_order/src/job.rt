@@ -1,0 +1,59 @@
+//! Jobs.
+ghost use Rattle.std.specs.Prelude.{◌≡◌, ◌≤◌, length};
+ghost use Rattle.std.specs.Option.{option_map};
+ghost use Rattle.sp_order.specs.Precedence.{tree_of, leaf_count};
+
+use crate::shape::Shape;
+use seq_objects::Act;
+use std::marker::Model;
+
+/// A shape, and what its leaves do, from left to right. A job of no leaves has no shape. Contracts see it as
+/// a `JobValue`.
+#[derive(Drop)]
+pub struct Job {
+    shape: Option<Shape>,
+    acts: Vec<Act>,
+}
+
+impl Model for Job {
+    ghost use Rattle.std.specs.Option.{option_map};
+    ghost use Rattle.sp_order.specs.Jobs.{JobValue, coded_job, IsJob};
+    ghost use Rattle.sp_order.specs.Precedence.{tree_of};
+
+    ghost Value = { JobValue };
+
+    ghost coded = { coded_job };
+
+    ghost view = { λ j. record { shape = option_map tree_of j.shape; acts = j.acts.items } };
+
+    ghost invariant = { λ j. IsJob (record { shape = option_map tree_of j.shape; acts = j.acts.items }) };
+}
+
+impl Job {
+    ghost use Rattle.sp_order.specs.Jobs.{IsJob};
+
+    /// The job of this shape, whose leaves do these acts. It takes no memory.
+    pub fn of(shape: Option<Shape>, acts: Vec<Act>) -> Job
+        requires leaves { leaf_count (option_map tree_of shape) ≡ length acts.items }
+        requires most { length acts.items ≤ 20000 }
+        ensures shape { result.shape ≡ option_map tree_of shape }
+        ensures acts { result.acts ≡ acts.items }
+    {
+        Job { shape, acts }
+    }
+
+    /// Its shape, if it has leaves.
+    pub fn shape(&self) -> Option<&Shape>
+        ensures { option_map (λ shape. tree_of shape.now) result ≡ self.now.shape }
+    {
+        self.shape.as_ref()
+    }
+
+    /// What its leaves do, from left to right: at most 20,000.
+    pub fn acts(&self) -> &[Act]
+        ensures acts { result.now ≡ self.now.acts }
+        ensures job { IsJob self.now }
+    {
+        self.acts.as_slice()
+    }
+}

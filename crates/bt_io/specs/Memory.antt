@@ -1,5 +1,6 @@
 -- The shelf and the sink in memory, as contracts see them.
-use Rattle.std.specs.Prelude.{◌≡◌, ℕ, ◌+◌, ◌-◌, ◌<◌, ◌⊎◌, min, List, [], ◌∷◌, length, drop, map, Option, None, Some, Contains, Bool, is_ok, is_some, Result, if◌then◌else◌, string_bytes}
+use Rattle.std.specs.Prelude.{ℕ, ◌+◌, ◌-◌, ◌<◌, ◌≤◌, List, [], ◌∷◌, ◌++◌, ◌==◌, length, take, drop, map, slice_get, Option, None, Some, Result, Ok, Err, is_ok, if◌then◌else◌, string_bytes, vec_len, vec_capacity}
+use Rattle.std.specs.Option.{option_map, option_map_or}
 use Rattle.std.specs.Str.{bytes_eq}
 use Rattle.std.specs.declared.vec.Vec.{Vec}
 use Rattle.std.specs.declared.string.String.{String}
@@ -16,6 +17,14 @@ abbrev pub file_named : List File → List ℕ → Option (List ℕ)
 file_named [] name = None
 file_named (file ∷ files) name = if bytes_eq file.name name then Some file.bytes else file_named files name
 
+-- the bytes of the file at that place
+abbrev pub bytes_at : List File → ℕ → List ℕ
+bytes_at files place = option_map_or (λ file. file.bytes) (slice_get files place) []
+
+-- the bytes of the chosen file from one place on
+abbrev pub left_of : List File → Option ℕ → ℕ → Option (List ℕ)
+left_of files chosen at = option_map (λ place. drop at (bytes_at files place)) chosen
+
 -- the files that code holds as pairs
 abbrev pub files_in : List (String Global × Vec ℕ Global) → List File
 files_in pairs = map (λ pair. record { name = string_bytes pair.0; bytes = pair.1.items }) pairs
@@ -30,6 +39,11 @@ pub record MemoryShelf : Type 0 where
   pub left : Option (List ℕ)
   pub faults : ℕ
 
+-- what is left of the chosen file after a read
+abbrev pub left_after : {E : Type 0} → Option (List ℕ) → Result ℕ E → Option (List ℕ)
+left_after left (Ok count) = option_map (drop count) left
+left_after left (Err e) = left
+
 -- A sink in memory: what it took; how much it takes in all, and the most that one write takes; which writes
 -- fail, counted from 0, and how many were made; how many have failed.
 pub record MemorySink : Type 0 where
@@ -39,6 +53,21 @@ pub record MemorySink : Type 0 where
   pub fails : List ℕ
   pub calls : ℕ
   pub faults : ℕ
+
+-- how many bytes a sink takes without a fault: what is left of its room, where no write is told to fail
+abbrev pub sure_of : MemorySink → ℕ
+sure_of sink = if length sink.fails == 0 then sink.room - length sink.taken else 0
+
+-- what a sink has taken after a write
+abbrev pub taken_after : {E : Type 0} → List ℕ → List ℕ → Result ℕ E → List ℕ
+taken_after taken piece (Ok count) = taken ++ take count piece
+taken_after taken piece (Err e) = taken
+
+-- the bytes are within a room for which memory is there, and a write may take some
+pub record HasRoom (bytes : Vec ℕ Global) (room cut : ℕ) : Type 0 where
+  pub some : 0 < cut
+  pub within : vec_len bytes ≤ room
+  pub reserved : room ≤ vec_capacity bytes
 
 -- the count of faults after a call
 abbrev pub faults_after : {T E : Type 0} → ℕ → Result T E → ℕ

@@ -8,6 +8,7 @@
 pub mod mem_shelf;
 pub mod mem_sink;
 pub mod pause;
+mod script;
 pub mod shelf;
 pub mod sink;
 pub mod std_shelf;

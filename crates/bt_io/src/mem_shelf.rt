@@ -1,25 +1,25 @@
 //! A shelf in memory, whose calls fail where they are told to.
-ghost use Rattle.std.specs.Prelude.{◌≡◌, ℕ, ◌+◌, ◌<◌, ◌≤◌, ◌↔◌, ◌⊎◌, ◌&&◌, [], length, Option, Some, None, IsTrue, IsOk, IsErr, IsSome, IsNone, IfOk, IfSome, IfNone, OnOk, MatchResult, Contains, is_ok, is_some, is_none, true, min, take, drop, if◌then◌else◌, ◌==◌};
-ghost use Rattle.std.specs.Option.{option_map_or};
+ghost use Rattle.std.specs.Prelude.{◌≡◌, ℕ, ◌+◌, ◌^◌, ◌<◌, ◌↔◌, ◌⊎◌, ◌==◌, [], length, min, take, drop, Some, None, IsTrue, IsOk, IsErr, IsSome, IsNone, IfOk, OnOk, Contains, is_ok, is_some, true, unwrap_or, if◌then◌else◌};
 ghost use Rattle.std.specs.Io.{ReadsAtMost};
 ghost use Rattle.std.specs.Io.KnownBytes.{ReadConsumes};
 ghost use Rattle.bt_io.specs.Causes.{HasCause, counted};
 ghost use Rattle.bt_io.specs.Bytes.{IsTold};
-ghost use Rattle.bt_io.specs.Memory.{File, MemoryShelf, file_named, files_in, bytes_at, faults_after};
+ghost use Rattle.bt_io.specs.Memory.{file_named, files_in, bytes_at, left_of, left_after, faults_after};
 
+use crate::script::Script;
 use crate::{Failed, Shelf};
 use std::marker::Model;
 
 /// Files in memory, which may be asked for under every name. Contracts see it as a `MemoryShelf`.
+///
+/// Of two files of one name the first counts. The calls of `choose` and of `read` are counted together, from 0.
 #[derive(Drop)]
 pub struct MemShelf {
     files: Vec<(String, Vec<u8>)>,
     cut: usize,
-    fails: Vec<u64>,
-    calls: u64,
+    script: Script,
     chosen: Option<usize>,
     at: usize,
-    faults: u64,
 }
 
 impl Model for MemShelf {
@@ -28,7 +28,125 @@ impl Model for MemShelf {
 
     ghost Value = { MemoryShelf };
 
-    ghost view = { λ s. record { files = files_in s.files.items; cut = s.cut; fails = s.fails.items; calls = s.calls; left = left_of (files_in s.files.items) s.chosen s.at; faults = s.faults } };
+    ghost view = { λ s. record { files = files_in s.files.items; cut = s.cut; fails = s.script.fails.items; calls = s.script.calls; left = left_of (files_in s.files.items) s.chosen s.at; faults = s.script.faults } };
 
     ghost invariant = { λ s. 0 < s.cut };
+}
+
+/// The place of the first file of that name.
+fn place_of(files: &[(String, Vec<u8>)], name: &str) -> Option<usize>
+    ensures place { left_of (files_in files.now) result 0 ≡ file_named (files_in files.now) name.now }
+    ensures found { is_some result ≡ is_some (file_named (files_in files.now) name.now) }
+{
+    for (i, file) in files.iter().enumerate() {
+        if file.0.as_str() == name {
+            return Some(i);
+        }
+    }
+    None
+}
+
+/// What is left of the file at that place, from the byte `at` on.
+fn rest_of(files: &[(String, Vec<u8>)], place: usize, at: usize) -> &[u8]
+    ensures rest { result.now ≡ drop at (bytes_at (files_in files.now) place) }
+    ensures fits { at + length result.now < 2 ^ 64 }
+{
+    match files.get(place) {
+        Some(file) => {
+            let bytes = file.1.as_slice();
+            &bytes[at.min(bytes.len())..]
+        }
+        None => &[],
+    }
+}
+
+/// Puts the front of `rest` into the buffer, at most `cut` bytes of it, and says how many.
+fn give(rest: &[u8], cut: usize, buf: &mut [u8]) -> usize
+    ensures count { result ≡ min (min cut (length buf.old)) (length rest.now) }
+    ensures bytes { take result buf.new ≡ take result rest.now }
+{
+    let count = cut.min(buf.len()).min(rest.len());
+    buf[..count].copy_from_slice(&rest[..count]);
+    count
+}
+
+impl MemShelf {
+    /// A shelf of these files. A read gives at most `cut` bytes; the calls that are listed in `fails` fail.
+    pub fn make(files: Vec<(String, Vec<u8>)>, cut: usize, fails: Vec<u64>) -> MemShelf
+        requires { 0 < cut }
+        ensures { result ≡ record { files = files_in files.items; cut = cut; fails = fails.items; calls = 0; left = None; faults = 0 } }
+    {
+        MemShelf {
+            files,
+            cut,
+            script: Script {
+                fails,
+                calls: 0,
+                faults: 0,
+            },
+            chosen: None,
+            at: 0,
+        }
+    }
+}
+
+impl Shelf for MemShelf {
+    ghost may = { λ _ _. true };
+
+    ghost held = { λ s. file_named s.files };
+
+    ghost ready = { λ s. is_some s.left };
+
+    ghost left = { λ s. s.left };
+
+    ghost faults = { λ s. s.faults };
+
+    ghost never_fails = { λ s. length s.fails == 0 };
+
+    fn choose(&mut self, name: &str) -> Result<(), Failed>
+        ensures held { file_named self.new.files ≡ file_named self.old.files }
+        ensures ready { is_some self.new.left ≡ is_ok result }
+        ensures left { OnOk result (IsTold (file_named self.old.files name.now) self.new.left) }
+        ensures cause { HasCause self.old.faults self.new.faults result }
+        ensures never_fails { IsTrue (length self.old.fails == 0) → IsTrue (length self.new.fails == 0) }
+        ensures found { IsTrue (length self.old.fails == 0) → IsSome (file_named self.old.files name.now) → IsOk result }
+
+        // When it fails, and the whole shelf after it.
+        ensures fails { IsErr result ↔ (Contains self.old.fails self.old.calls ⊎ IsNone (file_named self.old.files name.now)) }
+        ensures after { self.new ≡ record self.old { calls = counted self.old.calls; left = (if is_ok result then file_named self.old.files name.now else None); faults = faults_after self.old.faults result } }
+    {
+        self.chosen = None;
+        self.at = 0;
+        self.script.call()?;
+        self.chosen = place_of(self.files.as_slice(), name);
+        if self.chosen.is_none() {
+            return Err(self.script.fail());
+        }
+        Ok(())
+    }
+
+    fn read(&mut self, buf: &mut [u8]) -> Result<usize, Failed>
+        requires { IsTrue (is_some self.old.left) }
+        ensures held { file_named self.new.files ≡ file_named self.old.files }
+        ensures ready { is_some self.new.left ≡ is_some self.old.left }
+        ensures bound { ReadsAtMost result buf.new }
+        ensures bytes { ReadConsumes self.old.left self.new.left result buf.new }
+        ensures cause { HasCause self.old.faults self.new.faults result }
+        ensures never_fails { IsTrue (length self.old.fails == 0) → IsTrue (length self.new.fails == 0) }
+        ensures succeeds { IsTrue (length self.old.fails == 0) → IsOk result }
+
+        // When it fails, how many bytes it gives else, and the whole shelf after it.
+        ensures fails { IsErr result ↔ Contains self.old.fails self.old.calls }
+        ensures count { IfOk result (λ count. count ≡ min (min self.old.cut (length buf.old)) (length (unwrap_or self.old.left []))) }
+        ensures after { self.new ≡ record self.old { calls = counted self.old.calls; left = left_after self.old.left result; faults = faults_after self.old.faults result } }
+    {
+        self.script.call()?;
+        let Some(place) = self.chosen else {
+            unreachable!();
+        };
+        let rest = rest_of(self.files.as_slice(), place, self.at);
+        let count = give(rest, self.cut, buf);
+        self.at += count;
+        Ok(count)
+    }
 }

@@ -1,0 +1,98 @@
+//! A sink in memory, whose writes fail where they are told to.
+ghost use Rattle.std.specs.Prelude.{◌≡◌, ℕ, ◌+◌, ◌-◌, ◌<◌, ◌≤◌, ◌↔◌, ◌⊎◌, ◌++◌, ◌==◌, [], length, min, take, Some, IsOk, IsErr, IfOk, Contains, if◌then◌else◌};
+ghost use Rattle.std.specs.Io.{WritesAtMost};
+ghost use Rattle.std.specs.Io.KnownBytes.{WriteAppends};
+ghost use Rattle.bt_io.specs.Causes.{HasCause, counted};
+ghost use Rattle.bt_io.specs.Memory.{sure_of, taken_after, faults_after};
+
+use crate::script::Script;
+use crate::{Failed, Sink};
+use std::alloc::{AllocError, Global};
+use std::marker::Model;
+
+/// What takes bytes into memory, with room for so many in all. Contracts see it as a `MemorySink`.
+///
+/// It fails at the writes that it was told to fail, counted from 0, and at a piece that has bytes once its
+/// room is used up.
+#[derive(Drop)]
+pub struct MemSink {
+    bytes: Vec<u8>,
+    room: usize,
+    cut: usize,
+    script: Script,
+}
+
+impl Model for MemSink {
+    ghost use Rattle.bt_io.specs.Memory.{MemorySink, HasRoom};
+
+    ghost Value = { MemorySink };
+
+    ghost view = { λ s. record { taken = s.bytes.items; room = s.room; cut = s.cut; fails = s.script.fails.items; calls = s.script.calls; faults = s.script.faults } };
+
+    ghost invariant = { λ s. HasRoom s.bytes s.room s.cut };
+}
+
+impl MemSink {
+    /// An empty sink, which takes at most `room` bytes in all and `cut` a time. It takes the memory for them
+    /// here, and none at a write. The writes that are listed in `fails` fail.
+    pub fn make(
+        alloc: Global,
+        room: usize,
+        cut: usize,
+        fails: Vec<u64>,
+    ) -> Result<MemSink, AllocError>
+        requires { 0 < cut }
+        ensures { IfOk result (λ sink. sink ≡ record { taken = []; room = room; cut = cut; fails = fails.items; calls = 0; faults = 0 }) }
+    {
+        Ok(MemSink {
+            bytes: Vec::with_capacity(alloc, room)?,
+            room,
+            cut,
+            script: Script {
+                fails,
+                calls: 0,
+                faults: 0,
+            },
+        })
+    }
+
+    /// What it took.
+    pub fn bytes(&self) -> &[u8]
+        ensures { result.now ≡ self.now.taken }
+    {
+        self.bytes.as_slice()
+    }
+}
+
+impl Sink for MemSink {
+    ghost taken = { λ s. Some s.taken };
+
+    ghost faults = { λ s. s.faults };
+
+    ghost sure = { sure_of };
+
+    fn write(&mut self, piece: &[u8]) -> Result<usize, Failed>
+        ensures bound { WritesAtMost result piece.now }
+        ensures progress { 0 < length piece.now → IfOk result (λ count. 0 < count) }
+        ensures bytes { WriteAppends (Some self.old.taken) (Some self.new.taken) result piece.now }
+        ensures cause { HasCause self.old.faults self.new.faults result }
+        ensures succeeds { 0 < length piece.now → length piece.now ≤ sure_of self.old → IsOk result }
+        ensures sure { IfOk result (λ count. sure_of self.old ≤ sure_of self.new + count) }
+
+        // When it fails, how many bytes it takes else, and the whole sink after it.
+        ensures fails { IsErr result ↔ (Contains self.old.fails self.old.calls ⊎ ((0 < length piece.now) × (length self.old.taken ≡ self.old.room))) }
+        ensures count { IfOk result (λ count. count ≡ min (min self.old.cut (length piece.now)) (self.old.room - length self.old.taken)) }
+        ensures after { self.new ≡ record self.old { taken = taken_after self.old.taken piece.now result; calls = counted self.old.calls; faults = faults_after self.old.faults result } }
+    {
+        self.script.call()?;
+        let left = self.room - self.bytes.len();
+        if left == 0 && !piece.is_empty() {
+            return Err(self.script.fail());
+        }
+        let count = self.cut.min(piece.len()).min(left);
+        if self.bytes.extend_from_slice(&piece[..count]).is_err() {
+            unreachable!();
+        }
+        Ok(count)
+    }
+}

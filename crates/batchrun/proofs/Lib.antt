@@ -1,0 +1,10 @@
+pub mod Tokenize
+pub mod Numbers
+pub mod Writing
+pub mod Joining
+pub mod Fronts
+pub mod Ranges
+pub mod SerialRows
+pub mod SerialBook
+pub mod SerialRun
+pub mod Ends

@@ -1,0 +1,15 @@
+pub use Rattle.bt_io.specs.Bytes
+pub use Rattle.bt_io.specs.Causes
+pub use Rattle.bt_io.specs.Memory
+pub use Rattle.sp_order.specs.Precedence
+pub use Rattle.sp_order.specs.Jobs
+pub use Rattle.batch_history.specs.Book
+pub use Rattle.batch_history.specs.Lawful
+pub use Rattle.batch_history.specs.Text
+pub mod Words
+pub mod Tokens
+pub mod Joins
+pub mod Language
+pub mod Lines
+pub mod Outcomes
+pub mod Serial

@@ -1,0 +1,48 @@
+-- The line that each status has on err, and the number with which the process exits.
+use Rattle.std.specs.Prelude.{ℕ, List, [], ◌++◌, codes}
+use Rattle.std.specs.Fmt.{decimal}
+use Rattle.batchrun.specs.declared.fault.JobFault.{JobFault}
+use Rattle.batchrun.specs.declared.fault.JobFault.TheVariants.{Byte, Grammar, Number, Nesting, Leaves, Argument}
+use Rattle.batchrun.specs.declared.status.Refusal.TheVariants.{TooLong, Job}
+use Rattle.batchrun.specs.declared.status.Status.{Status}
+use Rattle.batchrun.specs.declared.status.Status.TheVariants.{Done, Made, Usage, ReadFault, Refused, WriteFault, Memory}
+
+-- the line of the text that a fault names
+abbrev pub line_in : JobFault → ℕ
+line_in (Byte line) = line
+line_in (Grammar line) = line
+line_in (Number line) = line
+line_in (Nesting line) = line
+line_in (Leaves line) = line
+line_in (Argument line) = line
+
+-- what is said of a fault behind its line
+abbrev pub fault_words : JobFault → List ℕ
+fault_words (Byte line) = codes ": byte not allowed\n"
+fault_words (Grammar line) = codes ": not in the grammar\n"
+fault_words (Number line) = codes ": number out of range\n"
+fault_words (Nesting line) = codes ": blocks nested too deep\n"
+fault_words (Leaves line) = codes ": too many leaves\n"
+fault_words (Argument line) = codes ": argument out of range\n"
+
+abbrev pub refusal_line : JobFault → List ℕ
+refusal_line fault = codes "batchrun: line " ++ decimal (line_in fault) ++ fault_words fault
+
+abbrev pub fault_line : Status → List ℕ
+fault_line Done = []
+fault_line Made = []
+fault_line Usage = codes "batchrun: usage: step FILE WORKERS [SCHEDULE] | run FILE WORKERS | gen SIZE SEED WORKERS\n"
+fault_line ReadFault = codes "batchrun: read fault\n"
+fault_line (Refused TooLong) = codes "batchrun: job longer than 1048576 bytes\n"
+fault_line (Refused (Job fault)) = refusal_line fault
+fault_line WriteFault = codes "batchrun: write fault\n"
+fault_line Memory = codes "batchrun: out of memory\n"
+
+abbrev pub exit_of : Status → ℕ
+exit_of Done = 0
+exit_of Made = 0
+exit_of Usage = 2
+exit_of ReadFault = 3
+exit_of (Refused refusal) = 4
+exit_of WriteFault = 5
+exit_of Memory = 6

@@ -1,0 +1,91 @@
+-- What each status of a run says: one definition for each concern, with a line for each status.
+use Rattle.std.specs.Prelude.{◌≡◌, ℕ, ◌<◌, ◌≤◌, ◌⊎◌, List, length, Bool, IsTrue, Option, None, Some, IfSome}
+use Rattle.std.specs.Io.KnownBytes.{Appends, Keeps}
+use Rattle.bt_io.specs.Bytes.{IsWhole, AppendsFront}
+use Rattle.bt_io.specs.Causes.{Rose}
+use Rattle.sp_order.specs.Jobs.{JobValue}
+use Rattle.batch_history.specs.declared.report.Report.{Report}
+use Rattle.batch_history.specs.Lawful.{Lawful}
+use Rattle.batch_history.specs.Text.{report_text}
+use Rattle.batchrun.specs.Language.{IsJobOf, IsFaultOf}
+use Rattle.batchrun.specs.declared.fault.JobFault.{JobFault}
+use Rattle.batchrun.specs.declared.status.Refusal.TheVariants.{TooLong, Job}
+use Rattle.batchrun.specs.declared.status.Status.{Status}
+use Rattle.batchrun.specs.declared.status.Status.TheVariants.{Done, Made, Usage, ReadFault, Refused, WriteFault, Memory}
+
+-- The input was read to its end, and these are its bytes: those that the shelf told, where it told any.
+pub record WasRead (held : Option (List ℕ)) (bytes : List ℕ) : Type 0 where
+  pub whole : IsWhole held bytes
+  pub short : length bytes ≤ 1048576
+
+-- The bytes that were read are a job's, and the report is lawful for this job and so many workers.
+pub record HasRun (held : Option (List ℕ)) (workers : ℕ) (report : Report) : Type 0 where
+  pub bytes : List ℕ
+  pub read : WasRead held bytes
+  pub job : JobValue
+  pub accepted : IsJobOf bytes job
+  pub lawful : Lawful job workers report
+
+-- The bytes that were read have this fault.
+pub record IsRefused (held : Option (List ℕ)) (fault : JobFault) : Type 0 where
+  pub bytes : List ℕ
+  pub read : WasRead held bytes
+  pub why : IsFaultOf bytes fault
+
+-- Which report comes, and what out took. `Runs` says what a run owes of its report.
+abbrev pub Headline : (Report → Type 0) → Status → Option Report → Option (List ℕ) → Option (List ℕ) → Type 0
+Headline Runs Done (Some report) old new = Runs report × Appends old new (report_text report)
+Headline Runs WriteFault (Some report) old new = Runs report × AppendsFront old new (report_text report)
+Headline Runs Done None old new = ⊥
+Headline Runs WriteFault None old new = ⊥
+Headline Runs status None old new = Keeps old new
+Headline Runs status (Some report) old new = ⊥
+
+-- Why a status comes at a command: by the bytes held under its file, and by whether the count of faults of the
+-- shelf or of out rose.
+abbrev pub HasCause : Status → Option (List ℕ) → Type 0 → Type 0 → Type 0
+HasCause Done held ReadsFailed WritesFailed = Unit {0}
+HasCause Made held ReadsFailed WritesFailed = ⊥
+HasCause Usage held ReadsFailed WritesFailed = ⊥
+HasCause ReadFault held ReadsFailed WritesFailed = ReadsFailed
+HasCause (Refused TooLong) held ReadsFailed WritesFailed = IfSome held (λ bytes. 1048576 < length bytes)
+HasCause (Refused (Job fault)) held ReadsFailed WritesFailed = IsRefused held fault
+HasCause WriteFault held ReadsFailed WritesFailed = WritesFailed
+HasCause Memory held ReadsFailed WritesFailed = Unit {0}
+
+-- why a reading ended before the end of the input
+abbrev pub StopsReading : Status → Option (List ℕ) → Type 0 → Type 0
+StopsReading ReadFault held ReadsFailed = ReadsFailed
+StopsReading (Refused TooLong) held ReadsFailed = IfSome held (λ bytes. 1048576 < length bytes)
+StopsReading Memory held ReadsFailed = Unit {0}
+StopsReading status held ReadsFailed = ⊥
+
+-- what err took: the line, or a front of it where err failed
+abbrev pub Tells : List ℕ → Option (List ℕ) → Option (List ℕ) → Type 0 → Type 0
+Tells line old new WritesFailed = Appends old new line ⊎ (AppendsFront old new line × WritesFailed)
+
+-- the status is this one, unless memory ran out
+abbrev pub IsUnlessMemory : Status → Status → Type 0
+IsUnlessMemory status wanted = (status ≡ wanted) ⊎ (status ≡ Memory)
+
+-- Which status comes where the file's bytes are told and no fault comes in between: the one that they call for.
+pub record Completes (status : Status) (held : Option (List ℕ)) (ReadsFailed WritesFailed : Type 0) : Type 0 where
+  pub too_long : (bytes : List ℕ) → held ≡ Some bytes → ¬ ReadsFailed → 1048576 < length bytes → IsUnlessMemory status (Refused TooLong)
+  pub refused : (bytes : List ℕ) (fault : JobFault) → held ≡ Some bytes → ¬ ReadsFailed → length bytes ≤ 1048576 → IsFaultOf bytes fault → IsUnlessMemory status (Refused (Job fault))
+  pub accepted : (bytes : List ℕ) (job : JobValue) → held ≡ Some bytes → ¬ ReadsFailed → ¬ WritesFailed → length bytes ≤ 1048576 → IsJobOf bytes job → IsUnlessMemory status Done
+
+-- there is room for the text of each report that is lawful
+abbrev pub HasRoomFor : JobValue → ℕ → ℕ → Type 0
+HasRoomFor job workers room = (report : Report) → Lawful job workers report → length (report_text report) ≤ room
+
+-- Where the shelf never fails and holds an accepted job, and out is sure to take the report's text, the run is
+-- done, unless memory runs out.
+abbrev pub IsAssured : Status → Option (List ℕ) → ℕ → Bool → ℕ → Type 0
+IsAssured status held workers never_fails sure =
+    (bytes : List ℕ) (job : JobValue) → held ≡ Some bytes → length bytes ≤ 1048576 → IsJobOf bytes job
+    → IsTrue never_fails → HasRoomFor job workers sure → IsUnlessMemory status Done
+
+-- out fails only at a text that is longer than what it is sure to take
+abbrev pub FailsPast : Status → Option Report → ℕ → Type 0
+FailsPast WriteFault (Some report) sure = sure < length (report_text report)
+FailsPast status report sure = Unit {0}

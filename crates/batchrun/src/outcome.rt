@@ -1,0 +1,25 @@
+//! What a run answers.
+ghost use Rattle.std.specs.Prelude.{◌≡◌, None};
+
+use crate::status::Status;
+use batch_history::Report;
+
+/// How a run ended, and what it did: there is a report exactly where one was to be written.
+#[derive(Drop)]
+pub struct Outcome {
+    pub status: Status,
+    pub report: Option<Report>,
+}
+
+impl Outcome {
+    /// A run that ended before it had a report.
+    pub(crate) fn stopped(status: Status) -> Outcome
+        ensures status { result.status ≡ status }
+        ensures report { result.report ≡ None }
+    {
+        Outcome {
+            status,
+            report: None,
+        }
+    }
+}

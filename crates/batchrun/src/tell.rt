@@ -1,0 +1,54 @@
+//! The line on err of each status.
+ghost use Rattle.std.specs.Prelude.{◌≡◌, OnOk};
+ghost use Rattle.std.specs.Io.KnownBytes.{Appends};
+ghost use Rattle.bt_io.specs.Bytes.{AppendsFront};
+ghost use Rattle.bt_io.specs.Causes.{HasCause, Rose};
+ghost use Rattle.batchrun.specs.Lines.{fault_line, refusal_line};
+ghost use Rattle.batchrun.specs.Outcomes.{Tells};
+
+use crate::fault::JobFault;
+use crate::status::{Refusal, Status};
+use bt_io::{Failed, Sink, write_all};
+use itoa::Buffer;
+
+/// Writes the line of a job that is refused for this fault.
+fn write_refusal<E: Sink>(err: &mut E, fault: JobFault) -> Result<(), Failed>
+    ensures ok { OnOk result (Appends (E.taken err.old) (E.taken err.new) (refusal_line fault)) }
+    ensures front { AppendsFront (E.taken err.old) (E.taken err.new) (refusal_line fault) }
+    ensures cause { HasCause (E.faults err.old) (E.faults err.new) result }
+{
+    let mut buffer = Buffer::new();
+    write_all(err, b"batchrun: line ")?;
+    write_all(err, buffer.format(fault.line()).as_bytes())?;
+    write_all(err, fault.words())
+}
+
+/// Writes the line of a status, if it has one.
+fn write_line<E: Sink>(err: &mut E, status: Status) -> Result<(), Failed>
+    ensures ok { OnOk result (Appends (E.taken err.old) (E.taken err.new) (fault_line status)) }
+    ensures front { AppendsFront (E.taken err.old) (E.taken err.new) (fault_line status) }
+    ensures cause { HasCause (E.faults err.old) (E.faults err.new) result }
+{
+    match status {
+        Status::Done | Status::Made => write_all(err, b""),
+        Status::Usage => write_all(
+            err,
+            b"batchrun: usage: step FILE WORKERS [SCHEDULE] | run FILE WORKERS | gen SIZE SEED WORKERS\n",
+        ),
+        Status::ReadFault => write_all(err, b"batchrun: read fault\n"),
+        Status::Refused(Refusal::TooLong) => {
+            write_all(err, b"batchrun: job longer than 1048576 bytes\n")
+        }
+        Status::Refused(Refusal::Job(fault)) => write_refusal(err, fault),
+        Status::WriteFault => write_all(err, b"batchrun: write fault\n"),
+        Status::Memory => write_all(err, b"batchrun: out of memory\n"),
+    }
+}
+
+/// Writes the line of a status on err, if it has one. A write that fails changes nothing else. It takes no
+/// memory.
+pub fn tell<E: Sink>(err: &mut E, status: Status)
+    ensures { Tells (fault_line status) (E.taken err.old) (E.taken err.new) (Rose (E.faults err.old) (E.faults err.new)) }
+{
+    let _ = write_line(err, status);
+}

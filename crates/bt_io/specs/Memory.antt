@@ -1,5 +1,5 @@
 -- The shelf and the sink in memory, as contracts see them.
-use Rattle.std.specs.Prelude.{ℕ, ◌+◌, ◌-◌, ◌<◌, ◌≤◌, List, [], ◌∷◌, ◌++◌, ◌==◌, length, take, drop, map, slice_get, Option, None, Some, Result, Ok, Err, is_ok, if◌then◌else◌, string_bytes, vec_len, vec_capacity}
+use Rattle.std.specs.Prelude.{ℕ, ◌-◌, ◌<◌, ◌≤◌, List, [], ◌∷◌, ◌++◌, ◌==◌, length, take, drop, map, slice_get, Option, None, Some, Result, Ok, Err, is_ok, if◌then◌else◌, string_bytes, vec_len, vec_capacity}
 use Rattle.std.specs.Option.{option_map, option_map_or}
 use Rattle.std.specs.Str.{bytes_eq}
 use Rattle.std.specs.declared.vec.Vec.{Vec}

@@ -13,6 +13,8 @@ pub mod shelf;
 pub mod sink;
 pub mod std_shelf;
 pub mod std_sink;
+#[cfg(test)]
+mod tests;
 
 pub use mem_shelf::MemShelf;
 pub use mem_sink::MemSink;

@@ -86,6 +86,7 @@ pub fn read_up_to<S: Shelf>(alloc: Global, shelf: &mut S, limit: usize) -> Resul
     ensures never_fails { IsTrue (S.never_fails shelf.old) → IsTrue (S.never_fails shelf.new) × (IsErrOf result ReadErr.Failed → ⊥) }
 
     // The shelf stays the same but for what is left.
+    ensures chosen { IsTrue (S.ready shelf.new) }
     ensures may { S.may shelf.new ≡ S.may shelf.old }
     ensures held { S.held shelf.new ≡ S.held shelf.old }
 {

@@ -28,7 +28,14 @@ impl Model for MemShelf {
 
     ghost Value = { MemoryShelf };
 
-    ghost view = { λ s. record { files = files_in s.files.items; cut = s.cut; fails = s.script.fails.items; calls = s.script.calls; left = left_of (files_in s.files.items) s.chosen s.at; faults = s.script.faults } };
+    ghost view = { λ s. record {
+      files = files_in s.files.items;
+      cut = s.cut;
+      fails = s.script.fails.items;
+      calls = s.script.calls;
+      left = left_of (files_in s.files.items) s.chosen s.at;
+      faults = s.script.faults;
+    } };
 
     ghost invariant = { λ s. 0 < s.cut };
 }
@@ -74,7 +81,14 @@ impl MemShelf {
     /// A shelf of these files. A read gives at most `cut` bytes; the calls that are listed in `fails` fail.
     pub fn make(files: Vec<(String, Vec<u8>)>, cut: usize, fails: Vec<u64>) -> MemShelf
         requires { 0 < cut }
-        ensures { result ≡ record { files = files_in files.items; cut = cut; fails = fails.items; calls = 0; left = None; faults = 0 } }
+        ensures { result ≡ record {
+          files = files_in files.items;
+          cut = cut;
+          fails = fails.items;
+          calls = 0;
+          left = None;
+          faults = 0;
+        } }
     {
         MemShelf {
             files,
@@ -109,11 +123,17 @@ impl Shelf for MemShelf {
         ensures left { OnOk result (IsTold (file_named self.old.files name.now) self.new.left) }
         ensures cause { HasCause self.old.faults self.new.faults result }
         ensures never_fails { IsTrue (length self.old.fails == 0) → IsTrue (length self.new.fails == 0) }
-        ensures found { IsTrue (length self.old.fails == 0) → IsSome (file_named self.old.files name.now) → IsOk result }
+        ensures found { IsTrue (length self.old.fails == 0) →
+            IsSome (file_named self.old.files name.now) → IsOk result }
 
         // When it fails, and the whole shelf after it.
-        ensures fails { IsErr result ↔ (Contains self.old.fails self.old.calls ⊎ IsNone (file_named self.old.files name.now)) }
-        ensures after { self.new ≡ record self.old { calls = counted self.old.calls; left = (if is_ok result then file_named self.old.files name.now else None); faults = faults_after self.old.faults result } }
+        ensures fails { IsErr result ↔
+            (Contains self.old.fails self.old.calls ⊎ IsNone (file_named self.old.files name.now)) }
+        ensures after { self.new ≡ record self.old {
+          calls = counted self.old.calls;
+          left = (if is_ok result then file_named self.old.files name.now else None);
+          faults = faults_after self.old.faults result;
+        } }
     {
         self.chosen = None;
         self.at = 0;
@@ -137,8 +157,13 @@ impl Shelf for MemShelf {
 
         // When it fails, how many bytes it gives else, and the whole shelf after it.
         ensures fails { IsErr result ↔ Contains self.old.fails self.old.calls }
-        ensures count { IfOk result (λ count. count ≡ min (min self.old.cut (length buf.old)) (length (unwrap_or self.old.left []))) }
-        ensures after { self.new ≡ record self.old { calls = counted self.old.calls; left = left_after self.old.left result; faults = faults_after self.old.faults result } }
+        ensures count { IfOk result (λ count.
+            count ≡ min (min self.old.cut (length buf.old)) (length (unwrap_or self.old.left []))) }
+        ensures after { self.new ≡ record self.old {
+          calls = counted self.old.calls;
+          left = left_after self.old.left result;
+          faults = faults_after self.old.faults result;
+        } }
     {
         self.script.call()?;
         let Some(place) = self.chosen else {

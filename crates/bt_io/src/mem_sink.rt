@@ -27,7 +27,14 @@ impl Model for MemSink {
 
     ghost Value = { MemorySink };
 
-    ghost view = { λ s. record { taken = s.bytes.items; room = s.room; cut = s.cut; fails = s.script.fails.items; calls = s.script.calls; faults = s.script.faults } };
+    ghost view = { λ s. record {
+      taken = s.bytes.items;
+      room = s.room;
+      cut = s.cut;
+      fails = s.script.fails.items;
+      calls = s.script.calls;
+      faults = s.script.faults;
+    } };
 
     ghost invariant = { λ s. HasRoom s.bytes s.room s.cut };
 }
@@ -42,7 +49,14 @@ impl MemSink {
         fails: Vec<u64>,
     ) -> Result<MemSink, AllocError>
         requires { 0 < cut }
-        ensures { IfOk result (λ sink. sink ≡ record { taken = []; room = room; cut = cut; fails = fails.items; calls = 0; faults = 0 }) }
+        ensures { IfOk result (λ sink. sink ≡ record {
+          taken = [];
+          room = room;
+          cut = cut;
+          fails = fails.items;
+          calls = 0;
+          faults = 0;
+        }) }
     {
         Ok(MemSink {
             bytes: Vec::with_capacity(alloc, room)?,
@@ -58,7 +72,8 @@ impl MemSink {
 
     /// What it took.
     pub fn bytes(&self) -> &[u8]
-        ensures { result.now ≡ self.now.taken }
+        ensures taken { result.now ≡ self.now.taken }
+        ensures within { length result.now ≤ self.now.room }
     {
         self.bytes.as_slice()
     }
@@ -80,9 +95,15 @@ impl Sink for MemSink {
         ensures sure { IfOk result (λ count. sure_of self.old ≤ sure_of self.new + count) }
 
         // When it fails, how many bytes it takes else, and the whole sink after it.
-        ensures fails { IsErr result ↔ (Contains self.old.fails self.old.calls ⊎ ((0 < length piece.now) × (length self.old.taken ≡ self.old.room))) }
-        ensures count { IfOk result (λ count. count ≡ min (min self.old.cut (length piece.now)) (self.old.room - length self.old.taken)) }
-        ensures after { self.new ≡ record self.old { taken = taken_after self.old.taken piece.now result; calls = counted self.old.calls; faults = faults_after self.old.faults result } }
+        ensures fails { IsErr result ↔ (Contains self.old.fails self.old.calls
+            ⊎ ((0 < length piece.now) × (length self.old.taken ≡ self.old.room))) }
+        ensures count { IfOk result (λ count.
+            count ≡ min (min self.old.cut (length piece.now)) (self.old.room - length self.old.taken)) }
+        ensures after { self.new ≡ record self.old {
+          taken = taken_after self.old.taken piece.now result;
+          calls = counted self.old.calls;
+          faults = faults_after self.old.faults result;
+        } }
     {
         self.script.call()?;
         let left = self.room - self.bytes.len();

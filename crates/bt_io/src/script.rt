@@ -17,7 +17,10 @@ impl Script {
     /// Counts a call. It fails where the call is listed.
     pub(crate) fn call(&mut self) -> Result<(), Failed>
         ensures listed { IsErr result ↔ Contains self.old.fails.items self.old.calls }
-        ensures after { self.new ≡ record self.old { calls = counted self.old.calls; faults = faults_after self.old.faults result } }
+        ensures after { self.new ≡ record self.old {
+          calls = counted self.old.calls;
+          faults = faults_after self.old.faults result;
+        } }
     {
         let listed = self.fails.contains(&self.calls);
         self.calls = self.calls.saturating_add(1);

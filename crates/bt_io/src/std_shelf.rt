@@ -1,5 +1,6 @@
 //! A shelf over the system's files and standard input.
-ghost use Rattle.std.specs.Prelude.{true, false, None, is_some};
+ghost use Rattle.std.specs.Prelude.{◌≡◌, true, false, None, is_some};
+ghost use Rattle.std.specs.Option.{option_and_then};
 
 use crate::{Failed, Shelf};
 use std::fs;
@@ -13,7 +14,8 @@ enum Opened<F, I> {
     Input(I),
 }
 
-/// The system's files under their paths, and standard input under the name `-`. It tells no bytes.
+/// The system's files under their paths, and standard input under the name `-`. It tells what these tell: of
+/// the system's own, nothing.
 #[derive(Drop)]
 pub struct StdShelf<'a, R: Files + Input> {
     rt: &'a R,
@@ -23,7 +25,10 @@ pub struct StdShelf<'a, R: Files + Input> {
 
 impl<'a, R: Files + Input> StdShelf<'a, R> {
     /// A shelf of which nothing is chosen.
-    pub fn make(rt: &'a R) -> StdShelf<'a, R> {
+    pub fn make(rt: &'a R) -> StdShelf<'a, R>
+        ensures ready { ⟦<StdShelf<'a, R> as Shelf>⟧.ready result ≡ false }
+        ensures faults { ⟦<StdShelf<'a, R> as Shelf>⟧.faults result ≡ 0 }
+    {
         StdShelf {
             rt,
             opened: None,
@@ -33,13 +38,15 @@ impl<'a, R: Files + Input> StdShelf<'a, R> {
 }
 
 impl<'a, R: Files + Input> Shelf for StdShelf<'a, R> {
+    ghost use Rattle.bt_io.specs.Opened.{left_in};
+
     ghost may = { λ _ _. true };
 
     ghost held = { λ _ _. None };
 
     ghost ready = { λ s. is_some s.opened };
 
-    ghost left = { λ _. None };
+    ghost left = { λ s. option_and_then (left_in ⟦<R::File as Read>⟧.remaining ⟦<R::Reader as Read>⟧.remaining) s.opened };
 
     ghost faults = { λ s. s.faults };
 

@@ -1,10 +1,11 @@
 //! A sink over a writer of std: standard output or standard error.
-ghost use Rattle.std.specs.Prelude.{None};
+ghost use Rattle.std.specs.Prelude.{◌≡◌};
 
 use crate::{Failed, Sink};
 use std::io::Write;
 
-/// A writer of std as a sink. It tells no bytes. A write that takes none of a piece that has some is a fault.
+/// A writer of std as a sink. It tells what the writer tells: of standard output, nothing. A write that takes
+/// none of a piece that has some is a fault.
 #[derive(Drop)]
 pub struct StdSink<W: Write> {
     inner: W,
@@ -13,13 +14,16 @@ pub struct StdSink<W: Write> {
 
 impl<W: Write> StdSink<W> {
     /// A sink that writes to `inner`.
-    pub fn make(inner: W) -> StdSink<W> {
+    pub fn make(inner: W) -> StdSink<W>
+        ensures taken { ⟦<StdSink<W> as Sink>⟧.taken result ≡ W.contents inner }
+        ensures faults { ⟦<StdSink<W> as Sink>⟧.faults result ≡ 0 }
+    {
         StdSink { inner, faults: 0 }
     }
 }
 
 impl<W: Write> Sink for StdSink<W> {
-    ghost taken = { λ _. None };
+    ghost taken = { λ s. W.contents s.inner };
 
     ghost faults = { λ s. s.faults };
 

@@ -147,6 +147,11 @@ fn opens_standard_input_and_no_file_that_is_not_there(rt: HostRuntime) {
     assert_eq!(rt; shelf.choose("-"), Ok(()));
 }
 
+/// Calls the pause as a worker that shares it does.
+fn reach<P: Pause + Sync>(pause: &P, point: Point) {
+    pause.at(point, 0);
+}
+
 #[test]
 fn holds_nobody() {
     for point in [
@@ -155,6 +160,6 @@ fn holds_nobody() {
         Point::Won,
         Point::PieceStart(2),
     ] {
-        NoPause.at(point, 0);
+        reach(&NoPause, point);
     }
 }

@@ -1,5 +1,5 @@
 -- What follows from the cause of a status and from its report.
-use Rattle.std.proofs.Common.{◌≡◌, ℕ, ◌<◌, ◌≤◌, List, [], ◌∷◌, ◌++◌, length, map, Bool, Option, Some, None, inl, inr, refl, sym, ap, subst, ◌∙◌, arith}
+use Rattle.std.proofs.Common.{◌≡◌, ℕ, ◌<◌, ◌≤◌, List, [], ◌∷◌, ◌++◌, length, map, Bool, Option, Some, None, IsNone, inl, inr, refl, sym, ap, subst, ◌∙◌, arith}
 use Rattle.std.specs.Prelude.{IsTrue}
 use Rattle.std.specs.List.{range_with_len}
 use Rattle.std.proofs.lemmas.List.{length-map}
@@ -9,6 +9,7 @@ use Rattle.sp_order.specs.Jobs.{JobValue}
 use Rattle.batch_history.specs.Lawful.{HasRows, Lawful}
 use Rattle.batch_history.specs.declared.row.Row.{Row}
 use Rattle.batch_history.specs.declared.report.Report.{Report}
+use Rattle.batchrun.specs.Words.{Command}
 use Rattle.batchrun.specs.Language.{IsJobOf, IsFaultOf}
 use Rattle.batchrun.specs.Outcomes.{WasRead, HasRun, IsRefused, Headline, HasCause, Completes, IsUnlessMemory, IsAssured, HasRoomFor, FailsPast}
 use Rattle.batchrun.specs.declared.fault.JobFault.{JobFault}
@@ -28,11 +29,8 @@ same_bytes : (held : Option (List ℕ)) (told bytes : List ℕ) → WasRead held
 same_bytes None told bytes read is = cc
 same_bytes (Some xs) told bytes read is = let same : xs ≡ told = cc in read.whole ∙ same
 
-not_long : (held : Option (List ℕ)) (told bytes : List ℕ) → WasRead held bytes → held ≡ Some told → 1048576 < length told → ⊥
-not_long held told bytes read is long = omega (arith, ap length (same_bytes held told bytes read is), read.short)
-
 -- a text that is accepted has no fault
-no_fault : (bytes : List ℕ) (job : JobValue) (fault : JobFault) → IsJobOf bytes job → IsFaultOf bytes fault → ⊥
+pub no_fault : (bytes : List ℕ) (job : JobValue) (fault : JobFault) → IsJobOf bytes job → IsFaultOf bytes fault → ⊥
 no_fault bytes job (Byte line) accepted why = why
 no_fault bytes job (Grammar line) accepted why = why.1 (job, accepted)
 no_fault bytes job (Number line) accepted why = why
@@ -40,71 +38,12 @@ no_fault bytes job (Nesting line) accepted why = why
 no_fault bytes job (Leaves line) accepted why = why
 no_fault bytes job (Argument line) accepted why = why
 
--- a text has one fault at most
-one_fault : (bytes : List ℕ) (f g : JobFault) → IsFaultOf bytes f → IsFaultOf bytes g → f ≡ g
-one_fault bytes (Grammar m) (Grammar n) why why' = ap (λ k. Grammar k) (why.0 ∙ sym why'.0)
-one_fault bytes (Byte m) g why why' = absurd why
-one_fault bytes (Number m) g why why' = absurd why
-one_fault bytes (Nesting m) g why why' = absurd why
-one_fault bytes (Leaves m) g why why' = absurd why
-one_fault bytes (Argument m) g why why' = absurd why
-one_fault bytes f (Byte n) why why' = absurd why'
-one_fault bytes f (Number n) why why' = absurd why'
-one_fault bytes f (Nesting n) why why' = absurd why'
-one_fault bytes f (Leaves n) why why' = absurd why'
-one_fault bytes f (Argument n) why why' = absurd why'
-
--- the job or the fault of bytes that are held is that of the bytes that were read
+-- the job of the bytes that are held is that of the bytes that were read
 job_read : (held : Option (List ℕ)) (told bytes : List ℕ) (job : JobValue) → WasRead held bytes → held ≡ Some told → IsJobOf told job → IsJobOf bytes job
 job_read held told bytes job read is accepted = subst (λ text. IsJobOf text job) (sym (same_bytes held told bytes read is)) accepted
 
-fault_read : (held : Option (List ℕ)) (told bytes : List ℕ) (fault : JobFault) → WasRead held bytes → held ≡ Some told → IsFaultOf told fault → IsFaultOf bytes fault
-fault_read held told bytes fault read is why = subst (λ text. IsFaultOf text fault) (sym (same_bytes held told bytes read is)) why
-
--- a run that had a report, at a status that is not the one for a fault of out
-ran : (status : Status) (held : Option (List ℕ)) (workers : ℕ) (report : Report) (R W : Type 0) → HasRun held workers report → (¬ W → IsUnlessMemory status Done) → Completes status held R W
-ran status held workers report R W run done = record {
-  too_long = λ told is fine long. absurd (not_long held told run.bytes run.read is long);
-  refused = λ told fault is fine short why. absurd (no_fault run.bytes run.job fault run.accepted (fault_read held told run.bytes fault run.read is why));
-  accepted = λ told job is fine fine' short accepted. done fine';
-}
-
 told_short : (told xs : List ℕ) → Some told ≡ Some xs → 1048576 < length told → length xs ≤ 1048576 → ⊥
 told_short told xs is long short = let same : told ≡ xs = cc in omega (arith, ap length same)
-
-pub completes : (status : Status) (report : Option Report) (held : Option (List ℕ)) (workers : ℕ) (R W : Type 0) (old new : Option (List ℕ))
-    → HasCause status held R W → Headline (HasRun held workers) status report old new → Completes status held R W
-completes Done None held workers R W old new why line = absurd line
-completes Done (Some report) held workers R W old new why line = ran Done held workers report R W line.0 (λ fine. inl refl)
-completes WriteFault None held workers R W old new why line = absurd line
-completes WriteFault (Some report) held workers R W old new why line = ran WriteFault held workers report R W line.0 (λ fine. absurd (fine why))
-completes Made report held workers R W old new why line = absurd why
-completes Usage report held workers R W old new why line = absurd why
-completes Memory report held workers R W old new why line = record {
-  too_long = λ told is fine long. inr refl;
-  refused = λ told fault is fine short what. inr refl;
-  accepted = λ told job is fine fine' short accepted. inr refl;
-}
-completes ReadFault report held workers R W old new why line = record {
-  too_long = λ told is fine long. absurd (fine why);
-  refused = λ told fault is fine short what. absurd (fine why);
-  accepted = λ told job is fine fine' short accepted. absurd (fine why);
-}
-completes (Refused TooLong) report None workers R W old new why line = record {
-  too_long = λ told is fine long. inl refl;
-  refused = λ told fault is fine short what. cc;
-  accepted = λ told job is fine fine' short accepted. cc;
-}
-completes (Refused TooLong) report (Some xs) workers R W old new why line = record {
-  too_long = λ told is fine long. inl refl;
-  refused = λ told fault is fine short what. absurd (told_short xs told is why short);
-  accepted = λ told job is fine fine' short accepted. absurd (told_short xs told is why short);
-}
-completes (Refused (Job fault)) report held workers R W old new why line = record {
-  too_long = λ told is fine long. absurd (not_long held told why.bytes why.read is long);
-  refused = λ told other is fine short what. inl (ap (λ f. Refused (Job f)) (one_fault why.bytes fault other why.why (fault_read held told why.bytes other why.read is what)));
-  accepted = λ told job is fine fine' short accepted. absurd (no_fault why.bytes job fault (job_read held told why.bytes job why.read is accepted) why.why);
-}
 
 -- the run is assured where neither reading nor writing fails
 pub is_assured : (status : Status) (report : Option Report) (held : Option (List ℕ)) (workers : ℕ) (R W : Type 0) (old new : Option (List ℕ)) (never_fails : Bool) (sure : ℕ)
@@ -126,5 +65,10 @@ is_assured (Refused (Job fault)) report held workers R W old new never_fails sur
     absurd (no_fault why.bytes job fault (job_read held told why.bytes job why.read is accepted) why.why)
 
 -- no command is a wrong use
-pub no_usage : (held : Option (List ℕ)) (R W : Type 0) (status : Status) → HasCause status held R W → status ≡ Usage → ⊥
-no_usage held R W status why is = subst (λ s. HasCause s held R W) is why
+caused : (held : Option (List ℕ)) (R W : Type 0) (status : Status) → HasCause status held R W → status ≡ Usage → ⊥
+caused held R W status why is = subst (λ s. HasCause s held R W) is why
+
+pub no_usage : (words : Option Command) (command : Command) (held : Option (List ℕ)) (R W : Type 0) (status : Status) → words ≡ Some command → HasCause status held R W
+    → (status ≡ Usage → IsNone words) × (IsNone words → status ≡ Usage)
+no_usage None command held R W status is why = cc
+no_usage (Some c) command held R W status is why = (λ usage. absurd (caused held R W status why usage), λ none. cc)

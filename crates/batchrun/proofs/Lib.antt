@@ -8,3 +8,4 @@ pub mod SerialRows
 pub mod SerialBook
 pub mod SerialRun
 pub mod Ends
+pub mod InMemory

@@ -51,9 +51,9 @@ pub too_many : (done : List Act) (word : List ℕ) (more all : List (List ℕ)) 
     → (acts : List Act) → Writes acts all → length acts ≤ length done → ⊥
 too_many done word more all small read acts writes few =
     let rest = behind done acts word more all small read writes in longer rest.rest rest.parts rest.spells where
-  longer : (rest : List Act) → acts ≡ done ++ rest → word ∷ more ≡ flat_map act_tokens rest → ⊥
-  longer [] parts spells = cc
-  longer (act ∷ rest) parts spells = omega (arith, ap length parts, length-append done (act ∷ rest))
+      longer : (rest : List Act) → acts ≡ done ++ rest → word ∷ more ≡ flat_map act_tokens rest → ⊥
+      longer [] parts spells = cc
+      longer (act ∷ rest) parts spells = omega (arith, ap length parts, length-append done (act ∷ rest))
 
 -- where the tokens that are left begin with no act, no acts write all of them
 pub no_act : (done : List Act) (word : List ℕ) (more all : List (List ℕ)) → Fits done → flat_map act_tokens done ++ (word ∷ more) ≡ all
@@ -61,19 +61,19 @@ pub no_act : (done : List Act) (word : List ℕ) (more all : List (List ℕ)) �
     → (acts : List Act) → Writes acts all → ⊥
 no_act done word more all small read none acts writes =
     let rest = behind done acts word more all small read writes in begins rest.rest rest.spells rest.fits where
-  begins : (rest : List Act) → word ∷ more ≡ flat_map act_tokens rest → Fits rest → ⊥
-  begins [] spells fits = cc
-  begins (act ∷ rest) spells fits = none act (flat_map act_tokens rest) fits.0 spells
+      begins : (rest : List Act) → word ∷ more ≡ flat_map act_tokens rest → Fits rest → ⊥
+      begins [] spells fits = cc
+      begins (act ∷ rest) spells fits = none act (flat_map act_tokens rest) fits.0 spells
 
 -- a text writes one job at most
 one_list : (acts acts' : List Act) (ts : List (List ℕ)) → Writes acts ts → Writes acts' ts → acts ≡ acts'
 one_list acts acts' ts writes writes' =
     let rest = goes_on acts acts' [] writes.fits writes'.fits (append-nil (flat_map act_tokens acts) ∙ writes.spells ∙ sym writes'.spells) in
     sym (rest.parts ∙ ap (λ more. acts ++ more) (nothing rest.rest rest.spells) ∙ append-nil acts) where
-  nothing : (rest : List Act) → [] ≡ flat_map act_tokens rest → rest ≡ []
-  nothing [] is = refl
-  nothing (Work n ∷ rest) is = cc
-  nothing (Call (CounterAdd n) ∷ rest) is = cc
+      nothing : (rest : List Act) → [] ≡ flat_map act_tokens rest → rest ≡ []
+      nothing [] is = refl
+      nothing (Work n ∷ rest) is = cc
+      nothing (Call (CounterAdd n) ∷ rest) is = cc
 
 pub one_job : (text : List ℕ) (job job' : JobValue) → IsJobOf text job → IsJobOf text job' → job ≡ job'
 one_job text job job' is is' =

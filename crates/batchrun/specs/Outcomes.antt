@@ -89,3 +89,12 @@ IsAssured status held workers never_fails sure =
 abbrev pub FailsPast : Status → Option Report → ℕ → Type 0
 FailsPast WriteFault (Some report) sure = sure < length (report_text report)
 FailsPast status report sure = Unit {0}
+
+-- an accepted job is held, and there is room for its report's text
+pub record HoldsJob (held : Option (List ℕ)) (workers room : ℕ) : Type 0 where
+  pub bytes : List ℕ
+  pub job : JobValue
+  pub told : held ≡ Some bytes
+  pub short : length bytes ≤ 1048576
+  pub accepted : IsJobOf bytes job
+  pub fits : HasRoomFor job workers room

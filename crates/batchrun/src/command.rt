@@ -16,8 +16,7 @@ pub fn step_of(words: &[String]) -> Option<Step<'_>>
 {
     match words {
         [name, file, workers]
-            if name.as_str() == "step" && file.as_str() == "-" && workers.as_str() == "1" =>
-        {
+            if name.as_str() == "step" && file.as_str() == "-" && workers.as_str() == "1" => {
             Some(Step {
                 file: file.as_str(),
                 workers: 1,

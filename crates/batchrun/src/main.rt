@@ -6,18 +6,21 @@
 #![tactic(auto)]
 
 pub mod acts;
+pub mod assured;
 pub mod command;
 pub mod fault;
 pub mod join;
+pub mod laws;
 pub mod number;
 pub mod outcome;
 pub mod reader;
 pub mod serial;
 pub mod status;
 pub mod tell;
+#[cfg(test)]
+mod tests;
 pub mod token;
 pub mod top;
-
 
 use bt_io::{NoPause, StdShelf, StdSink};
 use status::Status;

@@ -1,0 +1,30 @@
+//! A run over memory in which nothing can fail.
+ghost use Rattle.std.specs.Prelude.{◌≡◌, ◌-◌, [], length, IsSome};
+ghost use Rattle.std.specs.Option.{ForSome};
+ghost use Rattle.bt_io.specs.Memory.{file_named};
+ghost use Rattle.batchrun.specs.Words.{command_of, spelled, file_of, workers_of};
+ghost use Rattle.batchrun.specs.Outcomes.{HoldsJob, IsUnlessMemory};
+
+use crate::outcome::Outcome;
+use crate::status::Status;
+use crate::top::run_step;
+use bt_io::{MemShelf, MemSink};
+use std::alloc::Global;
+
+/// Runs a `step` command over a shelf in memory that holds an accepted job, and a sink that has room for the
+/// report's text, where no call is told to fail. The run is done, unless memory runs out.
+pub fn step_in_memory(
+    alloc: Global,
+    words: &[String],
+    shelf: &mut MemShelf,
+    out: &mut MemSink,
+    err: &mut MemSink,
+) -> Outcome
+    requires command { IsSome (command_of (spelled words.now)) }
+    requires no_read_fails { shelf.old.fails ≡ [] }
+    requires no_write_fails { out.old.fails ≡ [] }
+    requires job { ForSome (command_of (spelled words.now)) (λ c. HoldsJob (file_named shelf.old.files (file_of c)) (workers_of c) (out.old.room - length out.old.taken)) }
+    ensures { IsUnlessMemory result.status Status.Done }
+{
+    run_step(alloc, words, shelf, out, err)
+}

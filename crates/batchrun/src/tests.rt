@@ -1,0 +1,343 @@
+//! What no clause says: the printed bytes of worked jobs, which texts are jobs, and each status once.
+use crate::fault::JobFault;
+use crate::outcome::Outcome;
+use crate::reader::read_job;
+use crate::status::{Refusal, Status};
+use crate::top::batchrun;
+use bt_io::{MemShelf, MemSink, NoPause};
+use std::alloc::{AllocError, Global};
+use std::sync::Wait;
+use std::test::Fail;
+use std::thread::Threads;
+
+/// What a run is given: its words, the bytes of standard input, and what its shelf and its sinks do with them.
+#[derive(Drop)]
+struct Given<'a> {
+    words: &'a [&'a str],
+    text: &'a [u8],
+    read_cut: usize,
+    read_fails: &'a [u64],
+    write_cut: usize,
+    write_fails: &'a [u64],
+    err_fails: &'a [u64],
+    ghost read_cuts: { 0 < read_cut },
+    ghost write_cuts: { 0 < write_cut },
+}
+
+/// What a run did.
+#[derive(Drop)]
+struct Ran {
+    outcome: Outcome,
+    out: MemSink,
+    err: MemSink,
+}
+
+/// The words of a run that is to be done, and a shelf and sinks that give and take all at once.
+fn unhindered<'a>(words: &'a [&'a str], text: &'a [u8]) -> Given<'a> {
+    Given {
+        words,
+        text,
+        read_cut: 4096,
+        read_fails: &[],
+        write_cut: 4_194_304,
+        write_fails: &[],
+        err_fails: &[],
+    }
+}
+
+fn run<R: Threads + Wait + Sync>(rt: &R, alloc: Global, given: &Given) -> Result<Ran, AllocError> {
+    let mut words = Vec::new(alloc);
+    for word in given.words {
+        words.push(word.to_string(alloc)?)?;
+    }
+    let mut files = Vec::new(alloc);
+    files.push(("-".to_string(alloc)?, given.text.to_vec(alloc)?))?;
+    let mut shelf = MemShelf::make(files, given.read_cut, given.read_fails.to_vec(alloc)?);
+    let mut out = MemSink::make(
+        alloc,
+        4_194_304,
+        given.write_cut,
+        given.write_fails.to_vec(alloc)?,
+    )?;
+    let mut err = MemSink::make(alloc, 4_194_304, 4096, given.err_fails.to_vec(alloc)?)?;
+    let outcome = batchrun(
+        rt,
+        alloc,
+        words.as_slice(),
+        &mut shelf,
+        &mut out,
+        &mut err,
+        &NoPause,
+    );
+    Ok(Ran { outcome, out, err })
+}
+
+const STEP: [&str; 3] = ["step", "-", "1"];
+
+const NOT_IN_THE_GRAMMAR: Status = Status::Refused(Refusal::Job(JobFault::Grammar { line: 1 }));
+
+#[test]
+fn worked_jobs_print_their_reports(rt: HostRuntime) -> Result<(), Fail> {
+    let jobs: [(&[u8], &[u8]); 5] = [
+        (b"", b"workers 1 leaves 0 calls 0 batches 0\n"),
+        (
+            b"counter add 5",
+            b"workers 1 leaves 1 calls 1 batches 1\n\
+batch 0 place 0 worker 0 leaf 0 counter add 5 -> 5\n\
+leaf 0 worker 0 start 0 end 1 value 5\n",
+        ),
+        (
+            b"work 3",
+            b"workers 1 leaves 1 calls 0 batches 0\nleaf 0 worker 0 start 0 end 1 value 406\n",
+        ),
+        (
+            b"work 0",
+            b"workers 1 leaves 1 calls 0 batches 0\nleaf 0 worker 0 start 0 end 1 value 0\n",
+        ),
+        (
+            b"counter add 4294967295\nwork 1\tcounter add 1\r\n",
+            b"workers 1 leaves 3 calls 2 batches 2\n\
+batch 0 place 0 worker 0 leaf 0 counter add 4294967295 -> 4294967295\n\
+batch 1 place 0 worker 0 leaf 2 counter add 1 -> 4294967296\n\
+leaf 0 worker 0 start 0 end 1 value 4294967295\n\
+leaf 1 worker 0 start 2 end 3 value 6\n\
+leaf 2 worker 0 start 4 end 5 value 4294967296\n",
+        ),
+    ];
+    for (text, printed) in jobs {
+        let ran = run(&rt, rt.alloc(), &unhindered(&STEP, text))?;
+        assert_eq!(rt; ran.outcome.status, Status::Done);
+        assert!(rt; ran.outcome.report.is_some());
+        assert_eq!(rt; ran.out.bytes(), printed);
+        assert_eq!(rt; ran.err.bytes(), b"".as_slice());
+    }
+    Ok(())
+}
+
+#[test]
+fn texts_are_jobs_or_not(rt: HostRuntime) -> Result<(), Fail> {
+    let jobs: [&[u8]; 16] = [
+        b"",
+        b" ",
+        b"\t\n\r ",
+        b"counter add 0",
+        b"counter add 5",
+        b"counter add 4294967295",
+        b"work 0",
+        b"work 3",
+        b"work 1000",
+        b"\n\n counter\tadd\r\n7 \n",
+        b"counter\nadd\n1",
+        b"counter add 1\ncounter add 2\n",
+        b"counter add 9\r\ncounter add 10\r\n",
+        b"work 1 work 2 counter add 3",
+        b"work 1\tcounter add 10\twork 9",
+        b"counter add 1 work 1 counter add 1 work 1",
+    ];
+    for text in jobs {
+        let ran = run(&rt, rt.alloc(), &unhindered(&STEP, text))?;
+        assert_eq!(rt; ran.outcome.status, Status::Done, "{text:?}");
+    }
+    let others: [&[u8]; 44] = [
+        b"counter add 4294967296",
+        b"counter add 18446744073709551616",
+        b"counter add 99999999999999999999999999",
+        b"counter add 007",
+        b"counter add 00",
+        b"counter add -1",
+        b"counter add +1",
+        b"counter add 0x10",
+        b"counter add 1.0",
+        b"counter add 1x",
+        b"counter add x1",
+        b"counter add",
+        b"counter add ",
+        b"counter",
+        b"add 1",
+        b"counter 5",
+        b"counter add add 1",
+        b"counteradd 5",
+        b"counter add5",
+        b"Counter add 5",
+        b"counter ADD 5",
+        b"counter add 1 2",
+        b"counter add 1 counter add",
+        b"counter add 1;",
+        b"counter add ,",
+        b"work",
+        b"work 01",
+        b"work 4294967296",
+        b"work -1",
+        b"work +1",
+        b"work 1 2",
+        b"work work 1",
+        b"wor 1",
+        b"works 1",
+        b"work @",
+        b"stack push 1",
+        b"# nothing",
+        b"counter add 1 # one",
+        b"counter add \xff",
+        b"\x00",
+        b"counter add 1\x00",
+        b"counter\x0badd 1",
+        b"counter add \xc2\xa05",
+        b"\xef\xbb\xbfcounter add 1",
+    ];
+    for text in others {
+        let ran = run(&rt, rt.alloc(), &unhindered(&STEP, text))?;
+        assert_eq!(rt; ran.outcome.status, NOT_IN_THE_GRAMMAR, "{text:?}");
+        assert_eq!(rt; ran.out.bytes(), b"".as_slice());
+        assert_eq!(rt;
+            ran.err.bytes(),
+            b"batchrun: line 1: not in the grammar\n".as_slice()
+        );
+    }
+    // The greatest work is a job; to run it takes its 4,294,967,295 steps.
+    assert!(rt; read_job(rt.alloc(), b"work 4294967295").is_ok());
+    Ok(())
+}
+
+/// So many lines, in turn `counter add 1` and `work 0`.
+fn long_job(alloc: Global, leaves: u32) -> Result<Vec<u8>, AllocError> {
+    let mut text = Vec::new(alloc);
+    for leaf in 0..leaves {
+        if leaf % 2 == 0 {
+            text.extend_from_slice(b"counter add 1\n")?;
+        } else {
+            text.extend_from_slice(b"work 0\n")?;
+        }
+    }
+    Ok(text)
+}
+
+#[test]
+fn a_job_has_at_most_20000_leaves(rt: HostRuntime) -> Result<(), Fail> {
+    let text = long_job(rt.alloc(), 20_000)?;
+    let ran = run(&rt, rt.alloc(), &unhindered(&STEP, text.as_slice()))?;
+    assert_eq!(rt; ran.outcome.status, Status::Done);
+    let head =
+        b"workers 1 leaves 20000 calls 10000 batches 10000\nbatch 0 place 0 worker 0 leaf 0 counter add 1 -> 1\n";
+    assert!(rt; ran.out.bytes().starts_with(head));
+    let last =
+        b"leaf 19998 worker 0 start 39996 end 39997 value 10000\nleaf 19999 worker 0 start 39998 end 39999 value 0\n";
+    assert!(rt; ran.out.bytes().ends_with(last));
+    let text = long_job(rt.alloc(), 20_001)?;
+    let ran = run(&rt, rt.alloc(), &unhindered(&STEP, text.as_slice()))?;
+    assert_eq!(rt; ran.outcome.status, NOT_IN_THE_GRAMMAR);
+    Ok(())
+}
+
+#[test]
+fn a_file_has_at_most_1048576_bytes(rt: HostRuntime) -> Result<(), Fail> {
+    let text = vec![in rt.alloc(); b' '; 1_048_576]?;
+    let ran = run(&rt, rt.alloc(), &unhindered(&STEP, text.as_slice()))?;
+    assert_eq!(rt; ran.outcome.status, Status::Done);
+    assert_eq!(rt;
+        ran.out.bytes(),
+        b"workers 1 leaves 0 calls 0 batches 0\n".as_slice()
+    );
+    let text = vec![in rt.alloc(); b' '; 1_048_577]?;
+    let ran = run(&rt, rt.alloc(), &unhindered(&STEP, text.as_slice()))?;
+    assert_eq!(rt; ran.outcome.status, Status::Refused(Refusal::TooLong));
+    assert_eq!(rt; ran.out.bytes(), b"".as_slice());
+    assert_eq!(rt;
+        ran.err.bytes(),
+        b"batchrun: job longer than 1048576 bytes\n".as_slice()
+    );
+    Ok(())
+}
+
+#[test]
+fn other_words_are_a_wrong_use(rt: HostRuntime) -> Result<(), Fail> {
+    let uses: [&[&str]; 16] = [
+        &[],
+        &["step"],
+        &["step", "-"],
+        &["step", "-", "0"],
+        &["step", "-", "33"],
+        &["step", "-", "01"],
+        &["step", "-", "+1"],
+        &["step", "-", "2", "02"],
+        &["step", "-", "1", ""],
+        &["step", "", "1"],
+        &["Step", "-", "1"],
+        &["run", "-", "2", "01"],
+        &["gen", "0", "7", "1"],
+        &["gen", "5001", "7", "1"],
+        &["help"],
+        &[""],
+    ];
+    let usage =
+        b"batchrun: usage: step FILE WORKERS [SCHEDULE] | run FILE WORKERS | gen SIZE SEED WORKERS\n";
+    for words in uses {
+        let ran = run(&rt, rt.alloc(), &unhindered(words, b"counter add 5"))?;
+        assert_eq!(rt; ran.outcome.status, Status::Usage, "{words:?}");
+        assert!(rt; ran.outcome.report.is_none());
+        assert_eq!(rt; ran.out.bytes(), b"".as_slice());
+        assert_eq!(rt; ran.err.bytes(), usage.as_slice());
+    }
+    Ok(())
+}
+
+#[test]
+fn a_fault_stops_the_reading_or_the_writing(rt: HostRuntime) -> Result<(), Fail> {
+    let text = b"counter add 5";
+    // Call 0 of the shelf chooses the file, and call 1 gives 10 bytes.
+    let calls: [&[u64]; 3] = [&[0], &[1], &[2]];
+    for call in calls {
+        let mut reading = unhindered(&STEP, text);
+        reading.read_cut = 10;
+        reading.read_fails = call;
+        let ran = run(&rt, rt.alloc(), &reading)?;
+        assert_eq!(rt; ran.outcome.status, Status::ReadFault, "call {call:?}");
+        assert!(rt; ran.outcome.report.is_none());
+        assert_eq!(rt; ran.out.bytes(), b"".as_slice());
+        assert_eq!(rt; ran.err.bytes(), b"batchrun: read fault\n".as_slice());
+    }
+    // Each write takes 40 bytes.
+    let writes: [(&[u64], &[u8]); 3] = [
+        (&[0], b""),
+        (&[1], b"workers 1 leaves 1 calls 1 batches 1\nbat"),
+        (
+            &[2],
+            b"workers 1 leaves 1 calls 1 batches 1\nbatch 0 place 0 worker 0 leaf 0 counter add",
+        ),
+    ];
+    for (write, front) in writes {
+        let mut writing = unhindered(&STEP, text);
+        writing.write_cut = 40;
+        writing.write_fails = write;
+        let ran = run(&rt, rt.alloc(), &writing)?;
+        assert_eq!(rt; ran.outcome.status, Status::WriteFault, "write {write:?}");
+        assert!(rt; ran.outcome.report.is_some());
+        assert_eq!(rt; ran.out.bytes(), front);
+        assert_eq!(rt; ran.err.bytes(), b"batchrun: write fault\n".as_slice());
+    }
+    Ok(())
+}
+
+#[test]
+fn a_fault_of_err_changes_no_status(rt: HostRuntime) -> Result<(), Fail> {
+    let too_long = vec![in rt.alloc(); b' '; 1_048_577]?;
+    let mut runs = [
+        (unhindered(&["step"], b""), Status::Usage),
+        (unhindered(&STEP, b"counter add 5"), Status::ReadFault),
+        (unhindered(&STEP, b"counter add 5"), Status::WriteFault),
+        (unhindered(&STEP, b"counter"), NOT_IN_THE_GRAMMAR),
+        (
+            unhindered(&STEP, too_long.as_slice()),
+            Status::Refused(Refusal::TooLong),
+        ),
+        (unhindered(&STEP, b"counter add 5"), Status::Done),
+    ];
+    runs[1].0.read_fails = &[1];
+    runs[2].0.write_fails = &[0];
+    for (given, status) in runs.iter_mut() {
+        given.err_fails = &[0];
+        let ran = run(&rt, rt.alloc(), given)?;
+        assert_eq!(rt; ran.outcome.status, *status);
+        assert_eq!(rt; ran.err.bytes(), b"".as_slice());
+    }
+    Ok(())
+}

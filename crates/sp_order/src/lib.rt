@@ -5,7 +5,10 @@
 #![tactic(auto)]
 
 pub mod job;
+pub mod laws;
+pub mod node;
 pub mod shape;
 
 pub use job::Job;
+pub use node::{Kind, Move};
 pub use shape::Shape;

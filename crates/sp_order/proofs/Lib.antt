@@ -1,2 +1,4 @@
 pub mod Standing
 pub mod PlanLaws
+pub mod Descents
+pub mod BySeries

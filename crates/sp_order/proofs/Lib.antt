@@ -2,3 +2,4 @@ pub mod Standing
 pub mod PlanLaws
 pub mod Descents
 pub mod BySeries
+pub mod Preorders

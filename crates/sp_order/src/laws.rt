@@ -4,6 +4,7 @@ ghost use Rattle.sp_order.specs.declared.node.Kind.TheVariants.{LeafNode};
 ghost use Rattle.sp_order.specs.Precedence.{Tree, leaves, IsBefore};
 ghost use Rattle.sp_order.specs.Plans.{Nodes, IsPlan, IsBySeries};
 ghost use Rattle.sp_order.specs.Stands.{IsPlanOf};
+ghost use Rattle.sp_order.specs.Preorder.{nodes_of};
 
 /// A plan that stands for a tree has a root and sides as a plan is to have.
 pub fn plan_has_sides()
@@ -21,5 +22,11 @@ pub fn before_is_by_series()
 /// In a plan that stands for a tree, each leaf number has its node, and no other node has it.
 pub fn leaf_has_one_node()
     ensures { (plan : Nodes) (tree : Tree) → IsPlanOf plan tree → (leaf n : ℕ) → leaf < leaves tree → (plan.kind n ≡ Some (LeafNode leaf)) ↔ (n ≡ plan.node_of leaf) }
+{
+}
+
+/// The plan of a tree stands for it.
+pub fn plan_stands_for_tree()
+    ensures { (tree : Tree) → IsPlanOf (nodes_of tree) tree }
 {
 }

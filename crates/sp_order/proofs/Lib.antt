@@ -3,3 +3,4 @@ pub mod PlanLaws
 pub mod Descents
 pub mod BySeries
 pub mod Preorders
+pub mod Listings

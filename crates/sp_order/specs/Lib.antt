@@ -6,3 +6,4 @@ pub mod Depth
 pub mod Plans
 pub mod Stands
 pub mod Preorder
+pub mod Listing

@@ -6,6 +6,7 @@
 
 pub mod job;
 pub mod laws;
+mod listing;
 pub mod node;
 pub mod shape;
 

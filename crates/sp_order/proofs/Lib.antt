@@ -4,3 +4,5 @@ pub mod Descents
 pub mod BySeries
 pub mod Preorders
 pub mod Listings
+pub mod Planned
+pub mod Climbs

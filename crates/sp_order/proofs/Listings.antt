@@ -136,3 +136,16 @@ par_listed pending left right stack new_stack lists new_lists a b h whole of_lef
 pub if_both : {X E : Type 0} (r : Result X E) (P Q R : Type 0) → IfOk r (λ _. P) → IfOk r (λ _. Q) → (P → Q → R) → IfOk r (λ _. R)
 if_both (Ok x) P Q R p q then = then p q
 if_both (Err e) P Q R p q then = tt
+
+-- listing more makes the lists longer
+pub kinds_no_shorter : (stack : List Pending) (lists : Lists) → length lists.kinds ≤ length (with_all stack lists).kinds
+kinds_no_shorter [] lists = omega arith
+kinds_no_shorter (p ∷ stack) lists =
+    let so_far : Lists = with_all stack lists in
+    omega (arith, kinds_no_shorter stack lists, length-append (linked so_far.kinds p.after (length so_far.kinds)) (kinds_from (length so_far.kinds) (length so_far.leaf_nodes) (tree_of p.shape.now)), length-linked so_far.kinds p.after (length so_far.kinds))
+
+pub leaf_nodes_no_shorter : (stack : List Pending) (lists : Lists) → length lists.leaf_nodes ≤ length (with_all stack lists).leaf_nodes
+leaf_nodes_no_shorter [] lists = omega arith
+leaf_nodes_no_shorter (p ∷ stack) lists =
+    let so_far : Lists = with_all stack lists in
+    omega (arith, leaf_nodes_no_shorter stack lists, length-append so_far.leaf_nodes (leaf_nodes_from (length so_far.kinds) (tree_of p.shape.now)))

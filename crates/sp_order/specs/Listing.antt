@@ -1,5 +1,5 @@
 -- How a plan is listed: node by node, with the sides that are still to be listed on a stack.
-use Rattle.std.specs.Prelude.{◌≡◌, ℕ, ◌+◌, ◌<◌, List, [], ◌∷◌, ◌++◌, length, slice_set}
+use Rattle.std.specs.Prelude.{◌≡◌, ℕ, ◌+◌, ◌<◌, ◌≤◌, List, [], ◌∷◌, ◌++◌, length, slice_set}
 use Rattle.std.specs.List.{All}
 use Rattle.sp_order.specs.declared.node.Kind.{Kind}
 use Rattle.sp_order.specs.declared.node.Kind.TheVariants.{SeqNode, ParNode}
@@ -7,7 +7,7 @@ use Rattle.sp_order.specs.declared.node.Move.{Move}
 use Rattle.sp_order.specs.declared.node.Move.TheVariants.{Root, OpenSecond, FinishParent, Arrive}
 use Rattle.sp_order.specs.declared.listing.Listing.{Listing}
 use Rattle.sp_order.specs.declared.listing.Pending.{Pending}
-use Rattle.sp_order.specs.Precedence.{Tree, tree_of}
+use Rattle.sp_order.specs.Precedence.{Tree, tree_of, leaves}
 use Rattle.sp_order.specs.Preorder.{kinds_from, moves_from, leaf_nodes_from}
 
 -- what is listed of each node, and the nodes of the leaves
@@ -56,3 +56,8 @@ with_all (pending ∷ above) lists = with_pending pending (with_all above lists)
 -- the parents of all that is on the stack are listed
 abbrev pub AreLinked : List Pending → Lists → Type 0
 AreLinked stack lists = All (λ pending. HasParentBelow (length lists.kinds) pending.after) stack
+
+-- these are the lists of this tree, which has not too many leaves
+pub record AreListsOf (lists : Lists) (tree : Tree) : Type 0 where
+  pub lists_are : lists ≡ lists_of tree
+  pub most : leaves tree ≤ 20000

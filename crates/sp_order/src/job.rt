@@ -44,7 +44,8 @@ impl Job {
 
     /// Its shape, if it has leaves.
     pub fn shape(&self) -> Option<&Shape>
-        ensures { option_map (λ shape. tree_of shape.now) result ≡ self.now.shape }
+        ensures shape { option_map (λ shape. tree_of shape.now) result ≡ self.now.shape }
+        ensures job { IsJob self.now }
     {
         self.shape.as_ref()
     }

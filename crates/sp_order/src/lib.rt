@@ -8,8 +8,10 @@ pub mod job;
 pub mod laws;
 mod listing;
 pub mod node;
+pub mod plan;
 pub mod shape;
 
 pub use job::Job;
 pub use node::{Kind, Move};
+pub use plan::Plan;
 pub use shape::Shape;

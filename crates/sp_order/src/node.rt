@@ -1,4 +1,5 @@
 //! What the nodes of a plan are, and what follows them.
+ghost use Rattle.std.specs.Prelude.{◌≡◌};
 
 /// What a node is: a leaf, by its number among the leaves, or a series or a parallel block, by its two
 /// sides: the left and then the right.
@@ -20,4 +21,18 @@ pub enum Move {
     FinishParent(u32),
     /// It is a side of a parallel block, which is done once both sides are.
     Arrive(u32),
+}
+
+impl Move {
+    ghost use Rattle.sp_order.specs.Plans.{parent_of};
+
+    /// The node's parent, if it is not the root.
+    pub fn parent(self) -> Option<u32>
+        ensures { result ≡ parent_of self }
+    {
+        match self {
+            Move::Root => None,
+            Move::OpenSecond(parent) | Move::FinishParent(parent) | Move::Arrive(parent) => Some(parent),
+        }
+    }
 }

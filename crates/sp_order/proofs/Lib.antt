@@ -6,3 +6,4 @@ pub mod Preorders
 pub mod Listings
 pub mod Planned
 pub mod Climbs
+pub mod Depths

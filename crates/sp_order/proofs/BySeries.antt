@@ -82,15 +82,15 @@ series_from_before plan (seq a b) n u m h i j (inr (inr k)) =
 -- a leaf whose node is in a tree that stands, or is not, is one of its leaves, or is not
 leaf_below : (plan : Nodes) (tree : Tree) (n u : ℕ) (m : Move) → Stands plan tree n u m → (i : ℕ) → i < u + leaves tree → plan.node_of i < n → i < u
 leaf_below plan tree n u m h i high low = elim (cases_lt i u) [
-    inl e ↦ e
+  | inl e ↦ e
   | inr e ↦ absurd (omega (arith, (leaf_at plan tree n u m h i e high).1))
-  ]
+]
 
 leaf_above : (plan : Nodes) (tree : Tree) (n u : ℕ) (m : Move) → Stands plan tree n u m → (i : ℕ) → u ≤ i → n + node_count tree ≤ plan.node_of i → u + leaves tree ≤ i
 leaf_above plan tree n u m h i low high = elim (cases_lt i (u + leaves tree)) [
-    inr e ↦ e
+  | inr e ↦ e
   | inl e ↦ absurd (omega (arith, (leaf_at plan tree n u m h i low e).2))
-  ]
+]
 
 pub before_from_series : (plan : Nodes) → IsPlan plan → (tree : Tree) (n u : ℕ) (m : Move) → Stands plan tree n u m → (i j : ℕ) → IsLeafOf tree u i → IsLeafOf tree u j → (s : IsBySeries plan (plan.node_of i) (plan.node_of j)) → n ≤ s.parent → s.parent < n + node_count tree → IsBeforeFrom u tree i j
 before_from_series plan laws leaf n u m h i j of_i of_j s low high =
@@ -100,33 +100,35 @@ before_from_series plan laws leaf n u m h i j of_i of_j s low high =
     cc
 before_from_series plan laws (seq a b) n u m h i j of_i of_j s low high =
     elim (node_cases n (node_count a) (node_count b) s.parent low high) [
-        inl e ↦
+      | inl e ↦
           let at : SeriesAt plan s.parent s.left s.right (n + node_count (seq a b)) = series_at plan (seq a b) n u m h s.parent s.left s.right low high s.series in
           let in_left = left_within plan laws s.parent s.left s.right _ at (plan.node_of i) s.under_left in
           let in_right = right_within plan laws s.parent s.left s.right _ at (plan.node_of j) s.under_right in
           let f = rw e at s.series in
           let g = h.0 in
           let right_is : s.right ≡ n + 1 + node_count a = cc in
-          inr (inr ((of_i.0, leaf_below plan b (n + 1 + node_count a) (u + leaves a) (FinishParent n) h.3 i (omega (arith, of_i.1)) (omega arith)),
-            (leaf_above plan a (n + 1) u (OpenSecond n) h.2 j of_j.0 (omega arith), omega (arith, of_j.1))))
+          inr (inr (
+            (of_i.0, leaf_below plan b (n + 1 + node_count a) (u + leaves a) (FinishParent n) h.3 i (omega (arith, of_i.1)) (omega arith)),
+            (leaf_above plan a (n + 1) u (OpenSecond n) h.2 j of_j.0 (omega arith), omega (arith, of_j.1)),
+          ))
       | inr (inl k) ↦
           let at : SeriesAt plan s.parent s.left s.right (n + 1 + node_count a) = series_at plan a (n + 1) u (OpenSecond n) h.2 s.parent s.left s.right k.0 k.1 s.series in
           let in_left = left_within plan laws s.parent s.left s.right _ at (plan.node_of i) s.under_left in
           let in_right = right_within plan laws s.parent s.left s.right _ at (plan.node_of j) s.under_right in
           inl (before_from_series plan laws a (n + 1) u (OpenSecond n) h.2 i j
-            (of_i.0, leaf_below plan b (n + 1 + node_count a) (u + leaves a) (FinishParent n) h.3 i (omega (arith, of_i.1)) (omega (arith, at.ends)))
-            (of_j.0, leaf_below plan b (n + 1 + node_count a) (u + leaves a) (FinishParent n) h.3 j (omega (arith, of_j.1)) (omega arith)) s k.0 k.1)
+          (of_i.0, leaf_below plan b (n + 1 + node_count a) (u + leaves a) (FinishParent n) h.3 i (omega (arith, of_i.1)) (omega (arith, at.ends)))
+          (of_j.0, leaf_below plan b (n + 1 + node_count a) (u + leaves a) (FinishParent n) h.3 j (omega (arith, of_j.1)) (omega arith)) s k.0 k.1)
       | inr (inr k) ↦
           let at : SeriesAt plan s.parent s.left s.right (n + 1 + node_count a + node_count b) = series_at plan b (n + 1 + node_count a) (u + leaves a) (FinishParent n) h.3 s.parent s.left s.right k.0 k.1 s.series in
           let in_left = left_within plan laws s.parent s.left s.right _ at (plan.node_of i) s.under_left in
           let in_right = right_within plan laws s.parent s.left s.right _ at (plan.node_of j) s.under_right in
           inr (inl (before_from_series plan laws b (n + 1 + node_count a) (u + leaves a) (FinishParent n) h.3 i j
-            (leaf_above plan a (n + 1) u (OpenSecond n) h.2 i of_i.0 (omega arith), omega (arith, of_i.1))
-            (leaf_above plan a (n + 1) u (OpenSecond n) h.2 j of_j.0 (omega arith), omega (arith, of_j.1)) s k.0 k.1))
-      ]
+          (leaf_above plan a (n + 1) u (OpenSecond n) h.2 i of_i.0 (omega arith), omega (arith, of_i.1))
+          (leaf_above plan a (n + 1) u (OpenSecond n) h.2 j of_j.0 (omega arith), omega (arith, of_j.1)) s k.0 k.1))
+    ]
 before_from_series plan laws (par a b) n u m h i j of_i of_j s low high =
     elim (node_cases n (node_count a) (node_count b) s.parent low high) [
-        inl e ↦
+      | inl e ↦
           let f = rw e at s.series in
           let g = h.0 in
           cc
@@ -135,19 +137,20 @@ before_from_series plan laws (par a b) n u m h i j of_i of_j s low high =
           let in_left = left_within plan laws s.parent s.left s.right _ at (plan.node_of i) s.under_left in
           let in_right = right_within plan laws s.parent s.left s.right _ at (plan.node_of j) s.under_right in
           inl (before_from_series plan laws a (n + 1) u (Arrive n) h.2 i j
-            (of_i.0, leaf_below plan b (n + 1 + node_count a) (u + leaves a) (Arrive n) h.3 i (omega (arith, of_i.1)) (omega (arith, at.ends)))
-            (of_j.0, leaf_below plan b (n + 1 + node_count a) (u + leaves a) (Arrive n) h.3 j (omega (arith, of_j.1)) (omega arith)) s k.0 k.1)
+          (of_i.0, leaf_below plan b (n + 1 + node_count a) (u + leaves a) (Arrive n) h.3 i (omega (arith, of_i.1)) (omega (arith, at.ends)))
+          (of_j.0, leaf_below plan b (n + 1 + node_count a) (u + leaves a) (Arrive n) h.3 j (omega (arith, of_j.1)) (omega arith)) s k.0 k.1)
       | inr (inr k) ↦
           let at : SeriesAt plan s.parent s.left s.right (n + 1 + node_count a + node_count b) = series_at plan b (n + 1 + node_count a) (u + leaves a) (Arrive n) h.3 s.parent s.left s.right k.0 k.1 s.series in
           let in_left = left_within plan laws s.parent s.left s.right _ at (plan.node_of i) s.under_left in
           let in_right = right_within plan laws s.parent s.left s.right _ at (plan.node_of j) s.under_right in
           inr (before_from_series plan laws b (n + 1 + node_count a) (u + leaves a) (Arrive n) h.3 i j
-            (leaf_above plan a (n + 1) u (Arrive n) h.2 i of_i.0 (omega arith), omega (arith, of_i.1))
-            (leaf_above plan a (n + 1) u (Arrive n) h.2 j of_j.0 (omega arith), omega (arith, of_j.1)) s k.0 k.1)
-      ]
+          (leaf_above plan a (n + 1) u (Arrive n) h.2 i of_i.0 (omega arith), omega (arith, of_i.1))
+          (leaf_above plan a (n + 1) u (Arrive n) h.2 j of_j.0 (omega arith), omega (arith, of_j.1)) s k.0 k.1)
+    ]
 
 pub before_by_series : (plan : Nodes) (tree : Tree) → IsPlanOf plan tree → (i j : ℕ) → i < leaves tree → j < leaves tree → IsBeforeFrom 0 tree i j ↔ IsBySeries plan (plan.node_of i) (plan.node_of j)
-before_by_series plan tree h i j of_i of_j =
-    (series_from_before plan tree 0 0 Root h.stands i j,
-    λ s. before_from_series plan (plan_laws plan tree h) tree 0 0 Root h.stands i j (omega arith, omega arith) (omega arith, omega arith) s (omega arith)
-      (omega (arith, below_count plan tree h s.parent (λ none. let series = s.series in cc))))
+before_by_series plan tree h i j of_i of_j = (
+  series_from_before plan tree 0 0 Root h.stands i j,
+  λ s. before_from_series plan (plan_laws plan tree h) tree 0 0 Root h.stands i j (omega arith, omega arith) (omega arith, omega arith) s (omega arith)
+      (omega (arith, below_count plan tree h s.parent (λ none. let series = s.series in cc))),
+)

@@ -49,13 +49,13 @@ climb_on plan tree h first last node parent climbs side low =
       inside = omega (arith, laws.deeper parent node side, climbs.inside);
       above = under_trans (one_below itself side) climbs.above;
       right = λ s. elim (under_parent plan s.right node parent (climbs.right s) side) [
-          inr under ↦ under
+        | inr under ↦ under
         | inl e ↦
             let f = ap parent_of (laws.right_of_seq s.parent s.left s.right s.series) in
             let g : parent_of (plan.after node) ≡ Some s.parent = rw e at f in
             let same : s.parent ≡ parent = cc in
             absurd (omega (arith, (first_within plan tree h first last s).0))
-        ];
+      ];
     }
 
 -- no series has the two under its sides once the way up has come to the first leaf's node, or past it
@@ -92,26 +92,27 @@ right_side plan laws parent node (Some (ParNode l r)) is (inr e) after =
 -- where the parent is before the first leaf's node, the two leaves part at it
 pub parted : (plan : Nodes) (tree : Tree) → IsPlanOf plan tree → (first last node parent : ℕ) → Climbs plan first last node → first < node → IsSide plan parent node → parent < first → (plan.after node ≡ FinishParent parent) ↔ IsBySeries plan first last
 parted plan tree h first last node parent climbs high side low =
-    let laws : IsPlan plan = plan_laws plan tree h in
-    (λ after.
-      let of_series = right_side plan laws parent node (plan.kind parent) refl (laws.has_side parent node side) after in
-      record {
-        parent = parent;
-        left = of_series.0;
-        right = node;
-        series = of_series.1;
-        under_left = left_covers plan parent of_series.0 node (0 + node_count tree) (series_of plan tree h parent of_series.0 node of_series.1) first low high;
-        under_right = climbs.above;
-      },
-    λ s. elim (under_parent plan s.right node parent (climbs.right s) side) [
-        inl e ↦
-          let f = laws.right_of_seq s.parent s.left s.right s.series in
-          let g : plan.after node ≡ FinishParent s.parent = rw e at f in
-          let i = ap parent_of g in
-          let same : s.parent ≡ parent = cc in
-          rw same at g
-      | inr under ↦ absurd (omega (arith, under_le plan laws s.right parent under, (first_within plan tree h first last s).1))
-      ])
+    let laws : IsPlan plan = plan_laws plan tree h in (
+      λ after.
+          let of_series = right_side plan laws parent node (plan.kind parent) refl (laws.has_side parent node side) after in
+          record {
+            parent = parent;
+            left = of_series.0;
+            right = node;
+            series = of_series.1;
+            under_left = left_covers plan parent of_series.0 node (0 + node_count tree) (series_of plan tree h parent of_series.0 node of_series.1) first low high;
+            under_right = climbs.above;
+          },
+      λ s. elim (under_parent plan s.right node parent (climbs.right s) side) [
+        | inl e ↦
+            let f = laws.right_of_seq s.parent s.left s.right s.series in
+            let g : plan.after node ≡ FinishParent s.parent = rw e at f in
+            let i = ap parent_of g in
+            let same : s.parent ≡ parent = cc in
+            rw same at g
+        | inr under ↦ absurd (omega (arith, under_le plan laws s.right parent under, (first_within plan tree h first last s).1))
+      ],
+    )
 
 -- what decides whether such a series is there decides whether the one leaf is before the other
 pub by_climb : (plan : Nodes) (tree : Tree) → IsPlanOf plan tree → (u v : ℕ) → u < leaves tree → v < leaves tree → (first : ℕ) → first ≡ plan.node_of u → (answer : Bool) → (IsTrue answer ↔ IsBySeries plan first (plan.node_of v)) → IsTrue answer ↔ IsBeforeFrom 0 tree u v

@@ -21,23 +21,23 @@ under_le plan laws a b (one_below {top} {parent} {node} v side) = omega (arith, 
 pub covers : (plan : Nodes) (tree : Tree) (n u : ℕ) (m : Move) → Stands plan tree n u m → (k : ℕ) → n ≤ k → k < n + node_count tree → IsUnder plan n k
 covers plan leaf n u m h k low high = let e : k ≡ n = omega arith in rw e itself
 covers plan (seq a b) n u m h k low high = elim (node_cases n (node_count a) (node_count b) k low high) [
-    inl e ↦ rw e itself
+  | inl e ↦ rw e itself
   | inr (inl i) ↦
       under_trans (one_below itself (ap parent_of (top_after plan a (n + 1) u (OpenSecond n) h.2)))
       (covers plan a (n + 1) u (OpenSecond n) h.2 k i.0 i.1)
   | inr (inr i) ↦
       under_trans (one_below itself (ap parent_of (top_after plan b (n + 1 + node_count a) (u + leaves a) (FinishParent n) h.3)))
       (covers plan b (n + 1 + node_count a) (u + leaves a) (FinishParent n) h.3 k i.0 i.1)
-  ]
+]
 covers plan (par a b) n u m h k low high = elim (node_cases n (node_count a) (node_count b) k low high) [
-    inl e ↦ rw e itself
+  | inl e ↦ rw e itself
   | inr (inl i) ↦
       under_trans (one_below itself (ap parent_of (top_after plan a (n + 1) u (Arrive n) h.2)))
       (covers plan a (n + 1) u (Arrive n) h.2 k i.0 i.1)
   | inr (inr i) ↦
       under_trans (one_below itself (ap parent_of (top_after plan b (n + 1 + node_count a) (u + leaves a) (Arrive n) h.3)))
       (covers plan b (n + 1 + node_count a) (u + leaves a) (Arrive n) h.3 k i.0 i.1)
-  ]
+]
 
 -- the sides of the top of a tree that stands are nodes of it
 sides_within : (plan : Nodes) (tree : Tree) (n u : ℕ) (m : Move) → Stands plan tree n u m → (k : ℕ) → HasSide (plan.kind n) k → (n < k) × (k < n + node_count tree)
@@ -45,15 +45,15 @@ sides_within plan leaf n u m h k side = absurd (rw h.0 at side)
 sides_within plan (seq a b) n u m h k side =
     let which : (k ≡ n + 1) ⊎ (k ≡ n + 1 + node_count a) = rw h.0 at side in
     elim which [
-        inl e ↦ (omega arith, omega (arith, node_count_above_0 a))
+      | inl e ↦ (omega arith, omega (arith, node_count_above_0 a))
       | inr e ↦ (omega arith, omega (arith, node_count_above_0 b))
-      ]
+    ]
 sides_within plan (par a b) n u m h k side =
     let which : (k ≡ n + 1) ⊎ (k ≡ n + 1 + node_count a) = rw h.0 at side in
     elim which [
-        inl e ↦ (omega arith, omega (arith, node_count_above_0 a))
+      | inl e ↦ (omega arith, omega (arith, node_count_above_0 a))
       | inr e ↦ (omega arith, omega (arith, node_count_above_0 b))
-      ]
+    ]
 
 -- what is under the top of a tree that stands is a node of it
 pub stays : (plan : Nodes) → IsPlan plan → (tree : Tree) (n u : ℕ) (m : Move) → Stands plan tree n u m → (k : ℕ) → IsUnder plan n k → (n ≤ k) × (k < n + node_count tree)
@@ -70,10 +70,10 @@ leaf_at plan leaf n u m h i low high =
     let e : i ≡ u = omega arith in
     rw (e, h.2) (h.0, omega arith, omega arith)
 leaf_at plan (seq a b) n u m h i low high = elim (cases_lt i (u + leaves a)) [
-    inl e ↦ let r = leaf_at plan a (n + 1) u (OpenSecond n) h.2 i low e in (r.0, omega arith, omega arith)
+  | inl e ↦ let r = leaf_at plan a (n + 1) u (OpenSecond n) h.2 i low e in (r.0, omega arith, omega arith)
   | inr e ↦ let r = leaf_at plan b (n + 1 + node_count a) (u + leaves a) (FinishParent n) h.3 i e (omega arith) in (r.0, omega arith, omega arith)
-  ]
+]
 leaf_at plan (par a b) n u m h i low high = elim (cases_lt i (u + leaves a)) [
-    inl e ↦ let r = leaf_at plan a (n + 1) u (Arrive n) h.2 i low e in (r.0, omega arith, omega arith)
+  | inl e ↦ let r = leaf_at plan a (n + 1) u (Arrive n) h.2 i low e in (r.0, omega arith, omega arith)
   | inr e ↦ let r = leaf_at plan b (n + 1 + node_count a) (u + leaves a) (Arrive n) h.3 i e (omega arith) in (r.0, omega arith, omega arith)
-  ]
+]

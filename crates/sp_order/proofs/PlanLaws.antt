@@ -31,21 +31,21 @@ fits_at plan tree h n low =
 
 pub below_count : (plan : Nodes) (tree : Tree) → IsPlanOf plan tree → (n : ℕ) → plan.kind n ≢ None → n < node_count tree
 below_count plan tree h n inside = elim (cases_lt n (node_count tree)) [
-    inl e ↦ e
+  | inl e ↦ e
   | inr e ↦ absurd (inside (h.no_kind n e))
-  ]
+]
 
 kind_says : (plan : Nodes) (tree : Tree) → IsPlanOf plan tree → (n : ℕ) (k : Kind) → plan.kind n ≡ Some k → FitsKind plan (Some k) n
 kind_says plan tree h n k e = rw e at (fits_at plan tree h n (below_count plan tree h n (λ f. cc)))
 
 move_says : (plan : Nodes) (tree : Tree) → IsPlanOf plan tree → (n : ℕ) (m : Move) → plan.after n ≡ m → m ≢ Root → HasParent plan m n
 move_says plan tree h n m e other = elim (cases_lt n (node_count tree)) [
-    inr f ↦ absurd (other (sym e ∙ h.no_move n f))
+  | inr f ↦ absurd (other (sym e ∙ h.no_move n f))
   | inl f ↦ elim (cases_eq n 0) [
-        inl g ↦ absurd (other (sym e ∙ (rw g (top_after plan tree 0 0 Root h.stands))))
-      | inr g ↦ rw e at (has_parent plan tree 0 0 Root h.stands n (omega arith) (omega arith))
-      ]
+    | inl g ↦ absurd (other (sym e ∙ (rw g (top_after plan tree 0 0 Root h.stands))))
+    | inr g ↦ rw e at (has_parent plan tree 0 0 Root h.stands n (omega arith) (omega arith))
   ]
+]
 
 side_says : (plan : Nodes) (tree : Tree) → IsPlanOf plan tree → (p n : ℕ) (m : Move) → plan.after n ≡ m → parent_of m ≡ Some p → (p < n) × HasSide (plan.kind p) n
 side_says plan tree h p n Root e f = cc
@@ -55,17 +55,17 @@ side_says plan tree h p n (Arrive q) e f = let g : q ≡ p = cc in rw g at (move
 
 side_is_inside : (plan : Nodes) (tree : Tree) → IsPlanOf plan tree → (p n : ℕ) → IsSide plan p n → plan.kind n ≢ None
 side_is_inside plan tree h p n side out = elim (cases_lt n (node_count tree)) [
-    inr f ↦ let g = ap parent_of (h.no_move n f) in cc
+  | inr f ↦ let g = ap parent_of (h.no_move n f) in cc
   | inl f ↦ rw out at (fits_at plan tree h n f)
-  ]
+]
 
 pub plan_laws : (plan : Nodes) (tree : Tree) → IsPlanOf plan tree → IsPlan plan
 plan_laws plan tree h = record {
   root = top_after plan tree 0 0 Root h.stands;
   one_root = λ n inside e. elim (cases_eq n 0) [
-      inl f ↦ f
+    | inl f ↦ f
     | inr f ↦ absurd (rw e at (has_parent plan tree 0 0 Root h.stands n (omega arith) (omega (arith, below_count plan tree h n inside))))
-    ];
+  ];
   left_of_seq = λ p l r e. (kind_says plan tree h p (SeqNode l r) e).0;
   right_of_seq = λ p l r e. (kind_says plan tree h p (SeqNode l r) e).1;
   left_of_par = λ p l r e. (kind_says plan tree h p (ParNode l r) e).0;

@@ -70,30 +70,33 @@ reads_head f n x xs h =
 
 -- a tree whose lists a plan reads stands there
 stands_read : (plan : Nodes) (tree : Tree) (n u : ℕ) (m : Move) → Reads plan.kind n (kinds_from n u tree) → Reads (λ k. Some (plan.after k)) n (moves_from n m tree) → Reads (λ i. Some (plan.node_of i)) u (leaf_nodes_from n tree) → Stands plan tree n u m
-stands_read plan leaf n u m kinds moves places =
-    (reads_head plan.kind n (LeafNode u) [] kinds,
-    same_Some _ _ (reads_head (λ k. Some (plan.after k)) n m [] moves),
-    same_Some _ _ (reads_head (λ i. Some (plan.node_of i)) u n [] places))
+stands_read plan leaf n u m kinds moves places = (
+  reads_head plan.kind n (LeafNode u) [] kinds,
+  same_Some _ _ (reads_head (λ k. Some (plan.after k)) n m [] moves),
+  same_Some _ _ (reads_head (λ i. Some (plan.node_of i)) u n [] places),
+)
 stands_read plan (seq a b) n u m kinds moves places =
     let more_kinds = reads_tail plan.kind n _ _ kinds in
-    let more_moves = reads_tail (λ k. Some (plan.after k)) n _ _ moves in
-    (reads_head plan.kind n _ _ kinds,
-    same_Some _ _ (reads_head (λ k. Some (plan.after k)) n m _ moves),
-    stands_read plan a (n + 1) u (OpenSecond n) (reads_left plan.kind (n + 1) _ _ more_kinds) (reads_left (λ k. Some (plan.after k)) (n + 1) _ _ more_moves) (reads_left (λ i. Some (plan.node_of i)) u _ _ places),
-    stands_read plan b (n + 1 + node_count a) (u + leaves a) (FinishParent n)
-      (reads_right plan.kind (n + 1) (node_count a) (kinds_from (n + 1) u a) _ (length-kinds_from a (n + 1) u) more_kinds)
-      (reads_right (λ k. Some (plan.after k)) (n + 1) (node_count a) (moves_from (n + 1) (OpenSecond n) a) _ (length-moves_from a (n + 1) (OpenSecond n)) more_moves)
-      (reads_right (λ i. Some (plan.node_of i)) u (leaves a) (leaf_nodes_from (n + 1) a) _ (length-leaf_nodes_from a (n + 1)) places))
+    let more_moves = reads_tail (λ k. Some (plan.after k)) n _ _ moves in (
+      reads_head plan.kind n _ _ kinds,
+      same_Some _ _ (reads_head (λ k. Some (plan.after k)) n m _ moves),
+      stands_read plan a (n + 1) u (OpenSecond n) (reads_left plan.kind (n + 1) _ _ more_kinds) (reads_left (λ k. Some (plan.after k)) (n + 1) _ _ more_moves) (reads_left (λ i. Some (plan.node_of i)) u _ _ places),
+      stands_read plan b (n + 1 + node_count a) (u + leaves a) (FinishParent n)
+          (reads_right plan.kind (n + 1) (node_count a) (kinds_from (n + 1) u a) _ (length-kinds_from a (n + 1) u) more_kinds)
+          (reads_right (λ k. Some (plan.after k)) (n + 1) (node_count a) (moves_from (n + 1) (OpenSecond n) a) _ (length-moves_from a (n + 1) (OpenSecond n)) more_moves)
+          (reads_right (λ i. Some (plan.node_of i)) u (leaves a) (leaf_nodes_from (n + 1) a) _ (length-leaf_nodes_from a (n + 1)) places),
+    )
 stands_read plan (par a b) n u m kinds moves places =
     let more_kinds = reads_tail plan.kind n _ _ kinds in
-    let more_moves = reads_tail (λ k. Some (plan.after k)) n _ _ moves in
-    (reads_head plan.kind n _ _ kinds,
-    same_Some _ _ (reads_head (λ k. Some (plan.after k)) n m _ moves),
-    stands_read plan a (n + 1) u (Arrive n) (reads_left plan.kind (n + 1) _ _ more_kinds) (reads_left (λ k. Some (plan.after k)) (n + 1) _ _ more_moves) (reads_left (λ i. Some (plan.node_of i)) u _ _ places),
-    stands_read plan b (n + 1 + node_count a) (u + leaves a) (Arrive n)
-      (reads_right plan.kind (n + 1) (node_count a) (kinds_from (n + 1) u a) _ (length-kinds_from a (n + 1) u) more_kinds)
-      (reads_right (λ k. Some (plan.after k)) (n + 1) (node_count a) (moves_from (n + 1) (Arrive n) a) _ (length-moves_from a (n + 1) (Arrive n)) more_moves)
-      (reads_right (λ i. Some (plan.node_of i)) u (leaves a) (leaf_nodes_from (n + 1) a) _ (length-leaf_nodes_from a (n + 1)) places))
+    let more_moves = reads_tail (λ k. Some (plan.after k)) n _ _ moves in (
+      reads_head plan.kind n _ _ kinds,
+      same_Some _ _ (reads_head (λ k. Some (plan.after k)) n m _ moves),
+      stands_read plan a (n + 1) u (Arrive n) (reads_left plan.kind (n + 1) _ _ more_kinds) (reads_left (λ k. Some (plan.after k)) (n + 1) _ _ more_moves) (reads_left (λ i. Some (plan.node_of i)) u _ _ places),
+      stands_read plan b (n + 1 + node_count a) (u + leaves a) (Arrive n)
+          (reads_right plan.kind (n + 1) (node_count a) (kinds_from (n + 1) u a) _ (length-kinds_from a (n + 1) u) more_kinds)
+          (reads_right (λ k. Some (plan.after k)) (n + 1) (node_count a) (moves_from (n + 1) (Arrive n) a) _ (length-moves_from a (n + 1) (Arrive n)) more_moves)
+          (reads_right (λ i. Some (plan.node_of i)) u (leaves a) (leaf_nodes_from (n + 1) a) _ (length-leaf_nodes_from a (n + 1)) places),
+    )
 
 from_start : {A : Type 0} (xs : List A) → Reads (λ n. slice_get xs n) 0 xs
 from_start xs k low = let e : 0 + k ≡ k = omega arith in rw e refl

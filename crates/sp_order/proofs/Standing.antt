@@ -43,15 +43,15 @@ stands_top plan tree n u k m h e = rw e (record { tree = tree; first = u; stands
 pub stands_at : (plan : Nodes) (tree : Tree) (n u : ℕ) (m : Move) → Stands plan tree n u m → (k : ℕ) → n ≤ k → k < n + node_count tree → StandsAt plan k (n + node_count tree)
 stands_at plan leaf n u m h k low high = stands_top plan leaf n u k m h (omega arith)
 stands_at plan (seq a b) n u m h k low high = elim (node_cases n (node_count a) (node_count b) k low high) [
-    inl e ↦ stands_top plan (seq a b) n u k m h e
+  | inl e ↦ stands_top plan (seq a b) n u k m h e
   | inr (inl i) ↦ within_more plan k _ _ (omega arith) (stands_at plan a (n + 1) u (OpenSecond n) h.2 k i.0 i.1)
   | inr (inr i) ↦ within_more plan k _ _ (omega arith) (stands_at plan b (n + 1 + node_count a) (u + leaves a) (FinishParent n) h.3 k i.0 i.1)
-  ]
+]
 stands_at plan (par a b) n u m h k low high = elim (node_cases n (node_count a) (node_count b) k low high) [
-    inl e ↦ stands_top plan (par a b) n u k m h e
+  | inl e ↦ stands_top plan (par a b) n u k m h e
   | inr (inl i) ↦ within_more plan k _ _ (omega arith) (stands_at plan a (n + 1) u (Arrive n) h.2 k i.0 i.1)
   | inr (inr i) ↦ within_more plan k _ _ (omega arith) (stands_at plan b (n + 1 + node_count a) (u + leaves a) (Arrive n) h.3 k i.0 i.1)
-  ]
+]
 
 -- what the move after a node says of its parent
 abbrev pub HasParent : Nodes → Move → ℕ → Type 0
@@ -64,24 +64,24 @@ HasParent plan (Arrive p) n = (p < n) × HasSide (plan.kind p) n
 pub has_parent : (plan : Nodes) (tree : Tree) (n u : ℕ) (m : Move) → Stands plan tree n u m → (k : ℕ) → n < k → k < n + node_count tree → HasParent plan (plan.after k) k
 has_parent plan leaf n u m h k low high = absurd (omega arith)
 has_parent plan (seq a b) n u m h k low high = elim (node_cases n (node_count a) (node_count b) k (omega arith) high) [
-    inl e ↦ absurd (omega arith)
+  | inl e ↦ absurd (omega arith)
   | inr (inl i) ↦ elim (cases_eq k (n + 1)) [
-        inl e ↦ rw (e, top_after plan a (n + 1) u (OpenSecond n) h.2, h.0) (omega arith, inl refl)
-      | inr e ↦ has_parent plan a (n + 1) u (OpenSecond n) h.2 k (omega arith) i.1
-      ]
-  | inr (inr i) ↦ elim (cases_eq k (n + 1 + node_count a)) [
-        inl e ↦ rw (e, top_after plan b (n + 1 + node_count a) (u + leaves a) (FinishParent n) h.3, h.0) (omega arith, inr refl)
-      | inr e ↦ has_parent plan b (n + 1 + node_count a) (u + leaves a) (FinishParent n) h.3 k (omega arith) i.1
-      ]
+    | inl e ↦ rw (e, top_after plan a (n + 1) u (OpenSecond n) h.2, h.0) (omega arith, inl refl)
+    | inr e ↦ has_parent plan a (n + 1) u (OpenSecond n) h.2 k (omega arith) i.1
   ]
+  | inr (inr i) ↦ elim (cases_eq k (n + 1 + node_count a)) [
+    | inl e ↦ rw (e, top_after plan b (n + 1 + node_count a) (u + leaves a) (FinishParent n) h.3, h.0) (omega arith, inr refl)
+    | inr e ↦ has_parent plan b (n + 1 + node_count a) (u + leaves a) (FinishParent n) h.3 k (omega arith) i.1
+  ]
+]
 has_parent plan (par a b) n u m h k low high = elim (node_cases n (node_count a) (node_count b) k (omega arith) high) [
-    inl e ↦ absurd (omega arith)
+  | inl e ↦ absurd (omega arith)
   | inr (inl i) ↦ elim (cases_eq k (n + 1)) [
-        inl e ↦ rw (e, top_after plan a (n + 1) u (Arrive n) h.2, h.0) (omega arith, inl refl)
-      | inr e ↦ has_parent plan a (n + 1) u (Arrive n) h.2 k (omega arith) i.1
-      ]
-  | inr (inr i) ↦ elim (cases_eq k (n + 1 + node_count a)) [
-        inl e ↦ rw (e, top_after plan b (n + 1 + node_count a) (u + leaves a) (Arrive n) h.3, h.0) (omega arith, inr refl)
-      | inr e ↦ has_parent plan b (n + 1 + node_count a) (u + leaves a) (Arrive n) h.3 k (omega arith) i.1
-      ]
+    | inl e ↦ rw (e, top_after plan a (n + 1) u (Arrive n) h.2, h.0) (omega arith, inl refl)
+    | inr e ↦ has_parent plan a (n + 1) u (Arrive n) h.2 k (omega arith) i.1
   ]
+  | inr (inr i) ↦ elim (cases_eq k (n + 1 + node_count a)) [
+    | inl e ↦ rw (e, top_after plan b (n + 1 + node_count a) (u + leaves a) (Arrive n) h.3, h.0) (omega arith, inr refl)
+    | inr e ↦ has_parent plan b (n + 1 + node_count a) (u + leaves a) (Arrive n) h.3 k (omega arith) i.1
+  ]
+]

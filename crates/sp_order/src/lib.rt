@@ -10,6 +10,8 @@ mod listing;
 pub mod node;
 pub mod plan;
 pub mod shape;
+#[cfg(test)]
+mod tests;
 
 pub use job::Job;
 pub use node::{Kind, Move};

@@ -35,7 +35,11 @@ impl Listing {
     }
 
     /// Lists the node of this side, and puts its own sides on the stack.
-    pub(crate) fn list<'a>(&mut self, pending: Pending<'a>, stack: &mut Vec<Pending<'a>>) -> Result<(), AllocError>
+    pub(crate) fn list<'a>(
+        &mut self,
+        pending: Pending<'a>,
+        stack: &mut Vec<Pending<'a>>,
+    ) -> Result<(), AllocError>
         requires room { length self.old.kinds.items + 1 < 2 ^ 32 }
         requires leaf_room { length self.old.leaf_nodes.items < 2 ^ 32 }
         requires parent { HasParentBelow (length self.old.kinds.items) pending.after }
@@ -50,13 +54,25 @@ impl Listing {
         match pending.shape {
             Shape::Leaf => self.list_leaf(node),
             Shape::Seq(left, right) => {
-                let left = Pending { shape: left, after: Move::OpenSecond(node) };
-                let right = Pending { shape: right, after: Move::FinishParent(node) };
+                let left = Pending {
+                    shape: left,
+                    after: Move::OpenSecond(node),
+                };
+                let right = Pending {
+                    shape: right,
+                    after: Move::FinishParent(node),
+                };
                 self.list_block(Kind::SeqNode(node + 1, node + 1), left, right, stack)
             }
             Shape::Par(left, right) => {
-                let left = Pending { shape: left, after: Move::Arrive(node) };
-                let right = Pending { shape: right, after: Move::Arrive(node) };
+                let left = Pending {
+                    shape: left,
+                    after: Move::Arrive(node),
+                };
+                let right = Pending {
+                    shape: right,
+                    after: Move::Arrive(node),
+                };
                 self.list_block(Kind::ParNode(node + 1, node + 1), left, right, stack)
             }
         }
@@ -71,7 +87,10 @@ impl Listing {
     {
         match after {
             Move::Root | Move::OpenSecond(_) => {}
-            Move::FinishParent(parent) => self.kinds[parent as usize] = Kind::SeqNode(parent + 1, node),
+            Move::FinishParent(parent) => self.kinds[parent as usize] = Kind::SeqNode(
+                parent + 1,
+                node,
+            ),
             Move::Arrive(parent) => self.kinds[parent as usize] = Kind::ParNode(parent + 1, node),
         }
     }
@@ -82,12 +101,19 @@ impl Listing {
         ensures moves { self.new.moves.items ≡ self.old.moves.items }
         ensures leaf_nodes { IfOk result (λ _. self.new.leaf_nodes.items ≡ self.old.leaf_nodes.items ++ node ∷ []) }
     {
-        self.kinds.push(Kind::LeafNode(self.leaf_nodes.len() as u32))?;
+        self.kinds
+            .push(Kind::LeafNode(self.leaf_nodes.len() as u32))?;
         self.leaf_nodes.push(node)?;
         Ok(())
     }
 
-    fn list_block<'a>(&mut self, kind: Kind, left: Pending<'a>, right: Pending<'a>, stack: &mut Vec<Pending<'a>>) -> Result<(), AllocError>
+    fn list_block<'a>(
+        &mut self,
+        kind: Kind,
+        left: Pending<'a>,
+        right: Pending<'a>,
+        stack: &mut Vec<Pending<'a>>,
+    ) -> Result<(), AllocError>
         ensures kinds { IfOk result (λ _. self.new.kinds.items ≡ self.old.kinds.items ++ kind ∷ []) }
         ensures moves { self.new.moves.items ≡ self.old.moves.items }
         ensures leaf_nodes { self.new.leaf_nodes.items ≡ self.old.leaf_nodes.items }

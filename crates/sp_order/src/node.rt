@@ -32,7 +32,9 @@ impl Move {
     {
         match self {
             Move::Root => None,
-            Move::OpenSecond(parent) | Move::FinishParent(parent) | Move::Arrive(parent) => Some(parent),
+            Move::OpenSecond(parent) | Move::FinishParent(parent) | Move::Arrive(parent) => Some(
+                parent,
+            ),
         }
     }
 }

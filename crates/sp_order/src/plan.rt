@@ -41,7 +41,10 @@ impl Plan {
         let mut listing = Listing::new(alloc);
         let mut stack = Vec::new(alloc);
         let shape = job.shape().unwrap();
-        stack.push(Pending { shape, after: Move::Root })?;
+        stack.push(Pending {
+            shape,
+            after: Move::Root,
+        })?;
         while let Some(pending) = stack.pop() {
             listing.list(pending, &mut stack)?;
         }

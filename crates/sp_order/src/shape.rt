@@ -23,7 +23,8 @@ impl Shape {
     {
         match self {
             Shape::Leaf => 0,
-            Shape::Seq(left, right) | Shape::Par(left, right) => 1 + left.depth().max(right.depth()),
+            Shape::Seq(left, right) | Shape::Par(left, right) => 1
+                + left.depth().max(right.depth()),
         }
     }
 }

@@ -40,7 +40,7 @@ returns-in_default c =
     let move_is = move_read (lists_in c.self.inside.listing) c.args.self.now e c.loop-node.node c.index.result.now c.loop-node.invariant.inside c.index.ensures in
     by_climb (nodes_of c.args.self.now) c.args.self.now (plan_of_tree c.args.self.now) c.args.u c.args.v c.requires.u_in c.requires.v_in c.index-first.result.now first_is false
     (never (climbed_out (nodes_of c.args.self.now) c.args.self.now (plan_of_tree c.args.self.now) c.index-first.result.now _ c.loop-node.node c.loop-node.invariant
-      (rw move_is at (sym c.in_default.ensures))))
+    (rw move_is at (sym c.in_default.ensures))))
 
 pub returns-then-parent-first : goal.returns-then-parent-first
 returns-then-parent-first c =
@@ -49,7 +49,7 @@ returns-then-parent-first c =
     let move_is = move_read (lists_in c.self.inside.listing) c.args.self.now e c.loop-node.node c.index.result.now c.loop-node.invariant.inside c.index.ensures in
     let finishes : IsTrue c.eq.result ↔ (c.index.result.now ≡ FinishParent c.in-Some.parent) = search rules in
     let parts = parted (nodes_of c.args.self.now) c.args.self.now (plan_of_tree c.args.self.now) c.index-first.result.now _ c.loop-node.node c.in-Some.parent c.loop-node.invariant
-      c.loop-node-test.true (rw move_is at (sym c.in-Some.ensures)) c.if-parent-first.true in
+    c.loop-node-test.true (rw move_is at (sym c.in-Some.ensures)) c.if-parent-first.true in
     by_climb (nodes_of c.args.self.now) c.args.self.now (plan_of_tree c.args.self.now) c.args.u c.args.v c.requires.u_in c.requires.v_in c.index-first.result.now first_is c.eq.result
     (λ yes. parts.0 (rw move_is at (finishes.0 yes)), λ s. finishes.1 (move_is ∙ parts.1 s))
 

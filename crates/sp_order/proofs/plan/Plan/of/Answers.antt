@@ -29,8 +29,8 @@ loop-pending-smaller c =
 pub loop-pending-preserved : goal.loop-pending-preserved
 loop-pending-preserved c = record {
   listed =
-    c.in_ok-list.ensures.listed ∙ sym (with_all-push c.pop.new.self.items c.in-Some.pending (lists_in c.loop-pending.listing))
-    ∙ ap (λ (stack : List Pending). with_all stack (lists_in c.loop-pending.listing)) (sym c.in-Some.ensures.items) ∙ c.loop-pending.invariant.listed;
+      c.in_ok-list.ensures.listed ∙ sym (with_all-push c.pop.new.self.items c.in-Some.pending (lists_in c.loop-pending.listing))
+      ∙ ap (λ (stack : List Pending). with_all stack (lists_in c.loop-pending.listing)) (sym c.in-Some.ensures.items) ∙ c.loop-pending.invariant.listed;
   linked = c.in_ok-list.ensures.linked;
   most = c.loop-pending.invariant.most;
 }

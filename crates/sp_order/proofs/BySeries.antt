@@ -1,13 +1,13 @@
 -- A leaf is before another one if and only if some series has them under its sides.
-use Rattle.std.proofs.Common.{Option, None, Some, ◌≡◌, ◌≢◌, ℕ, ◌+◌, ◌<◌, ◌≤◌, ◌⊎◌, ◌↔◌, inl, inr, refl, ap, arith}
+use Rattle.std.proofs.Common.{Some, ◌≡◌, ℕ, ◌+◌, ◌<◌, ◌≤◌, ◌↔◌, inl, inr, refl, arith}
 use Rattle.std.proofs.lemmas.Bool.{cases_lt}
-use Rattle.sp_order.specs.declared.node.Kind.TheVariants.{LeafNode, SeqNode, ParNode}
+use Rattle.sp_order.specs.declared.node.Kind.TheVariants.{SeqNode}
 use Rattle.sp_order.specs.declared.node.Move.{Move}
 use Rattle.sp_order.specs.declared.node.Move.TheVariants.{Root, OpenSecond, FinishParent, Arrive}
 use Rattle.sp_order.specs.Precedence.{Tree, leaf, seq, par, leaves, IsLeafOf, IsBeforeFrom}
 use Rattle.sp_order.specs.Plans.{Nodes, IsUnder, IsPlan, IsBySeries}
 use Rattle.sp_order.specs.Stands.{Stands, IsPlanOf, node_count}
-use Rattle.sp_order.proofs.Standing.{top_after, node_cases, StandsAt, stands_at}
+use Rattle.sp_order.proofs.Standing.{node_cases, StandsAt, stands_at}
 use Rattle.sp_order.proofs.PlanLaws.{plan_laws, below_count}
 use Rattle.sp_order.proofs.Descents.{covers, stays, leaf_at}
 

@@ -1,12 +1,11 @@
 -- The way up from a leaf's node to the node where it parts from another leaf.
-use Rattle.std.proofs.Common.{Option, None, Some, ◌≡◌, ◌≢◌, ℕ, ◌+◌, ◌<◌, ◌≤◌, ◌⊎◌, ◌↔◌, Bool, false, true, IsTrue, inl, inr, refl, ap, sym, ◌∙◌, arith}
+use Rattle.std.proofs.Common.{Option, None, Some, ◌≡◌, ℕ, ◌+◌, ◌<◌, ◌≤◌, ◌⊎◌, ◌↔◌, Bool, false, IsTrue, inl, inr, refl, ap, arith}
 use Rattle.sp_order.specs.declared.node.Kind.{Kind}
 use Rattle.sp_order.specs.declared.node.Kind.TheVariants.{LeafNode, SeqNode, ParNode}
-use Rattle.sp_order.specs.declared.node.Move.{Move}
 use Rattle.sp_order.specs.declared.node.Move.TheVariants.{Root, OpenSecond, FinishParent, Arrive}
 use Rattle.sp_order.specs.Precedence.{Tree, leaves, IsBeforeFrom}
 use Rattle.sp_order.specs.Plans.{Nodes, parent_of, IsSide, HasSide, IsUnder, itself, one_below, IsPlan, IsBySeries}
-use Rattle.sp_order.specs.Stands.{Stands, IsPlanOf, node_count}
+use Rattle.sp_order.specs.Stands.{IsPlanOf, node_count}
 use Rattle.sp_order.proofs.PlanLaws.{plan_laws, below_count}
 use Rattle.sp_order.proofs.Descents.{under_trans, under_le, leaf_at}
 use Rattle.sp_order.proofs.BySeries.{SeriesAt, series_at, left_within, left_covers, before_by_series}

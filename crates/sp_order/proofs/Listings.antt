@@ -1,14 +1,14 @@
 -- Each step of the listing lists what is left to be listed.
-use Rattle.std.proofs.Common.{◌≡◌, ℕ, ◌+◌, ◌<◌, ◌≤◌, List, [], ◌∷◌, ◌++◌, length, refl, ap, sym, ◌∙◌, arith, Result, Ok, Err, IfOk, length-append, append_assoc, slice_set}
+use Rattle.std.proofs.Common.{◌≡◌, ℕ, ◌+◌, ◌≤◌, List, [], ◌∷◌, ◌++◌, length, refl, ap, ◌∙◌, arith, Result, Ok, Err, IfOk, length-append, append_assoc, slice_set}
 use Rattle.std.specs.List.{All}
 use Rattle.std.proofs.lemmas.List.{set_at, length_push, length-set}
 use Rattle.std.proofs.lemmas.List.Elements.{All-push, All-weaker}
 use Rattle.sp_order.specs.declared.node.Kind.{Kind}
-use Rattle.sp_order.specs.declared.node.Kind.TheVariants.{LeafNode, SeqNode, ParNode}
+use Rattle.sp_order.specs.declared.node.Kind.TheVariants.{SeqNode, ParNode}
 use Rattle.sp_order.specs.declared.node.Move.{Move}
 use Rattle.sp_order.specs.declared.node.Move.TheVariants.{Root, OpenSecond, FinishParent, Arrive}
 use Rattle.sp_order.specs.declared.listing.Pending.{Pending}
-use Rattle.sp_order.specs.Precedence.{Tree, tree_of, leaf, seq, par, leaves}
+use Rattle.sp_order.specs.Precedence.{Tree, tree_of, seq, par, leaves}
 use Rattle.sp_order.specs.Stands.{node_count}
 use Rattle.sp_order.specs.Preorder.{kinds_from, moves_from, leaf_nodes_from}
 use Rattle.sp_order.specs.Listing.{Lists, linked, HasParentBelow, with_tree, with_pending, with_all}

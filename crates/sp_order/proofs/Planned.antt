@@ -7,9 +7,8 @@ use Rattle.sp_order.specs.declared.node.Kind.{Kind}
 use Rattle.sp_order.specs.declared.node.Move.{Move}
 use Rattle.sp_order.specs.declared.node.Move.TheVariants.{Root}
 use Rattle.sp_order.specs.Precedence.{Tree, leaf, seq, par, leaves}
-use Rattle.sp_order.specs.Plans.{Nodes}
 use Rattle.sp_order.specs.Stands.{node_count}
-use Rattle.sp_order.specs.Preorder.{kinds_from, moves_from, leaf_nodes_from, nodes_of, tree_told}
+use Rattle.sp_order.specs.Preorder.{nodes_of, tree_told}
 use Rattle.sp_order.specs.declared.listing.Pending.{Pending}
 use Rattle.sp_order.specs.Listing.{Lists, lists_of, with_all, AreListsOf}
 use Rattle.sp_order.proofs.Listings.{kinds_no_shorter, leaf_nodes_no_shorter}

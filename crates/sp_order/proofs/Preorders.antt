@@ -1,10 +1,10 @@
 -- The plan of a tree stands for it, and its nodes tell it.
-use Rattle.std.proofs.Common.{Option, None, Some, ◌≡◌, ◌≢◌, ℕ, zero, suc, ◌+◌, ◌<◌, ◌≤◌, List, [], ◌∷◌, ◌++◌, length, refl, ap, sym, ◌∙◌, arith, length-append, append_assoc, append-nil, get_or}
+use Rattle.std.proofs.Common.{Option, Some, ◌≡◌, ℕ, zero, suc, ◌+◌, ◌<◌, List, [], ◌∷◌, ◌++◌, length, refl, ap, sym, ◌∙◌, arith, length-append, append_assoc, append-nil, get_or}
 use Rattle.std.specs.List.{slice_get}
 use Rattle.std.proofs.lemmas.Option.{slice_get-get_or, slice_get_past, same_Some}
 use Rattle.std.proofs.lemmas.List.{get_or_past}
 use Rattle.sp_order.specs.declared.node.Kind.{Kind}
-use Rattle.sp_order.specs.declared.node.Kind.TheVariants.{LeafNode, SeqNode, ParNode}
+use Rattle.sp_order.specs.declared.node.Kind.TheVariants.{LeafNode}
 use Rattle.sp_order.specs.declared.node.Move.{Move}
 use Rattle.sp_order.specs.declared.node.Move.TheVariants.{Root, OpenSecond, FinishParent, Arrive}
 use Rattle.sp_order.specs.Precedence.{Tree, leaf, seq, par, leaves}
@@ -12,7 +12,6 @@ use Rattle.sp_order.specs.TreeCode.{top}
 use Rattle.sp_order.specs.Plans.{Nodes}
 use Rattle.sp_order.specs.Stands.{Stands, IsPlanOf, node_count}
 use Rattle.sp_order.specs.Preorder.{kinds_from, moves_from, leaf_nodes_from, nodes_of, joined, trees_told, tree_told}
-use Rattle.sp_order.proofs.Standing.{node_count_above_0}
 
 pub length-kinds_from : (tree : Tree) (n u : ℕ) → length (kinds_from n u tree) ≡ node_count tree
 length-kinds_from leaf n u = refl

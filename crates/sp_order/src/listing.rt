@@ -78,6 +78,7 @@ impl Listing {
         }
     }
 
+    /// Notes in the node's parent that this is its right side, or for now its left one.
     fn link(&mut self, after: Move, node: u32)
         requires parent { HasParentBelow node after }
         requires node { node ≡ length self.old.kinds.items }
@@ -87,26 +88,29 @@ impl Listing {
     {
         match after {
             Move::Root | Move::OpenSecond(_) => {}
-            Move::FinishParent(parent) => self.kinds[parent as usize] = Kind::SeqNode(
-                parent + 1,
-                node,
-            ),
-            Move::Arrive(parent) => self.kinds[parent as usize] = Kind::ParNode(parent + 1, node),
+            Move::FinishParent(parent) => {
+                self.kinds[parent as usize] = Kind::SeqNode(parent + 1, node);
+            }
+            Move::Arrive(parent) => {
+                self.kinds[parent as usize] = Kind::ParNode(parent + 1, node);
+            }
         }
     }
 
+    /// Lists a leaf.
     fn list_leaf(&mut self, node: u32) -> Result<(), AllocError>
         requires { length self.old.leaf_nodes.items < 2 ^ 32 }
         ensures kinds { IfOk result (λ _. self.new.kinds.items ≡ self.old.kinds.items ++ Kind.LeafNode (length self.old.leaf_nodes.items) ∷ []) }
         ensures moves { self.new.moves.items ≡ self.old.moves.items }
         ensures leaf_nodes { IfOk result (λ _. self.new.leaf_nodes.items ≡ self.old.leaf_nodes.items ++ node ∷ []) }
     {
-        self.kinds
-            .push(Kind::LeafNode(self.leaf_nodes.len() as u32))?;
+        let leaf = self.leaf_nodes.len() as u32;
+        self.kinds.push(Kind::LeafNode(leaf))?;
         self.leaf_nodes.push(node)?;
         Ok(())
     }
 
+    /// Lists a block of this kind, and puts its sides on the stack, the left one on top.
     fn list_block<'a>(
         &mut self,
         kind: Kind,

@@ -1,12 +1,14 @@
 //! What the nodes of a plan are, and what follows them.
 ghost use Rattle.std.specs.Prelude.{◌≡◌};
 
-/// What a node is: a leaf, by its number among the leaves, or a series or a parallel block, by its two
-/// sides: the left and then the right.
+/// What a node is.
 #[derive(Clone, Copy, Debug, PartialEq, Eq)]
 pub enum Kind {
+    /// A leaf, by its number among the leaves.
     LeafNode(u32),
+    /// A series, by the nodes of its left side and of its right side.
     SeqNode(u32, u32),
+    /// A parallel block, by the nodes of its left side and of its right side.
     ParNode(u32, u32),
 }
 
@@ -32,9 +34,9 @@ impl Move {
     {
         match self {
             Move::Root => None,
-            Move::OpenSecond(parent) | Move::FinishParent(parent) | Move::Arrive(parent) => Some(
-                parent,
-            ),
+            Move::OpenSecond(parent) => Some(parent),
+            Move::FinishParent(parent) => Some(parent),
+            Move::Arrive(parent) => Some(parent),
         }
     }
 }

@@ -11,7 +11,8 @@ use std::marker::Model;
 
 /// The nodes of a shape, numbered in preorder: the root is node 0, the left side of node n is node n + 1, and
 /// its right side is the node after all those of its left side. Leaves are numbered from 0, from left to
-/// right. Contracts see a plan as the tree that it stands for, and `nodes_of` has its nodes.
+/// right. Contracts see a plan as the tree that it stands for: `nodes_of` has the nodes of a tree, and the
+/// function `plan_stands_for_tree` of `laws` says that they stand for it.
 #[derive(Drop)]
 pub struct Plan {
     listing: Listing,
@@ -33,7 +34,8 @@ impl Model for Plan {
 }
 
 impl Plan {
-    /// The plan of the job's shape.
+    /// The plan of the job's shape. What is still to be listed stands in a list, so a deep shape takes no more of
+    /// the call stack than a flat one.
     pub fn of(alloc: Global, job: &Job) -> Result<Plan, AllocError>
         requires { IsSome job.now.shape }
         ensures { IfOk result (λ plan. Some plan ≡ job.now.shape) }
@@ -88,7 +90,7 @@ impl Plan {
             let Some(parent) = after.parent() else {
                 return false;
             };
-            // The parent is below `first`: it has u on its left side, and this node on its right side.
+            // The two leaves part at this parent: u is on its left side, and v on its right side.
             if parent < first {
                 return after == Move::FinishParent(parent);
             }

@@ -23,8 +23,9 @@ impl Shape {
     {
         match self {
             Shape::Leaf => 0,
-            Shape::Seq(left, right) | Shape::Par(left, right) => 1
-                + left.depth().max(right.depth()),
+            Shape::Seq(left, right) | Shape::Par(left, right) => {
+                1 + left.depth().max(right.depth())
+            }
         }
     }
 }

@@ -1,4 +1,4 @@
-use Rattle.std.proofs.Common.{◌≡◌, ℕ, sym, arith}
+use Rattle.std.proofs.Common.{arith}
 use Rattle.sp_order.specs.declared.node.Move.TheVariants.{Root}
 use Rattle.sp_order.proofs.PlanLaws.{plan_laws}
 use Rattle.sp_order.proofs.Descents.{leaf_at}

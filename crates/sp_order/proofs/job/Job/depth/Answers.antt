@@ -1,4 +1,4 @@
-use Rattle.std.proofs.Common.{◌≡◌, ◌<◌, arith}
+use Rattle.std.proofs.Common.{arith}
 use Rattle.sp_order.specs.Precedence.{tree_of}
 use Rattle.sp_order.proofs.Depths.{tree_depth_below_leaves}
 use Rattle.sp_order.proofs.job.Job.depth.Goals as goal

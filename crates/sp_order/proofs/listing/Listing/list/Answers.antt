@@ -1,9 +1,9 @@
-use Rattle.std.proofs.Common.{◌≡◌, ◌+◌, ◌<◌, [], ◌∷◌, ◌++◌, length, IfOk, ℕ, ◌≤◌, ap, ◌∙◌, sym, refl, arith}
+use Rattle.std.proofs.Common.{◌≡◌, length, ap, ◌∙◌, arith}
 use Rattle.sp_order.specs.Precedence.{tree_of}
 use Rattle.sp_order.specs.declared.node.Move.TheVariants.{OpenSecond, FinishParent, Arrive}
 use Rattle.sp_order.specs.declared.listing.Pending.{Pending}
-use Rattle.sp_order.specs.Listing.{lists_in, linked, HasParentBelow, with_pending, with_all, AreLinked}
-use Rattle.sp_order.proofs.Listings.{ListsBlock, more_linked, seq_listed, par_listed, if_both}
+use Rattle.sp_order.specs.Listing.{lists_in}
+use Rattle.sp_order.proofs.Listings.{more_linked, seq_listed, par_listed, if_both}
 use Rattle.sp_order.proofs.listing.Listing.list.Goals as goal
 
 pub returns-in-Seq-clause-listed : goal.returns-in-Seq-clause-listed

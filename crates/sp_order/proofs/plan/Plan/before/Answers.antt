@@ -1,15 +1,12 @@
 -- The way up from v's node ends where the two leaves part.
-use Rattle.std.proofs.Common.{◌≡◌, ℕ, ◌<◌, ◌≤◌, ◌↔◌, Some, None, Bool, false, IsTrue, sym, ap, ◌∙◌, arith, rules}
+use Rattle.std.proofs.Common.{◌≡◌, ◌↔◌, false, IsTrue, sym, ◌∙◌, arith, rules}
 use Rattle.sp_order.specs.declared.node.Move.TheVariants.{FinishParent}
-use Rattle.sp_order.specs.Precedence.{Tree, leaves}
-use Rattle.sp_order.specs.Plans.{parent_of, IsSide, IsBySeries}
-use Rattle.sp_order.specs.Stands.{IsPlanOf}
 use Rattle.sp_order.specs.Preorder.{nodes_of}
-use Rattle.sp_order.specs.Listing.{lists_in, lists_of}
+use Rattle.sp_order.specs.Listing.{lists_in}
 use Rattle.sp_order.proofs.PlanLaws.{plan_laws}
 use Rattle.sp_order.proofs.Preorders.{plan_of_tree}
 use Rattle.sp_order.proofs.Planned.{shown_lists, count_of_moves, count_of_leaf_nodes, move_read, leaf_node_read}
-use Rattle.sp_order.proofs.Climbs.{Climbs, climb_from, climb_on, climbed_past, climbed_out, parted, by_climb, never}
+use Rattle.sp_order.proofs.Climbs.{climb_from, climb_on, climbed_past, climbed_out, parted, by_climb, never}
 use Rattle.sp_order.proofs.plan.Plan.before.Goals as goal
 
 pub index-first-requires : goal.index-first-requires

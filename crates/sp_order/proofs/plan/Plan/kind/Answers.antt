@@ -1,5 +1,5 @@
-use Rattle.std.proofs.Common.{◌≡◌, arith}
-use Rattle.sp_order.specs.Listing.{lists_in, lists_of}
+use Rattle.std.proofs.Common.{arith}
+use Rattle.sp_order.specs.Listing.{lists_in}
 use Rattle.sp_order.proofs.Planned.{shown_lists, count_of_kinds, kind_read}
 use Rattle.sp_order.proofs.plan.Plan.kind.Goals as goal
 

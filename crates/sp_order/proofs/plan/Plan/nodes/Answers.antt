@@ -1,8 +1,5 @@
-use Rattle.std.proofs.Common.{◌≡◌, ◌<◌, ◌∙◌, arith}
-use Rattle.sp_order.specs.Preorder.{nodes_of}
-use Rattle.sp_order.specs.Listing.{Lists, lists_in, lists_of, AreListsOf}
-use Rattle.sp_order.specs.Precedence.{Tree}
-use Rattle.std.proofs.Common.{length}
+use Rattle.std.proofs.Common.{◌∙◌, arith}
+use Rattle.sp_order.specs.Listing.{lists_in}
 use Rattle.sp_order.proofs.Planned.{shown_lists, count_of_kinds, few_kinds}
 use Rattle.sp_order.proofs.plan.Plan.nodes.Goals as goal
 

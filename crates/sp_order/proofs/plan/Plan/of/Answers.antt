@@ -1,11 +1,9 @@
 -- At each step, listing what is left on the stack gives the lists of the job's tree.
-use Rattle.std.proofs.Common.{Option, None, Some, ◌≡◌, ℕ, ◌+◌, ◌-◌, ◌<◌, ◌≤◌, List, [], length, IsSome, IfOk, ap, sym, ◌∙◌, arith}
-use Rattle.std.specs.Option.{unwrap_or}
+use Rattle.std.proofs.Common.{Some, ◌≡◌, List, [], length, ap, sym, ◌∙◌, arith}
 use Rattle.std.proofs.lemmas.List.{nil_from_length}
 use Rattle.std.proofs.lemmas.List.Elements.{All-pop}
 use Rattle.sp_order.specs.declared.listing.Pending.{Pending}
-use Rattle.sp_order.specs.Precedence.{Tree, leaf, leaves}
-use Rattle.sp_order.specs.Listing.{lists_in, lists_of, HasParentBelow, with_all}
+use Rattle.sp_order.specs.Listing.{lists_in, HasParentBelow, with_all}
 use Rattle.sp_order.proofs.Listings.{with_all-push}
 use Rattle.sp_order.proofs.Planned.{still_few, told_lists, lists_tell, some_unwrapped}
 use Rattle.sp_order.proofs.plan.Plan.of.Goals as goal

@@ -1,5 +1,5 @@
-use Rattle.std.proofs.Common.{◌≡◌, ℕ, ◌-◌, ◌≤◌, length}
-use Rattle.sp_order.specs.Precedence.{Tree, leaves, leaf}
+use Rattle.std.proofs.Common.{◌≡◌, ◌-◌, ◌≤◌, length}
+use Rattle.sp_order.specs.Precedence.{leaves, leaf}
 use Rattle.sp_order.specs.Listing.{lists_in, lists_of, with_all, AreLinked}
 use Rattle.std.specs.Option.{unwrap_or}
 use Rattle.sp_order.proofs.plan.Plan.of.Given as goal

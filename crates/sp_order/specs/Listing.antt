@@ -16,9 +16,11 @@ pub record Lists : Type 0 where
   pub moves : List Move
   pub leaf_nodes : List ℕ
 
+-- what is listed so far
 abbrev pub lists_in : Listing → Lists
 lists_in listing = record { kinds = listing.kinds.items; moves = listing.moves.items; leaf_nodes = listing.leaf_nodes.items }
 
+-- all that is listed of a tree
 abbrev pub lists_of : Tree → Lists
 lists_of tree = record { kinds = kinds_from 0 0 tree; moves = moves_from 0 Root tree; leaf_nodes = leaf_nodes_from 0 tree }
 
@@ -45,6 +47,7 @@ with_tree tree after lists = record {
   leaf_nodes = lists.leaf_nodes ++ leaf_nodes_from (length lists.kinds) tree;
 }
 
+-- with this side listed too
 abbrev pub with_pending : Pending → Lists → Lists
 with_pending pending lists = with_tree (tree_of pending.shape.now) pending.after lists
 

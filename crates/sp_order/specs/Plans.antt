@@ -11,11 +11,12 @@ pub record Nodes : Type 0 where
   pub count : ℕ
   -- what a node is, or none where no node has the number
   pub kind : ℕ → Option Kind
-  -- what is to be done once a node is done
+  -- what is to be done once a node is done, or Root where no node has the number
   pub after : ℕ → Move
   -- the node of a leaf, by the leaf's number among the leaves
   pub node_of : ℕ → ℕ
 
+-- the node whose side a node is that has this move after it
 abbrev pub parent_of : Move → Option ℕ
 parent_of Root = None
 parent_of (OpenSecond parent) = Some parent
@@ -49,16 +50,21 @@ pub record IsBySeries (plan : Nodes) (first second : ℕ) : Type 0 where
 
 -- what holds at each node of a plan
 pub record IsPlan (plan : Nodes) : Type 0 where
+  -- the root alone is no side
   pub root : plan.after 0 ≡ Root
   pub one_root : (n : ℕ) → plan.kind n ≢ None → plan.after n ≡ Root → n ≡ 0
+  -- the sides that a node names have the moves of their places, and are two
   pub left_of_seq : (p left right : ℕ) → plan.kind p ≡ Some (SeqNode left right) → plan.after left ≡ OpenSecond p
   pub right_of_seq : (p left right : ℕ) → plan.kind p ≡ Some (SeqNode left right) → plan.after right ≡ FinishParent p
   pub left_of_par : (p left right : ℕ) → plan.kind p ≡ Some (ParNode left right) → plan.after left ≡ Arrive p
   pub right_of_par : (p left right : ℕ) → plan.kind p ≡ Some (ParNode left right) → plan.after right ≡ Arrive p
   pub apart : (p left right : ℕ) → plan.kind p ≡ Some (ParNode left right) → left ≢ right
+  -- what is a side is a node, its parent names it, and its number is above the parent's
   pub inside : (p n : ℕ) → IsSide plan p n → plan.kind n ≢ None
   pub has_side : (p n : ℕ) → IsSide plan p n → HasSide (plan.kind p) n
   pub deeper : (p n : ℕ) → IsSide plan p n → p < n
+  -- a leaf has one node
   pub one_node : (n leaf : ℕ) → plan.kind n ≡ Some (LeafNode leaf) → n ≡ plan.node_of leaf
+  -- the nodes have the numbers below their count
   pub within : (n : ℕ) → plan.kind n ≢ None → n < plan.count
   pub outside : (n : ℕ) → plan.count ≤ n → plan.kind n ≡ None

@@ -6,7 +6,8 @@ ghost use Rattle.sp_order.specs.Plans.{Nodes, IsPlan, IsBySeries};
 ghost use Rattle.sp_order.specs.Stands.{IsPlanOf};
 ghost use Rattle.sp_order.specs.Preorder.{nodes_of};
 
-/// A plan that stands for a tree has a root and sides as a plan is to have.
+/// In a plan that stands for a tree, the root alone has no parent, each side has the parent that names it and
+/// the move of its place, and no node has a number past the others.
 pub fn plan_has_sides()
     ensures { (plan : Nodes) (tree : Tree) → IsPlanOf plan tree → IsPlan plan }
 {}

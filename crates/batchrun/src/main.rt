@@ -22,22 +22,37 @@ mod tests;
 pub mod token;
 pub mod top;
 
-use bt_io::{NoPause, StdShelf, StdSink};
+use bt_io::{NoPause, Sink, StdShelf, StdSink};
 use status::Status;
 use std::env;
+use std::io::{Error, ErrorKind};
 use std::process::ExitCode;
+
+/// The status of a run whose words could not be had: memory ran out, or a word is no text.
+fn without_words(error: Error) -> Status {
+    if error.kind() == ErrorKind::OutOfMemory {
+        Status::Memory
+    } else {
+        Status::Usage
+    }
+}
+
+/// Ends a run that has no words, with its line on err.
+fn ended<E: Sink>(err: &mut E, status: Status) -> ExitCode {
+    tell::tell(err, status);
+    ExitCode::from(status.number())
+}
 
 fn main(rt: HostRuntime) -> ExitCode {
     let mut shelf = StdShelf::make(&rt);
     let mut out = StdSink::make(rt.stdout());
     let mut err = StdSink::make(rt.stderr());
-    let Ok(words) = env::args(&rt) else {
-        tell::tell(&mut err, Status::Usage);
-        return ExitCode::from(Status::Usage.number());
+    let words = match env::args(&rt) {
+        Ok(words) => words,
+        Err(error) => return ended(&mut err, without_words(error)),
     };
     let Ok(words) = words.skip(1).collect::<Vec<String>>(rt.alloc()) else {
-        tell::tell(&mut err, Status::Memory);
-        return ExitCode::from(Status::Memory.number());
+        return ended(&mut err, Status::Memory);
     };
     let outcome = top::batchrun(
         &rt,

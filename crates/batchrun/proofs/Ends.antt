@@ -17,7 +17,7 @@ use Rattle.batchrun.specs.declared.fault.JobFault.TheVariants.{Byte, Grammar, Nu
 use Rattle.batchrun.specs.declared.status.Refusal.TheVariants.{TooLong, Job}
 use Rattle.batchrun.specs.declared.status.Status.{Status}
 use Rattle.batchrun.specs.declared.status.Status.TheVariants.{Done, Made, Usage, ReadFault, Refused, WriteFault, Memory}
-use Rattle.batchrun.proofs.Writing.{one_job}
+use Rattle.batchrun.proofs.Deriving.{one_job}
 
 -- a lawful report has a row for each leaf
 pub rows_count : (job : JobValue) (workers : ℕ) (report : Report) → HasRows job workers report → length report.rows ≡ leaf_count job.shape

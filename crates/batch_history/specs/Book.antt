@@ -1,6 +1,6 @@
 -- A book is a list of batches, and a batch is a list of entries. Batches are numbered from 0, and so are the
 -- places in a batch.
-use Rattle.std.specs.Prelude.{◌≡◌, ◌≢◌, ℕ, ◌<◌, ◌^◌, List, [], ◌∷◌, ◌++◌, map}
+use Rattle.std.specs.Prelude.{◌≡◌, ◌≢◌, ◌<◌, ◌^◌, List, [], ◌∷◌, ◌++◌, map}
 use Rattle.std.specs.List.{AllByRecursion}
 use Rattle.seq_objects.specs.Objects.{Objects, opening, after, reply_to}
 use Rattle.seq_objects.specs.BatchOrder.{ComesFirst}

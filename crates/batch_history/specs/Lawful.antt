@@ -1,11 +1,10 @@
 -- When a report is lawful for a job and a number of workers. It has seven parts, each a record or a fact of
 -- its own: rows, order, calls, replies, ticks, batches and values.
-use Rattle.std.specs.Prelude.{◌≡◌, ◌≢◌, ℕ, ◌+◌, ◌*◌, ◌<◌, ◌⊎◌, List, [], ◌∷◌, length, map, slice_get, Some, IsSomeAnd, Contains}
+use Rattle.std.specs.Prelude.{◌≡◌, ◌≢◌, ℕ, ◌*◌, ◌<◌, ◌⊎◌, List, [], ◌∷◌, map, slice_get, Some, IsSomeAnd, Contains}
 use Rattle.std.specs.Option.{ForSome}
 use Rattle.std.specs.List.{AllByRecursion, range_with_len}
 use Rattle.seq_objects.specs.Objects.{value_of}
 use Rattle.seq_objects.specs.Spin.{spin_of}
-use Rattle.seq_objects.specs.declared.act.Act.{Act}
 use Rattle.seq_objects.specs.declared.act.Act.TheVariants.{Work, Call}
 use Rattle.seq_objects.specs.declared.op.Op.{Op}
 use Rattle.sp_order.specs.Precedence.{IsBefore, leaf_count}

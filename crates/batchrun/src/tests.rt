@@ -1,4 +1,6 @@
 //! What no clause says: the printed bytes of worked jobs, which texts are jobs, and each status once.
+ghost use Rattle.std.specs.Prelude.{◌<◌};
+
 use crate::fault::JobFault;
 use crate::outcome::Outcome;
 use crate::reader::{JobErr, read_job};
@@ -455,7 +457,7 @@ fn a_file_has_at_most_1048576_bytes(rt: HostRuntime) -> Result<(), Fail> {
 
 #[test]
 fn other_words_are_a_wrong_use(rt: HostRuntime) -> Result<(), Fail> {
-    let uses: [&[&str]; 16] = [
+    let uses: [&'static [&'static str]; 16] = [
         &[],
         &["step"],
         &["step", "-"],

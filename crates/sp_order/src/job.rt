@@ -1,5 +1,5 @@
 //! Jobs.
-ghost use Rattle.std.specs.Prelude.{◌≡◌, ◌≤◌, length};
+ghost use Rattle.std.specs.Prelude.{◌≡◌, ◌<◌, ◌≤◌, length};
 ghost use Rattle.std.specs.Option.{option_map};
 ghost use Rattle.sp_order.specs.Precedence.{tree_of, leaf_count};
 
@@ -31,6 +31,7 @@ impl Model for Job {
 
 impl Job {
     ghost use Rattle.sp_order.specs.Jobs.{IsJob};
+    ghost use Rattle.sp_order.specs.Depth.{depth_of};
 
     /// The job of this shape, whose leaves do these acts. It takes no memory.
     pub fn of(shape: Option<Shape>, acts: Vec<Act>) -> Job
@@ -44,7 +45,8 @@ impl Job {
 
     /// Its shape, if it has leaves.
     pub fn shape(&self) -> Option<&Shape>
-        ensures { option_map (λ shape. tree_of shape.now) result ≡ self.now.shape }
+        ensures shape { option_map (λ shape. tree_of shape.now) result ≡ self.now.shape }
+        ensures job { IsJob self.now }
     {
         self.shape.as_ref()
     }
@@ -55,5 +57,17 @@ impl Job {
         ensures job { IsJob self.now }
     {
         self.acts.as_slice()
+    }
+
+    /// How deep its shape is: 0 where there is none and for a leaf, else one more than the deeper side. It
+    /// calls itself once for each level, of which there are fewer than leaves.
+    pub fn depth(&self) -> u32
+        ensures depth { result ≡ depth_of self.now.shape }
+        ensures most { result < 20000 }
+    {
+        match &self.shape {
+            None => 0,
+            Some(shape) => shape.depth(),
+        }
     }
 }

@@ -5,7 +5,15 @@
 #![tactic(auto)]
 
 pub mod job;
+pub mod laws;
+mod listing;
+pub mod node;
+pub mod plan;
 pub mod shape;
+#[cfg(test)]
+mod tests;
 
 pub use job::Job;
+pub use node::{Kind, Move};
+pub use plan::Plan;
 pub use shape::Shape;

@@ -1,4 +1,5 @@
 //! Series-parallel shapes.
+ghost use Rattle.std.specs.Prelude.{◌≡◌, ◌<◌, ◌^◌};
 
 /// How the leaves of a job are put together. Leaves are numbered from 0, from left to right.
 #[derive(Drop)]
@@ -9,4 +10,22 @@ pub enum Shape {
     Seq(Box<Shape>, Box<Shape>),
     /// The two sides, in any order or at once.
     Par(Box<Shape>, Box<Shape>),
+}
+
+impl Shape {
+    ghost use Rattle.sp_order.specs.Precedence.{tree_of};
+    ghost use Rattle.sp_order.specs.Depth.{tree_depth};
+
+    /// 0 for a leaf, else one more than the deeper side. It calls itself once for each level.
+    pub(crate) fn depth(&self) -> u32
+        requires { tree_depth (tree_of self.now) < 2 ^ 32 }
+        ensures { result ≡ tree_depth (tree_of self.now) }
+    {
+        match self {
+            Shape::Leaf => 0,
+            Shape::Seq(left, right) | Shape::Par(left, right) => {
+                1 + left.depth().max(right.depth())
+            }
+        }
+    }
 }

@@ -1,0 +1,5 @@
+use Rattle.sp_order.proofs.BySeries.{before_by_series}
+use Rattle.sp_order.proofs.laws.before_is_by_series.Goals as goal
+
+pub returns : goal.returns
+returns c = before_by_series

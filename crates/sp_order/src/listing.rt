@@ -1,0 +1,131 @@
+//! How the nodes of a plan are listed, in preorder and with no recursion.
+ghost use Rattle.std.specs.Prelude.{◌≡◌, ◌+◌, ◌^◌, ◌<◌, [], ◌∷◌, ◌++◌, length, IfOk};
+ghost use Rattle.sp_order.specs.Listing.{lists_in, linked, HasParentBelow, with_pending, with_all, AreLinked};
+
+use crate::node::{Kind, Move};
+use crate::shape::Shape;
+use std::alloc::{AllocError, Global};
+
+/// What is listed of the nodes so far.
+#[derive(Drop)]
+pub(crate) struct Listing {
+    pub(crate) kinds: Vec<Kind>,
+    pub(crate) moves: Vec<Move>,
+    pub(crate) leaf_nodes: Vec<u32>,
+}
+
+/// A side that is still to be listed.
+#[derive(Clone, Copy)]
+pub(crate) struct Pending<'a> {
+    pub(crate) shape: &'a Shape,
+    pub(crate) after: Move,
+}
+
+impl Listing {
+    pub(crate) fn new(alloc: Global) -> Listing
+        ensures kinds { result.kinds.items ≡ [] }
+        ensures moves { result.moves.items ≡ [] }
+        ensures leaf_nodes { result.leaf_nodes.items ≡ [] }
+    {
+        Listing {
+            kinds: Vec::new(alloc),
+            moves: Vec::new(alloc),
+            leaf_nodes: Vec::new(alloc),
+        }
+    }
+
+    /// Lists the node of this side, and puts its own sides on the stack.
+    pub(crate) fn list<'a>(
+        &mut self,
+        pending: Pending<'a>,
+        stack: &mut Vec<Pending<'a>>,
+    ) -> Result<(), AllocError>
+        requires room { length self.old.kinds.items + 1 < 2 ^ 32 }
+        requires leaf_room { length self.old.leaf_nodes.items < 2 ^ 32 }
+        requires parent { HasParentBelow (length self.old.kinds.items) pending.after }
+        requires linked { AreLinked stack.old.items (lists_in self.old) }
+        ensures more { IfOk result (λ _. length self.new.kinds.items ≡ length self.old.kinds.items + 1) }
+        ensures linked { IfOk result (λ _. AreLinked stack.new.items (lists_in self.new)) }
+        ensures listed { IfOk result (λ _. with_all stack.new.items (lists_in self.new) ≡ with_all stack.old.items (with_pending pending.entry (lists_in self.old))) }
+    {
+        let node = self.kinds.len() as u32;
+        self.link(pending.after, node);
+        self.moves.push(pending.after)?;
+        match pending.shape {
+            Shape::Leaf => self.list_leaf(node),
+            Shape::Seq(left, right) => {
+                let left = Pending {
+                    shape: left,
+                    after: Move::OpenSecond(node),
+                };
+                let right = Pending {
+                    shape: right,
+                    after: Move::FinishParent(node),
+                };
+                self.list_block(Kind::SeqNode(node + 1, node + 1), left, right, stack)
+            }
+            Shape::Par(left, right) => {
+                let left = Pending {
+                    shape: left,
+                    after: Move::Arrive(node),
+                };
+                let right = Pending {
+                    shape: right,
+                    after: Move::Arrive(node),
+                };
+                self.list_block(Kind::ParNode(node + 1, node + 1), left, right, stack)
+            }
+        }
+    }
+
+    /// Notes in the node's parent that this is its right side, or for now its left one.
+    fn link(&mut self, after: Move, node: u32)
+        requires parent { HasParentBelow node after }
+        requires node { node ≡ length self.old.kinds.items }
+        ensures kinds { self.new.kinds.items ≡ linked self.old.kinds.items after node }
+        ensures moves { self.new.moves.items ≡ self.old.moves.items }
+        ensures leaf_nodes { self.new.leaf_nodes.items ≡ self.old.leaf_nodes.items }
+    {
+        match after {
+            Move::Root | Move::OpenSecond(_) => {}
+            Move::FinishParent(parent) => {
+                self.kinds[parent as usize] = Kind::SeqNode(parent + 1, node);
+            }
+            Move::Arrive(parent) => {
+                self.kinds[parent as usize] = Kind::ParNode(parent + 1, node);
+            }
+        }
+    }
+
+    /// Lists a leaf.
+    fn list_leaf(&mut self, node: u32) -> Result<(), AllocError>
+        requires { length self.old.leaf_nodes.items < 2 ^ 32 }
+        ensures kinds { IfOk result (λ _. self.new.kinds.items ≡ self.old.kinds.items ++ Kind.LeafNode (length self.old.leaf_nodes.items) ∷ []) }
+        ensures moves { self.new.moves.items ≡ self.old.moves.items }
+        ensures leaf_nodes { IfOk result (λ _. self.new.leaf_nodes.items ≡ self.old.leaf_nodes.items ++ node ∷ []) }
+    {
+        let leaf = self.leaf_nodes.len() as u32;
+        self.kinds.push(Kind::LeafNode(leaf))?;
+        self.leaf_nodes.push(node)?;
+        Ok(())
+    }
+
+    /// Lists a block of this kind, and puts its sides on the stack, the left one on top.
+    fn list_block<'a>(
+        &mut self,
+        kind: Kind,
+        left: Pending<'a>,
+        right: Pending<'a>,
+        stack: &mut Vec<Pending<'a>>,
+    ) -> Result<(), AllocError>
+        ensures kinds { IfOk result (λ _. self.new.kinds.items ≡ self.old.kinds.items ++ kind ∷ []) }
+        ensures moves { self.new.moves.items ≡ self.old.moves.items }
+        ensures leaf_nodes { self.new.leaf_nodes.items ≡ self.old.leaf_nodes.items }
+        ensures stack { IfOk result (λ _. stack.new.items ≡ (stack.old.items ++ right.entry ∷ []) ++ left.entry ∷ []) }
+    {
+        self.kinds.push(kind)?;
+        stack.push(right)?;
+        stack.push(left)?;
+        Ok(())
+    }
+}

@@ -1,0 +1,101 @@
+//! Plans: the nodes of a job, numbered in preorder.
+ghost use Rattle.std.specs.Prelude.{◌≡◌, ◌<◌, ◌≤◌, ◌↔◌, Some, IsSome, IsTrue, IfOk};
+ghost use Rattle.sp_order.specs.Precedence.{leaves, IsBefore};
+ghost use Rattle.sp_order.specs.Preorder.{nodes_of};
+
+use crate::job::Job;
+use crate::listing::{Listing, Pending};
+use crate::node::{Kind, Move};
+use std::alloc::{AllocError, Global};
+use std::marker::Model;
+
+/// The nodes of a shape, numbered in preorder: the root is node 0, the left side of node n is node n + 1, and
+/// its right side is the node after all those of its left side. Leaves are numbered from 0, from left to
+/// right. Contracts see a plan as the tree that it stands for: `nodes_of` has the nodes of a tree, and the
+/// function `plan_stands_for_tree` of `laws` says that they stand for it.
+#[derive(Drop)]
+pub struct Plan {
+    listing: Listing,
+}
+
+impl Model for Plan {
+    ghost use Rattle.sp_order.specs.Precedence.{Tree};
+    ghost use Rattle.sp_order.specs.TreeCode.{coded_tree};
+    ghost use Rattle.sp_order.specs.Preorder.{tree_told};
+    ghost use Rattle.sp_order.specs.Listing.{AreListsOf, lists_in};
+
+    ghost Value = { Tree };
+
+    ghost coded = { coded_tree };
+
+    ghost view = { λ p. tree_told p.listing.kinds.items };
+
+    ghost invariant = { λ p. AreListsOf (lists_in p.listing) (tree_told p.listing.kinds.items) };
+}
+
+impl Plan {
+    /// The plan of the job's shape. What is still to be listed stands in a list, so a deep shape takes no more of
+    /// the call stack than a flat one.
+    pub fn of(alloc: Global, job: &Job) -> Result<Plan, AllocError>
+        requires { IsSome job.now.shape }
+        ensures { IfOk result (λ plan. Some plan ≡ job.now.shape) }
+    {
+        let mut listing = Listing::new(alloc);
+        let mut stack = Vec::new(alloc);
+        let shape = job.shape().unwrap();
+        stack.push(Pending {
+            shape,
+            after: Move::Root,
+        })?;
+        while let Some(pending) = stack.pop() {
+            listing.list(pending, &mut stack)?;
+        }
+        Ok(Plan { listing })
+    }
+
+    /// How many nodes it has. They have the numbers below this.
+    pub fn nodes(&self) -> u32
+        ensures nodes { result ≡ (nodes_of self.now).count }
+        ensures most { result < 40000 }
+    {
+        self.listing.kinds.len() as u32
+    }
+
+    /// What this node is.
+    pub fn kind(&self, node: u32) -> Kind
+        requires { node < (nodes_of self.now).count }
+        ensures { Some result ≡ (nodes_of self.now).kind node }
+    {
+        self.listing.kinds[node as usize]
+    }
+
+    /// What is to be done once this node is done.
+    pub fn after(&self, node: u32) -> Move
+        requires { node < (nodes_of self.now).count }
+        ensures { result ≡ (nodes_of self.now).after node }
+    {
+        self.listing.moves[node as usize]
+    }
+
+    /// Whether leaf u is before leaf v.
+    pub fn before(&self, u: u32, v: u32) -> bool
+        requires u_in { u < leaves self.now }
+        requires v_in { v < leaves self.now }
+        ensures { IsTrue result ↔ IsBefore (Some self.now) u v }
+    {
+        let first = self.listing.leaf_nodes[u as usize];
+        let mut node = self.listing.leaf_nodes[v as usize];
+        while first < node {
+            let after = self.listing.moves[node as usize];
+            let Some(parent) = after.parent() else {
+                return false;
+            };
+            // The two leaves part at this parent: u is on its left side, and v on its right side.
+            if parent < first {
+                return after == Move::FinishParent(parent);
+            }
+            node = parent;
+        }
+        false
+    }
+}

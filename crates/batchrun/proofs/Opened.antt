@@ -48,7 +48,3 @@ closing old rest block body after shape acts is joins ends =
     ∙ ap (λ bs. closed bs (map tree_of body) acts) (blocks_on_push [] rest block)
     ∙ ap (λ x. Some (at (blocks_on [] rest) (map tree_of block.before.items ++ option_to_list x) acts)) (sym joins)
     ∙ ap (λ x. Some (at (blocks_on [] rest) x acts)) (sym ends)
-
--- no block is closed where none is kept
-pub not_closing : (blocks : List Block) (shapes : List Tree) (acts : List Act) → blocks ≡ [] → closed (blocks_on [] blocks) shapes acts ≡ None
-not_closing blocks shapes acts none = ap (λ bs. closed (blocks_on [] bs) shapes acts) none

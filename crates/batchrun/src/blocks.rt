@@ -13,9 +13,9 @@ use std::mem;
 
 /// A block that is open: its head, and the shapes that stand before it in the block around it.
 #[derive(Drop)]
-pub(crate) struct Block {
-    pub(crate) head: Head,
-    pub(crate) before: Vec<Shape>,
+struct Block {
+    head: Head,
+    before: Vec<Shape>,
 }
 
 /// The blocks that are open, the innermost last, the shapes so far in the innermost, and all acts so far.

@@ -27,21 +27,21 @@ fn read_items(alloc: Global, text: &[u8]) -> Result<Option<Blocks>, AllocError>
     ensures some { IfOk result (λ read. IfSome read (λ items. IsJobOf text.now (job_of (view items)))) }
     ensures none { IfOk result (λ read. IfNone read (Accepts text.now → ⊥)) }
 {
-    let mut blocks = Blocks::new(alloc);
+    let mut reading = Blocks::new(alloc);
     let mut rest = text;
     'pieces: while let Some((word, after)) = next_token(rest) {
         let Some((piece, after)) = piece_behind(word, after) else {
             return Ok(None);
         };
-        if !blocks.take(piece)? {
+        if !reading.take(piece)? {
             return Ok(None);
         }
         rest = after;
     }
-    if !blocks.is_outside() {
+    if !reading.is_outside() {
         return Ok(None);
     }
-    Ok(Some(blocks))
+    Ok(Some(reading))
 }
 
 /// The job that a text writes.

@@ -1,6 +1,6 @@
 -- What the machine reads has a derivation, and what has one within the limits is read.
-use Rattle.std.proofs.Common.{◌≡◌, ℕ, zero, suc, ◌+◌, ◌<◌, ◌≤◌, List, [], ◌∷◌, ◌++◌, length, Option, Some, None, refl, sym, ap, subst, ◌∙◌, arith, append_assoc, append-nil, IsSome}
-use Rattle.std.specs.Prelude.{nat_le, option_to_list, max}
+use Rattle.std.proofs.Common.{◌≡◌, ℕ, zero, suc, ◌+◌, ◌<◌, ◌≤◌, List, [], ◌∷◌, ◌++◌, length, Some, refl, sym, ap, subst, ◌∙◌, arith, append_assoc, append-nil}
+use Rattle.std.specs.Prelude.{nat_le, option_to_list}
 use Rattle.std.specs.List.{flat_map}
 use Rattle.std.proofs.lemmas.Bool.{leb-false}
 use Rattle.seq_objects.specs.declared.act.Act.{Act}
@@ -8,7 +8,7 @@ use Rattle.sp_order.specs.Precedence.{Tree, leaf, seq}
 use Rattle.sp_order.specs.Jobs.{JobValue}
 use Rattle.batchrun.specs.Tokens.{tokens}
 use Rattle.batchrun.specs.Joins.{joined}
-use Rattle.batchrun.specs.Grammar.{Items, nothing, leaf_then, block_then, items_tokens, nesting, acts_in, shapes_in, kind_of}
+use Rattle.batchrun.specs.Grammar.{Items, nothing, leaf_then, block_then, nesting, acts_in, shapes_in, kind_of}
 use Rattle.batchrun.specs.Language.{IsJobOf, Accepts}
 use Rattle.batchrun.specs.declared.head.Head.{Head}
 use Rattle.batchrun.specs.declared.piece.Piece.{Piece}

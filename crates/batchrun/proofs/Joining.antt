@@ -1,11 +1,11 @@
 -- A list of shapes that is joined in halves.
-use Rattle.std.proofs.Common.{◌≡◌, ℕ, zero, suc, ◌+◌, ◌/◌, ◌<◌, ◌≤◌, List, [], ◌∷◌, ◌++◌, length, map, take, drop, Option, Some, None, IsSome, refl, sym, ap, ◌∙◌, arith, length-take, length-drop, length-append}
+use Rattle.std.proofs.Common.{◌≡◌, ℕ, zero, suc, ◌+◌, ◌<◌, ◌≤◌, List, [], ◌∷◌, length, map, take, drop, Option, Some, None, IsSome, refl, sym, ap, ◌∙◌, arith, length-take, length-drop, length-append}
 use Rattle.std.specs.Option.{option_map}
 use Rattle.std.specs.Prelude.{sum_by, option_to_list}
 use Rattle.std.proofs.lemmas.List.{take-map, drop-map, length-map}
 use Rattle.std.proofs.lemmas.List.Sums.{sum_by-take-drop, sum_by-append, sum_by-cons}
 use Rattle.sp_order.specs.declared.shape.Shape.{Shape}
-use Rattle.sp_order.specs.Precedence.{Tree, tree_of, leaf, seq, par, leaves, leaf_count}
+use Rattle.sp_order.specs.Precedence.{Tree, tree_of, leaf, seq, leaves, leaf_count}
 use Rattle.batchrun.specs.declared.head.Head.{Head}
 use Rattle.batchrun.specs.declared.head.Head.TheVariants.{Seq, Par}
 use Rattle.batchrun.specs.Joins.{join_within, joined, both, half}

@@ -1,14 +1,13 @@
 -- The blocks that are open, after a change.
-use Rattle.std.proofs.Common.{◌≡◌, ℕ, ◌+◌, List, [], ◌∷◌, ◌++◌, length, map, Bool, true, false, Option, Some, None, Vec, Global, vec_len, refl, sym, ap, ◌∙◌, arith, eqb-true, eq-eqb}
+use Rattle.std.proofs.Common.{◌≡◌, ◌+◌, List, [], ◌∷◌, ◌++◌, length, map, Bool, Option, Some, Vec, Global, vec_len, refl, sym, ap, ◌∙◌, arith, eqb-true, eq-eqb}
 use Rattle.std.specs.Prelude.{IsTrue, ◌==◌, option_to_list}
 use Rattle.std.specs.Option.{option_map}
-use Rattle.std.proofs.lemmas.List.{map-append}
 use Rattle.sp_order.specs.declared.shape.Shape.{Shape}
-use Rattle.sp_order.specs.Precedence.{Tree, tree_of}
+use Rattle.sp_order.specs.Precedence.{tree_of}
 use Rattle.seq_objects.specs.declared.act.Act.{Act}
 use Rattle.batchrun.specs.Joins.{joined}
 use Rattle.batchrun.specs.Grammar.{kind_of}
-use Rattle.batchrun.specs.Steps.{OpenBlock, State, at, closed}
+use Rattle.batchrun.specs.Steps.{OpenBlock, at, closed}
 use Rattle.batchrun.specs.Blocks.{block_of, blocks_on}
 use Rattle.batchrun.specs.declared.blocks.Block.{Block}
 

@@ -1,18 +1,16 @@
 -- What the machine does on the pieces of items.
-use Rattle.std.proofs.Common.{◌≡◌, ℕ, ◌+◌, ◌<◌, ◌≤◌, List, [], ◌∷◌, ◌++◌, length, Bool, true, false, Option, Some, None, refl, sym, ap, ◌∙◌, arith, append_assoc, append-nil, length-append}
-use Rattle.std.specs.Prelude.{nat_le, if◌then◌else◌, option_to_list, max, codes}
-use Rattle.std.specs.List.{AllByRecursion, flat_map}
+use Rattle.std.proofs.Common.{◌≡◌, ◌+◌, ◌≤◌, List, [], ◌∷◌, ◌++◌, length, Bool, true, false, Option, Some, None, refl, sym, ap, ◌∙◌, arith, append_assoc, append-nil, length-append}
+use Rattle.std.specs.Prelude.{nat_le, if◌then◌else◌, option_to_list, codes}
+use Rattle.std.specs.List.{flat_map}
 use Rattle.std.proofs.lemmas.Bool.{leb-false, lt-leb}
 use Rattle.std.proofs.lemmas.Grind.{flat_map-append}
 use Rattle.seq_objects.specs.declared.act.Act.{Act}
-use Rattle.seq_objects.specs.declared.act.Act.TheVariants.{Work, Call}
 use Rattle.sp_order.specs.Precedence.{Tree, leaf}
 use Rattle.batchrun.specs.Joins.{joined}
 use Rattle.batchrun.specs.Grammar.{Items, nothing, leaf_then, block_then, act_tokens, head_tokens, items_tokens, HasSmallNumbers, nesting, acts_in, shapes_in, kind_of}
-use Rattle.batchrun.specs.declared.head.Head.{Head}
 use Rattle.batchrun.specs.declared.piece.Piece.{Piece}
 use Rattle.batchrun.specs.declared.piece.Piece.TheVariants.{Leaf, Open, Close}
-use Rattle.batchrun.specs.Steps.{piece_tokens, IsSmall, State, OpenBlock, at, step, run, leaf_step, open_step, closed}
+use Rattle.batchrun.specs.Steps.{piece_tokens, State, OpenBlock, at, run}
 use Rattle.batchrun.proofs.Writing.{AreSmall, dead_end}
 
 -- the pieces of items

@@ -1,4 +1,4 @@
-use Rattle.std.proofs.Common.{◌≡◌, ◌≤◌, length, Some, None, ap, ◌∙◌, arith, refl}
+use Rattle.std.proofs.Common.{◌≤◌, length, Some, None, ap, ◌∙◌, arith}
 use Rattle.batchrun.specs.Grammar.{kind_of}
 use Rattle.batchrun.proofs.Joining.{join_halves, join_nothing}
 use Rattle.batchrun.proofs.join.+join.Goals as goal

@@ -1,8 +1,8 @@
-use Rattle.std.proofs.Common.{◌≡◌, [], true, ap, sym, ◌∙◌}
+use Rattle.std.proofs.Common.{◌≡◌, true, ◌∙◌}
 use Rattle.batchrun.specs.Tokens.{tokens}
 use Rattle.batchrun.specs.Steps.{step}
 use Rattle.batchrun.specs.Blocks.{view}
-use Rattle.batchrun.proofs.Writing.{Reads, leads_nowhere, leads_on, read_back, read_forth, no_step, no_piece, none_open, reads_nothing}
+use Rattle.batchrun.proofs.Writing.{leads_nowhere, leads_on, read_back, read_forth, no_step, no_piece, none_open, reads_nothing}
 use Rattle.batchrun.proofs.Deriving.{not_read, read_accepted}
 use Rattle.batchrun.proofs.reader.read_items.Goals as goal
 

@@ -1,7 +1,3 @@
-use Rattle.std.proofs.Common.{◌≡◌, ◌++◌, map, ap, sym, ◌∙◌}
-use Rattle.std.specs.Prelude.{option_to_list}
-use Rattle.std.specs.Option.{option_map}
-use Rattle.sp_order.specs.Precedence.{tree_of}
 use Rattle.batchrun.proofs.Opened.{closing}
 use Rattle.batchrun.proofs.blocks.Blocks.close.Goals as goal
 

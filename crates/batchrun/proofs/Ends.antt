@@ -1,7 +1,6 @@
 -- What follows from the cause of a status and from its report.
-use Rattle.std.proofs.Common.{◌≡◌, ℕ, ◌<◌, ◌≤◌, List, [], ◌∷◌, ◌++◌, length, map, Bool, Option, Some, None, IsNone, inl, inr, refl, sym, ap, subst, ◌∙◌, arith}
+use Rattle.std.proofs.Common.{◌≡◌, ℕ, ◌<◌, ◌≤◌, List, length, Bool, Option, Some, None, IsNone, inl, inr, refl, sym, ap, subst, ◌∙◌, arith}
 use Rattle.std.specs.Prelude.{IsTrue}
-use Rattle.std.specs.List.{range_with_len}
 use Rattle.std.proofs.lemmas.List.{length-map}
 use Rattle.std.proofs.lemmas.List.FromFn.{length-range_with_len}
 use Rattle.sp_order.specs.Precedence.{leaf_count}
@@ -11,13 +10,13 @@ use Rattle.batch_history.specs.declared.row.Row.{Row}
 use Rattle.batch_history.specs.declared.report.Report.{Report}
 use Rattle.batchrun.specs.Words.{Command}
 use Rattle.batchrun.specs.Language.{IsJobOf, IsFaultOf}
-use Rattle.batchrun.specs.Outcomes.{WasRead, HasRun, IsRefused, Headline, HasCause, Completes, IsUnlessMemory, IsAssured, HasRoomFor, FailsPast}
+use Rattle.batchrun.specs.Outcomes.{WasRead, HasRun, Headline, HasCause, IsAssured, FailsPast}
 use Rattle.batchrun.specs.declared.fault.JobFault.{JobFault}
 use Rattle.batchrun.specs.declared.fault.JobFault.TheVariants.{Byte, Grammar, Number, Nesting, Leaves, Argument}
 use Rattle.batchrun.specs.declared.status.Refusal.TheVariants.{TooLong, Job}
 use Rattle.batchrun.specs.declared.status.Status.{Status}
 use Rattle.batchrun.specs.declared.status.Status.TheVariants.{Done, Made, Usage, ReadFault, Refused, WriteFault, Memory}
-use Rattle.batchrun.proofs.Writing.{one_job}
+use Rattle.batchrun.proofs.Deriving.{one_job}
 
 -- a lawful report has a row for each leaf
 pub rows_count : (job : JobValue) (workers : ℕ) (report : Report) → HasRows job workers report → length report.rows ≡ leaf_count job.shape

@@ -1,6 +1,6 @@
 -- Over memory in which nothing can fail, a run is done.
-use Rattle.std.proofs.Common.{◌≡◌, ℕ, ◌-◌, List, [], length, Option, Some, None, IsSome, refl, eqb}
-use Rattle.std.specs.Prelude.{IsTrue, ◌==◌}
+use Rattle.std.proofs.Common.{◌≡◌, ℕ, ◌-◌, List, [], length, Option, Some, None, IsSome, refl}
+use Rattle.std.specs.Prelude.{◌==◌}
 use Rattle.std.specs.Option.{ForSome}
 use Rattle.bt_io.specs.Memory.{File, MemorySink, file_named, sure_of}
 use Rattle.batchrun.specs.Words.{Command, file_of, workers_of}

@@ -1,6 +1,8 @@
-pub mod Tokenize
 pub mod Numbers
 pub mod Writing
+pub mod Running
+pub mod Deriving
+pub mod Opened
 pub mod Joining
 pub mod Fronts
 pub mod Ranges

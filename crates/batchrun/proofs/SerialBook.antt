@@ -1,8 +1,8 @@
 -- The batches of a serial run.
-use Rattle.std.proofs.Common.{◌≡◌, ◌≢◌, ℕ, zero, suc, ◌+◌, ◌-◌, ◌<◌, ◌≤◌, ◌^◌, List, [], ◌∷◌, ◌++◌, length, map, Option, Some, Contains, refl, sym, ap, subst, ◌∙◌, arith}
+use Rattle.std.proofs.Common.{◌≡◌, ◌≢◌, ℕ, zero, suc, ◌+◌, ◌-◌, ◌<◌, ◌≤◌, List, [], ◌∷◌, length, map, Some, Contains, refl, sym, ap, subst, arith}
 use Rattle.std.specs.Prelude.{slice_get}
 use Rattle.std.specs.List.{AllByRecursion}
-use Rattle.seq_objects.specs.Objects.{Objects, opening, after, value_of}
+use Rattle.seq_objects.specs.Objects.{Objects, after, value_of}
 use Rattle.seq_objects.specs.declared.act.Act.{Act}
 use Rattle.seq_objects.specs.declared.act.Act.TheVariants.{Work, Call}
 use Rattle.seq_objects.specs.declared.op.Op.{Op}
@@ -10,7 +10,7 @@ use Rattle.batch_history.specs.Pairs.{AreDistinct}
 use Rattle.batch_history.specs.Book.{flat, IsLegalFrom, IsBatch}
 use Rattle.batch_history.specs.declared.batch.Entry.{Entry}
 use Rattle.batch_history.specs.declared.row.Row.{Row}
-use Rattle.batchrun.specs.Serial.{serial_book, serial_rows, entry_at, row_at, objects_after}
+use Rattle.batchrun.specs.Serial.{serial_book, serial_rows, entry_at, row_at}
 
 abbrev leaf_of : Entry → ℕ
 leaf_of entry = entry.leaf

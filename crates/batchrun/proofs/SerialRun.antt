@@ -8,9 +8,8 @@ use Rattle.std.proofs.Math.ListN.{drop_of_length-le}
 use Rattle.seq_objects.specs.Objects.{Objects, opening, after, value_of}
 use Rattle.seq_objects.specs.declared.act.Act.{Act}
 use Rattle.seq_objects.specs.declared.act.Act.TheVariants.{Call}
-use Rattle.sp_order.specs.Precedence.{IsBefore}
 use Rattle.sp_order.specs.Jobs.{JobValue, IsJob}
-use Rattle.batch_history.specs.Pairs.{EachPair, AreDistinct}
+use Rattle.batch_history.specs.Pairs.{AreDistinct}
 use Rattle.batch_history.specs.Book.{flat, IsLegalFrom, IsBatch, IsHistory}
 use Rattle.batch_history.specs.Lawful.{Lawful, IsCallLeaf}
 use Rattle.batch_history.specs.declared.batch.Entry.{Entry}

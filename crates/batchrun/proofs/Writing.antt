@@ -1,82 +1,142 @@
--- Tokens write one list of acts at most.
-use Rattle.std.proofs.Common.{◌≡◌, ℕ, ◌+◌, ◌<◌, ◌≤◌, ◌^◌, List, [], ◌∷◌, ◌++◌, length, get_or, codes, refl, sym, ap, ◌∙◌, arith, append_assoc, append-nil, length-append, replicate}
+-- Tokens write one list of pieces at most, and what is left of it is read from where its front leads.
+use Rattle.std.proofs.Common.{◌≡◌, ℕ, List, [], ◌∷◌, ◌++◌, Bool, true, false, Option, Some, None, get_or, refl, sym, ap, ◌∙◌, arith}
 use Rattle.std.specs.List.{AllByRecursion, flat_map}
 use Rattle.std.specs.Fmt.{decimal}
 use Rattle.std.proofs.lemmas.Fmt.{decimal_injective}
-use Rattle.seq_objects.specs.declared.act.Act.{Act}
 use Rattle.seq_objects.specs.declared.act.Act.TheVariants.{Work, Call}
 use Rattle.seq_objects.specs.declared.op.Op.TheVariants.{CounterAdd}
-use Rattle.sp_order.specs.Precedence.{leaf, seq}
-use Rattle.sp_order.specs.Jobs.{JobValue}
-use Rattle.batchrun.specs.Tokens.{tokens}
-use Rattle.batchrun.specs.Joins.{joined}
-use Rattle.batchrun.specs.Language.{act_tokens, number_of, Writes, IsJobOf}
+use Rattle.batchrun.specs.declared.head.Head.TheVariants.{Seq, Par}
+use Rattle.batchrun.specs.declared.piece.Piece.{Piece}
+use Rattle.batchrun.specs.declared.piece.Piece.TheVariants.{Leaf, Open, Close}
+use Rattle.batchrun.specs.Steps.{piece_tokens, IsSmall, State, step, run, Leads}
 
-abbrev Fits : List Act → Type 0
-Fits acts = AllByRecursion (λ act. number_of act < 2 ^ 32) acts
+abbrev pub AreSmall : List Piece → Type 0
+AreSmall pieces = AllByRecursion (λ piece. IsSmall piece) pieces
 
--- two acts that begin one list of tokens are the same, and so are the tokens behind them
-same_front : (a b : Act) (xs ys : List (List ℕ)) → number_of a < 2 ^ 32 → number_of b < 2 ^ 32 → act_tokens a ++ xs ≡ act_tokens b ++ ys → (a ≡ b) × (xs ≡ ys)
-same_front (Work m) (Work n) xs ys small small' is =
+-- by what a piece is told from another kind
+abbrev first_byte : List (List ℕ) → ℕ
+first_byte [] = 0
+first_byte (token ∷ tokens) = get_or token 0 0
+
+-- two pieces that begin one list of tokens are the same, and so are the tokens behind them
+pub same_front : (p q : Piece) (xs ys : List (List ℕ)) → IsSmall p → IsSmall q → piece_tokens p ++ xs ≡ piece_tokens q ++ ys → (p ≡ q) × (xs ≡ ys)
+same_front (Leaf (Work m)) (Leaf (Work n)) xs ys small small' is =
     let digits : decimal m ≡ decimal n = cc in
-    (ap (λ k. Work k) (decimal_injective m n (omega arith) (omega arith) digits), cc)
-same_front (Work m) (Call (CounterAdd n)) xs ys small small' is = let word : codes "work" ≡ codes "counter" = cc in absurd (cc)
-same_front (Call (CounterAdd m)) (Work n) xs ys small small' is = let word : codes "counter" ≡ codes "work" = cc in absurd (cc)
-same_front (Call (CounterAdd m)) (Call (CounterAdd n)) xs ys small small' is =
+    (ap (λ k. Leaf (Work k)) (decimal_injective m n (omega arith) (omega arith) digits), cc)
+same_front (Leaf (Call (CounterAdd m))) (Leaf (Call (CounterAdd n))) xs ys small small' is =
     let digits : decimal m ≡ decimal n = cc in
-    (ap (λ k. Call (CounterAdd k)) (decimal_injective m n (omega arith) (omega arith) digits), cc)
+    (ap (λ k. Leaf (Call (CounterAdd k))) (decimal_injective m n (omega arith) (omega arith) digits), cc)
+same_front (Open Seq) (Open Seq) xs ys small small' is = (refl, cc)
+same_front (Open Par) (Open Par) xs ys small small' is = (refl, cc)
+same_front Close Close xs ys small small' is = (refl, cc)
+same_front (Leaf (Work m)) (Leaf (Call (CounterAdd n))) xs ys small small' is = absurd (omega (arith, ap first_byte is))
+same_front (Leaf (Work m)) (Open Seq) xs ys small small' is = absurd (omega (arith, ap first_byte is))
+same_front (Leaf (Work m)) (Open Par) xs ys small small' is = absurd (omega (arith, ap first_byte is))
+same_front (Leaf (Work m)) Close xs ys small small' is = absurd (omega (arith, ap first_byte is))
+same_front (Leaf (Call (CounterAdd m))) (Leaf (Work n)) xs ys small small' is = absurd (omega (arith, ap first_byte is))
+same_front (Leaf (Call (CounterAdd m))) (Open Seq) xs ys small small' is = absurd (omega (arith, ap first_byte is))
+same_front (Leaf (Call (CounterAdd m))) (Open Par) xs ys small small' is = absurd (omega (arith, ap first_byte is))
+same_front (Leaf (Call (CounterAdd m))) Close xs ys small small' is = absurd (omega (arith, ap first_byte is))
+same_front (Open Seq) (Leaf (Work n)) xs ys small small' is = absurd (omega (arith, ap first_byte is))
+same_front (Open Seq) (Leaf (Call (CounterAdd n))) xs ys small small' is = absurd (omega (arith, ap first_byte is))
+same_front (Open Seq) (Open Par) xs ys small small' is = absurd (omega (arith, ap first_byte is))
+same_front (Open Seq) Close xs ys small small' is = absurd (omega (arith, ap first_byte is))
+same_front (Open Par) (Leaf (Work n)) xs ys small small' is = absurd (omega (arith, ap first_byte is))
+same_front (Open Par) (Leaf (Call (CounterAdd n))) xs ys small small' is = absurd (omega (arith, ap first_byte is))
+same_front (Open Par) (Open Seq) xs ys small small' is = absurd (omega (arith, ap first_byte is))
+same_front (Open Par) Close xs ys small small' is = absurd (omega (arith, ap first_byte is))
+same_front Close (Leaf (Work n)) xs ys small small' is = absurd (omega (arith, ap first_byte is))
+same_front Close (Leaf (Call (CounterAdd n))) xs ys small small' is = absurd (omega (arith, ap first_byte is))
+same_front Close (Open Seq) xs ys small small' is = absurd (omega (arith, ap first_byte is))
+same_front Close (Open Par) xs ys small small' is = absurd (omega (arith, ap first_byte is))
 
--- Of the acts that tokens write, those that a front of the tokens writes come first, and the other tokens write
--- the others.
-pub record Goes_on (done acts : List Act) (more : List (List ℕ)) : Type 0 where
-  pub rest : List Act
-  pub parts : acts ≡ done ++ rest
-  pub spells : more ≡ flat_map act_tokens rest
-  pub fits : Fits rest
+-- a piece has a token
+pub some_token : (p : Piece) (xs : List (List ℕ)) → piece_tokens p ++ xs ≡ [] → ⊥
+some_token (Leaf (Work m)) xs is = cc
+some_token (Leaf (Call (CounterAdd m))) xs is = cc
+some_token (Open Seq) xs is = cc
+some_token (Open Par) xs is = cc
+some_token Close xs is = cc
 
-pub goes_on : (done acts : List Act) (more : List (List ℕ)) → Fits done → Fits acts → flat_map act_tokens done ++ more ≡ flat_map act_tokens acts → Goes_on done acts more
-goes_on [] acts more small small' is = record { rest = acts; parts = refl; spells = is; fits = small' }
-goes_on (Work m ∷ done) [] more small small' is = cc
-goes_on (Call (CounterAdd m) ∷ done) [] more small small' is = cc
-goes_on (a ∷ done) (b ∷ acts) more small small' is =
-    let front = same_front a b (flat_map act_tokens done ++ more) (flat_map act_tokens acts) small.0 small'.0 (sym (append_assoc (act_tokens a) (flat_map act_tokens done) more) ∙ is) in
-    let tail = goes_on done acts more small.1 small'.1 front.1 in
-    record { rest = tail.rest; parts = cc (front.0, tail.parts); spells = tail.spells; fits = tail.fits }
+one_list : (ps qs : List Piece) → AreSmall ps → AreSmall qs → flat_map piece_tokens ps ≡ flat_map piece_tokens qs → ps ≡ qs
+one_list [] [] small small' is = refl
+one_list [] (q ∷ qs) small small' is = absurd (some_token q (flat_map piece_tokens qs) (sym is))
+one_list (p ∷ ps) [] small small' is = absurd (some_token p (flat_map piece_tokens ps) is)
+one_list (p ∷ ps) (q ∷ qs) small small' is =
+    let front = same_front p q (flat_map piece_tokens ps) (flat_map piece_tokens qs) small.0 small'.0 is in
+    let rest = one_list ps qs small.1 small'.1 front.1 in
+    cc (front.0, rest)
 
-behind : (done acts : List Act) (word : List ℕ) (more all : List (List ℕ)) → Fits done → flat_map act_tokens done ++ (word ∷ more) ≡ all → Writes acts all → Goes_on done acts (word ∷ more)
-behind done acts word more all small read writes = goes_on done acts (word ∷ more) small writes.fits (read ∙ sym writes.spells)
+-- The tokens write pieces that lead from a state to the last.
+pub record Reads (state : State) (tokens : List (List ℕ)) (last : State) : Type 0 where
+  pub pieces : List Piece
+  pub writes : flat_map piece_tokens pieces ≡ tokens
+  pub small : AreSmall pieces
+  pub leads : run (Some state) pieces ≡ Some last
 
--- where a token is left, the acts are more than those that were read
-pub too_many : (done : List Act) (word : List ℕ) (more all : List (List ℕ)) → Fits done → flat_map act_tokens done ++ (word ∷ more) ≡ all
-    → (acts : List Act) → Writes acts all → length acts ≤ length done → ⊥
-too_many done word more all small read acts writes few =
-    let rest = behind done acts word more all small read writes in longer rest.rest rest.parts rest.spells where
-      longer : (rest : List Act) → acts ≡ done ++ rest → word ∷ more ≡ flat_map act_tokens rest → ⊥
-      longer [] parts spells = cc
-      longer (act ∷ rest) parts spells = omega (arith, ap length parts, length-append done (act ∷ rest))
+-- what a step that was not taken says, and one that was
+pub leads_nowhere : (next : Option State) (b : Bool) (new : State) → b ≡ false → Leads next b new → next ≡ None
+leads_nowhere next true new is leads = cc
+leads_nowhere next false new is leads = leads
 
--- where the tokens that are left begin with no act, no acts write all of them
-pub no_act : (done : List Act) (word : List ℕ) (more all : List (List ℕ)) → Fits done → flat_map act_tokens done ++ (word ∷ more) ≡ all
-    → ((act : Act) (others : List (List ℕ)) → number_of act < 2 ^ 32 → word ∷ more ≡ act_tokens act ++ others → ⊥)
-    → (acts : List Act) → Writes acts all → ⊥
-no_act done word more all small read none acts writes =
-    let rest = behind done acts word more all small read writes in begins rest.rest rest.spells rest.fits where
-      begins : (rest : List Act) → word ∷ more ≡ flat_map act_tokens rest → Fits rest → ⊥
-      begins [] spells fits = cc
-      begins (act ∷ rest) spells fits = none act (flat_map act_tokens rest) fits.0 spells
+pub leads_on : (next : Option State) (b : Bool) (new : State) → b ≡ true → Leads next b new → next ≡ Some new
+leads_on next true new is leads = leads
+leads_on next false new is leads = cc
 
--- a text writes one job at most
-one_list : (acts acts' : List Act) (ts : List (List ℕ)) → Writes acts ts → Writes acts' ts → acts ≡ acts'
-one_list acts acts' ts writes writes' =
-    let rest = goes_on acts acts' [] writes.fits writes'.fits (append-nil (flat_map act_tokens acts) ∙ writes.spells ∙ sym writes'.spells) in
-    sym (rest.parts ∙ ap (λ more. acts ++ more) (nothing rest.rest rest.spells) ∙ append-nil acts) where
-      nothing : (rest : List Act) → [] ≡ flat_map act_tokens rest → rest ≡ []
-      nothing [] is = refl
-      nothing (Work n ∷ rest) is = cc
-      nothing (Call (CounterAdd n) ∷ rest) is = cc
+-- where nothing leads, nothing more leads
+pub run_none : (ps : List Piece) → run None ps ≡ None
+run_none [] = refl
+run_none (p ∷ ps) = run_none ps
 
-pub one_job : (text : List ℕ) (job job' : JobValue) → IsJobOf text job → IsJobOf text job' → job ≡ job'
-one_job text job job' is is' =
-    let acts : job.acts ≡ job'.acts = one_list job.acts job'.acts (tokens text) is.writes is'.writes in
-    let shape : job.shape ≡ job'.shape = is.shape ∙ ap (λ (a : List Act). joined seq (replicate (length a) leaf)) acts ∙ sym is'.shape in
-    λ i. record { shape = shape i; acts = acts i }
+pub dead_end : (ps : List Piece) (last : State) → run None ps ≡ Some last → ⊥
+dead_end ps last leads = let none = run_none ps in cc (none, leads)
+
+pub one_end : (state : State) (tokens : List (List ℕ)) (a b : State) → Reads state tokens a → Reads state tokens b → a ≡ b
+one_end state tokens a b r s =
+    let same = one_list r.pieces s.pieces r.small s.small (r.writes ∙ sym s.writes) in
+    let ends : Some a ≡ Some b = sym r.leads ∙ ap (run (Some state)) same ∙ s.leads in
+    cc (ends)
+
+-- what is read behind a piece is read with it
+pub read_back : (p : Piece) (s next : State) (all rest : List (List ℕ)) (last : State) → IsSmall p → step s p ≡ Some next → all ≡ piece_tokens p ++ rest → Reads next rest last → Reads s all last
+read_back p s next all rest last small leads is reads = record {
+  pieces = p ∷ reads.pieces;
+  writes = ap (λ x. piece_tokens p ++ x) reads.writes ∙ sym is;
+  small = (small, reads.small);
+  leads = ap (λ o. run o reads.pieces) leads ∙ reads.leads;
+}
+
+-- what is read with a piece is read behind it
+pub read_forth : (p : Piece) (s next : State) (all rest : List (List ℕ)) (last : State) → IsSmall p → step s p ≡ Some next → all ≡ piece_tokens p ++ rest → Reads s all last → Reads next rest last
+read_forth p s next all rest last small leads is reads = forth reads.pieces reads.writes reads.small reads.leads where
+  forth : (ps : List Piece) → flat_map piece_tokens ps ≡ all → AreSmall ps → run (Some s) ps ≡ Some last → Reads next rest last
+  forth [] writes small' leads' = absurd (some_token p rest (sym is ∙ sym writes))
+  forth (q ∷ qs) writes small' leads' =
+      let front = same_front p q rest (flat_map piece_tokens qs) small small'.0 (sym is ∙ sym writes) in
+      record { pieces = qs; writes = sym front.1; small = small'.1; leads = ap (λ o. run o qs) (sym leads ∙ ap (step s) front.0) ∙ leads' }
+
+-- a piece that leads nowhere is not read
+pub no_step : (p : Piece) (s : State) (all rest : List (List ℕ)) (last : State) → IsSmall p → step s p ≡ None → all ≡ piece_tokens p ++ rest → Reads s all last → ⊥
+no_step p s all rest last small none is reads = stuck reads.pieces reads.writes reads.small reads.leads where
+  stuck : (ps : List Piece) → flat_map piece_tokens ps ≡ all → AreSmall ps → run (Some s) ps ≡ Some last → ⊥
+  stuck [] writes small' leads = some_token p rest (sym is ∙ sym writes)
+  stuck (q ∷ qs) writes small' leads =
+      let front = same_front p q rest (flat_map piece_tokens qs) small small'.0 (sym is ∙ sym writes) in
+      dead_end qs last (ap (λ o. run o qs) (sym none ∙ ap (step s) front.0) ∙ leads)
+
+-- tokens that begin with no piece are not read
+pub no_piece : (s : State) (word : List ℕ) (rest : List (List ℕ)) (last : State) → ((p : Piece) (more : List (List ℕ)) → IsSmall p → word ∷ rest ≡ piece_tokens p ++ more → ⊥) → Reads s (word ∷ rest) last → ⊥
+no_piece s word rest last none reads = begins reads.pieces reads.writes reads.small where
+  begins : (ps : List Piece) → flat_map piece_tokens ps ≡ word ∷ rest → AreSmall ps → ⊥
+  begins [] writes small = cc
+  begins (p ∷ ps) writes small = none p (flat_map piece_tokens ps) small.0 (sym writes)
+
+-- where no tokens are left and none of them leaves a block open, none is open
+pub none_open : (s last : State) → last.blocks ≡ [] → Reads s [] last → s.blocks ≡ []
+none_open s last outside reads = stays reads.pieces reads.writes reads.leads where
+  stays : (ps : List Piece) → flat_map piece_tokens ps ≡ [] → run (Some s) ps ≡ Some last → s.blocks ≡ []
+  stays [] writes leads = let same : s ≡ last = cc in ap (λ (s : State). s.blocks) same ∙ outside
+  stays (p ∷ ps) writes leads = absurd (some_token p (flat_map piece_tokens ps) writes)
+
+pub reads_nothing : (s : State) → Reads s [] s
+reads_nothing s = record { pieces = []; writes = refl; small = tt; leads = refl }

@@ -9,7 +9,10 @@ pub use Rattle.batch_history.specs.Text
 pub mod Words
 pub mod Tokens
 pub mod Joins
+pub mod Grammar
 pub mod Language
+pub mod Steps
+pub mod Blocks
 pub mod Lines
 pub mod Outcomes
 pub mod Serial

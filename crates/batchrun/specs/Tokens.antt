@@ -5,19 +5,25 @@ use Rattle.std.specs.Prelude.{◌≡◌, ◌≢◌, ℕ, Bool, ◌||◌, ◌==�
 abbrev pub is_blank : ℕ → Bool
 is_blank byte = byte == 9 || byte == 10 || byte == 13 || byte == 32
 
+-- `{`, `}`
+abbrev pub is_brace : ℕ → Bool
+is_brace byte = byte == 123 || byte == 125
+
 -- a token before others, if it has a byte
 abbrev pub before : List ℕ → List (List ℕ) → List (List ℕ)
 before [] tokens = tokens
 before (byte ∷ bytes) tokens = (byte ∷ bytes) ∷ tokens
 
--- the token that a text begins with, which has no byte where the text begins with a blank, and the tokens
--- behind it
+-- the run of bytes, neither blanks nor braces, that a text begins with, and the tokens behind it
 abbrev pub split : List ℕ → List ℕ × List (List ℕ)
 split [] = ([], [])
 split (byte ∷ bytes) =
-    let rest = split bytes in if is_blank byte then ([], before rest.0 rest.1) else (byte ∷ rest.0, rest.1)
+    let rest = split bytes in
+    if is_blank byte then ([], before rest.0 rest.1)
+    else if is_brace byte then ([], (byte ∷ []) ∷ before rest.0 rest.1)
+    else (byte ∷ rest.0, rest.1)
 
--- the longest runs of bytes that are not blanks
+-- the braces, and the longest runs of bytes that are neither blanks nor braces
 abbrev pub tokens : List ℕ → List (List ℕ)
 tokens text = before (split text).0 (split text).1
 

@@ -1,9 +1,11 @@
 //! Lists of shapes, joined to one.
 ghost use Rattle.std.specs.Prelude.{◌≡◌, IfOk, length, map, take, drop};
 ghost use Rattle.std.specs.Option.{option_map};
-ghost use Rattle.sp_order.specs.Precedence.{tree_of, seq};
+ghost use Rattle.sp_order.specs.Precedence.{tree_of};
 ghost use Rattle.batchrun.specs.Joins.{joined, half};
+ghost use Rattle.batchrun.specs.Grammar.{kind_of};
 
+use crate::head::Head;
 use sp_order::Shape;
 use std::alloc::{AllocError, Global};
 
@@ -16,22 +18,37 @@ fn halves(mut shapes: Vec<Shape>) -> Result<(Vec<Shape>, Vec<Shape>), AllocError
     Ok((shapes, back))
 }
 
-/// The shapes in series: none for no shapes, the shape itself for one, and else both halves of the list, each
-/// joined in this way, one after the other.
-pub(crate) fn in_series(alloc: Global, mut shapes: Vec<Shape>) -> Result<Option<Shape>, AllocError>
-    ensures { IfOk result (λ shape. option_map tree_of shape ≡ joined seq (map tree_of shapes.items)) }
+/// Two shapes as one, which stand to one another as the items of such a block do.
+fn both(alloc: Global, head: Head, left: Shape, right: Shape) -> Result<Shape, AllocError>
+    ensures { IfOk result (λ shape. tree_of shape ≡ kind_of head (tree_of left) (tree_of right)) }
+{
+    let left = Box::new(alloc, left)?;
+    let right = Box::new(alloc, right)?;
+    match head {
+        Head::Seq => Ok(Shape::Seq(left, right)),
+        Head::Par => Ok(Shape::Par(left, right)),
+    }
+}
+
+/// The shapes as those of the items of such a block: none for no shapes, the shape itself for one, and else
+/// both halves of the list, each joined in this way.
+pub(crate) fn join(
+    alloc: Global,
+    head: Head,
+    mut shapes: Vec<Shape>,
+) -> Result<Option<Shape>, AllocError>
+    ensures { IfOk result (λ shape. option_map tree_of shape ≡ joined (kind_of head) (map tree_of shapes.items)) }
 {
     if shapes.len() < 2 {
         return Ok(shapes.pop());
     }
     let (front, back) = halves(shapes)?;
-    let Some(left) = in_series(alloc, front)? else {
+    let Some(left) = join(alloc, head, front)? else {
         return Ok(None);
     };
-    let Some(right) = in_series(alloc, back)? else {
+    let Some(right) = join(alloc, head, back)? else {
         return Ok(None);
     };
-    let left = Box::new(alloc, left)?;
-    let right = Box::new(alloc, right)?;
-    Ok(Some(Shape::Seq(left, right)))
+    let shape = both(alloc, head, left, right)?;
+    Ok(Some(shape))
 }

@@ -5,14 +5,16 @@
 //! hands in the real words, files and streams. The crate stands on all layers below it.
 #![tactic(auto)]
 
-pub mod acts;
 pub mod assured;
+pub mod blocks;
 pub mod command;
 pub mod fault;
+pub mod head;
 pub mod join;
 pub mod laws;
 pub mod number;
 pub mod outcome;
+pub mod piece;
 pub mod reader;
 pub mod serial;
 pub mod status;

@@ -3,10 +3,11 @@ ghost use Rattle.std.specs.Prelude.{◌<◌};
 
 use crate::fault::JobFault;
 use crate::outcome::Outcome;
-use crate::reader::read_job;
+use crate::reader::{JobErr, read_job};
 use crate::status::{Refusal, Status};
 use crate::top::batchrun;
 use bt_io::{MemShelf, MemSink, NoPause};
+use sp_order::Shape;
 use std::alloc::{AllocError, Global};
 use std::sync::Wait;
 use std::test::Fail;
@@ -80,7 +81,7 @@ const NOT_IN_THE_GRAMMAR: Status = Status::Refused(Refusal::Job(JobFault::Gramma
 
 #[test]
 fn worked_jobs_print_their_reports(rt: HostRuntime) -> Result<(), Fail> {
-    let jobs: [(&[u8], &[u8]); 5] = [
+    let jobs: [(&[u8], &[u8]); 8] = [
         (b"", b"workers 1 leaves 0 calls 0 batches 0\n"),
         (
             b"counter add 5",
@@ -104,6 +105,21 @@ batch 1 place 0 worker 0 leaf 2 counter add 1 -> 4294967296\n\
 leaf 0 worker 0 start 0 end 1 value 4294967295\n\
 leaf 1 worker 0 start 2 end 3 value 6\n\
 leaf 2 worker 0 start 4 end 5 value 4294967296\n",
+        ),
+        (
+            b"par {} seq {} work 0",
+            b"workers 1 leaves 1 calls 0 batches 0\nleaf 0 worker 0 start 0 end 1 value 0\n",
+        ),
+        (
+            b"par {} seq {} work 3",
+            b"workers 1 leaves 1 calls 0 batches 0\nleaf 0 worker 0 start 0 end 1 value 406\n",
+        ),
+        (
+            b"par{counter add 5 seq{work 1}}",
+            b"workers 1 leaves 2 calls 1 batches 1\n\
+batch 0 place 0 worker 0 leaf 0 counter add 5 -> 5\n\
+leaf 0 worker 0 start 0 end 1 value 5\n\
+leaf 1 worker 0 start 2 end 3 value 6\n",
         ),
     ];
     for (text, printed) in jobs {
@@ -227,6 +243,195 @@ fn a_job_has_at_most_20000_leaves(rt: HostRuntime) -> Result<(), Fail> {
     let text = long_job(rt.alloc(), 20_001)?;
     let ran = run(&rt, rt.alloc(), &unhindered(&STEP, text.as_slice()))?;
     assert_eq!(rt; ran.outcome.status, NOT_IN_THE_GRAMMAR);
+    Ok(())
+}
+
+#[test]
+fn blocks_are_in_the_grammar_or_not(rt: HostRuntime) -> Result<(), Fail> {
+    let jobs: [&[u8]; 16] = [
+        b"seq {}",
+        b"par {}",
+        b"par{}",
+        b"seq{work 1}",
+        b"par{work 1}counter add 2",
+        b"par { work 1 work 2 work 3 }",
+        b"work 1 par { work 2 work 3 }",
+        b"par { seq { work 1 counter add 2 } work 3 }",
+        b"seq\n{\nwork 1\n}\n",
+        b"par\t{\tcounter add 4294967295\t}\r\n",
+        b"seq{par{seq{work 0}}}",
+        b"seq { par { } seq{}}",
+        b"par{counter add 1}par{counter add 2}",
+        b"seq{}work 1 seq{}",
+        b"par{work 1 par{work 2 seq{}}}",
+        b"counter\nadd\n1\npar\n{ }",
+    ];
+    for text in jobs {
+        let ran = run(&rt, rt.alloc(), &unhindered(&STEP, text))?;
+        assert_eq!(rt; ran.outcome.status, Status::Done, "{text:?}");
+    }
+    let others: [&[u8]; 48] = [
+        b"{",
+        b"}",
+        b"{}",
+        b"{ work 1 }",
+        b"seq",
+        b"par",
+        b"seq work 1",
+        b"seq }",
+        b"seq {",
+        b"seq { work 1",
+        b"seq { work 1 } }",
+        b"work 1 }",
+        b"seq { seq { }",
+        b"seq { { } }",
+        b"seq {{}}",
+        b"par seq { }",
+        b"seq par {}",
+        b"work par {}",
+        b"work {}",
+        b"counter add par",
+        b"counter add {1}",
+        b"counter add { 1 }",
+        b"counter { add 1 }",
+        b"work { 1 }",
+        b"work 1{}",
+        b"work 1seq{}",
+        b"seq1{}",
+        b"seqpar{}",
+        b"seqq {}",
+        b"Par {}",
+        b"SEQ {}",
+        b"seq{work}",
+        b"seq{work 01}",
+        b"seq{work +1}",
+        b"seq{work 1 2}",
+        b"seq{counter add 4294967296}",
+        b"par (work 1)",
+        b"par [ work 1 ]",
+        b"par { work 1, work 2 }",
+        b"seq { work 1; }",
+        b"seq 1 { work 1 }",
+        b"for 2 { work 1 }",
+        b"seq{}}",
+        b"}seq{",
+        b"par { work 1 } { work 2 }",
+        b"seq { work 1 # }\n}",
+        b"seq\x00{}",
+        b"par{work 1}}{",
+    ];
+    for text in others {
+        let ran = run(&rt, rt.alloc(), &unhindered(&STEP, text))?;
+        assert_eq!(rt; ran.outcome.status, NOT_IN_THE_GRAMMAR, "{text:?}");
+        assert_eq!(rt; ran.out.bytes(), b"".as_slice());
+    }
+    Ok(())
+}
+
+/// `work 1` inside so many blocks.
+fn nested(alloc: Global, blocks: u32) -> Result<Vec<u8>, AllocError> {
+    let mut text = Vec::new(alloc);
+    for _ in 0..blocks {
+        text.extend_from_slice(b"seq {")?;
+    }
+    text.extend_from_slice(b"work 1")?;
+    for _ in 0..blocks {
+        text.extend_from_slice(b"}")?;
+    }
+    Ok(text)
+}
+
+/// Whether the text is refused as not in the grammar.
+fn is_refused(alloc: Global, text: &[u8]) -> bool {
+    matches!(
+        read_job(alloc, text),
+        Err(JobErr::Bad(JobFault::Grammar { line: 1 }))
+    )
+}
+
+#[test]
+fn at_most_32_blocks_are_open(rt: HostRuntime) -> Result<(), Fail> {
+    let text = nested(rt.alloc(), 32)?;
+    assert!(rt; read_job(rt.alloc(), text.as_slice()).is_ok());
+    // Blocks that are closed do not count.
+    let mut twice = nested(rt.alloc(), 32)?;
+    twice.extend_from_slice(text.as_slice())?;
+    assert!(rt; read_job(rt.alloc(), twice.as_slice()).is_ok());
+    let text = nested(rt.alloc(), 33)?;
+    assert!(rt; is_refused(rt.alloc(), text.as_slice()));
+    Ok(())
+}
+
+/// So many lines of `long_job` in a block with this head.
+fn long_block(alloc: Global, head: &[u8], leaves: u32) -> Result<Vec<u8>, AllocError> {
+    let mut text = head.to_vec(alloc)?;
+    text.extend_from_slice(b"{")?;
+    text.extend_from_slice(long_job(alloc, leaves)?.as_slice())?;
+    text.extend_from_slice(b"}")?;
+    Ok(text)
+}
+
+#[test]
+fn the_leaves_of_all_blocks_count(rt: HostRuntime) -> Result<(), Fail> {
+    let text = long_block(rt.alloc(), b"par", 20_000)?;
+    assert!(rt; read_job(rt.alloc(), text.as_slice()).is_ok());
+    let mut text = long_block(rt.alloc(), b"seq", 10_000)?;
+    text.extend_from_slice(long_block(rt.alloc(), b"par", 10_000)?.as_slice())?;
+    assert!(rt; read_job(rt.alloc(), text.as_slice()).is_ok());
+    text.extend_from_slice(b"par{work 0}")?;
+    assert!(rt; is_refused(rt.alloc(), text.as_slice()));
+    Ok(())
+}
+
+/// Spells a shape: `.` is a leaf, `(a;b)` is a before b, and `(a|b)` is a beside b.
+fn spell(shape: &Shape, spelled: &mut Vec<u8>) -> Result<(), AllocError> {
+    let (left, mark, right) = match shape {
+        Shape::Leaf => {
+            spelled.push(b'.')?;
+            return Ok(());
+        }
+        Shape::Seq(left, right) => (left, b';', right),
+        Shape::Par(left, right) => (left, b'|', right),
+    };
+    spelled.push(b'(')?;
+    spell(left, spelled)?;
+    spelled.push(mark)?;
+    spell(right, spelled)?;
+    spelled.push(b')')?;
+    Ok(())
+}
+
+#[test]
+fn shapes_are_joined_in_halves(rt: HostRuntime) -> Result<(), Fail> {
+    let jobs: [(&[u8], &[u8]); 11] = [
+        (b"", b""),
+        (b"work 1", b"."),
+        (b"work 1 work 2 work 3 work 4 work 5", b"(((.;.);.);(.;.))"),
+        (b"par { work 1 work 2 work 3 }", b"((.|.)|.)"),
+        (b"work 1 par { work 2 work 3 }", b"(.;(.|.))"),
+        (b"par { work 1 seq { work 2 work 3 } }", b"(.|(.;.))"),
+        (
+            b"par { seq { work 1 work 2 } par { } work 3 }",
+            b"((.;.)|.)",
+        ),
+        (b"seq { par { } } par { seq { } }", b""),
+        (b"par { seq { work 1 } }", b"."),
+        (b"seq{work 1 work 2}par{}seq{work 3}", b"((.;.);.)"),
+        (
+            b"par { work 1 seq { work 2 work 3 work 4 } work 5 work 6 }",
+            b"((.|((.;.);.))|(.|.))",
+        ),
+    ];
+    for (text, spelled) in jobs {
+        let Ok(job) = read_job(rt.alloc(), text) else {
+            panic!(rt; "{text:?}");
+        };
+        let mut read = Vec::new(rt.alloc());
+        if let Some(shape) = job.shape() {
+            spell(shape, &mut read)?;
+        }
+        assert_eq!(rt; read.as_slice(), spelled);
+    }
     Ok(())
 }
 

@@ -1,21 +1,46 @@
 //! Texts as tokens.
 ghost use Rattle.std.specs.Prelude.{◌≡◌, ◌<◌, ◌≤◌, ◌∷◌, [], false, length, take, drop, slice_get, IfSome, IfNone};
-ghost use Rattle.batchrun.specs.Tokens.{is_blank, tokens, split};
+ghost use Rattle.batchrun.specs.Tokens.{is_blank, is_brace, tokens, split};
 
-/// How many bytes the token has that the text begins with.
-fn token_len(text: &[u8]) -> usize
+/// Whether a byte is a blank.
+fn is_blank(byte: u8) -> bool
+    ensures { result ≡ is_blank byte }
+{
+    matches!(byte, b'\t' | b'\n' | b'\r' | b' ')
+}
+
+/// Whether a byte is a brace.
+fn is_brace(byte: u8) -> bool
+    ensures { result ≡ is_brace byte }
+{
+    matches!(byte, b'{' | b'}')
+}
+
+/// How many bytes stand before the text's first blank or brace.
+fn word_len(text: &[u8]) -> usize
     ensures within { result ≤ length text.now }
     ensures token { take result text.now ≡ (split text.now).0 }
     ensures rest { tokens (drop result text.now) ≡ (split text.now).1 }
 {
     let mut len = 0;
     for byte in text {
-        if matches!(*byte, b'\t' | b'\n' | b'\r' | b' ') {
+        if is_blank(*byte) || is_brace(*byte) {
             return len;
         }
         len += 1;
     }
     len
+}
+
+/// How many bytes the token has that the text begins with.
+fn token_len(text: &[u8]) -> usize
+    requires starts { IfSome (slice_get text.now 0) (λ byte. is_blank byte ≡ false) }
+    requires some { 0 < length text.now }
+    ensures within { result ≤ length text.now }
+    ensures some { 0 < result }
+    ensures token { tokens text.now ≡ take result text.now ∷ tokens (drop result text.now) }
+{
+    if is_brace(text[0]) { 1 } else { word_len(text) }
 }
 
 /// The text without the blanks that it begins with.
@@ -26,7 +51,7 @@ fn skip_blanks(text: &[u8]) -> &[u8]
 {
     let mut blanks = 0;
     for byte in text {
-        if !matches!(*byte, b'\t' | b'\n' | b'\r' | b' ') {
+        if !is_blank(*byte) {
             return &text[blanks..];
         }
         blanks += 1;

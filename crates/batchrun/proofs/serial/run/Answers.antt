@@ -1,6 +1,6 @@
-use Rattle.std.proofs.Common.{◌<◌, length, refl, ap, ◌∙◌, arith, get_or}
+use Rattle.std.proofs.Common.{◌<◌, length, refl, get_or}
 use Rattle.seq_objects.specs.declared.act.Act.TheVariants.{Work}
-use Rattle.batchrun.proofs.SerialRun.{serial_lawful, next_history, next_book, next_rows, last_book, last_rows}
+use Rattle.batchrun.proofs.SerialRun.{serial_lawful, next_history, last_book, last_rows}
 use Rattle.batchrun.proofs.serial.run.Goals as goal
 
 pub run_leaf-requires-clause-history : goal.run_leaf-requires-clause-history

@@ -1,4 +1,4 @@
-use Rattle.std.proofs.Common.{◌≡◌, Some, subst, sym, ap, ◌∙◌, rules}
+use Rattle.std.proofs.Common.{◌≡◌, subst, rules}
 use Rattle.batchrun.specs.Words.{Command, step, file_of, workers_of}
 use Rattle.batchrun.specs.Outcomes.{IsAssured}
 use Rattle.batchrun.proofs.Ends.{is_assured}

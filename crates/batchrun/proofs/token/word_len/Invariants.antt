@@ -1,6 +1,6 @@
 use Rattle.std.proofs.Common.{◌≡◌, take, drop, ◌++◌}
 use Rattle.batchrun.specs.Tokens.{split}
-use Rattle.batchrun.proofs.token.token_len.Given as goal
+use Rattle.batchrun.proofs.token.word_len.Given as goal
 
 -- the bytes so far begin the token
 abbrev pub invariant-loop-byte : goal.invariant-loop-byte

@@ -1,5 +1,5 @@
 //! The pieces of a job's text.
-ghost use Rattle.std.specs.Prelude.{◌≡◌, ◌≢◌, ◌<◌, ◌≤◌, ◌^◌, [], ◌∷◌, ◌++◌, ℕ, List, codes, length, MatchOption, IfSome, IfNone};
+ghost use Rattle.std.specs.Prelude.{◌≡◌, ◌<◌, ◌≤◌, ◌^◌, [], ◌∷◌, ◌++◌, ℕ, List, codes, length, MatchOption, IfSome, IfNone};
 ghost use Rattle.batchrun.specs.Tokens.{tokens};
 ghost use Rattle.batchrun.specs.Grammar.{act_tokens, number_of, head_tokens};
 ghost use Rattle.batchrun.specs.Steps.{piece_tokens, IsSmall};

@@ -1,0 +1,12 @@
+pub mod Puts
+pub mod Holders
+pub mod TaskFrames
+pub mod NodeSteps
+pub mod ClaimTasks
+pub mod OpenTasks
+pub mod FinishTasks
+pub mod RootTasks
+pub mod TickSteps
+pub mod ClaimKeeps
+pub mod LeafKeeps
+pub mod ValueKeeps

@@ -10,3 +10,7 @@ pub mod TickSteps
 pub mod ClaimKeeps
 pub mod LeafKeeps
 pub mod ValueKeeps
+pub mod JobKeeps
+pub mod OpenKeeps
+pub mod ArriveKeeps
+pub mod FinishKeeps

@@ -14,3 +14,4 @@ pub mod JobKeeps
 pub mod OpenKeeps
 pub mod ArriveKeeps
 pub mod FinishKeeps
+pub mod GateKeeps

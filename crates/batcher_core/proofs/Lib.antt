@@ -1,3 +1,5 @@
+pub mod EntryLists
+pub mod Books
 pub mod Puts
 pub mod Holders
 pub mod TaskFrames

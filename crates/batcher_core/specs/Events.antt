@@ -129,18 +129,23 @@ abbrev pub answered : Option Hold → ℕ → Option Hold
 answered None u = None
 answered (Some h) u = Some (record h { answered = put h.answered u true })
 
--- the entry is for the call of a worker that the hold has taken
-pub record IsTakenCall (job : CoreJob) (s : State) (h : Hold) (entry : Entry) : Type 0 where
-  pub took : h.took entry.worker ≡ true
+-- the worker's call was taken by the hold
+abbrev pub has_taken : Option Hold → ℕ → Bool
+has_taken None w = false
+has_taken (Some h) w = h.took w
+
+-- the entry is for the call of a worker whose call is taken
+pub record IsTakenCall (job : CoreJob) (s : State) (entry : Entry) : Type 0 where
+  pub took : has_taken s.hold entry.worker ≡ true
   pub node : ℕ
   pub started : HasStarted job s entry.worker node entry.leaf
   pub operation : op_of job s.book entry.leaf ≡ Some entry.op
 
--- the batch has the calls that the hold has taken, each once, in batch order, with their replies
-pub record IsBatchOf (job : CoreJob) (s : State) (h : Hold) (batch : List Entry) : Type 0 where
+-- the batch has the calls that are taken, each once, in batch order, with the replies that serving them gives
+pub record IsBatchOf (job : CoreJob) (s : State) (batch : List Entry) : Type 0 where
   pub is_batch : IsBatch batch
-  pub only : AllByRecursion (IsTakenCall job s h) batch
-  pub each : (w : ℕ) → h.took w ≡ true → Contains (map (λ entry. entry.worker) batch) w
+  pub only : AllByRecursion (IsTakenCall job s) batch
+  pub each : (w : ℕ) → has_taken s.hold w ≡ true → Contains (map (λ entry. entry.worker) batch) w
   pub replies : IsLegalFrom s.objects batch
 
 -- What an event of worker w makes of a state, row by row.
@@ -156,7 +161,7 @@ Does job s w Win new = new ≡ record s { hold = Some (new_hold w) }
 Does job s w (Take u) new =
     new ≡ record s { status = if is_pending (s.status u) then put s.status u Executing else s.status; hold = looked s.hold (is_pending (s.status u)) u }
 Does job s w Publish new =
-    (h : Hold) × Holds s w h × (batch : List Entry) × IsBatchOf job s h batch
+    (batch : List Entry) × IsBatchOf job s batch
     × (new ≡ record s { book = s.book ++ batch ∷ []; objects = served s.objects batch; hold = published s.hold })
 Does job s w (Answer u receipt) new = new ≡ record s { status = put s.status u (Served receipt); hold = answered s.hold u }
 Does job s w Release new = new ≡ record s { hold = None }

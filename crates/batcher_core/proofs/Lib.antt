@@ -17,3 +17,5 @@ pub mod OpenKeeps
 pub mod ArriveKeeps
 pub mod FinishKeeps
 pub mod GateKeeps
+pub mod BatchFacts
+pub mod PublishKeeps

@@ -19,3 +19,5 @@ pub mod FinishKeeps
 pub mod GateKeeps
 pub mod BatchFacts
 pub mod PublishKeeps
+pub mod Written
+pub mod Ends

@@ -16,3 +16,4 @@ pub mod KeptNodes
 pub mod KeptTicks
 pub mod KeptBook
 pub mod KeptParts
+pub mod Shown

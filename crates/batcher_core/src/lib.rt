@@ -6,11 +6,20 @@
 #![tactic(auto)]
 
 pub mod event;
+mod lists;
+mod opens;
 pub mod progress;
+pub mod spun;
 pub mod status;
+mod steps;
+pub mod table;
 pub mod task;
+pub mod turn;
 
 pub use event::Event;
 pub use progress::Progress;
+pub use spun::Spun;
 pub use status::{CallState, Receipt, Status};
+pub use table::Table;
 pub use task::Task;
+pub use turn::Turn;

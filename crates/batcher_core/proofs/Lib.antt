@@ -19,3 +19,6 @@ pub mod FinishKeeps
 pub mod GateKeeps
 pub mod BatchFacts
 pub mod PublishKeeps
+pub mod ChoiceSearch
+pub mod ChoiceTasks
+pub mod ChoiceGate

@@ -16,3 +16,5 @@ pub mod KeptNodes
 pub mod KeptTicks
 pub mod KeptBook
 pub mod KeptParts
+pub mod KeptLists
+pub mod Runs

@@ -25,3 +25,4 @@ pub mod NodesStand
 pub mod TicksStand
 pub mod PartsStand
 pub mod ListKeeps
+pub mod Reached

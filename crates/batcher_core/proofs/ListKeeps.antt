@@ -1,5 +1,5 @@
 -- Each event keeps the lists of ready nodes.
-use Rattle.std.proofs.Common.{ℕ, ◌≡◌, ◌≢◌, ◌+◌, ◌==◌, true, if◌then◌else◌, Option, Some, None, List, [], ◌∷◌, ◌++◌, arith, refl, subst, sym, ◌∙◌, ap}
+use Rattle.std.proofs.Common.{ℕ, ◌≡◌, ◌≢◌, ◌<◌, ◌+◌, ◌==◌, true, if◌then◌else◌, Option, Some, None, List, [], ◌∷◌, ◌++◌, arith, refl, subst, sym, ◌∙◌, ap}
 use Rattle.batcher_core.specs.Lists.{without, times, ready_after, ListsFit}
 use Rattle.batcher_core.specs.KeptLists.{stands_in, ListsKept}
 use Rattle.batcher_core.specs.State.{opening_core}
@@ -36,50 +36,54 @@ times_without_other n m [] other = refl
 times_without_other n m (x ∷ xs) other = left_in n m x xs other (times_without_other n m xs other)
 
 -- a node that w makes ready goes to the newest end of its list
-open_lists : (node : ℕ → Progress) (ready : ℕ → List ℕ) (w n : ℕ) → ListsKept node ready → node n ≡ Waiting → ListsKept (put node n Ready) (put ready w (ready w ++ n ∷ []))
-open_lists node ready w n h waits = record {
+open_lists : (workers : ℕ) (node : ℕ → Progress) (ready : ℕ → List ℕ) (w n : ℕ) → ListsKept workers node ready → w < workers → node n ≡ Waiting → ListsKept workers (put node n Ready) (put ready w (ready w ++ n ∷ []))
+open_lists workers node ready w n h below waits = record {
   home = put h.home n (Some w);
   homes = λ m e. grind (arith, nat_tests, h.homes m);
+  among = λ m v e. grind (arith, nat_tests, h.among m v);
   stands = λ v m. grind (arith, nat_tests, h.stands v m, h.stands w m, times_append m (ready w) (n ∷ []));
 }
 
 -- a claimed node leaves the list that it stands in
-claim_lists : (node : ℕ → Progress) (ready : ℕ → List ℕ) (n : ℕ) → ListsKept node ready → ListsKept (put node n Taken) (λ v. without n (ready v))
-claim_lists node ready n h = record {
+claim_lists : (workers : ℕ) (node : ℕ → Progress) (ready : ℕ → List ℕ) (n : ℕ) → ListsKept workers node ready → ListsKept workers (put node n Taken) (λ v. without n (ready v))
+claim_lists workers node ready n h = record {
   home = h.home;
   homes = λ m e. grind (arith, nat_tests, h.homes m);
+  among = h.among;
   stands = λ v m. grind (arith, nat_tests, h.stands v m, times_without n (ready v), times_without_other n m (ready v));
 }
 
 -- a taken node is done
-finish_lists : (node : ℕ → Progress) (ready : ℕ → List ℕ) (n : ℕ) (x : Progress) → ListsKept node ready → node n ≡ Taken → is_done x ≡ true → ListsKept (put node n x) ready
-finish_lists node ready n x h taken done = record {
+finish_lists : (workers : ℕ) (node : ℕ → Progress) (ready : ℕ → List ℕ) (n : ℕ) (x : Progress) → ListsKept workers node ready → node n ≡ Taken → is_done x ≡ true → ListsKept workers (put node n x) ready
+finish_lists workers node ready n x h taken done = record {
   home = h.home;
   homes = λ m e. grind (arith, nat_tests, h.homes m);
+  among = h.among;
   stands = λ v m. grind (arith, nat_tests, h.stands v m);
 }
 
-pub opening_lists : ListsKept (opening_core.state.node) (opening_core.ready)
+pub opening_lists : (workers : ℕ) → 0 < workers → ListsKept workers (opening_core.state.node) (opening_core.ready)
 unfolding opening_core opening_state
-opening_lists = record {
+opening_lists workers some = record {
   home = λ n. Some 0;
   homes = λ n e none. cc;
+  among = λ n w e. let f : 0 ≡ w = cc in rw (← f) some;
   stands = λ w n. grind (arith, nat_tests);
 }
 
-module _ (job : CoreJob) (s : State) (w : ℕ) (ready : ℕ → List ℕ) (laws : IsPlan job.plan) (h : PartsKept job s) (lists : ListsKept s.node ready) where
+module _ (job : CoreJob) (s : State) (w : ℕ) (ready : ℕ → List ℕ) (laws : IsPlan job.plan) (h : PartsKept job s) (below : w < job.workers) (lists : ListsKept job.workers s.node ready) where
 
   says : (t : Task) → s.task w ≡ t → TaskFits job.plan s.node s.mark t
   says t mine = rw mine at (h.tasks.fits w)
 
-  open_par_right : (p l r : ℕ) → Needs job s w (OpenParRight p l r) → ListsKept (put s.node r Ready) (put ready w (ready w ++ r ∷ []))
-  open_par_right p l r needs = open_lists s.node ready w r lists ((says (Run p) needs.1).1 r (ap parent_of (laws.right_of_par p l r needs.2)))
+  open_par_right : (p l r : ℕ) → Needs job s w (OpenParRight p l r) → ListsKept job.workers (put s.node r Ready) (put ready w (ready w ++ r ∷ []))
+  open_par_right p l r needs = open_lists job.workers s.node ready w r lists below ((says (Run p) needs.1).1 r (ap parent_of (laws.right_of_par p l r needs.2)))
 
   half_left : (p l r : ℕ) → s.task w ≡ Half p → job.plan.kind p ≡ Some (ParNode l r) → s.node l ≡ Waiting
   half_left p l r mine kind = let fits = says (Half p) mine in grind arith
 
-  open_seq_left : (p l r : ℕ) → Needs job s w (OpenSeqLeft p l r) → ListsKept (put s.node l Ready) (put ready w (ready w ++ l ∷ []))
-  open_seq_left p l r needs = open_lists s.node ready w l lists ((says (Run p) needs.1).1 l (ap parent_of (laws.left_of_seq p l r needs.2)))
+  open_seq_left : (p l r : ℕ) → Needs job s w (OpenSeqLeft p l r) → ListsKept job.workers (put s.node l Ready) (put ready w (ready w ++ l ∷ []))
+  open_seq_left p l r needs = open_lists job.workers s.node ready w l lists below ((says (Run p) needs.1).1 l (ap parent_of (laws.left_of_seq p l r needs.2)))
 
   whole_right : (p l r : ℕ) → s.task w ≡ Whole l → job.plan.kind p ≡ Some (SeqNode l r) → s.node r ≡ Waiting
   whole_right p l r mine kind =
@@ -95,15 +99,15 @@ module _ (job : CoreJob) (s : State) (w : ℕ) (ready : ℕ → List ℕ) (laws 
 
   -- the lists after an event
   abbrev Keeps : Event → State → Type 0
-  Keeps event new = ListsKept new.node (ready_after w event ready)
+  Keeps event new = ListsKept job.workers new.node (ready_after w event ready)
 
   pub lists_after : (event : Event) (new : State) → Needs job s w event → Does job s w event new → Keeps event new
-  lists_after (Claim n) new needs does = subst (Keeps (Claim n)) (sym does) (claim_lists s.node ready n lists)
+  lists_after (Claim n) new needs does = subst (Keeps (Claim n)) (sym does) (claim_lists job.workers s.node ready n lists)
   lists_after (Start n) new needs does = subst (Keeps (Start n)) (sym does) lists
   lists_after (OpenParRight p l r) new needs does = subst (Keeps (OpenParRight p l r)) (sym does) (open_par_right p l r needs)
-  lists_after (OpenParLeft p l r) new needs does = subst (Keeps (OpenParLeft p l r)) (sym does) (open_lists s.node ready w l lists (half_left p l r needs.1 needs.2))
+  lists_after (OpenParLeft p l r) new needs does = subst (Keeps (OpenParLeft p l r)) (sym does) (open_lists job.workers s.node ready w l lists below (half_left p l r needs.1 needs.2))
   lists_after (OpenSeqLeft p l r) new needs does = subst (Keeps (OpenSeqLeft p l r)) (sym does) (open_seq_left p l r needs)
-  lists_after (OpenSeqRight p l r) new needs does = subst (Keeps (OpenSeqRight p l r)) (sym does) (open_lists s.node ready w r lists (whole_right p l r needs.1 needs.2))
+  lists_after (OpenSeqRight p l r) new needs does = subst (Keeps (OpenSeqRight p l r)) (sym does) (open_lists job.workers s.node ready w r lists below (whole_right p l r needs.1 needs.2))
   lists_after (Post n t) new needs does = subst (Keeps (Post n t)) (sym does) lists
   lists_after Win new needs does = subst (Keeps Win) (sym does) lists
   lists_after (Take u) new needs does = subst (Keeps (Take u)) (sym does) lists
@@ -113,9 +117,9 @@ module _ (job : CoreJob) (s : State) (w : ℕ) (ready : ℕ → List ℕ) (laws 
   lists_after (Leave r) new needs does = subst (Keeps (Leave r)) (sym does) lists
   lists_after (Keep n t v) new needs does = subst (Keeps (Keep n t v)) (sym does) lists
   lists_after (End n t) new needs does = subst (Keeps (End n t)) (sym does) lists
-  lists_after (FinishLeaf n t e) new needs does = subst (Keeps (FinishLeaf n t e)) (sym does) (finish_lists s.node ready n (Ran w t e) lists (says (Ended n t e) needs.1).1 refl)
-  lists_after (FinishSeq p l r) new needs does = subst (Keeps (FinishSeq p l r)) (sym does) (finish_lists s.node ready p Done lists (whole_above p l r needs.1 needs.2) refl)
-  lists_after (FinishPar p l r) new needs does = subst (Keeps (FinishPar p l r)) (sym does) (finish_lists s.node ready p Done lists (says (Handed p) needs.1).3 refl)
+  lists_after (FinishLeaf n t e) new needs does = subst (Keeps (FinishLeaf n t e)) (sym does) (finish_lists job.workers s.node ready n (Ran w t e) lists (says (Ended n t e) needs.1).1 refl)
+  lists_after (FinishSeq p l r) new needs does = subst (Keeps (FinishSeq p l r)) (sym does) (finish_lists job.workers s.node ready p Done lists (whole_above p l r needs.1 needs.2) refl)
+  lists_after (FinishPar p l r) new needs does = subst (Keeps (FinishPar p l r)) (sym does) (finish_lists job.workers s.node ready p Done lists (says (Handed p) needs.1).3 refl)
   lists_after (ArriveFirst p l r n) new needs does = subst (Keeps (ArriveFirst p l r n)) (sym does) lists
   lists_after (ArriveSecond p l r n) new needs does = subst (Keeps (ArriveSecond p l r n)) (sym does) lists
 
@@ -130,13 +134,13 @@ at_home : (x : Progress) (w : ℕ) → x ≡ Ready → (stands_in x (Some w) w �
 at_home x w ready = (grind (arith, nat_tests), λ v other. grind (arith, nat_tests))
 
 -- what is carried of the lists implies what the invariant says of them
-pub lists_fit : (node : ℕ → Progress) (ready : ℕ → List ℕ) → ListsKept node ready → ListsFit node ready
-lists_fit node ready h = record {
+pub lists_fit : (workers : ℕ) (node : ℕ → Progress) (ready : ℕ → List ℕ) → ListsKept workers node ready → ListsFit workers node ready
+lists_fit workers node ready h = record {
   each = λ n e. one n e (h.home n) refl;
   only = λ n w some. is_ready (node n) (h.home n) w (λ z. some (h.stands w n ∙ z));
 } where
-  one : (n : ℕ) → node n ≡ Ready → (o : Option ℕ) → h.home n ≡ o → (w : ℕ) × (times n (ready w) ≡ 1) × ((v : ℕ) → v ≢ w → times n (ready v) ≡ 0)
+  one : (n : ℕ) → node n ≡ Ready → (o : Option ℕ) → h.home n ≡ o → (w : ℕ) × (w < workers) × (times n (ready w) ≡ 1) × ((v : ℕ) → v ≢ w → times n (ready v) ≡ 0)
   one n e None at = absurd (h.homes n e at)
   one n e (Some w) at =
     let there = at_home (node n) w e in
-    (w, h.stands w n ∙ (rw at there.0), λ v other. h.stands v n ∙ (rw at (there.1 v other)))
+    (w, h.among n w at, h.stands w n ∙ (rw at there.0), λ v other. h.stands v n ∙ (rw at (there.1 v other)))

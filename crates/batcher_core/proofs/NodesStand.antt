@@ -27,6 +27,7 @@ nodes_stand plan node h = record {
   below_done = λ p n below done. under_done node h below.2 (h.below_done p below.0 below.1 done);
   leaf_ran = λ n leaf. h.leaf_ran n leaf.0 leaf.1;
   ran_leaf = h.ran_leaf;
+  outside = h.outside;
 }
 
 -- of a done node a task can only be whole

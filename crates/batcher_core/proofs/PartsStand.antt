@@ -216,6 +216,10 @@ values_stand job s h = record {
     (is.0, h.values n leaf kind valued ∙ is.1, is.2);
 }
 
+-- an idle worker is free, and has made no call
+idle_row : (job : CoreJob) (book : List (List Entry)) (t : Task) (st : Status) (c : CallState) (b : Bool) → t ≡ Idle → StatusFits job book t st c b → (st ≡ Free) × (c ≡ NotCalled)
+idle_row job book t st c b idle h = grind arith
+
 -- All parts.
 pub parts_stand : (job : CoreJob) (s : State) → PartsKept job s → Parts job s
 parts_stand job s h = record {
@@ -227,4 +231,5 @@ parts_stand job s h = record {
   book = book_stands job s h;
   members = members_stand job s h;
   values = values_stand job s h;
+  beyond = λ w far. let idle = h.beyond w far in let row = idle_row job s.book (s.task w) (s.status w) (s.call w) (is_taken_by s.hold w) idle (h.statuses w) in (idle, row.0, row.1);
 }

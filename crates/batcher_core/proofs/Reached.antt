@@ -1,5 +1,5 @@
 -- Each state that can be reached has the invariant.
-use Rattle.std.proofs.Common.{◌≢◌, ℕ, None, sym, subst}
+use Rattle.std.proofs.Common.{◌≢◌, ◌<◌, ℕ, None, sym, subst}
 use Rattle.sp_order.specs.declared.node.Move.TheVariants.{Root}
 use Rattle.sp_order.specs.Precedence.{Tree, leaf, seq, par}
 use Rattle.sp_order.specs.Plans.{Nodes, IsPlan}
@@ -27,24 +27,24 @@ has_root plan tree h = has_top plan tree h.stands
 -- what is carried of a state and of its lists
 record Carried (job : CoreJob) (s : CoreState) : Type 0 where
   parts : PartsKept job s.state
-  lists : ListsKept s.state.node s.ready
+  lists : ListsKept job.workers s.state.node s.ready
 
-opening_carried : (job : CoreJob) → IsPlan job.plan → job.plan.kind 0 ≢ None → Carried job opening_core
+opening_carried : (job : CoreJob) → IsPlan job.plan → job.plan.kind 0 ≢ None → 0 < job.workers → Carried job opening_core
 unfolding opening_core
-opening_carried job laws root = record { parts = opening_kept job laws root; lists = opening_lists }
+opening_carried job laws root some = record { parts = opening_kept job laws root; lists = opening_lists job.workers some }
 
 event_carried : (job : CoreJob) (old new : CoreState) (w : ℕ) (kind : EventKind) → IsPlan job.plan → Carried job old → IsCoreEvent job old w kind new → Carried job new
 event_carried job old new w kind laws h step = record {
   parts = event_keeps job old.state new.state w step.event laws h.parts step.happens;
-  lists = subst (ListsKept new.state.node) (sym step.lists)
-    (lists_after job old.state w old.ready laws h.parts h.lists step.event new.state step.happens.needs step.happens.does);
+  lists = subst (ListsKept job.workers new.state.node) (sym step.lists)
+    (lists_after job old.state w old.ready laws h.parts step.happens.worker_in h.lists step.event new.state step.happens.needs step.happens.does);
 }
 
-reached_carried : (job : CoreJob) (s : CoreState) → IsPlan job.plan → job.plan.kind 0 ≢ None → IsReached job s → Carried job s
-reached_carried job s laws root at_opening = opening_carried job laws root
-reached_carried job s laws root (by_event {old = old} {new = new} {worker = w} {kind = kind} before step) = event_carried job old new w kind laws (reached_carried job old laws root before) step
+reached_carried : (job : CoreJob) (s : CoreState) → IsPlan job.plan → job.plan.kind 0 ≢ None → 0 < job.workers → IsReached job s → Carried job s
+reached_carried job s laws root some at_opening = opening_carried job laws root some
+reached_carried job s laws root some (by_event {old = old} {new = new} {worker = w} {kind = kind} before step) = event_carried job old new w kind laws (reached_carried job old laws root some before) step
 
-pub reached_invariant : (job : CoreJob) (s : CoreState) → IsPlan job.plan → job.plan.kind 0 ≢ None → IsReached job s → Invariant job s
-reached_invariant job s laws root reached =
-    let h : Carried job s = reached_carried job s laws root reached in
-    record { parts = parts_stand job s.state h.parts; lists = lists_fit s.state.node s.ready h.lists }
+pub reached_invariant : (job : CoreJob) (s : CoreState) → IsPlan job.plan → job.plan.kind 0 ≢ None → 0 < job.workers → IsReached job s → Invariant job s
+reached_invariant job s laws root some reached =
+    let h : Carried job s = reached_carried job s laws root some reached in
+    record { parts = parts_stand job s.state h.parts; lists = lists_fit job.workers s.state.node s.ready h.lists }

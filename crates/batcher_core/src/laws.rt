@@ -39,22 +39,22 @@ pub fn carried_parts_hold()
 
 /// The opening lists have what the proofs carry.
 pub fn opening_has_lists()
-    ensures { ListsKept opening_core.state.node opening_core.ready }
+    ensures { (workers : ℕ) → 0 < workers → ListsKept workers opening_core.state.node opening_core.ready }
 {}
 
 /// Each event of a worker keeps it.
 pub fn event_keeps_lists()
-    ensures { (job : CoreJob) (old new : State) (worker : ℕ) (event : Event) (ready : ℕ → List ℕ) → IsPlan job.plan → PartsKept job old → ListsKept old.node ready → Happens job old worker event new → ListsKept new.node (ready_after worker event ready) }
+    ensures { (job : CoreJob) (old new : State) (worker : ℕ) (event : Event) (ready : ℕ → List ℕ) → IsPlan job.plan → PartsKept job old → ListsKept job.workers old.node ready → Happens job old worker event new → ListsKept job.workers new.node (ready_after worker event ready) }
 {}
 
 /// What the proofs carry of the lists implies what the invariant says of them.
 pub fn carried_lists_hold()
-    ensures { (node : ℕ → Progress) (ready : ℕ → List ℕ) → ListsKept node ready → ListsFit node ready }
+    ensures { (workers : ℕ) (node : ℕ → Progress) (ready : ℕ → List ℕ) → ListsKept workers node ready → ListsFit workers node ready }
 {}
 
 /// Each state that can be reached has the invariant.
 pub fn reached_has_invariant()
-    ensures { (tree : Tree) (acts : List Act) (workers : ℕ) (state : CoreState) → IsReached (core_job tree acts workers) state → Invariant (core_job tree acts workers) state }
+    ensures { (tree : Tree) (acts : List Act) (workers : ℕ) (state : CoreState) → 0 < workers → IsReached (core_job tree acts workers) state → Invariant (core_job tree acts workers) state }
 {
     plan_stands_for_tree();
     plan_has_sides();

@@ -19,6 +19,13 @@ pub mod FinishKeeps
 pub mod GateKeeps
 pub mod BatchFacts
 pub mod PublishKeeps
+pub mod EventKeeps
+pub mod OpeningKept
+pub mod NodesStand
+pub mod TicksStand
+pub mod PartsStand
+pub mod ListKeeps
+pub mod Reached
 pub mod ChoiceSearch
 pub mod ChoiceTasks
 pub mod ChoiceGate

@@ -1,11 +1,16 @@
--- The runs of a job, step by step, and the run of a schedule.
+-- The states that a core can reach, the runs that reach them, and the run of a schedule.
 use Rattle.std.specs.Prelude.{ℕ, ◌≡◌, ◌+◌, ◌%◌, true, false, Option, None, Some, List, [], ◌∷◌}
 use Rattle.batcher_core.specs.declared.event.Event.{Event}
 use Rattle.batcher_core.specs.State.{CoreJob, CoreState, opening_core}
 use Rattle.batcher_core.specs.Tasks.{is_done}
 use Rattle.batcher_core.specs.Lists.{ready_after}
-use Rattle.batcher_core.specs.Events.{Happens}
+use Rattle.batcher_core.specs.Events.{EventKind, IsCoreEvent, Happens}
 use Rattle.batcher_core.specs.Choice.{choice}
+
+-- the opening state, and each that an event takes a reached state to
+pub data IsReached (job : CoreJob) : CoreState → Type 0 where
+  at_opening : IsReached job opening_core
+  by_event : {old new : CoreState} {worker : ℕ} {kind : EventKind} → IsReached job old → IsCoreEvent job old worker kind new → IsReached job new
 
 -- this event of a worker takes the old state to the new one, with its lists
 pub record IsStep (job : CoreJob) (old : CoreState) (worker : ℕ) (event : Event) (new : CoreState) : Type 0 where

@@ -6,6 +6,7 @@
 #![tactic(auto)]
 
 pub mod event;
+pub mod laws;
 pub mod progress;
 pub mod status;
 pub mod task;

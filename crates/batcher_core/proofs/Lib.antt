@@ -29,3 +29,5 @@ pub mod Reached
 pub mod ChoiceSearch
 pub mod ChoiceTasks
 pub mod ChoiceGate
+pub mod ChoiceIdle
+pub mod Choices

@@ -1,5 +1,5 @@
 -- Where entries stand in a book, and what a longer book is.
-use Rattle.std.proofs.Common.{ℕ, ◌≡◌, ◌≢◌, ◌+◌, ◌==◌, Bool, true, false, if◌then◌else◌, Option, Some, None, List, [], ◌∷◌, ◌++◌, length, arith, refl, inl, inr, subst, sym, ◌∙◌, ap, add-zero, zero-add}
+use Rattle.std.proofs.Common.{ℕ, ◌≡◌, ◌≢◌, ◌+◌, ◌==◌, Bool, true, false, if◌then◌else◌, Option, Some, None, List, [], ◌⊎◌, inl, inr, ◌∷◌, ◌++◌, length, arith, refl, inl, inr, subst, sym, ◌∙◌, ap, add-zero, zero-add}
 use Rattle.std.proofs.Common.{append-nil, append_assoc}
 use Rattle.seq_objects.specs.Objects.{Objects, after}
 use Rattle.std.specs.List.{AllByRecursion}
@@ -102,3 +102,25 @@ served_append o (x ∷ xs) ys = served_append (after o x.op) xs ys
 pub legal_append : (o : Objects) (xs ys : List Entry) → IsLegalFrom o xs → IsLegalFrom (served o xs) ys → IsLegalFrom o (xs ++ ys)
 legal_append o [] ys h g = g
 legal_append o (x ∷ xs) ys h g = (h.0, legal_append (after o x.op) xs ys h.1 g)
+
+each_front : (P : Entry → Type 0) (xs ys : List Entry) → AllByRecursion P (xs ++ ys) → AllByRecursion P xs × AllByRecursion P ys
+each_front P [] ys h = (tt, h)
+each_front P (x ∷ xs) ys h = let more = each_front P xs ys h.1 in ((h.0, more.0), more.1)
+
+which_place : (p q : Option Place) (x : Place) → or_else p q ≡ Some x → (p ≡ Some x) ⊎ (q ≡ Some x)
+which_place (Some y) q x e = inl e
+which_place None q x e = inr e
+
+found_from : (P : Entry → Type 0) (k : ℕ) (bs : List (List Entry)) (u : ℕ) (p : Place) → AllByRecursion P (flat bs) → place_from k bs u ≡ Some p → P p.entry × (p.entry.leaf ≡ u)
+found_from P k [] u p h e = cc
+found_from P k (b ∷ bs) u p h e =
+    let both = each_front P b (flat bs) h in
+    elim (which_place (place_in k 0 b u) (place_from (k + 1) bs u) p e) [
+      | inl f ↦ found_entry P k 0 b u p both.0 f
+      | inr f ↦ found_from P (k + 1) bs u p both.1 f
+    ]
+
+-- what is found in a book is an entry of the leaf, of which holds what holds of each entry
+pub found_in_book : (P : Entry → Type 0) (bs : List (List Entry)) (u : ℕ) (p : Place) → AllByRecursion P (flat bs) → place_of bs u ≡ Some p → P p.entry × (p.entry.leaf ≡ u)
+unfolding place_of
+found_in_book P bs u p h e = found_from P 0 bs u p h e

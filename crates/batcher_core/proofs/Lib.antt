@@ -21,3 +21,15 @@ pub mod BatchFacts
 pub mod PublishKeeps
 pub mod Written
 pub mod Ends
+pub mod EventKeeps
+pub mod OpeningKept
+pub mod NodesStand
+pub mod TicksStand
+pub mod PartsStand
+pub mod ListKeeps
+pub mod Reached
+pub mod ChoiceSearch
+pub mod ChoiceTasks
+pub mod ChoiceGate
+pub mod ChoiceIdle
+pub mod Choices

@@ -122,10 +122,10 @@ still_due (Work steps) p q h = refl
 still_due (Call op) (Some p) q h = refl
 still_due (Call op) None q h = absurd (h (λ e. cc) refl)
 
-valued_is_booked : (x : Progress) (o : Option ℕ) (task : ℕ → Task) (status : ℕ → Status) (call : ℕ → CallState) (b : Bool) → valued_by x o task ≡ true → booked_by x o task status call b ≢ None
+pub valued_is_booked : (x : Progress) (o : Option ℕ) (task : ℕ → Task) (status : ℕ → Status) (call : ℕ → CallState) (b : Bool) → valued_by x o task ≡ true → booked_by x o task status call b ≢ None
 valued_is_booked x o task status call b valued none = grind arith
 
-there_if : (p : Option Place) (o : Option ℕ) → worker_at p ≡ o → o ≢ None → p ≢ None
+pub there_if : (p : Option Place) (o : Option ℕ) → worker_at p ≡ o → o ≢ None → p ≢ None
 there_if p o e there none = grind arith
 
 -- the parts after a batch is published

@@ -1,5 +1,5 @@
 -- What holds of the nodes, the tasks, the ticks and the values in each state that can be reached.
-use Rattle.std.specs.Prelude.{ℕ, ◌≡◌, ◌≢◌, ◌<◌, ◌+◌, ◌⊎◌, true, Some, List, Contains}
+use Rattle.std.specs.Prelude.{ℕ, ◌≡◌, ◌≢◌, ◌<◌, ◌+◌, ◌⊎◌, true, None, Some, List, Contains}
 use Rattle.seq_objects.specs.Objects.{value_of}
 use Rattle.seq_objects.specs.Spin.{spin_of}
 use Rattle.seq_objects.specs.declared.act.Act.{Act}
@@ -33,6 +33,8 @@ pub record NodesStand (plan : Nodes) (node : ℕ → Progress) : Type 0 where
   -- a done leaf has its worker, start and end, and no other node has them
   pub leaf_ran : (n : ℕ) → IsLeaf (plan.kind n) → node n ≢ Done
   pub ran_leaf : (n w s e : ℕ) → node n ≡ Ran w s e → IsLeaf (plan.kind n)
+  -- what is no node waits for ever
+  pub outside : (n : ℕ) → plan.kind n ≡ None → node n ≡ Waiting
 
 -- some task names the node
 abbrev pub IsNamed : (ℕ → Task) → ℕ → Type 0

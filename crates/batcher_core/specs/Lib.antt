@@ -1,6 +1,9 @@
 pub use Rattle.seq_objects.specs.Objects
 pub use Rattle.seq_objects.specs.Spin
+pub use Rattle.sp_order.specs.Precedence
 pub use Rattle.sp_order.specs.Plans
+pub use Rattle.sp_order.specs.Stands
+pub use Rattle.sp_order.specs.Preorder
 pub use Rattle.batch_history.specs.Pairs
 pub use Rattle.batch_history.specs.Book
 pub mod State
@@ -17,3 +20,6 @@ pub mod KeptTicks
 pub mod KeptBook
 pub mod KeptParts
 pub mod Shown
+pub mod KeptLists
+pub mod Choice
+pub mod Runs

@@ -1,5 +1,5 @@
 -- The lists of ready nodes of the workers, the oldest first.
-use Rattle.std.specs.Prelude.{ℕ, ◌≡◌, ◌≢◌, ◌+◌, ◌==◌, if◌then◌else◌, List, [], ◌∷◌, ◌++◌}
+use Rattle.std.specs.Prelude.{ℕ, ◌≡◌, ◌≢◌, ◌<◌, ◌+◌, ◌==◌, if◌then◌else◌, List, [], ◌∷◌, ◌++◌}
 use Rattle.batcher_core.specs.declared.progress.Progress.{Progress}
 use Rattle.batcher_core.specs.declared.progress.Progress.TheVariants.{Ready}
 use Rattle.batcher_core.specs.declared.event.Event.{Event}
@@ -26,7 +26,7 @@ ready_after w (OpenSeqLeft p l r) ready = put ready w (ready w ++ l ∷ [])
 ready_after w (OpenSeqRight p l r) ready = put ready w (ready w ++ r ∷ [])
 ready_after w event ready = ready
 
--- each ready node stands in the list of one worker, once, and in no other; and lists hold ready nodes only
-pub record ListsFit (node : ℕ → Progress) (ready : ℕ → List ℕ) : Type 0 where
-  pub each : (n : ℕ) → node n ≡ Ready → (w : ℕ) × (times n (ready w) ≡ 1) × ((v : ℕ) → v ≢ w → times n (ready v) ≡ 0)
+-- each ready node stands in the list of one of the workers, once, and in no other; and lists hold ready nodes only
+pub record ListsFit (workers : ℕ) (node : ℕ → Progress) (ready : ℕ → List ℕ) : Type 0 where
+  pub each : (n : ℕ) → node n ≡ Ready → (w : ℕ) × (w < workers) × (times n (ready w) ≡ 1) × ((v : ℕ) → v ≢ w → times n (ready v) ≡ 0)
   pub only : (n w : ℕ) → times n (ready w) ≢ 0 → node n ≡ Ready

@@ -1,8 +1,11 @@
 -- The state of the scheduler's core, as functions of the numbers of nodes and of workers.
-use Rattle.std.specs.Prelude.{ℕ, ◌==◌, Bool, if◌then◌else◌, Option, None, List, [], ◌∷◌}
+use Rattle.std.specs.Prelude.{slice_index_or, ℕ, ◌==◌, Bool, if◌then◌else◌, Option, None, List, [], ◌∷◌}
 use Rattle.seq_objects.specs.Objects as objects
 use Rattle.seq_objects.specs.declared.act.Act.{Act}
+use Rattle.seq_objects.specs.declared.act.Act.TheVariants.{Work}
+use Rattle.sp_order.specs.Precedence.{Tree}
 use Rattle.sp_order.specs.Plans.{Nodes}
+use Rattle.sp_order.specs.Preorder.{nodes_of}
 use Rattle.batch_history.specs.declared.batch.Entry.{Entry}
 use Rattle.batcher_core.specs.declared.progress.Progress.{Progress}
 use Rattle.batcher_core.specs.declared.progress.Progress.TheVariants.{Waiting, Ready}
@@ -22,6 +25,10 @@ pub record CoreJob : Type 0 where
   pub plan : Nodes
   pub act : ℕ → Act
   pub workers : ℕ
+
+-- the job of this tree, whose leaves do these acts
+abbrev pub core_job : Tree → List Act → ℕ → CoreJob
+core_job tree acts workers = record { plan = nodes_of tree; act = λ leaf. slice_index_or acts leaf (Work 0); workers = workers }
 
 -- what the worker that has the flag keeps: how many workers it has looked at, those whose calls it took, those
 -- that it has answered, and whether it has published

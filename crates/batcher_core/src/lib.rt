@@ -8,6 +8,7 @@
 pub mod event;
 mod lists;
 mod opens;
+pub mod laws;
 pub mod progress;
 pub mod spun;
 pub mod status;

@@ -21,6 +21,8 @@ pub mod BatchFacts
 pub mod PublishKeeps
 pub mod Written
 pub mod Ends
+pub mod Steals
+pub mod Works
 pub mod EventKeeps
 pub mod OpeningKept
 pub mod NodesStand

@@ -13,6 +13,8 @@ pub mod progress;
 pub mod spun;
 pub mod status;
 mod steps;
+mod apply;
+mod choose;
 pub mod table;
 pub mod task;
 pub mod turn;

@@ -66,3 +66,16 @@ pub dropped_after : (Z : Type 0) (old : ℕ → List ℕ) (xs : List (VecDeque �
 dropped_after Z old xs w q below after v more =
     let e = ap (λ (f : ℕ → List ℕ). f v) (queues_set Z xs w q below) in
     let a = after v in rw e (grind (arith, nat_tests, a))
+
+pub oldest_stands : (n : ℕ) (xs : List ℕ) → IsOldest n xs → times n xs ≢ 0
+oldest_stands n [] h none = absurd (omega (arith, h.0))
+oldest_stands n (x ∷ xs) h none = let e = h.1 in grind (arith, nat_tests, e, none, common_steps)
+
+newest_some : (n k : ℕ) (xs : List ℕ) → length xs ≡ k → 0 < k → get_or xs (k - 1) n ≡ n → times n xs ≢ 0
+newest_some n zero xs len some is none = absurd (omega (arith, some))
+newest_some n (suc k) xs len some is none =
+    let e : suc k - 1 ≡ k = omega arith in
+    let l = last_times n k xs len (rw e at is) in absurd (omega (arith, l, none))
+
+pub newest_stands : (n : ℕ) (xs : List ℕ) → IsNewest n xs → times n xs ≢ 0
+newest_stands n xs h = newest_some n (length xs) xs refl h.0 h.1

@@ -21,8 +21,12 @@ pub mod BatchFacts
 pub mod PublishKeeps
 pub mod Written
 pub mod Ends
+pub mod ClaimEnds
 pub mod Steals
 pub mod Works
+pub mod CoreFits
+pub mod LeavesIn
+pub mod TickRoom
 pub mod EventKeeps
 pub mod OpeningKept
 pub mod NodesStand
@@ -35,3 +39,6 @@ pub mod ChoiceTasks
 pub mod ChoiceGate
 pub mod ChoiceIdle
 pub mod Choices
+pub mod CoreEvents
+pub mod EventsIn
+pub mod Turning

@@ -3,6 +3,7 @@ pub use Rattle.seq_objects.specs.Spin
 pub use Rattle.sp_order.specs.Precedence
 pub use Rattle.sp_order.specs.Plans
 pub use Rattle.sp_order.specs.Stands
+pub use Rattle.sp_order.specs.TreeCode
 pub use Rattle.sp_order.specs.Preorder
 pub use Rattle.batch_history.specs.Pairs
 pub use Rattle.batch_history.specs.Book
@@ -24,3 +25,4 @@ pub mod KeptLists
 pub mod Choice
 pub mod Runs
 pub mod Looks
+pub mod Cores

@@ -13,12 +13,15 @@ pub mod progress;
 pub mod spun;
 pub mod status;
 mod steps;
+pub mod scheduler;
 mod apply;
 mod choose;
+
 pub mod table;
 pub mod task;
 pub mod turn;
 
+pub use scheduler::Core;
 pub use event::Event;
 pub use progress::Progress;
 pub use spun::Spun;

@@ -25,6 +25,7 @@ pub mod ClaimEnds
 pub mod Steals
 pub mod Works
 pub mod CoreFits
+pub mod Copies
 pub mod LeavesIn
 pub mod TickRoom
 pub mod EventKeeps
@@ -41,4 +42,5 @@ pub mod ChoiceIdle
 pub mod Choices
 pub mod CoreEvents
 pub mod EventsIn
+pub mod Starting
 pub mod Turning

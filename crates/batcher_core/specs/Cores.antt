@@ -1,5 +1,5 @@
 -- What contracts see of a core, what its table keeps to, and what its turns answer.
-use Rattle.std.specs.Prelude.{ℕ, ◌≡◌, ◌<◌, ◌≤◌, Bool, Option, None, Some, List, length}
+use Rattle.std.specs.Prelude.{ℕ, ◌≡◌, ◌<◌, ◌≤◌, ◌&&◌, not, Bool, Option, None, Some, List, length}
 use Rattle.seq_objects.specs.declared.act.Act.{Act}
 use Rattle.sp_order.specs.Precedence.{Tree}
 use Rattle.sp_order.specs.Plans.{IsPlan}
@@ -10,6 +10,7 @@ use Rattle.batcher_core.specs.declared.table.Table.{Table}
 use Rattle.batcher_core.specs.declared.turn.Turn.{Turn}
 use Rattle.batcher_core.specs.declared.turn.Turn.TheVariants.{Moved, Spin, Idle}
 use Rattle.batcher_core.specs.State.{CoreJob, CoreState, core_job}
+use Rattle.batcher_core.specs.Tasks.{is_done}
 use Rattle.batcher_core.specs.Events.{EventKind, IsCoreEvent}
 use Rattle.batcher_core.specs.KeptParts.{PartsKept}
 use Rattle.batcher_core.specs.KeptLists.{ListsKept}
@@ -36,6 +37,10 @@ state_in c = shown c.table
 -- how many steps of work are due of this worker
 abbrev pub due_in : Seen → ℕ → Option ℕ
 due_in c w = work_due (nodes_of c.tree) c.acts ((state_of c.table).task w)
+
+-- the root is done, and memory has not failed
+abbrev pub is_over_in : Seen → Bool
+is_over_in c = not c.spent && is_done ((state_of c.table).node 0)
 
 -- what the table of a core keeps to
 pub record Fits (tree : Tree) (acts : List Act) (workers : ℕ) (t : Table) : Type 0 where

@@ -7,6 +7,7 @@
 
 pub mod event;
 mod lists;
+mod opening;
 mod opens;
 pub mod laws;
 pub mod progress;

@@ -5,9 +5,10 @@ ghost use Rattle.batcher_core.specs.State.{opening_core};
 ghost use Rattle.batcher_core.specs.Tasks.{is_done as node_done};
 ghost use Rattle.batcher_core.specs.Choice.{choice};
 ghost use Rattle.batcher_core.specs.Looks.{AllWork};
-ghost use Rattle.batcher_core.specs.Cores.{job_in, state_in, due_in, turn_due, Makes};
+ghost use Rattle.batcher_core.specs.Cores.{job_in, state_in, due_in, turn_due, is_over_in, Makes};
 
 use seq_objects::Act;
+use sp_order::laws::{plan_has_sides, plan_stands_for_tree};
 use sp_order::{Job, Plan};
 use std::alloc::{AllocError, Global};
 use std::marker::Model;
@@ -51,6 +52,30 @@ fn value_of(spun: &Option<Spun>) -> u64
 }
 
 impl Core {
+    /// The core of this job, in its opening state. The job has leaves, and they all work: none of them calls.
+    pub fn start(alloc: Global, job: &Job, workers: u32) -> Result<Core, AllocError>
+        requires leaves { IsSome job.now.shape }
+        requires some_workers { 0 < workers }
+        requires few_workers { workers ≤ 32 }
+        requires works { AllWork job.now.acts }
+        ensures job { IfOk result (λ core. (Some core.tree ≡ job.now.shape) × (core.acts ≡ job.now.acts) × (core.workers ≡ workers)) }
+        ensures opening { IfOk result (λ core. (state_in core ≡ opening_core) × (core.spent ≡ false)) }
+    {
+        plan_stands_for_tree();
+        plan_has_sides();
+        let plan = Plan::of(alloc, job)?;
+        let mut acts = Vec::new(alloc);
+        acts.extend_from_slice(job.acts())?;
+        let table = Table::opening(alloc, plan.nodes(), workers)?;
+        Ok(Core {
+            plan,
+            acts,
+            workers,
+            table,
+            spent: false,
+        })
+    }
+
     /// One turn of this worker. If it has started a leaf of work, it answers how many steps are due, until it is
     /// given that work done; else what it is given is not looked at. After an `Err` the core is spent, and each
     /// later turn is an `Err`.
@@ -87,5 +112,12 @@ impl Core {
                 }
             }
         }
+    }
+
+    /// Whether the root is done, in a core that is not spent. It takes no memory.
+    pub fn is_over(&self) -> bool
+        ensures { result ≡ is_over_in self.now }
+    {
+        !self.spent && self.table.root_done()
     }
 }

@@ -3,6 +3,10 @@
 use crate::progress::Progress;
 use crate::status::{CallState, Status};
 use crate::task::Task;
+ghost use Rattle.std.specs.Prelude.{◌≡◌, ◌<◌, length};
+ghost use Rattle.batcher_core.specs.Shown.{state_of};
+ghost use Rattle.batcher_core.specs.Tasks.{is_done as node_done};
+
 use std::collections::VecDeque;
 
 /// The parts of a core's state. Nodes, marks and values go by the numbers of nodes, and the others by those of
@@ -25,4 +29,28 @@ pub struct Table {
     pub(crate) ready: Vec<VecDeque<u32>>,
     /// The tick that the next start or end of a leaf draws.
     pub(crate) tick: u64,
+}
+
+/// Whether a node with this progress is done.
+fn is_done(progress: Progress) -> bool
+    ensures { result ≡ node_done progress }
+{
+    match progress {
+        Progress::Waiting => false,
+        Progress::Ready => false,
+        Progress::Taken => false,
+        Progress::Done => true,
+        Progress::Ran(_, _, _) => true,
+    }
+}
+
+impl Table {
+    /// Whether the root is done.
+    #[tactic(auto, unfolding(crate::specs::Shown::state_of))]
+    pub(crate) fn root_done(&self) -> bool
+        requires { 0 < length self.now.nodes.items }
+        ensures { result ≡ node_done ((state_of self.now).node 0) }
+    {
+        is_done(self.nodes[0])
+    }
 }

@@ -68,7 +68,7 @@ none_idle job s w away free idle none (FinishPar p l r) needs = let f = needs.1 
 none_idle job s w away free idle none (ArriveFirst p l r n) needs = let f = needs.1 in cc
 none_idle job s w away free idle none (ArriveSecond p l r n) needs = let f = needs.1 in cc
 
-first_stands : (n m : ℕ) (ns : List ℕ) → n ≡ m → times n (m ∷ ns) ≢ 0
+pub first_stands : (n m : ℕ) (ns : List ℕ) → n ≡ m → times n (m ∷ ns) ≢ 0
 first_stands n m ns e none = grind (arith, nat_tests)
 
 later_stands : (n m : ℕ) (ns : List ℕ) → times n ns ≢ 0 → times n (m ∷ ns) ≢ 0

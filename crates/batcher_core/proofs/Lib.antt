@@ -31,3 +31,4 @@ pub mod ChoiceTasks
 pub mod ChoiceGate
 pub mod ChoiceIdle
 pub mod Choices
+pub mod ChoiceReady

@@ -19,7 +19,9 @@ ghost use Rattle.batcher_core.specs.KeptParts.{PartsKept};
 ghost use Rattle.batcher_core.specs.KeptLists.{ListsKept};
 ghost use Rattle.batcher_core.specs.Runs.{IsReached};
 
-use sp_order::laws::{before_is_by_series, leaf_has_one_node, plan_has_sides, plan_stands_for_tree};
+use sp_order::laws::{
+    before_is_by_series, leaf_has_one_node, plan_has_sides, plan_stands_for_tree,
+};
 
 /// Of a job with a root, the opening state has what the proofs carry.
 pub fn opening_has_parts()

@@ -1,6 +1,6 @@
 -- The node that a turn claims is the newest of the own list, or, where that is empty, the oldest of another one; and
 -- the claim takes it off at that end.
-use Rattle.std.proofs.Common.{ℕ, zero, suc, ◌≡◌, ◌≢◌, ◌<◌, ◌+◌, ◌-◌, ◌%◌, ◌==◌, ◌⊎◌, Bool, if◌then◌else◌, Option, Some, None, List, [], ◌∷◌, ◌++◌, arith, refl, inl, inr, sym, ◌∙◌, ap}
+use Rattle.std.proofs.Common.{ℕ, zero, suc, ◌≡◌, ◌≢◌, ◌<◌, ◌+◌, ◌-◌, ◌%◌, ◌==◌, Bool, if◌then◌else◌, Option, Some, None, List, [], ◌∷◌, ◌++◌, arith, refl, inl, inr, sym, ◌∙◌, ap}
 use Rattle.std.proofs.lemmas.Bool.Decides.{nat_tests}
 use Rattle.std.proofs.lemmas.Bool.{cases_eq}
 use Rattle.sp_order.specs.Plans.{IsPlan}
@@ -19,7 +19,7 @@ use Rattle.batcher_core.specs.Lists.{without, times, ready_after, ListsFit}
 use Rattle.batcher_core.specs.GateParts.{is_taken_by, HoldStands}
 use Rattle.batcher_core.specs.KeptBook.{StatusFits}
 use Rattle.batcher_core.specs.KeptParts.{PartsKept}
-use Rattle.batcher_core.specs.Choice.{oldest_or, choice_steal, last_of, choice_idle, choice_free, choice_by, choice_under, choice}
+use Rattle.batcher_core.specs.Choice.{oldest_or, choice_steal, last_of, choice_idle, choice_free, choice_by, choice_under, choice, LeavesAnEnd}
 use Rattle.batcher_core.proofs.Puts.{put_at, put_other}
 use Rattle.batcher_core.proofs.ChoiceIdle.{HoldsNot, first_stands}
 use Rattle.batcher_core.proofs.Choices.{choice_needs}
@@ -64,25 +64,26 @@ without_last n (x ∷ xs) once =
 
 -- a node that stands in a list stands there once, and in no other
 once_there : (workers : ℕ) (node : ℕ → Progress) (ready : ℕ → List ℕ) (v n : ℕ) → ListsFit workers node ready → times n (ready v) ≢ 0
-  → (times n (ready v) ≡ 1) × ((u : ℕ) → u ≢ v → times n (ready u) ≡ 0)
+    → (times n (ready v) ≡ 1) × ((u : ℕ) → u ≢ v → times n (ready u) ≡ 0)
 once_there workers node ready v n lists stands =
     let home = lists.each n (lists.only n v stands) in
     elim (cases_eq v home.0) [
-      inl same ↦ (rw same home.2, λ u other. home.3 u (rw same at other))
-    | inr other ↦ absurd (stands (home.3 v other))
+      | inl same ↦ (rw same home.2, λ u other. home.3 u (rw same at other))
+      | inr other ↦ absurd (stands (home.3 v other))
     ]
 
 claim_off : (ready : ℕ → List ℕ) (w v n : ℕ) (rest : List ℕ) → without n (ready v) ≡ rest → ((u : ℕ) → u ≢ v → times n (ready u) ≡ 0) → ready_after w (Claim n) ready ≡ put ready v rest
 claim_off ready w v n rest here there = λ i u. at u i
-    where at : (u : ℕ) → without n (ready u) ≡ put ready v rest u
-          at u = elim (cases_eq u v) [
-              inl e ↦ rw e here ∙ sym (put_at ready v u rest e)
-            | inr e ↦ without_none n (ready u) (there u e) ∙ sym (put_other ready v u rest e)
-            ]
+  where
+    at : (u : ℕ) → without n (ready u) ≡ put ready v rest u
+    at u = elim (cases_eq u v) [
+      | inl e ↦ rw e here ∙ sym (put_at ready v u rest e)
+      | inr e ↦ without_none n (ready u) (there u e) ∙ sym (put_other ready v u rest e)
+    ]
 
 -- the claim of the newest node of a list leaves the others
 pub claim_newest : (workers : ℕ) (node : ℕ → Progress) (ready : ℕ → List ℕ) (w v n : ℕ) (rest : List ℕ) → ListsFit workers node ready → ready v ≡ rest ++ n ∷ []
-  → ready_after w (Claim n) ready ≡ put ready v rest
+    → ready_after w (Claim n) ready ≡ put ready v rest
 claim_newest workers node ready w v n rest lists at =
     let once = once_there workers node ready v n lists (rw at (some_last n rest)) in
     let one : times n (rest ++ n ∷ []) ≡ 1 = rw at at once.0 in
@@ -90,17 +91,11 @@ claim_newest workers node ready w v n rest lists at =
 
 -- and so does that of the oldest
 pub claim_oldest : (workers : ℕ) (node : ℕ → Progress) (ready : ℕ → List ℕ) (w v n : ℕ) (rest : List ℕ) → ListsFit workers node ready → ready v ≡ n ∷ rest
-  → ready_after w (Claim n) ready ≡ put ready v rest
+    → ready_after w (Claim n) ready ≡ put ready v rest
 claim_oldest workers node ready w v n rest lists at =
     let once = once_there workers node ready v n lists (rw at (first_stands n n rest refl)) in
     let one : times n (n ∷ rest) ≡ 1 = rw at at once.0 in
     claim_off ready w v n rest (rw at (without_first n rest one)) once.1
-
--- the node leaves the list of the worker, which it was the newest in, or, where that list is empty, one in which it was the oldest
-abbrev pub LeavesAnEnd : (ℕ → List ℕ) → ℕ → ℕ → Type 0
-LeavesAnEnd ready w n =
-    ((rest : List ℕ) × (ready w ≡ rest ++ n ∷ []) × (ready_after w (Claim n) ready ≡ put ready w rest))
-    ⊎ ((v : ℕ) × (rest : List ℕ) × (ready w ≡ []) × (ready v ≡ n ∷ rest) × (ready_after w (Claim n) ready ≡ put ready v rest))
 
 ends_with : (n m : ℕ) (ns : List ℕ) → m ≡ last_of n ns → (rest : List ℕ) × (n ∷ ns ≡ rest ++ m ∷ [])
 ends_with n m [] e = ([], rw e refl)
@@ -123,7 +118,7 @@ stolen_is ready workers from (suc many) n e =
     oldest_is ready (from % workers) n (ready (from % workers)) (choice_steal ready workers (from + 1) many) refl (stolen_is ready workers (from + 1) many n) e
 
 idle_leaves : (job : CoreJob) (node : ℕ → Progress) (ready : ℕ → List ℕ) (w n : ℕ) (ns : List ℕ) → ListsFit job.workers node ready → ready w ≡ ns
-  → choice_idle job ready w ns ≡ Some (Claim n) → LeavesAnEnd ready w n
+    → choice_idle job ready w ns ≡ Some (Claim n) → LeavesAnEnd ready w n
 idle_leaves job node ready w n (m ∷ ms) lists at e =
     let ends = ends_with m n ms (claimed_is (last_of m ms) n e) in
     inl (ends.0, at ∙ ends.1, claim_newest job.workers node ready w w n ends.0 lists (at ∙ ends.1))
@@ -151,7 +146,7 @@ choice_of_idle job s w h free idle =
 
 -- where a turn claims a node, the node leaves the right end of its list
 pub choice_ready : (job : CoreJob) (s : CoreState) (w n : ℕ) → IsPlan job.plan → w < job.workers → PartsKept job s.state → ListsFit job.workers s.state.node s.ready
-  → choice job s w ≡ Some (Claim n) → LeavesAnEnd s.ready w n
+    → choice job s w ≡ Some (Claim n) → LeavesAnEnd s.ready w n
 choice_ready job s w n laws among h lists chosen =
     let needs = choice_needs job s w (Claim n) laws among h lists chosen in
     idle_leaves job s.state.node s.ready w n (s.ready w) lists refl (sym (choice_of_idle job s w h needs.0 needs.1) ∙ chosen)

@@ -32,3 +32,4 @@ pub mod ChoiceGate
 pub mod ChoiceIdle
 pub mod Choices
 pub mod ChoiceReady
+pub mod RunFacts

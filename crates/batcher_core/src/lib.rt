@@ -10,6 +10,7 @@ pub mod laws;
 pub mod progress;
 pub mod status;
 pub mod task;
+pub mod turn_laws;
 
 pub use event::Event;
 pub use progress::Progress;

@@ -1,0 +1,45 @@
+//! The laws of a worker's turn, each as the contract of a function that does nothing.
+ghost use Rattle.std.specs.Prelude.{◌≡◌, ℕ, ◌<◌, true, None, Some, List};
+ghost use Rattle.sp_order.specs.Plans.{IsPlan};
+ghost use Rattle.batcher_core.specs.declared.event.Event.{Event};
+ghost use Rattle.batcher_core.specs.declared.event.Event.TheVariants.{Claim};
+ghost use Rattle.batcher_core.specs.State.{CoreJob, CoreState, opening_core};
+ghost use Rattle.batcher_core.specs.Events.{Needs};
+ghost use Rattle.batcher_core.specs.Lists.{ListsFit};
+ghost use Rattle.batcher_core.specs.KeptParts.{PartsKept};
+ghost use Rattle.batcher_core.specs.Choice.{choice, LeavesAnEnd};
+ghost use Rattle.batcher_core.specs.Runs.{Step, Reaches, driven, IsReached};
+ghost use Rattle.batcher_core.specs.Tasks.{is_done};
+
+/// The event that a worker's turn makes has what it needs.
+pub fn choice_has_its_needs()
+    ensures { (job : CoreJob) (state : CoreState) (worker : ℕ) (event : Event) → IsPlan job.plan → worker < job.workers → PartsKept job state.state → ListsFit job.workers state.state.node state.ready → choice job state worker ≡ Some event → Needs job state.state worker event }
+{}
+
+/// Where a worker's turn makes none, no event of this worker can happen.
+pub fn no_choice_has_no_event()
+    ensures { (job : CoreJob) (state : CoreState) (worker : ℕ) → IsPlan job.plan → worker < job.workers → PartsKept job state.state → ListsFit job.workers state.state.node state.ready → choice job state worker ≡ None → (event : Event) → Needs job state.state worker event → ⊥ }
+{}
+
+/// A node that a turn claims was the newest of the worker's own list, or, where that list is empty, the oldest of
+/// another one; and the claim takes it off there.
+pub fn claimed_node_leaves_an_end()
+    ensures { (job : CoreJob) (state : CoreState) (worker node : ℕ) → IsPlan job.plan → worker < job.workers → PartsKept job state.state → ListsFit job.workers state.state.node state.ready → choice job state worker ≡ Some (Claim node) → LeavesAnEnd state.ready worker node }
+{}
+
+/// At the opening worker 0 claims the root, and another worker steals it.
+pub fn opening_choices()
+    ensures own { (job : CoreJob) → choice job opening_core 0 ≡ Some (Claim 0) }
+    ensures stolen { (job : CoreJob) → job.workers ≡ 2 → choice job opening_core 1 ≡ Some (Claim 0) }
+{}
+
+/// A state that a run leads to is one that can be reached.
+pub fn run_reaches()
+    ensures { (job : CoreJob) (steps : List Step) (state : CoreState) → Reaches job steps state → IsReached job state }
+{}
+
+/// A schedule drives the job to a state that can be reached, and whose root is done.
+pub fn driven_is_reached()
+    ensures reached { (job : CoreJob) (schedule : List ℕ) (state : CoreState) → driven job schedule state → IsReached job state }
+    ensures done { (job : CoreJob) (schedule : List ℕ) (state : CoreState) → driven job schedule state → is_done (state.state.node 0) ≡ true }
+{}

@@ -26,3 +26,5 @@ pub mod TicksStand
 pub mod PartsStand
 pub mod ListKeeps
 pub mod Reached
+pub mod OneCall
+pub mod Moves

@@ -18,14 +18,14 @@ use Rattle.batcher_core.specs.KeptBook.{StatusFits}
 use Rattle.batcher_core.specs.KeptParts.{PartsKept}
 use Rattle.batcher_core.specs.Choice.{choice_holding, choice_pending, choice_free, choice_by, choice_under, choice}
 use Rattle.batcher_core.proofs.ChoiceSearch.{if_both}
-use Rattle.batcher_core.proofs.ChoiceTasks.{Allows, task_allows}
-use Rattle.batcher_core.proofs.ChoiceGate.{holding_allows}
+use Rattle.batcher_core.proofs.ChoiceTasks.{Allows, gives_allows, task_gives}
+use Rattle.batcher_core.proofs.ChoiceGate.{holding_gives}
 use Rattle.batcher_core.proofs.ChoiceIdle.{HoldsNot, none_trapped, idle_allows}
 
-is_idle : (t : Task) → (t ≡ Idle) ⊎ (t ≢ Idle)
+pub is_idle : (t : Task) → (t ≡ Idle) ⊎ (t ≢ Idle)
 is_idle t = grind arith
 
-call_out : (job : CoreJob) (book : List (List Entry)) (t : Task) (st : Status) (c : CallState) (b : Bool) → st ≢ Free → StatusFits job book t st c b → c ≡ Out
+pub call_out : (job : CoreJob) (book : List (List Entry)) (t : Task) (st : Status) (c : CallState) (b : Bool) → st ≢ Free → StatusFits job book t st c b → c ≡ Out
 call_out job book t st c b busy h = grind arith
 
 executing_taken : (job : CoreJob) (book : List (List Entry)) (t : Task) (st : Status) (c : CallState) (b : Bool) → st ≡ Executing → StatusFits job book t st c b → b ≡ true
@@ -35,7 +35,7 @@ module _ (job : CoreJob) (s : State) (w : ℕ) (ready : ℕ → List ℕ) (laws 
   free_allows : (t : Task) → HoldsNot s w → s.status w ≡ Free → s.task w ≡ t → Allows job s w (choice_free job (record { state = s; ready = ready }) w t)
   free_allows t away free mine = elim (is_idle t) [
     | inl idle ↦ rw idle (idle_allows job s w ready lists free (mine ∙ idle) among away)
-    | inr busy ↦ task_allows job s w laws h free ready t mine busy (rw mine at (h.tasks.fits w))
+    | inr busy ↦ gives_allows job s w (choice_free job (record { state = s; ready = ready }) w t) (task_gives job s w laws h free ready t mine busy (rw mine at (h.tasks.fits w)))
   ]
 
   pending_allows : (o : Option Hold) → HoldsNot s w → s.status w ≡ Pending → s.hold ≡ o → Allows job s w (choice_pending o)
@@ -56,7 +56,7 @@ module _ (job : CoreJob) (s : State) (w : ℕ) (ready : ℕ → List ℕ) (laws 
   hold_allows None held = status_allows (s.status w) (λ hd e. grind arith) refl
   hold_allows (Some hd) held =
       if_both (Allows job s w) (hd.worker == w) (choice_holding job s hd) (choice_by job (record { state = s; ready = ready }) w (s.status w))
-      (λ e. holding_allows job s w h hd (held, eqb-true hd.worker w e))
+      (λ e. gives_allows job s w (choice_holding job s hd) (holding_gives job s w h hd (held, eqb-true hd.worker w e)))
       (λ e. status_allows (s.status w) (λ other f. grind (arith, nat_tests)) refl)
 
 -- the choice of a worker's turn has what it needs; where there is none, no event of the worker can happen

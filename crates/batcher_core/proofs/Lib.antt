@@ -26,6 +26,8 @@ pub mod TicksStand
 pub mod PartsStand
 pub mod ListKeeps
 pub mod Reached
+pub mod OneCall
+pub mod Moves
 pub mod ChoiceSearch
 pub mod ChoiceTasks
 pub mod ChoiceGate
@@ -33,3 +35,4 @@ pub mod ChoiceIdle
 pub mod Choices
 pub mod ChoiceReady
 pub mod RunFacts
+pub mod ChoiceProgress

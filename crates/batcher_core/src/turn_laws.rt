@@ -1,6 +1,8 @@
 //! The laws of a worker's turn, each as the contract of a function that does nothing.
-ghost use Rattle.std.specs.Prelude.{◌≡◌, ℕ, ◌<◌, true, None, Some, List};
+ghost use Rattle.std.specs.Prelude.{◌≡◌, ◌≢◌, ℕ, ◌<◌, true, false, None, Some, List};
+ghost use Rattle.sp_order.specs.Precedence.{Tree};
 ghost use Rattle.sp_order.specs.Plans.{IsPlan};
+ghost use Rattle.sp_order.specs.Stands.{IsPlanOf};
 ghost use Rattle.batcher_core.specs.declared.event.Event.{Event};
 ghost use Rattle.batcher_core.specs.declared.event.Event.TheVariants.{Claim};
 ghost use Rattle.batcher_core.specs.State.{CoreJob, CoreState, opening_core};
@@ -10,6 +12,8 @@ ghost use Rattle.batcher_core.specs.KeptParts.{PartsKept};
 ghost use Rattle.batcher_core.specs.Choice.{choice, LeavesAnEnd};
 ghost use Rattle.batcher_core.specs.Runs.{Step, Reaches, driven, IsReached};
 ghost use Rattle.batcher_core.specs.Tasks.{is_done};
+
+use sp_order::laws::plan_has_sides;
 
 /// The event that a worker's turn makes has what it needs.
 pub fn choice_has_its_needs()
@@ -43,3 +47,10 @@ pub fn driven_is_reached()
     ensures reached { (job : CoreJob) (schedule : List ℕ) (state : CoreState) → driven job schedule state → IsReached job state }
     ensures done { (job : CoreJob) (schedule : List ℕ) (state : CoreState) → driven job schedule state → is_done (state.state.node 0) ≡ true }
 {}
+
+/// Where the root is not done, the turn of some worker makes an event.
+pub fn some_turn_makes_an_event()
+    ensures { (job : CoreJob) (tree : Tree) (state : CoreState) → IsPlanOf job.plan tree → PartsKept job state.state → ListsFit job.workers state.state.node state.ready → is_done (state.state.node 0) ≡ false → (worker : ℕ) × (worker < job.workers) × (choice job state worker ≢ None) }
+{
+    plan_has_sides();
+}

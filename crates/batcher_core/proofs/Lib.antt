@@ -36,3 +36,4 @@ pub mod Choices
 pub mod ChoiceReady
 pub mod RunFacts
 pub mod ChoiceProgress
+pub mod InRange

@@ -22,3 +22,4 @@ pub mod KeptParts
 pub mod KeptLists
 pub mod Choice
 pub mod Runs
+pub mod Ranges

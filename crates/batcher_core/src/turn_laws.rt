@@ -5,11 +5,12 @@ ghost use Rattle.sp_order.specs.Plans.{IsPlan};
 ghost use Rattle.sp_order.specs.Stands.{IsPlanOf};
 ghost use Rattle.batcher_core.specs.declared.event.Event.{Event};
 ghost use Rattle.batcher_core.specs.declared.event.Event.TheVariants.{Claim};
-ghost use Rattle.batcher_core.specs.State.{CoreJob, CoreState, opening_core};
+ghost use Rattle.batcher_core.specs.State.{CoreJob, State, CoreState, opening_core};
 ghost use Rattle.batcher_core.specs.Events.{Needs};
 ghost use Rattle.batcher_core.specs.Lists.{ListsFit};
 ghost use Rattle.batcher_core.specs.KeptParts.{PartsKept};
 ghost use Rattle.batcher_core.specs.Choice.{choice, LeavesAnEnd};
+ghost use Rattle.batcher_core.specs.Ranges.{IsInRange};
 ghost use Rattle.batcher_core.specs.Runs.{Step, Reaches, driven, IsReached};
 ghost use Rattle.batcher_core.specs.Tasks.{is_done};
 
@@ -23,6 +24,11 @@ pub fn choice_has_its_needs()
 /// Where a worker's turn makes none, no event of this worker can happen.
 pub fn no_choice_has_no_event()
     ensures { (job : CoreJob) (state : CoreState) (worker : ℕ) → IsPlan job.plan → worker < job.workers → PartsKept job state.state → ListsFit job.workers state.state.node state.ready → choice job state worker ≡ None → (event : Event) → Needs job state.state worker event → ⊥ }
+{}
+
+/// The nodes that an event speaks of are nodes of the plan, and the workers are among those that there are.
+pub fn events_are_in_range()
+    ensures { (job : CoreJob) (state : State) (worker : ℕ) (event : Event) → IsPlan job.plan → PartsKept job state → Needs job state worker event → IsInRange job.plan.count job.workers event }
 {}
 
 /// A node that a turn claims was the newest of the worker's own list, or, where that list is empty, the oldest of

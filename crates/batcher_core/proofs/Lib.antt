@@ -37,3 +37,5 @@ pub mod ChoiceReady
 pub mod RunFacts
 pub mod ChoiceProgress
 pub mod InRange
+pub mod FuelJobs
+pub mod FuelGate

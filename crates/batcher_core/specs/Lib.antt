@@ -23,3 +23,4 @@ pub mod KeptLists
 pub mod Choice
 pub mod Runs
 pub mod Ranges
+pub mod Fuel

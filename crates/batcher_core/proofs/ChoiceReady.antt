@@ -135,7 +135,7 @@ free_holds_not job s w h free hd held mine =
     let stands : HoldStands job.workers s.status s.call (Some hd) = rw held at h.hold in
     free_not_out job s.book (s.task w) (s.status w) (s.call w) (is_taken_by s.hold w) free (h.statuses w) (rw mine at stands.0)
 
-not_under : (job : CoreJob) (s : CoreState) (w : ℕ) (o : Option Hold) → ((h : Hold) → o ≡ Some h → h.worker ≢ w) → choice_under job s w o ≡ choice_by job s w (s.state.status w)
+pub not_under : (job : CoreJob) (s : CoreState) (w : ℕ) (o : Option Hold) → ((h : Hold) → o ≡ Some h → h.worker ≢ w) → choice_under job s w o ≡ choice_by job s w (s.state.status w)
 not_under job s w None away = refl
 not_under job s w (Some h) away = let other = away h refl in grind (arith, nat_tests)
 

@@ -1,32 +1,22 @@
 -- What an event on the nodes does to the count of events left.
-use Rattle.std.proofs.Common.{ℕ, zero, suc, ◌≡◌, ◌≢◌, ◌<◌, ◌≤◌, ◌+◌, ◌-◌, ◌*◌, ◌⊎◌, ◌==◌, ◌&&◌, not, if◌then◌else◌, Bool, true, false, Option, Some, None, List, [], ◌∷◌, ◌++◌, arith, refl, inl, inr, subst, sym, ◌∙◌, ap}
-use Rattle.std.proofs.lemmas.Bool.{cases_eq, cases_lt}
+use Rattle.std.proofs.Common.{ℕ, zero, suc, ◌≡◌, ◌≢◌, ◌<◌, ◌≤◌, ◌+◌, Option, Some, None, arith, refl, inl, inr, ap}
+use Rattle.std.proofs.lemmas.Bool.{cases_eq}
 use Rattle.std.proofs.lemmas.Bool.Decides.{nat_tests}
-use Rattle.seq_objects.specs.Objects.{Objects}
-use Rattle.seq_objects.specs.declared.op.Op.{Op}
 use Rattle.sp_order.specs.declared.node.Kind.{Kind}
-use Rattle.sp_order.specs.declared.node.Kind.TheVariants.{LeafNode, SeqNode, ParNode}
-use Rattle.sp_order.specs.Plans.{IsPlan, IsSide, parent_of}
-use Rattle.batch_history.specs.declared.batch.Entry.{Entry}
+use Rattle.sp_order.specs.declared.node.Kind.TheVariants.{LeafNode}
+use Rattle.sp_order.specs.Plans.{IsPlan, parent_of}
 use Rattle.batcher_core.specs.declared.progress.Progress.{Progress}
 use Rattle.batcher_core.specs.declared.progress.Progress.TheVariants.{Waiting, Ready, Taken, Done, Ran}
 use Rattle.batcher_core.specs.declared.task.Task.{Task}
 use Rattle.batcher_core.specs.declared.task.Task.TheVariants.{Idle, Run, Half, Started, Kept, Ended, Whole, Handed}
-use Rattle.batcher_core.specs.declared.status.Status.{Status}
-use Rattle.batcher_core.specs.declared.status.Status.TheVariants.{Free, Pending, Executing, Served}
+use Rattle.batcher_core.specs.declared.status.Status.TheVariants.{Free}
 use Rattle.batcher_core.specs.declared.status.CallState.{CallState}
-use Rattle.batcher_core.specs.declared.status.CallState.TheVariants.{NotCalled, Out, Got}
-use Rattle.batcher_core.specs.declared.status.Receipt.{Receipt}
-use Rattle.batcher_core.specs.declared.event.Event.{Event}
-use Rattle.batcher_core.specs.declared.event.Event.TheVariants.{Claim, Start, OpenParRight, OpenParLeft, OpenSeqLeft, OpenSeqRight, Post, Win, Take, Publish, Answer, Release, Leave, Keep, End, FinishLeaf, FinishSeq, FinishPar, ArriveFirst, ArriveSecond}
-use Rattle.batcher_core.specs.State.{put, CoreJob, Hold, State, CoreState, opening_state}
-use Rattle.batcher_core.specs.Operations.{leaf_of, op_in, IsCall}
-use Rattle.batcher_core.specs.Tasks.{is_done, TaskFits}
-use Rattle.batcher_core.specs.Events.{Needs, Does, task_after, is_pending, new_hold, looked, published, answered}
-use Rattle.batcher_core.specs.GateParts.{is_taken_by, HoldStands}
-use Rattle.batcher_core.specs.KeptBook.{StatusFits}
+use Rattle.batcher_core.specs.declared.event.Event.TheVariants.{Claim, Start, OpenParRight, OpenParLeft, OpenSeqLeft, OpenSeqRight, End, FinishLeaf, FinishSeq, FinishPar, ArriveFirst, ArriveSecond}
+use Rattle.batcher_core.specs.State.{put, CoreJob, State}
+use Rattle.batcher_core.specs.Tasks.{TaskFits}
+use Rattle.batcher_core.specs.Events.{Needs, task_after}
 use Rattle.batcher_core.specs.KeptParts.{PartsKept}
-use Rattle.batcher_core.specs.Fuel.{total, node_cost, worker_cost, task_cost, run_cost, left_cost, first_cost, leaf_cost, due_cost, free_cost, status_cost, call_cost, owns, hold_cost, nodes_fuel, workers_fuel, fuel}
+use Rattle.batcher_core.specs.Fuel.{total, node_cost, worker_cost, task_cost, run_cost, left_cost, first_cost, leaf_cost, due_cost, free_cost, owns, workers_fuel, fuel}
 use Rattle.batcher_core.proofs.Puts.{put_at, put_other}
 
 pub total_same : (f g : ℕ → ℕ) (n : ℕ) → ((m : ℕ) → m < n → g m ≡ f m) → total g n ≡ total f n

@@ -39,3 +39,4 @@ pub mod ChoiceProgress
 pub mod InRange
 pub mod FuelJobs
 pub mod FuelGate
+pub mod FuelLowers

@@ -40,3 +40,4 @@ pub mod InRange
 pub mod FuelJobs
 pub mod FuelGate
 pub mod FuelLowers
+pub mod TurnRuns

@@ -21,8 +21,8 @@ total f (suc n) = f n + total f n
 
 -- a call's events: post, win, a look at each worker, publish, release, answer, leave
 abbrev pub call_cost : ℕ → Option Op → ℕ
-call_cost p None = 0
-call_cost p (Some op) = p + 6
+call_cost workers None = 0
+call_cost workers (Some op) = workers + 6
 
 abbrev pub leaf_cost : CoreJob → Option Kind → ℕ
 leaf_cost job (Some (LeafNode u)) = call_cost job.workers (op_in (job.act u))
@@ -98,8 +98,8 @@ abbrev pub worker_cost : CoreJob → Bool → Task → Status → CallState → 
 worker_cost job o t st c = task_cost job t + status_cost job o t st c
 
 abbrev pub hold_cost : ℕ → Option Hold → ℕ
-hold_cost p None = 0
-hold_cost p (Some h) = (p - h.looks) + (if h.published then 0 else 1) + 1
+hold_cost workers None = 0
+hold_cost workers (Some h) = (workers - h.looks) + (if h.published then 0 else 1) + 1
 
 abbrev pub nodes_fuel : CoreJob → State → ℕ
 nodes_fuel job s = total (λ n. node_cost job (job.plan.kind n) (s.node n)) job.plan.count

@@ -1,18 +1,19 @@
 //! The laws of a worker's turn, each as the contract of a function that does nothing.
-ghost use Rattle.std.specs.Prelude.{◌≡◌, ◌≢◌, ℕ, ◌<◌, true, false, None, Some, List};
+ghost use Rattle.std.specs.Prelude.{◌≡◌, ◌≢◌, ℕ, ◌<◌, ◌≤◌, ◌+◌, ◌*◌, true, false, None, Some, List, length};
 ghost use Rattle.sp_order.specs.Precedence.{Tree};
 ghost use Rattle.sp_order.specs.Plans.{IsPlan};
 ghost use Rattle.sp_order.specs.Stands.{IsPlanOf};
 ghost use Rattle.batcher_core.specs.declared.event.Event.{Event};
 ghost use Rattle.batcher_core.specs.declared.event.Event.TheVariants.{Claim};
-ghost use Rattle.batcher_core.specs.State.{CoreJob, State, CoreState, opening_core};
-ghost use Rattle.batcher_core.specs.Events.{Needs};
+ghost use Rattle.batcher_core.specs.State.{CoreJob, State, CoreState, opening_state, opening_core};
+ghost use Rattle.batcher_core.specs.Events.{Needs, Does};
 ghost use Rattle.batcher_core.specs.Lists.{ListsFit};
 ghost use Rattle.batcher_core.specs.KeptParts.{PartsKept};
 ghost use Rattle.batcher_core.specs.Choice.{choice, LeavesAnEnd};
 ghost use Rattle.batcher_core.specs.Ranges.{IsInRange};
-ghost use Rattle.batcher_core.specs.Runs.{Step, Reaches, driven, IsReached};
+ghost use Rattle.batcher_core.specs.Runs.{Step, Reaches, TurnsLead, driven, IsReached};
 ghost use Rattle.batcher_core.specs.Tasks.{is_done};
+ghost use Rattle.batcher_core.specs.Fuel.{fuel, call_count};
 
 use sp_order::laws::plan_has_sides;
 
@@ -57,6 +58,24 @@ pub fn driven_is_reached()
 /// Where the root is not done, the turn of some worker makes an event.
 pub fn some_turn_makes_an_event()
     ensures { (job : CoreJob) (tree : Tree) (state : CoreState) → IsPlanOf job.plan tree → PartsKept job state.state → ListsFit job.workers state.state.node state.ready → is_done (state.state.node 0) ≡ false → (worker : ℕ) × (worker < job.workers) × (choice job state worker ≢ None) }
+{
+    plan_has_sides();
+}
+
+/// The event of a turn lowers the count of the events that are left.
+pub fn turns_lower_fuel()
+    ensures { (job : CoreJob) (state : CoreState) (worker : ℕ) (event : Event) (new : State) → IsPlan job.plan → worker < job.workers → PartsKept job state.state → ListsFit job.workers state.state.node state.ready → choice job state worker ≡ Some event → Does job state.state worker event new → fuel job new < fuel job state.state }
+{}
+
+/// At the opening no more events are left than six for each node, and for each leaf that calls six more and as many as
+/// there are workers.
+pub fn opening_fuel_is_bounded()
+    ensures { (job : CoreJob) → fuel job opening_state ≤ 6 * job.plan.count + call_count job * (job.workers + 6) }
+{}
+
+/// So a run by turns from the opening has no more events than that.
+pub fn runs_by_turns_are_short()
+    ensures { (job : CoreJob) (tree : Tree) (steps : List Step) (state : CoreState) → IsPlanOf job.plan tree → 0 < job.workers → TurnsLead job opening_core steps state → length steps ≤ 6 * job.plan.count + call_count job * (job.workers + 6) }
 {
     plan_has_sides();
 }

@@ -39,7 +39,7 @@ pub fn event_keeps_parts()
 {}
 
 /// What the proofs carry implies the eight parts of the invariant.
-pub fn carried_parts_hold()
+pub fn kept_parts_hold()
     ensures { (job : CoreJob) (state : State) → PartsKept job state → Parts job state }
 {}
 
@@ -54,7 +54,7 @@ pub fn event_keeps_lists()
 {}
 
 /// What the proofs carry of the lists implies what the invariant says of them.
-pub fn carried_lists_hold()
+pub fn kept_lists_hold()
     ensures { (workers : ℕ) (node : ℕ → Progress) (ready : ℕ → List ℕ) → ListsKept workers node ready → ListsFit workers node ready }
 {}
 

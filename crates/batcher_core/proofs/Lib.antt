@@ -41,3 +41,5 @@ pub mod FuelJobs
 pub mod FuelGate
 pub mod FuelLowers
 pub mod TurnRuns
+pub mod OneBatch
+pub mod OneRun

@@ -55,6 +55,16 @@ pub fn driven_is_reached()
     ensures done { (job : CoreJob) (schedule : List ℕ) (state : CoreState) → driven job schedule state → is_done (state.state.node 0) ≡ true }
 {}
 
+/// An event makes one state only of a state.
+pub fn event_makes_one_state()
+    ensures { (job : CoreJob) (state a b : State) (worker : ℕ) (event : Event) → Does job state worker event a → Does job state worker event b → a ≡ b }
+{}
+
+/// A schedule drives the job to one state only.
+pub fn schedule_drives_to_one_state()
+    ensures { (job : CoreJob) (schedule : List ℕ) (a b : CoreState) → driven job schedule a → driven job schedule b → a ≡ b }
+{}
+
 /// Where the root is not done, the turn of some worker makes an event.
 pub fn some_turn_makes_an_event()
     ensures { (job : CoreJob) (tree : Tree) (state : CoreState) → IsPlanOf job.plan tree → PartsKept job state.state → ListsFit job.workers state.state.node state.ready → is_done (state.state.node 0) ≡ false → (worker : ℕ) × (worker < job.workers) × (choice job state worker ≢ None) }

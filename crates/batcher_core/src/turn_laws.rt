@@ -77,6 +77,11 @@ pub fn turns_lower_fuel()
     ensures { (job : CoreJob) (state : CoreState) (worker : ℕ) (event : Event) (new : State) → IsPlan job.plan → worker < job.workers → PartsKept job state.state → ListsFit job.workers state.state.node state.ready → choice job state worker ≡ Some event → Does job state.state worker event new → fuel job new < fuel job state.state }
 {}
 
+/// So the tick and the count together do not grow.
+pub fn ticks_are_paid_by_fuel()
+    ensures { (job : CoreJob) (state : CoreState) (worker : ℕ) (event : Event) (new : State) → IsPlan job.plan → worker < job.workers → PartsKept job state.state → ListsFit job.workers state.state.node state.ready → choice job state worker ≡ Some event → Does job state.state worker event new → new.tick + fuel job new ≤ state.state.tick + fuel job state.state }
+{}
+
 /// At the opening no more events are left than six for each node, and for each leaf that calls six more and as many as
 /// there are workers.
 pub fn opening_fuel_is_bounded()

@@ -28,7 +28,7 @@ use Rattle.batcher_core.proofs.FuelGate.{keep_lowers, post_lowers, win_lowers, t
 
 -- an event lowers the count; a worker that wins the flag is to be pending, since one that is served could do so for ever
 pub event_lowers : (job : CoreJob) (s : State) (w : ℕ) (event : Event) (new : State) → IsPlan job.plan → w < job.workers → PartsKept job s → Needs job s w event
-  → (event ≡ Win → s.status w ≡ Pending) → Does job s w event new → fuel job new < fuel job s
+    → (event ≡ Win → s.status w ≡ Pending) → Does job s w event new → fuel job new < fuel job s
 event_lowers job s w (Claim n) new laws below h needs turns does = rw does (claim_lowers job s w below laws h n needs)
 event_lowers job s w (Start n) new laws below h needs turns does = rw does (start_lowers job s w below laws h n needs)
 event_lowers job s w (OpenParRight p l r) new laws below h needs turns does = rw does (open_right_lowers job s w below laws h p l r needs)
@@ -62,11 +62,11 @@ wins_pending job s w needs chosen =
     by_pending job s w (s.state.status w) (sym (not_under job s w s.state.hold (λ h e. (let f = sym needs.2 ∙ e in absurd cc))) ∙ chosen) needs.0
 
 pub turn_lowers : (job : CoreJob) (s : CoreState) (w : ℕ) (event : Event) (new : State) → IsPlan job.plan → w < job.workers → PartsKept job s.state → ListsFit job.workers s.state.node s.ready
-  → choice job s w ≡ Some event → Does job s.state w event new → fuel job new < fuel job s.state
+    → choice job s w ≡ Some event → Does job s.state w event new → fuel job new < fuel job s.state
 turn_lowers job s w event new laws below h lists chosen does =
     let needs = choice_needs job s w event laws below h lists chosen in
     event_lowers job s.state w event new laws below h needs
-      (λ win. wins_pending job s w (rw win at needs) (rw win at chosen)) does
+    (λ win. wins_pending job s w (rw win at needs) (rw win at chosen)) does
 
 -- an event draws one tick at most
 tick_step : (job : CoreJob) (s : State) (w : ℕ) (event : Event) (new : State) → Does job s w event new → new.tick ≤ s.tick + 1
@@ -93,7 +93,7 @@ tick_step job s w Publish new does = rw does.2 (omega arith)
 
 -- so the tick and the count together do not grow
 pub tick_paid : (job : CoreJob) (s : CoreState) (w : ℕ) (event : Event) (new : State) → IsPlan job.plan → w < job.workers → PartsKept job s.state → ListsFit job.workers s.state.node s.ready
-  → choice job s w ≡ Some event → Does job s.state w event new → new.tick + fuel job new ≤ s.state.tick + fuel job s.state
+    → choice job s w ≡ Some event → Does job s.state w event new → new.tick + fuel job new ≤ s.state.tick + fuel job s.state
 tick_paid job s w event new laws below h lists chosen does =
     let less = turn_lowers job s w event new laws below h lists chosen does in
     let more = tick_step job s.state w event new does in

@@ -31,7 +31,6 @@ out_busy job book t st c b out h idle = grind arith
 
 -- a node of some kind is a node, and so is each side, and each parent of a side
 module _ (plan : Nodes) (laws : IsPlan plan) where
-
   pub kind_in : (n : ℕ) (k : Kind) → plan.kind n ≡ Some k → n < plan.count
   kind_in n k kind = laws.within n (λ none. cc)
 
@@ -48,7 +47,6 @@ module _ (plan : Nodes) (laws : IsPlan plan) where
   par_in p l r kind = (kind_in p (ParNode l r) kind, side_in p l (ap parent_of (laws.left_of_par p l r kind)), side_in p r (ap parent_of (laws.right_of_par p l r kind)))
 
 module _ (job : CoreJob) (s : State) (laws : IsPlan job.plan) (h : PartsKept job s) where
-
   -- what is not waiting is a node
   pub standing_in : (n : ℕ) → s.node n ≢ Waiting → n < job.plan.count
   standing_in n stands = laws.within n (λ none. stands (h.nodes.outside n none))
@@ -64,17 +62,17 @@ module _ (job : CoreJob) (s : State) (laws : IsPlan job.plan) (h : PartsKept job
   -- the worker that has the flag is one of the workers
   pub holder_in : (hd : Hold) → s.hold ≡ Some hd → hd.worker < job.workers
   holder_in hd held =
-    let stands : HoldStands job.workers s.status s.call (Some hd) = rw held at h.hold in
-    elim (cases_lt hd.worker job.workers) [
-      inl below ↦ below
-    | inr beyond ↦ absurd (out_busy job s.book (s.task hd.worker) (s.status hd.worker) (s.call hd.worker) (is_taken_by s.hold hd.worker) stands.0 (h.statuses hd.worker) (h.beyond hd.worker beyond))
-    ]
+      let stands : HoldStands job.workers s.status s.call (Some hd) = rw held at h.hold in
+      elim (cases_lt hd.worker job.workers) [
+        | inl below ↦ below
+        | inr beyond ↦ absurd (out_busy job s.book (s.task hd.worker) (s.status hd.worker) (s.call hd.worker) (is_taken_by s.hold hd.worker) stands.0 (h.statuses hd.worker) (h.beyond hd.worker beyond))
+      ]
 
   -- and so is each whose call is taken
   pub taken_in : (hd : Hold) → s.hold ≡ Some hd → (u : ℕ) → hd.took u ≡ true → u < job.workers
   taken_in hd held u took =
-    let stands : HoldStands job.workers s.status s.call (Some hd) = rw held at h.hold in
-    let looked = stands.2 u took in let looks = stands.1 in omega (arith, looked, looks)
+      let stands : HoldStands job.workers s.status s.call (Some hd) = rw held at h.hold in
+      let looked = stands.2 u took in let looks = stands.1 in omega (arith, looked, looks)
 
   pub event_in : (w : ℕ) (event : Event) → Needs job s w event → IsInRange job.plan.count job.workers event
   event_in w (Claim n) needs = let ready = needs.2 in standing_in n (λ waits. cc)

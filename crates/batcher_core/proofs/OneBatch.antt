@@ -48,23 +48,22 @@ IsFirst a b = ComesFirst a.op a.worker b.op b.worker
 
 -- entries of which the worker tells the leaf and the operation
 module _ (P : Entry → Type 0) (tells : (a b : Entry) → P a → P b → a.worker ≡ b.worker → (a.leaf ≡ b.leaf) × (a.op ≡ b.op)) where
-
   first_or : (x y : Entry) (ys : List Entry) → P x → AllByRecursion P ys → AllByRecursion (IsFirst y) ys → HasWorker (y ∷ ys) x.worker → (x.worker ≡ y.worker) ⊎ IsFirst y x
   first_or x y ys is all later (inl e) = inl (sym e)
   first_or x y ys is all later (inr h) =
-    let found = find (λ (e : Entry). P e × IsFirst y e) ys x.worker (each_both P (IsFirst y) ys all later) h in
-    let op : found.0.op ≡ x.op = (tells found.0 x found.2.0 is found.1).1 in
-    inr (subst (λ (o : Op). ComesFirst y.op y.worker o x.worker) op (subst (λ (v : ℕ). ComesFirst y.op y.worker found.0.op v) found.1 found.2.1))
+      let found = find (λ (e : Entry). P e × IsFirst y e) ys x.worker (each_both P (IsFirst y) ys all later) h in
+      let op : found.0.op ≡ x.op = (tells found.0 x found.2.0 is found.1).1 in
+      inr (subst (λ (o : Op). ComesFirst y.op y.worker o x.worker) op (subst (λ (v : ℕ). ComesFirst y.op y.worker found.0.op v) found.1 found.2.1))
 
   heads_same : (x y : Entry) (xs ys : List Entry) → P x → P y → AllByRecursion P xs → AllByRecursion P ys → AllByRecursion (IsFirst x) xs → AllByRecursion (IsFirst y) ys
-    → HasWorker (x ∷ xs) y.worker → HasWorker (y ∷ ys) x.worker → x.worker ≡ y.worker
+      → HasWorker (x ∷ xs) y.worker → HasWorker (y ∷ ys) x.worker → x.worker ≡ y.worker
   heads_same x y xs ys p q all_x all_y later_x later_y in_x in_y = elim (first_or x y ys p all_y later_y in_y) [
-      inl e ↦ e
+    | inl e ↦ e
     | inr before ↦ elim (first_or y x xs q all_x later_x in_x) [
-        inl e ↦ sym e
+      | inl e ↦ sym e
       | inr after ↦ absurd (one_way y.op x.op y.worker x.worker before after)
-      ]
     ]
+  ]
 
   -- a list whose entries have these workers, in batch order
   record Ordered (Q : ℕ → Type 0) (objects : Objects) (xs : List Entry) : Type 0 where
@@ -93,14 +92,14 @@ module _ (P : Entry → Type 0) (tells : (a b : Entry) → P a → P b → a.wor
   one_order Q objects [] (y ∷ ys) h g = absurd (h.each y.worker g.only.0)
   one_order Q objects (x ∷ xs) [] h g = absurd (g.each x.worker h.only.0)
   one_order Q objects (x ∷ xs) (y ∷ ys) h g =
-    let worker : x.worker ≡ y.worker = heads_same x y xs ys h.calls.0 g.calls.0 h.calls.1 g.calls.1 h.order.0 g.order.0 (h.each y.worker g.only.0) (g.each x.worker h.only.0) in
-    let told = tells x y h.calls.0 g.calls.0 worker in
-    let reply : x.reply ≡ y.reply = h.legal.0 ∙ (ap (reply_to objects) told.1 ∙ sym g.legal.0) in
-    let head : x ≡ y = entry_same x y worker told.0 told.1 reply in
-    let rest = tail Q objects y ys g in
-    let more : Ordered (λ w. Q w × (x.worker ≢ w)) (after objects x.op) ys = subst (λ (z : Entry). Ordered (λ w. Q w × (z.worker ≢ w)) (after objects z.op) ys) (sym head) rest in
-    let same : xs ≡ ys = one_order (λ w. Q w × (x.worker ≢ w)) (after objects x.op) xs ys (tail Q objects x xs h) more in
-    λ i. head i ∷ same i
+      let worker : x.worker ≡ y.worker = heads_same x y xs ys h.calls.0 g.calls.0 h.calls.1 g.calls.1 h.order.0 g.order.0 (h.each y.worker g.only.0) (g.each x.worker h.only.0) in
+      let told = tells x y h.calls.0 g.calls.0 worker in
+      let reply : x.reply ≡ y.reply = h.legal.0 ∙ (ap (reply_to objects) told.1 ∙ sym g.legal.0) in
+      let head : x ≡ y = entry_same x y worker told.0 told.1 reply in
+      let rest = tail Q objects y ys g in
+      let more : Ordered (λ w. Q w × (x.worker ≢ w)) (after objects x.op) ys = subst (λ (z : Entry). Ordered (λ w. Q w × (z.worker ≢ w)) (after objects z.op) ys) (sym head) rest in
+      let same : xs ≡ ys = one_order (λ w. Q w × (x.worker ≢ w)) (after objects x.op) xs ys (tail Q objects x xs h) more in
+      λ i. head i ∷ same i
 
 -- the worker of a taken call tells its leaf and its operation
 taken_tells : (job : CoreJob) (s : State) (a b : Entry) → IsTakenCall job s a → IsTakenCall job s b → a.worker ≡ b.worker → (a.leaf ≡ b.leaf) × (a.op ≡ b.op)

@@ -39,19 +39,19 @@ over_or job s last schedule robin (by_robin {next = next} going turn drives) = i
 
 one_drive : (job : CoreJob) (s a b : CoreState) (schedule : List ℕ) (robin : ℕ) → Drives job s schedule robin a → Drives job s schedule robin b → a ≡ b
 one_drive job s a b schedule robin (over done) g = elim (over_or job s b schedule robin g) [
-    inl end ↦ sym end.1
+  | inl end ↦ sym end.1
   | inr on ↦ (let e = sym done ∙ on.0 in absurd cc)
-  ]
+]
 one_drive job s a b schedule robin (by_schedule {next = next} {worker = worker} {robin = after} {schedule = rest} going turn drives) g = elim (over_or job s b schedule robin g) [
-    inl end ↦ (let e = sym end.0 ∙ going in absurd cc)
+  | inl end ↦ (let e = sym end.0 ∙ going in absurd cc)
   | inr on ↦ one_drive job next a b rest after drives
       (subst (λ (n : CoreState). Drives job n rest after b) (one_turn job s worker on.1.0 next on.1.1 turn) on.1.2)
-  ]
+]
 one_drive job s a b schedule robin (by_robin {next = next} going turn drives) g = elim (over_or job s b schedule robin g) [
-    inl end ↦ (let e = sym end.0 ∙ going in absurd cc)
+  | inl end ↦ (let e = sym end.0 ∙ going in absurd cc)
   | inr on ↦ one_drive job next a b [] ((robin + 1) % job.workers) drives
       (subst (λ (n : CoreState). Drives job n [] ((robin + 1) % job.workers) b) (one_turn job s robin on.1.0 next on.1.1 turn) on.1.2)
-  ]
+]
 
 pub one_driven : (job : CoreJob) (schedule : List ℕ) (a b : CoreState) → driven job schedule a → driven job schedule b → a ≡ b
 one_driven job schedule a b h g = one_drive job opening_core a b schedule 0 h g

@@ -43,3 +43,4 @@ pub mod FuelLowers
 pub mod TurnRuns
 pub mod OneBatch
 pub mod OneRun
+pub mod OneWork

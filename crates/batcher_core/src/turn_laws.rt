@@ -1,11 +1,14 @@
 //! The laws of a worker's turn, each as the contract of a function that does nothing.
-ghost use Rattle.std.specs.Prelude.{◌≡◌, ◌≢◌, ℕ, ◌<◌, ◌≤◌, ◌+◌, ◌*◌, true, false, None, Some, List, length};
-ghost use Rattle.sp_order.specs.Precedence.{Tree};
+ghost use Rattle.std.specs.Prelude.{◌≡◌, ◌≢◌, ℕ, ◌<◌, ◌≤◌, ◌+◌, ◌*◌, true, false, None, Some, List, [], ◌∷◌, length};
+ghost use Rattle.seq_objects.specs.Spin.{spin_of};
+ghost use Rattle.seq_objects.specs.declared.act.Act.TheVariants.{Work};
+ghost use Rattle.sp_order.specs.Precedence.{Tree, leaf};
 ghost use Rattle.sp_order.specs.Plans.{IsPlan};
 ghost use Rattle.sp_order.specs.Stands.{IsPlanOf};
+ghost use Rattle.batcher_core.specs.declared.progress.Progress.TheVariants.{Ran};
 ghost use Rattle.batcher_core.specs.declared.event.Event.{Event};
 ghost use Rattle.batcher_core.specs.declared.event.Event.TheVariants.{Claim};
-ghost use Rattle.batcher_core.specs.State.{CoreJob, State, CoreState, opening_state, opening_core};
+ghost use Rattle.batcher_core.specs.State.{CoreJob, State, CoreState, opening_state, opening_core, core_job};
 ghost use Rattle.batcher_core.specs.Events.{Needs, Does};
 ghost use Rattle.batcher_core.specs.Lists.{ListsFit};
 ghost use Rattle.batcher_core.specs.KeptParts.{PartsKept};
@@ -53,6 +56,12 @@ pub fn run_reaches()
 pub fn driven_is_reached()
     ensures reached { (job : CoreJob) (schedule : List ℕ) (state : CoreState) → driven job schedule state → IsReached job state }
     ensures done { (job : CoreJob) (schedule : List ℕ) (state : CoreState) → driven job schedule state → is_done (state.state.node 0) ≡ true }
+{}
+
+/// A job of one leaf that works is driven to its end by the turns of one worker: a claim, a start, a keeping, an end and
+/// a finish.
+pub fn one_leaf_is_driven()
+    ensures { (state : CoreState) × driven (core_job leaf (Work 3 ∷ []) 1) [] state × (state.state.node 0 ≡ Ran 0 0 1) × (state.state.value 0 ≡ Some (spin_of 3)) }
 {}
 
 /// An event makes one state only of a state.

@@ -19,7 +19,7 @@ use Rattle.batcher_core.specs.KeptBook.{StatusFits, booked_by, worker_at}
 use Rattle.batcher_core.specs.KeptParts.{PartsKept}
 use Rattle.batcher_core.specs.Choice.{some_below, least_below, is_owed, leaf_named, answer_with, choice_answer, choice_holding}
 use Rattle.batcher_core.proofs.ChoiceSearch.{if_both, some_is_found, none_is_found, least_is_chosen, no_least}
-use Rattle.batcher_core.proofs.ChoiceTasks.{Allows}
+use Rattle.batcher_core.proofs.ChoiceTasks.{Gives}
 
 -- what is known of a worker whose call is taken and not answered
 taken_row : (job : CoreJob) (book : List (List Entry)) (t : Task) (st : Status) (c : CallState) (b : Bool) → b ≡ true → StatusFits job book t st c b → (st ≡ Executing) × IsAtCall job t
@@ -47,23 +47,23 @@ module _ (job : CoreJob) (s : State) (w : ℕ) (h : PartsKept job s) (hd : Hold)
   has_looked : nat_lt hd.looks job.workers ≡ false → hd.looks ≡ job.workers
   has_looked e = let below : hd.looks ≤ job.workers = stands.1 in let above : job.workers ≤ hd.looks = ltb-false hd.looks job.workers e in omega (arith, below, above)
 
-  answer_with_allows : (u n t leaf : ℕ) (o : Option Place) → hd.published ≡ true → hd.took u ≡ true → hd.answered u ≡ false
-      → job.plan.kind n ≡ Some (LeafNode leaf) → s.task u ≡ Started n t → place_of s.book leaf ≡ o → o ≢ None → Allows job s w (answer_with u o)
-  answer_with_allows u n t leaf None published took owed kind mine at some = absurd (some refl)
-  answer_with_allows u n t leaf (Some place) published took owed kind mine at some = (hd, holds, published, took, owed, (n, leaf, (kind, t, mine), rw at refl))
+  answer_with_gives : (u n t leaf : ℕ) (o : Option Place) → hd.published ≡ true → hd.took u ≡ true → hd.answered u ≡ false
+      → job.plan.kind n ≡ Some (LeafNode leaf) → s.task u ≡ Started n t → place_of s.book leaf ≡ o → o ≢ None → Gives job s w (answer_with u o)
+  answer_with_gives u n t leaf None published took owed kind mine at some = absurd (some refl)
+  answer_with_gives u n t leaf (Some place) published took owed kind mine at some = (hd, holds, published, took, owed, (n, leaf, (kind, t, mine), rw at refl))
 
   answer_started : (u n t leaf : ℕ) → hd.published ≡ true → hd.took u ≡ true → hd.answered u ≡ false → s.status u ≡ Executing
       → IsCall job (leaf_of (job.plan.kind n)) → s.task u ≡ Started n t → s.node n ≡ Taken → job.plan.kind n ≡ Some (LeafNode leaf)
-      → Allows job s w (answer_with u (place_of s.book (leaf_of (job.plan.kind n))))
+      → Gives job s w (answer_with u (place_of s.book (leaf_of (job.plan.kind n))))
   answer_started u n t leaf published took owed executing calls mine taken kind =
       let call : IsCall job leaf = rw kind at calls in
       let public : is_published s.hold ≡ true = rw holds.0 published in
       let some = booked_executing (place_of s.book leaf) (s.node n) (h.holder n) s.task s.status s.call (is_published s.hold) u n t taken
       (h.tasks.holders.named u n (rw mine refl)) mine executing public (h.booked n leaf kind call) in
-      rw kind (answer_with_allows u n t leaf (place_of s.book leaf) published took owed kind mine refl some)
+      rw kind (answer_with_gives u n t leaf (place_of s.book leaf) published took owed kind mine refl some)
 
   answer_task : (u : ℕ) (t : Task) → s.task u ≡ t → IsAtCall job t → TaskFits job.plan s.node s.mark t → hd.published ≡ true → hd.took u ≡ true → hd.answered u ≡ false
-      → s.status u ≡ Executing → Allows job s w (answer_with u (place_of s.book (leaf_named job.plan (names t))))
+      → s.status u ≡ Executing → Gives job s w (answer_with u (place_of s.book (leaf_named job.plan (names t))))
   answer_task u (Started n start) mine calls fits published took owed executing = answer_started u n start fits.0.0 published took owed executing calls mine fits.1 fits.0.1
   answer_task u Idle mine calls fits published took owed executing = absurd calls
   answer_task u (Run n) mine calls fits published took owed executing = absurd calls
@@ -73,18 +73,18 @@ module _ (job : CoreJob) (s : State) (w : ℕ) (h : PartsKept job s) (hd : Hold)
   answer_task u (Whole n) mine calls fits published took owed executing = absurd calls
   answer_task u (Handed p) mine calls fits published took owed executing = absurd calls
 
-  answer_allows : (o : Option ℕ) → least_below (is_owed hd) job.workers ≡ o → hd.looks ≡ job.workers → ((u : ℕ) → hd.took u ≡ true → hd.published ≡ true)
-      → Allows job s w (choice_answer job s o)
-  answer_allows None none looks public =
+  answer_gives : (o : Option ℕ) → least_below (is_owed hd) job.workers ≡ o → hd.looks ≡ job.workers → ((u : ℕ) → hd.took u ≡ true → hd.published ≡ true)
+      → Gives job s w (choice_answer job s o)
+  answer_gives None none looks public =
       (hd, holds, looks, λ u took. not_both (hd.took u) (hd.answered u) took (no_least (is_owed hd) job.workers none u (rw looks at (stands.2 u took))))
-  answer_allows (Some u) least looks public =
+  answer_gives (Some u) least looks public =
       let owed = both_true (hd.took u) (hd.answered u) (least_is_chosen (is_owed hd) job.workers u least) in
       let taken : is_taken_by s.hold u ≡ true = rw holds.0 (least_is_chosen (is_owed hd) job.workers u least) in
       let row = taken_row job s.book (s.task u) (s.status u) (s.call u) (is_taken_by s.hold u) taken (h.statuses u) in
       answer_task u (s.task u) refl row.1 (h.tasks.fits u) (public u owed.0) owed.0 owed.1 row.0
 
-  publish_allows : hd.looks ≡ job.workers → (some_below hd.took job.workers && not hd.published) ≡ true → Needs job s w Publish
-  publish_allows looks e =
+  publish_gives : hd.looks ≡ job.workers → (some_below hd.took job.workers && not hd.published) ≡ true → Needs job s w Publish
+  publish_gives looks e =
       let both = both_true (some_below hd.took job.workers) hd.published e in
       (hd, holds, looks, some_is_found hd.took job.workers both.0, both.1)
 
@@ -94,11 +94,11 @@ module _ (job : CoreJob) (s : State) (w : ℕ) (h : PartsKept job s) (hd : Hold)
   is_public looks e true some u took = not_both (some_below hd.took job.workers) hd.published some e
   is_public looks e false none u took = let f = none_is_found hd.took job.workers none u (rw looks at (stands.2 u took)) in absurd cc
 
-  pub holding_allows : Allows job s w (choice_holding job s hd)
-  holding_allows =
-      if_both (Allows job s w) (nat_lt hd.looks job.workers) (Some (Take hd.looks))
+  pub holding_gives : Gives job s w (choice_holding job s hd)
+  holding_gives =
+      if_both (Gives job s w) (nat_lt hd.looks job.workers) (Some (Take hd.looks))
       (if some_below hd.took job.workers && not hd.published then Some Publish else choice_answer job s (least_below (is_owed hd) job.workers))
       (λ e. (hd, holds, refl, ltb-true hd.looks job.workers e))
-      (λ e. if_both (Allows job s w) (some_below hd.took job.workers && not hd.published) (Some Publish) (choice_answer job s (least_below (is_owed hd) job.workers))
-      (λ f. publish_allows (has_looked e) f)
-      (λ f. answer_allows (least_below (is_owed hd) job.workers) refl (has_looked e) (is_public (has_looked e) f (some_below hd.took job.workers) refl)))
+      (λ e. if_both (Gives job s w) (some_below hd.took job.workers && not hd.published) (Some Publish) (choice_answer job s (least_below (is_owed hd) job.workers))
+      (λ f. publish_gives (has_looked e) f)
+      (λ f. answer_gives (least_below (is_owed hd) job.workers) refl (has_looked e) (is_public (has_looked e) f (some_below hd.took job.workers) refl)))

@@ -11,14 +11,17 @@ pub each_append : {A : Type 0} (P : A → Type 0) (xs ys : List A) → AllByRecu
 each_append P [] ys h g = g
 each_append P (x ∷ xs) ys h g = (h.0, each_append P xs ys h.1 g)
 
+-- what follows of each element
 pub each_so : {A : Type 0} (P Q : A → Type 0) → ((a : A) → P a → Q a) → (xs : List A) → AllByRecursion P xs → AllByRecursion Q xs
 each_so P Q f [] h = tt
 each_so P Q f (x ∷ xs) h = (f x h.0, each_so P Q f xs h.1)
 
+-- two facts of each element
 pub each_both : {A : Type 0} (P Q : A → Type 0) (xs : List A) → AllByRecursion P xs → AllByRecursion Q xs → AllByRecursion (λ a. P a × Q a) xs
 each_both P Q [] h g = tt
 each_both P Q (x ∷ xs) h g = ((h.0, g.0), each_both P Q xs h.1 g.1)
 
+-- what follows of what each element is mapped to
 pub each_mapped : {A : Type 0} (f : A → ℕ) (P : A → Type 0) (Q : ℕ → Type 0) → ((a : A) → P a → Q (f a)) → (xs : List A) → AllByRecursion P xs → AllByRecursion Q (map f xs)
 each_mapped f P Q g [] h = tt
 each_mapped f P Q g (x ∷ xs) h = (g x h.0, each_mapped f P Q g xs h.1)
@@ -38,12 +41,13 @@ apart_by P xs ys h g = each_so P (λ x. AllByRecursion (λ y. x ≢ y) ys) (λ x
 
 -- where equal leaves have equal workers, distinct workers have distinct leaves
 other_leaves : (P : Entry → Type 0) → ((a b : Entry) → P a → P b → a.leaf ≡ b.leaf → a.worker ≡ b.worker)
-  → (a : Entry) → P a → (es : List Entry) → AllByRecursion P es → AllByRecursion (λ w. a.worker ≢ w) (map (λ (e : Entry). e.worker) es)
-  → AllByRecursion (λ l. a.leaf ≢ l) (map (λ (e : Entry). e.leaf) es)
+    → (a : Entry) → P a → (es : List Entry) → AllByRecursion P es → AllByRecursion (λ w. a.worker ≢ w) (map (λ (e : Entry). e.worker) es)
+    → AllByRecursion (λ l. a.leaf ≢ l) (map (λ (e : Entry). e.leaf) es)
 other_leaves P same a p [] h g = tt
 other_leaves P same a p (e ∷ es) h g = ((λ q. g.0 (same a e p h.0 q)), other_leaves P same a p es h.1 g.1)
 
+-- so all leaves are distinct
 pub distinct_leaves : (P : Entry → Type 0) → ((a b : Entry) → P a → P b → a.leaf ≡ b.leaf → a.worker ≡ b.worker)
-  → (es : List Entry) → AllByRecursion P es → AreDistinct (map (λ (e : Entry). e.worker) es) → AreDistinct (map (λ (e : Entry). e.leaf) es)
+    → (es : List Entry) → AllByRecursion P es → AreDistinct (map (λ (e : Entry). e.worker) es) → AreDistinct (map (λ (e : Entry). e.leaf) es)
 distinct_leaves P same [] h g = tt
 distinct_leaves P same (e ∷ es) h g = (other_leaves P same e h.0 es h.1 g.0, distinct_leaves P same es h.1 g.1)

@@ -1,4 +1,4 @@
--- Each event keeps the parts.
+-- Each event keeps all that is carried.
 use Rattle.std.proofs.Common.{ℕ, subst, sym}
 use Rattle.sp_order.specs.Plans.{IsPlan}
 use Rattle.batcher_core.specs.declared.event.Event.{Event}
@@ -15,7 +15,7 @@ use Rattle.batcher_core.proofs.ArriveKeeps as arrivals
 use Rattle.batcher_core.proofs.GateKeeps.{post_keeps, win_keeps, take_keeps, answer_keeps, release_keeps, leave_keeps}
 use Rattle.batcher_core.proofs.PublishKeeps.{publish_keeps}
 
--- each event keeps the parts
+-- row by row
 pub event_keeps : (job : CoreJob) (s new : State) (w : ℕ) (event : Event) → IsPlan job.plan → PartsKept job s → Happens job s w event new → PartsKept job new
 event_keeps job s new w (Claim n) laws h go = subst (PartsKept job) (sym go.does) (claim_keeps job s w n laws go.worker_in h go.needs)
 event_keeps job s new w (Start n) laws h go = subst (PartsKept job) (sym go.does) (start_keeps job s w n laws go.worker_in h go.needs)

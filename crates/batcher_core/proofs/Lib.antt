@@ -35,6 +35,8 @@ pub mod TicksStand
 pub mod PartsStand
 pub mod ListKeeps
 pub mod Reached
+pub mod OneCall
+pub mod Moves
 pub mod ChoiceSearch
 pub mod ChoiceTasks
 pub mod ChoiceGate
@@ -44,3 +46,14 @@ pub mod CoreEvents
 pub mod EventsIn
 pub mod Starting
 pub mod Turning
+pub mod ChoiceReady
+pub mod RunFacts
+pub mod ChoiceProgress
+pub mod InRange
+pub mod FuelJobs
+pub mod FuelGate
+pub mod FuelLowers
+pub mod TurnRuns
+pub mod OneBatch
+pub mod OneRun
+pub mod OneWork

@@ -1,4 +1,4 @@
--- The opening state has the parts.
+-- The opening state has all that is carried.
 use Rattle.std.proofs.Common.{ℕ, ◌≡◌, ◌≢◌, Bool, false, Option, None, arith, refl, sym, ap}
 use Rattle.std.proofs.lemmas.Bool.Decides.{nat_tests}
 use Rattle.sp_order.specs.Plans.{Nodes, IsPlan, parent_of}
@@ -17,6 +17,7 @@ use Rattle.batcher_core.specs.KeptTicks.{Stamp, stamps, StartOf, TicksKept}
 use Rattle.batcher_core.specs.KeptBook.{booked_by, valued_by}
 use Rattle.batcher_core.specs.KeptParts.{PartsKept}
 
+-- the nodes
 opening_nodes : (plan : Nodes) → IsPlan plan → (plan.kind 0 ≢ None) → NodesKept plan (put (λ n. Waiting) 0 Ready)
 opening_nodes plan laws inside = record {
   root = grind (arith, nat_tests);
@@ -29,9 +30,11 @@ opening_nodes plan laws inside = record {
   ran_leaf = λ n w s e k. absurd (grind (arith, nat_tests));
 }
 
+-- no node is taken
 not_taken : (p : ℕ) → put (λ n. Waiting) 0 Ready p ≢ Taken
 not_taken p e = grind (arith, nat_tests)
 
+-- the tasks
 opening_tasks : (plan : Nodes) → TasksKept plan (put (λ n. Waiting) 0 Ready) (λ n. 0) (λ w. Idle) (λ n. None)
 opening_tasks plan = record {
   holders = record { named = λ w n e. cc; holds = λ w n e. cc };
@@ -40,9 +43,11 @@ opening_tasks plan = record {
   marks = λ p l r par. grind (arith, nat_tests);
 }
 
+-- no leaf has a stamp
 opening_stamp : (n : ℕ) → stamps (put (λ n. Waiting) 0 Ready) (λ w. Idle) (λ n. None) n ≡ None
 opening_stamp n = grind (arith, nat_tests)
 
+-- the ticks
 opening_ticks : (plan : Nodes) (workers : ℕ) (stamps : ℕ → Option Stamp) (node : ℕ → Progress) → ((n : ℕ) → stamps n ≡ None) → TicksKept plan workers node 0 stamps
 opening_ticks plan workers stamps node none = record {
   draw = λ t. StartOf 0;
@@ -55,13 +60,16 @@ opening_ticks plan workers stamps node none = record {
   one_at_once = λ n m w s t d e i j l. let f = none n in cc;
 }
 
+-- nobody is in the book
 opening_booked : (n : ℕ) (task : ℕ → Task) (status : ℕ → Status) (call : ℕ → CallState) (b : Bool)
-  → booked_by (put (λ n. Waiting) 0 Ready n) None task status call b ≡ None
+    → booked_by (put (λ n. Waiting) 0 Ready n) None task status call b ≡ None
 opening_booked n task status call b = grind (arith, nat_tests)
 
+-- no leaf has its value
 opening_valued : (n : ℕ) (task : ℕ → Task) → valued_by (put (λ n. Waiting) 0 Ready n) None task ≡ false
 opening_valued n task = grind (arith, nat_tests)
 
+-- all of it
 pub opening_kept : (job : CoreJob) → IsPlan job.plan → job.plan.kind 0 ≢ None → PartsKept job opening_state
 unfolding place_of opening_state
 opening_kept job laws inside = record {

@@ -23,8 +23,9 @@ above_taken node h (one_below {top = a} {parent = p} {node = n} u side) d = abov
 -- a leaf that isn't waiting has all leaves before it done
 pub before_done : (plan : Nodes) (node : ℕ → Progress) (n m : ℕ) → NodesKept plan node → ComesBefore plan n m → node m ≢ Waiting → is_done (node n) ≡ true
 before_done plan node n m h b m_there =
-  under_done node h b.2.under_left (grind (arith, above_taken node h b.2.under_right m_there, h.second b.2.parent b.2.left b.2.right b.2.series))
+    under_done node h b.2.under_left (grind (arith, above_taken node h b.2.under_right m_there, h.second b.2.parent b.2.left b.2.right b.2.series))
 
+-- a done leaf has run before the tick, if each that has run has
 ran_by : (x : Progress) (tick : ℕ) → is_done x ≡ true → x ≢ Done → ((w s e : ℕ) → x ≡ Ran w s e → e < tick) → RanBefore x tick
 ran_by (Ran w s e) tick d n f = f w s e refl
 ran_by Waiting tick d n f = cc
@@ -34,21 +35,21 @@ ran_by Done tick d n f = n refl
 
 -- a leaf before one that isn't waiting has run, and its end was drawn
 pub before_ran : (plan : Nodes) (workers : ℕ) (node : ℕ → Progress) (tick : ℕ) (task : ℕ → Task) (holder : ℕ → Option ℕ) (n m : ℕ)
-  → NodesKept plan node → TicksKept plan workers node tick (stamps node task holder) → ComesBefore plan n m → node m ≢ Waiting
-  → RanBefore (node n) tick
+    → NodesKept plan node → TicksKept plan workers node tick (stamps node task holder) → ComesBefore plan n m → node m ≢ Waiting
+    → RanBefore (node n) tick
 before_ran plan workers node tick task holder n m h ticks b there =
-  let done : is_done (node n) ≡ true = before_done plan node n m h b there in
-  ran_by (node n) tick done (h.leaf_ran n b.0 b.1)
+    let done : is_done (node n) ≡ true = before_done plan node n m h b there in
+    ran_by (node n) tick done (h.leaf_ran n b.0 b.1)
     (λ v s e ran. (ticks.end_drawn n v s e (rw ran refl)).1)
 
 -- start: the leaf n of worker w draws the tick
 pub start_ticks : (plan : Nodes) (workers : ℕ) (node : ℕ → Progress) (tick : ℕ) (old : ℕ → Option Stamp) (w n : ℕ)
-  → TicksKept plan workers node tick old → w < workers → old n ≡ None
-  → ((m s : ℕ) (e : Option ℕ) → old m ≡ Some (stamp w s e) → e ≢ None)
-  → ((m : ℕ) → ComesBefore plan m n → RanBefore (node m) tick)
-  → ((m : ℕ) → ComesBefore plan n m → old m ≡ None)
-  → ((m : ℕ) → ComesBefore plan m n → m ≢ n)
-  → TicksKept plan workers node (tick + 1) (put old n (Some (stamp w tick None)))
+    → TicksKept plan workers node tick old → w < workers → old n ≡ None
+    → ((m s : ℕ) (e : Option ℕ) → old m ≡ Some (stamp w s e) → e ≢ None)
+    → ((m : ℕ) → ComesBefore plan m n → RanBefore (node m) tick)
+    → ((m : ℕ) → ComesBefore plan n m → old m ≡ None)
+    → ((m : ℕ) → ComesBefore plan m n → m ≢ n)
+    → TicksKept plan workers node (tick + 1) (put old n (Some (stamp w tick None)))
 start_ticks plan workers node tick old w n h fits fresh ended before after apart = record {
   draw = put h.draw tick (StartOf n);
   start_drawn = λ m v s e k. grind (arith, nat_tests, h.start_drawn m v s e);
@@ -62,8 +63,8 @@ start_ticks plan workers node tick old w n h fits fresh ended before after apart
 
 -- end: the leaf n of worker w draws the tick
 pub end_ticks : (plan : Nodes) (workers : ℕ) (node : ℕ → Progress) (tick : ℕ) (old : ℕ → Option Stamp) (w n s : ℕ)
-  → TicksKept plan workers node tick old → old n ≡ Some (stamp w s None)
-  → TicksKept plan workers node (tick + 1) (put old n (Some (stamp w s (Some tick))))
+    → TicksKept plan workers node tick old → old n ≡ Some (stamp w s None)
+    → TicksKept plan workers node (tick + 1) (put old n (Some (stamp w s (Some tick))))
 end_ticks plan workers node tick old w n s h was = record {
   draw = put h.draw tick (EndOf n);
   start_drawn = λ m v t e k. grind (arith, nat_tests, h.start_drawn m v t e, h.start_drawn n w s None was);
@@ -77,9 +78,9 @@ end_ticks plan workers node tick old w n s h was = record {
 
 -- the same stamps, where no leaf that has run is another
 pub same_ticks : (plan : Nodes) (workers : ℕ) (node newer : ℕ → Progress) (tick : ℕ) (old new : ℕ → Option Stamp)
-  → TicksKept plan workers node tick old → ((n : ℕ) → new n ≡ old n)
-  → ((n w s e : ℕ) → node n ≡ Ran w s e → newer n ≡ Ran w s e)
-  → TicksKept plan workers newer tick new
+    → TicksKept plan workers node tick old → ((n : ℕ) → new n ≡ old n)
+    → ((n w s e : ℕ) → node n ≡ Ran w s e → newer n ≡ Ran w s e)
+    → TicksKept plan workers newer tick new
 same_ticks plan workers node newer tick old new h same ran = record {
   draw = h.draw;
   start_drawn = λ m v s e k. h.start_drawn m v s e (sym (same m) ∙ k);

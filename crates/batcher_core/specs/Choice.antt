@@ -1,5 +1,5 @@
 -- The choice of a worker's turn: the event that it makes, or none. In each function the first line that fits decides.
-use Rattle.std.specs.Prelude.{ℕ, zero, suc, ◌+◌, ◌-◌, ◌%◌, ◌==◌, ◌&&◌, ◌||◌, not, nat_lt, Bool, false, if◌then◌else◌, Option, None, Some, List, [], ◌∷◌}
+use Rattle.std.specs.Prelude.{ℕ, zero, suc, ◌≡◌, ◌⊎◌, ◌+◌, ◌-◌, ◌%◌, ◌==◌, ◌&&◌, ◌||◌, not, nat_lt, Bool, false, if◌then◌else◌, Option, None, Some, List, [], ◌∷◌, ◌++◌}
 use Rattle.seq_objects.specs.Objects.{value_of}
 use Rattle.seq_objects.specs.Spin.{spin_of}
 use Rattle.seq_objects.specs.declared.act.Act.{Act}
@@ -17,9 +17,10 @@ use Rattle.batcher_core.specs.declared.status.CallState.{CallState}
 use Rattle.batcher_core.specs.declared.status.CallState.TheVariants.{NotCalled, Out, Got}
 use Rattle.batcher_core.specs.declared.event.Event.{Event}
 use Rattle.batcher_core.specs.declared.event.Event.TheVariants.{Claim, Start, OpenParRight, OpenParLeft, OpenSeqLeft, OpenSeqRight, Post, Win, Take, Publish, Answer, Release, Leave, Keep, End, FinishLeaf, FinishSeq, FinishPar, ArriveFirst, ArriveSecond}
-use Rattle.batcher_core.specs.State.{CoreJob, Hold, State, CoreState}
+use Rattle.batcher_core.specs.State.{put, CoreJob, Hold, State, CoreState}
 use Rattle.batcher_core.specs.Operations.{leaf_of, Place, place_of, receipt_for}
 use Rattle.batcher_core.specs.Tasks.{names}
+use Rattle.batcher_core.specs.Lists.{ready_after}
 
 -- some number below the bound is chosen
 unfoldable pub some_below : (ℕ → Bool) → ℕ → Bool
@@ -168,3 +169,10 @@ choice_under job s w (Some h) = if h.worker == w then choice_holding job s.state
 -- the event of the turn of worker w
 abbrev pub choice : CoreJob → CoreState → ℕ → Option Event
 choice job s w = choice_under job s w s.state.hold
+
+-- The node n, as worker w claims it, was the newest of its list; or, where that list is empty, the oldest of some list.
+-- The lists stay but for that end of that list.
+abbrev pub LeavesAnEnd : (ℕ → List ℕ) → ℕ → ℕ → Type 0
+LeavesAnEnd ready w n =
+    ((rest : List ℕ) × (ready w ≡ rest ++ n ∷ []) × (ready_after w (Claim n) ready ≡ put ready w rest))
+    ⊎ ((v : ℕ) × (rest : List ℕ) × (ready w ≡ []) × (ready v ≡ n ∷ rest) × (ready_after w (Claim n) ready ≡ put ready v rest))

@@ -26,3 +26,5 @@ pub mod Choice
 pub mod Runs
 pub mod Looks
 pub mod Cores
+pub mod Ranges
+pub mod Fuel

@@ -24,17 +24,17 @@ impl Table {
         match event {
             Event::Claim(node) => self.claim(worker, node),
             Event::Start(node) => self.start(worker, node),
-            Event::OpenParRight(parent, left, right) => return self.open_par_right(worker, parent, left, right),
-            Event::OpenParLeft(parent, left, right) => return self.open_par_left(worker, parent, left, right),
-            Event::OpenSeqLeft(parent, left, right) => return self.open_seq_left(worker, parent, left, right),
-            Event::OpenSeqRight(parent, left, right) => return self.open_seq_right(worker, parent, left, right),
-            Event::Keep(node, start, value) => self.keep(worker, node, start, value),
-            Event::End(node, start) => self.end(worker, node, start),
-            Event::FinishLeaf(node, start, end) => self.finish_leaf(worker, node, start, end),
-            Event::FinishSeq(parent, left, right) => self.finish_series(worker, parent, left, right),
-            Event::FinishPar(parent, left, right) => self.finish_parallel(worker, parent, left, right),
-            Event::ArriveFirst(parent, left, right, node) => self.arrive_first(worker, parent, left, right, node),
-            Event::ArriveSecond(parent, left, right, node) => self.arrive_second(worker, parent, left, right, node),
+            Event::OpenParRight { parent, left, right } => return self.open_par_right(worker, parent, left, right),
+            Event::OpenParLeft { parent, left, right } => return self.open_par_left(worker, parent, left, right),
+            Event::OpenSeqLeft { parent, left, right } => return self.open_seq_left(worker, parent, left, right),
+            Event::OpenSeqRight { parent, left, right } => return self.open_seq_right(worker, parent, left, right),
+            Event::Keep { node, start, value } => self.keep(worker, node, start, value),
+            Event::End { node, start } => self.end(worker, node, start),
+            Event::FinishLeaf { node, start, end } => self.finish_leaf(worker, node, start, end),
+            Event::FinishSeq { parent, left, right } => self.finish_series(worker, parent, left, right),
+            Event::FinishPar { parent, left, right } => self.finish_parallel(worker, parent, left, right),
+            Event::ArriveFirst { parent, left, right, side: node } => self.arrive_first(worker, parent, left, right, node),
+            Event::ArriveSecond { parent, left, right, side: node } => self.arrive_second(worker, parent, left, right, node),
             _ => {}
         }
         Ok(())

@@ -22,8 +22,8 @@ fn of_run(kind: Kind, node: u32) -> Option<Event>
 {
     match kind {
         Kind::LeafNode(_) => Some(Event::Start(node)),
-        Kind::SeqNode(left, right) => Some(Event::OpenSeqLeft(node, left, right)),
-        Kind::ParNode(left, right) => Some(Event::OpenParRight(node, left, right)),
+        Kind::SeqNode(left, right) => Some(Event::OpenSeqLeft { parent: node, left, right }),
+        Kind::ParNode(left, right) => Some(Event::OpenParRight { parent: node, left, right }),
     }
 }
 
@@ -32,7 +32,7 @@ fn of_half(kind: Kind, node: u32) -> Option<Event>
     ensures { result ≡ choice_half (Some kind) node }
 {
     match kind {
-        Kind::ParNode(left, right) => Some(Event::OpenParLeft(node, left, right)),
+        Kind::ParNode(left, right) => Some(Event::OpenParLeft { parent: node, left, right }),
         _ => None,
     }
 }
@@ -42,7 +42,7 @@ fn of_second(kind: Kind, parent: u32) -> Option<Event>
     ensures { result ≡ choice_second (Some kind) parent }
 {
     match kind {
-        Kind::SeqNode(left, right) => Some(Event::OpenSeqRight(parent, left, right)),
+        Kind::SeqNode(left, right) => Some(Event::OpenSeqRight { parent, left, right }),
         _ => None,
     }
 }
@@ -52,7 +52,7 @@ fn of_parent(kind: Kind, parent: u32) -> Option<Event>
     ensures { result ≡ choice_parent (Some kind) parent }
 {
     match kind {
-        Kind::SeqNode(left, right) => Some(Event::FinishSeq(parent, left, right)),
+        Kind::SeqNode(left, right) => Some(Event::FinishSeq { parent, left, right }),
         _ => None,
     }
 }
@@ -63,9 +63,9 @@ fn of_arrive(kind: Kind, parent: u32, mark: u32, node: u32) -> Option<Event>
 {
     match kind {
         Kind::ParNode(left, right) => Some(if mark == 0 {
-            Event::ArriveFirst(parent, left, right, node)
+            Event::ArriveFirst { parent, left, right, side: node }
         } else {
-            Event::ArriveSecond(parent, left, right, node)
+            Event::ArriveSecond { parent, left, right, side: node }
         }),
         _ => None,
     }
@@ -76,7 +76,7 @@ fn of_handed(kind: Kind, parent: u32) -> Option<Event>
     ensures { result ≡ choice_handed (Some kind) parent }
 {
     match kind {
-        Kind::ParNode(left, right) => Some(Event::FinishPar(parent, left, right)),
+        Kind::ParNode(left, right) => Some(Event::FinishPar { parent, left, right }),
         _ => None,
     }
 }
@@ -137,7 +137,7 @@ impl Table {
         ensures { result ≡ work_due (nodes_of plan.now) acts.now ((state_of self.now).task worker) }
     {
         match self.tasks[worker as usize] {
-            Task::Started(node, _) => match plan.kind(node) {
+            Task::Started { node, .. } => match plan.kind(node) {
                 Kind::LeafNode(leaf) => steps_of(acts[leaf as usize]),
                 _ => None,
             },
@@ -157,9 +157,9 @@ impl Table {
             Task::Idle => self.choose_claim(workers, worker),
             Task::Run(node) => of_run(plan.kind(node), node),
             Task::Half(node) => of_half(plan.kind(node), node),
-            Task::Started(node, start) => Some(Event::Keep(node, start, value)),
-            Task::Kept(node, start) => Some(Event::End(node, start)),
-            Task::Ended(node, start, end) => Some(Event::FinishLeaf(node, start, end)),
+            Task::Started { node, start } => Some(Event::Keep { node, start, value }),
+            Task::Kept { node, start } => Some(Event::End { node, start }),
+            Task::Ended { node, start, end } => Some(Event::FinishLeaf { node, start, end }),
             Task::Whole(node) => self.choose_whole(plan, node),
             Task::Handed(node) => of_handed(plan.kind(node), node),
         }

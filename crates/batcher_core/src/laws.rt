@@ -2,10 +2,14 @@
 //!
 //! What the proofs carry from event to event, `PartsKept` and `ListsKept`, is more than the invariant says, and
 //! implies it. Neither the parts nor what is carried of them look at the lists of ready nodes.
-ghost use Rattle.std.specs.Prelude.{◌≡◌, ◌≢◌, ℕ, ◌<◌, None, Some, List};
+ghost use Rattle.std.specs.Prelude.{◌≡◌, ◌≢◌, ℕ, ◌<◌, None, Some, List, [], ◌∷◌};
 ghost use Rattle.seq_objects.specs.declared.act.Act.{Act};
-ghost use Rattle.sp_order.specs.Precedence.{Tree, leaves, IsBefore};
-ghost use Rattle.sp_order.specs.Plans.{IsPlan};
+ghost use Rattle.seq_objects.specs.declared.act.Act.TheVariants.{Call};
+ghost use Rattle.seq_objects.specs.declared.op.Op.TheVariants.{CounterAdd};
+ghost use Rattle.sp_order.specs.declared.node.Kind.TheVariants.{SeqNode, ParNode};
+ghost use Rattle.sp_order.specs.declared.node.Move.TheVariants.{OpenSecond, FinishParent, Arrive};
+ghost use Rattle.sp_order.specs.Precedence.{Tree, leaf, leaves, IsBefore};
+ghost use Rattle.sp_order.specs.Plans.{Nodes, IsPlan, IsSide};
 ghost use Rattle.sp_order.specs.Stands.{IsPlanOf};
 ghost use Rattle.batcher_core.specs.declared.progress.Progress.{Progress};
 ghost use Rattle.batcher_core.specs.declared.progress.Progress.TheVariants.{Ran};
@@ -19,7 +23,9 @@ ghost use Rattle.batcher_core.specs.KeptParts.{PartsKept};
 ghost use Rattle.batcher_core.specs.KeptLists.{ListsKept};
 ghost use Rattle.batcher_core.specs.Runs.{IsReached};
 
-use sp_order::laws::{before_is_by_series, leaf_has_one_node, plan_has_sides, plan_stands_for_tree};
+use sp_order::laws::{
+    before_is_by_series, leaf_has_one_node, plan_has_sides, plan_stands_for_tree,
+};
 
 /// Of a job with a root, the opening state has what the proofs carry.
 pub fn opening_has_parts()
@@ -33,7 +39,7 @@ pub fn event_keeps_parts()
 {}
 
 /// What the proofs carry implies the eight parts of the invariant.
-pub fn carried_parts_hold()
+pub fn kept_parts_hold()
     ensures { (job : CoreJob) (state : State) → PartsKept job state → Parts job state }
 {}
 
@@ -48,7 +54,7 @@ pub fn event_keeps_lists()
 {}
 
 /// What the proofs carry of the lists implies what the invariant says of them.
-pub fn carried_lists_hold()
+pub fn kept_lists_hold()
     ensures { (workers : ℕ) (node : ℕ → Progress) (ready : ℕ → List ℕ) → ListsKept workers node ready → ListsFit workers node ready }
 {}
 
@@ -67,3 +73,16 @@ pub fn leaf_before_has_ended()
     before_is_by_series();
     leaf_has_one_node();
 }
+
+/// The move after a node says which side it is: the left one of a series, the right one of a series, or a side of
+/// a parallel block. So an event that names a block by its sides is the one that the move asks for.
+pub fn moves_tell_sides()
+    ensures second { (plan : Nodes) (n p : ℕ) → IsPlan plan → plan.after n ≡ OpenSecond p → (r : ℕ) × (plan.kind p ≡ Some (SeqNode n r)) }
+    ensures parent { (plan : Nodes) (n p : ℕ) → IsPlan plan → plan.after n ≡ FinishParent p → (l : ℕ) × (plan.kind p ≡ Some (SeqNode l n)) }
+    ensures arrive { (plan : Nodes) (n p : ℕ) → IsPlan plan → plan.after n ≡ Arrive p → (l : ℕ) × (r : ℕ) × (plan.kind p ≡ Some (ParNode l r)) × IsSide plan p n }
+{}
+
+/// Events can follow one another: one worker can run a job of one call to its end, with all that a call takes.
+pub fn one_call_runs_to_end()
+    ensures { (s : CoreState) × IsReached (core_job leaf (Call (CounterAdd 5) ∷ []) 1) s × (s.state.node 0 ≡ Ran 0 0 1) × (s.state.value 0 ≡ Some 5) }
+{}

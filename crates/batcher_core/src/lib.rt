@@ -5,26 +5,26 @@
 //! on `batch_history`, which has the book, and on `seq_objects`.
 #![tactic(auto)]
 
+mod apply;
+mod choose;
 pub mod event;
+pub mod laws;
 mod lists;
 mod opening;
 mod opens;
-pub mod laws;
 pub mod progress;
+pub mod scheduler;
 pub mod spun;
 pub mod status;
 mod steps;
-pub mod scheduler;
-mod apply;
-mod choose;
-
 pub mod table;
 pub mod task;
 pub mod turn;
+pub mod turn_laws;
 
-pub use scheduler::Core;
 pub use event::Event;
 pub use progress::Progress;
+pub use scheduler::Core;
 pub use spun::Spun;
 pub use status::{CallState, Receipt, Status};
 pub use table::Table;

@@ -12,5 +12,5 @@ pub enum Progress {
     /// It is a block, and both its sides are done.
     Done,
     /// It is a leaf that is done: the worker that ran it, and the ticks at which it started and ended.
-    Ran(u32, u64, u64),
+    Ran { worker: u32, start: u64, end: u64 },
 }

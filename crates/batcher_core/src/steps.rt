@@ -27,7 +27,7 @@ impl Table {
         ensures event { state_of self.new ≡ made (state_of self.old) worker (Start node) }
         ensures lists { ready_of self.new ≡ ready_after worker (Start node) (ready_of self.old) }
     {
-        self.tasks[worker as usize] = Task::Started(node, self.tick);
+        self.tasks[worker as usize] = Task::Started { node, start: self.tick };
         self.tick += 1;
     }
 
@@ -43,7 +43,7 @@ impl Table {
     {
         self.values[node as usize] = Some(value);
         self.calls[worker as usize] = CallState::NotCalled;
-        self.tasks[worker as usize] = Task::Kept(node, start);
+        self.tasks[worker as usize] = Task::Kept { node, start };
     }
 
     /// The worker ends the leaf whose value it has kept.
@@ -55,7 +55,7 @@ impl Table {
         ensures event { state_of self.new ≡ made (state_of self.old) worker (End node start) }
         ensures lists { ready_of self.new ≡ ready_after worker (End node start) (ready_of self.old) }
     {
-        self.tasks[worker as usize] = Task::Ended(node, start, self.tick);
+        self.tasks[worker as usize] = Task::Ended { node, start, end: self.tick };
         self.tick += 1;
     }
 
@@ -68,7 +68,7 @@ impl Table {
         ensures event { state_of self.new ≡ made (state_of self.old) worker (FinishLeaf node start end) }
         ensures lists { ready_of self.new ≡ ready_after worker (FinishLeaf node start end) (ready_of self.old) }
     {
-        self.nodes[node as usize] = Progress::Ran(worker, start, end);
+        self.nodes[node as usize] = Progress::Ran { worker, start, end };
         self.tasks[worker as usize] = task_after(node);
     }
 

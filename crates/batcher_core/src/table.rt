@@ -40,7 +40,7 @@ fn is_done(progress: Progress) -> bool
         Progress::Ready => false,
         Progress::Taken => false,
         Progress::Done => true,
-        Progress::Ran(_, _, _) => true,
+        Progress::Ran { .. } => true,
     }
 }
 

@@ -9,12 +9,12 @@ pub enum Task {
     Run(u32),
     /// This parallel block, of which it has made the right side ready.
     Half(u32),
-    /// This leaf, which started at this tick.
-    Started(u32, u64),
-    /// This leaf, which started at this tick and has its value.
-    Kept(u32, u64),
-    /// This leaf, which started at the first tick and ended at the second.
-    Ended(u32, u64, u64),
+    /// This leaf, which has started.
+    Started { node: u32, start: u64 },
+    /// This leaf, which has started and has its value.
+    Kept { node: u32, start: u64 },
+    /// This leaf, which has started and ended.
+    Ended { node: u32, start: u64, end: u64 },
     /// This node, which is done and is not the root.
     Whole(u32),
     /// This parallel block, at which both sides have arrived.

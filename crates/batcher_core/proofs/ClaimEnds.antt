@@ -1,6 +1,5 @@
 -- A node that is chosen to be claimed stands at an end of a list, and nowhere else.
-use Rattle.std.proofs.Common.{ℕ, zero, suc, ◌≡◌, ◌≢◌, ◌<◌, ◌≤◌, ◌+◌, ◌-◌, ◌%◌, ◌⊎◌, Option, Some, None, List, [], ◌∷◌, length, get_or, arith, refl, inl, inr, sym, ◌∙◌}
-use Rattle.std.proofs.lemmas.Grind.{common_steps}
+use Rattle.std.proofs.Common.{ℕ, zero, suc, ◌≡◌, ◌≢◌, ◌≤◌, ◌+◌, ◌-◌, ◌%◌, ◌⊎◌, Option, Some, None, List, [], ◌∷◌, length, get_or, arith, refl, inl, inr, sym, ◌∙◌}
 use Rattle.std.proofs.lemmas.Bool.Decides.{nat_tests}
 use Rattle.batcher_core.specs.declared.progress.Progress.{Progress}
 use Rattle.batcher_core.specs.declared.progress.Progress.TheVariants.{Waiting, Ready, Taken, Done, Ran}
@@ -70,13 +69,13 @@ at_ends : (workers : ℕ) (node : ℕ → Progress) (ready : ℕ → List ℕ) (
 at_ends workers node ready n h one u = record {
   once = rw (h.stands u n) (stands_most (node n) (h.home n) u);
   end = λ some.
-    let e : u ≡ one.0 = stands_one (node n) (h.home n) u one.0 (rw (h.stands u n) at some) (rw (h.stands one.0 n) at (end_stands n (ready one.0) one.1)) in rw e one.1;
+      let e : u ≡ one.0 = stands_one (node n) (h.home n) u one.0 (rw (h.stands u n) at some) (rw (h.stands one.0 n) at (end_stands n (ready one.0) one.1)) in rw e one.1;
 }
 
 idle_choice : (job : CoreJob) (s : CoreState) (w : ℕ) → s.state.hold ≡ None → s.state.status w ≡ Free → s.state.task w ≡ Idle → choice job s w ≡ choice_idle job s.ready w (s.ready w)
 idle_choice job s w hold status task = rw (hold, status, task) refl
 
 pub claim_ends : (job : CoreJob) (s : CoreState) (w n : ℕ) → ListsKept job.workers s.state.node s.ready → s.state.hold ≡ None → s.state.status w ≡ Free → s.state.task w ≡ Idle
-  → choice job s w ≡ Some (Claim n) → (u : ℕ) → IsAtEnd n (s.ready u)
+    → choice job s w ≡ Some (Claim n) → (u : ℕ) → IsAtEnd n (s.ready u)
 claim_ends job s w n h hold status task chosen =
     at_ends job.workers s.state.node s.ready n h (own_ends job s.ready w n (s.ready w) refl (sym (idle_choice job s w hold status task) ∙ chosen))

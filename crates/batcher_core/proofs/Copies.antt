@@ -1,11 +1,8 @@
 -- Lists of one item again and again, as functions of places.
-use Rattle.std.proofs.Common.{ℕ, zero, suc, ◌≡◌, ◌<◌, ◌≤◌, ◌+◌, List, [], ◌∷◌, ◌++◌, length, get_or, map, replicate, arith, refl, sym, ◌∙◌, ap}
+use Rattle.std.proofs.Common.{ℕ, zero, suc, ◌≡◌, ◌+◌, List, [], ◌∷◌, ◌++◌, length, map, replicate, arith, refl, ap}
 use Rattle.std.proofs.lemmas.Grind.{common_steps}
-use Rattle.std.proofs.lemmas.Bool.Decides.{nat_tests}
 use Rattle.std.specs.declared.collections.VecDeque.{VecDeque}
-use Rattle.batcher_core.specs.State.{put}
 use Rattle.batcher_core.specs.Shown.{at, queues}
-use Rattle.batcher_core.proofs.Written.{at_written}
 
 same_at : {A : Type 0} (n : ℕ) (x : A) (m : ℕ) → at (replicate n x) x m ≡ x
 same_at n x m = grind (arith, common_steps)

@@ -1,19 +1,10 @@
 -- The events of a core: what their code looks up is there, and they do what the rules say.
-use Rattle.std.proofs.Common.{ℕ, ◌≡◌, ◌≢◌, ◌<◌, ◌≤◌, ◌+◌, ◌*◌, ◌^◌, Bool, true, false, Option, Some, None, List, slice_index_or, arith, refl, sym, ◌∙◌, subst}
-use Rattle.seq_objects.specs.declared.act.Act.{Act}
-use Rattle.seq_objects.specs.declared.act.Act.TheVariants.{Work, Call}
-use Rattle.sp_order.specs.Plans.{Nodes, IsPlan, IsSide}
-use Rattle.sp_order.specs.declared.node.Kind.{Kind}
-use Rattle.sp_order.specs.declared.node.Kind.TheVariants.{LeafNode, SeqNode, ParNode}
-use Rattle.batcher_core.specs.declared.progress.Progress.{Progress}
-use Rattle.batcher_core.specs.declared.progress.Progress.TheVariants.{Waiting, Ready, Taken}
-use Rattle.batcher_core.specs.declared.task.Task.TheVariants.{Idle, Run, Half, Started, Kept, Ended, Whole, Handed}
-use Rattle.batcher_core.specs.declared.status.Status.TheVariants.{Free, Pending, Executing, Served}
+use Rattle.std.proofs.Common.{ℕ, ◌≡◌, refl}
 use Rattle.batcher_core.specs.declared.event.Event.{Event}
 use Rattle.batcher_core.specs.declared.event.Event.TheVariants.{Claim, Start, OpenParRight, OpenParLeft, OpenSeqLeft, OpenSeqRight, Post, Win, Take, Publish, Answer, Release, Leave, Keep, End, FinishLeaf, FinishSeq, FinishPar, ArriveFirst, ArriveSecond}
 use Rattle.batcher_core.specs.declared.table.Table.{Table}
 use Rattle.batcher_core.specs.State.{CoreJob, State}
-use Rattle.batcher_core.specs.Events.{Needs, Does}
+use Rattle.batcher_core.specs.Events.{Does}
 use Rattle.batcher_core.specs.Shown.{made}
 use Rattle.batcher_core.specs.Looks.{EventIn}
 

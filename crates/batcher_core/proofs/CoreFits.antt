@@ -1,26 +1,20 @@
 -- What a core keeps to: what its choice looks up is there, and so is what its event looks up.
-use Rattle.std.proofs.Common.{ℕ, suc, zero, ◌≡◌, ◌≢◌, ◌<◌, ◌≤◌, ◌+◌, ◌-◌, ◌*◌, ◌^◌, Bool, true, false, Option, Some, None, List, length, slice_index_or, arith, refl, sym, ◌∙◌, ap, subst}
+use Rattle.std.proofs.Common.{ℕ, ◌≡◌, ◌≢◌, ◌<◌, true, None, List, arith, refl, sym, ◌∙◌}
 use Rattle.seq_objects.specs.declared.act.Act.{Act}
-use Rattle.seq_objects.specs.declared.act.Act.TheVariants.{Work, Call}
 use Rattle.sp_order.specs.Precedence.{Tree}
 use Rattle.sp_order.specs.Plans.{Nodes, IsPlan, IsSide}
 use Rattle.sp_order.specs.Preorder.{nodes_of}
-use Rattle.sp_order.specs.declared.node.Kind.{Kind}
-use Rattle.sp_order.specs.declared.node.Kind.TheVariants.{LeafNode, SeqNode, ParNode}
 use Rattle.sp_order.specs.declared.node.Move.{Move}
 use Rattle.sp_order.specs.declared.node.Move.TheVariants.{Root, OpenSecond, FinishParent, Arrive}
 use Rattle.batcher_core.specs.declared.progress.Progress.{Progress}
-use Rattle.batcher_core.specs.declared.progress.Progress.TheVariants.{Waiting, Ready, Taken, Done, Ran}
+use Rattle.batcher_core.specs.declared.progress.Progress.TheVariants.{Waiting, Taken}
 use Rattle.batcher_core.specs.declared.task.Task.{Task}
 use Rattle.batcher_core.specs.declared.task.Task.TheVariants.{Idle, Run, Half, Started, Kept, Ended, Whole, Handed}
-use Rattle.batcher_core.specs.declared.status.Status.{Status}
-use Rattle.batcher_core.specs.declared.status.Status.TheVariants.{Free, Pending, Executing, Served}
 use Rattle.batcher_core.specs.declared.table.Table.{Table}
-use Rattle.batcher_core.specs.State.{State, core_job}
-use Rattle.batcher_core.specs.Operations.{leaf_of, IsLeaf, op_in}
+use Rattle.batcher_core.specs.Operations.{IsLeaf}
 use Rattle.batcher_core.specs.Tasks.{is_done, TaskFits}
 use Rattle.batcher_core.specs.Shown.{state_of}
-use Rattle.batcher_core.specs.Looks.{TaskIn, MoveIn, Looks, IsWork, AllWork}
+use Rattle.batcher_core.specs.Looks.{TaskIn, MoveIn, Looks}
 use Rattle.batcher_core.specs.Cores.{Fits}
 
 done_not_waiting : (p : Progress) → is_done p ≡ true → p ≢ Waiting

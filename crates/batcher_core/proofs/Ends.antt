@@ -47,13 +47,13 @@ not_newest n (suc t) xs h o e = absurd (pick (h (omega arith)))
     pick (inr x) = e x
 
 pub none_taken : (n : ℕ) (xs : List ℕ) → IsAtEnd n xs → (newest oldest : Bool) → (IsNewest n xs → newest ≡ true) → (IsOldest n xs → oldest ≡ true)
-  → newest ≡ false → oldest ≡ false → xs ≡ without n xs
+    → newest ≡ false → oldest ≡ false → xs ≡ without n xs
 none_taken n xs h newest oldest is_new is_old e f = sym (without_none n xs (not_newest n (times n xs) xs h.end (λ p. let z = is_old p in cc) (λ p. let z = is_new p in cc)))
 
 pub dropped_before : (Z : Type 0) (old : ℕ → List ℕ) (xs : List (VecDeque ℕ Z)) (w n : ℕ) (o q : VecDeque ℕ Z)
-  → w < length xs → o ≡ get_or xs w o → q.items ≡ without n o.items
-  → ((v : ℕ) → v < w → queues xs v ≡ without n (old v)) → ((v : ℕ) → w ≤ v → queues xs v ≡ old v)
-  → (v : ℕ) → v < w + 1 → queues (slice_set xs w q) v ≡ without n (old v)
+    → w < length xs → o ≡ get_or xs w o → q.items ≡ without n o.items
+    → ((v : ℕ) → v < w → queues xs v ≡ without n (old v)) → ((v : ℕ) → w ≤ v → queues xs v ≡ old v)
+    → (v : ℕ) → v < w + 1 → queues (slice_set xs w q) v ≡ without n (old v)
 dropped_before Z old xs w n o q below is drop before after v less =
     let e = ap (λ (f : ℕ → List ℕ). f v) (queues_set Z xs w q below) in
     let there = queues_at Z xs w o below is in
@@ -61,8 +61,8 @@ dropped_before Z old xs w n o q below is drop before after v less =
     let a = after v in rw e (grind (arith, nat_tests, drop, there, b, a))
 
 pub dropped_after : (Z : Type 0) (old : ℕ → List ℕ) (xs : List (VecDeque ℕ Z)) (w : ℕ) (q : VecDeque ℕ Z)
-  → w < length xs → ((v : ℕ) → w ≤ v → queues xs v ≡ old v)
-  → (v : ℕ) → w + 1 ≤ v → queues (slice_set xs w q) v ≡ old v
+    → w < length xs → ((v : ℕ) → w ≤ v → queues xs v ≡ old v)
+    → (v : ℕ) → w + 1 ≤ v → queues (slice_set xs w q) v ≡ old v
 dropped_after Z old xs w q below after v more =
     let e = ap (λ (f : ℕ → List ℕ). f v) (queues_set Z xs w q below) in
     let a = after v in rw e (grind (arith, nat_tests, a))

@@ -1,28 +1,26 @@
 -- What the code of a chosen event looks up is there, and the event keeps what the core keeps to.
-use Rattle.std.proofs.Common.{ℕ, ◌≡◌, ◌≢◌, ◌<◌, ◌≤◌, ◌+◌, ◌*◌, ◌^◌, Bool, true, false, Option, Some, None, Result, Ok, Err, IfOk, IfErr, List, slice_index_or, arith, refl, sym, ◌∙◌, ap, subst}
+use Rattle.std.proofs.Common.{ℕ, ◌≡◌, ◌≢◌, ◌<◌, ◌+◌, ◌^◌, Some, None, List, slice_index_or, arith, refl, sym, ◌∙◌, subst}
 use Rattle.seq_objects.specs.declared.act.Act.{Act}
 use Rattle.seq_objects.specs.declared.act.Act.TheVariants.{Work, Call}
 use Rattle.sp_order.specs.Precedence.{Tree}
-use Rattle.sp_order.specs.Plans.{Nodes, IsPlan, IsSide, parent_of}
+use Rattle.sp_order.specs.Plans.{Nodes, IsPlan, IsSide}
 use Rattle.sp_order.specs.Preorder.{nodes_of}
 use Rattle.sp_order.specs.declared.node.Kind.{Kind}
-use Rattle.sp_order.specs.declared.node.Kind.TheVariants.{LeafNode, SeqNode, ParNode}
-use Rattle.batcher_core.specs.declared.progress.Progress.{Progress}
-use Rattle.batcher_core.specs.declared.progress.Progress.TheVariants.{Waiting, Ready, Taken}
+use Rattle.sp_order.specs.declared.node.Kind.TheVariants.{SeqNode, ParNode}
+use Rattle.batcher_core.specs.declared.progress.Progress.TheVariants.{Ready}
 use Rattle.batcher_core.specs.declared.task.Task.{Task}
-use Rattle.batcher_core.specs.declared.task.Task.TheVariants.{Idle, Run, Half, Started, Kept, Ended, Whole, Handed}
+use Rattle.batcher_core.specs.declared.task.Task.TheVariants.{Started, Ended}
 use Rattle.batcher_core.specs.declared.status.Status.{Status}
-use Rattle.batcher_core.specs.declared.status.Status.TheVariants.{Free, Pending, Executing, Served}
+use Rattle.batcher_core.specs.declared.status.Status.TheVariants.{Free}
 use Rattle.batcher_core.specs.declared.event.Event.{Event}
 use Rattle.batcher_core.specs.declared.event.Event.TheVariants.{Claim, Start, OpenParRight, OpenParLeft, OpenSeqLeft, OpenSeqRight, Post, Win, Take, Publish, Answer, Release, Leave, Keep, End, FinishLeaf, FinishSeq, FinishPar, ArriveFirst, ArriveSecond}
 use Rattle.batcher_core.specs.declared.table.Table.{Table}
-use Rattle.batcher_core.specs.State.{CoreJob, State, Hold, core_job}
-use Rattle.batcher_core.specs.Operations.{leaf_of, op_in, IsCall}
-use Rattle.batcher_core.specs.Lists.{ready_after}
+use Rattle.batcher_core.specs.State.{Hold, core_job}
+use Rattle.batcher_core.specs.Operations.{leaf_of, op_in}
 use Rattle.batcher_core.specs.Events.{Needs, Does, Happens}
 use Rattle.batcher_core.specs.Choice.{choice}
-use Rattle.batcher_core.specs.Shown.{state_of, ready_of, shown, made, Sizes, SameSizes}
-use Rattle.batcher_core.specs.Looks.{IsWork, AllWork, TaskIn, EventIn}
+use Rattle.batcher_core.specs.Shown.{state_of, ready_of, shown, made}
+use Rattle.batcher_core.specs.Looks.{IsWork, TaskIn, EventIn}
 use Rattle.batcher_core.specs.Cores.{Fits}
 use Rattle.batcher_core.proofs.CoreFits.{inside, task_in}
 use Rattle.batcher_core.proofs.TickRoom.{tick_most}
@@ -57,7 +55,6 @@ free_served : (s : Status) → s ≡ Free → s ≢ Free → ⊥
 free_served s e not = not e
 
 module _ (tree : Tree) (acts : List Act) (workers : ℕ) (t : Table) (w : ℕ) (h : Fits tree acts workers t) where
-
   ready_in : (n : ℕ) → (state_of t).node n ≡ Ready → n < (nodes_of tree).count
   ready_in n e = inside (nodes_of tree) (state_of t).node h.laws h.parts.nodes.outside n (λ waits. let z = sym waits ∙ e in cc)
 

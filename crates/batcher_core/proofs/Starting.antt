@@ -1,11 +1,10 @@
 -- The opening table of a job whose leaves all work has what a core keeps to.
-use Rattle.std.proofs.Common.{ℕ, ◌≡◌, ◌≢◌, ◌<◌, ◌≤◌, Option, Some, None, List, length, refl, sym, ◌∙◌, ap, subst}
+use Rattle.std.proofs.Common.{ℕ, ◌≡◌, ◌<◌, ◌≤◌, Option, Some, List, length, refl, sym, ◌∙◌, ap, subst}
 use Rattle.seq_objects.specs.declared.act.Act.{Act}
 use Rattle.sp_order.specs.Precedence.{Tree, leaf_count}
 use Rattle.sp_order.specs.Plans.{IsPlan}
 use Rattle.sp_order.specs.Stands.{IsPlanOf}
 use Rattle.sp_order.specs.Preorder.{nodes_of}
-use Rattle.batcher_core.specs.declared.progress.Progress.{Progress}
 use Rattle.batcher_core.specs.declared.status.Status.TheVariants.{Free}
 use Rattle.batcher_core.specs.declared.table.Table.{Table}
 use Rattle.batcher_core.specs.State.{State, core_job, opening_state, opening_core}
@@ -31,8 +30,8 @@ pub root_in : (tree : Tree) → IsPlanOf (nodes_of tree) tree → IsPlan (nodes_
 root_in tree stands laws = laws.within 0 (has_root (nodes_of tree) tree stands)
 
 pub opening_fits : (tree : Tree) (shape : Option Tree) (acts : List Act) (workers : ℕ) (t : Table) → 0 < workers → workers ≤ 32 → IsPlanOf (nodes_of tree) tree → IsPlan (nodes_of tree)
-  → (nodes_of tree).count < 40000 → Some tree ≡ shape → leaf_count shape ≡ length acts → AllWork acts → Sizes t (nodes_of tree).count workers
-  → state_of t ≡ opening_state → ready_of t ≡ opening_core.ready → Fits tree acts workers t
+    → (nodes_of tree).count < 40000 → Some tree ≡ shape → leaf_count shape ≡ length acts → AllWork acts → Sizes t (nodes_of tree).count workers
+    → state_of t ≡ opening_state → ready_of t ≡ opening_core.ready → Fits tree acts workers t
 opening_fits tree shape acts workers t some few stands laws most is leaves works sizes state lists = record {
   some = some;
   few = few;

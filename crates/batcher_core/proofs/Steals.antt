@@ -1,6 +1,5 @@
 -- The search for a node to claim, list by list.
-use Rattle.std.proofs.Common.{ℕ, zero, suc, ◌≡◌, ◌≢◌, ◌<◌, ◌≤◌, ◌+◌, ◌-◌, ◌%◌, Option, Some, None, List, [], ◌∷◌, length, get_or, arith, refl, sym, ◌∙◌, ap, true, false}
-use Rattle.std.proofs.lemmas.Grind.{common_steps}
+use Rattle.std.proofs.Common.{ℕ, zero, suc, ◌≡◌, ◌<◌, ◌≤◌, ◌+◌, ◌-◌, ◌%◌, Option, Some, None, List, [], ◌∷◌, length, get_or, arith, refl, sym, ◌∙◌, true, false}
 use Rattle.batcher_core.specs.Choice.{choice_steal, oldest_or, last_of}
 use Rattle.batcher_core.specs.Looks.{claim_choice}
 use Rattle.batcher_core.specs.declared.event.Event.{Event}
@@ -20,7 +19,7 @@ newest_of p ready w n (suc k) (x ∷ xs) len is some =
     let l = last_at k n x xs (omega arith) (rw e at is) in rw l refl
 
 pub newest_claim : (p : ℕ) (ready : ℕ → List ℕ) (w n k : ℕ) (own items : List ℕ) → own ≡ items → k ≡ length items → n ≡ get_or items (k - 1) n → 0 < k
-  → Some (Claim n) ≡ claim_choice p ready w own
+    → Some (Claim n) ≡ claim_choice p ready w own
 newest_claim p ready w n k own items e len is some = rw e (newest_of p ready w n k items (sym len) is some)
 
 steal_suc : (q : ℕ → List ℕ) (p from many : ℕ) → choice_steal q p from (suc many) ≡ oldest_or (q (from % p)) (choice_steal q p (from + 1) many)
@@ -42,11 +41,11 @@ none_of [] h = refl
 none_of (x ∷ xs) h = absurd (h (omega arith))
 
 pub found : (q : ℕ → List ℕ) (w p k n : ℕ) → q w ≡ [] → choice_steal q p (w + k) (p - k) ≡ choice_steal q p (w + 1) (p - 1) → k < p
-  → 0 < length (q ((w + k) % p)) → n ≡ get_or (q ((w + k) % p)) 0 n → Some (Claim n) ≡ claim_choice p q w (q w)
+    → 0 < length (q ((w + k) % p)) → n ≡ get_or (q ((w + k) % p)) 0 n → Some (Claim n) ≡ claim_choice p q w (q w)
 found q w p k n own so_far below some e = rw own (sym (first_of (q ((w + k) % p)) n (choice_steal q p (w + (k + 1)) (p - (k + 1))) some e) ∙ (sym (steal_step q w p k below) ∙ so_far))
 
 pub passed : (q : ℕ → List ℕ) (w p k : ℕ) → choice_steal q p (w + k) (p - k) ≡ choice_steal q p (w + 1) (p - 1) → k < p
-  → (0 < length (q ((w + k) % p)) → ⊥) → choice_steal q p (w + (k + 1)) (p - (k + 1)) ≡ choice_steal q p (w + 1) (p - 1)
+    → (0 < length (q ((w + k) % p)) → ⊥) → choice_steal q p (w + (k + 1)) (p - (k + 1)) ≡ choice_steal q p (w + 1) (p - 1)
 passed q w p k so_far below none =
     let e : q ((w + k) % p) ≡ [] = none_of (q ((w + k) % p)) none in
     let f = steal_step q w p k below in let g = rw e at f in sym g ∙ so_far

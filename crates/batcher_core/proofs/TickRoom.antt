@@ -1,15 +1,12 @@
 -- There are at most two ticks for each node, so the tick has room.
-use Rattle.std.proofs.Common.{ℕ, zero, suc, ◌≡◌, ◌≢◌, ◌<◌, ◌≤◌, ◌+◌, ◌-◌, ◌*◌, ◌^◌, ◌⊎◌, ◌||◌, Bool, true, false, Option, Some, None, List, [], ◌∷◌, length, arith, refl, inl, inr, sym, ◌∙◌, subst, ap, eqb-true}
-use Rattle.std.proofs.lemmas.Grind.{common_steps}
+use Rattle.std.proofs.Common.{ℕ, zero, suc, ◌≡◌, ◌≢◌, ◌<◌, ◌≤◌, ◌+◌, ◌*◌, ◌⊎◌, ◌||◌, Bool, true, false, Option, Some, None, List, [], ◌∷◌, length, arith, refl, inl, inr, sym, ◌∙◌, ap, eqb-true}
 use Rattle.std.proofs.lemmas.Bool.Decides.{nat_tests}
 use Rattle.std.specs.List.{IsDistinct, AllByRecursion, list_any}
 use Rattle.std.proofs.Math.Dec.{eqb}
 use Rattle.std.proofs.lemmas.Map.Steps.{length-le_from_distinct_below}
-use Rattle.sp_order.specs.Plans.{Nodes, IsPlan}
-use Rattle.batcher_core.specs.declared.progress.Progress.{Progress}
-use Rattle.batcher_core.specs.declared.progress.Progress.TheVariants.{Waiting, Ready, Taken, Done, Ran}
+use Rattle.sp_order.specs.Plans.{IsPlan}
 use Rattle.batcher_core.specs.State.{CoreJob, State}
-use Rattle.batcher_core.specs.KeptTicks.{Stamp, Drawn, StartOf, EndOf, StartsAt, EndsAt, stamp_by, stamps, TicksKept}
+use Rattle.batcher_core.specs.KeptTicks.{Stamp, Drawn, StartOf, EndOf, StartsAt, EndsAt, stamps}
 use Rattle.batcher_core.specs.KeptParts.{PartsKept}
 use Rattle.batcher_core.proofs.CoreFits.{inside}
 
@@ -34,9 +31,9 @@ either false b h = inr h
 code_at : (draw : ℕ → Drawn) (k q : ℕ) → list_any (eqb q) (codes draw k) ≡ true → (t : ℕ) × (t < k) × (q ≡ code (draw t))
 code_at draw zero q h = let z : false ≡ true = h in absurd (cc)
 code_at draw (suc k) q h = elim (either (eqb q (code (draw k))) (list_any (eqb q) (codes draw k)) h) [
-    inl e ↦ (k, omega arith, eqb-true q (code (draw k)) e)
+  | inl e ↦ (k, omega arith, eqb-true q (code (draw k)) e)
   | inr r ↦ let g = code_at draw k q r in (g.0, omega (arith, g.1), g.2)
-  ]
+]
 
 same_start : (s : Option Stamp) (t u : ℕ) → StartsAt s t → StartsAt s u → t ≡ u
 same_start None t u a b = absurd a
@@ -73,12 +70,12 @@ apart_codes draw (suc j) x h = (code_apart x (code (draw j)) (h j (omega arith))
 distinct_codes : (draw : ℕ → Drawn) (k : ℕ) → ((t u : ℕ) → t < k → u < k → draw t ≡ draw u → t ≡ u) → IsDistinct eqb (codes draw k)
 unfolding IsDistinct
 distinct_codes draw zero h = record {}
-distinct_codes draw (suc k) h =
-    (apart_codes draw k (code (draw k)) (λ t below e. let f = h k t (omega arith) (omega (arith, below)) (same_code (draw k) (draw t) e) in absurd (omega (arith, f, below))),
-    distinct_codes draw k (λ t u a b. h t u (omega (arith, a)) (omega (arith, b))))
+distinct_codes draw (suc k) h = (
+  apart_codes draw k (code (draw k)) (λ t below e. let f = h k t (omega arith) (omega (arith, below)) (same_code (draw k) (draw t) e) in absurd (omega (arith, f, below))),
+  distinct_codes draw k (λ t u a b. h t u (omega (arith, a)) (omega (arith, b))),
+)
 
 module _ (job : CoreJob) (s : State) (laws : IsPlan job.plan) (h : PartsKept job s) where
-
   known_in : (n : ℕ) → stamps s.node s.task h.holder n ≢ None → n < job.plan.count
   known_in n known = inside job.plan s.node laws h.nodes.outside n (λ waits. known (rw waits refl))
 

@@ -21,12 +21,12 @@ pub queues_at : (Z : Type 0) (xs : List (VecDeque ℕ Z)) (n : ℕ) (old : VecDe
 queues_at Z xs n old below is = grind (arith, common_steps)
 
 pub queue_becomes : (Z : Type 0) (xs : List (VecDeque ℕ Z)) (n : ℕ) (old q : VecDeque ℕ Z) (f : List ℕ → List ℕ)
-  → n < length xs → old ≡ get_or xs n old → q.items ≡ f old.items → queues (slice_set xs n q) ≡ put (queues xs) n (f (queues xs n))
+    → n < length xs → old ≡ get_or xs n old → q.items ≡ f old.items → queues (slice_set xs n q) ≡ put (queues xs) n (f (queues xs n))
 queue_becomes Z xs n old q f below is e = rw (queues_at Z xs n old below is, ← e) (queues_set Z xs n q below)
 
 put_same : (f : ℕ → List ℕ) (n : ℕ) (x : List ℕ) → x ≡ f n → (m : ℕ) → put f n x m ≡ f m
 put_same f n x e m = grind (arith, nat_tests)
 
 pub queue_same : (Z : Type 0) (xs : List (VecDeque ℕ Z)) (n : ℕ) (old q : VecDeque ℕ Z)
-  → n < length xs → old ≡ get_or xs n old → q.items ≡ old.items → queues (slice_set xs n q) ≡ queues xs
+    → n < length xs → old ≡ get_or xs n old → q.items ≡ old.items → queues (slice_set xs n q) ≡ queues xs
 queue_same Z xs n old q below is e = queues_set Z xs n q below ∙ (λ i m. put_same (queues xs) n q.items (e ∙ sym (queues_at Z xs n old below is)) m i)

@@ -7,14 +7,13 @@ ghost use Rattle.batcher_core.specs.Shown.{state_of, queues, shown};
 ghost use Rattle.batcher_core.specs.Looks.{Looks, MoveIn, claim_choice, whole_choice, work_due, steps_of as act_steps};
 ghost use Rattle.seq_objects.specs.Spin.{spin_of};
 
-use sp_order::node::{Kind, Move};
-use sp_order::Plan;
-use seq_objects::Act;
-
 use crate::event::Event;
 use crate::status::Status;
 use crate::table::Table;
 use crate::task::Task;
+use seq_objects::Act;
+use sp_order::Plan;
+use sp_order::node::{Kind, Move};
 
 /// With a node of this kind in hand, of which nothing is done.
 fn of_run(kind: Kind, node: u32) -> Option<Event>
@@ -22,8 +21,16 @@ fn of_run(kind: Kind, node: u32) -> Option<Event>
 {
     match kind {
         Kind::LeafNode(_) => Some(Event::Start(node)),
-        Kind::SeqNode(left, right) => Some(Event::OpenSeqLeft { parent: node, left, right }),
-        Kind::ParNode(left, right) => Some(Event::OpenParRight { parent: node, left, right }),
+        Kind::SeqNode(left, right) => Some(Event::OpenSeqLeft {
+            parent: node,
+            left,
+            right,
+        }),
+        Kind::ParNode(left, right) => Some(Event::OpenParRight {
+            parent: node,
+            left,
+            right,
+        }),
     }
 }
 
@@ -32,7 +39,11 @@ fn of_half(kind: Kind, node: u32) -> Option<Event>
     ensures { result ≡ choice_half (Some kind) node }
 {
     match kind {
-        Kind::ParNode(left, right) => Some(Event::OpenParLeft { parent: node, left, right }),
+        Kind::ParNode(left, right) => Some(Event::OpenParLeft {
+            parent: node,
+            left,
+            right,
+        }),
         _ => None,
     }
 }
@@ -42,7 +53,11 @@ fn of_second(kind: Kind, parent: u32) -> Option<Event>
     ensures { result ≡ choice_second (Some kind) parent }
 {
     match kind {
-        Kind::SeqNode(left, right) => Some(Event::OpenSeqRight { parent, left, right }),
+        Kind::SeqNode(left, right) => Some(Event::OpenSeqRight {
+            parent,
+            left,
+            right,
+        }),
         _ => None,
     }
 }
@@ -52,7 +67,11 @@ fn of_parent(kind: Kind, parent: u32) -> Option<Event>
     ensures { result ≡ choice_parent (Some kind) parent }
 {
     match kind {
-        Kind::SeqNode(left, right) => Some(Event::FinishSeq { parent, left, right }),
+        Kind::SeqNode(left, right) => Some(Event::FinishSeq {
+            parent,
+            left,
+            right,
+        }),
         _ => None,
     }
 }
@@ -63,9 +82,19 @@ fn of_arrive(kind: Kind, parent: u32, mark: u32, node: u32) -> Option<Event>
 {
     match kind {
         Kind::ParNode(left, right) => Some(if mark == 0 {
-            Event::ArriveFirst { parent, left, right, side: node }
+            Event::ArriveFirst {
+                parent,
+                left,
+                right,
+                side: node,
+            }
         } else {
-            Event::ArriveSecond { parent, left, right, side: node }
+            Event::ArriveSecond {
+                parent,
+                left,
+                right,
+                side: node,
+            }
         }),
         _ => None,
     }
@@ -76,7 +105,11 @@ fn of_handed(kind: Kind, parent: u32) -> Option<Event>
     ensures { result ≡ choice_handed (Some kind) parent }
 {
     match kind {
-        Kind::ParNode(left, right) => Some(Event::FinishPar { parent, left, right }),
+        Kind::ParNode(left, right) => Some(Event::FinishPar {
+            parent,
+            left,
+            right,
+        }),
         _ => None,
     }
 }
@@ -131,7 +164,13 @@ impl Table {
 
     /// How many steps of work the leaf has that the worker has started, if it has started one.
     #[tactic(auto, unfolding(crate::specs::Shown::state_of))]
-    pub(crate) fn work_due(&self, plan: &Plan, acts: &[Act], workers: u32, worker: u32) -> Option<u32>
+    pub(crate) fn work_due(
+        &self,
+        plan: &Plan,
+        acts: &[Act],
+        workers: u32,
+        worker: u32,
+    ) -> Option<u32>
         requires looks { Looks (nodes_of plan.now) acts.now workers self.now }
         requires worker_in { worker < workers }
         ensures { result ≡ work_due (nodes_of plan.now) acts.now ((state_of self.now).task worker) }
@@ -147,7 +186,14 @@ impl Table {
 
     /// The event that a worker's task allows. The value is that of the work that is due, if some is.
     #[tactic(auto, unfolding(crate::specs::Shown::state_of, crate::specs::Shown::ready_of))]
-    pub(crate) fn choose_free(&self, plan: &Plan, acts: &[Act], workers: u32, worker: u32, value: u64) -> Option<Event>
+    pub(crate) fn choose_free(
+        &self,
+        plan: &Plan,
+        acts: &[Act],
+        workers: u32,
+        worker: u32,
+        value: u64,
+    ) -> Option<Event>
         requires looks { Looks (nodes_of plan.now) acts.now workers self.now }
         requires worker_in { worker < workers }
         requires value { (steps : ℕ) → work_due (nodes_of plan.now) acts.now ((state_of self.now).task worker) ≡ Some steps → value ≡ spin_of steps }
@@ -167,7 +213,14 @@ impl Table {
 
     /// The event of a worker's turn, if it has one.
     #[tactic(auto, unfolding(crate::specs::Shown::state_of))]
-    pub(crate) fn choose(&self, plan: &Plan, acts: &[Act], workers: u32, worker: u32, value: u64) -> Option<Event>
+    pub(crate) fn choose(
+        &self,
+        plan: &Plan,
+        acts: &[Act],
+        workers: u32,
+        worker: u32,
+        value: u64,
+    ) -> Option<Event>
         requires looks { Looks (nodes_of plan.now) acts.now workers self.now }
         requires worker_in { worker < workers }
         requires value { (steps : ℕ) → work_due (nodes_of plan.now) acts.now ((state_of self.now).task worker) ≡ Some steps → value ≡ spin_of steps }

@@ -8,7 +8,11 @@ use std::alloc::AllocError;
 use std::collections::VecDeque;
 
 /// Puts a node at the newest end of a worker's list.
-pub(crate) fn push_ready(ready: &mut Vec<VecDeque<u32>>, worker: u32, node: u32) -> Result<(), AllocError>
+pub(crate) fn push_ready(
+    ready: &mut Vec<VecDeque<u32>>,
+    worker: u32,
+    node: u32,
+) -> Result<(), AllocError>
     requires { worker < length ready.old.items }
     ensures len { length ready.new.items ≡ length ready.old.items }
     ensures done { IfOk result (λ _. queues ready.new.items ≡ put (queues ready.old.items) worker (queues ready.old.items worker ++ node ∷ [])) }

@@ -4,14 +4,13 @@ ghost use Rattle.batcher_core.specs.State.{opening_state, opening_core};
 ghost use Rattle.batcher_core.specs.Shown.{state_of, ready_of, queues, at, Sizes};
 ghost use Rattle.batcher_core.specs.declared.progress.Progress.TheVariants.{Waiting};
 
-use std::alloc::{AllocError, Global};
-use std::collections::VecDeque;
-
 use crate::lists::push_ready;
 use crate::progress::Progress;
 use crate::status::{CallState, Status};
 use crate::table::Table;
 use crate::task::Task;
+use std::alloc::{AllocError, Global};
+use std::collections::VecDeque;
 
 /// So many copies of an item.
 fn copies<T: Copy>(alloc: Global, item: T, count: u32) -> Result<Vec<T>, AllocError>

@@ -4,12 +4,11 @@ ghost use Rattle.batcher_core.specs.Shown.{state_of, ready_of, made, SameSizes, 
 ghost use Rattle.batcher_core.specs.Lists.{ready_after};
 ghost use Rattle.batcher_core.specs.declared.event.Event.TheVariants.{Claim, OpenParRight, OpenParLeft, OpenSeqLeft, OpenSeqRight};
 
-use std::alloc::AllocError;
-
 use crate::lists::{drop_ready, push_ready};
 use crate::progress::Progress;
 use crate::table::Table;
 use crate::task::Task;
+use std::alloc::AllocError;
 
 impl Table {
     /// The worker takes a ready node, which stands at an end of a list.
@@ -29,7 +28,13 @@ impl Table {
 
     /// The worker makes the right side of a parallel block ready.
     #[tactic(auto, using(crate::proofs::Written::at_written), unfolding(crate::specs::Shown::state_of, crate::specs::Shown::ready_of))]
-    pub(crate) fn open_par_right(&mut self, worker: u32, parent: u32, left: u32, right: u32) -> Result<(), AllocError>
+    pub(crate) fn open_par_right(
+        &mut self,
+        worker: u32,
+        parent: u32,
+        left: u32,
+        right: u32,
+    ) -> Result<(), AllocError>
         requires worker_in { worker < length self.old.tasks.items }
         requires node_in { right < length self.old.nodes.items }
         requires ready_in { worker < length self.old.ready.items }
@@ -47,7 +52,13 @@ impl Table {
 
     /// The worker makes the left side of a parallel block ready.
     #[tactic(auto, using(crate::proofs::Written::at_written), unfolding(crate::specs::Shown::state_of, crate::specs::Shown::ready_of))]
-    pub(crate) fn open_par_left(&mut self, worker: u32, parent: u32, left: u32, right: u32) -> Result<(), AllocError>
+    pub(crate) fn open_par_left(
+        &mut self,
+        worker: u32,
+        parent: u32,
+        left: u32,
+        right: u32,
+    ) -> Result<(), AllocError>
         requires worker_in { worker < length self.old.tasks.items }
         requires node_in { left < length self.old.nodes.items }
         requires ready_in { worker < length self.old.ready.items }
@@ -65,7 +76,13 @@ impl Table {
 
     /// The worker makes the left side of a series ready.
     #[tactic(auto, using(crate::proofs::Written::at_written), unfolding(crate::specs::Shown::state_of, crate::specs::Shown::ready_of))]
-    pub(crate) fn open_seq_left(&mut self, worker: u32, parent: u32, left: u32, right: u32) -> Result<(), AllocError>
+    pub(crate) fn open_seq_left(
+        &mut self,
+        worker: u32,
+        parent: u32,
+        left: u32,
+        right: u32,
+    ) -> Result<(), AllocError>
         requires worker_in { worker < length self.old.tasks.items }
         requires node_in { left < length self.old.nodes.items }
         requires ready_in { worker < length self.old.ready.items }
@@ -83,7 +100,13 @@ impl Table {
 
     /// The worker makes the right side of a series ready, since it has finished the left one.
     #[tactic(auto, using(crate::proofs::Written::at_written), unfolding(crate::specs::Shown::state_of, crate::specs::Shown::ready_of))]
-    pub(crate) fn open_seq_right(&mut self, worker: u32, parent: u32, left: u32, right: u32) -> Result<(), AllocError>
+    pub(crate) fn open_seq_right(
+        &mut self,
+        worker: u32,
+        parent: u32,
+        left: u32,
+        right: u32,
+    ) -> Result<(), AllocError>
         requires worker_in { worker < length self.old.tasks.items }
         requires node_in { right < length self.old.nodes.items }
         requires ready_in { worker < length self.old.ready.items }

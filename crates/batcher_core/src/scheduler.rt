@@ -7,15 +7,14 @@ ghost use Rattle.batcher_core.specs.Choice.{choice};
 ghost use Rattle.batcher_core.specs.Looks.{AllWork};
 ghost use Rattle.batcher_core.specs.Cores.{job_in, state_in, due_in, turn_due, is_over_in, Makes};
 
+use crate::spun::Spun;
+use crate::table::Table;
+use crate::turn::Turn;
 use seq_objects::Act;
 use sp_order::laws::{plan_has_sides, plan_stands_for_tree};
 use sp_order::{Job, Plan};
 use std::alloc::{AllocError, Global};
 use std::marker::Model;
-
-use crate::spun::Spun;
-use crate::table::Table;
-use crate::turn::Turn;
 
 /// The scheduler's core: a job, its workers, and how far they have come. It is spent once memory has failed.
 #[derive(Drop)]
@@ -99,10 +98,15 @@ impl Core {
             }
         }
         let value = value_of(&spun);
-        match self.table.choose(&self.plan, acts, self.workers, worker, value) {
+        match self
+            .table
+            .choose(&self.plan, acts, self.workers, worker, value)
+        {
             None => Ok(Turn::Idle),
             Some(event) => {
-                let done = self.table.apply(worker, event, self.plan.nodes(), self.workers);
+                let done = self
+                    .table
+                    .apply(worker, event, self.plan.nodes(), self.workers);
                 match done {
                     Ok(()) => Ok(Turn::Moved),
                     Err(error) => {

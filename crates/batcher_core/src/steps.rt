@@ -14,7 +14,11 @@ use crate::task::Task;
 fn task_after(node: u32) -> Task
     ensures { result ≡ next_task node }
 {
-    if node == 0 { Task::Idle } else { Task::Whole(node) }
+    if node == 0 {
+        Task::Idle
+    } else {
+        Task::Whole(node)
+    }
 }
 
 impl Table {
@@ -27,7 +31,10 @@ impl Table {
         ensures event { state_of self.new ≡ made (state_of self.old) worker (Start node) }
         ensures lists { ready_of self.new ≡ ready_after worker (Start node) (ready_of self.old) }
     {
-        self.tasks[worker as usize] = Task::Started { node, start: self.tick };
+        self.tasks[worker as usize] = Task::Started {
+            node,
+            start: self.tick,
+        };
         self.tick += 1;
     }
 
@@ -55,7 +62,11 @@ impl Table {
         ensures event { state_of self.new ≡ made (state_of self.old) worker (End node start) }
         ensures lists { ready_of self.new ≡ ready_after worker (End node start) (ready_of self.old) }
     {
-        self.tasks[worker as usize] = Task::Ended { node, start, end: self.tick };
+        self.tasks[worker as usize] = Task::Ended {
+            node,
+            start,
+            end: self.tick,
+        };
         self.tick += 1;
     }
 
@@ -100,7 +111,14 @@ impl Table {
 
     /// The first side of a parallel block arrives at it.
     #[tactic(auto, using(crate::proofs::Written::at_written), unfolding(crate::specs::Shown::state_of, crate::specs::Shown::ready_of))]
-    pub(crate) fn arrive_first(&mut self, worker: u32, parent: u32, left: u32, right: u32, node: u32)
+    pub(crate) fn arrive_first(
+        &mut self,
+        worker: u32,
+        parent: u32,
+        left: u32,
+        right: u32,
+        node: u32,
+    )
         requires worker_in { worker < length self.old.tasks.items }
         requires parent_in { parent < length self.old.marks.items }
         ensures sizes { SameSizes self.old self.new }
@@ -113,7 +131,14 @@ impl Table {
 
     /// The second side of a parallel block arrives at it.
     #[tactic(auto, using(crate::proofs::Written::at_written), unfolding(crate::specs::Shown::state_of, crate::specs::Shown::ready_of))]
-    pub(crate) fn arrive_second(&mut self, worker: u32, parent: u32, left: u32, right: u32, node: u32)
+    pub(crate) fn arrive_second(
+        &mut self,
+        worker: u32,
+        parent: u32,
+        left: u32,
+        right: u32,
+        node: u32,
+    )
         requires worker_in { worker < length self.old.tasks.items }
         requires parent_in { parent < length self.old.marks.items }
         ensures sizes { SameSizes self.old self.new }

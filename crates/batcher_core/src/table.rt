@@ -1,12 +1,12 @@
 //! The parts of the core's state.
 
-use crate::progress::Progress;
-use crate::status::{CallState, Status};
-use crate::task::Task;
 ghost use Rattle.std.specs.Prelude.{◌≡◌, ◌<◌, length};
 ghost use Rattle.batcher_core.specs.Shown.{state_of};
 ghost use Rattle.batcher_core.specs.Tasks.{is_done as node_done};
 
+use crate::progress::Progress;
+use crate::status::{CallState, Status};
+use crate::task::Task;
 use std::collections::VecDeque;
 
 /// The parts of a core's state. Nodes, marks and values go by the numbers of nodes, and the others by those of

@@ -1,4 +1,3 @@
-use Rattle.std.proofs.Common.{◌≡◌, [], length}
 use Rattle.batcher_core.proofs.Copies.{empty_pushed, length_pushed}
 use Rattle.batcher_core.proofs.opening.empty_lists.Goals as goal
 

@@ -1,4 +1,4 @@
-use Rattle.std.proofs.Common.{◌≡◌, ℕ, List, refl, ap}
+use Rattle.std.proofs.Common.{ℕ, List, refl, ap}
 use Rattle.batcher_core.specs.State.{opening_core}
 use Rattle.batcher_core.proofs.opening.opening_lists.Goals as goal
 

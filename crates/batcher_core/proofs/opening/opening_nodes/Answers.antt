@@ -1,7 +1,6 @@
-use Rattle.std.proofs.Common.{◌≡◌, ◌<◌, length, replicate, arith, ap, ◌∙◌}
+use Rattle.std.proofs.Common.{◌<◌, length, replicate, ap, ◌∙◌}
 use Rattle.std.proofs.lemmas.List.{length-replicate}
 use Rattle.batcher_core.specs.State.{put, opening_state}
-use Rattle.batcher_core.specs.Shown.{at}
 use Rattle.batcher_core.specs.declared.progress.Progress.TheVariants.{Waiting, Ready}
 use Rattle.batcher_core.proofs.Written.{at_written}
 use Rattle.batcher_core.proofs.Copies.{at_copies}

@@ -1,4 +1,4 @@
-use Rattle.std.proofs.Common.{◌≡◌, Some, None, sym, ◌∙◌}
+use Rattle.std.proofs.Common.{sym, ◌∙◌}
 use Rattle.batcher_core.proofs.CoreFits.{looks}
 use Rattle.batcher_core.proofs.EventsIn.{chosen_in}
 use Rattle.batcher_core.proofs.Turning.{fits_after, makes_event, makes_none}
@@ -19,7 +19,7 @@ invariant_of-self c =
     let below = rw (← c.self.view_is) at c.requires.worker_in in
     let chosen = rw c.as_slice-acts.ensures.value at (sym c.choose.ensures ∙ c.in-Some-choose.is) in
     fits_after c.self.inside.plan c.self.inside.acts.items c.self.inside.workers c.self.inside.table c.apply-done.new.self c.args.worker c.in-Some-choose.event c.apply-done.result c.self.invariant below chosen
-        c.apply-done.ensures.sizes c.apply-done.ensures.unchanged c.apply-done.ensures.lists_stay c.apply-done.ensures.event c.apply-done.ensures.lists
+    c.apply-done.ensures.sizes c.apply-done.ensures.unchanged c.apply-done.ensures.lists_stay c.apply-done.ensures.event c.apply-done.ensures.lists
 
 pub returns-in-None-clause-event : goal.returns-in-None-clause-event
 returns-in-None-clause-event c =
@@ -32,4 +32,4 @@ returns-in-Ok-clause-event c =
     let below = rw (← c.self.view_is) at c.requires.worker_in in
     let chosen = rw c.as_slice-acts.ensures.value at (sym c.choose.ensures ∙ c.in-Some-choose.is) in
     rw (← c.self.view_is) (makes_event c.self.inside.plan c.self.inside.acts.items c.self.inside.workers c.self.inside.table c.apply-done.new.self c.args.worker c.in-Some-choose.event c.self.invariant below chosen
-        c.in-Ok.ensures.event c.in-Ok.ensures.lists)
+    c.in-Ok.ensures.event c.in-Ok.ensures.lists)

@@ -1,4 +1,4 @@
-use Rattle.std.proofs.Common.{ℕ, ◌≡◌, ◌<◌, ◌≤◌, ◌+◌, ◌%◌, length, get_or, Some, refl, true, false, sym, ◌∙◌, arith}
+use Rattle.std.proofs.Common.{◌<◌, ◌+◌, ◌%◌, length, refl, arith}
 use Rattle.batcher_core.specs.Shown.{queues}
 use Rattle.batcher_core.proofs.Written.{queues_at}
 use Rattle.batcher_core.proofs.Steals.{newest_claim, found, passed, nothing, false_true}
@@ -25,9 +25,9 @@ loop-k-preserved c =
     let len = c.index-in-loop-k.result.now.ok.0 in
     let variant = c.front.ensures.variant in
     let is = c.in_default-front.is in record {
-  so_far = passed (queues c.args.self.now.ready.items) c.args.worker c.args.workers c.loop-k.k c.loop-k.invariant.so_far c.loop-k-test.true (rw e (λ l. let z = rw is at (variant.1 (rw (← len) at l)) in absurd (false_true z)));
-  own = c.loop-k.invariant.own;
-}
+      so_far = passed (queues c.args.self.now.ready.items) c.args.worker c.args.workers c.loop-k.k c.loop-k.invariant.so_far c.loop-k-test.true (rw e (λ l. let z = rw is at (variant.1 (rw (← len) at l)) in absurd (false_true z)));
+      own = c.loop-k.invariant.own;
+    }
 
 pub returns : goal.returns
 returns c = nothing (queues c.args.self.now.ready.items) c.args.worker c.args.workers c.loop-k.k c.loop-k.invariant.own c.loop-k.invariant.so_far (omega arith)

@@ -1,5 +1,5 @@
-use Rattle.std.proofs.Common.{◌≡◌, refl, None}
-use Rattle.batcher_core.specs.State.{opening_state, opening_core}
+use Rattle.std.proofs.Common.{refl}
+use Rattle.batcher_core.specs.State.{opening_state}
 use Rattle.batcher_core.specs.Shown.{state_of, ready_of}
 use Rattle.batcher_core.proofs.Copies.{copied}
 use Rattle.batcher_core.proofs.table.Table.opening.Goals as goal

@@ -30,3 +30,6 @@ pub use status::{CallState, Receipt, Status};
 pub use table::Table;
 pub use task::Task;
 pub use turn::Turn;
+
+#[cfg(test)]
+mod tests;

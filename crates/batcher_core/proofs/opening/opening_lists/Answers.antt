@@ -1,0 +1,9 @@
+use Rattle.std.proofs.Common.{ℕ, List, refl, ap}
+use Rattle.batcher_core.specs.State.{opening_core}
+use Rattle.batcher_core.proofs.opening.opening_lists.Goals as goal
+
+pub returns-clause-items : goal.returns-clause-items
+unfolding opening_core
+returns-clause-items c =
+    let first = ap (λ (f : ℕ → List ℕ). f 0) c.in_ok-lists.ensures.items in
+    rw (c.in_ok-push_ready.ensures.done, first, c.in_ok-lists.ensures.items) refl

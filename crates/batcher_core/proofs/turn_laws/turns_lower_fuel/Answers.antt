@@ -1,0 +1,5 @@
+use Rattle.batcher_core.proofs.FuelLowers.{turn_lowers}
+use Rattle.batcher_core.proofs.turn_laws.turns_lower_fuel.Goals as goal
+
+pub returns : goal.returns
+returns c job state worker event new laws among kept lists chosen does = turn_lowers job state worker event new laws among kept lists chosen does

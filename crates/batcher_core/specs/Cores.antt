@@ -1,0 +1,73 @@
+-- What contracts see of a core, what its table keeps to, and what its turns answer.
+use Rattle.std.specs.Prelude.{ℕ, ◌≡◌, ◌<◌, ◌≤◌, ◌&&◌, not, Bool, Option, None, Some, List, length}
+use Rattle.seq_objects.specs.declared.act.Act.{Act}
+use Rattle.sp_order.specs.Precedence.{Tree}
+use Rattle.sp_order.specs.Plans.{IsPlan}
+use Rattle.sp_order.specs.Preorder.{nodes_of}
+use Rattle.batcher_core.specs.declared.status.Status.TheVariants.{Free}
+use Rattle.batcher_core.specs.declared.event.Event.{Event}
+use Rattle.batcher_core.specs.declared.table.Table.{Table}
+use Rattle.batcher_core.specs.declared.turn.Turn.{Turn}
+use Rattle.batcher_core.specs.declared.turn.Turn.TheVariants.{Moved, Spin, Idle}
+use Rattle.batcher_core.specs.State.{CoreJob, CoreState, core_job}
+use Rattle.batcher_core.specs.Tasks.{is_done}
+use Rattle.batcher_core.specs.Events.{EventKind, IsCoreEvent}
+use Rattle.batcher_core.specs.KeptParts.{PartsKept}
+use Rattle.batcher_core.specs.KeptLists.{ListsKept}
+use Rattle.batcher_core.specs.Choice.{choice}
+use Rattle.batcher_core.specs.Runs.{IsStep}
+use Rattle.batcher_core.specs.Shown.{state_of, ready_of, shown, Sizes}
+use Rattle.batcher_core.specs.Looks.{LeafIn, AllWork, work_due}
+
+-- what contracts see of a core
+pub record Seen : Type 0 where
+  pub tree : Tree
+  pub acts : List Act
+  pub workers : ℕ
+  pub table : Table
+  -- memory has failed
+  pub spent : Bool
+
+abbrev pub job_in : Seen → CoreJob
+job_in c = core_job c.tree c.acts c.workers
+
+abbrev pub state_in : Seen → CoreState
+state_in c = shown c.table
+
+-- how many steps of work are due of this worker
+abbrev pub due_in : Seen → ℕ → Option ℕ
+due_in c w = work_due (nodes_of c.tree) c.acts ((state_of c.table).task w)
+
+-- the root is done, and memory has not failed
+abbrev pub is_over_in : Seen → Bool
+is_over_in c = not c.spent && is_done ((state_of c.table).node 0)
+
+-- what the table of a core keeps to
+pub record Fits (tree : Tree) (acts : List Act) (workers : ℕ) (t : Table) : Type 0 where
+  pub some : 0 < workers
+  pub few : workers ≤ 32
+  pub laws : IsPlan (nodes_of tree)
+  pub most : (nodes_of tree).count < 40000
+  pub leaves_in : (n : ℕ) → LeafIn (length acts) ((nodes_of tree).kind n)
+  pub works : AllWork acts
+  pub sizes : Sizes t (nodes_of tree).count workers
+  pub free : (w : ℕ) → (state_of t).status w ≡ Free
+  pub parts : PartsKept (core_job tree acts workers) (state_of t)
+  pub lists : ListsKept workers (state_of t).node (ready_of t)
+
+abbrev pub moved_if : Option Event → Turn
+moved_if None = Idle
+moved_if (Some event) = Moved
+
+-- what a turn answers, by the work that is due, by the work that it is given, and by its choice
+abbrev pub turn_due : Option ℕ → Option ℕ → Option Event → Turn
+turn_due None spun chosen = moved_if chosen
+turn_due (Some steps) None chosen = Spin steps
+turn_due (Some steps) (Some spun) chosen = moved_if chosen
+
+-- What has happened in a turn that answers this: the event of the choice, or nothing. Where it is idle, no event of
+-- this worker can happen.
+abbrev pub Makes : Turn → CoreJob → CoreState → ℕ → CoreState → Type 0
+Makes Moved job old w new = (event : Event) × (choice job old w ≡ Some event) × IsStep job old w event new
+Makes (Spin steps) job old w new = new ≡ old
+Makes Idle job old w new = (new ≡ old) × ((kind : EventKind) (next : CoreState) → IsCoreEvent job old w kind next → ⊥)

@@ -1,0 +1,120 @@
+-- What the choice of a turn looks up, and what the code of an event does.
+use Rattle.std.specs.Prelude.{ℕ, ◌≡◌, ◌<◌, ◌≤◌, ◌+◌, ◌-◌, ◌^◌, Option, None, Some, List, [], ◌∷◌, length, slice_index_or}
+use Rattle.seq_objects.specs.declared.act.Act.{Act}
+use Rattle.seq_objects.specs.declared.act.Act.TheVariants.{Work, Call}
+use Rattle.sp_order.specs.declared.node.Kind.{Kind}
+use Rattle.sp_order.specs.declared.node.Kind.TheVariants.{LeafNode, SeqNode, ParNode}
+use Rattle.sp_order.specs.declared.node.Move.{Move}
+use Rattle.sp_order.specs.declared.node.Move.TheVariants.{Root, OpenSecond, FinishParent, Arrive as ArriveAt}
+use Rattle.sp_order.specs.Plans.{Nodes}
+use Rattle.batcher_core.specs.declared.task.Task.{Task}
+use Rattle.batcher_core.specs.declared.task.Task.TheVariants.{Idle, Run, Half, Started, Kept, Ended, Whole, Handed}
+use Rattle.batcher_core.specs.declared.status.Status.TheVariants.{Free}
+use Rattle.batcher_core.specs.declared.event.Event.{Event}
+use Rattle.batcher_core.specs.declared.event.Event.TheVariants.{Claim, Start, OpenParRight, OpenParLeft, OpenSeqLeft, OpenSeqRight, Post, Win, Take, Publish, Answer, Release, Leave, Keep, End, FinishLeaf, FinishSeq, FinishPar, ArriveFirst, ArriveSecond}
+use Rattle.batcher_core.specs.declared.table.Table.{Table}
+use Rattle.batcher_core.specs.Operations.{IsLeaf}
+use Rattle.batcher_core.specs.Choice.{choice_steal, last_of, choice_second, choice_parent, choice_arrive}
+use Rattle.batcher_core.specs.Shown.{state_of, ready_of, Sizes, IsAtEnd}
+
+-- the node that a task names is below this number
+abbrev pub TaskIn : ℕ → Task → Type 0
+TaskIn nodes Idle = Unit {0}
+TaskIn nodes (Run n) = n < nodes
+TaskIn nodes (Half n) = n < nodes
+TaskIn nodes (Started n s) = n < nodes
+TaskIn nodes (Kept n s) = n < nodes
+TaskIn nodes (Ended n s e) = n < nodes
+TaskIn nodes (Whole n) = n < nodes
+TaskIn nodes (Handed n) = n < nodes
+
+-- and so is the parent that a move names
+abbrev pub MoveIn : ℕ → Move → Type 0
+MoveIn nodes Root = Unit {0}
+MoveIn nodes (OpenSecond p) = p < nodes
+MoveIn nodes (FinishParent p) = p < nodes
+MoveIn nodes (ArriveAt p) = p < nodes
+
+-- a leaf has a number below this one
+abbrev pub LeafIn : ℕ → Option Kind → Type 0
+LeafIn leaves None = Unit {0}
+LeafIn leaves (Some (LeafNode u)) = u < leaves
+LeafIn leaves (Some (SeqNode l r)) = Unit {0}
+LeafIn leaves (Some (ParNode l r)) = Unit {0}
+
+-- it is work, and no call
+abbrev pub IsWork : Act → Type 0
+IsWork (Work steps) = Unit {0}
+IsWork (Call op) = ⊥
+
+-- all leaves work
+abbrev pub AllWork : List Act → Type 0
+AllWork acts = (u : ℕ) → IsWork (slice_index_or acts u (Work 0))
+
+-- what the choice of a turn looks up is there
+pub record Looks (plan : Nodes) (acts : List Act) (workers : ℕ) (t : Table) : Type 0 where
+  pub few : workers ≤ 32
+  pub sizes : Sizes t plan.count workers
+  pub tasks_in : (w : ℕ) → TaskIn plan.count ((state_of t).task w)
+  pub at_leaf : (w n start : ℕ) → (state_of t).task w ≡ Started n start → IsLeaf (plan.kind n)
+  pub moves_in : (n : ℕ) → MoveIn plan.count (plan.after n)
+  pub leaves_in : (n : ℕ) → LeafIn (length acts) (plan.kind n)
+  pub works : AllWork acts
+  pub free : (w : ℕ) → (state_of t).status w ≡ Free
+
+-- the choice of a worker that has nothing in hand, by its own list
+abbrev pub claim_choice : ℕ → (ℕ → List ℕ) → ℕ → List ℕ → Option Event
+claim_choice workers ready w [] = choice_steal ready workers (w + 1) (workers - 1)
+claim_choice workers ready w (n ∷ ns) = Some (Claim (last_of n ns))
+
+-- the choice of a worker that has finished a node, by the move after it
+abbrev pub whole_choice : Nodes → (ℕ → ℕ) → Move → ℕ → Option Event
+whole_choice plan mark Root n = None
+whole_choice plan mark (OpenSecond p) n = choice_second (plan.kind p) p
+whole_choice plan mark (FinishParent p) n = choice_parent (plan.kind p) p
+whole_choice plan mark (ArriveAt p) n = choice_arrive (plan.kind p) p (mark p) n
+
+-- how many steps of work an act is
+abbrev pub steps_of : Act → Option ℕ
+steps_of (Work steps) = Some steps
+steps_of (Call op) = None
+
+abbrev pub steps_at : List Act → Option Kind → Option ℕ
+steps_at acts None = None
+steps_at acts (Some (LeafNode u)) = steps_of (slice_index_or acts u (Work 0))
+steps_at acts (Some (SeqNode l r)) = None
+steps_at acts (Some (ParNode l r)) = None
+
+-- how many steps of work the leaf has that a worker with this task has started
+abbrev pub work_due : Nodes → List Act → Task → Option ℕ
+work_due plan acts Idle = None
+work_due plan acts (Run n) = None
+work_due plan acts (Half n) = None
+work_due plan acts (Started n s) = steps_at acts (plan.kind n)
+work_due plan acts (Kept n s) = None
+work_due plan acts (Ended n s e) = None
+work_due plan acts (Whole n) = None
+work_due plan acts (Handed n) = None
+
+-- what the code of an event looks up is there; the events of calls have no code
+abbrev pub EventIn : Table → ℕ → Event → Type 0
+EventIn t nodes (Claim n) = (n < nodes) × ((v : ℕ) → IsAtEnd n (ready_of t v))
+EventIn t nodes (Start n) = t.tick + 1 < 2 ^ 64
+EventIn t nodes (OpenParRight p l r) = r < nodes
+EventIn t nodes (OpenParLeft p l r) = l < nodes
+EventIn t nodes (OpenSeqLeft p l r) = l < nodes
+EventIn t nodes (OpenSeqRight p l r) = r < nodes
+EventIn t nodes (Post n s) = ⊥
+EventIn t nodes Win = ⊥
+EventIn t nodes (Take u) = ⊥
+EventIn t nodes Publish = ⊥
+EventIn t nodes (Answer u receipt) = ⊥
+EventIn t nodes Release = ⊥
+EventIn t nodes (Leave receipt) = ⊥
+EventIn t nodes (Keep n s v) = n < nodes
+EventIn t nodes (End n s) = t.tick + 1 < 2 ^ 64
+EventIn t nodes (FinishLeaf n s e) = n < nodes
+EventIn t nodes (FinishSeq p l r) = p < nodes
+EventIn t nodes (FinishPar p l r) = p < nodes
+EventIn t nodes (ArriveFirst p l r n) = p < nodes
+EventIn t nodes (ArriveSecond p l r n) = p < nodes

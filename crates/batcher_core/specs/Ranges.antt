@@ -1,0 +1,31 @@
+-- The numbers that an event speaks of.
+use Rattle.std.specs.Prelude.{ℕ, ◌<◌}
+use Rattle.batcher_core.specs.declared.event.Event.{Event}
+use Rattle.batcher_core.specs.declared.event.Event.TheVariants.{Claim, Start, OpenParRight, OpenParLeft, OpenSeqLeft, OpenSeqRight, Post, Win, Take, Publish, Answer, Release, Leave, Keep, End, FinishLeaf, FinishSeq, FinishPar, ArriveFirst, ArriveSecond}
+
+-- a block and its two sides are among so many nodes
+abbrev pub AreNodes : ℕ → ℕ → ℕ → ℕ → Type 0
+AreNodes nodes p l r = (p < nodes) × (l < nodes) × (r < nodes)
+
+-- the nodes that an event speaks of are among so many nodes, and the workers among so many workers
+abbrev pub IsInRange : ℕ → ℕ → Event → Type 0
+IsInRange nodes workers (Claim n) = n < nodes
+IsInRange nodes workers (Start n) = n < nodes
+IsInRange nodes workers (OpenParRight p l r) = AreNodes nodes p l r
+IsInRange nodes workers (OpenParLeft p l r) = AreNodes nodes p l r
+IsInRange nodes workers (OpenSeqLeft p l r) = AreNodes nodes p l r
+IsInRange nodes workers (OpenSeqRight p l r) = AreNodes nodes p l r
+IsInRange nodes workers (Post n start) = n < nodes
+IsInRange nodes workers Win = Unit {0}
+IsInRange nodes workers (Take u) = u < workers
+IsInRange nodes workers Publish = Unit {0}
+IsInRange nodes workers (Answer u receipt) = u < workers
+IsInRange nodes workers Release = Unit {0}
+IsInRange nodes workers (Leave receipt) = Unit {0}
+IsInRange nodes workers (Keep n start value) = n < nodes
+IsInRange nodes workers (End n start) = n < nodes
+IsInRange nodes workers (FinishLeaf n start end) = n < nodes
+IsInRange nodes workers (FinishSeq p l r) = AreNodes nodes p l r
+IsInRange nodes workers (FinishPar p l r) = AreNodes nodes p l r
+IsInRange nodes workers (ArriveFirst p l r n) = AreNodes nodes p l r × (n < nodes)
+IsInRange nodes workers (ArriveSecond p l r n) = AreNodes nodes p l r × (n < nodes)

@@ -1,0 +1,59 @@
+-- The states that a core can reach, the runs that reach them, and the run of a schedule.
+use Rattle.std.specs.Prelude.{ℕ, ◌≡◌, ◌+◌, ◌%◌, true, false, Option, None, Some, List, [], ◌∷◌}
+use Rattle.batcher_core.specs.declared.event.Event.{Event}
+use Rattle.batcher_core.specs.State.{CoreJob, CoreState, opening_core}
+use Rattle.batcher_core.specs.Tasks.{is_done}
+use Rattle.batcher_core.specs.Lists.{ready_after}
+use Rattle.batcher_core.specs.Events.{EventKind, IsCoreEvent, Happens}
+use Rattle.batcher_core.specs.Choice.{choice}
+
+-- the opening state, and each that an event takes a reached state to
+pub data IsReached (job : CoreJob) : CoreState → Type 0 where
+  at_opening : IsReached job opening_core
+  by_event : {old new : CoreState} {worker : ℕ} {kind : EventKind} → IsReached job old → IsCoreEvent job old worker kind new → IsReached job new
+
+-- this event of a worker takes the old state to the new one, with its lists
+pub record IsStep (job : CoreJob) (old : CoreState) (worker : ℕ) (event : Event) (new : CoreState) : Type 0 where
+  pub happens : Happens job old.state worker event new.state
+  pub lists : new.ready ≡ ready_after worker event old.ready
+
+-- a worker and its event
+pub record Step : Type 0 where
+  pub worker : ℕ
+  pub event : Event
+
+-- these steps, one after another, take the first state to the last
+abbrev pub ReachesFrom : CoreJob → CoreState → List Step → CoreState → Type 0
+ReachesFrom job first [] last = last ≡ first
+ReachesFrom job first (step ∷ steps) last = (next : CoreState) × IsStep job first step.worker step.event next × ReachesFrom job next steps last
+
+-- these steps lead from the opening state to this one
+abbrev pub Reaches : CoreJob → List Step → CoreState → Type 0
+Reaches job steps s = ReachesFrom job opening_core steps s
+
+-- what a turn of this worker does with this choice: the event happens; where there is none nothing changes
+abbrev pub IsTurnOf : CoreJob → CoreState → ℕ → Option Event → CoreState → Type 0
+IsTurnOf job old worker None new = new ≡ old
+IsTurnOf job old worker (Some event) new = IsStep job old worker event new
+
+abbrev pub IsTurn : CoreJob → CoreState → ℕ → CoreState → Type 0
+IsTurn job old worker new = IsTurnOf job old worker (choice job old worker) new
+
+-- these steps, each the event of its worker's turn, take the first state to the last
+abbrev pub TurnsLead : CoreJob → CoreState → List Step → CoreState → Type 0
+TurnsLead job first [] last = last ≡ first
+TurnsLead job first (step ∷ steps) last =
+    (next : CoreState) × (choice job first step.worker ≡ Some step.event) × IsStep job first step.worker step.event next × TurnsLead job next steps last
+
+-- Turns go by the workers of a schedule, and then round robin from a worker on. The last state is the first one whose
+-- root is done.
+pub data Drives (job : CoreJob) : CoreState → List ℕ → ℕ → CoreState → Type 0 where
+  over : {s : CoreState} {schedule : List ℕ} {robin : ℕ} → is_done (s.state.node 0) ≡ true → Drives job s schedule robin s
+  by_schedule : {s next last : CoreState} {worker robin : ℕ} {schedule : List ℕ} → is_done (s.state.node 0) ≡ false
+      → IsTurn job s worker next → Drives job next schedule robin last → Drives job s (worker ∷ schedule) robin last
+  by_robin : {s next last : CoreState} {robin : ℕ} → is_done (s.state.node 0) ≡ false
+      → IsTurn job s robin next → Drives job next [] ((robin + 1) % job.workers) last → Drives job s [] robin last
+
+-- the schedule, and then all workers round robin from worker 0 on, drive the job from its opening state to this one
+abbrev pub driven : CoreJob → List ℕ → CoreState → Type 0
+driven job schedule last = Drives job opening_core schedule 0 last

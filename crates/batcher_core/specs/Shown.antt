@@ -1,0 +1,100 @@
+-- The state that the parts of a core show, and what an event on the nodes of the job makes of it.
+use Rattle.std.specs.Prelude.{ℕ, ◌≡◌, ◌≢◌, ◌<◌, ◌≤◌, ◌⊎◌, ◌+◌, ◌-◌, None, Some, List, [], length, get_or, map}
+use Rattle.std.specs.declared.collections.VecDeque.{VecDeque}
+use Rattle.seq_objects.specs.Objects as objects
+use Rattle.batcher_core.specs.declared.progress.Progress.TheVariants.{Waiting, Ready, Taken, Done, Ran}
+use Rattle.batcher_core.specs.declared.task.Task.TheVariants.{Idle, Run, Half, Started, Kept, Ended, Handed}
+use Rattle.batcher_core.specs.declared.status.Status.TheVariants.{Free}
+use Rattle.batcher_core.specs.declared.status.CallState.TheVariants.{NotCalled}
+use Rattle.batcher_core.specs.declared.event.Event.{Event}
+use Rattle.batcher_core.specs.declared.event.Event.TheVariants.{Claim, Start, OpenParRight, OpenParLeft, OpenSeqLeft, OpenSeqRight, Post, Win, Take, Publish, Answer, Release, Leave, Keep, End, FinishLeaf, FinishSeq, FinishPar, ArriveFirst, ArriveSecond}
+use Rattle.batcher_core.specs.declared.table.Table.{Table}
+use Rattle.batcher_core.specs.State.{put, State, CoreState}
+use Rattle.batcher_core.specs.Lists.{times}
+use Rattle.batcher_core.specs.Events.{task_after}
+
+-- a list as a function of places, with a value beyond its end
+abbrev pub at : {A : Type 0} → List A → A → ℕ → A
+at xs d n = get_or xs n d
+
+-- the lists of ready nodes, by worker
+abbrev pub queues : {Z : Type 0} → List (VecDeque ℕ Z) → ℕ → List ℕ
+queues xs = at (map (λ q. q.items) xs) []
+
+-- The state that a table shows. No call is ever posted, so no worker has the flag and the book is empty.
+unfoldable pub state_of : Table → State
+state_of t = record {
+  node = at t.nodes.items Waiting;
+  mark = at t.marks.items 0;
+  value = at t.values.items None;
+  task = at t.tasks.items Idle;
+  status = at t.statuses.items Free;
+  call = at t.calls.items NotCalled;
+  hold = None;
+  tick = t.tick;
+  book = [];
+  objects = objects.opening;
+}
+
+-- and the lists of ready nodes that it shows
+unfoldable pub ready_of : Table → ℕ → List ℕ
+ready_of t = queues t.ready.items
+
+abbrev pub shown : Table → CoreState
+shown t = record { state = state_of t; ready = ready_of t }
+
+-- the first number of the list
+abbrev pub IsOldest : ℕ → List ℕ → Type 0
+IsOldest n xs = (0 < length xs) × (get_or xs 0 n ≡ n)
+
+-- the last number of the list
+abbrev pub IsNewest : ℕ → List ℕ → Type 0
+IsNewest n xs = (0 < length xs) × (get_or xs (length xs - 1) n ≡ n)
+
+-- the number stands once in the list, at one of its ends, or not at all
+pub record IsAtEnd (n : ℕ) (xs : List ℕ) : Type 0 where
+  pub once : times n xs ≤ 1
+  pub end : times n xs ≢ 0 → IsOldest n xs ⊎ IsNewest n xs
+
+-- how long the lists of a table are
+pub record Sizes (t : Table) (nodes workers : ℕ) : Type 0 where
+  pub nodes_len : length t.nodes.items ≡ nodes
+  pub marks_len : length t.marks.items ≡ nodes
+  pub values_len : length t.values.items ≡ nodes
+  pub tasks_len : length t.tasks.items ≡ workers
+  pub statuses_len : length t.statuses.items ≡ workers
+  pub calls_len : length t.calls.items ≡ workers
+  pub ready_len : length t.ready.items ≡ workers
+
+-- the lists keep their lengths
+pub record SameSizes (old new : Table) : Type 0 where
+  pub nodes_same : length new.nodes.items ≡ length old.nodes.items
+  pub marks_same : length new.marks.items ≡ length old.marks.items
+  pub values_same : length new.values.items ≡ length old.values.items
+  pub tasks_same : length new.tasks.items ≡ length old.tasks.items
+  pub statuses_same : length new.statuses.items ≡ length old.statuses.items
+  pub calls_same : length new.calls.items ≡ length old.calls.items
+  pub ready_same : length new.ready.items ≡ length old.ready.items
+
+-- the state after an event of worker w on the nodes of the job: what `Does` says of it
+abbrev pub made : State → ℕ → Event → State
+made s w (Claim n) = record s { node = put s.node n Taken; task = put s.task w (Run n) }
+made s w (Start n) = record s { tick = s.tick + 1; task = put s.task w (Started n s.tick) }
+made s w (OpenParRight p l r) = record s { node = put s.node r Ready; task = put s.task w (Half p) }
+made s w (OpenParLeft p l r) = record s { node = put s.node l Ready; task = put s.task w Idle }
+made s w (OpenSeqLeft p l r) = record s { node = put s.node l Ready; task = put s.task w Idle }
+made s w (OpenSeqRight p l r) = record s { node = put s.node r Ready; task = put s.task w Idle }
+made s w (Post n t) = s
+made s w Win = s
+made s w (Take u) = s
+made s w Publish = s
+made s w (Answer u receipt) = s
+made s w Release = s
+made s w (Leave receipt) = s
+made s w (Keep n t v) = record s { value = put s.value n (Some v); call = put s.call w NotCalled; task = put s.task w (Kept n t) }
+made s w (End n t) = record s { tick = s.tick + 1; task = put s.task w (Ended n t s.tick) }
+made s w (FinishLeaf n t e) = record s { node = put s.node n (Ran w t e); task = put s.task w (task_after n) }
+made s w (FinishSeq p l r) = record s { node = put s.node p Done; task = put s.task w (task_after p) }
+made s w (FinishPar p l r) = record s { node = put s.node p Done; task = put s.task w (task_after p) }
+made s w (ArriveFirst p l r n) = record s { mark = put s.mark p 1; task = put s.task w Idle }
+made s w (ArriveSecond p l r n) = record s { mark = put s.mark p 2; task = put s.task w (Handed p) }

@@ -1,0 +1,234 @@
+//! The choice of a worker's turn.
+ghost use Rattle.std.specs.Prelude.{◌≡◌, ◌<◌, ◌≤◌, ℕ, length, Option, None, Some};
+ghost use Rattle.sp_order.specs.Preorder.{nodes_of};
+ghost use Rattle.batcher_core.specs.State.{core_job};
+ghost use Rattle.batcher_core.specs.Choice.{choice, choice_free, choice_run, choice_half, choice_second, choice_parent, choice_arrive, choice_handed};
+ghost use Rattle.batcher_core.specs.Shown.{state_of, queues, shown};
+ghost use Rattle.batcher_core.specs.Looks.{Looks, MoveIn, claim_choice, whole_choice, work_due, steps_of as act_steps};
+ghost use Rattle.seq_objects.specs.Spin.{spin_of};
+
+use crate::event::Event;
+use crate::status::Status;
+use crate::table::Table;
+use crate::task::Task;
+use seq_objects::Act;
+use sp_order::Plan;
+use sp_order::node::{Kind, Move};
+
+/// With a node of this kind in hand, of which nothing is done.
+fn of_run(kind: Kind, node: u32) -> Option<Event>
+    ensures { result ≡ choice_run (Some kind) node }
+{
+    match kind {
+        Kind::LeafNode(_) => Some(Event::Start(node)),
+        Kind::SeqNode(left, right) => Some(Event::OpenSeqLeft {
+            parent: node,
+            left,
+            right,
+        }),
+        Kind::ParNode(left, right) => Some(Event::OpenParRight {
+            parent: node,
+            left,
+            right,
+        }),
+    }
+}
+
+/// With a parallel block in hand, whose right side is open.
+fn of_half(kind: Kind, node: u32) -> Option<Event>
+    ensures { result ≡ choice_half (Some kind) node }
+{
+    match kind {
+        Kind::ParNode(left, right) => Some(Event::OpenParLeft {
+            parent: node,
+            left,
+            right,
+        }),
+        _ => None,
+    }
+}
+
+/// The left side of this series is done.
+fn of_second(kind: Kind, parent: u32) -> Option<Event>
+    ensures { result ≡ choice_second (Some kind) parent }
+{
+    match kind {
+        Kind::SeqNode(left, right) => Some(Event::OpenSeqRight {
+            parent,
+            left,
+            right,
+        }),
+        _ => None,
+    }
+}
+
+/// The right side of this series is done.
+fn of_parent(kind: Kind, parent: u32) -> Option<Event>
+    ensures { result ≡ choice_parent (Some kind) parent }
+{
+    match kind {
+        Kind::SeqNode(left, right) => Some(Event::FinishSeq {
+            parent,
+            left,
+            right,
+        }),
+        _ => None,
+    }
+}
+
+/// A side of this parallel block is done, and so many sides have arrived.
+fn of_arrive(kind: Kind, parent: u32, mark: u32, node: u32) -> Option<Event>
+    ensures { result ≡ choice_arrive (Some kind) parent mark node }
+{
+    match kind {
+        Kind::ParNode(left, right) => Some(if mark == 0 {
+            Event::ArriveFirst {
+                parent,
+                left,
+                right,
+                side: node,
+            }
+        } else {
+            Event::ArriveSecond {
+                parent,
+                left,
+                right,
+                side: node,
+            }
+        }),
+        _ => None,
+    }
+}
+
+/// With a parallel block in hand, at which both sides have arrived.
+fn of_handed(kind: Kind, parent: u32) -> Option<Event>
+    ensures { result ≡ choice_handed (Some kind) parent }
+{
+    match kind {
+        Kind::ParNode(left, right) => Some(Event::FinishPar {
+            parent,
+            left,
+            right,
+        }),
+        _ => None,
+    }
+}
+
+/// How many steps of work an act is, if it is work.
+fn steps_of(act: Act) -> Option<u32>
+    ensures { result ≡ act_steps act }
+{
+    match act {
+        Act::Work(steps) => Some(steps),
+        Act::Call(_) => None,
+    }
+}
+
+impl Table {
+    /// With nothing in hand: the newest node of the own list, or else the oldest of the next list that has one.
+    pub(crate) fn choose_claim(&self, workers: u32, worker: u32) -> Option<Event>
+        requires worker_in { worker < workers }
+        requires ready_in { length self.now.ready.items ≡ workers }
+        requires few { workers ≤ 32 }
+        ensures { result ≡ claim_choice workers (queues self.now.ready.items) worker (queues self.now.ready.items worker) }
+    {
+        if let Some(node) = self.ready[worker as usize].back() {
+            return Some(Event::Claim(*node));
+        }
+        for k in 1..workers {
+            let other = (worker + k) % workers;
+            if let Some(node) = self.ready[other as usize].front() {
+                return Some(Event::Claim(*node));
+            }
+        }
+        None
+    }
+
+    /// With a node in hand that is done, by what is to be done then.
+    #[tactic(auto, unfolding(crate::specs::Shown::state_of))]
+    pub(crate) fn choose_whole(&self, plan: &Plan, node: u32) -> Option<Event>
+        requires node_in { node < (nodes_of plan.now).count }
+        requires marks_in { length self.now.marks.items ≡ (nodes_of plan.now).count }
+        requires moves_in { MoveIn (nodes_of plan.now).count ((nodes_of plan.now).after node) }
+        ensures { result ≡ whole_choice (nodes_of plan.now) (state_of self.now).mark ((nodes_of plan.now).after node) node }
+    {
+        match plan.after(node) {
+            Move::Root => None,
+            Move::OpenSecond(parent) => of_second(plan.kind(parent), parent),
+            Move::FinishParent(parent) => of_parent(plan.kind(parent), parent),
+            Move::Arrive(parent) => {
+                of_arrive(plan.kind(parent), parent, self.marks[parent as usize], node)
+            }
+        }
+    }
+
+    /// How many steps of work the leaf has that the worker has started, if it has started one.
+    #[tactic(auto, unfolding(crate::specs::Shown::state_of))]
+    pub(crate) fn work_due(
+        &self,
+        plan: &Plan,
+        acts: &[Act],
+        workers: u32,
+        worker: u32,
+    ) -> Option<u32>
+        requires looks { Looks (nodes_of plan.now) acts.now workers self.now }
+        requires worker_in { worker < workers }
+        ensures { result ≡ work_due (nodes_of plan.now) acts.now ((state_of self.now).task worker) }
+    {
+        match self.tasks[worker as usize] {
+            Task::Started { node, .. } => match plan.kind(node) {
+                Kind::LeafNode(leaf) => steps_of(acts[leaf as usize]),
+                _ => None,
+            },
+            _ => None,
+        }
+    }
+
+    /// The event that a worker's task allows. The value is that of the work that is due, if some is.
+    #[tactic(auto, unfolding(crate::specs::Shown::state_of, crate::specs::Shown::ready_of))]
+    pub(crate) fn choose_free(
+        &self,
+        plan: &Plan,
+        acts: &[Act],
+        workers: u32,
+        worker: u32,
+        value: u64,
+    ) -> Option<Event>
+        requires looks { Looks (nodes_of plan.now) acts.now workers self.now }
+        requires worker_in { worker < workers }
+        requires value { (steps : ℕ) → work_due (nodes_of plan.now) acts.now ((state_of self.now).task worker) ≡ Some steps → value ≡ spin_of steps }
+        ensures { result ≡ choice_free (core_job plan.now acts.now workers) (shown self.now) worker ((state_of self.now).task worker) }
+    {
+        match self.tasks[worker as usize] {
+            Task::Idle => self.choose_claim(workers, worker),
+            Task::Run(node) => of_run(plan.kind(node), node),
+            Task::Half(node) => of_half(plan.kind(node), node),
+            Task::Started { node, start } => Some(Event::Keep { node, start, value }),
+            Task::Kept { node, start } => Some(Event::End { node, start }),
+            Task::Ended { node, start, end } => Some(Event::FinishLeaf { node, start, end }),
+            Task::Whole(node) => self.choose_whole(plan, node),
+            Task::Handed(node) => of_handed(plan.kind(node), node),
+        }
+    }
+
+    /// The event of a worker's turn, if it has one.
+    #[tactic(auto, unfolding(crate::specs::Shown::state_of))]
+    pub(crate) fn choose(
+        &self,
+        plan: &Plan,
+        acts: &[Act],
+        workers: u32,
+        worker: u32,
+        value: u64,
+    ) -> Option<Event>
+        requires looks { Looks (nodes_of plan.now) acts.now workers self.now }
+        requires worker_in { worker < workers }
+        requires value { (steps : ℕ) → work_due (nodes_of plan.now) acts.now ((state_of self.now).task worker) ≡ Some steps → value ≡ spin_of steps }
+        ensures { result ≡ choice (core_job plan.now acts.now workers) (shown self.now) worker }
+    {
+        match self.statuses[worker as usize] {
+            Status::Free => self.choose_free(plan, acts, workers, worker, value),
+            _ => None,
+        }
+    }
+}

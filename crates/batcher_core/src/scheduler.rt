@@ -1,0 +1,127 @@
+//! The scheduler's core.
+ghost use Rattle.std.specs.Prelude.{◌≡◌, ◌<◌, ◌≤◌, ℕ, IfOk, IfErr, IsSome, IfSome, Some, true, false, IsTrue, ◌↔◌};
+ghost use Rattle.seq_objects.specs.Spin.{spin_of};
+ghost use Rattle.batcher_core.specs.State.{opening_core};
+ghost use Rattle.batcher_core.specs.Tasks.{is_done as node_done};
+ghost use Rattle.batcher_core.specs.Choice.{choice};
+ghost use Rattle.batcher_core.specs.Looks.{AllWork};
+ghost use Rattle.batcher_core.specs.Cores.{job_in, state_in, due_in, turn_due, is_over_in, Makes};
+
+use crate::spun::Spun;
+use crate::table::Table;
+use crate::turn::Turn;
+use seq_objects::Act;
+use sp_order::laws::{plan_has_sides, plan_stands_for_tree};
+use sp_order::{Job, Plan};
+use std::alloc::{AllocError, Global};
+use std::marker::Model;
+
+/// The scheduler's core: a job, its workers, and how far they have come. It is spent once memory has failed.
+#[derive(Drop)]
+pub struct Core {
+    plan: Plan,
+    acts: Vec<Act>,
+    workers: u32,
+    table: Table,
+    spent: bool,
+}
+
+impl Model for Core {
+    ghost use Rattle.std.specs.Coded.{codes};
+    ghost use Rattle.sp_order.specs.TreeCode.{coded_tree};
+    ghost use Rattle.batcher_core.specs.Cores.{Seen, Fits};
+
+    ghost Value = { Seen };
+
+    ghost coded = { Prim.hlevel (codes, coded_tree) };
+
+    ghost view = { λ c. record { tree = c.plan; acts = c.acts.items; workers = c.workers; table = c.table; spent = c.spent } };
+
+    ghost invariant = { λ c. Fits c.plan c.acts.items c.workers c.table };
+}
+
+/// The value of the work that was done, or 0 where none was.
+fn value_of(spun: &Option<Spun>) -> u64
+    ensures { IfSome spun.now (λ s. result ≡ spin_of s) }
+{
+    match spun {
+        None => 0,
+        Some(spun) => spun.value(),
+    }
+}
+
+impl Core {
+    /// The core of this job, in its opening state. The job has leaves, and they all work: none of them calls.
+    pub fn start(alloc: Global, job: &Job, workers: u32) -> Result<Core, AllocError>
+        requires leaves { IsSome job.now.shape }
+        requires some_workers { 0 < workers }
+        requires few_workers { workers ≤ 32 }
+        requires works { AllWork job.now.acts }
+        ensures job { IfOk result (λ core. (Some core.tree ≡ job.now.shape) × (core.acts ≡ job.now.acts) × (core.workers ≡ workers)) }
+        ensures opening { IfOk result (λ core. (state_in core ≡ opening_core) × (core.spent ≡ false)) }
+    {
+        plan_stands_for_tree();
+        plan_has_sides();
+        let plan = Plan::of(alloc, job)?;
+        let mut acts = Vec::new(alloc);
+        acts.extend_from_slice(job.acts())?;
+        let table = Table::opening(alloc, plan.nodes(), workers)?;
+        Ok(Core {
+            plan,
+            acts,
+            workers,
+            table,
+            spent: false,
+        })
+    }
+
+    /// One turn of this worker. If it has started a leaf of work, it answers how many steps are due, until it is
+    /// given that work done; else what it is given is not looked at. After an `Err` the core is spent, and each
+    /// later turn is an `Err`.
+    pub fn turn(&mut self, worker: u32, spun: Option<Spun>) -> Result<Turn, AllocError>
+        requires worker_in { worker < self.old.workers }
+        requires work { IfSome spun (λ s. (steps : ℕ) → due_in self.old worker ≡ Some steps → s ≡ steps) }
+        ensures turn { IfOk result (λ t. t ≡ turn_due (due_in self.old worker) spun (choice (job_in self.old) (state_in self.old) worker)) }
+        ensures event { IfOk result (λ t. Makes t (job_in self.old) (state_in self.old) worker (state_in self.new)) }
+        ensures failed { IfErr result (λ _. (state_in self.new ≡ state_in self.old) × (self.new.spent ≡ true)) }
+        ensures spent { IfOk result (λ _. (self.old.spent ≡ false) × (self.new.spent ≡ false)) }
+        ensures job { (self.new.tree ≡ self.old.tree) × (self.new.acts ≡ self.old.acts) × (self.new.workers ≡ self.old.workers) }
+    {
+        if self.spent {
+            return Err(AllocError);
+        }
+        let acts = self.acts.as_slice();
+        let due = self.table.work_due(&self.plan, acts, self.workers, worker);
+        if let Some(steps) = due {
+            if spun.is_none() {
+                return Ok(Turn::Spin(steps));
+            }
+        }
+        let value = value_of(&spun);
+        match self
+            .table
+            .choose(&self.plan, acts, self.workers, worker, value)
+        {
+            None => Ok(Turn::Idle),
+            Some(event) => {
+                let done = self
+                    .table
+                    .apply(worker, event, self.plan.nodes(), self.workers);
+                match done {
+                    Ok(()) => Ok(Turn::Moved),
+                    Err(error) => {
+                        self.spent = true;
+                        Err(error)
+                    }
+                }
+            }
+        }
+    }
+
+    /// Whether the root is done, in a core that is not spent. It takes no memory.
+    pub fn is_over(&self) -> bool
+        ensures { result ≡ is_over_in self.now }
+    {
+        !self.spent && self.table.root_done()
+    }
+}

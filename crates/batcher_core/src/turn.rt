@@ -1,0 +1,12 @@
+//! What a worker's turn answers.
+
+/// What a turn of a worker did.
+#[derive(Clone, Copy, Debug, PartialEq, Eq)]
+pub enum Turn {
+    /// One event happened.
+    Moved,
+    /// Nothing: the worker has started a leaf with so many steps of work, and is to be given the work done.
+    Spin(u32),
+    /// Nothing: the worker has no event in this state.
+    Idle,
+}

@@ -1,15 +1,15 @@
 -- The state that the parts of a core show, and what an event on the nodes of the job makes of it.
-use Rattle.std.specs.Prelude.{ℕ, ◌≡◌, ◌≢◌, ◌<◌, ◌≤◌, ◌⊎◌, ◌+◌, ◌-◌, None, Some, List, [], length, get_or, map}
+use Rattle.std.specs.Prelude.{ℕ, ◌≡◌, ◌≢◌, ◌<◌, ◌≤◌, ◌⊎◌, ◌+◌, ◌-◌, false, if◌then◌else◌, Option, None, Some, List, [], length, get_or, map}
 use Rattle.std.specs.declared.collections.VecDeque.{VecDeque}
-use Rattle.seq_objects.specs.Objects as objects
 use Rattle.batcher_core.specs.declared.progress.Progress.TheVariants.{Waiting, Ready, Taken, Done, Ran}
 use Rattle.batcher_core.specs.declared.task.Task.TheVariants.{Idle, Run, Half, Started, Kept, Ended, Handed}
 use Rattle.batcher_core.specs.declared.status.Status.TheVariants.{Free}
 use Rattle.batcher_core.specs.declared.status.CallState.TheVariants.{NotCalled}
 use Rattle.batcher_core.specs.declared.event.Event.{Event}
 use Rattle.batcher_core.specs.declared.event.Event.TheVariants.{Claim, Start, OpenParRight, OpenParLeft, OpenSeqLeft, OpenSeqRight, Post, Win, Take, Publish, Answer, Release, Leave, Keep, End, FinishLeaf, FinishSeq, FinishPar, ArriveFirst, ArriveSecond}
+use Rattle.batcher_core.specs.declared.hold.Hold.{Hold as HoldTable}
 use Rattle.batcher_core.specs.declared.table.Table.{Table}
-use Rattle.batcher_core.specs.State.{put, State, CoreState}
+use Rattle.batcher_core.specs.State.{put, Hold, State, CoreState}
 use Rattle.batcher_core.specs.Lists.{times}
 use Rattle.batcher_core.specs.Events.{task_after}
 
@@ -21,7 +21,12 @@ at xs d n = get_or xs n d
 abbrev pub queues : {Z : Type 0} → List (VecDeque ℕ Z) → ℕ → List ℕ
 queues xs = at (map (λ q. q.items) xs) []
 
--- The state that a table shows. No call is ever posted, so no worker has the flag and the book is empty.
+-- the hold that a table shows
+abbrev pub hold_of : Option HoldTable → Option Hold
+hold_of None = None
+hold_of (Some h) = Some (record { worker = h.worker; looks = h.looks; took = at h.took false; answered = at h.answered false; published = h.published })
+
+-- the state that a table shows
 unfoldable pub state_of : Table → State
 state_of t = record {
   node = at t.nodes.items Waiting;
@@ -30,10 +35,10 @@ state_of t = record {
   task = at t.tasks.items Idle;
   status = at t.statuses.items Free;
   call = at t.calls.items NotCalled;
-  hold = None;
+  hold = hold_of t.hold;
   tick = t.tick;
-  book = [];
-  objects = objects.opening;
+  book = t.history;
+  objects = t.objects;
 }
 
 -- and the lists of ready nodes that it shows

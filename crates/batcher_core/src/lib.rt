@@ -8,6 +8,7 @@
 mod apply;
 mod choose;
 pub mod event;
+pub mod hold;
 pub mod laws;
 mod lists;
 mod opening;
@@ -23,6 +24,7 @@ pub mod turn;
 pub mod turn_laws;
 
 pub use event::Event;
+pub use hold::Hold;
 pub use progress::Progress;
 pub use scheduler::Core;
 pub use spun::Spun;

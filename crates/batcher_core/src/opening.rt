@@ -9,6 +9,8 @@ use crate::progress::Progress;
 use crate::status::{CallState, Status};
 use crate::table::Table;
 use crate::task::Task;
+use batch_history::History;
+use seq_objects::Plain;
 use std::alloc::{AllocError, Global};
 use std::collections::VecDeque;
 
@@ -74,7 +76,10 @@ impl Table {
             statuses: copies(alloc, Status::Free, workers)?,
             calls: copies(alloc, CallState::NotCalled, workers)?,
             ready: opening_lists(alloc, workers)?,
+            hold: None,
             tick: 0,
+            history: History::new(alloc),
+            objects: Plain::new(alloc),
         })
     }
 }

@@ -4,9 +4,12 @@ ghost use Rattle.std.specs.Prelude.{◌≡◌, ◌<◌, length};
 ghost use Rattle.batcher_core.specs.Shown.{state_of};
 ghost use Rattle.batcher_core.specs.Tasks.{is_done as node_done};
 
+use crate::hold::Hold;
 use crate::progress::Progress;
 use crate::status::{CallState, Status};
 use crate::task::Task;
+use batch_history::History;
+use seq_objects::Plain;
 use std::collections::VecDeque;
 
 /// The parts of a core's state. Nodes, marks and values go by the numbers of nodes, and the others by those of
@@ -27,8 +30,14 @@ pub struct Table {
     pub(crate) calls: Vec<CallState>,
     /// The ready nodes of each worker, the oldest first.
     pub(crate) ready: Vec<VecDeque<u32>>,
+    /// What the worker that has the flag keeps, if one has it.
+    pub(crate) hold: Option<Hold>,
     /// The tick that the next start or end of a leaf draws.
     pub(crate) tick: u64,
+    /// The batches that were served.
+    pub(crate) history: History,
+    /// The shared objects, after all these batches.
+    pub(crate) objects: Plain,
 }
 
 /// Whether a node with this progress is done.

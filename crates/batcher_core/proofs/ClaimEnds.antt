@@ -9,10 +9,12 @@ use Rattle.batcher_core.specs.declared.event.Event.{Event}
 use Rattle.batcher_core.specs.declared.event.Event.TheVariants.{Claim}
 use Rattle.batcher_core.specs.State.{CoreJob, CoreState}
 use Rattle.batcher_core.specs.Lists.{times}
+use Rattle.batcher_core.specs.KeptParts.{PartsKept}
 use Rattle.batcher_core.specs.KeptLists.{stands_in, ListsKept}
 use Rattle.batcher_core.specs.Choice.{choice, choice_idle, choice_steal, oldest_or, last_of}
 use Rattle.batcher_core.specs.Shown.{IsOldest, IsNewest, IsAtEnd}
 use Rattle.batcher_core.proofs.Ends.{oldest_stands, newest_stands}
+use Rattle.batcher_core.proofs.ChoiceReady.{choice_of_idle}
 
 -- the node is at an end of a list
 abbrev EndsOne : (ℕ → List ℕ) → ℕ → Type 0
@@ -72,10 +74,7 @@ at_ends workers node ready n h one u = record {
       let e : u ≡ one.0 = stands_one (node n) (h.home n) u one.0 (rw (h.stands u n) at some) (rw (h.stands one.0 n) at (end_stands n (ready one.0) one.1)) in rw e one.1;
 }
 
-idle_choice : (job : CoreJob) (s : CoreState) (w : ℕ) → s.state.hold ≡ None → s.state.status w ≡ Free → s.state.task w ≡ Idle → choice job s w ≡ choice_idle job s.ready w (s.ready w)
-idle_choice job s w hold status task = rw (hold, status, task) refl
-
-pub claim_ends : (job : CoreJob) (s : CoreState) (w n : ℕ) → ListsKept job.workers s.state.node s.ready → s.state.hold ≡ None → s.state.status w ≡ Free → s.state.task w ≡ Idle
+pub claim_ends : (job : CoreJob) (s : CoreState) (w n : ℕ) → PartsKept job s.state → ListsKept job.workers s.state.node s.ready → s.state.status w ≡ Free → s.state.task w ≡ Idle
     → choice job s w ≡ Some (Claim n) → (u : ℕ) → IsAtEnd n (s.ready u)
-claim_ends job s w n h hold status task chosen =
-    at_ends job.workers s.state.node s.ready n h (own_ends job s.ready w n (s.ready w) refl (sym (idle_choice job s w hold status task) ∙ chosen))
+claim_ends job s w n parts h status task chosen =
+    at_ends job.workers s.state.node s.ready n h (own_ends job s.ready w n (s.ready w) refl (sym (choice_of_idle job s w parts status task) ∙ chosen))

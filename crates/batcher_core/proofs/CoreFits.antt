@@ -48,15 +48,23 @@ move_in plan laws n (Arrive p) e = parent_in plan laws p n (rw e refl)
 started_leaf : (plan : Nodes) (node : ℕ → Progress) (mark : ℕ → ℕ) (task : Task) (n start : ℕ) → TaskFits plan node mark task → task ≡ Started n start → IsLeaf (plan.kind n)
 started_leaf plan node mark task n start h e = (rw e at h).0
 
+book_of : (t : Table) → (state_of t).book ≡ t.history
+unfolding state_of
+book_of t = refl
+
 -- what the choice of a turn looks up is there
 pub looks : (tree : Tree) (acts : List Act) (workers : ℕ) (t : Table) → Fits tree acts workers t → Looks (nodes_of tree) acts workers t
-looks tree acts workers t h = record {
-  few = h.few;
-  sizes = h.sizes;
-  tasks_in = λ w. task_in (nodes_of tree) (state_of t).node (state_of t).mark h.laws h.parts.nodes.outside ((state_of t).task w) (h.parts.tasks.fits w);
-  at_leaf = λ w n start e. started_leaf (nodes_of tree) (state_of t).node (state_of t).mark ((state_of t).task w) n start (h.parts.tasks.fits w) e;
-  moves_in = λ n. move_in (nodes_of tree) h.laws n ((nodes_of tree).after n) refl;
-  leaves_in = h.leaves_in;
-  works = h.works;
-  free = h.free;
-}
+looks tree acts workers t h =
+    let room = rw (book_of t) at (book_room (core_job tree acts workers) (state_of t) h.laws h.parts) in
+    let most = h.most in
+    record {
+      few = h.few;
+      sizes = h.sizes;
+      tasks_in = λ w. task_in (nodes_of tree) (state_of t).node (state_of t).mark h.laws h.parts.nodes.outside ((state_of t).task w) (h.parts.tasks.fits w);
+      at_leaf = λ w n start e. started_leaf (nodes_of tree) (state_of t).node (state_of t).mark ((state_of t).task w) n start (h.parts.tasks.fits w) e;
+      moves_in = λ n. move_in (nodes_of tree) h.laws n ((nodes_of tree).after n) refl;
+      leaves_in = h.leaves_in;
+      leaves = rw (book_of t) at h.parts.book.leaves;
+      few_batches = omega (arith, room.0, room.1, most);
+      few_entries = omega (arith, room.0, most);
+    }

@@ -23,7 +23,6 @@ pub mod Written
 pub mod Ends
 pub mod ClaimEnds
 pub mod Steals
-pub mod Works
 pub mod CoreFits
 pub mod Copies
 pub mod LeavesIn
@@ -42,8 +41,7 @@ pub mod ChoiceTasks
 pub mod ChoiceGate
 pub mod ChoiceIdle
 pub mod Choices
-pub mod CoreEvents
-pub mod EventsIn
+pub mod Allowed
 pub mod Starting
 pub mod Turning
 pub mod ChoiceReady
@@ -57,3 +55,4 @@ pub mod TurnRuns
 pub mod OneBatch
 pub mod OneRun
 pub mod OneWork
+pub mod Searches

@@ -1,26 +1,20 @@
--- The opening table of a job whose leaves all work has what a core keeps to.
-use Rattle.std.proofs.Common.{ℕ, ◌≡◌, ◌<◌, ◌≤◌, Option, Some, List, length, refl, sym, ◌∙◌, ap, subst}
+-- The opening table of a job has what a core keeps to.
+use Rattle.std.proofs.Common.{ℕ, ◌≡◌, ◌<◌, ◌≤◌, Option, Some, List, length, refl, sym, ◌∙◌, subst}
 use Rattle.seq_objects.specs.declared.act.Act.{Act}
 use Rattle.sp_order.specs.Precedence.{Tree, leaf_count}
 use Rattle.sp_order.specs.Plans.{IsPlan}
 use Rattle.sp_order.specs.Stands.{IsPlanOf}
 use Rattle.sp_order.specs.Preorder.{nodes_of}
-use Rattle.batcher_core.specs.declared.status.Status.TheVariants.{Free}
 use Rattle.batcher_core.specs.declared.table.Table.{Table}
 use Rattle.batcher_core.specs.State.{State, core_job, opening_state, opening_core}
 use Rattle.batcher_core.specs.KeptParts.{PartsKept}
 use Rattle.batcher_core.specs.KeptLists.{ListsKept}
 use Rattle.batcher_core.specs.Shown.{state_of, ready_of, shown, Sizes}
-use Rattle.batcher_core.specs.Looks.{AllWork}
 use Rattle.batcher_core.specs.Cores.{Fits}
 use Rattle.batcher_core.proofs.OpeningKept.{opening_kept}
 use Rattle.batcher_core.proofs.ListKeeps.{opening_lists}
 use Rattle.batcher_core.proofs.Reached.{has_root}
 use Rattle.batcher_core.proofs.LeavesIn.{leaves_in}
-
-opening_free : (w : ℕ) → opening_state.status w ≡ Free
-unfolding opening_state
-opening_free w = refl
 
 core_opens : opening_core.state ≡ opening_state
 unfolding opening_core
@@ -30,17 +24,16 @@ pub root_in : (tree : Tree) → IsPlanOf (nodes_of tree) tree → IsPlan (nodes_
 root_in tree stands laws = laws.within 0 (has_root (nodes_of tree) tree stands)
 
 pub opening_fits : (tree : Tree) (shape : Option Tree) (acts : List Act) (workers : ℕ) (t : Table) → 0 < workers → workers ≤ 32 → IsPlanOf (nodes_of tree) tree → IsPlan (nodes_of tree)
-    → (nodes_of tree).count < 40000 → Some tree ≡ shape → leaf_count shape ≡ length acts → AllWork acts → Sizes t (nodes_of tree).count workers
+    → (nodes_of tree).count < 40000 → Some tree ≡ shape → leaf_count shape ≡ length acts → Sizes t (nodes_of tree).count workers
     → state_of t ≡ opening_state → ready_of t ≡ opening_core.ready → Fits tree acts workers t
-opening_fits tree shape acts workers t some few stands laws most is leaves works sizes state lists = record {
+opening_fits tree shape acts workers t some few stands laws most is leaves sizes state lists = record {
   some = some;
   few = few;
   laws = laws;
   most = most;
+  leaves = rw (sym is) at leaves;
   leaves_in = leaves_in (nodes_of tree) tree (length acts) stands (rw (sym is) at leaves);
-  works = works;
   sizes = sizes;
-  free = λ w. ap (λ (s : State). s.status w) state ∙ opening_free w;
   parts = subst (PartsKept (core_job tree acts workers)) (sym state) (opening_kept (core_job tree acts workers) laws (has_root (nodes_of tree) tree stands));
   lists = subst (ListsKept workers (state_of t).node) (sym lists)
       (subst (λ (s : State). ListsKept workers s.node opening_core.ready) (core_opens ∙ sym state) (opening_lists workers some));

@@ -1,24 +1,22 @@
 -- A turn keeps what the core keeps to, and makes what it answers.
-use Rattle.std.proofs.Common.{ℕ, ◌≡◌, ◌<◌, Some, None, Result, Ok, Err, IfOk, IfErr, List, refl, sym, ◌∙◌, ap, subst}
+use Rattle.std.proofs.Common.{ℕ, ◌≡◌, ◌<◌, Some, None, List, refl, sym, ◌∙◌, subst}
 use Rattle.seq_objects.specs.declared.act.Act.{Act}
 use Rattle.sp_order.specs.Precedence.{Tree}
 use Rattle.sp_order.specs.Preorder.{nodes_of}
-use Rattle.batcher_core.specs.declared.status.Status.TheVariants.{Free}
 use Rattle.batcher_core.specs.declared.event.Event.{Event}
 use Rattle.batcher_core.specs.declared.table.Table.{Table}
 use Rattle.batcher_core.specs.declared.turn.Turn.TheVariants.{Moved, Idle}
-use Rattle.batcher_core.specs.State.{State, core_job}
+use Rattle.batcher_core.specs.State.{core_job}
 use Rattle.batcher_core.specs.Lists.{ready_after}
-use Rattle.batcher_core.specs.KeptParts.{PartsKept}
+use Rattle.batcher_core.specs.Events.{Does, Happens}
 use Rattle.batcher_core.specs.KeptLists.{ListsKept}
 use Rattle.batcher_core.specs.Choice.{choice}
-use Rattle.batcher_core.specs.Shown.{state_of, ready_of, shown, made, Sizes, SameSizes}
+use Rattle.batcher_core.specs.Shown.{state_of, ready_of, shown, Sizes, SameSizes}
 use Rattle.batcher_core.specs.Cores.{Fits, Makes}
 use Rattle.batcher_core.proofs.EventKeeps.{event_keeps}
 use Rattle.batcher_core.proofs.ListKeeps.{lists_after, lists_fit}
 use Rattle.batcher_core.proofs.Choices.{none_has_no_event}
-use Rattle.batcher_core.proofs.CoreEvents.{status_made}
-use Rattle.batcher_core.proofs.EventsIn.{happens}
+use Rattle.batcher_core.proofs.Allowed.{chosen_needs}
 
 sizes_kept : (old new : Table) (nodes workers : ℕ) → Sizes old nodes workers → SameSizes old new → Sizes new nodes workers
 sizes_kept old new nodes workers h same = record {
@@ -31,50 +29,30 @@ sizes_kept old new nodes workers h same = record {
   ready_len = same.ready_same ∙ h.ready_len;
 }
 
-fits_at : (tree : Tree) (acts : List Act) (workers : ℕ) (old new : Table) → Fits tree acts workers old → SameSizes old new
-    → ((w : ℕ) → (state_of new).status w ≡ Free) → PartsKept (core_job tree acts workers) (state_of new) → ListsKept workers (state_of new).node (ready_of new) → Fits tree acts workers new
-fits_at tree acts workers old new h same free parts lists = record {
-  some = h.some;
-  few = h.few;
-  laws = h.laws;
-  most = h.most;
-  leaves_in = h.leaves_in;
-  works = h.works;
-  sizes = sizes_kept old new (nodes_of tree).count workers h.sizes same;
-  free = free;
-  parts = parts;
-  lists = lists;
-}
+module _ (tree : Tree) (acts : List Act) (workers : ℕ) (old new : Table) (w : ℕ) (event : Event) (h : Fits tree acts workers old) (below : w < workers)
+  (chosen : choice (core_job tree acts workers) (shown old) w ≡ Some event) (does : Does (core_job tree acts workers) (state_of old) w event (state_of new))
+  (lists : ready_of new ≡ ready_after w event (ready_of old)) where
+  happens : Happens (core_job tree acts workers) (state_of old) w event (state_of new)
+  happens = record { worker_in = below; needs = chosen_needs tree acts workers old w h below event chosen; does = does }
 
-made_free : (s new : State) (w : ℕ) (event : Event) → new ≡ made s w event → ((v : ℕ) → s.status v ≡ Free) → (v : ℕ) → new.status v ≡ Free
-made_free s new w event done free v = ap (λ (x : State). x.status v) done ∙ (ap (λ (f : ℕ → _). f v) (status_made s w event) ∙ free v)
+  -- after the chosen event the table fits
+  pub fits_after : SameSizes old new → Fits tree acts workers new
+  fits_after same = record {
+    some = h.some;
+    few = h.few;
+    laws = h.laws;
+    most = h.most;
+    leaves = h.leaves;
+    leaves_in = h.leaves_in;
+    sizes = sizes_kept old new (nodes_of tree).count workers h.sizes same;
+    parts = event_keeps (core_job tree acts workers) (state_of old) (state_of new) w event h.laws h.parts happens;
+    lists = subst (ListsKept workers (state_of new).node) (sym lists)
+        (lists_after (core_job tree acts workers) (state_of old) w (ready_of old) h.laws h.parts below h.lists event (state_of new) happens.needs does);
+  }
 
--- whatever doing the chosen event answers, the table fits
-pub fits_after : {A B : Type 0} (tree : Tree) (acts : List Act) (workers : ℕ) (old new : Table) (w : ℕ) (event : Event) (r : Result A B)
-    → Fits tree acts workers old → w < workers → choice (core_job tree acts workers) (shown old) w ≡ Some event → SameSizes old new
-    → IfErr r (λ _. state_of new ≡ state_of old) → IfErr r (λ _. ready_of new ≡ ready_of old)
-    → IfOk r (λ _. state_of new ≡ made (state_of old) w event) → IfOk r (λ _. ready_of new ≡ ready_after w event (ready_of old))
-    → Fits tree acts workers new
-fits_after tree acts workers old new w event (Ok x) h below chosen same failed stay done lists =
-    let go = happens tree acts workers old w h below event chosen new done in
-    fits_at tree acts workers old new h same
-    (made_free (state_of old) (state_of new) w event done h.free)
-    (event_keeps (core_job tree acts workers) (state_of old) (state_of new) w event h.laws h.parts go)
-    (subst (ListsKept workers (state_of new).node) (sym lists)
-    (lists_after (core_job tree acts workers) (state_of old) w (ready_of old) h.laws h.parts below h.lists event (state_of new) go.needs go.does))
-fits_after tree acts workers old new w event (Err x) h below chosen same failed stay done lists =
-    fits_at tree acts workers old new h same
-    (λ v. ap (λ (s : State). s.status v) failed ∙ h.free v)
-    (subst (PartsKept (core_job tree acts workers)) (sym failed) h.parts)
-    (subst (ListsKept workers (state_of new).node) (sym stay) (subst (λ (s : State). ListsKept workers s.node (ready_of old)) (sym failed) h.lists))
-
--- an event was chosen, and has happened
-pub makes_event : (tree : Tree) (acts : List Act) (workers : ℕ) (old new : Table) (w : ℕ) (event : Event)
-    → Fits tree acts workers old → w < workers → choice (core_job tree acts workers) (shown old) w ≡ Some event
-    → state_of new ≡ made (state_of old) w event → ready_of new ≡ ready_after w event (ready_of old)
-    → Makes Moved (core_job tree acts workers) (shown old) w (shown new)
-makes_event tree acts workers old new w event h below chosen done lists =
-    (event, chosen, record { happens = happens tree acts workers old w h below event chosen new done; lists = lists })
+  -- an event was chosen, and has happened
+  pub makes_event : Makes Moved (core_job tree acts workers) (shown old) w (shown new)
+  makes_event = (event, chosen, record { happens = happens; lists = lists })
 
 -- none was chosen, and none can happen
 pub makes_none : (tree : Tree) (acts : List Act) (workers : ℕ) (old : Table) (w : ℕ)

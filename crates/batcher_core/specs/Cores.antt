@@ -1,10 +1,9 @@
 -- What contracts see of a core, what its table keeps to, and what its turns answer.
 use Rattle.std.specs.Prelude.{ℕ, ◌≡◌, ◌<◌, ◌≤◌, ◌&&◌, not, Bool, Option, None, Some, List, length}
 use Rattle.seq_objects.specs.declared.act.Act.{Act}
-use Rattle.sp_order.specs.Precedence.{Tree}
+use Rattle.sp_order.specs.Precedence.{Tree, leaves}
 use Rattle.sp_order.specs.Plans.{IsPlan}
 use Rattle.sp_order.specs.Preorder.{nodes_of}
-use Rattle.batcher_core.specs.declared.status.Status.TheVariants.{Free}
 use Rattle.batcher_core.specs.declared.event.Event.{Event}
 use Rattle.batcher_core.specs.declared.table.Table.{Table}
 use Rattle.batcher_core.specs.declared.turn.Turn.{Turn}
@@ -17,7 +16,7 @@ use Rattle.batcher_core.specs.KeptLists.{ListsKept}
 use Rattle.batcher_core.specs.Choice.{choice}
 use Rattle.batcher_core.specs.Runs.{IsStep}
 use Rattle.batcher_core.specs.Shown.{state_of, ready_of, shown, Sizes}
-use Rattle.batcher_core.specs.Looks.{LeafIn, AllWork, work_due}
+use Rattle.batcher_core.specs.Looks.{LeafIn, work_due}
 
 -- what contracts see of a core
 pub record Seen : Type 0 where
@@ -42,16 +41,15 @@ due_in c w = work_due (nodes_of c.tree) c.acts ((state_of c.table).task w)
 abbrev pub is_over_in : Seen → Bool
 is_over_in c = not c.spent && is_done ((state_of c.table).node 0)
 
--- what the table of a core keeps to
+-- what the table of a core keeps to that is not spent
 pub record Fits (tree : Tree) (acts : List Act) (workers : ℕ) (t : Table) : Type 0 where
   pub some : 0 < workers
   pub few : workers ≤ 32
   pub laws : IsPlan (nodes_of tree)
   pub most : (nodes_of tree).count < 40000
+  pub leaves : leaves tree ≡ length acts
   pub leaves_in : (n : ℕ) → LeafIn (length acts) ((nodes_of tree).kind n)
-  pub works : AllWork acts
   pub sizes : Sizes t (nodes_of tree).count workers
-  pub free : (w : ℕ) → (state_of t).status w ≡ Free
   pub parts : PartsKept (core_job tree acts workers) (state_of t)
   pub lists : ListsKept workers (state_of t).node (ready_of t)
 

@@ -148,31 +148,36 @@ pub record IsBatchOf (job : CoreJob) (s : State) (batch : List Entry) : Type 0 w
   pub each : (w : ℕ) → has_taken s.hold w ≡ true → Contains (map (λ entry. entry.worker) batch) w
   pub replies : IsLegalFrom s.objects batch
 
--- What an event of worker w makes of a state, row by row.
+-- What an event of worker w makes of a state, row by row. What a publish makes depends on its batch, and is said below.
+abbrev pub made : State → ℕ → Event → State
+made s w (Claim n) = record s { node = put s.node n Taken; task = put s.task w (Run n) }
+made s w (Start n) = record s { tick = s.tick + 1; task = put s.task w (Started n s.tick) }
+made s w (OpenParRight p l r) = record s { node = put s.node r Ready; task = put s.task w (Half p) }
+made s w (OpenParLeft p l r) = record s { node = put s.node l Ready; task = put s.task w Idle }
+made s w (OpenSeqLeft p l r) = record s { node = put s.node l Ready; task = put s.task w Idle }
+made s w (OpenSeqRight p l r) = record s { node = put s.node r Ready; task = put s.task w Idle }
+made s w (Post n t) = record s { status = put s.status w Pending; call = put s.call w Out }
+made s w Win = record s { hold = Some (new_hold w) }
+made s w (Take u) =
+    record s { status = if is_pending (s.status u) then put s.status u Executing else s.status; hold = looked s.hold (is_pending (s.status u)) u }
+made s w Publish = s
+made s w (Answer u receipt) = record s { status = put s.status u (Served receipt); hold = answered s.hold u }
+made s w Release = record s { hold = None }
+made s w (Leave receipt) = record s { status = put s.status w Free; call = put s.call w (Got receipt) }
+made s w (Keep n t v) = record s { value = put s.value n (Some v); call = put s.call w NotCalled; task = put s.task w (Kept n t) }
+made s w (End n t) = record s { tick = s.tick + 1; task = put s.task w (Ended n t s.tick) }
+made s w (FinishLeaf n t e) = record s { node = put s.node n (Ran w t e); task = put s.task w (task_after n) }
+made s w (FinishSeq p l r) = record s { node = put s.node p Done; task = put s.task w (task_after p) }
+made s w (FinishPar p l r) = record s { node = put s.node p Done; task = put s.task w (task_after p) }
+made s w (ArriveFirst p l r n) = record s { mark = put s.mark p 1; task = put s.task w Idle }
+made s w (ArriveSecond p l r n) = record s { mark = put s.mark p 2; task = put s.task w (Handed p) }
+
+-- An event makes this state of a state. A publish serves the calls that are taken, as a batch that joins the book.
 abbrev pub Does : CoreJob → State → ℕ → Event → State → Type 0
-Does job s w (Claim n) new = new ≡ record s { node = put s.node n Taken; task = put s.task w (Run n) }
-Does job s w (Start n) new = new ≡ record s { tick = s.tick + 1; task = put s.task w (Started n s.tick) }
-Does job s w (OpenParRight p l r) new = new ≡ record s { node = put s.node r Ready; task = put s.task w (Half p) }
-Does job s w (OpenParLeft p l r) new = new ≡ record s { node = put s.node l Ready; task = put s.task w Idle }
-Does job s w (OpenSeqLeft p l r) new = new ≡ record s { node = put s.node l Ready; task = put s.task w Idle }
-Does job s w (OpenSeqRight p l r) new = new ≡ record s { node = put s.node r Ready; task = put s.task w Idle }
-Does job s w (Post n t) new = new ≡ record s { status = put s.status w Pending; call = put s.call w Out }
-Does job s w Win new = new ≡ record s { hold = Some (new_hold w) }
-Does job s w (Take u) new =
-    new ≡ record s { status = if is_pending (s.status u) then put s.status u Executing else s.status; hold = looked s.hold (is_pending (s.status u)) u }
 Does job s w Publish new =
     (batch : List Entry) × IsBatchOf job s batch
     × (new ≡ record s { book = s.book ++ batch ∷ []; objects = served s.objects batch; hold = published s.hold })
-Does job s w (Answer u receipt) new = new ≡ record s { status = put s.status u (Served receipt); hold = answered s.hold u }
-Does job s w Release new = new ≡ record s { hold = None }
-Does job s w (Leave receipt) new = new ≡ record s { status = put s.status w Free; call = put s.call w (Got receipt) }
-Does job s w (Keep n t v) new = new ≡ record s { value = put s.value n (Some v); call = put s.call w NotCalled; task = put s.task w (Kept n t) }
-Does job s w (End n t) new = new ≡ record s { tick = s.tick + 1; task = put s.task w (Ended n t s.tick) }
-Does job s w (FinishLeaf n t e) new = new ≡ record s { node = put s.node n (Ran w t e); task = put s.task w (task_after n) }
-Does job s w (FinishSeq p l r) new = new ≡ record s { node = put s.node p Done; task = put s.task w (task_after p) }
-Does job s w (FinishPar p l r) new = new ≡ record s { node = put s.node p Done; task = put s.task w (task_after p) }
-Does job s w (ArriveFirst p l r n) new = new ≡ record s { mark = put s.mark p 1; task = put s.task w Idle }
-Does job s w (ArriveSecond p l r n) new = new ≡ record s { mark = put s.mark p 2; task = put s.task w (Handed p) }
+Does job s w event new = new ≡ made s w event
 
 -- this event of a worker takes the old state to the new one
 pub record Happens (job : CoreJob) (old : State) (worker : ℕ) (event : Event) (new : State) : Type 0 where

@@ -1,5 +1,5 @@
 -- What the choice of a turn looks up, and what the code of an event does.
-use Rattle.std.specs.Prelude.{ℕ, ◌≡◌, ◌<◌, ◌≤◌, ◌+◌, ◌-◌, ◌^◌, Option, None, Some, List, [], ◌∷◌, length, slice_index_or}
+use Rattle.std.specs.Prelude.{ℕ, ◌≡◌, ◌<◌, ◌≤◌, ◌+◌, ◌-◌, ◌^◌, Option, None, Some, IfSome, List, [], ◌∷◌, length, map, slice_index_or}
 use Rattle.seq_objects.specs.declared.act.Act.{Act}
 use Rattle.seq_objects.specs.declared.act.Act.TheVariants.{Work, Call}
 use Rattle.sp_order.specs.declared.node.Kind.{Kind}
@@ -9,11 +9,15 @@ use Rattle.sp_order.specs.declared.node.Move.TheVariants.{Root, OpenSecond, Fini
 use Rattle.sp_order.specs.Plans.{Nodes}
 use Rattle.batcher_core.specs.declared.task.Task.{Task}
 use Rattle.batcher_core.specs.declared.task.Task.TheVariants.{Idle, Run, Half, Started, Kept, Ended, Whole, Handed}
-use Rattle.batcher_core.specs.declared.status.Status.TheVariants.{Free}
 use Rattle.batcher_core.specs.declared.event.Event.{Event}
 use Rattle.batcher_core.specs.declared.event.Event.TheVariants.{Claim, Start, OpenParRight, OpenParLeft, OpenSeqLeft, OpenSeqRight, Post, Win, Take, Publish, Answer, Release, Leave, Keep, End, FinishLeaf, FinishSeq, FinishPar, ArriveFirst, ArriveSecond}
 use Rattle.batcher_core.specs.declared.table.Table.{Table}
+use Rattle.batch_history.specs.Pairs.{AreDistinct}
+use Rattle.batch_history.specs.Book.{flat}
+use Rattle.batcher_core.specs.State.{CoreJob}
 use Rattle.batcher_core.specs.Operations.{IsLeaf}
+use Rattle.batcher_core.specs.Events.{Needs}
+use Rattle.batcher_core.specs.KeptParts.{PartsKept}
 use Rattle.batcher_core.specs.Choice.{choice_steal, last_of, choice_second, choice_parent, choice_arrive}
 use Rattle.batcher_core.specs.Shown.{state_of, ready_of, Sizes, IsAtEnd}
 
@@ -42,15 +46,6 @@ LeafIn leaves (Some (LeafNode u)) = u < leaves
 LeafIn leaves (Some (SeqNode l r)) = Unit {0}
 LeafIn leaves (Some (ParNode l r)) = Unit {0}
 
--- it is work, and no call
-abbrev pub IsWork : Act → Type 0
-IsWork (Work steps) = Unit {0}
-IsWork (Call op) = ⊥
-
--- all leaves work
-abbrev pub AllWork : List Act → Type 0
-AllWork acts = (u : ℕ) → IsWork (slice_index_or acts u (Work 0))
-
 -- what the choice of a turn looks up is there
 pub record Looks (plan : Nodes) (acts : List Act) (workers : ℕ) (t : Table) : Type 0 where
   pub few : workers ≤ 32
@@ -59,8 +54,10 @@ pub record Looks (plan : Nodes) (acts : List Act) (workers : ℕ) (t : Table) : 
   pub at_leaf : (w n start : ℕ) → (state_of t).task w ≡ Started n start → IsLeaf (plan.kind n)
   pub moves_in : (n : ℕ) → MoveIn plan.count (plan.after n)
   pub leaves_in : (n : ℕ) → LeafIn (length acts) (plan.kind n)
-  pub works : AllWork acts
-  pub free : (w : ℕ) → (state_of t).status w ≡ Free
+  -- the receipts are looked up in the book, in which no leaf stands twice
+  pub leaves : AreDistinct (map (λ entry. entry.leaf) (flat t.history))
+  pub few_batches : length t.history < 2 ^ 32
+  pub few_entries : length (flat t.history) < 2 ^ 32
 
 -- the choice of a worker that has nothing in hand, by its own list
 abbrev pub claim_choice : ℕ → (ℕ → List ℕ) → ℕ → List ℕ → Option Event
@@ -96,25 +93,25 @@ work_due plan acts (Ended n s e) = None
 work_due plan acts (Whole n) = None
 work_due plan acts (Handed n) = None
 
--- what the code of an event looks up is there; the events of calls have no code
-abbrev pub EventIn : Table → ℕ → Event → Type 0
-EventIn t nodes (Claim n) = (n < nodes) × ((v : ℕ) → IsAtEnd n (ready_of t v))
-EventIn t nodes (Start n) = t.tick + 1 < 2 ^ 64
-EventIn t nodes (OpenParRight p l r) = r < nodes
-EventIn t nodes (OpenParLeft p l r) = l < nodes
-EventIn t nodes (OpenSeqLeft p l r) = l < nodes
-EventIn t nodes (OpenSeqRight p l r) = r < nodes
-EventIn t nodes (Post n s) = ⊥
-EventIn t nodes Win = ⊥
-EventIn t nodes (Take u) = ⊥
-EventIn t nodes Publish = ⊥
-EventIn t nodes (Answer u receipt) = ⊥
-EventIn t nodes Release = ⊥
-EventIn t nodes (Leave receipt) = ⊥
-EventIn t nodes (Keep n s v) = n < nodes
-EventIn t nodes (End n s) = t.tick + 1 < 2 ^ 64
-EventIn t nodes (FinishLeaf n s e) = n < nodes
-EventIn t nodes (FinishSeq p l r) = p < nodes
-EventIn t nodes (FinishPar p l r) = p < nodes
-EventIn t nodes (ArriveFirst p l r n) = p < nodes
-EventIn t nodes (ArriveSecond p l r n) = p < nodes
+-- what the code of an event looks up is there, beside the nodes and the workers of which the event speaks
+abbrev pub Allows : CoreJob → Table → ℕ → Event → Type 0
+Allows job t w (Claim n) = (v : ℕ) → IsAtEnd n (ready_of t v)
+Allows job t w (Start n) = t.tick + 1 < 2 ^ 64
+Allows job t w (OpenParRight p l r) = Unit {0}
+Allows job t w (OpenParLeft p l r) = Unit {0}
+Allows job t w (OpenSeqLeft p l r) = Unit {0}
+Allows job t w (OpenSeqRight p l r) = Unit {0}
+Allows job t w (Post n s) = Unit {0}
+Allows job t w Win = Unit {0}
+Allows job t w (Take u) = IfSome t.hold (λ h. h.looks < 32)
+Allows job t w Publish = PartsKept job (state_of t) × Needs job (state_of t) w Publish
+Allows job t w (Answer u receipt) = Unit {0}
+Allows job t w Release = Unit {0}
+Allows job t w (Leave receipt) = Unit {0}
+Allows job t w (Keep n s v) = Unit {0}
+Allows job t w (End n s) = t.tick + 1 < 2 ^ 64
+Allows job t w (FinishLeaf n s e) = Unit {0}
+Allows job t w (FinishSeq p l r) = Unit {0}
+Allows job t w (FinishPar p l r) = Unit {0}
+Allows job t w (ArriveFirst p l r n) = Unit {0}
+Allows job t w (ArriveSecond p l r n) = Unit {0}

@@ -1,5 +1,5 @@
--- The state that the parts of a core show, and what an event on the nodes of the job makes of it.
-use Rattle.std.specs.Prelude.{ℕ, ◌≡◌, ◌≢◌, ◌<◌, ◌≤◌, ◌⊎◌, ◌+◌, ◌-◌, false, if◌then◌else◌, Option, None, Some, List, [], length, get_or, map}
+-- The state that the parts of a core show.
+use Rattle.std.specs.Prelude.{ℕ, ◌≡◌, ◌≢◌, ◌<◌, ◌≤◌, ◌⊎◌, ◌+◌, ◌-◌, false, Option, None, Some, List, [], length, get_or, map}
 use Rattle.std.specs.declared.collections.VecDeque.{VecDeque}
 use Rattle.batcher_core.specs.declared.progress.Progress.TheVariants.{Waiting, Ready, Taken, Done, Ran}
 use Rattle.batcher_core.specs.declared.task.Task.TheVariants.{Idle, Run, Half, Started, Kept, Ended, Handed}
@@ -21,10 +21,13 @@ at xs d n = get_or xs n d
 abbrev pub queues : {Z : Type 0} → List (VecDeque ℕ Z) → ℕ → List ℕ
 queues xs = at (map (λ q. q.items) xs) []
 
--- the hold that a table shows
+-- the hold that the parts of one show
+abbrev pub shown_hold : HoldTable → Hold
+shown_hold h = record { worker = h.worker; looks = h.looks; took = at h.took false; answered = at h.answered false; published = h.published }
+
 abbrev pub hold_of : Option HoldTable → Option Hold
 hold_of None = None
-hold_of (Some h) = Some (record { worker = h.worker; looks = h.looks; took = at h.took false; answered = at h.answered false; published = h.published })
+hold_of (Some h) = Some (shown_hold h)
 
 -- the state that a table shows
 unfoldable pub state_of : Table → State
@@ -80,26 +83,3 @@ pub record SameSizes (old new : Table) : Type 0 where
   pub statuses_same : length new.statuses.items ≡ length old.statuses.items
   pub calls_same : length new.calls.items ≡ length old.calls.items
   pub ready_same : length new.ready.items ≡ length old.ready.items
-
--- the state after an event of worker w on the nodes of the job: what `Does` says of it
-abbrev pub made : State → ℕ → Event → State
-made s w (Claim n) = record s { node = put s.node n Taken; task = put s.task w (Run n) }
-made s w (Start n) = record s { tick = s.tick + 1; task = put s.task w (Started n s.tick) }
-made s w (OpenParRight p l r) = record s { node = put s.node r Ready; task = put s.task w (Half p) }
-made s w (OpenParLeft p l r) = record s { node = put s.node l Ready; task = put s.task w Idle }
-made s w (OpenSeqLeft p l r) = record s { node = put s.node l Ready; task = put s.task w Idle }
-made s w (OpenSeqRight p l r) = record s { node = put s.node r Ready; task = put s.task w Idle }
-made s w (Post n t) = s
-made s w Win = s
-made s w (Take u) = s
-made s w Publish = s
-made s w (Answer u receipt) = s
-made s w Release = s
-made s w (Leave receipt) = s
-made s w (Keep n t v) = record s { value = put s.value n (Some v); call = put s.call w NotCalled; task = put s.task w (Kept n t) }
-made s w (End n t) = record s { tick = s.tick + 1; task = put s.task w (Ended n t s.tick) }
-made s w (FinishLeaf n t e) = record s { node = put s.node n (Ran w t e); task = put s.task w (task_after n) }
-made s w (FinishSeq p l r) = record s { node = put s.node p Done; task = put s.task w (task_after p) }
-made s w (FinishPar p l r) = record s { node = put s.node p Done; task = put s.task w (task_after p) }
-made s w (ArriveFirst p l r n) = record s { mark = put s.mark p 1; task = put s.task w Idle }
-made s w (ArriveSecond p l r n) = record s { mark = put s.mark p 2; task = put s.task w (Handed p) }

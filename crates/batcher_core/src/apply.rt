@@ -1,80 +1,70 @@
 //! Doing an event.
-ghost use Rattle.std.specs.Prelude.{◌≡◌, ◌<◌, ℕ, IfOk, IfErr};
-ghost use Rattle.batcher_core.specs.Shown.{state_of, ready_of, made, Sizes, SameSizes};
+ghost use Rattle.std.specs.Prelude.{◌≡◌, ◌<◌, IfOk};
+ghost use Rattle.sp_order.specs.Plans.{IsPlan};
+ghost use Rattle.sp_order.specs.Preorder.{nodes_of};
+ghost use Rattle.batcher_core.specs.State.{core_job};
+ghost use Rattle.batcher_core.specs.Events.{Does};
+ghost use Rattle.batcher_core.specs.Ranges.{IsInRange};
+ghost use Rattle.batcher_core.specs.Shown.{state_of, ready_of, SameSizes};
 ghost use Rattle.batcher_core.specs.Lists.{ready_after};
-ghost use Rattle.batcher_core.specs.Looks.{EventIn};
+ghost use Rattle.batcher_core.specs.Looks.{Looks, Allows};
 
 use crate::event::Event;
 use crate::table::Table;
-use std::alloc::AllocError;
+use crate::task::Task;
+use seq_objects::Act;
+use sp_order::Plan;
+use std::alloc::{AllocError, Global};
 
 impl Table {
-    /// Does an event on the nodes of the job. After an `Err` nothing has changed.
+    /// Does an event of a worker.
     pub(crate) fn apply(
         &mut self,
+        alloc: Global,
+        plan: &Plan,
+        acts: &[Act],
+        workers: u32,
         worker: u32,
         event: Event,
-        nodes: u32,
-        workers: u32,
     ) -> Result<(), AllocError>
-        requires sizes { Sizes self.old nodes workers }
+        requires plan { IsPlan (nodes_of plan.now) }
+        requires few_nodes { (nodes_of plan.now).count < 40000 }
         requires worker_in { worker < workers }
-        requires event_in { EventIn self.old nodes event }
-        ensures sizes { SameSizes self.old self.new }
-        ensures unchanged { IfErr result (λ _. state_of self.new ≡ state_of self.old) }
-        ensures lists_stay { IfErr result (λ _. ready_of self.new ≡ ready_of self.old) }
-        ensures event { IfOk result (λ _. state_of self.new ≡ made (state_of self.old) worker event) }
+        requires looks { Looks (nodes_of plan.now) acts.now workers self.old }
+        requires in_range { IsInRange (nodes_of plan.now).count workers event }
+        requires allows { Allows (core_job plan.now acts.now workers) self.old worker event }
+        ensures sizes { IfOk result (λ _. SameSizes self.old self.new) }
+        ensures event { IfOk result (λ _. Does (core_job plan.now acts.now workers) (state_of self.old) worker event (state_of self.new)) }
         ensures lists { IfOk result (λ _. ready_of self.new ≡ ready_after worker event (ready_of self.old)) }
     {
         match event {
             Event::Claim(node) => self.claim(worker, node),
             Event::Start(node) => self.start(worker, node),
-            Event::OpenParRight {
-                parent,
-                left,
-                right,
-            } => return self.open_par_right(worker, parent, left, right),
-            Event::OpenParLeft {
-                parent,
-                left,
-                right,
-            } => return self.open_par_left(worker, parent, left, right),
-            Event::OpenSeqLeft {
-                parent,
-                left,
-                right,
-            } => return self.open_seq_left(worker, parent, left, right),
-            Event::OpenSeqRight {
-                parent,
-                left,
-                right,
-            } => return self.open_seq_right(worker, parent, left, right),
+            Event::OpenParRight { parent, right, .. } => {
+                self.open(worker, right, Task::Half(parent))?;
+            }
+            Event::OpenParLeft { left, .. } => self.open(worker, left, Task::Idle)?,
+            Event::OpenSeqLeft { left, .. } => self.open(worker, left, Task::Idle)?,
+            Event::OpenSeqRight { right, .. } => self.open(worker, right, Task::Idle)?,
+            Event::Post { .. } => self.post(worker),
+            Event::Win => self.win(worker),
+            Event::Take(other) => self.take(other),
+            Event::Publish => self.publish(alloc, plan, acts, workers, worker)?,
+            Event::Answer {
+                worker: other,
+                receipt,
+            } => self.answer(other, receipt),
+            Event::Release => self.release(),
+            Event::Leave(receipt) => self.leave(worker, receipt),
             Event::Keep { node, start, value } => self.keep(worker, node, start, value),
             Event::End { node, start } => self.end(worker, node, start),
             Event::FinishLeaf { node, start, end } => self.finish_leaf(worker, node, start, end),
-            Event::FinishSeq {
-                parent,
-                left,
-                right,
-            } => self.finish_series(worker, parent, left, right),
-            Event::FinishPar {
-                parent,
-                left,
-                right,
-            } => self.finish_parallel(worker, parent, left, right),
-            Event::ArriveFirst {
-                parent,
-                left,
-                right,
-                side: node,
-            } => self.arrive_first(worker, parent, left, right, node),
-            Event::ArriveSecond {
-                parent,
-                left,
-                right,
-                side: node,
-            } => self.arrive_second(worker, parent, left, right, node),
-            _ => {}
+            Event::FinishSeq { parent, .. } => self.finish_block(worker, parent),
+            Event::FinishPar { parent, .. } => self.finish_block(worker, parent),
+            Event::ArriveFirst { parent, .. } => self.arrive(worker, parent, 1, Task::Idle),
+            Event::ArriveSecond { parent, .. } => {
+                self.arrive(worker, parent, 2, Task::Handed(parent));
+            }
         }
         Ok(())
     }

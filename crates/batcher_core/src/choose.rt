@@ -1,17 +1,19 @@
 //! The choice of a worker's turn.
-ghost use Rattle.std.specs.Prelude.{◌≡◌, ◌<◌, ◌≤◌, ℕ, length, Option, None, Some};
+ghost use Rattle.std.specs.Prelude.{◌≡◌, ◌<◌, ◌≤◌, ℕ, length, slice_index_or, Option, None, Some};
 ghost use Rattle.sp_order.specs.Preorder.{nodes_of};
 ghost use Rattle.batcher_core.specs.State.{core_job};
-ghost use Rattle.batcher_core.specs.Choice.{choice, choice_free, choice_run, choice_half, choice_second, choice_parent, choice_arrive, choice_handed};
+ghost use Rattle.batcher_core.specs.Operations.{leaf_of, IsLeaf};
+ghost use Rattle.batcher_core.specs.Choice.{choice, choice_by, choice_free, choice_run, choice_half, choice_started, choice_second, choice_parent, choice_arrive, choice_handed};
 ghost use Rattle.batcher_core.specs.Shown.{state_of, queues, shown};
-ghost use Rattle.batcher_core.specs.Looks.{Looks, MoveIn, claim_choice, whole_choice, work_due, steps_of as act_steps};
+ghost use Rattle.batcher_core.specs.Looks.{Looks, MoveIn, LeafIn, claim_choice, whole_choice, work_due, steps_of as act_steps};
 ghost use Rattle.seq_objects.specs.Spin.{spin_of};
+ghost use Rattle.seq_objects.specs.declared.act.Act.TheVariants.{Work};
 
 use crate::event::Event;
-use crate::status::Status;
+use crate::status::{CallState, Status};
 use crate::table::Table;
 use crate::task::Task;
-use seq_objects::Act;
+use seq_objects::{Act, value};
 use sp_order::Plan;
 use sp_order::node::{Kind, Move};
 
@@ -124,6 +126,43 @@ fn steps_of(act: Act) -> Option<u32>
     }
 }
 
+/// With a leaf in hand that has started, by what it does and by what the worker knows of its call. The value is
+/// that of its work, if it is work.
+fn of_started(act: Act, call: CallState, node: u32, start: u64, work: u64) -> Option<Event>
+    requires { (steps : ℕ) → act_steps act ≡ Some steps → work ≡ spin_of steps }
+    ensures { result ≡ choice_started act call node start }
+{
+    match act {
+        Act::Work(_) => Some(Event::Keep {
+            node,
+            start,
+            value: work,
+        }),
+        Act::Call(_) => match call {
+            CallState::NotCalled => Some(Event::Post { node, start }),
+            CallState::Out => None,
+            CallState::Got(receipt) => Some(Event::Keep {
+                node,
+                start,
+                value: value(receipt.reply),
+            }),
+        },
+    }
+}
+
+/// What the leaf at this node does.
+fn act_at(plan: &Plan, acts: &[Act], node: u32) -> Act
+    requires node_in { node < (nodes_of plan.now).count }
+    requires leaf { IsLeaf ((nodes_of plan.now).kind node) }
+    requires leaf_in { LeafIn (length acts.now) ((nodes_of plan.now).kind node) }
+    ensures { result ≡ slice_index_or acts.now (leaf_of ((nodes_of plan.now).kind node)) (Work 0) }
+{
+    match plan.kind(node) {
+        Kind::LeafNode(leaf) => acts[leaf as usize],
+        _ => Act::Work(0),
+    }
+}
+
 impl Table {
     /// With nothing in hand: the newest node of the own list, or else the oldest of the next list that has one.
     pub(crate) fn choose_claim(&self, workers: u32, worker: u32) -> Option<Event>
@@ -162,7 +201,7 @@ impl Table {
         }
     }
 
-    /// How many steps of work the leaf has that the worker has started, if it has started one.
+    /// How many steps of work the leaf has that the worker has started, if it has started one that works.
     #[tactic(auto, unfolding(crate::specs::Shown::state_of))]
     pub(crate) fn work_due(
         &self,
@@ -184,7 +223,8 @@ impl Table {
         }
     }
 
-    /// The event that a worker's task allows. The value is that of the work that is due, if some is.
+    /// The event that the task of a worker allows that is not trapped. The value is that of the work that is due, if
+    /// some is.
     #[tactic(auto, unfolding(crate::specs::Shown::state_of, crate::specs::Shown::ready_of))]
     pub(crate) fn choose_free(
         &self,
@@ -192,22 +232,48 @@ impl Table {
         acts: &[Act],
         workers: u32,
         worker: u32,
-        value: u64,
+        work: u64,
     ) -> Option<Event>
         requires looks { Looks (nodes_of plan.now) acts.now workers self.now }
         requires worker_in { worker < workers }
-        requires value { (steps : ℕ) → work_due (nodes_of plan.now) acts.now ((state_of self.now).task worker) ≡ Some steps → value ≡ spin_of steps }
+        requires work { (steps : ℕ) → work_due (nodes_of plan.now) acts.now ((state_of self.now).task worker) ≡ Some steps → work ≡ spin_of steps }
         ensures { result ≡ choice_free (core_job plan.now acts.now workers) (shown self.now) worker ((state_of self.now).task worker) }
     {
         match self.tasks[worker as usize] {
             Task::Idle => self.choose_claim(workers, worker),
             Task::Run(node) => of_run(plan.kind(node), node),
             Task::Half(node) => of_half(plan.kind(node), node),
-            Task::Started { node, start } => Some(Event::Keep { node, start, value }),
+            Task::Started { node, start } => {
+                let act = act_at(plan, acts, node);
+                of_started(act, self.calls[worker as usize], node, start, work)
+            }
             Task::Kept { node, start } => Some(Event::End { node, start }),
             Task::Ended { node, start, end } => Some(Event::FinishLeaf { node, start, end }),
             Task::Whole(node) => self.choose_whole(plan, node),
             Task::Handed(node) => of_handed(plan.kind(node), node),
+        }
+    }
+
+    /// The event of a worker that does not have the flag, by its status.
+    #[tactic(auto, unfolding(crate::specs::Shown::state_of))]
+    fn choose_by_status(
+        &self,
+        plan: &Plan,
+        acts: &[Act],
+        workers: u32,
+        worker: u32,
+        work: u64,
+    ) -> Option<Event>
+        requires looks { Looks (nodes_of plan.now) acts.now workers self.now }
+        requires worker_in { worker < workers }
+        requires work { (steps : ℕ) → work_due (nodes_of plan.now) acts.now ((state_of self.now).task worker) ≡ Some steps → work ≡ spin_of steps }
+        ensures { result ≡ choice_by (core_job plan.now acts.now workers) (shown self.now) worker ((state_of self.now).status worker) }
+    {
+        match self.statuses[worker as usize] {
+            Status::Free => self.choose_free(plan, acts, workers, worker, work),
+            Status::Pending => self.choose_pending(),
+            Status::Executing => None,
+            Status::Served(receipt) => Some(Event::Leave(receipt)),
         }
     }
 
@@ -219,16 +285,16 @@ impl Table {
         acts: &[Act],
         workers: u32,
         worker: u32,
-        value: u64,
+        work: u64,
     ) -> Option<Event>
         requires looks { Looks (nodes_of plan.now) acts.now workers self.now }
         requires worker_in { worker < workers }
-        requires value { (steps : ℕ) → work_due (nodes_of plan.now) acts.now ((state_of self.now).task worker) ≡ Some steps → value ≡ spin_of steps }
+        requires work { (steps : ℕ) → work_due (nodes_of plan.now) acts.now ((state_of self.now).task worker) ≡ Some steps → work ≡ spin_of steps }
         ensures { result ≡ choice (core_job plan.now acts.now workers) (shown self.now) worker }
     {
-        match self.statuses[worker as usize] {
-            Status::Free => self.choose_free(plan, acts, workers, worker, value),
-            _ => None,
+        match self.hold {
+            Some(hold) if hold.worker == worker => self.choose_holding(plan, acts, workers, hold),
+            _ => self.choose_by_status(plan, acts, workers, worker, work),
         }
     }
 }

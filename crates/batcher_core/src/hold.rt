@@ -1,4 +1,9 @@
 //! What the worker that has the flag keeps.
+ghost use Rattle.std.specs.Prelude.{◌≡◌, ◌<◌, ◌≤◌, Some, IfSome, true, false};
+ghost use Rattle.batcher_core.specs.State.{put};
+ghost use Rattle.batcher_core.specs.Events.{new_hold, looked as hold_looked, published as hold_published, answered as hold_answered};
+ghost use Rattle.batcher_core.specs.Choice.{some_below, least_below, is_owed};
+ghost use Rattle.batcher_core.specs.Shown.{at, shown_hold, hold_of};
 
 /// What the worker that has the flag keeps: the batch that it is making. The two lists go by the workers' numbers.
 #[derive(Clone, Copy, Debug)]
@@ -13,4 +18,108 @@ pub struct Hold {
     pub answered: [bool; 32],
     /// Whether the calls that it has taken are served.
     pub published: bool,
+}
+
+/// The list with true at this place.
+fn with(list: [bool; 32], place: u32) -> [bool; 32]
+    requires { place < 32 }
+    ensures { at result false ≡ put (at list false) place true }
+{
+    let mut list = list;
+    list[place as usize] = true;
+    list
+}
+
+impl Hold {
+    /// The hold of a worker that has just taken the flag.
+    pub(crate) fn of(worker: u32) -> Hold
+        ensures { shown_hold result ≡ new_hold worker }
+    {
+        Hold {
+            worker,
+            looks: 0,
+            took: [false; 32],
+            answered: [false; 32],
+            published: false,
+        }
+    }
+
+    /// Whether it has taken the call of this worker, and has not answered it.
+    fn is_owed(&self, worker: u32) -> bool
+        requires { worker < 32 }
+        ensures { result ≡ is_owed (shown_hold self.now) worker }
+    {
+        self.took[worker as usize] && !self.answered[worker as usize]
+    }
+
+    /// Whether it has taken the call of this worker.
+    pub(crate) fn took(&self, worker: u32) -> bool
+        requires { worker < 32 }
+        ensures { result ≡ (shown_hold self.now).took worker }
+    {
+        self.took[worker as usize]
+    }
+
+    /// Whether it has taken a call.
+    pub(crate) fn has_taken(&self, workers: u32) -> bool
+        requires { workers ≤ 32 }
+        ensures { result ≡ some_below (shown_hold self.now).took workers }
+    {
+        for worker in 0..workers {
+            if self.took(worker) {
+                return true;
+            }
+        }
+        false
+    }
+
+    /// The least worker whose call it has taken and that it has not answered.
+    pub(crate) fn least_owed(&self, workers: u32) -> Option<u32>
+        requires { workers ≤ 32 }
+        ensures { result ≡ least_below (is_owed (shown_hold self.now)) workers }
+    {
+        for worker in 0..workers {
+            if self.is_owed(worker) {
+                return Some(worker);
+            }
+        }
+        None
+    }
+}
+
+/// After a look at a worker, whose call is taken or not.
+pub(crate) fn looked(hold: Option<Hold>, other: u32, takes: bool) -> Option<Hold>
+    requires room { IfSome hold (λ h. h.looks < 32) }
+    requires other_in { other < 32 }
+    ensures { hold_of result ≡ hold_looked (hold_of hold) takes other }
+{
+    let hold = hold?;
+    let looks = hold.looks + 1;
+    if takes {
+        let took = with(hold.took, other);
+        Some(Hold { looks, took, ..hold })
+    } else {
+        Some(Hold { looks, ..hold })
+    }
+}
+
+/// After the calls that it has taken are served.
+pub(crate) fn published(hold: Option<Hold>) -> Option<Hold>
+    ensures { hold_of result ≡ hold_published (hold_of hold) }
+{
+    let hold = hold?;
+    Some(Hold {
+        published: true,
+        ..hold
+    })
+}
+
+/// After this worker has its receipt.
+pub(crate) fn answered(hold: Option<Hold>, other: u32) -> Option<Hold>
+    requires { other < 32 }
+    ensures { hold_of result ≡ hold_answered (hold_of hold) other }
+{
+    let hold = hold?;
+    let answered = with(hold.answered, other);
+    Some(Hold { answered, ..hold })
 }

@@ -7,14 +7,20 @@
 
 mod apply;
 mod choose;
+mod choose_gate;
 pub mod event;
+mod gate;
+mod gather;
 pub mod hold;
 pub mod laws;
 mod lists;
 mod opening;
 mod opens;
 pub mod progress;
+mod publish;
+mod receipts;
 pub mod scheduler;
+mod serve;
 pub mod spun;
 pub mod status;
 mod steps;

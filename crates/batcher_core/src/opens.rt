@@ -1,8 +1,10 @@
 //! What claims and opens write.
-ghost use Rattle.std.specs.Prelude.{◌≡◌, ◌<◌, ◌+◌, ℕ, length, IfOk, IfErr};
-ghost use Rattle.batcher_core.specs.Shown.{state_of, ready_of, made, SameSizes, IsAtEnd};
-ghost use Rattle.batcher_core.specs.Lists.{ready_after};
-ghost use Rattle.batcher_core.specs.declared.event.Event.TheVariants.{Claim, OpenParRight, OpenParLeft, OpenSeqLeft, OpenSeqRight};
+ghost use Rattle.std.specs.Prelude.{◌≡◌, ◌<◌, ◌++◌, ◌∷◌, [], ℕ, length, IfOk};
+ghost use Rattle.batcher_core.specs.State.{put};
+ghost use Rattle.batcher_core.specs.Shown.{state_of, ready_of, SameSizes, IsAtEnd};
+ghost use Rattle.batcher_core.specs.Lists.{without};
+ghost use Rattle.batcher_core.specs.declared.progress.Progress.TheVariants.{Ready, Taken};
+ghost use Rattle.batcher_core.specs.declared.task.Task.TheVariants.{Run};
 
 use crate::lists::{drop_ready, push_ready};
 use crate::progress::Progress;
@@ -18,107 +20,27 @@ impl Table {
         requires node_in { node < length self.old.nodes.items }
         requires at_ends { (v : ℕ) → IsAtEnd node (ready_of self.old v) }
         ensures sizes { SameSizes self.old self.new }
-        ensures event { state_of self.new ≡ made (state_of self.old) worker (Claim node) }
-        ensures lists { ready_of self.new ≡ ready_after worker (Claim node) (ready_of self.old) }
+        ensures event { state_of self.new ≡ record (state_of self.old) { node = put (state_of self.old).node node Taken; task = put (state_of self.old).task worker (Run node) } }
+        ensures lists { ready_of self.new ≡ λ v. without node (ready_of self.old v) }
     {
         drop_ready(&mut self.ready, node);
         self.nodes[node as usize] = Progress::Taken;
         self.tasks[worker as usize] = Task::Run(node);
     }
 
-    /// The worker makes the right side of a parallel block ready.
+    /// The worker makes a node ready, and has this in hand then.
     #[tactic(auto, using(crate::proofs::Written::at_written), unfolding(crate::specs::Shown::state_of, crate::specs::Shown::ready_of))]
-    pub(crate) fn open_par_right(
-        &mut self,
-        worker: u32,
-        parent: u32,
-        left: u32,
-        right: u32,
-    ) -> Result<(), AllocError>
+    pub(crate) fn open(&mut self, worker: u32, node: u32, then: Task) -> Result<(), AllocError>
         requires worker_in { worker < length self.old.tasks.items }
-        requires node_in { right < length self.old.nodes.items }
+        requires node_in { node < length self.old.nodes.items }
         requires ready_in { worker < length self.old.ready.items }
-        ensures sizes { SameSizes self.old self.new }
-        ensures unchanged { IfErr result (λ _. state_of self.new ≡ state_of self.old) }
-        ensures lists_stay { IfErr result (λ _. ready_of self.new ≡ ready_of self.old) }
-        ensures event { IfOk result (λ _. state_of self.new ≡ made (state_of self.old) worker (OpenParRight parent left right)) }
-        ensures lists { IfOk result (λ _. ready_of self.new ≡ ready_after worker (OpenParRight parent left right) (ready_of self.old)) }
+        ensures sizes { IfOk result (λ _. SameSizes self.old self.new) }
+        ensures event { IfOk result (λ _. state_of self.new ≡ record (state_of self.old) { node = put (state_of self.old).node node Ready; task = put (state_of self.old).task worker then }) }
+        ensures lists { IfOk result (λ _. ready_of self.new ≡ put (ready_of self.old) worker (ready_of self.old worker ++ node ∷ [])) }
     {
-        push_ready(&mut self.ready, worker, right)?;
-        self.nodes[right as usize] = Progress::Ready;
-        self.tasks[worker as usize] = Task::Half(parent);
-        Ok(())
-    }
-
-    /// The worker makes the left side of a parallel block ready.
-    #[tactic(auto, using(crate::proofs::Written::at_written), unfolding(crate::specs::Shown::state_of, crate::specs::Shown::ready_of))]
-    pub(crate) fn open_par_left(
-        &mut self,
-        worker: u32,
-        parent: u32,
-        left: u32,
-        right: u32,
-    ) -> Result<(), AllocError>
-        requires worker_in { worker < length self.old.tasks.items }
-        requires node_in { left < length self.old.nodes.items }
-        requires ready_in { worker < length self.old.ready.items }
-        ensures sizes { SameSizes self.old self.new }
-        ensures unchanged { IfErr result (λ _. state_of self.new ≡ state_of self.old) }
-        ensures lists_stay { IfErr result (λ _. ready_of self.new ≡ ready_of self.old) }
-        ensures event { IfOk result (λ _. state_of self.new ≡ made (state_of self.old) worker (OpenParLeft parent left right)) }
-        ensures lists { IfOk result (λ _. ready_of self.new ≡ ready_after worker (OpenParLeft parent left right) (ready_of self.old)) }
-    {
-        push_ready(&mut self.ready, worker, left)?;
-        self.nodes[left as usize] = Progress::Ready;
-        self.tasks[worker as usize] = Task::Idle;
-        Ok(())
-    }
-
-    /// The worker makes the left side of a series ready.
-    #[tactic(auto, using(crate::proofs::Written::at_written), unfolding(crate::specs::Shown::state_of, crate::specs::Shown::ready_of))]
-    pub(crate) fn open_seq_left(
-        &mut self,
-        worker: u32,
-        parent: u32,
-        left: u32,
-        right: u32,
-    ) -> Result<(), AllocError>
-        requires worker_in { worker < length self.old.tasks.items }
-        requires node_in { left < length self.old.nodes.items }
-        requires ready_in { worker < length self.old.ready.items }
-        ensures sizes { SameSizes self.old self.new }
-        ensures unchanged { IfErr result (λ _. state_of self.new ≡ state_of self.old) }
-        ensures lists_stay { IfErr result (λ _. ready_of self.new ≡ ready_of self.old) }
-        ensures event { IfOk result (λ _. state_of self.new ≡ made (state_of self.old) worker (OpenSeqLeft parent left right)) }
-        ensures lists { IfOk result (λ _. ready_of self.new ≡ ready_after worker (OpenSeqLeft parent left right) (ready_of self.old)) }
-    {
-        push_ready(&mut self.ready, worker, left)?;
-        self.nodes[left as usize] = Progress::Ready;
-        self.tasks[worker as usize] = Task::Idle;
-        Ok(())
-    }
-
-    /// The worker makes the right side of a series ready, since it has finished the left one.
-    #[tactic(auto, using(crate::proofs::Written::at_written), unfolding(crate::specs::Shown::state_of, crate::specs::Shown::ready_of))]
-    pub(crate) fn open_seq_right(
-        &mut self,
-        worker: u32,
-        parent: u32,
-        left: u32,
-        right: u32,
-    ) -> Result<(), AllocError>
-        requires worker_in { worker < length self.old.tasks.items }
-        requires node_in { right < length self.old.nodes.items }
-        requires ready_in { worker < length self.old.ready.items }
-        ensures sizes { SameSizes self.old self.new }
-        ensures unchanged { IfErr result (λ _. state_of self.new ≡ state_of self.old) }
-        ensures lists_stay { IfErr result (λ _. ready_of self.new ≡ ready_of self.old) }
-        ensures event { IfOk result (λ _. state_of self.new ≡ made (state_of self.old) worker (OpenSeqRight parent left right)) }
-        ensures lists { IfOk result (λ _. ready_of self.new ≡ ready_after worker (OpenSeqRight parent left right) (ready_of self.old)) }
-    {
-        push_ready(&mut self.ready, worker, right)?;
-        self.nodes[right as usize] = Progress::Ready;
-        self.tasks[worker as usize] = Task::Idle;
+        push_ready(&mut self.ready, worker, node)?;
+        self.nodes[node as usize] = Progress::Ready;
+        self.tasks[worker as usize] = then;
         Ok(())
     }
 }

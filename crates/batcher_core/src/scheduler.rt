@@ -4,7 +4,6 @@ ghost use Rattle.seq_objects.specs.Spin.{spin_of};
 ghost use Rattle.batcher_core.specs.State.{opening_core};
 ghost use Rattle.batcher_core.specs.Tasks.{is_done as node_done};
 ghost use Rattle.batcher_core.specs.Choice.{choice};
-ghost use Rattle.batcher_core.specs.Looks.{AllWork};
 ghost use Rattle.batcher_core.specs.Cores.{job_in, state_in, due_in, turn_due, is_over_in, Makes};
 
 use crate::spun::Spun;
@@ -19,6 +18,7 @@ use std::marker::Model;
 /// The scheduler's core: a job, its workers, and how far they have come. It is spent once memory has failed.
 #[derive(Drop)]
 pub struct Core {
+    alloc: Global,
     plan: Plan,
     acts: Vec<Act>,
     workers: u32,
@@ -27,6 +27,7 @@ pub struct Core {
 }
 
 impl Model for Core {
+    ghost use Rattle.std.specs.Prelude.{◌≡◌, false};
     ghost use Rattle.std.specs.Coded.{codes};
     ghost use Rattle.sp_order.specs.TreeCode.{coded_tree};
     ghost use Rattle.batcher_core.specs.Cores.{Seen, Fits};
@@ -37,7 +38,7 @@ impl Model for Core {
 
     ghost view = { λ c. record { tree = c.plan; acts = c.acts.items; workers = c.workers; table = c.table; spent = c.spent } };
 
-    ghost invariant = { λ c. Fits c.plan c.acts.items c.workers c.table };
+    ghost invariant = { λ c. c.spent ≡ false → Fits c.plan c.acts.items c.workers c.table };
 }
 
 /// The value of the work that was done, or 0 where none was.
@@ -51,12 +52,11 @@ fn value_of(spun: &Option<Spun>) -> u64
 }
 
 impl Core {
-    /// The core of this job, in its opening state. The job has leaves, and they all work: none of them calls.
+    /// The core of this job, which has leaves, in its opening state.
     pub fn start(alloc: Global, job: &Job, workers: u32) -> Result<Core, AllocError>
         requires leaves { IsSome job.now.shape }
         requires some_workers { 0 < workers }
         requires few_workers { workers ≤ 32 }
-        requires works { AllWork job.now.acts }
         ensures job { IfOk result (λ core. (Some core.tree ≡ job.now.shape) × (core.acts ≡ job.now.acts) × (core.workers ≡ workers)) }
         ensures opening { IfOk result (λ core. (state_in core ≡ opening_core) × (core.spent ≡ false)) }
     {
@@ -67,6 +67,7 @@ impl Core {
         acts.extend_from_slice(job.acts())?;
         let table = Table::opening(alloc, plan.nodes(), workers)?;
         Ok(Core {
+            alloc,
             plan,
             acts,
             workers,
@@ -83,7 +84,7 @@ impl Core {
         requires work { IfSome spun (λ s. (steps : ℕ) → due_in self.old worker ≡ Some steps → s ≡ steps) }
         ensures turn { IfOk result (λ t. t ≡ turn_due (due_in self.old worker) spun (choice (job_in self.old) (state_in self.old) worker)) }
         ensures event { IfOk result (λ t. Makes t (job_in self.old) (state_in self.old) worker (state_in self.new)) }
-        ensures failed { IfErr result (λ _. (state_in self.new ≡ state_in self.old) × (self.new.spent ≡ true)) }
+        ensures failed { IfErr result (λ _. self.new.spent ≡ true) }
         ensures spent { IfOk result (λ _. (self.old.spent ≡ false) × (self.new.spent ≡ false)) }
         ensures job { (self.new.tree ≡ self.old.tree) × (self.new.acts ≡ self.old.acts) × (self.new.workers ≡ self.old.workers) }
     {
@@ -97,16 +98,16 @@ impl Core {
                 return Ok(Turn::Spin(steps));
             }
         }
-        let value = value_of(&spun);
+        let work = value_of(&spun);
         match self
             .table
-            .choose(&self.plan, acts, self.workers, worker, value)
+            .choose(&self.plan, acts, self.workers, worker, work)
         {
             None => Ok(Turn::Idle),
             Some(event) => {
                 let done = self
                     .table
-                    .apply(worker, event, self.plan.nodes(), self.workers);
+                    .apply(self.alloc, &self.plan, acts, self.workers, worker, event);
                 match done {
                     Ok(()) => Ok(Turn::Moved),
                     Err(error) => {

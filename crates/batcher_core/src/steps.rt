@@ -1,9 +1,11 @@
-//! What each event on the nodes of a job writes.
-ghost use Rattle.std.specs.Prelude.{◌≡◌, ◌<◌, ◌+◌, ◌^◌, length};
-ghost use Rattle.batcher_core.specs.Shown.{state_of, ready_of, made, SameSizes};
-ghost use Rattle.batcher_core.specs.Lists.{ready_after};
+//! What each event of a leaf or a block writes that makes no node ready.
+ghost use Rattle.std.specs.Prelude.{◌≡◌, ◌<◌, ◌+◌, ◌^◌, length, Some};
+ghost use Rattle.batcher_core.specs.State.{put};
+ghost use Rattle.batcher_core.specs.Shown.{state_of, ready_of, SameSizes};
 ghost use Rattle.batcher_core.specs.Events.{task_after as next_task};
-ghost use Rattle.batcher_core.specs.declared.event.Event.TheVariants.{Start, Keep, End, FinishLeaf, FinishSeq, FinishPar, ArriveFirst, ArriveSecond};
+ghost use Rattle.batcher_core.specs.declared.progress.Progress.TheVariants.{Done, Ran};
+ghost use Rattle.batcher_core.specs.declared.task.Task.TheVariants.{Started, Kept, Ended};
+ghost use Rattle.batcher_core.specs.declared.status.CallState.TheVariants.{NotCalled};
 
 use crate::progress::Progress;
 use crate::status::CallState;
@@ -28,8 +30,8 @@ impl Table {
         requires worker_in { worker < length self.old.tasks.items }
         requires room { self.old.tick + 1 < 2 ^ 64 }
         ensures sizes { SameSizes self.old self.new }
-        ensures event { state_of self.new ≡ made (state_of self.old) worker (Start node) }
-        ensures lists { ready_of self.new ≡ ready_after worker (Start node) (ready_of self.old) }
+        ensures event { state_of self.new ≡ record (state_of self.old) { tick = (state_of self.old).tick + 1; task = put (state_of self.old).task worker (Started node (state_of self.old).tick) } }
+        ensures lists { ready_of self.new ≡ ready_of self.old }
     {
         self.tasks[worker as usize] = Task::Started {
             node,
@@ -45,8 +47,8 @@ impl Table {
         requires call_in { worker < length self.old.calls.items }
         requires node_in { node < length self.old.values.items }
         ensures sizes { SameSizes self.old self.new }
-        ensures event { state_of self.new ≡ made (state_of self.old) worker (Keep node start value) }
-        ensures lists { ready_of self.new ≡ ready_after worker (Keep node start value) (ready_of self.old) }
+        ensures event { state_of self.new ≡ record (state_of self.old) { value = put (state_of self.old).value node (Some value); call = put (state_of self.old).call worker NotCalled; task = put (state_of self.old).task worker (Kept node start) } }
+        ensures lists { ready_of self.new ≡ ready_of self.old }
     {
         self.values[node as usize] = Some(value);
         self.calls[worker as usize] = CallState::NotCalled;
@@ -59,8 +61,8 @@ impl Table {
         requires worker_in { worker < length self.old.tasks.items }
         requires room { self.old.tick + 1 < 2 ^ 64 }
         ensures sizes { SameSizes self.old self.new }
-        ensures event { state_of self.new ≡ made (state_of self.old) worker (End node start) }
-        ensures lists { ready_of self.new ≡ ready_after worker (End node start) (ready_of self.old) }
+        ensures event { state_of self.new ≡ record (state_of self.old) { tick = (state_of self.old).tick + 1; task = put (state_of self.old).task worker (Ended node start (state_of self.old).tick) } }
+        ensures lists { ready_of self.new ≡ ready_of self.old }
     {
         self.tasks[worker as usize] = Task::Ended {
             node,
@@ -76,76 +78,36 @@ impl Table {
         requires worker_in { worker < length self.old.tasks.items }
         requires node_in { node < length self.old.nodes.items }
         ensures sizes { SameSizes self.old self.new }
-        ensures event { state_of self.new ≡ made (state_of self.old) worker (FinishLeaf node start end) }
-        ensures lists { ready_of self.new ≡ ready_after worker (FinishLeaf node start end) (ready_of self.old) }
+        ensures event { state_of self.new ≡ record (state_of self.old) { node = put (state_of self.old).node node (Ran worker start end); task = put (state_of self.old).task worker (next_task node) } }
+        ensures lists { ready_of self.new ≡ ready_of self.old }
     {
         self.nodes[node as usize] = Progress::Ran { worker, start, end };
         self.tasks[worker as usize] = task_after(node);
     }
 
-    /// A series is done, since the worker has finished its right side.
+    /// A block is done.
     #[tactic(auto, using(crate::proofs::Written::at_written), unfolding(crate::specs::Shown::state_of, crate::specs::Shown::ready_of))]
-    pub(crate) fn finish_series(&mut self, worker: u32, parent: u32, left: u32, right: u32)
+    pub(crate) fn finish_block(&mut self, worker: u32, node: u32)
         requires worker_in { worker < length self.old.tasks.items }
-        requires node_in { parent < length self.old.nodes.items }
+        requires node_in { node < length self.old.nodes.items }
         ensures sizes { SameSizes self.old self.new }
-        ensures event { state_of self.new ≡ made (state_of self.old) worker (FinishSeq parent left right) }
-        ensures lists { ready_of self.new ≡ ready_after worker (FinishSeq parent left right) (ready_of self.old) }
+        ensures event { state_of self.new ≡ record (state_of self.old) { node = put (state_of self.old).node node Done; task = put (state_of self.old).task worker (next_task node) } }
+        ensures lists { ready_of self.new ≡ ready_of self.old }
     {
-        self.nodes[parent as usize] = Progress::Done;
-        self.tasks[worker as usize] = task_after(parent);
+        self.nodes[node as usize] = Progress::Done;
+        self.tasks[worker as usize] = task_after(node);
     }
 
-    /// A parallel block is done, since both its sides have arrived.
+    /// Another side of a parallel block has arrived: so many have then, and the worker has this in hand.
     #[tactic(auto, using(crate::proofs::Written::at_written), unfolding(crate::specs::Shown::state_of, crate::specs::Shown::ready_of))]
-    pub(crate) fn finish_parallel(&mut self, worker: u32, parent: u32, left: u32, right: u32)
+    pub(crate) fn arrive(&mut self, worker: u32, node: u32, mark: u32, then: Task)
         requires worker_in { worker < length self.old.tasks.items }
-        requires node_in { parent < length self.old.nodes.items }
+        requires node_in { node < length self.old.marks.items }
         ensures sizes { SameSizes self.old self.new }
-        ensures event { state_of self.new ≡ made (state_of self.old) worker (FinishPar parent left right) }
-        ensures lists { ready_of self.new ≡ ready_after worker (FinishPar parent left right) (ready_of self.old) }
+        ensures event { state_of self.new ≡ record (state_of self.old) { mark = put (state_of self.old).mark node mark; task = put (state_of self.old).task worker then } }
+        ensures lists { ready_of self.new ≡ ready_of self.old }
     {
-        self.nodes[parent as usize] = Progress::Done;
-        self.tasks[worker as usize] = task_after(parent);
-    }
-
-    /// The first side of a parallel block arrives at it.
-    #[tactic(auto, using(crate::proofs::Written::at_written), unfolding(crate::specs::Shown::state_of, crate::specs::Shown::ready_of))]
-    pub(crate) fn arrive_first(
-        &mut self,
-        worker: u32,
-        parent: u32,
-        left: u32,
-        right: u32,
-        node: u32,
-    )
-        requires worker_in { worker < length self.old.tasks.items }
-        requires parent_in { parent < length self.old.marks.items }
-        ensures sizes { SameSizes self.old self.new }
-        ensures event { state_of self.new ≡ made (state_of self.old) worker (ArriveFirst parent left right node) }
-        ensures lists { ready_of self.new ≡ ready_after worker (ArriveFirst parent left right node) (ready_of self.old) }
-    {
-        self.marks[parent as usize] = 1;
-        self.tasks[worker as usize] = Task::Idle;
-    }
-
-    /// The second side of a parallel block arrives at it.
-    #[tactic(auto, using(crate::proofs::Written::at_written), unfolding(crate::specs::Shown::state_of, crate::specs::Shown::ready_of))]
-    pub(crate) fn arrive_second(
-        &mut self,
-        worker: u32,
-        parent: u32,
-        left: u32,
-        right: u32,
-        node: u32,
-    )
-        requires worker_in { worker < length self.old.tasks.items }
-        requires parent_in { parent < length self.old.marks.items }
-        ensures sizes { SameSizes self.old self.new }
-        ensures event { state_of self.new ≡ made (state_of self.old) worker (ArriveSecond parent left right node) }
-        ensures lists { ready_of self.new ≡ ready_after worker (ArriveSecond parent left right node) (ready_of self.old) }
-    {
-        self.marks[parent as usize] = 2;
-        self.tasks[worker as usize] = Task::Handed(parent);
+        self.marks[node as usize] = mark;
+        self.tasks[worker as usize] = then;
     }
 }

@@ -26,5 +26,6 @@ pub mod Choice
 pub mod Runs
 pub mod Looks
 pub mod Cores
+pub mod Batches
 pub mod Ranges
 pub mod Fuel

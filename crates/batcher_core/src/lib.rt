@@ -8,12 +8,15 @@
 mod apply;
 mod choose;
 pub mod event;
+mod gather;
 pub mod laws;
 mod lists;
 mod opening;
 mod opens;
 pub mod progress;
+mod receipts;
 pub mod scheduler;
+mod serve;
 pub mod spun;
 pub mod status;
 mod steps;

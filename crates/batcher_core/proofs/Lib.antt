@@ -20,6 +20,7 @@ pub mod GateKeeps
 pub mod BatchFacts
 pub mod PublishKeeps
 pub mod TakenCalls
+pub mod ServedCalls
 pub mod Written
 pub mod Ends
 pub mod ClaimEnds

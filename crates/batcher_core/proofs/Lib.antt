@@ -21,6 +21,7 @@ pub mod BatchFacts
 pub mod PublishKeeps
 pub mod TakenCalls
 pub mod ServedCalls
+pub mod BookSearch
 pub mod Written
 pub mod Ends
 pub mod ClaimEnds

@@ -1,5 +1,5 @@
 -- The entries of calls that are served one after another, as their number rises.
-use Rattle.std.proofs.Common.{ℕ, ◌≡◌, ◌<◌, ◌+◌, List, [], ◌∷◌, ◌++◌, map, length, take, get_or, sym, ◌∙◌, ap}
+use Rattle.std.proofs.Common.{ℕ, ◌≡◌, ◌<◌, ◌+◌, List, [], ◌∷◌, ◌++◌, length, take, get_or, sym, ◌∙◌, ap}
 use Rattle.std.proofs.lemmas.List.{map-append, take_more}
 use Rattle.seq_objects.specs.Objects.{Objects, after, reply_to}
 use Rattle.seq_objects.specs.declared.call.Call.{Call}

@@ -17,7 +17,7 @@ or_else_assoc (Some p) b c = refl
 or_else_assoc None b c = refl
 
 -- the first of a place and none
-or_else_none : (a : Option Place) → or_else a None ≡ a
+pub or_else_none : (a : Option Place) → or_else a None ≡ a
 or_else_none (Some p) = refl
 or_else_none None = refl
 

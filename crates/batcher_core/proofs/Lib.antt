@@ -19,6 +19,9 @@ pub mod FinishKeeps
 pub mod GateKeeps
 pub mod BatchFacts
 pub mod PublishKeeps
+pub mod TakenCalls
+pub mod ServedCalls
+pub mod BookSearch
 pub mod Written
 pub mod Ends
 pub mod ClaimEnds

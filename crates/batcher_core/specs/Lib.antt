@@ -26,6 +26,7 @@ pub mod Choice
 pub mod Runs
 pub mod Looks
 pub mod Cores
+pub mod Batches
 pub mod Ranges
 pub mod Fuel
 pub mod Batches

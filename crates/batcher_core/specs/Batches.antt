@@ -1,0 +1,37 @@
+-- The calls of which a batch is made, its entries, and the receipt for an entry.
+use Rattle.std.specs.Prelude.{ℕ, ◌≡◌, ◌<◌, Bool, true, Option, None, Some, List, map, Contains}
+use Rattle.std.specs.List.{AllByRecursion}
+use Rattle.seq_objects.specs.declared.call.Call.{Call}
+use Rattle.sp_order.specs.declared.node.Kind.TheVariants.{LeafNode}
+use Rattle.batch_history.specs.declared.batch.Entry.{Entry}
+use Rattle.batch_history.specs.Pairs.{EachPair}
+use Rattle.batcher_core.specs.declared.task.Task.{Task}
+use Rattle.batcher_core.specs.declared.task.Task.TheVariants.{Started}
+use Rattle.batcher_core.specs.declared.status.Receipt.{Receipt}
+use Rattle.batcher_core.specs.State.{CoreJob}
+use Rattle.batcher_core.specs.Operations.{op_in, Place, receipt_for}
+
+-- the call is that of the leaf at which the task is started
+abbrev pub IsCallOf : CoreJob → Task → Call → Type 0
+IsCallOf job task call =
+    (node : ℕ) × (start : ℕ) × (job.plan.kind node ≡ Some (LeafNode call.leaf)) × (task ≡ Started node start)
+    × (op_in (job.act call.leaf) ≡ Some call.op)
+
+-- the calls of the workers that are taken, each once, by worker
+pub record AreTakenCalls (job : CoreJob) (task : ℕ → Task) (took : ℕ → Bool) (calls : List Call) : Type 0 where
+  pub ascending : EachPair (λ first second. first.worker < second.worker) calls
+  pub only : AllByRecursion (λ call. (took call.worker ≡ true) × IsCallOf job (task call.worker) call) calls
+  pub each : (w : ℕ) → w < job.workers → took w ≡ true → Contains (map (λ call. call.worker) calls) w
+
+-- the call of an entry
+abbrev pub call_in : Entry → Call
+call_in entry = record { worker = entry.worker; leaf = entry.leaf; op = entry.op }
+
+-- the entries are for these calls, in their order
+abbrev pub AreEntriesOf : List Call → List Entry → Type 0
+AreEntriesOf calls entries = map call_in entries ≡ calls
+
+-- the receipt for the entry at a place, if there is one
+abbrev pub receipt_at : Option Place → Option Receipt
+receipt_at None = None
+receipt_at (Some place) = Some (receipt_for place)

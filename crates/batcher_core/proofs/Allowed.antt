@@ -28,7 +28,7 @@ held : (t : Table) → (state_of t).hold ≡ hold_of t.hold
 unfolding state_of
 held t = refl
 
-looks_of : Option Hold → ℕ
+abbrev looks_of : Option Hold → ℕ
 looks_of None = 0
 looks_of (Some h) = h.looks
 
@@ -53,7 +53,7 @@ module _ (tree : Tree) (acts : List Act) (workers : ℕ) (t : Table) (w : ℕ) (
   needs_allow (Take u) chosen needs =
       let few = h.few in let at = needs.2 in let below = needs.3 in
       look_room t.hold needs.0 (sym (held t) ∙ needs.1.0) (omega (arith, few, at, below))
-  needs_allow Publish chosen needs = (h.parts, needs)
+  needs_allow Publish chosen needs = needs
   needs_allow (Answer u r) chosen needs = tt
   needs_allow Release chosen needs = tt
   needs_allow (Leave r) chosen needs = tt

@@ -1,46 +1,36 @@
--- What a core keeps to: what its choice looks up is there, and so is what its event looks up.
-use Rattle.std.proofs.Common.{ℕ, ◌≡◌, ◌≢◌, ◌<◌, true, None, List, arith, refl, sym, ◌∙◌}
+-- What the choice of a turn looks up is there, in what a core keeps to.
+use Rattle.std.proofs.Common.{ℕ, ◌≡◌, ◌<◌, Some, List, arith, refl}
 use Rattle.seq_objects.specs.declared.act.Act.{Act}
 use Rattle.sp_order.specs.Precedence.{Tree}
-use Rattle.sp_order.specs.Plans.{Nodes, IsPlan, IsSide}
+use Rattle.sp_order.specs.Plans.{Nodes, IsPlan}
 use Rattle.sp_order.specs.Preorder.{nodes_of}
 use Rattle.sp_order.specs.declared.node.Move.{Move}
 use Rattle.sp_order.specs.declared.node.Move.TheVariants.{Root, OpenSecond, FinishParent, Arrive}
 use Rattle.batcher_core.specs.declared.progress.Progress.{Progress}
-use Rattle.batcher_core.specs.declared.progress.Progress.TheVariants.{Waiting, Taken}
 use Rattle.batcher_core.specs.declared.task.Task.{Task}
 use Rattle.batcher_core.specs.declared.task.Task.TheVariants.{Idle, Run, Half, Started, Kept, Ended, Whole, Handed}
 use Rattle.batcher_core.specs.declared.table.Table.{Table}
+use Rattle.batcher_core.specs.State.{core_job}
 use Rattle.batcher_core.specs.Operations.{IsLeaf}
-use Rattle.batcher_core.specs.Tasks.{is_done, TaskFits}
+use Rattle.batcher_core.specs.Tasks.{names, TaskFits}
 use Rattle.batcher_core.specs.Shown.{state_of}
 use Rattle.batcher_core.specs.Looks.{TaskIn, MoveIn, Looks}
 use Rattle.batcher_core.specs.Cores.{Fits}
+use Rattle.batcher_core.proofs.InRange.{parent_in, named_in}
+use Rattle.batcher_core.proofs.BookRoom.{book_room}
 
-done_not_waiting : (p : Progress) → is_done p ≡ true → p ≢ Waiting
-done_not_waiting p e is = let z = rw is at e in cc
-
-pub inside : (plan : Nodes) (node : ℕ → Progress) → IsPlan plan → ((n : ℕ) → plan.kind n ≡ None → node n ≡ Waiting) → (n : ℕ) → node n ≢ Waiting → n < plan.count
-inside plan node laws outside n not = laws.within n (λ none. not (outside n none))
-
-taken_in : (plan : Nodes) (node : ℕ → Progress) → IsPlan plan → ((n : ℕ) → plan.kind n ≡ None → node n ≡ Waiting) → (n : ℕ) → node n ≡ Taken → n < plan.count
-taken_in plan node laws outside n is = inside plan node laws outside n (λ waits. let z = sym waits ∙ is in cc)
-
-pub task_in : (plan : Nodes) (node : ℕ → Progress) (mark : ℕ → ℕ) → IsPlan plan → ((n : ℕ) → plan.kind n ≡ None → node n ≡ Waiting) → (task : Task) → TaskFits plan node mark task → TaskIn plan.count task
-task_in plan node mark laws outside Idle h = h
-task_in plan node mark laws outside (Run n) h = taken_in plan node laws outside n h.0
-task_in plan node mark laws outside (Half n) h = taken_in plan node laws outside n h.3
-task_in plan node mark laws outside (Started n s) h = taken_in plan node laws outside n h.1
-task_in plan node mark laws outside (Kept n s) h = taken_in plan node laws outside n h.1
-task_in plan node mark laws outside (Ended n s e) h = taken_in plan node laws outside n h.1
-task_in plan node mark laws outside (Whole n) h = inside plan node laws outside n (done_not_waiting (node n) h.0)
-task_in plan node mark laws outside (Handed n) h = taken_in plan node laws outside n h.3
-
-parent_in : (plan : Nodes) → IsPlan plan → (p n : ℕ) → IsSide plan p n → p < plan.count
-parent_in plan laws p n side = let a = laws.deeper p n side in let b = laws.within n (laws.inside p n side) in omega (arith, a, b)
+task_in : (nodes : ℕ) (task : Task) → ((n : ℕ) → names task ≡ Some n → n < nodes) → TaskIn nodes task
+task_in nodes Idle h = tt
+task_in nodes (Run n) h = h n refl
+task_in nodes (Half n) h = h n refl
+task_in nodes (Started n s) h = h n refl
+task_in nodes (Kept n s) h = h n refl
+task_in nodes (Ended n s e) h = h n refl
+task_in nodes (Whole n) h = h n refl
+task_in nodes (Handed n) h = h n refl
 
 move_in : (plan : Nodes) → IsPlan plan → (n : ℕ) (move : Move) → plan.after n ≡ move → MoveIn plan.count move
-move_in plan laws n Root e = record {}
+move_in plan laws n Root e = tt
 move_in plan laws n (OpenSecond p) e = parent_in plan laws p n (rw e refl)
 move_in plan laws n (FinishParent p) e = parent_in plan laws p n (rw e refl)
 move_in plan laws n (Arrive p) e = parent_in plan laws p n (rw e refl)
@@ -52,15 +42,14 @@ book_of : (t : Table) → (state_of t).book ≡ t.history
 unfolding state_of
 book_of t = refl
 
--- what the choice of a turn looks up is there
 pub looks : (tree : Tree) (acts : List Act) (workers : ℕ) (t : Table) → Fits tree acts workers t → Looks (nodes_of tree) acts workers t
 looks tree acts workers t h =
-    let room = rw (book_of t) at (book_room (core_job tree acts workers) (state_of t) h.laws h.parts) in
+    let room = rw (book_of t) at (book_room (core_job tree acts workers) (state_of t) h.parts h.calls_in) in
     let most = h.most in
     record {
       few = h.few;
       sizes = h.sizes;
-      tasks_in = λ w. task_in (nodes_of tree) (state_of t).node (state_of t).mark h.laws h.parts.nodes.outside ((state_of t).task w) (h.parts.tasks.fits w);
+      tasks_in = λ w. task_in (nodes_of tree).count ((state_of t).task w) (λ n name. named_in (core_job tree acts workers) (state_of t) h.laws h.parts w n name);
       at_leaf = λ w n start e. started_leaf (nodes_of tree) (state_of t).node (state_of t).mark ((state_of t).task w) n start (h.parts.tasks.fits w) e;
       moves_in = λ n. move_in (nodes_of tree) h.laws n ((nodes_of tree).after n) refl;
       leaves_in = h.leaves_in;

@@ -22,6 +22,9 @@ pub mod PublishKeeps
 pub mod TakenCalls
 pub mod ServedCalls
 pub mod BookSearch
+pub mod CallsIn
+pub mod BatchMade
+pub mod HistoryMade
 pub mod Written
 pub mod Ends
 pub mod ClaimEnds
@@ -30,6 +33,7 @@ pub mod CoreFits
 pub mod Copies
 pub mod LeavesIn
 pub mod TickRoom
+pub mod BookRoom
 pub mod EventKeeps
 pub mod OpeningKept
 pub mod NodesStand
@@ -44,6 +48,7 @@ pub mod ChoiceTasks
 pub mod ChoiceGate
 pub mod ChoiceIdle
 pub mod Choices
+pub mod Publishing
 pub mod Allowed
 pub mod Starting
 pub mod Turning

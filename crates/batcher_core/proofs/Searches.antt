@@ -1,7 +1,7 @@
 -- Searches for the numbers below a bound that are chosen, one number after another.
 use Rattle.std.proofs.Common.{ℕ, zero, suc, ◌≡◌, ◌<◌, ◌≤◌, ◌+◌, Bool, true, false, Option, Some, None, arith, inl, inr, refl, add-one}
 use Rattle.std.proofs.lemmas.Bool.{cases_lt}
-use Rattle.batcher_core.specs.Choice.{some_below, least_below}
+use Rattle.batcher_core.specs.Choice.{some_below, first_of, least_below}
 
 -- one that is found stays found
 pub some_stays : (chosen : ℕ → Bool) (k bound : ℕ) → some_below chosen k ≡ true → k ≤ bound → some_below chosen bound ≡ true
@@ -43,3 +43,14 @@ least_next chosen k none passed = rw (none, passed) refl
 
 pub least_passed : (chosen : ℕ → Bool) (k : ℕ) → least_below chosen k ≡ None → chosen k ≡ false → least_below chosen (k + 1) ≡ None
 least_passed chosen k none passed = rw (add-one k) (least_next chosen k none passed)
+
+-- the least number that is found is below the bound
+first_below : (chosen : ℕ → Bool) (b : Bool) (o : Option ℕ) (bound least : ℕ) → ((found : ℕ) → o ≡ Some found → found < bound) → first_of o b bound ≡ Some least → least < suc bound
+first_below chosen b (Some found) bound least h e = let below = h found refl in let same : found ≡ least = cc in omega (arith, below, same)
+first_below chosen true None bound least h e = let same : bound ≡ least = cc in omega (arith, same)
+first_below chosen false None bound least h e = absurd cc
+
+pub least_in : (chosen : ℕ → Bool) (bound least : ℕ) → least_below chosen bound ≡ Some least → least < bound
+unfolding least_below
+least_in chosen zero least e = absurd cc
+least_in chosen (suc bound) least e = first_below chosen (chosen bound) (least_below chosen bound) bound least (λ found f. least_in chosen bound found f) e

@@ -1,5 +1,5 @@
 -- The opening table of a job has what a core keeps to.
-use Rattle.std.proofs.Common.{ℕ, ◌≡◌, ◌<◌, ◌≤◌, Option, Some, List, length, refl, sym, ◌∙◌, subst}
+use Rattle.std.proofs.Common.{ℕ, ◌≡◌, ◌<◌, ◌≤◌, Option, Some, List, length, arith, refl, sym, ◌∙◌, ap, subst}
 use Rattle.seq_objects.specs.declared.act.Act.{Act}
 use Rattle.sp_order.specs.Precedence.{Tree, leaf_count}
 use Rattle.sp_order.specs.Plans.{IsPlan}
@@ -9,16 +9,22 @@ use Rattle.batcher_core.specs.declared.table.Table.{Table}
 use Rattle.batcher_core.specs.State.{State, core_job, opening_state, opening_core}
 use Rattle.batcher_core.specs.KeptParts.{PartsKept}
 use Rattle.batcher_core.specs.KeptLists.{ListsKept}
-use Rattle.batcher_core.specs.Shown.{state_of, ready_of, shown, Sizes}
+use Rattle.batcher_core.specs.Shown.{state_of, ready_of, shown, Sizes, CounterFits}
 use Rattle.batcher_core.specs.Cores.{Fits}
 use Rattle.batcher_core.proofs.OpeningKept.{opening_kept}
 use Rattle.batcher_core.proofs.ListKeeps.{opening_lists}
 use Rattle.batcher_core.proofs.Reached.{has_root}
 use Rattle.batcher_core.proofs.LeavesIn.{leaves_in}
+use Rattle.batcher_core.proofs.CallsIn.{calls_in}
 
 core_opens : opening_core.state ≡ opening_state
 unfolding opening_core
 core_opens = refl
+
+-- the counter starts at 0
+counter_opens : (t : Table) → state_of t ≡ opening_state → CounterFits t
+unfolding state_of opening_state
+counter_opens t e = let zero : t.objects.counter ≡ 0 = ap (λ (s : State). s.objects.counter) e in omega (arith, zero)
 
 pub root_in : (tree : Tree) → IsPlanOf (nodes_of tree) tree → IsPlan (nodes_of tree) → 0 < (nodes_of tree).count
 root_in tree stands laws = laws.within 0 (has_root (nodes_of tree) tree stands)
@@ -33,7 +39,9 @@ opening_fits tree shape acts workers t some few stands laws most is leaves sizes
   most = most;
   leaves = rw (sym is) at leaves;
   leaves_in = leaves_in (nodes_of tree) tree (length acts) stands (rw (sym is) at leaves);
+  calls_in = calls_in tree acts workers stands (sym (rw (sym is) at leaves));
   sizes = sizes;
+  counter = counter_opens t state;
   parts = subst (PartsKept (core_job tree acts workers)) (sym state) (opening_kept (core_job tree acts workers) laws (has_root (nodes_of tree) tree stands));
   lists = subst (ListsKept workers (state_of t).node) (sym lists)
       (subst (λ (s : State). ListsKept workers s.node opening_core.ready) (core_opens ∙ sym state) (opening_lists workers some));

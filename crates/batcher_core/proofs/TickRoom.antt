@@ -8,7 +8,7 @@ use Rattle.sp_order.specs.Plans.{IsPlan}
 use Rattle.batcher_core.specs.State.{CoreJob, State}
 use Rattle.batcher_core.specs.KeptTicks.{Stamp, Drawn, StartOf, EndOf, StartsAt, EndsAt, stamps}
 use Rattle.batcher_core.specs.KeptParts.{PartsKept}
-use Rattle.batcher_core.proofs.CoreFits.{inside}
+use Rattle.batcher_core.proofs.InRange.{standing_in}
 
 abbrev code : Drawn → ℕ
 code (StartOf n) = 2 * n
@@ -23,7 +23,7 @@ length_codes : (draw : ℕ → Drawn) (k : ℕ) → length (codes draw k) ≡ k
 length_codes draw zero = refl
 length_codes draw (suc k) = let h = length_codes draw k in omega (arith, h)
 
-either : (a b : Bool) → (a || b) ≡ true → (a ≡ true) ⊎ (b ≡ true)
+pub either : (a b : Bool) → (a || b) ≡ true → (a ≡ true) ⊎ (b ≡ true)
 either true b h = inl refl
 either false b h = inr h
 
@@ -60,7 +60,7 @@ same_code (StartOf n) (EndOf m) e = absurd (omega (arith, e))
 same_code (EndOf n) (StartOf m) e = absurd (omega (arith, e))
 same_code (EndOf n) (EndOf m) e = ap EndOf (omega (arith, e))
 
-code_apart : (x y : ℕ) → x ≢ y → eqb x y ≡ false
+pub code_apart : (x y : ℕ) → x ≢ y → eqb x y ≡ false
 code_apart x y apart = grind (arith, nat_tests)
 
 apart_codes : (draw : ℕ → Drawn) (j x : ℕ) → ((t : ℕ) → t < j → x ≢ code (draw t)) → AllByRecursion (λ y. eqb x y ≡ false) (codes draw j)
@@ -77,7 +77,7 @@ distinct_codes draw (suc k) h = (
 
 module _ (job : CoreJob) (s : State) (laws : IsPlan job.plan) (h : PartsKept job s) where
   known_in : (n : ℕ) → stamps s.node s.task h.holder n ≢ None → n < job.plan.count
-  known_in n known = inside job.plan s.node laws h.nodes.outside n (λ waits. known (rw waits refl))
+  known_in n known = standing_in job s laws h n (λ waits. known (rw waits refl))
 
   drawn_below : (t : ℕ) → t < s.tick → (d : Drawn) → h.ticks.draw t ≡ d → code d < 2 * job.plan.count
   drawn_below t below (StartOf n) e =

@@ -1,5 +1,5 @@
 -- What contracts see of a core, what its table keeps to, and what its turns answer.
-use Rattle.std.specs.Prelude.{ℕ, ◌≡◌, ◌<◌, ◌≤◌, ◌&&◌, not, Bool, Option, None, Some, List, length}
+use Rattle.std.specs.Prelude.{ℕ, ◌≡◌, ◌<◌, ◌≤◌, ◌&&◌, not, Bool, false, Option, None, Some, List, length}
 use Rattle.seq_objects.specs.declared.act.Act.{Act}
 use Rattle.sp_order.specs.Precedence.{Tree, leaves}
 use Rattle.sp_order.specs.Plans.{IsPlan}
@@ -9,13 +9,14 @@ use Rattle.batcher_core.specs.declared.table.Table.{Table}
 use Rattle.batcher_core.specs.declared.turn.Turn.{Turn}
 use Rattle.batcher_core.specs.declared.turn.Turn.TheVariants.{Moved, Spin, Idle}
 use Rattle.batcher_core.specs.State.{CoreJob, CoreState, core_job}
+use Rattle.batcher_core.specs.Operations.{IsCall}
 use Rattle.batcher_core.specs.Tasks.{is_done}
 use Rattle.batcher_core.specs.Events.{EventKind, IsCoreEvent}
 use Rattle.batcher_core.specs.KeptParts.{PartsKept}
 use Rattle.batcher_core.specs.KeptLists.{ListsKept}
 use Rattle.batcher_core.specs.Choice.{choice}
 use Rattle.batcher_core.specs.Runs.{IsStep}
-use Rattle.batcher_core.specs.Shown.{state_of, ready_of, shown, Sizes}
+use Rattle.batcher_core.specs.Shown.{state_of, ready_of, shown, Sizes, CounterFits}
 use Rattle.batcher_core.specs.Looks.{LeafIn, work_due}
 
 -- what contracts see of a core
@@ -49,7 +50,10 @@ pub record Fits (tree : Tree) (acts : List Act) (workers : ℕ) (t : Table) : Ty
   pub most : (nodes_of tree).count < 40000
   pub leaves : leaves tree ≡ length acts
   pub leaves_in : (n : ℕ) → LeafIn (length acts) ((nodes_of tree).kind n)
+  -- a leaf that calls has a number below the nodes'
+  pub calls_in : (leaf : ℕ) → IsCall (core_job tree acts workers) leaf → leaf < (nodes_of tree).count
   pub sizes : Sizes t (nodes_of tree).count workers
+  pub counter : CounterFits t
   pub parts : PartsKept (core_job tree acts workers) (state_of t)
   pub lists : ListsKept workers (state_of t).node (ready_of t)
 

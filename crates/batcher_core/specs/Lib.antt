@@ -29,4 +29,3 @@ pub mod Cores
 pub mod Batches
 pub mod Ranges
 pub mod Fuel
-pub mod Batches

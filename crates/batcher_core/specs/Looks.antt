@@ -17,7 +17,6 @@ use Rattle.batch_history.specs.Book.{flat}
 use Rattle.batcher_core.specs.State.{CoreJob}
 use Rattle.batcher_core.specs.Operations.{IsLeaf}
 use Rattle.batcher_core.specs.Events.{Needs}
-use Rattle.batcher_core.specs.KeptParts.{PartsKept}
 use Rattle.batcher_core.specs.Choice.{choice_steal, last_of, choice_second, choice_parent, choice_arrive}
 use Rattle.batcher_core.specs.Shown.{state_of, ready_of, Sizes, IsAtEnd}
 
@@ -104,7 +103,7 @@ Allows job t w (OpenSeqRight p l r) = Unit {0}
 Allows job t w (Post n s) = Unit {0}
 Allows job t w Win = Unit {0}
 Allows job t w (Take u) = IfSome t.hold (λ h. h.looks < 32)
-Allows job t w Publish = PartsKept job (state_of t) × Needs job (state_of t) w Publish
+Allows job t w Publish = Needs job (state_of t) w Publish
 Allows job t w (Answer u receipt) = Unit {0}
 Allows job t w Release = Unit {0}
 Allows job t w (Leave receipt) = Unit {0}

@@ -1,6 +1,7 @@
 -- The state that the parts of a core show.
-use Rattle.std.specs.Prelude.{ℕ, ◌≡◌, ◌≢◌, ◌<◌, ◌≤◌, ◌⊎◌, ◌+◌, ◌-◌, false, Option, None, Some, List, [], length, get_or, map}
+use Rattle.std.specs.Prelude.{ℕ, ◌≡◌, ◌≢◌, ◌<◌, ◌≤◌, ◌⊎◌, ◌+◌, ◌-◌, ◌*◌, ◌^◌, false, Option, None, Some, List, [], length, get_or, map}
 use Rattle.std.specs.declared.collections.VecDeque.{VecDeque}
+use Rattle.batch_history.specs.Book.{flat}
 use Rattle.batcher_core.specs.declared.progress.Progress.TheVariants.{Waiting, Ready, Taken, Done, Ran}
 use Rattle.batcher_core.specs.declared.task.Task.TheVariants.{Idle, Run, Half, Started, Kept, Ended, Handed}
 use Rattle.batcher_core.specs.declared.status.Status.TheVariants.{Free}
@@ -74,7 +75,11 @@ pub record Sizes (t : Table) (nodes workers : ℕ) : Type 0 where
   pub calls_len : length t.calls.items ≡ workers
   pub ready_len : length t.ready.items ≡ workers
 
--- the lists keep their lengths
+-- the counter is no greater than so many calls can make it
+abbrev pub CounterFits : Table → Type 0
+CounterFits t = t.objects.counter ≤ length (flat t.history) * 2 ^ 32
+
+-- the lists keep their lengths, and the counter its bound
 pub record SameSizes (old new : Table) : Type 0 where
   pub nodes_same : length new.nodes.items ≡ length old.nodes.items
   pub marks_same : length new.marks.items ≡ length old.marks.items
@@ -83,3 +88,4 @@ pub record SameSizes (old new : Table) : Type 0 where
   pub statuses_same : length new.statuses.items ≡ length old.statuses.items
   pub calls_same : length new.calls.items ≡ length old.calls.items
   pub ready_same : length new.ready.items ≡ length old.ready.items
+  pub counter_same : CounterFits old → CounterFits new

@@ -1,13 +1,13 @@
 //! Doing an event.
 ghost use Rattle.std.specs.Prelude.{◌≡◌, ◌<◌, IfOk};
-ghost use Rattle.sp_order.specs.Plans.{IsPlan};
 ghost use Rattle.sp_order.specs.Preorder.{nodes_of};
 ghost use Rattle.batcher_core.specs.State.{core_job};
 ghost use Rattle.batcher_core.specs.Events.{Does};
 ghost use Rattle.batcher_core.specs.Ranges.{IsInRange};
 ghost use Rattle.batcher_core.specs.Shown.{state_of, ready_of, SameSizes};
 ghost use Rattle.batcher_core.specs.Lists.{ready_after};
-ghost use Rattle.batcher_core.specs.Looks.{Looks, Allows};
+ghost use Rattle.batcher_core.specs.Looks.{Allows};
+ghost use Rattle.batcher_core.specs.Cores.{Fits};
 
 use crate::event::Event;
 use crate::table::Table;
@@ -27,10 +27,8 @@ impl Table {
         worker: u32,
         event: Event,
     ) -> Result<(), AllocError>
-        requires plan { IsPlan (nodes_of plan.now) }
-        requires few_nodes { (nodes_of plan.now).count < 40000 }
+        requires fits { Fits plan.now acts.now workers self.old }
         requires worker_in { worker < workers }
-        requires looks { Looks (nodes_of plan.now) acts.now workers self.old }
         requires in_range { IsInRange (nodes_of plan.now).count workers event }
         requires allows { Allows (core_job plan.now acts.now workers) self.old worker event }
         ensures sizes { IfOk result (λ _. SameSizes self.old self.new) }

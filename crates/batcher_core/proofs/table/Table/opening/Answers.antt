@@ -12,7 +12,7 @@ returns-clause-state c =
     let tasks = copied _ c.args.workers _ c.in_ok-copies-3.ensures in
     let statuses = copied _ c.args.workers _ c.in_ok-copies-4.ensures in
     let calls = copied _ c.args.workers _ c.in_ok-copies-5.ensures in
-    rw (c.in_ok-opening_nodes.ensures.items, marks, values, tasks, statuses, calls, c.new-history.ensures, c.new-objects.ensures) refl
+    rw (c.in_ok-opening_nodes.ensures.items, marks, values, tasks, statuses, calls, c.new.ensures, c.new-2.ensures) refl
 
 pub returns-clause-lists : goal.returns-clause-lists
 unfolding ready_of

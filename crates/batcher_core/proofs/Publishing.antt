@@ -32,7 +32,7 @@ unfolding state_of
 counter_fits t h = h
 
 module _ (tree : Tree) (acts : List Act) (workers : ℕ) (t : Table) (hold : HoldTable) (w : ℕ) (h : Fits tree acts workers t)
-  (needs : Needs (core_job tree acts workers) (state_of t) w Publish) (there : t.hold ≡ Some hold) where
+    (needs : Needs (core_job tree acts workers) (state_of t) w Publish) (there : t.hold ≡ Some hold) where
   same : needs.0 ≡ shown_hold hold
   same = same_hold needs.0 (shown_hold hold) (sym needs.1.0 ∙ held t hold there)
 

@@ -30,8 +30,8 @@ sizes_kept old new nodes workers h same = record {
 }
 
 module _ (tree : Tree) (acts : List Act) (workers : ℕ) (old new : Table) (w : ℕ) (event : Event) (h : Fits tree acts workers old) (below : w < workers)
-  (chosen : choice (core_job tree acts workers) (shown old) w ≡ Some event) (does : Does (core_job tree acts workers) (state_of old) w event (state_of new))
-  (lists : ready_of new ≡ ready_after w event (ready_of old)) where
+    (chosen : choice (core_job tree acts workers) (shown old) w ≡ Some event) (does : Does (core_job tree acts workers) (state_of old) w event (state_of new))
+    (lists : ready_of new ≡ ready_after w event (ready_of old)) where
   happens : Happens (core_job tree acts workers) (state_of old) w event (state_of new)
   happens = record { worker_in = below; needs = chosen_needs tree acts workers old w h below event chosen; does = does }
 

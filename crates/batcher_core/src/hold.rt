@@ -97,7 +97,11 @@ pub(crate) fn looked(hold: Option<Hold>, other: u32, takes: bool) -> Option<Hold
     let looks = hold.looks + 1;
     if takes {
         let took = with(hold.took, other);
-        Some(Hold { looks, took, ..hold })
+        Some(Hold {
+            looks,
+            took,
+            ..hold
+        })
     } else {
         Some(Hold { looks, ..hold })
     }

@@ -6,6 +6,7 @@ ghost use Rattle.batcher_core.specs.Tasks.{is_done as node_done};
 ghost use Rattle.batcher_core.specs.Choice.{choice};
 ghost use Rattle.batcher_core.specs.Cores.{job_in, state_in, due_in, turn_due, is_over_in, Makes};
 
+use crate::event::Event;
 use crate::spun::Spun;
 use crate::table::Table;
 use crate::turn::Turn;
@@ -76,6 +77,29 @@ impl Core {
         })
     }
 
+    /// How many steps of work are due of this worker, if some are.
+    pub(crate) fn due(&self, worker: u32) -> Option<u32>
+        requires unspent { self.now.spent ≡ false }
+        requires worker_in { worker < self.now.workers }
+        ensures { result ≡ due_in self.now worker }
+    {
+        self.table
+            .work_due(&self.plan, self.acts.as_slice(), self.workers, worker)
+    }
+
+    /// The event of this worker's next turn, if it has one. The number is what the work gives that is due of the
+    /// worker, if some is.
+    pub(crate) fn choice(&self, worker: u32, work: u64) -> Option<Event>
+        requires unspent { self.now.spent ≡ false }
+        requires worker_in { worker < self.now.workers }
+        requires work { (steps : ℕ) → due_in self.now worker ≡ Some steps → work ≡ spin_of steps }
+        ensures { result ≡ choice (job_in self.now) (state_in self.now) worker }
+    {
+        let acts = self.acts.as_slice();
+        self.table
+            .choose(&self.plan, acts, self.workers, worker, work)
+    }
+
     /// One turn of this worker. If it has started a leaf of work, it answers how many steps are due, until it is
     /// given that work done; else what it is given is not looked at. After an `Err` the core is spent, and each
     /// later turn is an `Err`.
@@ -91,30 +115,23 @@ impl Core {
         if self.spent {
             return Err(AllocError);
         }
-        let acts = self.acts.as_slice();
-        let due = self.table.work_due(&self.plan, acts, self.workers, worker);
-        if let Some(steps) = due {
+        if let Some(steps) = self.due(worker) {
             if spun.is_none() {
                 return Ok(Turn::Spin(steps));
             }
         }
-        let work = value_of(&spun);
+        let Some(event) = self.choice(worker, value_of(&spun)) else {
+            return Ok(Turn::Idle);
+        };
+        let acts = self.acts.as_slice();
         match self
             .table
-            .choose(&self.plan, acts, self.workers, worker, work)
+            .apply(self.alloc, &self.plan, acts, self.workers, worker, event)
         {
-            None => Ok(Turn::Idle),
-            Some(event) => {
-                let done = self
-                    .table
-                    .apply(self.alloc, &self.plan, acts, self.workers, worker, event);
-                match done {
-                    Ok(()) => Ok(Turn::Moved),
-                    Err(error) => {
-                        self.spent = true;
-                        Err(error)
-                    }
-                }
+            Ok(()) => Ok(Turn::Moved),
+            Err(error) => {
+                self.spent = true;
+                Err(error)
             }
         }
     }

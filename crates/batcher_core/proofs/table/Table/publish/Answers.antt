@@ -60,7 +60,7 @@ returns-clause-event c =
     let taken = rw c.deref.ensures.value at c.in_ok-calls.ensures in
     let are = rw c.deref-2.ensures.value at (c.in_ok-entries.ensures.entries) in
     let batch = is_batch c.args.plan.now c.args.acts.now c.args.workers c.args.self.now c.in-Some.hold c.args.worker c.requires.fits c.requires.needs c.in-Some.is
-          c.in_ok-calls.calls.items taken c.in_ok-entries.entries.items are c.in_ok-entries.ensures.legal in
+    c.in_ok-calls.calls.items taken c.in_ok-entries.entries.items are c.in_ok-entries.ensures.legal in
     (c.in_ok-entries.entries.items, batch, rw (c.published-self.ensures, c.in_ok-append.ensures.ok, c.of.ensures, c.in_ok-entries.ensures.after) refl)
 
 pub returns-clause-lists : goal.returns-clause-lists

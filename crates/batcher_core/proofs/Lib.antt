@@ -22,6 +22,10 @@ pub mod PublishKeeps
 pub mod TakenCalls
 pub mod ServedCalls
 pub mod BookSearch
+pub mod CallsIn
+pub mod BatchMade
+pub mod HistoryMade
+pub mod ReceiptsFound
 pub mod Written
 pub mod Ends
 pub mod ClaimEnds
@@ -31,6 +35,7 @@ pub mod CoreFits
 pub mod Copies
 pub mod LeavesIn
 pub mod TickRoom
+pub mod BookRoom
 pub mod EventKeeps
 pub mod OpeningKept
 pub mod NodesStand

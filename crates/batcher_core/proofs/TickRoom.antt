@@ -23,7 +23,7 @@ length_codes : (draw : ℕ → Drawn) (k : ℕ) → length (codes draw k) ≡ k
 length_codes draw zero = refl
 length_codes draw (suc k) = let h = length_codes draw k in omega (arith, h)
 
-either : (a b : Bool) → (a || b) ≡ true → (a ≡ true) ⊎ (b ≡ true)
+pub either : (a b : Bool) → (a || b) ≡ true → (a ≡ true) ⊎ (b ≡ true)
 either true b h = inl refl
 either false b h = inr h
 
@@ -60,7 +60,7 @@ same_code (StartOf n) (EndOf m) e = absurd (omega (arith, e))
 same_code (EndOf n) (StartOf m) e = absurd (omega (arith, e))
 same_code (EndOf n) (EndOf m) e = ap EndOf (omega (arith, e))
 
-code_apart : (x y : ℕ) → x ≢ y → eqb x y ≡ false
+pub code_apart : (x y : ℕ) → x ≢ y → eqb x y ≡ false
 code_apart x y apart = grind (arith, nat_tests)
 
 apart_codes : (draw : ℕ → Drawn) (j x : ℕ) → ((t : ℕ) → t < j → x ≢ code (draw t)) → AllByRecursion (λ y. eqb x y ≡ false) (codes draw j)

@@ -9,7 +9,7 @@ use Rattle.seq_objects.specs.declared.call.Call.{Call}
 use Rattle.seq_objects.specs.declared.op.Op.{Op}
 use Rattle.seq_objects.specs.declared.op.Op.TheVariants.{CounterAdd}
 use Rattle.batch_history.specs.declared.batch.Entry.{Entry}
-use Rattle.batch_history.specs.Pairs.{EachPair}
+use Rattle.batch_history.specs.Pairs.{EachPair, AreDistinct}
 use Rattle.batch_history.specs.Book.{IsLegalFrom}
 use Rattle.batcher_core.specs.declared.task.Task.{Task}
 use Rattle.batcher_core.specs.declared.status.Status.{Status}
@@ -31,7 +31,8 @@ unmapped f P [] h = tt
 unmapped f P (x ∷ xs) h = (h.0, unmapped f P xs h.1)
 
 -- what follows for each two elements, of the numbers to which they are mapped
-pairs_mapped : {A : Type 0} (f : A → ℕ) (R : A → A → Type 0) (Q : ℕ → ℕ → Type 0) → ((a b : A) → R a b → Q (f a) (f b)) → (xs : List A) → EachPair R xs → EachPair Q (map f xs)
+pairs_mapped : {A : Type 0} (f : A → ℕ) (R : A → A → Type 0) (Q : ℕ → ℕ → Type 0) → ((a b : A) → R a b → Q (f a) (f b))
+    → (xs : List A) → EachPair R xs → EachPair Q (map f xs)
 pairs_mapped f R Q g [] h = tt
 pairs_mapped f R Q g (x ∷ xs) h = (each_mapped f (R x) (Q (f x)) (g x) xs h.0, pairs_mapped f R Q g xs h.1)
 
@@ -53,6 +54,10 @@ first_by_worker (CounterAdd m) (CounterAdd n) v w less = inr (refl, inr (refl, l
 some_in : {A B : Type 0} (f : A → B) (xs : List A) (b : B) → Contains (map f xs) b → xs ≢ []
 some_in f [] b c e = absurd (omega (arith, c.1))
 some_in f (x ∷ xs) b c e = cc
+
+-- workers that ascend are distinct
+workers_distinct : {A : Type 0} (worker : A → ℕ) (xs : List A) → EachPair (λ a b. worker a < worker b) xs → AreDistinct (map worker xs)
+workers_distinct worker xs h = pairs_mapped worker (λ a b. worker a < worker b) (λ m n. m ≢ n) (λ a b less e. absurd (omega (arith, less, e))) xs h
 
 -- a worker with status executing is at a call
 executing_at_call : (job : CoreJob) (book : List (List Entry)) (task : Task) (status : Status) (call : CallState) (taken : Bool)
@@ -77,9 +82,9 @@ module _ (job : CoreJob) (s : State) (hd : Hold) (h : PartsKept job s) (there : 
   pub few_calls : (calls : List Call) → AreTakenCalls job s.task hd.took calls → length calls ≤ job.workers
   few_calls calls taken =
       let few = distinct_few (map (λ (call : Call). call.worker) calls) job.workers
-      (pairs_mapped (λ (call : Call). call.worker) (λ (a b : Call). a.worker < b.worker) (λ m n. m ≢ n) (λ a b less e. absurd (omega (arith, less, e))) calls taken.ascending)
-      (each_mapped (λ (call : Call). call.worker) (λ (call : Call). (hd.took call.worker ≡ true) × IsCallOf job (s.task call.worker) call) (λ w. w < job.workers)
-      (λ call is. taken_below call.worker is.0) calls taken.only) in
+      (workers_distinct (λ (call : Call). call.worker) calls taken.ascending)
+      (each_mapped (λ (call : Call). call.worker) (λ (call : Call). (hd.took call.worker ≡ true) × IsCallOf job (s.task call.worker) call)
+      (λ w. w < job.workers) (λ call is. taken_below call.worker is.0) calls taken.only) in
       rw length-map at few
 
   -- so there is room for the sums of serving them
@@ -109,8 +114,9 @@ module _ (job : CoreJob) (s : State) (hd : Hold) (h : PartsKept job s) (there : 
     made some legal = record {
       is_batch = record {
         some = some_in (λ (e : Entry). e.worker) entries some.0 (each_taken some.0 some.1);
-        order = pairs_so (λ (a b : Entry). a.worker < b.worker) (λ (a b : Entry). ComesFirst a.op a.worker b.op b.worker) (λ a b less. first_by_worker a.op b.op a.worker b.worker less) entries ascending;
-        workers = pairs_mapped (λ (e : Entry). e.worker) (λ (a b : Entry). a.worker < b.worker) (λ m n. m ≢ n) (λ a b less e. absurd (omega (arith, less, e))) entries ascending;
+        order = pairs_so (λ (a b : Entry). a.worker < b.worker) (λ (a b : Entry). ComesFirst a.op a.worker b.op b.worker)
+            (λ a b less. first_by_worker a.op b.op a.worker b.worker less) entries ascending;
+        workers = workers_distinct (λ (e : Entry). e.worker) entries ascending;
       };
       only = each_so (λ (e : Entry). (hd.took e.worker ≡ true) × IsCallOf job (s.task e.worker) (call_in e)) (IsTakenCall job s) taken_call entries
           (unmapped call_in (λ (call : Call). (hd.took call.worker ≡ true) × IsCallOf job (s.task call.worker) call) entries taken.only);
@@ -119,6 +125,6 @@ module _ (job : CoreJob) (s : State) (hd : Hold) (h : PartsKept job s) (there : 
     }
 
   -- the entries of the calls that were taken make a batch
-  pub batch_made : (calls : List Call) (entries : List Entry) → (u : ℕ) × (hd.took u ≡ true) → AreTakenCalls job s.task hd.took calls → AreEntriesOf calls entries
-      → IsLegalFrom s.objects entries → IsBatchOf job s entries
+  pub batch_made : (calls : List Call) (entries : List Entry) → (u : ℕ) × (hd.took u ≡ true) → AreTakenCalls job s.task hd.took calls
+      → AreEntriesOf calls entries → IsLegalFrom s.objects entries → IsBatchOf job s entries
   batch_made calls entries some taken are legal = made entries (rw (← are) at taken) some legal

@@ -19,7 +19,8 @@ book_is_history job s h few below = record {
   batches = h.book.batches;
   workers = each_so (λ (e : Entry). e.worker < job.workers) (λ (e : Entry). e.worker < 32) (λ e less. omega (arith, less, few)) (flat s.book) h.book.among;
   leaves = h.book.leaves;
-  numbers = each_mapped (λ (e : Entry). e.leaf) (λ (e : Entry). IsCall job e.leaf) (λ leaf. leaf < 2 ^ 32) (λ e call. below e.leaf call) (flat s.book) (leaves_call job s h);
+  numbers = each_mapped (λ (e : Entry). e.leaf) (λ (e : Entry). IsCall job e.leaf) (λ leaf. leaf < 2 ^ 32)
+      (λ e call. below e.leaf call) (flat s.book) (leaves_call job s h);
 }
 
 -- and so it is with one more batch

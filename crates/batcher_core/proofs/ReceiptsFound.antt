@@ -47,5 +47,6 @@ taken_has_place job s hd w n start leaf h there published took unanswered starte
     let executing : s.status w ≡ Executing = taken_executing job s hd w fits took unanswered in
     let task : TaskFits job.plan s.node s.mark (Started n start) = rw started at (h.tasks.fits w) in
     let held : h.holder n ≡ Some w = h.tasks.holders.named w n (ap names started) in
-    let booked : worker_at (place_of s.book leaf) ≡ booked_by (s.node n) (h.holder n) s.task s.status s.call true = rw published at (rw there at (h.booked n leaf kind call)) in
+    let booked : worker_at (place_of s.book leaf) ≡ booked_by (s.node n) (h.holder n) s.task s.status s.call true =
+    rw published at (rw there at (h.booked n leaf kind call)) in
     has_place (place_of s.book leaf) w (booked ∙ executing_booked (s.node n) (h.holder n) s.task s.status s.call w n start task.1 held started executing)

@@ -13,6 +13,7 @@ use Rattle.batcher_core.specs.Operations.{Place, place_in, or_else, place_of}
 use Rattle.batcher_core.specs.Batches.{receipt_at}
 use Rattle.batcher_core.proofs.Books.{or_else_none, place_append, found_entry, found_in_book, flat_append}
 
+-- which of the first entry and the rest is found
 leaf_there : (m u : ℕ) (a : Place) (o : Option Place) → m ≡ u → (if m == u then Some a else o) ≡ Some a
 leaf_there m u a o e = grind (arith, nat_tests)
 
@@ -20,16 +21,21 @@ leaf_apart : (m u : ℕ) (a : Place) (o : Option Place) → m ≢ u → (if m ==
 leaf_apart m u a o e = grind (arith, nat_tests)
 
 module _ (k : ℕ) (entries : List Entry) (u n : ℕ) (d : Entry) (below : n < length entries) where
+  abbrev place : Place
+  place = record { batch = k; place = n; entry = get_or entries n d }
+
   opened : place_in k n (drop n entries) u ≡ place_in k n (get_or entries n d ∷ drop (n + 1) entries) u
-  opened = let e : drop n entries ≡ get_or entries n d ∷ drop (n + 1) entries = rw (add-one, drop-cons entries n d) in ap (λ (l : List Entry). place_in k n l u) e
+  opened =
+      let e : drop n entries ≡ get_or entries n d ∷ drop (n + 1) entries = rw (add-one, drop-cons entries n d) in
+      ap (λ (l : List Entry). place_in k n l u) e
 
   -- the entry at a place is of the leaf
-  pub found_here : (get_or entries n d).leaf ≡ u → place_in k n (drop n entries) u ≡ Some (record { batch = k; place = n; entry = get_or entries n d })
-  found_here e = opened ∙ leaf_there (get_or entries n d).leaf u (record { batch = k; place = n; entry = get_or entries n d }) (place_in k (n + 1) (drop (n + 1) entries) u) e
+  pub found_here : (get_or entries n d).leaf ≡ u → place_in k n (drop n entries) u ≡ Some place
+  found_here e = opened ∙ leaf_there (get_or entries n d).leaf u place (place_in k (n + 1) (drop (n + 1) entries) u) e
 
   -- or it is not
   pub passed_here : (get_or entries n d).leaf ≢ u → place_in k n (drop n entries) u ≡ place_in k (n + 1) (drop (n + 1) entries) u
-  passed_here e = opened ∙ leaf_apart (get_or entries n d).leaf u (record { batch = k; place = n; entry = get_or entries n d }) (place_in k (n + 1) (drop (n + 1) entries) u) e
+  passed_here e = opened ∙ leaf_apart (get_or entries n d).leaf u place (place_in k (n + 1) (drop (n + 1) entries) u) e
 
 -- there is nothing past the end
 pub passed_all : (k : ℕ) (entries : List Entry) (u n : ℕ) → length entries ≤ n → place_in k n (drop n entries) u ≡ None
@@ -42,16 +48,19 @@ batch_short (b ∷ bs) zero d below = omega (arith, length-append b (flat bs))
 batch_short (b ∷ bs) (suc n) d below = let h = batch_short bs n d (omega (arith, below)) in omega (arith, length-append b (flat bs), h)
 
 -- the leaf of an entry is none of those after it
-behind : (x : Entry) (xs ys : List Entry) → AllByRecursion (λ l. x.leaf ≢ l) (map (λ (e : Entry). e.leaf) (xs ++ ys)) → AllByRecursion (λ (e : Entry). x.leaf ≢ e.leaf) ys
+behind : (x : Entry) (xs ys : List Entry) → AllByRecursion (λ l. x.leaf ≢ l) (map (λ (e : Entry). e.leaf) (xs ++ ys))
+    → AllByRecursion (λ (e : Entry). x.leaf ≢ e.leaf) ys
 behind x [] [] h = tt
 behind x [] (y ∷ ys) h = (h.0, behind x [] ys h.1)
 behind x (z ∷ zs) ys h = behind x zs ys h.1
 
 -- no entry of the first list has the leaf of one of the second
-apart : (xs ys : List Entry) → AreDistinct (map (λ (e : Entry). e.leaf) (xs ++ ys)) → AllByRecursion (λ (a : Entry). AllByRecursion (λ (b : Entry). a.leaf ≢ b.leaf) ys) xs
+apart : (xs ys : List Entry) → AreDistinct (map (λ (e : Entry). e.leaf) (xs ++ ys))
+    → AllByRecursion (λ (a : Entry). AllByRecursion (λ (b : Entry). a.leaf ≢ b.leaf) ys) xs
 apart [] ys h = tt
 apart (x ∷ xs) ys h = (behind x xs ys h.0, apart xs ys h.1)
 
+-- what holds of the leaves of two lists holds of those of the first
 before : (P : ℕ → Type 0) (xs ys : List Entry) → AllByRecursion P (map (λ (e : Entry). e.leaf) (xs ++ ys)) → AllByRecursion P (map (λ (e : Entry). e.leaf) xs)
 before P [] ys h = tt
 before P (x ∷ xs) ys h = (h.0, before P xs ys h.1)
@@ -88,6 +97,7 @@ pub place_none : (u : ℕ) → place_of [] u ≡ None
 unfolding place_of
 place_none u = refl
 
+-- whether a place is there, by its receipt
 some_place : (o : Option Place) → is_some (receipt_at o) ≡ true → is_some o ≡ true
 some_place None some = some
 some_place (Some p) some = refl
@@ -111,10 +121,12 @@ module _ (bs : List (List Entry)) (u n : ℕ) (b : List Entry) (below : n < leng
       → found ≡ receipt_at (place_in n 0 b u) → is_some found ≡ true → found ≡ receipt_at (place_of (take (n + 1) bs) u)
   found_back found distinct e some =
       let there : is_some (place_in n 0 b u) ≡ true = some_place (place_in n 0 b u) (rw e at some) in
-      let last : place_of (take n bs ++ b ∷ []) u ≡ place_in n 0 b u = place_last (take n bs) b u (place_in n 0 b u) (rw all_less at distinct) (rw here refl) there in
+      let last : place_of (take n bs ++ b ∷ []) u ≡ place_in n 0 b u =
+      place_last (take n bs) b u (place_in n 0 b u) (rw all_less at distinct) (rw here refl) there in
       rw (one_less, last) e
 
-  pub passed_back : (found : Option Receipt) → found ≡ receipt_at (place_in n 0 b u) → is_some found ≡ false → place_of (take (n + 1) bs) u ≡ place_of (take n bs) u
+  pub passed_back : (found : Option Receipt) → found ≡ receipt_at (place_in n 0 b u) → is_some found ≡ false
+      → place_of (take (n + 1) bs) u ≡ place_of (take n bs) u
   passed_back found e none = rw one_less (place_not_last (take n bs) b u (rw here (none_place (place_in n 0 b u) (rw e at none))))
 
   pub distinct_back : AreDistinct (map (λ (e : Entry). e.leaf) (flat (take (n + 1) bs))) → AreDistinct (map (λ (e : Entry). e.leaf) (flat (take n bs)))

@@ -25,6 +25,7 @@ pub mod BookSearch
 pub mod CallsIn
 pub mod BatchMade
 pub mod HistoryMade
+pub mod ReceiptsFound
 pub mod Written
 pub mod Ends
 pub mod ClaimEnds

@@ -5,7 +5,8 @@ use Rattle.batcher_core.proofs.receipts.receipt_in.Goals as goal
 
 pub returns-then-entry-leaf : goal.returns-then-entry-leaf
 returns-then-entry-leaf c =
-    ap receipt_at (sym (c.loop-place.invariant ∙ found_here c.args.batch c.args.entries.now c.args.leaf c.loop-place.place _ c.loop-place-test.true c.if-entry-leaf.true))
+    ap receipt_at
+    (sym (c.loop-place.invariant ∙ found_here c.args.batch c.args.entries.now c.args.leaf c.loop-place.place _ c.loop-place-test.true c.if-entry-leaf.true))
 
 pub loop-place-preserved : goal.loop-place-preserved
 loop-place-preserved c =

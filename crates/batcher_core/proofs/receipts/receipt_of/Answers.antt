@@ -20,7 +20,8 @@ returns-then-is_some c =
     let below : n < length c.args.batches.now = omega (arith, c.loop-number.invariant.within) in
     let up : c.loop-number.number ≡ n + 1 = omega arith in
     let e = rw c.entries.ensures at c.receipt_in-found.ensures in
-    found_back c.args.batches.now c.args.leaf n c.index-batches-number.result below c.index-batches-number.is c.receipt_in-found.result (rw up at c.loop-number.invariant.distinct)
+    found_back c.args.batches.now c.args.leaf n c.index-batches-number.result below c.index-batches-number.is c.receipt_in-found.result
+    (rw up at c.loop-number.invariant.distinct)
     e (sym c.is_some.ensures ∙ c.if-is_some.true)
     ∙ ap receipt_at (sym (rw up at c.loop-number.invariant.same))
 
@@ -38,6 +39,8 @@ loop-number-preserved c =
     record {
       within = omega (arith, below);
       same = (rw up at c.loop-number.invariant.same)
-          ∙ passed_back c.args.batches.now c.args.leaf n c.index-batches-number.result below c.index-batches-number.is c.receipt_in-found.result e (sym c.is_some.ensures ∙ c.if-is_some.false);
-      distinct = distinct_back c.args.batches.now c.args.leaf n c.index-batches-number.result below c.index-batches-number.is (rw up at c.loop-number.invariant.distinct);
+          ∙ passed_back c.args.batches.now c.args.leaf n c.index-batches-number.result below c.index-batches-number.is c.receipt_in-found.result
+          e (sym c.is_some.ensures ∙ c.if-is_some.false);
+      distinct = distinct_back c.args.batches.now c.args.leaf n c.index-batches-number.result below c.index-batches-number.is
+          (rw up at c.loop-number.invariant.distinct);
     }

@@ -57,3 +57,7 @@ pub mod TurnRuns
 pub mod OneBatch
 pub mod OneRun
 pub mod OneWork
+pub mod WaitRows
+pub mod WaitPlaces
+pub mod WaitKeeps
+pub mod WaitRuns

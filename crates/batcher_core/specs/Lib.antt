@@ -28,3 +28,4 @@ pub mod Looks
 pub mod Cores
 pub mod Ranges
 pub mod Fuel
+pub mod Waits

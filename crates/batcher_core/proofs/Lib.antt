@@ -61,3 +61,4 @@ pub mod WaitRows
 pub mod WaitPlaces
 pub mod WaitKeeps
 pub mod WaitRuns
+pub mod WaitFrom

@@ -17,34 +17,36 @@ use Rattle.batcher_core.specs.Events.{task_after, is_pending, new_hold, looked, 
 use Rattle.batcher_core.specs.GateParts.{HoldStands}
 use Rattle.batcher_core.specs.Invariant.{Parts}
 use Rattle.batcher_core.specs.KeptParts.{PartsKept}
-use Rattle.batcher_core.specs.Waits.{IsTrapped, task_place, StatusWaits, WaitsSince}
+use Rattle.batcher_core.specs.Waits.{IsTrapped, started_leaf, task_place, StatusWaits, WaitsSince}
 use Rattle.batcher_core.proofs.Puts.{put_at, put_other}
 use Rattle.batcher_core.proofs.GateKeeps.{no_more}
 use Rattle.batcher_core.proofs.PublishKeeps.{publish_keeps}
 use Rattle.batcher_core.proofs.PartsStand.{parts_stand}
 use Rattle.batcher_core.proofs.WaitRows.{now_row, win_row, take_row, look_row, publish_row, answer_row, other_row, release_row}
-use Rattle.batcher_core.proofs.WaitPlaces.{executing_stands, served_stands, still_stands}
+use Rattle.batcher_core.proofs.WaitPlaces.{executing_stands, receipt_of, receipt_stands, still_stands}
 
 -- a trapped worker waits from now on
 pub waits_from_now : (job : CoreJob) (s : State) (w : ℕ) → Parts job s → IsTrapped s w → WaitsSince job s w (length s.book)
 waits_from_now job s w h trapped =
     now_row (s.status w) (length s.book) s.hold (task_place job s.book (s.task w)) w trapped
     (λ executing there. executing_stands job s w (length s.book + 1) h executing there (omega arith))
-    (λ r served. served_stands job s.book (s.task w) (length s.book + 1) r (h.statuses.served_receipt w r served) (omega arith))
+    (λ r served. receipt_stands s.book (started_leaf job (s.task w)) (length s.book + 1) r (receipt_of job s.book (s.task w) r (h.statuses.served_receipt w r served)) (omega arith))
 
 -- a worker that waits is trapped
-waits_trapped : (st : Status) (count : ℕ) (o : Option Hold) (p : Option Place) (w since : ℕ) → StatusWaits st count o p w since → st ≢ Free
-waits_trapped st count o p w since waits free = rw free at waits
+waits_trapped : (job : CoreJob) (s : State) (w since : ℕ) → WaitsSince job s w since → IsTrapped s w
+waits_trapped job s w since waits free = rw free at waits
 
--- so it is another than one that is free
-other_than : (job : CoreJob) (s : State) (w v since : ℕ) → s.status w ≡ Free → WaitsSince job s v since → v ≢ w
-other_than job s w v since free waits e =
-    waits_trapped (s.status v) (length s.book) s.hold (task_place job s.book (s.task v)) v since waits (ap s.status e ∙ free)
+-- a trapped worker is another than one that is free
+other_worker : (s : State) (w v : ℕ) → s.status w ≡ Free → IsTrapped s v → v ≢ w
+other_worker s w v free trapped e = trapped (ap s.status e ∙ free)
 
--- another worker's task changes
+-- so its task stays, where that one's task changes
+pub other_task : (s : State) (w v : ℕ) (t : Task) → s.status w ≡ Free → IsTrapped s v → put s.task w t v ≡ s.task v
+other_task s w v t free trapped = put_other s.task w v t (other_worker s w v free trapped)
+
 task_waits : (job : CoreJob) (s : State) (w v since : ℕ) (t : Task) → s.status w ≡ Free → WaitsSince job s v since
     → StatusWaits (s.status v) (length s.book) s.hold (task_place job s.book (put s.task w t v)) v since
-task_waits job s w v since t free waits = rw (put_other s.task w v t (other_than job s w v since free waits)) waits
+task_waits job s w v since t free waits = rw (other_task s w v t free (waits_trapped job s v since waits)) waits
 
 -- another worker's status changes
 status_waits : (status : ℕ → Status) (count : ℕ) (o : Option Hold) (p : Option Place) (w v since : ℕ) (st : Status) → v ≢ w
@@ -89,12 +91,12 @@ publish_waits job s w v since b laws h needs batch waits =
     let there : s.hold ≡ Some hd = needs.1.0 in
     let new : State = record s { book = s.book ++ b ∷ []; objects = served s.objects b; hold = published s.hold } in
     let one_more : length (s.book ++ b ∷ []) ≡ length s.book + 1 = length-append s.book (b ∷ []) in
-    let trapped : s.status v ≢ Free = waits_trapped (s.status v) (length s.book) s.hold (task_place job s.book (s.task v)) v since waits in
+    let trapped : s.status v ≢ Free = waits_trapped job s v since waits in
     let inside : (job.workers ≤ v) → ⊥ = λ far. trapped ((parts_stand job s h).beyond v far).1 in
     rw (one_more, there)
     (publish_row (s.status v) (length s.book) hd (task_place job s.book (s.task v)) (task_place job (s.book ++ b ∷ []) (s.task v)) v since job.workers needs.4 needs.2 (omega (arith, inside))
     (λ executing. executing_stands job new v (length s.book) (parts_stand job new (publish_keeps job s w b laws h needs batch)) executing (rw there refl) (omega (arith, one_more)))
-    (still_stands job s.book b (s.task v) (since + 1))
+    (still_stands s.book b (started_leaf job (s.task v)) (since + 1))
     (rw there at waits))
 
 -- a worker is answered
@@ -143,7 +145,7 @@ waits_kept job s new w (OpenParLeft p l r) v since laws h go trapped waits = bec
 waits_kept job s new w (OpenSeqLeft p l r) v since laws h go trapped waits = becomes job v since go.does (task_waits job s w v since Idle go.needs.0 waits)
 waits_kept job s new w (OpenSeqRight p l r) v since laws h go trapped waits = becomes job v since go.does (task_waits job s w v since Idle go.needs.0 waits)
 waits_kept job s new w (Post n t) v since laws h go trapped waits = becomes job v since go.does
-    (status_waits s.status (length s.book) s.hold (task_place job s.book (s.task v)) w v since Pending (other_than job s w v since go.needs.0 waits) waits)
+    (status_waits s.status (length s.book) s.hold (task_place job s.book (s.task v)) w v since Pending (other_worker s w v go.needs.0 (waits_trapped job s v since waits)) waits)
 waits_kept job s new w Win v since laws h go trapped waits = becomes job v since go.does (win_waits job s w v since (parts_stand job s h) go.needs.2 waits)
 waits_kept job s new w (Take u) v since laws h go trapped waits = becomes job v since go.does (take_waits job s w u v since (parts_stand job s h) go.needs waits)
 waits_kept job s new w Publish v since laws h go trapped waits = becomes job v since go.does.2 (publish_waits job s w v since go.does.0 laws h go.needs go.does.1 waits)

@@ -5,14 +5,14 @@ use Rattle.batcher_core.specs.declared.status.Status.TheVariants.{Served}
 use Rattle.batcher_core.specs.declared.status.Receipt.{Receipt}
 use Rattle.batcher_core.specs.State.{CoreJob, State}
 use Rattle.batcher_core.specs.KeptParts.{PartsKept}
-use Rattle.batcher_core.specs.Waits.{WaitsSince, StaysTrapped, at_once, by_event}
+use Rattle.batcher_core.specs.Waits.{task_place, WaitsSince, StaysTrapped, at_once, by_event}
 use Rattle.batcher_core.proofs.EventKeeps.{event_keeps}
 use Rattle.batcher_core.proofs.PartsStand.{parts_stand}
-use Rattle.batcher_core.proofs.WaitPlaces.{receipt_below}
+use Rattle.batcher_core.proofs.WaitPlaces.{receipt_of, receipt_by}
 use Rattle.batcher_core.proofs.WaitKeeps.{waits_from_now, waits_kept}
 
 -- what is carried stays
-along_kept : (job : CoreJob) (w : ℕ) (first last : State) → IsPlan job.plan → PartsKept job first → StaysTrapped job w first last → PartsKept job last
+pub along_kept : (job : CoreJob) (w : ℕ) (first last : State) → IsPlan job.plan → PartsKept job first → StaysTrapped job w first last → PartsKept job last
 along_kept job w first last laws h (at_once trapped) = h
 along_kept job w first last laws h (by_event {old = old} {new = new} {worker = worker} {event = event} before happens trapped) =
     event_keeps job old new worker event laws (along_kept job w first old laws h before) happens
@@ -28,6 +28,6 @@ along_waits job w first last laws h (by_event {old = old} {new = new} {worker = 
 pub two_at_most : (job : CoreJob) (w : ℕ) (first last : State) (r : Receipt) → IsPlan job.plan → PartsKept job first → StaysTrapped job w first last → last.status w ≡ Served r
     → r.batch ≤ length first.book + 1
 two_at_most job w first last r laws h stays served =
-    receipt_below job last.book (last.task w) (length first.book + 1) r
-    ((parts_stand job last (along_kept job w first last laws h stays)).statuses.served_receipt w r served)
+    receipt_by (task_place job last.book (last.task w)) (length first.book + 1) r
+    (receipt_of job last.book (last.task w) r ((parts_stand job last (along_kept job w first last laws h stays)).statuses.served_receipt w r served))
     (rw served at (along_waits job w first last laws h stays))

@@ -1,8 +1,9 @@
 -- How long a trapped worker waits: for two batches at most.
 --
--- A worker is trapped where its status is not free. Batches are numbered from 0. Where there were b batches at some
--- moment since the worker was trapped, its call is or will be in a batch with a number of at most b + 1. So it waits
--- for at most two batches: for the one that is under way, if that has looked past it, and for the next one.
+-- A worker is trapped where its status is not free. Batches are numbered from 0. Where there are b batches at some
+-- moment at which the worker is trapped, its call is or will be in a batch with a number of at most b + 1; where it
+-- is pending at that moment, in batch b or b + 1. So it waits for at most two batches: for the one that is gathered
+-- at that moment, if that has looked past it, and for the next one.
 use Rattle.std.specs.Prelude.{ℕ, ◌≡◌, ◌≢◌, ◌≤◌, ◌+◌, ◌⊎◌, true, false, Option, None, Some, List, length}
 use Rattle.batch_history.specs.declared.batch.Entry.{Entry}
 use Rattle.batcher_core.specs.declared.task.Task.{Task}
@@ -19,16 +20,25 @@ use Rattle.batcher_core.specs.GateParts.{is_published}
 abbrev pub IsTrapped : State → ℕ → Type 0
 IsTrapped s w = s.status w ≢ Free
 
+-- the leaf at which a task is started
+abbrev pub started_leaf : CoreJob → Task → Option ℕ
+started_leaf job Idle = None
+started_leaf job (Run n) = None
+started_leaf job (Half n) = None
+started_leaf job (Started n start) = Some (leaf_of (job.plan.kind n))
+started_leaf job (Kept n start) = None
+started_leaf job (Ended n start end) = None
+started_leaf job (Whole n) = None
+started_leaf job (Handed n) = None
+
+-- where the entry of a leaf stands in the book, if a leaf is given
+abbrev pub leaf_place : List (List Entry) → Option ℕ → Option Place
+leaf_place book None = None
+leaf_place book (Some leaf) = place_of book leaf
+
 -- where the entry of the leaf at which a task is started stands in the book
 abbrev pub task_place : CoreJob → List (List Entry) → Task → Option Place
-task_place job book Idle = None
-task_place job book (Run n) = None
-task_place job book (Half n) = None
-task_place job book (Started n start) = place_of book (leaf_of (job.plan.kind n))
-task_place job book (Kept n start) = None
-task_place job book (Ended n start end) = None
-task_place job book (Whole n) = None
-task_place job book (Handed n) = None
+task_place job book task = leaf_place book (started_leaf job task)
 
 -- the place is there, in a batch with this number or a lower one
 abbrev pub StandsBy : Option Place → ℕ → Type 0

@@ -1,10 +1,10 @@
 //! The laws of how long a worker waits, each as the contract of a function that does nothing.
-ghost use Rattle.std.specs.Prelude.{◌≡◌, ℕ, ◌<◌, ◌≤◌, ◌+◌, List, length};
+ghost use Rattle.std.specs.Prelude.{◌≡◌, ℕ, ◌<◌, ◌≤◌, ◌+◌, ◌⊎◌, List, length};
 ghost use Rattle.seq_objects.specs.declared.act.Act.{Act};
 ghost use Rattle.sp_order.specs.Precedence.{Tree};
 ghost use Rattle.sp_order.specs.Plans.{IsPlan};
 ghost use Rattle.batcher_core.specs.declared.event.Event.{Event};
-ghost use Rattle.batcher_core.specs.declared.status.Status.TheVariants.{Served};
+ghost use Rattle.batcher_core.specs.declared.status.Status.TheVariants.{Pending, Served};
 ghost use Rattle.batcher_core.specs.declared.status.Receipt.{Receipt};
 ghost use Rattle.batcher_core.specs.State.{CoreJob, State, CoreState, core_job};
 ghost use Rattle.batcher_core.specs.Events.{Happens};
@@ -37,6 +37,14 @@ pub fn trapped_waits_since_then()
 /// So where its call is served in the end, the receipt's batch is one of those that stood, or one of the next two.
 pub fn two_batches_at_most()
     ensures { (tree : Tree) (acts : List Act) (workers worker : ℕ) (first : CoreState) (last : State) (receipt : Receipt) → 0 < workers → IsReached (core_job tree acts workers) first → StaysTrapped (core_job tree acts workers) worker first.state last → last.status worker ≡ Served receipt → receipt.batch ≤ length first.state.book + 1 }
+{
+    plan_stands_for_tree();
+    plan_has_sides();
+}
+
+/// A call that is pending where there are so many batches is served in one of the next two.
+pub fn pending_call_is_in_next_two()
+    ensures { (tree : Tree) (acts : List Act) (workers worker : ℕ) (first : CoreState) (last : State) (receipt : Receipt) → 0 < workers → IsReached (core_job tree acts workers) first → first.state.status worker ≡ Pending → StaysTrapped (core_job tree acts workers) worker first.state last → last.status worker ≡ Served receipt → (receipt.batch ≡ length first.state.book) ⊎ (receipt.batch ≡ length first.state.book + 1) }
 {
     plan_stands_for_tree();
     plan_has_sides();

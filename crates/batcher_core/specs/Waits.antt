@@ -60,7 +60,7 @@ StatusWaits Executing count hold place w since =
     (is_published hold ≡ false → (count ≡ since) ⊎ (count ≡ since + 1)) × (is_published hold ≡ true → StandsBy place (since + 1))
 StatusWaits (Served receipt) count hold place w since = StandsBy place (since + 1)
 
--- the worker is trapped, and has been since a moment at which there were this number of batches
+-- the worker is trapped, and its call is in time for one of the two batches after this number of them
 abbrev pub WaitsSince : CoreJob → State → ℕ → ℕ → Type 0
 WaitsSince job s w since = StatusWaits (s.status w) (length s.book) s.hold (task_place job s.book (s.task w)) w since
 

@@ -1,5 +1,5 @@
 -- Where entries stand in a book, and what a longer book is.
-use Rattle.std.proofs.Common.{ℕ, ◌≡◌, ◌≢◌, ◌+◌, ◌==◌, Bool, true, false, if◌then◌else◌, Option, Some, None, List, [], ◌⊎◌, inl, inr, ◌∷◌, ◌++◌, length, arith, refl, inl, inr, subst, sym, ◌∙◌, ap, add-zero, zero-add}
+use Rattle.std.proofs.Common.{ℕ, ◌≡◌, ◌≢◌, ◌<◌, ◌+◌, ◌==◌, Bool, true, false, if◌then◌else◌, Option, Some, None, List, [], ◌⊎◌, inl, inr, ◌∷◌, ◌++◌, length, arith, refl, inl, inr, subst, sym, ◌∙◌, ap, add-zero, zero-add}
 use Rattle.std.proofs.Common.{append-nil, append_assoc}
 use Rattle.seq_objects.specs.Objects.{Objects, after}
 use Rattle.std.specs.List.{AllByRecursion}
@@ -144,3 +144,16 @@ found_from P k (b ∷ bs) u p h e =
 pub found_in_book : (P : Entry → Type 0) (bs : List (List Entry)) (u : ℕ) (p : Place) → AllByRecursion P (flat bs) → place_of bs u ≡ Some p → P p.entry × (p.entry.leaf ≡ u)
 unfolding place_of
 found_in_book P bs u p h e = found_from P 0 bs u p h e
+
+-- what is found in the batches from a number on has a number below their end
+place_from_below : (k : ℕ) (bs : List (List Entry)) (u : ℕ) (p : Place) → place_from k bs u ≡ Some p → p.batch < k + length bs
+place_from_below k [] u p e = cc
+place_from_below k (b ∷ bs) u p e = elim (which_place (place_in k 0 b u) (place_from (k + 1) bs u) p e) [
+  | inl f ↦ omega (arith, place_in_batch k 0 b u p f)
+  | inr f ↦ omega (arith, place_from_below (k + 1) bs u p f)
+]
+
+-- what is found in a book has the number of one of its batches
+pub place_below : (bs : List (List Entry)) (u : ℕ) (p : Place) → place_of bs u ≡ Some p → p.batch < length bs
+unfolding place_of
+place_below bs u p e = omega (arith, place_from_below 0 bs u p e)

@@ -287,7 +287,7 @@ leave_keeps job s w r h needs = record {
 }
 
 -- the flag is released
-no_more : (job : CoreJob) (book : List (List Entry)) (t : Task) (st : Status) (c : CallState) (took told : Bool) → (took ≡ true → told ≡ true) → StatusFits job book t st c (took && not told) → StatusFits job book t st c false × (st ≢ Executing)
+pub no_more : (job : CoreJob) (book : List (List Entry)) (t : Task) (st : Status) (c : CallState) (took told : Bool) → (took ≡ true → told ≡ true) → StatusFits job book t st c (took && not told) → StatusFits job book t st c false × (st ≢ Executing)
 no_more job book t st c took told same h = grind arith
 
 -- a release changes not who is in the book

@@ -65,3 +65,8 @@ pub mod OneBatch
 pub mod OneRun
 pub mod OneWork
 pub mod Searches
+pub mod WaitRows
+pub mod WaitPlaces
+pub mod WaitKeeps
+pub mod WaitRuns
+pub mod WaitFrom

@@ -90,7 +90,7 @@ batch_fits job s hd holder b laws holders there batch = record {
 }
 
 -- where there is no worker, there is no entry
-no_entry : (p : Option Place) → worker_at p ≡ None → p ≡ None
+pub no_entry : (p : Option Place) → worker_at p ≡ None → p ≡ None
 no_entry None e = refl
 no_entry (Some p) e = cc
 

@@ -48,6 +48,10 @@ reached_carried : (job : CoreJob) (s : CoreState) → IsPlan job.plan → job.pl
 reached_carried job s laws root some at_opening = opening_carried job laws root some
 reached_carried job s laws root some (by_event {old = old} {new = new} {worker = w} {kind = kind} before step) = event_carried job old new w kind laws (reached_carried job old laws root some before) step
 
+-- what is carried of its state, without the lists
+pub reached_parts : (job : CoreJob) (s : CoreState) → IsPlan job.plan → job.plan.kind 0 ≢ None → 0 < job.workers → IsReached job s → PartsKept job s.state
+reached_parts job s laws root some reached = (reached_carried job s laws root some reached).parts
+
 -- so the invariant holds
 pub reached_invariant : (job : CoreJob) (s : CoreState) → IsPlan job.plan → job.plan.kind 0 ≢ None → 0 < job.workers → IsReached job s → Invariant job s
 reached_invariant job s laws root some reached =

@@ -29,3 +29,4 @@ pub mod Cores
 pub mod Batches
 pub mod Ranges
 pub mod Fuel
+pub mod Waits

@@ -28,6 +28,7 @@ pub mod table;
 pub mod task;
 pub mod turn;
 pub mod turn_laws;
+pub mod wait_laws;
 
 pub use event::Event;
 pub use hold::Hold;

@@ -57,3 +57,12 @@ pub mod TurnRuns
 pub mod OneBatch
 pub mod OneRun
 pub mod OneWork
+pub mod RootDone
+pub mod OneReport
+pub mod RowLists
+pub mod EndedRuns
+pub mod RowTicks
+pub mod EntryPlaces
+pub mod RowOrder
+pub mod RowCalls
+pub mod ReportLawful

@@ -7,6 +7,7 @@ pub use Rattle.sp_order.specs.TreeCode
 pub use Rattle.sp_order.specs.Preorder
 pub use Rattle.batch_history.specs.Pairs
 pub use Rattle.batch_history.specs.Book
+pub use Rattle.batch_history.specs.Lawful
 pub mod State
 pub mod Operations
 pub mod Serving
@@ -28,3 +29,4 @@ pub mod Looks
 pub mod Cores
 pub mod Ranges
 pub mod Fuel
+pub mod Reports

@@ -13,6 +13,7 @@ mod lists;
 mod opening;
 mod opens;
 pub mod progress;
+pub mod report_laws;
 pub mod scheduler;
 pub mod spun;
 pub mod status;

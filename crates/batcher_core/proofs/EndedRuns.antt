@@ -11,12 +11,9 @@ use Rattle.batcher_core.specs.State.{CoreJob, State}
 use Rattle.batcher_core.specs.Tasks.{is_done}
 use Rattle.batcher_core.specs.Looks.{LeafIn}
 use Rattle.batcher_core.specs.Invariant.{Parts}
+use Rattle.batcher_core.specs.Reports.{HasRun}
 use Rattle.batcher_core.proofs.RootDone.{each_done, each_idle}
 use Rattle.batcher_core.proofs.LeavesIn.{leaves_in}
-
--- the leaf has run
-abbrev pub HasRun : Progress → Type 0
-HasRun progress = (w : ℕ) × (s : ℕ) × (e : ℕ) × (progress ≡ Ran w s e)
 
 pub record IsEnded (job : CoreJob) (total : ℕ) (s : State) : Type 0 where
   pub parts : Parts job s

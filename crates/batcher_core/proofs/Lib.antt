@@ -66,3 +66,4 @@ pub mod EntryPlaces
 pub mod RowOrder
 pub mod RowCalls
 pub mod ReportLawful
+pub mod MadeRows

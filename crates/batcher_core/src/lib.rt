@@ -14,6 +14,7 @@ mod opening;
 mod opens;
 pub mod progress;
 pub mod report_laws;
+mod rows;
 pub mod scheduler;
 pub mod spun;
 pub mod status;

@@ -1,5 +1,5 @@
 -- What is known of a state whose root is done, of its leaves and its workers.
-use Rattle.std.proofs.Common.{ℕ, ◌≡◌, ◌≢◌, ◌<◌, true, Some, refl, sym, ◌∙◌}
+use Rattle.std.proofs.Common.{ℕ, ◌≡◌, ◌≢◌, ◌<◌, true, None, Some, inl, refl, sym, ◌∙◌}
 use Rattle.sp_order.specs.declared.node.Kind.TheVariants.{LeafNode}
 use Rattle.sp_order.specs.Precedence.{Tree, leaves}
 use Rattle.sp_order.specs.Plans.{IsPlan}
@@ -47,3 +47,10 @@ run_ended job tree s plan laws kind parts done = record {
   below = λ n leaf is. let low : LeafIn (leaves tree) (Some (LeafNode leaf)) = rw is at (leaves_in job.plan tree (leaves tree) plan refl n) in low;
   only = laws.one_node;
 }
+
+-- and of its leaves
+pub leaf_ended : (job : CoreJob) (total : ℕ) (s : State) → IsEnded job total s → (leaf : ℕ) → leaf < total → HasRun (s.node (job.plan.node_of leaf)) × (s.value (job.plan.node_of leaf) ≢ None)
+leaf_ended job total s h leaf low =
+    let ran = h.ran leaf low in
+    let value = h.parts.values.values (job.plan.node_of leaf) leaf (h.kind leaf low) (inl (rw ran.3 refl)) in
+    (ran, λ none. let e = sym value.1 ∙ none in cc)

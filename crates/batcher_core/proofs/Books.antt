@@ -9,7 +9,7 @@ use Rattle.batch_history.specs.declared.batch.Entry.{Entry}
 use Rattle.batch_history.specs.Book.{flat, IsLegalFrom}
 use Rattle.batcher_core.specs.Operations.{Place, place_in, or_else, place_from, place_of}
 use Rattle.batcher_core.specs.Serving.{served}
-use Rattle.batcher_core.proofs.EntryLists.{each_append, each_so}
+use Rattle.batcher_core.proofs.EntryLists.{each_append, each_front, each_so}
 
 -- the first of three places
 or_else_assoc : (a b c : Option Place) → or_else a (or_else b c) ≡ or_else (or_else a b) c
@@ -119,11 +119,6 @@ served_append o (x ∷ xs) ys = served_append (after o x.op) xs ys
 pub legal_append : (o : Objects) (xs ys : List Entry) → IsLegalFrom o xs → IsLegalFrom (served o xs) ys → IsLegalFrom o (xs ++ ys)
 legal_append o [] ys h g = g
 legal_append o (x ∷ xs) ys h g = (h.0, legal_append (after o x.op) xs ys h.1 g)
-
--- what holds of the elements of two lists together holds of those of each
-each_front : (P : Entry → Type 0) (xs ys : List Entry) → AllByRecursion P (xs ++ ys) → AllByRecursion P xs × AllByRecursion P ys
-each_front P [] ys h = (tt, h)
-each_front P (x ∷ xs) ys h = let more = each_front P xs ys h.1 in ((h.0, more.0), more.1)
 
 -- which of two places the first of them is
 pub which_place : (p q : Option Place) (x : Place) → or_else p q ≡ Some x → (p ≡ Some x) ⊎ (q ≡ Some x)

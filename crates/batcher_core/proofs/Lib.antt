@@ -70,3 +70,13 @@ pub mod WaitPlaces
 pub mod WaitKeeps
 pub mod WaitRuns
 pub mod WaitFrom
+pub mod RootDone
+pub mod OneReport
+pub mod RowLists
+pub mod EndedRuns
+pub mod RowTicks
+pub mod EntryPlaces
+pub mod RowOrder
+pub mod RowCalls
+pub mod ReportLawful
+pub mod MadeRows

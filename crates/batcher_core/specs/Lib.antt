@@ -7,6 +7,7 @@ pub use Rattle.sp_order.specs.TreeCode
 pub use Rattle.sp_order.specs.Preorder
 pub use Rattle.batch_history.specs.Pairs
 pub use Rattle.batch_history.specs.Book
+pub use Rattle.batch_history.specs.Lawful
 pub mod State
 pub mod Operations
 pub mod Serving
@@ -30,3 +31,4 @@ pub mod Batches
 pub mod Ranges
 pub mod Fuel
 pub mod Waits
+pub mod Reports

@@ -19,6 +19,8 @@ mod opens;
 pub mod progress;
 mod publish;
 mod receipts;
+pub mod report_laws;
+mod rows;
 pub mod scheduler;
 mod serve;
 pub mod spun;

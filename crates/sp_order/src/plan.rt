@@ -77,6 +77,14 @@ impl Plan {
         self.listing.moves[node as usize]
     }
 
+    /// The node of this leaf.
+    pub fn node_of(&self, leaf: u32) -> u32
+        requires { leaf < leaves self.now }
+        ensures { result ≡ (nodes_of self.now).node_of leaf }
+    {
+        self.listing.leaf_nodes[leaf as usize]
+    }
+
     /// Whether leaf u is before leaf v.
     pub fn before(&self, u: u32, v: u32) -> bool
         requires u_in { u < leaves self.now }

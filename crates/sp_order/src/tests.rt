@@ -32,6 +32,10 @@ fn numbers_nodes_in_preorder(rt: HostRuntime) -> Result<(), Fail> {
         assert_eq!(rt; plan.kind(node), kind, "at {node}");
         assert_eq!(rt; plan.after(node), after, "at {node}");
     }
+    for (leaf, node) in [(0, 1), (1, 3), (2, 4)] {
+        assert!(rt; leaf < 3);
+        assert_eq!(rt; plan.node_of(leaf), node, "at leaf {leaf}");
+    }
     Ok(())
 }
 

@@ -50,6 +50,7 @@ pub mod ChoiceGate
 pub mod ChoiceIdle
 pub mod Choices
 pub mod Publishing
+pub mod Reporting
 pub mod Allowed
 pub mod Starting
 pub mod Turning

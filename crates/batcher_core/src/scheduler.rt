@@ -4,12 +4,19 @@ ghost use Rattle.seq_objects.specs.Spin.{spin_of};
 ghost use Rattle.batcher_core.specs.State.{opening_core};
 ghost use Rattle.batcher_core.specs.Tasks.{is_done as node_done};
 ghost use Rattle.batcher_core.specs.Choice.{choice};
+ghost use Rattle.sp_order.specs.Precedence.{leaves};
+ghost use Rattle.batch_history.specs.Lawful.{Lawful};
+ghost use Rattle.batcher_core.specs.Reports.{IsReportOf};
 ghost use Rattle.batcher_core.specs.Cores.{job_in, state_in, due_in, turn_due, is_over_in, Makes};
 
 use crate::event::Event;
+use crate::laws::kept_parts_hold;
+use crate::report_laws::{done_leaves_have_run, done_report_is_lawful};
+use crate::rows::rows_of;
 use crate::spun::Spun;
 use crate::table::Table;
 use crate::turn::Turn;
+use batch_history::{Report, Rows};
 use seq_objects::Act;
 use sp_order::laws::{plan_has_sides, plan_stands_for_tree};
 use sp_order::{Job, Plan};
@@ -141,5 +148,25 @@ impl Core {
         ensures { result ≡ is_over_in self.now }
     {
         !self.spent && self.table.root_done()
+    }
+
+    /// The report of a core that is over.
+    pub fn report(self, alloc: Global) -> Result<Report, AllocError>
+        requires { is_over_in self ≡ true }
+        ensures report { IfOk result (λ report. IsReportOf (job_in self) (leaves self.tree) (state_in self).state report) }
+        ensures lawful { IfOk result (λ report. Lawful (record { shape = Some self.tree; acts = self.acts }) self.workers report) }
+    {
+        plan_stands_for_tree();
+        kept_parts_hold();
+        done_leaves_have_run();
+        done_report_is_lawful();
+        let leaf_total = self.acts.len() as u32;
+        let table = self.table;
+        let rows = rows_of(alloc, &self.plan, &table.nodes, &table.values, leaf_total)?;
+        Ok(Report {
+            workers: self.workers,
+            history: table.history,
+            rows: Rows::of(rows),
+        })
     }
 }

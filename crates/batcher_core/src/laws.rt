@@ -21,7 +21,7 @@ ghost use Rattle.batcher_core.specs.JobParts.{HasStart};
 ghost use Rattle.batcher_core.specs.Invariant.{Parts, Invariant};
 ghost use Rattle.batcher_core.specs.KeptParts.{PartsKept};
 ghost use Rattle.batcher_core.specs.KeptLists.{ListsKept};
-ghost use Rattle.batcher_core.specs.Runs.{IsReached};
+ghost use Rattle.batcher_core.specs.Runs.{Step, Reaches, IsReached};
 
 use sp_order::laws::{
     before_is_by_series, leaf_has_one_node, plan_has_sides, plan_stands_for_tree,
@@ -58,9 +58,11 @@ pub fn kept_lists_hold()
     ensures { (workers : ℕ) (node : ℕ → Progress) (ready : ℕ → List ℕ) → ListsKept workers node ready → ListsFit workers node ready }
 {}
 
-/// Each state that can be reached has the invariant.
+/// Each state that can be reached has the invariant: each that a list of events, one after another, leads to from
+/// the opening state.
 pub fn reached_has_invariant()
-    ensures { (tree : Tree) (acts : List Act) (workers : ℕ) (state : CoreState) → 0 < workers → IsReached (core_job tree acts workers) state → Invariant (core_job tree acts workers) state }
+    ensures reached { (tree : Tree) (acts : List Act) (workers : ℕ) (state : CoreState) → 0 < workers → IsReached (core_job tree acts workers) state → Invariant (core_job tree acts workers) state }
+    ensures runs { (tree : Tree) (acts : List Act) (workers : ℕ) (steps : List Step) (state : CoreState) → 0 < workers → Reaches (core_job tree acts workers) steps state → Invariant (core_job tree acts workers) state }
 {
     plan_stands_for_tree();
     plan_has_sides();

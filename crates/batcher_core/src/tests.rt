@@ -6,6 +6,7 @@ use seq_objects::work::spin;
 use seq_objects::{Act, Op, Reply};
 use sp_order::{Job, Shape};
 use std::alloc::{AllocError, Global};
+use std::fmt::Write;
 use std::test::Fail;
 
 /// A parallel block of two leaves, which do this.
@@ -79,141 +80,80 @@ fn next(core: &Core, worker: u32) -> Option<Event>
     }
 }
 
-/// What a turn answers by its event.
-fn answer(event: Option<Event>) -> Turn {
+/// Takes a turn of a worker that has no work due, and tells its event.
+fn told_turn(alloc: Global, core: &mut Core, worker: u32) -> Result<String, AllocError>
+    requires unspent { core.old.spent ≡ false }
+    requires worker_in { worker < core.old.workers }
+    ensures unspent { IfOk result (λ _. core.new.spent ≡ false) }
+    ensures workers { core.new.workers ≡ core.old.workers }
+{
+    let event = next(core, worker);
+    let answer = core.turn(worker, None)?;
+    let mut text = String::new(alloc);
     match event {
-        Some(_) => Turn::Moved,
-        None => Turn::Idle,
+        Some(event) => write!(text, "{answer:?} {event:?}")?,
+        None => write!(text, "{answer:?}")?,
     }
+    Ok(text)
 }
+
+/// Two turns a round, of worker 0 and of worker 1: each event in the order in which it happens.
+const ROUNDS: [(&str, &str); 17] = [
+    ("Moved Claim(0)", "Idle"),
+    (
+        "Moved OpenParRight { parent: 0, left: 1, right: 2 }",
+        "Moved Claim(2)",
+    ),
+    (
+        "Moved OpenParLeft { parent: 0, left: 1, right: 2 }",
+        "Moved Start(2)",
+    ),
+    ("Moved Claim(1)", "Moved Post { node: 2, start: 0 }"),
+    ("Moved Start(1)", "Moved Win"),
+    ("Moved Post { node: 1, start: 1 }", "Moved Take(0)"),
+    ("Idle", "Moved Take(1)"),
+    ("Idle", "Moved Publish"),
+    (
+        "Idle",
+        "Moved Answer { worker: 0, receipt: Receipt { batch: 0, place: 0, reply: Number(1) } }",
+    ),
+    (
+        "Moved Leave(Receipt { batch: 0, place: 0, reply: Number(1) })",
+        "Moved Answer { worker: 1, receipt: Receipt { batch: 0, place: 1, reply: Number(3) } }",
+    ),
+    (
+        "Moved Keep { node: 1, start: 1, value: 1 }",
+        "Moved Release",
+    ),
+    (
+        "Moved End { node: 1, start: 1 }",
+        "Moved Leave(Receipt { batch: 0, place: 1, reply: Number(3) })",
+    ),
+    (
+        "Moved FinishLeaf { node: 1, start: 1, end: 2 }",
+        "Moved Keep { node: 2, start: 0, value: 3 }",
+    ),
+    (
+        "Moved ArriveFirst { parent: 0, left: 1, right: 2, side: 1 }",
+        "Moved End { node: 2, start: 0 }",
+    ),
+    ("Idle", "Moved FinishLeaf { node: 2, start: 0, end: 3 }"),
+    (
+        "Idle",
+        "Moved ArriveSecond { parent: 0, left: 1, right: 2, side: 2 }",
+    ),
+    ("Idle", "Moved FinishPar { parent: 0, left: 1, right: 2 }"),
+];
 
 #[test]
 fn two_calls_make_one_batch(rt: HostRuntime) -> Result<(), Fail> {
-    let job = block_of(
-        rt.alloc(),
-        Act::Call(Op::CounterAdd(1)),
-        Act::Call(Op::CounterAdd(2)),
-    )?;
-    let mut core = Core::start(rt.alloc(), &job, 2)?;
-    let (parent, left, right) = (0, 1, 2);
-    let first = Receipt {
-        batch: 0,
-        place: 0,
-        reply: Reply::Number(1),
-    };
-    let second = Receipt {
-        batch: 0,
-        place: 1,
-        reply: Reply::Number(3),
-    };
-    let rounds = [
-        (Some(Event::Claim(0)), None),
-        (
-            Some(Event::OpenParRight {
-                parent,
-                left,
-                right,
-            }),
-            Some(Event::Claim(2)),
-        ),
-        (
-            Some(Event::OpenParLeft {
-                parent,
-                left,
-                right,
-            }),
-            Some(Event::Start(2)),
-        ),
-        (
-            Some(Event::Claim(1)),
-            Some(Event::Post { node: 2, start: 0 }),
-        ),
-        (Some(Event::Start(1)), Some(Event::Win)),
-        (
-            Some(Event::Post { node: 1, start: 1 }),
-            Some(Event::Take(0)),
-        ),
-        (None, Some(Event::Take(1))),
-        (None, Some(Event::Publish)),
-        (
-            None,
-            Some(Event::Answer {
-                worker: 0,
-                receipt: first,
-            }),
-        ),
-        (
-            Some(Event::Leave(first)),
-            Some(Event::Answer {
-                worker: 1,
-                receipt: second,
-            }),
-        ),
-        (
-            Some(Event::Keep {
-                node: 1,
-                start: 1,
-                value: 1,
-            }),
-            Some(Event::Release),
-        ),
-        (
-            Some(Event::End { node: 1, start: 1 }),
-            Some(Event::Leave(second)),
-        ),
-        (
-            Some(Event::FinishLeaf {
-                node: 1,
-                start: 1,
-                end: 2,
-            }),
-            Some(Event::Keep {
-                node: 2,
-                start: 0,
-                value: 3,
-            }),
-        ),
-        (
-            Some(Event::ArriveFirst {
-                parent,
-                left,
-                right,
-                side: 1,
-            }),
-            Some(Event::End { node: 2, start: 0 }),
-        ),
-        (
-            None,
-            Some(Event::FinishLeaf {
-                node: 2,
-                start: 0,
-                end: 3,
-            }),
-        ),
-        (
-            None,
-            Some(Event::ArriveSecond {
-                parent,
-                left,
-                right,
-                side: 2,
-            }),
-        ),
-        (
-            None,
-            Some(Event::FinishPar {
-                parent,
-                left,
-                right,
-            }),
-        ),
-    ];
-    for (of_0, of_1) in rounds {
+    let left = Act::Call(Op::CounterAdd(1));
+    let right = Act::Call(Op::CounterAdd(2));
+    let mut core = Core::start(rt.alloc(), &block_of(rt.alloc(), left, right)?, 2)?;
+    for (first, second) in ROUNDS {
         assert!(rt; !core.is_over());
-        assert_eq!(rt; next(&core, 0), of_0);
-        assert_eq!(rt; core.turn(0, None)?, answer(of_0));
-        assert_eq!(rt; next(&core, 1), of_1);
-        assert_eq!(rt; core.turn(1, None)?, answer(of_1));
+        assert_eq!(rt; told_turn(rt.alloc(), &mut core, 0)?.as_str(), first);
+        assert_eq!(rt; told_turn(rt.alloc(), &mut core, 1)?.as_str(), second);
     }
     assert!(rt; core.is_over());
     Ok(())

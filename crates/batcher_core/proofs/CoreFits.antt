@@ -56,4 +56,5 @@ looks tree acts workers t h =
       leaves = rw (book_of t) at h.parts.book.leaves;
       few_batches = omega (arith, room.0, room.1, most);
       few_entries = omega (arith, room.0, most);
+      filled = h.filled;
     }

@@ -30,6 +30,7 @@ pub mod Written
 pub mod Ends
 pub mod ClaimEnds
 pub mod Steals
+pub mod Filled
 pub mod CoreFits
 pub mod Copies
 pub mod LeavesIn

@@ -9,7 +9,7 @@ use Rattle.batcher_core.specs.declared.table.Table.{Table}
 use Rattle.batcher_core.specs.State.{State, core_job, opening_state, opening_core}
 use Rattle.batcher_core.specs.KeptParts.{PartsKept}
 use Rattle.batcher_core.specs.KeptLists.{ListsKept}
-use Rattle.batcher_core.specs.Shown.{state_of, ready_of, shown, Sizes, CounterFits}
+use Rattle.batcher_core.specs.Shown.{state_of, ready_of, shown, Sizes, CounterFits, FilledFits}
 use Rattle.batcher_core.specs.Cores.{Fits}
 use Rattle.batcher_core.proofs.OpeningKept.{opening_kept}
 use Rattle.batcher_core.proofs.ListKeeps.{opening_lists}
@@ -31,8 +31,8 @@ root_in tree stands laws = laws.within 0 (has_root (nodes_of tree) tree stands)
 
 pub opening_fits : (tree : Tree) (shape : Option Tree) (acts : List Act) (workers : ℕ) (t : Table) → 0 < workers → workers ≤ 32 → IsPlanOf (nodes_of tree) tree → IsPlan (nodes_of tree)
     → (nodes_of tree).count < 40000 → Some tree ≡ shape → leaf_count shape ≡ length acts → Sizes t (nodes_of tree).count workers
-    → state_of t ≡ opening_state → ready_of t ≡ opening_core.ready → Fits tree acts workers t
-opening_fits tree shape acts workers t some few stands laws most is leaves sizes state lists = record {
+    → state_of t ≡ opening_state → ready_of t ≡ opening_core.ready → FilledFits t → Fits tree acts workers t
+opening_fits tree shape acts workers t some few stands laws most is leaves sizes state lists filled = record {
   some = some;
   few = few;
   laws = laws;
@@ -42,6 +42,7 @@ opening_fits tree shape acts workers t some few stands laws most is leaves sizes
   calls_in = calls_in tree acts workers stands (sym (rw (sym is) at leaves));
   sizes = sizes;
   counter = counter_opens t state;
+  filled = filled;
   parts = subst (PartsKept (core_job tree acts workers)) (sym state) (opening_kept (core_job tree acts workers) laws (has_root (nodes_of tree) tree stands));
   lists = subst (ListsKept workers (state_of t).node) (sym lists)
       (subst (λ (s : State). ListsKept workers s.node opening_core.ready) (core_opens ∙ sym state) (opening_lists workers some));

@@ -22,7 +22,7 @@ pub newest_claim : (p : ℕ) (ready : ℕ → List ℕ) (w n k : ℕ) (own items
     → Some (Claim n) ≡ claim_choice p ready w own
 newest_claim p ready w n k own items e len is some = rw e (newest_of p ready w n k items (sym len) is some)
 
-steal_suc : (q : ℕ → List ℕ) (p from many : ℕ) → choice_steal q p from (suc many) ≡ oldest_or (q (from % p)) (choice_steal q p (from + 1) many)
+pub steal_suc : (q : ℕ → List ℕ) (p from many : ℕ) → choice_steal q p from (suc many) ≡ oldest_or (q (from % p)) (choice_steal q p (from + 1) many)
 unfolding choice_steal
 steal_suc q p from many = refl
 
@@ -50,7 +50,7 @@ passed q w p k so_far below none =
     let e : q ((w + k) % p) ≡ [] = none_of (q ((w + k) % p)) none in
     let f = steal_step q w p k below in let g = rw e at f in sym g ∙ so_far
 
-steal_zero : (q : ℕ → List ℕ) (p from : ℕ) → choice_steal q p from 0 ≡ None
+pub steal_zero : (q : ℕ → List ℕ) (p from : ℕ) → choice_steal q p from 0 ≡ None
 unfolding choice_steal
 steal_zero q p from = refl
 

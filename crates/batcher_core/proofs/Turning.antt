@@ -47,6 +47,7 @@ module _ (tree : Tree) (acts : List Act) (workers : ℕ) (old new : Table) (w : 
     calls_in = h.calls_in;
     sizes = sizes_kept old new (nodes_of tree).count workers h.sizes same;
     counter = same.counter_same h.counter;
+    filled = same.filled_same h.filled;
     parts = event_keeps (core_job tree acts workers) (state_of old) (state_of new) w event h.laws h.parts happens;
     lists = subst (ListsKept workers (state_of new).node) (sym lists)
         (lists_after (core_job tree acts workers) (state_of old) w (ready_of old) h.laws h.parts below h.lists event (state_of new) happens.needs does);

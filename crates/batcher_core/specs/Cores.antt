@@ -16,7 +16,7 @@ use Rattle.batcher_core.specs.KeptParts.{PartsKept}
 use Rattle.batcher_core.specs.KeptLists.{ListsKept}
 use Rattle.batcher_core.specs.Choice.{choice}
 use Rattle.batcher_core.specs.Runs.{IsStep}
-use Rattle.batcher_core.specs.Shown.{state_of, ready_of, shown, Sizes, CounterFits}
+use Rattle.batcher_core.specs.Shown.{state_of, ready_of, shown, Sizes, CounterFits, FilledFits}
 use Rattle.batcher_core.specs.Looks.{LeafIn, work_due}
 
 -- what contracts see of a core
@@ -54,6 +54,7 @@ pub record Fits (tree : Tree) (acts : List Act) (workers : ℕ) (t : Table) : Ty
   pub calls_in : (leaf : ℕ) → IsCall (core_job tree acts workers) leaf → leaf < (nodes_of tree).count
   pub sizes : Sizes t (nodes_of tree).count workers
   pub counter : CounterFits t
+  pub filled : FilledFits t
   pub parts : PartsKept (core_job tree acts workers) (state_of t)
   pub lists : ListsKept workers (state_of t).node (ready_of t)
 

@@ -11,6 +11,11 @@ abbrev pub without : ℕ → List ℕ → List ℕ
 without n [] = []
 without n (x ∷ xs) = if x == n then without n xs else x ∷ without n xs
 
+-- 1 for a list that has a node
+abbrev pub one_if_filled : List ℕ → ℕ
+one_if_filled [] = 0
+one_if_filled (x ∷ xs) = 1
+
 -- how often this number stands in the list
 abbrev pub times : ℕ → List ℕ → ℕ
 times n [] = 0

@@ -18,7 +18,7 @@ use Rattle.batcher_core.specs.State.{CoreJob}
 use Rattle.batcher_core.specs.Operations.{IsLeaf}
 use Rattle.batcher_core.specs.Events.{Needs}
 use Rattle.batcher_core.specs.Choice.{choice_steal, last_of, choice_second, choice_parent, choice_arrive}
-use Rattle.batcher_core.specs.Shown.{state_of, ready_of, Sizes, IsAtEnd}
+use Rattle.batcher_core.specs.Shown.{state_of, ready_of, Sizes, IsAtEnd, FilledFits}
 
 -- the node that a task names is below this number
 abbrev pub TaskIn : ℕ → Task → Type 0
@@ -57,6 +57,7 @@ pub record Looks (plan : Nodes) (acts : List Act) (workers : ℕ) (t : Table) : 
   pub leaves : AreDistinct (map (λ entry. entry.leaf) (flat t.history))
   pub few_batches : length t.history < 2 ^ 32
   pub few_entries : length (flat t.history) < 2 ^ 32
+  pub filled : FilledFits t
 
 -- the choice of a worker that has nothing in hand, by its own list
 abbrev pub claim_choice : ℕ → (ℕ → List ℕ) → ℕ → List ℕ → Option Event

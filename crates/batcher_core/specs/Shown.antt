@@ -11,7 +11,8 @@ use Rattle.batcher_core.specs.declared.event.Event.TheVariants.{Claim, Start, Op
 use Rattle.batcher_core.specs.declared.hold.Hold.{Hold as HoldTable}
 use Rattle.batcher_core.specs.declared.table.Table.{Table}
 use Rattle.batcher_core.specs.State.{put, Hold, State, CoreState}
-use Rattle.batcher_core.specs.Lists.{times}
+use Rattle.batcher_core.specs.Lists.{times, one_if_filled}
+use Rattle.batcher_core.specs.Fuel.{total}
 use Rattle.batcher_core.specs.Events.{task_after}
 
 -- a list as a function of places, with a value beyond its end
@@ -21,6 +22,10 @@ at xs d n = get_or xs n d
 -- the lists of ready nodes, by worker
 abbrev pub queues : {Z : Type 0} → List (VecDeque ℕ Z) → ℕ → List ℕ
 queues xs = at (map (λ q. q.items) xs) []
+
+-- how many of the lists have a node
+abbrev pub filled_in : {Z : Type 0} → List (VecDeque ℕ Z) → ℕ
+filled_in xs = total (λ w. one_if_filled (queues xs w)) (length xs)
 
 -- the hold that the parts of one show
 abbrev pub shown_hold : HoldTable → Hold
@@ -79,7 +84,11 @@ pub record Sizes (t : Table) (nodes workers : ℕ) : Type 0 where
 abbrev pub CounterFits : Table → Type 0
 CounterFits t = t.objects.counter ≤ length (flat t.history) * 2 ^ 32
 
--- the lists keep their lengths, and the counter its bound
+-- as many lists have a node as are counted
+abbrev pub FilledFits : Table → Type 0
+FilledFits t = t.filled ≡ filled_in t.ready.items
+
+-- the lists keep their lengths, the counter its bound, and the count of the lists that have a node stays right
 pub record SameSizes (old new : Table) : Type 0 where
   pub nodes_same : length new.nodes.items ≡ length old.nodes.items
   pub marks_same : length new.marks.items ≡ length old.marks.items
@@ -89,3 +98,4 @@ pub record SameSizes (old new : Table) : Type 0 where
   pub calls_same : length new.calls.items ≡ length old.calls.items
   pub ready_same : length new.ready.items ≡ length old.ready.items
   pub counter_same : CounterFits old → CounterFits new
+  pub filled_same : FilledFits old → FilledFits new

@@ -1,25 +1,37 @@
 //! The workers' lists of ready nodes.
 ghost use Rattle.std.specs.Prelude.{◌≡◌, ◌<◌, ℕ, length, IfOk, IfErr, IsTrue, ◌↔◌, ◌++◌, ◌∷◌, []};
 ghost use Rattle.batcher_core.specs.State.{put};
-ghost use Rattle.batcher_core.specs.Lists.{without};
-ghost use Rattle.batcher_core.specs.Shown.{queues, IsNewest, IsOldest, IsAtEnd};
+ghost use Rattle.batcher_core.specs.Lists.{without, one_if_filled as one_if_has_node};
+ghost use Rattle.batcher_core.specs.Shown.{queues, filled_in, IsNewest, IsOldest, IsAtEnd};
 
 use std::alloc::AllocError;
 use std::collections::VecDeque;
 
-/// Puts a node at the newest end of a worker's list.
+/// 1 for a list that has a node.
+fn one_if_filled(list: &VecDeque<u32>) -> usize
+    ensures { result ≡ one_if_has_node list.now.items }
+{
+    if list.is_empty() { 0 } else { 1 }
+}
+
+/// Puts a node at the newest end of a worker's list, and keeps count of the lists that have a node.
 pub(crate) fn push_ready(
     ready: &mut Vec<VecDeque<u32>>,
+    filled: &mut usize,
     worker: u32,
     node: u32,
 ) -> Result<(), AllocError>
-    requires { worker < length ready.old.items }
+    requires worker_in { worker < length ready.old.items }
+    requires filled { filled.old ≡ filled_in ready.old.items }
     ensures len { length ready.new.items ≡ length ready.old.items }
     ensures done { IfOk result (λ _. queues ready.new.items ≡ put (queues ready.old.items) worker (queues ready.old.items worker ++ node ∷ [])) }
+    ensures filled { IfOk result (λ _. filled.new ≡ filled_in ready.new.items) }
     ensures unchanged { IfErr result (λ _. queues ready.new.items ≡ queues ready.old.items) }
 {
     let list = &mut ready[worker as usize];
+    let before = one_if_filled(list);
     list.push_back(node)?;
+    *filled = *filled - before + one_if_filled(list);
     Ok(())
 }
 
@@ -55,13 +67,19 @@ fn drop_node(list: &mut VecDeque<u32>, node: u32)
     }
 }
 
-/// Takes a node out of the lists, where it stands at an end of one of them.
-pub(crate) fn drop_ready(ready: &mut Vec<VecDeque<u32>>, node: u32)
+/// Takes a node out of the lists, where it stands at an end of one of them, and keeps count of the lists that have
+/// a node.
+pub(crate) fn drop_ready(ready: &mut Vec<VecDeque<u32>>, filled: &mut usize, node: u32)
     requires at_ends { (v : ℕ) → IsAtEnd node (queues ready.old.items v) }
+    requires filled { filled.old ≡ filled_in ready.old.items }
     ensures len { length ready.new.items ≡ length ready.old.items }
     ensures lists { queues ready.new.items ≡ λ v. without node (queues ready.old.items v) }
+    ensures filled { filled.new ≡ filled_in ready.new.items }
 {
     for worker in 0..ready.len() {
-        drop_node(&mut ready[worker], node);
+        let list = &mut ready[worker];
+        let before = one_if_filled(list);
+        drop_node(list, node);
+        *filled = *filled - before + one_if_filled(list);
     }
 }

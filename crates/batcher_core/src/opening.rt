@@ -1,7 +1,7 @@
 //! The table of the opening state.
 ghost use Rattle.std.specs.Prelude.{◌≡◌, ◌<◌, ℕ, length, IfOk, replicate, []};
 ghost use Rattle.batcher_core.specs.State.{opening_state, opening_core};
-ghost use Rattle.batcher_core.specs.Shown.{state_of, ready_of, queues, at, Sizes};
+ghost use Rattle.batcher_core.specs.Shown.{state_of, ready_of, queues, filled_in, at, Sizes, FilledFits};
 ghost use Rattle.batcher_core.specs.declared.progress.Progress.TheVariants.{Waiting};
 
 use crate::lists::push_ready;
@@ -48,15 +48,17 @@ fn empty_lists(alloc: Global, workers: u32) -> Result<Vec<VecDeque<u32>>, AllocE
     Ok(lists)
 }
 
-/// The lists, of which that of worker 0 has the root.
-fn opening_lists(alloc: Global, workers: u32) -> Result<Vec<VecDeque<u32>>, AllocError>
+/// The lists, of which that of worker 0 has the root, and how many have a node.
+fn opening_lists(alloc: Global, workers: u32) -> Result<(Vec<VecDeque<u32>>, usize), AllocError>
     requires { 0 < workers }
-    ensures len { IfOk result (λ v. length v.items ≡ workers) }
-    ensures items { IfOk result (λ v. queues v.items ≡ opening_core.ready) }
+    ensures len { IfOk result (λ v. length v.0.items ≡ workers) }
+    ensures items { IfOk result (λ v. queues v.0.items ≡ opening_core.ready) }
+    ensures filled { IfOk result (λ v. v.1 ≡ filled_in v.0.items) }
 {
     let mut lists = empty_lists(alloc, workers)?;
-    push_ready(&mut lists, 0, 0)?;
-    Ok(lists)
+    let mut filled = 0;
+    push_ready(&mut lists, &mut filled, 0, 0)?;
+    Ok((lists, filled))
 }
 
 impl Table {
@@ -67,7 +69,9 @@ impl Table {
         ensures sizes { IfOk result (λ t. Sizes t nodes workers) }
         ensures state { IfOk result (λ t. state_of t ≡ opening_state) }
         ensures lists { IfOk result (λ t. ready_of t ≡ opening_core.ready) }
+        ensures filled { IfOk result FilledFits }
     {
+        let (ready, filled) = opening_lists(alloc, workers)?;
         Ok(Table {
             nodes: opening_nodes(alloc, nodes)?,
             marks: copies(alloc, 0, nodes)?,
@@ -75,7 +79,8 @@ impl Table {
             tasks: copies(alloc, Task::Idle, workers)?,
             statuses: copies(alloc, Status::Free, workers)?,
             calls: copies(alloc, CallState::NotCalled, workers)?,
-            ready: opening_lists(alloc, workers)?,
+            ready,
+            filled,
             hold: None,
             tick: 0,
             history: History::new(alloc),

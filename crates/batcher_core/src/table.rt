@@ -30,6 +30,8 @@ pub struct Table {
     pub(crate) calls: Vec<CallState>,
     /// The ready nodes of each worker, the oldest first.
     pub(crate) ready: Vec<VecDeque<u32>>,
+    /// How many of these lists have a node.
+    pub(crate) filled: usize,
     /// What the worker that has the flag keeps, if one has it.
     pub(crate) hold: Option<Hold>,
     /// The tick that the next start or end of a leaf draws.

@@ -1,8 +1,12 @@
-use Rattle.std.proofs.Common.{◌<◌, ◌+◌, ◌%◌, length, refl, arith}
+use Rattle.std.proofs.Common.{◌<◌, ◌+◌, ◌%◌, length, refl, sym, ◌∙◌, arith}
 use Rattle.batcher_core.specs.Shown.{queues}
 use Rattle.batcher_core.proofs.Written.{queues_at}
 use Rattle.batcher_core.proofs.Steals.{newest_claim, found, passed, nothing, false_true}
+use Rattle.batcher_core.proofs.Filled.{none_to_claim}
 use Rattle.batcher_core.proofs.table.Table.choose_claim.Goals as goal
+
+pub returns-then-self-eq0 : goal.returns-then-self-eq0
+returns-then-self-eq0 c = none_to_claim _ c.args.self.now.ready.items c.args.workers c.args.worker (sym c.requires.filled ∙ c.if-self-eq0.true)
 
 pub returns-in-Some : goal.returns-in-Some
 returns-in-Some c =

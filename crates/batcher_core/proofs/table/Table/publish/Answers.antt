@@ -1,9 +1,5 @@
 use Rattle.std.proofs.Common.{refl}
-use Rattle.batch_history.specs.declared.batch.Entry.{Entry}
-use Rattle.batcher_core.specs.State.{core_job}
-use Rattle.batcher_core.specs.Batches.{AreTakenCalls}
-use Rattle.batcher_core.specs.declared.task.Task.TheVariants.{Idle}
-use Rattle.batcher_core.specs.Shown.{at, state_of, ready_of}
+use Rattle.batcher_core.specs.Shown.{state_of, ready_of}
 use Rattle.batcher_core.proofs.CoreFits.{looks}
 use Rattle.batcher_core.proofs.BookRoom.{counter_grows}
 use Rattle.batcher_core.proofs.Publishing.{at_call, room, is_batch, is_history, no_hold}
@@ -52,6 +48,7 @@ returns-clause-sizes c =
       ready_same = refl;
       counter_same = λ most. rw (c.in_ok-append.ensures.ok, c.of.ensures)
           (counter_grows c.args.self.now.history c.in_ok-calls.calls.items c.in_ok-entries.entries.items c.args.self.now.objects c.serve_all.new.objects are grown most);
+      filled_same = λ filled. filled;
     }
 
 pub returns-clause-event : goal.returns-clause-event

@@ -143,6 +143,13 @@ impl Core {
         }
     }
 
+    /// How many workers it has.
+    pub fn workers(&self) -> u32
+        ensures { result ≡ self.now.workers }
+    {
+        self.workers
+    }
+
     /// Whether the root is done, in a core that is not spent. It takes no memory.
     pub fn is_over(&self) -> bool
         ensures { result ≡ is_over_in self.now }

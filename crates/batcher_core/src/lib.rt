@@ -45,4 +45,6 @@ pub use task::Task;
 pub use turn::Turn;
 
 #[cfg(test)]
+mod driving_tests;
+#[cfg(test)]
 mod tests;

@@ -82,3 +82,5 @@ pub mod RowOrder
 pub mod RowCalls
 pub mod ReportLawful
 pub mod MadeRows
+pub mod TurnsTaken
+pub mod RoundTurns

@@ -32,7 +32,7 @@ abbrev OverOr : CoreJob → CoreState → List ℕ → ℕ → CoreState → Typ
 OverOr job s schedule robin last =
     ((is_done (s.state.node 0) ≡ true) × (last ≡ s)) ⊎ ((is_done (s.state.node 0) ≡ false) × GoesOn job s schedule robin last)
 
-over_or : (job : CoreJob) (s last : CoreState) (schedule : List ℕ) (robin : ℕ) → Drives job s schedule robin last → OverOr job s schedule robin last
+pub over_or : (job : CoreJob) (s last : CoreState) (schedule : List ℕ) (robin : ℕ) → Drives job s schedule robin last → OverOr job s schedule robin last
 over_or job s last schedule robin (over done) = inl (done, refl)
 over_or job s last schedule robin (by_schedule {next = next} going turn drives) = inr (going, (next, turn, drives))
 over_or job s last schedule robin (by_robin {next = next} going turn drives) = inr (going, (next, turn, drives))

@@ -1,11 +1,15 @@
 -- The report of a state: a row for each leaf, with what the state has of its node, and the book.
-use Rattle.std.specs.Prelude.{ℕ, ◌≡◌, Option, Some, map}
+use Rattle.std.specs.Prelude.{ℕ, ◌≡◌, Option, None, Some, List, [], map}
 use Rattle.std.specs.List.{AllByRecursion, range_with_len}
+use Rattle.seq_objects.specs.declared.act.Act.{Act}
+use Rattle.sp_order.specs.Precedence.{Tree, leaves}
+use Rattle.sp_order.specs.Jobs.{JobValue}
 use Rattle.batch_history.specs.declared.row.Row.{Row}
 use Rattle.batch_history.specs.declared.report.Report.{Report}
 use Rattle.batcher_core.specs.declared.progress.Progress.{Progress}
 use Rattle.batcher_core.specs.declared.progress.Progress.TheVariants.{Ran}
-use Rattle.batcher_core.specs.State.{CoreJob, State}
+use Rattle.batcher_core.specs.State.{CoreJob, State, CoreState, core_job, opening_core}
+use Rattle.batcher_core.specs.Runs.{Drives}
 
 -- a leaf has run that has come so far
 abbrev pub HasRun : Progress → Type 0
@@ -30,3 +34,17 @@ pub record IsReportOf (job : CoreJob) (leaf_total : ℕ) (s : State) (report : R
   pub leaves : map (λ row. row.leaf) report.rows ≡ range_with_len 0 leaf_total
   pub rows : AllByRecursion (IsRowOf job s) report.rows
   pub history : report.history ≡ s.book
+
+-- the report is that of the state to which the schedule, and then all workers round robin, drive this state
+pub record IsDrivenFrom (job : CoreJob) (leaf_total : ℕ) (first : CoreState) (schedule : List ℕ) (report : Report) : Type 0 where
+  pub last : CoreState
+  pub drives : Drives job first schedule 0 last
+  pub reports : IsReportOf job leaf_total last.state report
+
+abbrev pub IsDrivenShape : Option Tree → List Act → ℕ → List ℕ → Report → Type 0
+IsDrivenShape None acts workers schedule report = report ≡ record { workers = workers; history = []; rows = [] }
+IsDrivenShape (Some tree) acts workers schedule report = IsDrivenFrom (core_job tree acts workers) (leaves tree) opening_core schedule report
+
+-- the report of a job that a schedule drives from its opening state. That of a job without leaves has no rows and no batches
+abbrev pub IsDrivenReport : JobValue → ℕ → List ℕ → Report → Type 0
+IsDrivenReport job workers schedule report = IsDrivenShape job.shape job.acts workers schedule report

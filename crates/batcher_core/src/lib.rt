@@ -8,6 +8,7 @@
 mod apply;
 mod choose;
 mod choose_gate;
+pub mod driving;
 pub mod event;
 mod gate;
 mod gather;
@@ -32,6 +33,7 @@ pub mod turn;
 pub mod turn_laws;
 pub mod wait_laws;
 
+pub use driving::drive;
 pub use event::Event;
 pub use hold::Hold;
 pub use progress::Progress;
@@ -42,5 +44,7 @@ pub use table::Table;
 pub use task::Task;
 pub use turn::Turn;
 
+#[cfg(test)]
+mod driving_tests;
 #[cfg(test)]
 mod tests;

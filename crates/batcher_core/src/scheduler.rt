@@ -7,7 +7,7 @@ ghost use Rattle.batcher_core.specs.Choice.{choice};
 ghost use Rattle.sp_order.specs.Precedence.{leaves};
 ghost use Rattle.batch_history.specs.Lawful.{Lawful};
 ghost use Rattle.batcher_core.specs.Reports.{IsReportOf};
-ghost use Rattle.batcher_core.specs.Cores.{job_in, state_in, due_in, turn_due, is_over_in, Makes};
+ghost use Rattle.batcher_core.specs.Cores.{job_in, state_in, due_in, turn_due, is_over_in, Makes, Fits};
 
 use crate::event::Event;
 use crate::laws::kept_parts_hold;
@@ -35,7 +35,7 @@ pub struct Core {
 }
 
 impl Model for Core {
-    ghost use Rattle.std.specs.Prelude.{◌≡◌, false};
+    ghost use Rattle.std.specs.Prelude.{◌≡◌, ◌<◌, false};
     ghost use Rattle.std.specs.Coded.{codes};
     ghost use Rattle.sp_order.specs.TreeCode.{coded_tree};
     ghost use Rattle.batcher_core.specs.Cores.{Seen, Fits};
@@ -46,7 +46,7 @@ impl Model for Core {
 
     ghost view = { λ c. record { tree = c.plan; acts = c.acts.items; workers = c.workers; table = c.table; spent = c.spent } };
 
-    ghost invariant = { λ c. c.spent ≡ false → Fits c.plan c.acts.items c.workers c.table };
+    ghost invariant = { λ c. (0 < c.workers) × (c.spent ≡ false → Fits c.plan c.acts.items c.workers c.table) };
 }
 
 /// The value of the work that was done, or 0 where none was.
@@ -141,6 +141,21 @@ impl Core {
                 Err(error)
             }
         }
+    }
+
+    /// How many workers it has.
+    pub fn workers(&self) -> u32
+        ensures workers { result ≡ self.now.workers }
+        ensures some { 0 < result }
+    {
+        self.workers
+    }
+
+    /// What a core keeps to that is not spent.
+    pub(crate) fn stands(&self)
+        ensures { self.now.spent ≡ false → Fits self.now.tree self.now.acts self.now.workers self.now.table }
+    {
+        let _ = &self.spent;
     }
 
     /// Whether the root is done, in a core that is not spent. It takes no memory.

@@ -1,5 +1,5 @@
 -- What follows from the cause of a status and from its report.
-use Rattle.std.proofs.Common.{◌≡◌, ℕ, ◌<◌, ◌≤◌, List, length, Bool, Option, Some, None, IsNone, inl, inr, refl, sym, ap, subst, ◌∙◌, arith}
+use Rattle.std.proofs.Common.{◌≡◌, ℕ, ◌<◌, ◌≤◌, List, [], length, Bool, Option, Some, None, IsNone, inl, inr, refl, sym, ap, subst, ◌∙◌, arith}
 use Rattle.std.specs.Prelude.{IsTrue}
 use Rattle.std.proofs.lemmas.List.{length-map}
 use Rattle.std.proofs.lemmas.List.FromFn.{length-range_with_len}
@@ -8,9 +8,10 @@ use Rattle.sp_order.specs.Jobs.{JobValue}
 use Rattle.batch_history.specs.Lawful.{HasRows, Lawful}
 use Rattle.batch_history.specs.declared.row.Row.{Row}
 use Rattle.batch_history.specs.declared.report.Report.{Report}
+use Rattle.batcher_core.specs.Reports.{IsDrivenReport}
 use Rattle.batchrun.specs.Words.{Command}
 use Rattle.batchrun.specs.Language.{IsJobOf, IsFaultOf}
-use Rattle.batchrun.specs.Outcomes.{WasRead, HasRun, Headline, HasCause, IsAssured, FailsPast}
+use Rattle.batchrun.specs.Outcomes.{WasRead, HasRun, HasDriven, Headline, HasCause, IsAssured, FailsPast}
 use Rattle.batchrun.specs.declared.fault.JobFault.{JobFault}
 use Rattle.batchrun.specs.declared.fault.JobFault.TheVariants.{Byte, Grammar, Number, Nesting, Leaves, Argument}
 use Rattle.batchrun.specs.declared.status.Refusal.TheVariants.{TooLong, Job}
@@ -22,6 +23,14 @@ use Rattle.batchrun.proofs.Deriving.{one_job}
 pub rows_count : (job : JobValue) (workers : ℕ) (report : Report) → HasRows job workers report → length report.rows ≡ leaf_count job.shape
 rows_count job workers report rows =
     sym (length-map report.rows (λ (row : Row). row.leaf)) ∙ ap length rows.leaves ∙ length-range_with_len 0 (leaf_count job.shape)
+
+-- what a run does with the bytes that it read
+pub has_driven : (held : Option (List ℕ)) (workers : ℕ) (bytes : List ℕ) (job : JobValue) (report : Report) → WasRead held bytes → IsJobOf bytes job → Lawful job workers report → IsDrivenReport job workers [] report
+    → HasDriven held workers report
+has_driven held workers bytes job report read accepted lawful driven = record {
+  run = record { bytes = bytes; read = read; job = job; accepted = accepted; lawful = lawful };
+  driven = driven;
+}
 
 -- the bytes that were read are those that are held
 same_bytes : (held : Option (List ℕ)) (told bytes : List ℕ) → WasRead held bytes → held ≡ Some told → bytes ≡ told

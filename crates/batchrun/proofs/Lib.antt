@@ -1,13 +1,10 @@
 pub mod Numbers
+pub mod Counts
 pub mod Writing
 pub mod Running
 pub mod Deriving
 pub mod Opened
 pub mod Joining
 pub mod Fronts
-pub mod Ranges
-pub mod SerialRows
-pub mod SerialBook
-pub mod SerialRun
 pub mod Ends
 pub mod InMemory

@@ -6,6 +6,7 @@ pub use Rattle.sp_order.specs.Jobs
 pub use Rattle.batch_history.specs.Book
 pub use Rattle.batch_history.specs.Lawful
 pub use Rattle.batch_history.specs.Text
+pub use Rattle.batcher_core.specs.Reports
 pub mod Words
 pub mod Tokens
 pub mod Joins
@@ -15,4 +16,3 @@ pub mod Steps
 pub mod Blocks
 pub mod Lines
 pub mod Outcomes
-pub mod Serial

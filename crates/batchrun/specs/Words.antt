@@ -1,6 +1,8 @@
 -- The command line.
-use Rattle.std.specs.Prelude.{ℕ, ◌&&◌, if◌then◌else◌, List, [], ◌∷◌, codes, map, Option, None, Some, string_bytes}
+use Rattle.std.specs.Prelude.{ℕ, zero, suc, ◌&&◌, not, if◌then◌else◌, List, [], ◌∷◌, codes, map, Option, None, Some, string_bytes}
+use Rattle.std.specs.Option.{option_map}
 use Rattle.std.specs.Str.{bytes_eq}
+use Rattle.std.specs.Fmt.{decimal}
 use Rattle.std.specs.declared.string.String.{String}
 use Rattle.std.specs.declared.alloc.Global.{Global}
 
@@ -8,10 +10,15 @@ use Rattle.std.specs.declared.alloc.Global.{Global}
 pub data Command : Type 0 where
   step : (file : List ℕ) → (workers : ℕ) → Command
 
--- `step - 1` is the one command
+-- the number from 1 to the most that the word writes in decimal, if it writes one
+abbrev pub number_up_to : ℕ → List ℕ → Option ℕ
+number_up_to zero word = None
+number_up_to (suc fewer) word = if bytes_eq word (decimal (suc fewer)) then Some (suc fewer) else number_up_to fewer word
+
+-- The commands are `step FILE WORKERS`. A file has a name; there are 1 to 32 workers.
 abbrev pub command_of : List (List ℕ) → Option Command
 command_of (name ∷ file ∷ workers ∷ []) =
-    if bytes_eq name (codes "step") && bytes_eq file (codes "-") && bytes_eq workers (codes "1") then Some (step file 1) else None
+    if bytes_eq name (codes "step") && not (bytes_eq file []) then option_map (step file) (number_up_to 32 workers) else None
 command_of _ = None
 
 -- the bytes of the words

@@ -16,7 +16,7 @@ pub mod number;
 pub mod outcome;
 pub mod piece;
 pub mod reader;
-pub mod serial;
+pub mod run;
 pub mod status;
 pub mod tell;
 #[cfg(test)]

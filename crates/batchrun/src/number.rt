@@ -18,7 +18,7 @@ fn begins_plain(token: &[u8]) -> bool
 }
 
 /// The number that a token writes in decimal, if it is below 2^32 and has no leading zeros.
-fn number_in(token: &[u8]) -> Option<u32>
+pub(crate) fn number_in(token: &[u8]) -> Option<u32>
     ensures some { IfSome result (λ number. token.now ≡ decimal number) }
     ensures none { IfNone result ((number : ℕ) → number < 2 ^ 32 → token.now ≡ decimal number → ⊥) }
 {

@@ -13,7 +13,7 @@ use std::sync::Wait;
 use std::test::Fail;
 use std::thread::Threads;
 
-/// What a run is given: its words, the bytes of standard input, and what its shelf and its sinks do with them.
+/// What a run is given: its words, the bytes of the file that they name, and what its shelf and its sinks do with them.
 #[derive(Drop)]
 struct Given<'a> {
     words: &'a [&'a str],
@@ -53,8 +53,9 @@ fn run<R: Threads + Wait + Sync>(rt: &R, alloc: Global, given: &Given) -> Result
     for word in given.words {
         words.push(word.to_string(alloc)?)?;
     }
+    let file = given.words.get(1).unwrap_or(&"-");
     let mut files = Vec::new(alloc);
-    files.push(("-".to_string(alloc)?, given.text.to_vec(alloc)?))?;
+    files.push((file.to_string(alloc)?, given.text.to_vec(alloc)?))?;
     let mut shelf = MemShelf::make(files, given.read_cut, given.read_fails.to_vec(alloc)?);
     let mut out = MemSink::make(
         alloc,
@@ -81,23 +82,27 @@ const NOT_IN_THE_GRAMMAR: Status = Status::Refused(Refusal::Job(JobFault::Gramma
 
 #[test]
 fn worked_jobs_print_their_reports(rt: HostRuntime) -> Result<(), Fail> {
-    let jobs: [(&[u8], &[u8]); 8] = [
-        (b"", b"workers 1 leaves 0 calls 0 batches 0\n"),
+    let jobs: [(&'static str, &[u8], &[u8]); 10] = [
+        ("1", b"", b"workers 1 leaves 0 calls 0 batches 0\n"),
         (
+            "1",
             b"counter add 5",
             b"workers 1 leaves 1 calls 1 batches 1\n\
 batch 0 place 0 worker 0 leaf 0 counter add 5 -> 5\n\
 leaf 0 worker 0 start 0 end 1 value 5\n",
         ),
         (
+            "1",
             b"work 3",
             b"workers 1 leaves 1 calls 0 batches 0\nleaf 0 worker 0 start 0 end 1 value 406\n",
         ),
         (
+            "1",
             b"work 0",
             b"workers 1 leaves 1 calls 0 batches 0\nleaf 0 worker 0 start 0 end 1 value 0\n",
         ),
         (
+            "1",
             b"counter add 4294967295\nwork 1\tcounter add 1\r\n",
             b"workers 1 leaves 3 calls 2 batches 2\n\
 batch 0 place 0 worker 0 leaf 0 counter add 4294967295 -> 4294967295\n\
@@ -107,23 +112,47 @@ leaf 1 worker 0 start 2 end 3 value 6\n\
 leaf 2 worker 0 start 4 end 5 value 4294967296\n",
         ),
         (
+            "1",
             b"par {} seq {} work 0",
             b"workers 1 leaves 1 calls 0 batches 0\nleaf 0 worker 0 start 0 end 1 value 0\n",
         ),
         (
+            "1",
             b"par {} seq {} work 3",
             b"workers 1 leaves 1 calls 0 batches 0\nleaf 0 worker 0 start 0 end 1 value 406\n",
         ),
         (
+            "1",
             b"par{counter add 5 seq{work 1}}",
             b"workers 1 leaves 2 calls 1 batches 1\n\
 batch 0 place 0 worker 0 leaf 0 counter add 5 -> 5\n\
 leaf 0 worker 0 start 0 end 1 value 5\n\
 leaf 1 worker 0 start 2 end 3 value 6\n",
         ),
+        (
+            "32",
+            b"counter add 5",
+            b"workers 32 leaves 1 calls 1 batches 1\n\
+batch 0 place 0 worker 0 leaf 0 counter add 5 -> 5\n\
+leaf 0 worker 0 start 0 end 1 value 5\n",
+        ),
+        // Worker 0 opens the right side first. Worker 1 claims it, starts first, and takes both calls into its batch.
+        (
+            "2",
+            b"par { counter add 1 counter add 2 }",
+            b"workers 2 leaves 2 calls 2 batches 1\n\
+batch 0 place 0 worker 0 leaf 0 counter add 1 -> 1\n\
+batch 0 place 1 worker 1 leaf 1 counter add 2 -> 3\n\
+leaf 0 worker 0 start 1 end 2 value 1\n\
+leaf 1 worker 1 start 0 end 3 value 3\n",
+        ),
     ];
-    for (text, printed) in jobs {
-        let ran = run(&rt, rt.alloc(), &unhindered(&STEP, text))?;
+    for (workers, text, printed) in jobs {
+        let ran = run(
+            &rt,
+            rt.alloc(),
+            &unhindered(&["step", "a.job", workers], text),
+        )?;
         assert_eq!(rt; ran.outcome.status, Status::Done);
         assert!(rt; ran.outcome.report.is_some());
         assert_eq!(rt; ran.out.bytes(), printed);
@@ -457,7 +486,7 @@ fn a_file_has_at_most_1048576_bytes(rt: HostRuntime) -> Result<(), Fail> {
 
 #[test]
 fn other_words_are_a_wrong_use(rt: HostRuntime) -> Result<(), Fail> {
-    let uses: [&'static [&'static str]; 16] = [
+    let uses: [&'static [&'static str]; 20] = [
         &[],
         &["step"],
         &["step", "-"],
@@ -467,6 +496,10 @@ fn other_words_are_a_wrong_use(rt: HostRuntime) -> Result<(), Fail> {
         &["step", "-", "+1"],
         &["step", "-", "2", "02"],
         &["step", "-", "1", ""],
+        &["step", "-", "1", "0"],
+        &["step", "-", ""],
+        &["step", "-", "1 "],
+        &["step", "-", "4294967297"],
         &["step", "", "1"],
         &["Step", "-", "1"],
         &["run", "-", "2", "01"],

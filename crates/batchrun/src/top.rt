@@ -1,15 +1,15 @@
 //! The whole program: from words and a shelf to what is printed.
-ghost use Rattle.std.specs.Prelude.{◌≡◌, ◌↔◌, ◌≤◌, Err, IsSome, IsNone, IfOk, IfErr, IfSome, IsTrue};
+ghost use Rattle.std.specs.Prelude.{◌≡◌, ◌↔◌, ◌<◌, ◌≤◌, Err, IsSome, IsNone, IfOk, IfErr, IfSome, IsTrue};
 ghost use Rattle.std.specs.Option.{ForSome};
 ghost use Rattle.bt_io.specs.Causes.{Rose};
 ghost use Rattle.batchrun.specs.Words.{command_of, spelled, file_of, workers_of};
 ghost use Rattle.batchrun.specs.Lines.{fault_line};
-ghost use Rattle.batchrun.specs.Outcomes.{WasRead, HasRun, Headline, HasCause, Completes, IsAssured, Tells, StopsReading, FailsPast};
+ghost use Rattle.batchrun.specs.Outcomes.{WasRead, HasRun, HasDriven, Headline, HasCause, Completes, IsAssured, Tells, StopsReading, FailsPast};
 
 use crate::command::step_of;
 use crate::outcome::Outcome;
 use crate::reader::{JobErr, read_job};
-use crate::serial;
+use crate::run::run_by_turns;
 use crate::status::{Refusal, Status};
 use crate::tell::tell;
 use batch_history::text;
@@ -41,9 +41,18 @@ fn read_file<I: Shelf>(alloc: Global, shelf: &mut I, file: &str) -> Result<Vec<u
 }
 
 /// Runs the job of a file, and writes its report.
-fn step<I: Shelf, O: Sink>(alloc: Global, file: &str, shelf: &mut I, out: &mut O) -> Outcome
-    requires { IsTrue (I.may shelf.old file.now) }
-    ensures headline { Headline (HasRun (I.held shelf.old file.now) 1) result.status result.report (O.taken out.old) (O.taken out.new) }
+fn step<I: Shelf, O: Sink>(
+    alloc: Global,
+    file: &str,
+    workers: u32,
+    shelf: &mut I,
+    out: &mut O,
+) -> Outcome
+    requires may { IsTrue (I.may shelf.old file.now) }
+    requires some_workers { 0 < workers }
+    requires few_workers { workers ≤ 32 }
+    ensures headline { Headline (HasRun (I.held shelf.old file.now) workers) result.status result.report (O.taken out.old) (O.taken out.new) }
+    ensures driven { IfSome result.report (HasDriven (I.held shelf.old file.now) workers) }
     ensures cause { HasCause result.status (I.held shelf.old file.now) (Rose (I.faults shelf.old) (I.faults shelf.new)) (Rose (O.faults out.old) (O.faults out.new)) }
     ensures reads { IsTrue (I.never_fails shelf.old) → IsSome (I.held shelf.old file.now) → result.status ≡ Status.ReadFault → ⊥ }
     ensures writes { FailsPast result.status result.report (O.sure out.old) }
@@ -57,7 +66,7 @@ fn step<I: Shelf, O: Sink>(alloc: Global, file: &str, shelf: &mut I, out: &mut O
         Err(JobErr::Bad(fault)) => return Outcome::stopped(Status::Refused(Refusal::Job(fault))),
         Err(JobErr::Memory) => return Outcome::stopped(Status::Memory),
     };
-    let Ok(report) = serial::run(alloc, &job) else {
+    let Ok(report) = run_by_turns(alloc, &job, workers) else {
         return Outcome::stopped(Status::Memory);
     };
     let Ok(lines) = text(alloc, &job, &report) else {
@@ -90,6 +99,7 @@ pub fn run_step<I: Shelf, O: Sink, E: Sink>(
 
     ensures headline { Headline (λ report. ForSome (command_of (spelled words.now)) (λ c. HasRun (I.held shelf.old (file_of c)) (workers_of c) report))
         result.status result.report (O.taken out.old) (O.taken out.new) }
+    ensures driven { IfSome result.report (λ report. ForSome (command_of (spelled words.now)) (λ c. HasDriven (I.held shelf.old (file_of c)) (workers_of c) report)) }
     ensures cause { ForSome (command_of (spelled words.now)) (λ c. HasCause result.status (I.held shelf.old (file_of c))
         (Rose (I.faults shelf.old) (I.faults shelf.new)) (Rose (O.faults out.old) (O.faults out.new))) }
     ensures completes { ForSome (command_of (spelled words.now)) (λ c. Completes result.status (I.held shelf.old (file_of c))
@@ -101,7 +111,7 @@ pub fn run_step<I: Shelf, O: Sink, E: Sink>(
     let Some(command) = step_of(words) else {
         unreachable!();
     };
-    let outcome = step(alloc, command.file, shelf, out);
+    let outcome = step(alloc, command.file, command.workers, shelf, out);
     tell(err, outcome.status);
     outcome
 }
@@ -122,6 +132,7 @@ pub fn batchrun<R: Threads + Wait + Sync, I: Shelf, O: Sink, E: Sink, G: Pause +
 
     ensures headline { Headline (λ report. ForSome (command_of (spelled words.now)) (λ c. HasRun (I.held shelf.old (file_of c)) (workers_of c) report))
         result.status result.report (O.taken out.old) (O.taken out.new) }
+    ensures driven { IfSome result.report (λ report. ForSome (command_of (spelled words.now)) (λ c. HasDriven (I.held shelf.old (file_of c)) (workers_of c) report)) }
     ensures usage { (result.status ≡ Status.Usage) ↔ IsNone (command_of (spelled words.now)) }
     ensures cause { ForSome (command_of (spelled words.now)) (λ c. HasCause result.status (I.held shelf.old (file_of c))
         (Rose (I.faults shelf.old) (I.faults shelf.new)) (Rose (O.faults out.old) (O.faults out.new))) }

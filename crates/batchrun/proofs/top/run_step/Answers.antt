@@ -4,12 +4,12 @@ use Rattle.batchrun.specs.Outcomes.{IsAssured}
 use Rattle.batchrun.proofs.Ends.{is_assured}
 use Rattle.batchrun.proofs.top.run_step.Goals as goal
 
-pub step-outcome-requires : goal.step-outcome-requires
-step-outcome-requires g c = c.requires.may (step c.in-Some.command.file.now c.in-Some.command.workers) c.in-Some.ensures.some
+pub step-outcome-requires-clause-may : goal.step-outcome-requires-clause-may
+step-outcome-requires-clause-may g c = c.requires.may (step c.in-Some.command.file.now c.in-Some.command.workers) c.in-Some.ensures.some
 
 pub returns-clause-assured : goal.returns-clause-assured
 returns-clause-assured g c command is =
-    let same : step c.in-Some.command.file.now 1 ≡ command = search rules in
+    let same : step c.in-Some.command.file.now c.in-Some.command.workers ≡ command = search rules in
     subst (λ (d : Command). IsAssured c.step-outcome.result.status (g.I.Shelf.held c.args.shelf.now (file_of d)) (workers_of d) (g.I.Shelf.never_fails c.args.shelf.now) (g.O.Sink.sure c.args.out.now)) same
-    (is_assured c.step-outcome.result.status c.step-outcome.result.report (g.I.Shelf.held c.args.shelf.now c.in-Some.command.file.now) 1 _ _ _ _ (g.I.Shelf.never_fails c.args.shelf.now) (g.O.Sink.sure c.args.out.now)
+    (is_assured c.step-outcome.result.status c.step-outcome.result.report (g.I.Shelf.held c.args.shelf.now c.in-Some.command.file.now) c.in-Some.command.workers _ _ _ _ (g.I.Shelf.never_fails c.args.shelf.now) (g.O.Sink.sure c.args.out.now)
     c.step-outcome.ensures.cause c.step-outcome.ensures.headline (λ never told held. c.step-outcome.ensures.reads never (search rules)) c.step-outcome.ensures.writes)

@@ -9,7 +9,7 @@ pub rows_of-requires-clause-ran : goal.rows_of-requires-clause-ran
 unfolding state_of
 rows_of-requires-clause-ran c =
     let over = over_is _ _ (rw (← c.self.view_is) at c.requires) in
-    let fits = c.self.invariant over.0 in
+    let fits = c.self.invariant.1 over.0 in
     let job = core_job c.self.inside.plan c.self.inside.acts.items c.self.inside.workers in
     let parts = c.kept_parts_hold.ensures job (state_of c.self.inside.table) fits.parts in
     let all : c.len-leaf_total.result ≡ leaves c.self.inside.plan = c.len-leaf_total.ensures ∙ c.self.inside.acts.ok.0 ∙ sym fits.leaves in
@@ -20,7 +20,7 @@ pub rows_of-requires-clause-valued : goal.rows_of-requires-clause-valued
 unfolding state_of
 rows_of-requires-clause-valued c =
     let over = over_is _ _ (rw (← c.self.view_is) at c.requires) in
-    let fits = c.self.invariant over.0 in
+    let fits = c.self.invariant.1 over.0 in
     let job = core_job c.self.inside.plan c.self.inside.acts.items c.self.inside.workers in
     let parts = c.kept_parts_hold.ensures job (state_of c.self.inside.table) fits.parts in
     let all : c.len-leaf_total.result ≡ leaves c.self.inside.plan = c.len-leaf_total.ensures ∙ c.self.inside.acts.ok.0 ∙ sym fits.leaves in
@@ -30,7 +30,7 @@ rows_of-requires-clause-valued c =
 pub returns-clause-report : goal.returns-clause-report
 returns-clause-report c =
     let over = over_is _ _ (rw (← c.self.view_is) at c.requires) in
-    let fits = c.self.invariant over.0 in
+    let fits = c.self.invariant.1 over.0 in
     let all : c.len-leaf_total.result ≡ leaves c.self.inside.plan = c.len-leaf_total.ensures ∙ c.self.inside.acts.ok.0 ∙ sym fits.leaves in
     let order = rw all at c.in_ok-rows.ensures.leaves in
     let tell = rw (c.deref.ensures.value, c.deref-2.ensures.value) at c.in_ok-rows.ensures.rows in
@@ -39,7 +39,7 @@ returns-clause-report c =
 pub returns-clause-lawful : goal.returns-clause-lawful
 returns-clause-lawful c =
     let over = over_is _ _ (rw (← c.self.view_is) at c.requires) in
-    let fits = c.self.invariant over.0 in
+    let fits = c.self.invariant.1 over.0 in
     let job = core_job c.self.inside.plan c.self.inside.acts.items c.self.inside.workers in
     let parts = c.kept_parts_hold.ensures job (state_of c.self.inside.table) fits.parts in
     let is = rw (← c.self.view_is) at (returns-clause-report c) in

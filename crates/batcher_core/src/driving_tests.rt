@@ -1,0 +1,84 @@
+//! A block of two calls, driven to its end by two workers.
+ghost use Rattle.std.specs.Prelude.{◌≡◌, IfOk, Some, OnOk};
+
+use crate::{Core, drive};
+use batch_history::{Batch, Entry, Row};
+use seq_objects::{Act, Op, Reply};
+use sp_order::{Job, Shape};
+use std::alloc::{AllocError, Global};
+use std::test::Fail;
+
+/// A parallel block of two leaves: the left one adds 1 to the counter, and the right one adds 2.
+fn block_of_calls(alloc: Global) -> Result<Core, AllocError>
+    ensures { IfOk result (λ core. core.workers ≡ 2) }
+{
+    let shape = Shape::Par(Box::new(alloc, Shape::Leaf)?, Box::new(alloc, Shape::Leaf)?);
+    let acts = vec![in alloc; Act::Call(Op::CounterAdd(1)), Act::Call(Op::CounterAdd(2))]?;
+    Core::start(alloc, &Job::of(Some(shape), acts), 2)
+}
+
+/// The entry of a leaf that adds so much to the counter, and gets this value.
+fn entry(leaf: u32, worker: u32, addend: u32, value: u64) -> Entry {
+    Entry {
+        leaf,
+        worker,
+        op: Op::CounterAdd(addend),
+        reply: Reply::Number(value),
+    }
+}
+
+/// The row of a leaf.
+fn row(leaf: u32, worker: u32, start: u64, end: u64, value: u64) -> Row {
+    Row {
+        leaf,
+        worker,
+        start,
+        end,
+        value,
+    }
+}
+
+/// Whether these are batches of these entries.
+fn are_of(batches: &[Batch], entries: &[&[Entry]]) -> bool {
+    if batches.len() != entries.len() {
+        return false;
+    }
+    for number in 0..batches.len() {
+        if batches[number].entries() != entries[number] {
+            return false;
+        }
+    }
+    true
+}
+
+#[test]
+fn round_robin_makes_one_batch(rt: HostRuntime) -> Result<(), Fail> {
+    let report = drive(rt.alloc(), block_of_calls(rt.alloc())?, &[])?;
+    let batch = [entry(0, 0, 1, 1), entry(1, 1, 2, 3)];
+    assert!(rt; are_of(report.history.batches(), &[&batch]));
+    let rows = [row(0, 0, 1, 2, 1), row(1, 1, 0, 3, 3)];
+    assert!(rt; report.rows.list() == rows.as_slice());
+    Ok(())
+}
+
+#[test]
+fn the_thief_is_served_first(rt: HostRuntime) -> Result<(), Fail> {
+    let schedule = [0, 0, 1, 1, 1, 1, 1, 1, 1, 1, 1, 1, 1, 1, 1, 1, 0, 0];
+    let report = drive(rt.alloc(), block_of_calls(rt.alloc())?, &schedule)?;
+    let (first, second) = ([entry(1, 1, 2, 2)], [entry(0, 0, 1, 3)]);
+    assert!(rt; are_of(report.history.batches(), &[&first, &second]));
+    let rows = [row(0, 0, 2, 3, 3), row(1, 1, 0, 1, 2)];
+    assert!(rt; report.rows.list() == rows.as_slice());
+    Ok(())
+}
+
+#[test]
+fn a_call_that_comes_late_is_in_the_next_batch(rt: HostRuntime) -> Result<(), Fail> {
+    let schedule = [0, 0, 1, 0, 0, 0, 1, 0, 0, 0, 0, 1];
+    let report = drive(rt.alloc(), block_of_calls(rt.alloc())?, &schedule)?;
+    let (first, second) = ([entry(0, 0, 1, 1)], [entry(1, 1, 2, 3)]);
+    assert!(rt; are_of(report.history.batches(), &[&first, &second]));
+    let rows = [row(0, 0, 0, 2, 1), row(1, 1, 1, 3, 3)];
+    assert!(rt; report.rows.list() == rows.as_slice());
+    Ok(())
+}

@@ -1,0 +1,27 @@
+//! The run of a job by turns.
+ghost use Rattle.std.specs.Prelude.{◌<◌, ◌≤◌, [], IfOk};
+ghost use Rattle.batch_history.specs.Lawful.{Lawful};
+ghost use Rattle.batcher_core.specs.Reports.{IsDrivenReport};
+
+use batch_history::{History, Report, Rows};
+use batcher_core::{Core, drive};
+use sp_order::Job;
+use std::alloc::{AllocError, Global};
+
+/// Runs a job on one thread: so many workers take turns on the scheduler's core, round robin from worker 0 on.
+pub fn run_by_turns(alloc: Global, job: &Job, workers: u32) -> Result<Report, AllocError>
+    requires some_workers { 0 < workers }
+    requires few_workers { workers ≤ 32 }
+    ensures driven { IfOk result (λ report. IsDrivenReport job.now workers [] report) }
+    ensures lawful { IfOk result (λ report. Lawful job.now workers report) }
+{
+    if job.shape().is_none() {
+        return Ok(Report {
+            workers,
+            history: History::new(alloc),
+            rows: Rows::of(Vec::new(alloc)),
+        });
+    }
+    let core = Core::start(alloc, job, workers)?;
+    drive(alloc, core, &[])
+}

@@ -1,5 +1,5 @@
 -- The event that a turn chooses has what its code looks up.
-use Rattle.std.proofs.Common.{ℕ, ◌≡◌, ◌<◌, ◌≤◌, ◌+◌, ◌^◌, Option, Some, None, IfSome, List, arith, refl, sym, ◌∙◌, ap}
+use Rattle.std.proofs.Common.{ℕ, ◌≡◌, ◌<◌, ◌+◌, ◌^◌, Option, Some, None, IfSome, List, arith, refl, sym, ◌∙◌, ap}
 use Rattle.seq_objects.specs.declared.act.Act.{Act}
 use Rattle.sp_order.specs.Precedence.{Tree}
 use Rattle.sp_order.specs.Preorder.{nodes_of}
@@ -11,7 +11,7 @@ use Rattle.batcher_core.specs.State.{Hold, core_job}
 use Rattle.batcher_core.specs.Events.{Needs}
 use Rattle.batcher_core.specs.Choice.{choice}
 use Rattle.batcher_core.specs.Ranges.{IsInRange}
-use Rattle.batcher_core.specs.Shown.{state_of, ready_of, shown, shown_hold, hold_of}
+use Rattle.batcher_core.specs.Shown.{state_of, ready_of, shown, hold_of}
 use Rattle.batcher_core.specs.Looks.{Allows}
 use Rattle.batcher_core.specs.Cores.{Fits}
 use Rattle.batcher_core.proofs.InRange.{event_in}

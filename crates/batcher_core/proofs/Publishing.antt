@@ -1,17 +1,15 @@
 -- The code of a publish: what it asks for is there, and it does what the event says.
-use Rattle.std.proofs.Common.{ℕ, ◌≡◌, ◌<◌, ◌≤◌, ◌+◌, ◌*◌, ◌^◌, false, true, Some, None, List, [], ◌∷◌, ◌++◌, length, arith, refl, sym, ◌∙◌, ap, subst}
+use Rattle.std.proofs.Common.{ℕ, ◌≡◌, ◌≤◌, ◌+◌, ◌*◌, ◌^◌, false, true, Some, None, List, [], ◌∷◌, ◌++◌, length, arith, refl, sym, ◌∙◌, ap}
 use Rattle.seq_objects.specs.declared.act.Act.{Act}
 use Rattle.seq_objects.specs.declared.call.Call.{Call}
 use Rattle.sp_order.specs.Precedence.{Tree}
 use Rattle.batch_history.specs.declared.batch.Entry.{Entry}
 use Rattle.batch_history.specs.Book.{flat, IsLegalFrom, IsHistory}
-use Rattle.batcher_core.specs.declared.task.Task.TheVariants.{Idle}
 use Rattle.batcher_core.specs.declared.event.Event.TheVariants.{Publish}
 use Rattle.batcher_core.specs.declared.hold.Hold.{Hold as HoldTable}
 use Rattle.batcher_core.specs.declared.table.Table.{Table}
-use Rattle.batcher_core.specs.State.{Hold, State, core_job}
-use Rattle.batcher_core.specs.Serving.{served}
-use Rattle.batcher_core.specs.Events.{Needs, published, IsBatchOf}
+use Rattle.batcher_core.specs.State.{Hold, core_job}
+use Rattle.batcher_core.specs.Events.{Needs, IsBatchOf}
 use Rattle.batcher_core.specs.GateParts.{IsAtCall}
 use Rattle.batcher_core.specs.Batches.{AreTakenCalls, AreEntriesOf}
 use Rattle.batcher_core.specs.Shown.{at, shown_hold, hold_of, state_of, CounterFits}

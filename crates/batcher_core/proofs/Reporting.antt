@@ -5,7 +5,6 @@ use Rattle.seq_objects.specs.declared.act.Act.{Act}
 use Rattle.sp_order.specs.Precedence.{Tree, leaves}
 use Rattle.sp_order.specs.Preorder.{nodes_of}
 use Rattle.batch_history.specs.declared.row.Row.{Row}
-use Rattle.batch_history.specs.declared.report.Report.{Report}
 use Rattle.batcher_core.specs.declared.progress.Progress.TheVariants.{Waiting}
 use Rattle.batcher_core.specs.declared.table.Table.{Table}
 use Rattle.batcher_core.specs.State.{core_job}

@@ -1,18 +1,15 @@
 -- The state that the parts of a core show.
-use Rattle.std.specs.Prelude.{ℕ, ◌≡◌, ◌≢◌, ◌<◌, ◌≤◌, ◌⊎◌, ◌+◌, ◌-◌, ◌*◌, ◌^◌, false, Option, None, Some, List, [], length, get_or, map}
+use Rattle.std.specs.Prelude.{ℕ, ◌≡◌, ◌≢◌, ◌<◌, ◌≤◌, ◌⊎◌, ◌-◌, ◌*◌, ◌^◌, false, Option, None, Some, List, [], length, get_or, map}
 use Rattle.std.specs.declared.collections.VecDeque.{VecDeque}
 use Rattle.batch_history.specs.Book.{flat}
-use Rattle.batcher_core.specs.declared.progress.Progress.TheVariants.{Waiting, Ready, Taken, Done, Ran}
-use Rattle.batcher_core.specs.declared.task.Task.TheVariants.{Idle, Run, Half, Started, Kept, Ended, Handed}
+use Rattle.batcher_core.specs.declared.progress.Progress.TheVariants.{Waiting}
+use Rattle.batcher_core.specs.declared.task.Task.TheVariants.{Idle}
 use Rattle.batcher_core.specs.declared.status.Status.TheVariants.{Free}
 use Rattle.batcher_core.specs.declared.status.CallState.TheVariants.{NotCalled}
-use Rattle.batcher_core.specs.declared.event.Event.{Event}
-use Rattle.batcher_core.specs.declared.event.Event.TheVariants.{Claim, Start, OpenParRight, OpenParLeft, OpenSeqLeft, OpenSeqRight, Post, Win, Take, Publish, Answer, Release, Leave, Keep, End, FinishLeaf, FinishSeq, FinishPar, ArriveFirst, ArriveSecond}
 use Rattle.batcher_core.specs.declared.hold.Hold.{Hold as HoldTable}
 use Rattle.batcher_core.specs.declared.table.Table.{Table}
-use Rattle.batcher_core.specs.State.{put, Hold, State, CoreState}
+use Rattle.batcher_core.specs.State.{Hold, State, CoreState}
 use Rattle.batcher_core.specs.Lists.{times}
-use Rattle.batcher_core.specs.Events.{task_after}
 
 -- a list as a function of places, with a value beyond its end
 abbrev pub at : {A : Type 0} → List A → A → ℕ → A

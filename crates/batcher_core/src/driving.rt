@@ -55,7 +55,7 @@ fn go_round(core: &mut Core) -> Result<(), AllocError>
     let workers = core.workers();
     let mut worker = 0;
     while !core.is_over() {
-        core.stands();
+        core.fits();
         take_turn(core, worker)?;
         worker = (worker + 1) % workers;
     }

@@ -1,4 +1,4 @@
-use Rattle.std.proofs.Common.{◌≡◌, Some, subst}
+use Rattle.std.proofs.Common.{◌≡◌, subst}
 use Rattle.batcher_core.specs.declared.turn.Turn.{Turn}
 use Rattle.batcher_core.specs.Cores.{job_in, state_in, Makes}
 use Rattle.batcher_core.proofs.TurnsTaken.{spun_turn}

@@ -1,9 +1,5 @@
 use Rattle.std.proofs.Common.{refl}
-use Rattle.batch_history.specs.declared.batch.Entry.{Entry}
-use Rattle.batcher_core.specs.State.{core_job}
-use Rattle.batcher_core.specs.Batches.{AreTakenCalls}
-use Rattle.batcher_core.specs.declared.task.Task.TheVariants.{Idle}
-use Rattle.batcher_core.specs.Shown.{at, state_of, ready_of}
+use Rattle.batcher_core.specs.Shown.{state_of, ready_of}
 use Rattle.batcher_core.proofs.CoreFits.{looks}
 use Rattle.batcher_core.proofs.BookRoom.{counter_grows}
 use Rattle.batcher_core.proofs.Publishing.{at_call, room, is_batch, is_history, no_hold}

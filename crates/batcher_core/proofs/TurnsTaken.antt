@@ -1,5 +1,5 @@
 -- What the turns of a run have made.
-use Rattle.std.proofs.Common.{ℕ, ◌≡◌, ◌<◌, ◌+◌, ◌%◌, ◌&&◌, not, Bool, true, false, Option, Some, None, List, [], refl, sym, ◌∙◌, ap, subst, inl, inr, length, drop, slice_index_or}
+use Rattle.std.proofs.Common.{ℕ, ◌≡◌, ◌<◌, ◌+◌, ◌%◌, ◌&&◌, not, Bool, true, false, Option, Some, None, List, [], refl, sym, ◌∙◌, ap, subst, inl, inr, length, drop, slice_index_or, Result, Ok, Err, IfOk}
 use Rattle.std.proofs.lemmas.List.{drop_more}
 use Rattle.std.proofs.lemmas.Option.{same_Some}
 use Rattle.seq_objects.specs.declared.act.Act.{Act}
@@ -37,10 +37,11 @@ pub same_since : (first old new : Seen) → SameJob first old → SameJob old ne
 same_since first old new h g = (g.0 ∙ h.0, g.1 ∙ h.1, g.2 ∙ h.2)
 
 -- a turn that is given some work, where the turn before it has changed nothing
-pub spun_turn : (old mid new : Seen) (w steps : ℕ) (t : Turn) → SameJob old mid → state_in mid ≡ state_in old
-    → t ≡ turn_due (due_in mid w) (Some steps) (choice (job_in mid) (state_in mid) w) → Makes t (job_in mid) (state_in mid) w (state_in new)
-    → IsTurn (job_in old) (state_in old) w (state_in new)
-spun_turn old mid new w steps t same still is makes =
+pub spun_turn : {E : Type 0} (old mid new : Seen) (w steps : ℕ) (result : Result Turn E) → SameJob old mid → state_in mid ≡ state_in old
+    → IfOk result (λ t. t ≡ turn_due (due_in mid w) (Some steps) (choice (job_in mid) (state_in mid) w)) → IfOk result (λ t. Makes t (job_in mid) (state_in mid) w (state_in new))
+    → IfOk result (λ _. IsTurn (job_in old) (state_in old) w (state_in new))
+spun_turn old mid new w steps (Err e) same still is makes = tt
+spun_turn old mid new w steps (Ok t) same still is makes =
     subst (λ (s : CoreState). IsTurn (job_in old) s w (state_in new)) still
     (subst (λ (job : CoreJob). IsTurn job (state_in mid) w (state_in new)) (job_same old mid same)
     (turn_made (job_in mid) (state_in mid) (state_in new) w (due_in mid w) steps t is makes))

@@ -16,16 +16,16 @@ use sp_order::laws::plan_stands_for_tree;
 use std::alloc::{AllocError, Global};
 
 /// A turn of this worker, in which the work is done that is due of it.
-fn take_turn(core: &mut Core, worker: u32) -> Result<(), AllocError>
+pub(crate) fn take_turn(core: &mut Core, worker: u32) -> Result<Turn, AllocError>
     requires { worker < core.old.workers }
     ensures job { (core.new.tree ≡ core.old.tree) × (core.new.acts ≡ core.old.acts) × (core.new.workers ≡ core.old.workers) }
     ensures turn { IfOk result (λ _. IsTurn (job_in core.old) (state_in core.old) worker (state_in core.new)) }
     ensures spent { IfOk result (λ _. core.old.spent ≡ false) }
 {
-    if let Turn::Spin(steps) = core.turn(worker, None)? {
-        core.turn(worker, Some(Spun::of(steps)))?;
+    match core.turn(worker, None)? {
+        Turn::Spin(steps) => core.turn(worker, Some(Spun::of(steps))),
+        other => Ok(other),
     }
-    Ok(())
 }
 
 /// Takes turns by the workers of the schedule, until it ends or the core is over.
@@ -55,7 +55,7 @@ fn go_round(core: &mut Core) -> Result<(), AllocError>
     let workers = core.workers();
     let mut worker = 0;
     while !core.is_over() {
-        core.stands();
+        core.fits();
         take_turn(core, worker)?;
         worker = (worker + 1) % workers;
     }

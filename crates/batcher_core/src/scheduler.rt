@@ -6,11 +6,12 @@ ghost use Rattle.batcher_core.specs.Tasks.{is_done as node_done};
 ghost use Rattle.batcher_core.specs.Choice.{choice};
 ghost use Rattle.sp_order.specs.Precedence.{leaves};
 ghost use Rattle.batch_history.specs.Lawful.{Lawful};
+ghost use Rattle.batcher_core.specs.Invariant.{Invariant};
 ghost use Rattle.batcher_core.specs.Reports.{IsReportOf};
 ghost use Rattle.batcher_core.specs.Cores.{job_in, state_in, due_in, turn_due, is_over_in, Makes, Fits};
 
 use crate::event::Event;
-use crate::laws::kept_parts_hold;
+use crate::laws::{kept_lists_hold, kept_parts_hold};
 use crate::report_laws::{done_leaves_have_run, done_report_is_lawful};
 use crate::rows::rows_of;
 use crate::spun::Spun;
@@ -151,8 +152,17 @@ impl Core {
         self.workers
     }
 
+    /// What a core shows that is not spent has the invariant.
+    pub fn stands(&self)
+        ensures { self.now.spent ≡ false → Invariant (job_in self.now) (state_in self.now) }
+    {
+        kept_parts_hold();
+        kept_lists_hold();
+        self.fits();
+    }
+
     /// What a core keeps to that is not spent.
-    pub(crate) fn stands(&self)
+    pub(crate) fn fits(&self)
         ensures { self.now.spent ≡ false → Fits self.now.tree self.now.acts self.now.workers self.now.table }
     {
         let _ = &self.spent;

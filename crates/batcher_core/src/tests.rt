@@ -1,7 +1,8 @@
 //! Small jobs, run turn by turn by two workers.
 ghost use Rattle.std.specs.Prelude.{◌≡◌, ◌<◌, ◌≤◌, ℕ, false, Some, IfOk, IsSome};
 
-use crate::{Core, Event, Receipt, Spun, Turn};
+use crate::driving::take_turn;
+use crate::{Core, Event, Receipt, Turn};
 use seq_objects::work::spin;
 use seq_objects::{Act, Op, Reply};
 use sp_order::{Job, Shape};
@@ -16,17 +17,6 @@ fn block_of(alloc: Global, left: Act, right: Act) -> Result<Job, AllocError>
     let shape = Shape::Par(Box::new(alloc, Shape::Leaf)?, Box::new(alloc, Shape::Leaf)?);
     let acts = vec![in alloc; left, right]?;
     Ok(Job::of(Some(shape), acts))
-}
-
-/// A turn of a worker, which does the work that is due of it.
-fn turn(core: &mut Core, worker: u32) -> Result<Turn, AllocError>
-    requires { worker < core.old.workers }
-    ensures { core.new.workers ≡ core.old.workers }
-{
-    match core.turn(worker, None)? {
-        Turn::Spin(steps) => core.turn(worker, Some(Spun::of(steps))),
-        other => Ok(other),
-    }
 }
 
 #[test]
@@ -48,10 +38,10 @@ fn two_workers_share_a_block(rt: HostRuntime) -> Result<(), Fail> {
         (Turn::Moved, Turn::Idle),
     ] {
         assert!(rt; !core.is_over());
-        assert_eq!(rt; turn(&mut core, 0)?, first);
-        assert_eq!(rt; turn(&mut core, 1)?, second);
+        assert_eq!(rt; take_turn(&mut core, 0)?, first);
+        assert_eq!(rt; take_turn(&mut core, 1)?, second);
     }
-    assert_eq!(rt; turn(&mut core, 0)?, Turn::Moved);
+    assert_eq!(rt; take_turn(&mut core, 0)?, Turn::Moved);
     assert!(rt; core.is_over());
     Ok(())
 }
@@ -60,10 +50,10 @@ fn two_workers_share_a_block(rt: HostRuntime) -> Result<(), Fail> {
 fn a_worker_asks_for_its_work(rt: HostRuntime) -> Result<(), Fail> {
     let job = block_of(rt.alloc(), Act::Work(1), Act::Work(2))?;
     let mut core = Core::start(rt.alloc(), &job, 2)?;
-    assert_eq!(rt; turn(&mut core, 0)?, Turn::Moved);
-    assert_eq!(rt; turn(&mut core, 0)?, Turn::Moved);
-    assert_eq!(rt; turn(&mut core, 1)?, Turn::Moved);
-    assert_eq!(rt; turn(&mut core, 1)?, Turn::Moved);
+    assert_eq!(rt; take_turn(&mut core, 0)?, Turn::Moved);
+    assert_eq!(rt; take_turn(&mut core, 0)?, Turn::Moved);
+    assert_eq!(rt; take_turn(&mut core, 1)?, Turn::Moved);
+    assert_eq!(rt; take_turn(&mut core, 1)?, Turn::Moved);
     assert_eq!(rt; core.turn(1, None)?, Turn::Spin(2));
     assert_eq!(rt; core.turn(1, None)?, Turn::Spin(2));
     Ok(())

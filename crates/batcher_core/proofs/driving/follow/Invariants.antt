@@ -1,4 +1,4 @@
-use Rattle.std.proofs.Common.{◌≡◌, false, [], drop}
+use Rattle.std.proofs.Common.{◌≡◌, false, drop}
 use Rattle.batcher_core.specs.State.{CoreState}
 use Rattle.batcher_core.specs.Runs.{Drives}
 use Rattle.batcher_core.specs.Cores.{job_in, state_in}

@@ -1,6 +1,6 @@
 use Rattle.std.proofs.Common.{◌+◌, sym, ◌∙◌}
 use Rattle.std.proofs.lemmas.Nat.{mod_below}
-use Rattle.batcher_core.specs.Cores.{job_in, state_in}
+use Rattle.batcher_core.specs.Cores.{state_in}
 use Rattle.batcher_core.specs.Runs.{over}
 use Rattle.batcher_core.proofs.Reporting.{over_is}
 use Rattle.batcher_core.proofs.TurnsTaken.{same_since, robin_before}
@@ -10,7 +10,7 @@ use Rattle.batcher_core.proofs.driving.go_round.Goals as goal
 pub loop-core-smaller : goal.loop-core-smaller
 loop-core-smaller c =
     let unspent = c.in_ok-take_turn.ensures.spent in
-    round_fewer c.args.core.now c.loop-core.core c.take_turn.new.core c.workers-workers.result c.loop-core.worker c.loop-core.invariant.job (c.stands.ensures unspent)
+    round_fewer c.args.core.now c.loop-core.core c.take_turn.new.core c.workers-workers.result c.loop-core.worker c.loop-core.invariant.job (c.fits.ensures unspent)
     (c.plan_stands_for_tree.ensures c.loop-core.core.tree) c.workers-workers.ensures.workers c.loop-core.invariant.below (sym c.is_over.ensures ∙ c.loop-core-test.true) unspent
     c.in_ok-take_turn.ensures.turn
 

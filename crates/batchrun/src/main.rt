@@ -11,6 +11,8 @@ pub mod command;
 pub mod fault;
 pub mod head;
 pub mod join;
+#[cfg(test)]
+mod language_tests;
 pub mod laws;
 pub mod number;
 pub mod outcome;

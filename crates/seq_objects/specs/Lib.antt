@@ -1,4 +1,6 @@
 pub mod Objects
 pub mod BatchOrder
+pub mod Heaps
+pub mod Orders
 pub mod Spin
 pub mod Words

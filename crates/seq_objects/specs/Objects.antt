@@ -1,9 +1,11 @@
 -- The serial objects: those that one thread would have, and what each operation does to them and replies.
-use Rattle.std.specs.Prelude.{ℕ, ◌+◌, ◌<◌, ◌^◌, List, []}
+use Rattle.std.specs.Prelude.{ℕ, ◌+◌, ◌-◌, ◌<◌, ◌^◌, Bool, true, false, not, ◌==◌, nat_lt, nat_le, if◌then◌else◌, List, [], ◌∷◌, ◌++◌, length, take, drop, slice_get, Some, None, ⊤}
+use Rattle.std.specs.declared.option.Option.{Option}
+use Rattle.std.specs.List.{list_any, find}
 use Rattle.seq_objects.specs.declared.op.Op.{Op}
-use Rattle.seq_objects.specs.declared.op.Op.TheVariants.{CounterAdd}
+use Rattle.seq_objects.specs.declared.op.Op.TheVariants.{CounterAdd, Push, Pop, TreeInsert, TreeRemove, TreeFind, TreeNext, PqInsert, PqTake}
 use Rattle.seq_objects.specs.declared.reply.Reply.{Reply}
-use Rattle.seq_objects.specs.declared.reply.Reply.TheVariants.{Number}
+use Rattle.seq_objects.specs.declared.reply.Reply.TheVariants as reply
 
 -- a counter; a stack, whose last item is the top; a strictly ascending set; an ascending bag, with repeats
 pub record Objects : Type 0 where
@@ -16,10 +18,64 @@ pub record Objects : Type 0 where
 abbrev pub opening : Objects
 opening = record { counter = 0; stack = []; set = []; bag = [] }
 
+-- the top of a stack, if there is one
+abbrev pub top : List ℕ → Option ℕ
+top stack = slice_get stack (length stack - 1)
+
+-- a stack without its top
+abbrev pub without_top : List ℕ → List ℕ
+without_top stack = take (length stack - 1) stack
+
+-- whether a set has the key
+abbrev pub has : ℕ → List ℕ → Bool
+has key set = list_any (λ k. key == k) set
+
+-- a set with the key, at its place unless it is there
+abbrev pub with_key : ℕ → List ℕ → List ℕ
+with_key key [] = key ∷ []
+with_key key (k ∷ set) = if nat_lt key k then key ∷ k ∷ set else (if key == k then k ∷ set else k ∷ with_key key set)
+
+-- a set without the key
+abbrev pub without_key : ℕ → List ℕ → List ℕ
+without_key key [] = []
+without_key key (k ∷ set) = if key == k then set else k ∷ without_key key set
+
+-- the least key of a set that is greater, if there is one: the first such in a list that ascends
+abbrev pub least_above : ℕ → List ℕ → Option ℕ
+least_above key set = find (λ k. nat_lt key k) set
+
+-- a bag with one more copy of the item, at its place
+abbrev pub with_item : ℕ → List ℕ → List ℕ
+with_item item [] = item ∷ []
+with_item item (x ∷ bag) = if nat_le item x then item ∷ x ∷ bag else x ∷ with_item item bag
+
+-- the least item of a bag, if there is one: the first of a list that ascends
+abbrev pub least : List ℕ → Option ℕ
+least bag = slice_get bag 0
+
+-- a bag without one copy of its least item
+abbrev pub without_least : List ℕ → List ℕ
+without_least bag = drop 1 bag
+
+abbrev pub yes_or_no : Bool → Reply
+yes_or_no true = reply.Yes
+yes_or_no false = reply.No
+
+abbrev pub number_or_empty : Option ℕ → Reply
+number_or_empty (Some number) = reply.Number number
+number_or_empty None = reply.Empty
+
 -- one line for each operation: the objects afterwards, and the reply
 abbrev pub serve : Objects → Op → Objects × Reply
-serve objects (CounterAdd addend) =
-    (record objects { counter = objects.counter + addend }, Number (objects.counter + addend))
+serve objects (CounterAdd addend) = (record objects { counter = objects.counter + addend }, reply.Number (objects.counter + addend))
+serve objects (Push item) = (record objects { stack = objects.stack ++ item ∷ [] }, reply.Unit)
+serve objects Pop = (record objects { stack = without_top objects.stack }, number_or_empty (top objects.stack))
+serve objects (TreeInsert key) = (record objects { set = with_key key objects.set }, yes_or_no (not (has key objects.set)))
+serve objects (TreeRemove key) = (record objects { set = without_key key objects.set }, yes_or_no (has key objects.set))
+serve objects (TreeFind key) = (objects, yes_or_no (has key objects.set))
+serve objects (TreeNext key) = (objects, number_or_empty (least_above key objects.set))
+serve objects (PqInsert item) = (record objects { bag = with_item item objects.bag }, reply.Unit)
+serve objects PqTake = (record objects { bag = without_least objects.bag }, number_or_empty (least objects.bag))
 
 abbrev pub after : Objects → Op → Objects
 after objects op = (serve objects op).0
@@ -27,18 +83,46 @@ after objects op = (serve objects op).0
 abbrev pub reply_to : Objects → Op → Reply
 reply_to objects op = (serve objects op).1
 
--- the number in the reply fits 64 bits
+-- the number in the reply to a counter add fits 64 bits; all other operations can be served always
 abbrev pub CanServe : Objects → Op → Type 0
 CanServe objects (CounterAdd addend) = objects.counter + addend < 2 ^ 64
+CanServe objects (Push item) = ⊤
+CanServe objects Pop = ⊤
+CanServe objects (TreeInsert key) = ⊤
+CanServe objects (TreeRemove key) = ⊤
+CanServe objects (TreeFind key) = ⊤
+CanServe objects (TreeNext key) = ⊤
+CanServe objects (PqInsert item) = ⊤
+CanServe objects PqTake = ⊤
 
--- the operations that are served without new memory
+-- the operations that are served without new memory: all but those that put something in
 abbrev pub TakesNoMemory : Op → Type 0
-TakesNoMemory (CounterAdd addend) = Unit {0}
+TakesNoMemory (CounterAdd addend) = ⊤
+TakesNoMemory (Push item) = ⊥
+TakesNoMemory Pop = ⊤
+TakesNoMemory (TreeInsert key) = ⊥
+TakesNoMemory (TreeRemove key) = ⊤
+TakesNoMemory (TreeFind key) = ⊤
+TakesNoMemory (TreeNext key) = ⊤
+TakesNoMemory (PqInsert item) = ⊥
+TakesNoMemory PqTake = ⊤
 
--- the number that an operation carries
+-- the number that an operation carries; 0 where it carries none
 abbrev pub argument_of : Op → ℕ
 argument_of (CounterAdd addend) = addend
+argument_of (Push item) = item
+argument_of Pop = 0
+argument_of (TreeInsert key) = key
+argument_of (TreeRemove key) = key
+argument_of (TreeFind key) = key
+argument_of (TreeNext key) = key
+argument_of (PqInsert item) = item
+argument_of PqTake = 0
 
--- the number that a reply stands for
+-- the number that a reply stands for: 1 for yes, and 0 for each other reply without a number
 abbrev pub value_of : Reply → ℕ
-value_of (Number number) = number
+value_of (reply.Number number) = number
+value_of reply.Unit = 0
+value_of reply.Empty = 0
+value_of reply.Yes = 1
+value_of reply.No = 0

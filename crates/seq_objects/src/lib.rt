@@ -2,11 +2,14 @@
 //!
 //! The meaning of every run rests on this crate: the serial objects say what each operation does and
 //! replies, `Plain` serves them one after another, and the batch order says in which order the calls of one
-//! batch are served. The work of a leaf without a call is here too. The crate stands on nothing but std.
+//! batch are served. `laws` says that the lists of the serial objects stay in order, and what is in them. The
+//! work of a leaf without a call is here too. The crate stands on nothing but std.
 #![tactic(auto)]
 
 pub mod act;
+mod bag;
 pub mod call;
+pub mod laws;
 pub mod op;
 pub mod plain;
 pub mod reply;
@@ -18,3 +21,6 @@ pub use op::Op;
 pub use plain::Plain;
 pub use reply::{Reply, value};
 pub use work::spin;
+
+#[cfg(test)]
+mod tests;

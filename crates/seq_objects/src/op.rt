@@ -7,6 +7,22 @@ use std::fmt;
 pub enum Op {
     /// Adds a number to the counter, and replies the sum.
     CounterAdd(u32),
+    /// Puts a number on top of the stack.
+    Push(u32),
+    /// Takes the top off the stack, and replies it; empty if there is none.
+    Pop,
+    /// Puts a key into the tree, and replies whether it was new.
+    TreeInsert(u32),
+    /// Takes a key out of the tree, and replies whether it was there.
+    TreeRemove(u32),
+    /// Replies whether the tree has a key.
+    TreeFind(u32),
+    /// Replies the least key of the tree that is greater than a number; empty if there is none.
+    TreeNext(u32),
+    /// Puts a number into the queue, which may have several copies of it.
+    PqInsert(u32),
+    /// Takes one copy of the least number out of the queue, and replies it; empty if there is none.
+    PqTake,
 }
 
 impl fmt::Display for Op {
@@ -18,6 +34,14 @@ impl fmt::Display for Op {
     fn fmt<W: fmt::Write>(&self, f: &mut fmt::Formatter<W>) -> fmt::Result {
         match self {
             Op::CounterAdd(addend) => write!(f, "counter add {addend}"),
+            Op::Push(item) => write!(f, "stack push {item}"),
+            Op::Pop => write!(f, "stack pop"),
+            Op::TreeInsert(key) => write!(f, "tree insert {key}"),
+            Op::TreeRemove(key) => write!(f, "tree remove {key}"),
+            Op::TreeFind(key) => write!(f, "tree find {key}"),
+            Op::TreeNext(key) => write!(f, "tree next {key}"),
+            Op::PqInsert(item) => write!(f, "queue insert {item}"),
+            Op::PqTake => write!(f, "queue take"),
         }
     }
 }

@@ -1,36 +1,47 @@
 //! The shared objects as one thread has them.
 ghost use Rattle.std.specs.Prelude.{◌≡◌, IfOk, OnOk, OnErr, IsOk};
-ghost use Rattle.seq_objects.specs.Objects.{opening, after, reply_to, CanServe, TakesNoMemory};
+ghost use Rattle.seq_objects.specs.Objects.{opening, after, reply_to, CanServe, TakesNoMemory, number_or_empty, yes_or_no, least_above};
 
+use crate::bag::Bag;
 use crate::op::Op;
 use crate::reply::Reply;
 use std::alloc::{AllocError, Global};
+use std::collections::BTreeSet;
 use std::marker::Model;
+use std::ops::Bound;
 
 /// The shared objects, served one operation after another. Contracts see them as `Objects`.
 #[derive(Drop)]
 pub struct Plain {
     counter: u64,
+    stack: Vec<u32>,
+    tree: BTreeSet<u32>,
+    queue: Bag,
 }
 
 impl Model for Plain {
-    ghost use Rattle.std.specs.Prelude.{[]};
     ghost use Rattle.seq_objects.specs.Objects.{Objects};
 
     ghost Value = { Objects };
 
-    ghost view = { λ p. record { counter = p.counter; stack = []; set = []; bag = [] } };
+    ghost view = { λ p. record { counter = p.counter; stack = p.stack.items; set = p.tree.keys; bag = p.queue } };
 }
 
 impl Plain {
     /// The opening objects. It takes no memory.
-    pub fn new(_alloc: Global) -> Plain
+    pub fn new(alloc: Global) -> Plain
         ensures { result ≡ opening }
     {
-        Plain { counter: 0 }
+        Plain {
+            counter: 0,
+            stack: Vec::new(alloc),
+            tree: BTreeSet::new(alloc),
+            queue: Bag::new(alloc),
+        }
     }
 
-    /// Serves one operation. A counter add takes no memory.
+    /// Serves one operation. Those that put nothing in take no memory.
+    #[tactic(auto, using(crate::proofs::Keys::same_has, crate::proofs::Keys::same_with_key, crate::proofs::Keys::same_without_key))]
     pub fn serve(&mut self, op: Op) -> Result<Reply, AllocError>
         requires { CanServe self.old op }
         ensures reply { IfOk result (λ reply. reply ≡ reply_to self.old op) }
@@ -38,11 +49,50 @@ impl Plain {
         ensures err { OnErr result (self.new ≡ self.old) }
         ensures sure { TakesNoMemory op → IsOk result }
     {
-        match op {
+        let reply = match op {
             Op::CounterAdd(addend) => {
                 self.counter += u64::from(addend);
-                Ok(Reply::Number(self.counter))
+                Reply::Number(self.counter)
             }
-        }
+            Op::Push(item) => {
+                self.stack.push(item)?;
+                Reply::Unit
+            }
+            Op::Pop => number_or_empty(self.stack.pop()),
+            Op::TreeInsert(key) => yes_or_no(self.tree.insert(key)?),
+            Op::TreeRemove(key) => yes_or_no(self.tree.remove(&key)),
+            Op::TreeFind(key) => yes_or_no(self.tree.contains(&key)),
+            Op::TreeNext(key) => number_or_empty(next_key(&self.tree, key)),
+            Op::PqInsert(item) => {
+                self.queue.insert(item)?;
+                Reply::Unit
+            }
+            Op::PqTake => number_or_empty(self.queue.take_least()),
+        };
+        Ok(reply)
     }
+}
+
+fn number_or_empty(number: Option<u32>) -> Reply
+    ensures { result ≡ number_or_empty number }
+{
+    match number {
+        Some(number) => Reply::Number(u64::from(number)),
+        None => Reply::Empty,
+    }
+}
+
+fn yes_or_no(yes: bool) -> Reply
+    ensures { result ≡ yes_or_no yes }
+{
+    if yes { Reply::Yes } else { Reply::No }
+}
+
+/// The least of the keys that are greater.
+#[tactic(auto, using(crate::proofs::Keys::first_above))]
+fn next_key(keys: &BTreeSet<u32>, key: u32) -> Option<u32>
+    ensures { result ≡ least_above key keys.now.keys }
+{
+    let mut greater = keys.range((Bound::Excluded(key), Bound::Unbounded));
+    greater.next().copied()
 }

@@ -7,8 +7,16 @@ use std::fmt;
 /// What an operation replies.
 #[derive(Clone, Copy, Debug, PartialEq, Eq)]
 pub enum Reply {
-    /// A number: of a counter the sum.
+    /// A number: of a counter the sum, else an item or a key.
     Number(u64),
+    /// The operation is done, and there is nothing to tell.
+    Unit,
+    /// There is no item or key to reply.
+    Empty,
+    /// The set has changed, or has the key.
+    Yes,
+    /// The set has not changed, or lacks the key.
+    No,
 }
 
 impl fmt::Display for Reply {
@@ -20,6 +28,10 @@ impl fmt::Display for Reply {
     fn fmt<W: fmt::Write>(&self, f: &mut fmt::Formatter<W>) -> fmt::Result {
         match self {
             Reply::Number(number) => write!(f, "{number}"),
+            Reply::Unit => write!(f, "ok"),
+            Reply::Empty => write!(f, "empty"),
+            Reply::Yes => write!(f, "yes"),
+            Reply::No => write!(f, "no"),
         }
     }
 }
@@ -30,5 +42,7 @@ pub fn value(reply: Reply) -> u64
 {
     match reply {
         Reply::Number(number) => number,
+        Reply::Yes => 1,
+        Reply::Unit | Reply::Empty | Reply::No => 0,
     }
 }

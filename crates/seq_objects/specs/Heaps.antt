@@ -1,0 +1,8 @@
+-- What the items of a heap are as a bag: the numbers in ascending order.
+use Rattle.std.specs.Prelude.{ℕ, List, [], ◌∷◌}
+use Rattle.std.specs.declared.cmp.Reverse.{Reverse}
+use Rattle.seq_objects.specs.Objects.{with_item}
+
+abbrev pub ascending : List (Reverse ℕ) → List ℕ
+ascending [] = []
+ascending (item ∷ items) = with_item item.0 (ascending items)

@@ -1,15 +1,13 @@
 -- The entries of the calls that were taken, once served, make the batch that is to be published.
-use Rattle.std.proofs.Common.{ℕ, ◌≡◌, ◌≢◌, ◌<◌, ◌≤◌, ◌+◌, ◌*◌, ◌^◌, Bool, true, false, Some, List, [], ◌∷◌, map, length, arith, refl, inr, ◌∙◌, ap}
+use Rattle.std.proofs.Common.{ℕ, ◌≡◌, ◌≢◌, ◌<◌, ◌≤◌, ◌+◌, ◌*◌, ◌^◌, Bool, true, false, Some, List, [], ◌∷◌, map, length, arith, ◌∙◌, ap}
 use Rattle.std.specs.Prelude.{Contains}
 use Rattle.std.specs.List.{AllByRecursion}
 use Rattle.std.proofs.lemmas.List.{length-map}
 use Rattle.std.proofs.lemmas.Simd.{map-map}
 use Rattle.seq_objects.specs.BatchOrder.{ComesFirst}
 use Rattle.seq_objects.specs.declared.call.Call.{Call}
-use Rattle.seq_objects.specs.declared.op.Op.{Op}
-use Rattle.seq_objects.specs.declared.op.Op.TheVariants.{CounterAdd}
 use Rattle.batch_history.specs.declared.batch.Entry.{Entry}
-use Rattle.batch_history.specs.Pairs.{EachPair, AreDistinct}
+use Rattle.batch_history.specs.Pairs.{EachPair}
 use Rattle.batch_history.specs.Book.{IsLegalFrom}
 use Rattle.batcher_core.specs.declared.task.Task.{Task}
 use Rattle.batcher_core.specs.declared.status.Status.{Status}
@@ -30,34 +28,15 @@ unmapped : {A B : Type 0} (f : A → B) (P : B → Type 0) (xs : List A) → All
 unmapped f P [] h = tt
 unmapped f P (x ∷ xs) h = (h.0, unmapped f P xs h.1)
 
--- what follows for each two elements, of the numbers to which they are mapped
-pairs_mapped : {A : Type 0} (f : A → ℕ) (R : A → A → Type 0) (Q : ℕ → ℕ → Type 0) → ((a b : A) → R a b → Q (f a) (f b))
-    → (xs : List A) → EachPair R xs → EachPair Q (map f xs)
-pairs_mapped f R Q g [] h = tt
-pairs_mapped f R Q g (x ∷ xs) h = (each_mapped f (R x) (Q (f x)) (g x) xs h.0, pairs_mapped f R Q g xs h.1)
-
--- what follows for each two elements
-pairs_so : {A : Type 0} (R Q : A → A → Type 0) → ((a b : A) → R a b → Q a b) → (xs : List A) → EachPair R xs → EachPair Q xs
-pairs_so R Q f [] h = tt
-pairs_so R Q f (x ∷ xs) h = (each_so (R x) (Q x) (f x) xs h.0, pairs_so R Q f xs h.1)
-
 -- what holds of each two of the calls of entries
 pairs_unmapped : {A B : Type 0} (f : A → B) (R : B → B → Type 0) (xs : List A) → EachPair R (map f xs) → EachPair (λ a b. R (f a) (f b)) xs
 pairs_unmapped f R [] h = tt
 pairs_unmapped f R (x ∷ xs) h = (unmapped f (R (f x)) xs h.0, pairs_unmapped f R xs h.1)
 
--- calls of one class and key come by worker
-first_by_worker : (a b : Op) (v w : ℕ) → v < w → ComesFirst a v b w
-first_by_worker (CounterAdd m) (CounterAdd n) v w less = inr (refl, inr (refl, less))
-
 -- a list that contains something is not empty
 some_in : {A B : Type 0} (f : A → B) (xs : List A) (b : B) → Contains (map f xs) b → xs ≢ []
 some_in f [] b c e = absurd (omega (arith, c.1))
 some_in f (x ∷ xs) b c e = cc
-
--- workers that ascend are distinct
-workers_distinct : {A : Type 0} (worker : A → ℕ) (xs : List A) → EachPair (λ a b. worker a < worker b) xs → AreDistinct (map worker xs)
-workers_distinct worker xs h = pairs_mapped worker (λ a b. worker a < worker b) (λ m n. m ≢ n) (λ a b less e. absurd (omega (arith, less, e))) xs h
 
 -- a worker with status executing is at a call
 executing_at_call : (job : CoreJob) (book : List (List Entry)) (task : Task) (status : Status) (call : CallState) (taken : Bool)
@@ -82,7 +61,7 @@ module _ (job : CoreJob) (s : State) (hd : Hold) (h : PartsKept job s) (there : 
   pub few_calls : (calls : List Call) → AreTakenCalls job s.task hd.took calls → length calls ≤ job.workers
   few_calls calls taken =
       let few = distinct_few (map (λ (call : Call). call.worker) calls) job.workers
-      (workers_distinct (λ (call : Call). call.worker) calls taken.ascending)
+      taken.distinct
       (each_mapped (λ (call : Call). call.worker) (λ (call : Call). (hd.took call.worker ≡ true) × IsCallOf job (s.task call.worker) call)
       (λ w. w < job.workers) (λ call is. taken_below call.worker is.0) calls taken.only) in
       rw length-map at few
@@ -95,9 +74,6 @@ module _ (job : CoreJob) (s : State) (hd : Hold) (h : PartsKept job s) (there : 
   module _ (entries : List Entry) (taken : AreTakenCalls job s.task hd.took (map call_in entries)) where
     workers_same : map (λ (call : Call). call.worker) (map call_in entries) ≡ map (λ (e : Entry). e.worker) entries
     workers_same = map-map (λ (call : Call). call.worker) call_in entries
-
-    ascending : EachPair (λ (a b : Entry). a.worker < b.worker) entries
-    ascending = pairs_unmapped call_in (λ (a b : Call). a.worker < b.worker) entries taken.ascending
 
     each_taken : (w : ℕ) → hd.took w ≡ true → Contains (map (λ (e : Entry). e.worker) entries) w
     each_taken w took = rw workers_same at (taken.each w (taken_below w took) took)
@@ -114,9 +90,8 @@ module _ (job : CoreJob) (s : State) (hd : Hold) (h : PartsKept job s) (there : 
     made some legal = record {
       is_batch = record {
         some = some_in (λ (e : Entry). e.worker) entries some.0 (each_taken some.0 some.1);
-        order = pairs_so (λ (a b : Entry). a.worker < b.worker) (λ (a b : Entry). ComesFirst a.op a.worker b.op b.worker)
-            (λ a b less. first_by_worker a.op b.op a.worker b.worker less) entries ascending;
-        workers = workers_distinct (λ (e : Entry). e.worker) entries ascending;
+        order = pairs_unmapped call_in (λ (a b : Call). ComesFirst a.op a.worker b.op b.worker) entries taken.order;
+        workers = rw workers_same at taken.distinct;
       };
       only = each_so (λ (e : Entry). (hd.took e.worker ≡ true) × IsCallOf job (s.task e.worker) (call_in e)) (IsTakenCall job s) taken_call entries
           (unmapped call_in (λ (call : Call). (hd.took call.worker ≡ true) × IsCallOf job (s.task call.worker) call) entries taken.only);

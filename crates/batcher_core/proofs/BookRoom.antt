@@ -8,7 +8,7 @@ use Rattle.seq_objects.specs.Objects as objects
 use Rattle.seq_objects.specs.Objects.{Objects, after, argument_of}
 use Rattle.seq_objects.specs.declared.call.Call.{Call as Asked}
 use Rattle.seq_objects.specs.declared.op.Op.{Op}
-use Rattle.seq_objects.specs.declared.op.Op.TheVariants.{CounterAdd}
+use Rattle.seq_objects.specs.declared.op.Op.TheVariants.{CounterAdd, Push, Pop, TreeInsert, TreeRemove, TreeFind, TreeNext, PqInsert, PqTake}
 use Rattle.seq_objects.specs.declared.act.Act.{Act}
 use Rattle.seq_objects.specs.declared.act.Act.TheVariants.{Work, Call}
 use Rattle.batch_history.specs.declared.batch.Entry.{Entry}
@@ -53,6 +53,14 @@ act_calls (Call op') op e = cc
 -- one operation adds less than 2^32 to the counter
 counter_step : (objects : Objects) (op : Op) → argument_of op < 2 ^ 32 → (after objects op).counter ≤ objects.counter + 2 ^ 32
 counter_step objects (CounterAdd addend) small = omega (arith, small)
+counter_step objects (Push item) small = omega arith
+counter_step objects Pop small = omega arith
+counter_step objects (TreeInsert key) small = omega arith
+counter_step objects (TreeRemove key) small = omega arith
+counter_step objects (TreeFind key) small = omega arith
+counter_step objects (TreeNext key) small = omega arith
+counter_step objects (PqInsert item) small = omega arith
+counter_step objects PqTake small = omega arith
 
 -- and so do many
 counter_steps : (objects : Objects) (entries : List Entry) → AllByRecursion (λ (e : Entry). argument_of e.op < 2 ^ 32) entries

@@ -19,6 +19,7 @@ pub mod FinishKeeps
 pub mod GateKeeps
 pub mod BatchFacts
 pub mod PublishKeeps
+pub mod CallOrder
 pub mod TakenCalls
 pub mod ServedCalls
 pub mod BookSearch

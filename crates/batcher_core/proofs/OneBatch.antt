@@ -1,5 +1,5 @@
 -- The calls that are taken make one batch only, and so an event makes one state only of a state.
-use Rattle.std.proofs.Common.{ℕ, ◌≡◌, ◌≢◌, ◌⊎◌, true, List, [], ◌∷◌, ◌++◌, map, arith, refl, inl, inr, subst, sym, ◌∙◌, ap}
+use Rattle.std.proofs.Common.{ℕ, ◌≡◌, ◌≢◌, ◌⊎◌, true, List, [], ◌∷◌, ◌++◌, map, refl, inl, inr, subst, sym, ◌∙◌, ap}
 use Rattle.std.specs.Prelude.{Contains}
 use Rattle.std.specs.List.{AllByRecursion}
 use Rattle.seq_objects.specs.Objects.{Objects, after, reply_to}
@@ -14,6 +14,7 @@ use Rattle.batcher_core.specs.State.{CoreJob, State}
 use Rattle.batcher_core.specs.Serving.{served}
 use Rattle.batcher_core.specs.Events.{has_taken, IsTakenCall, IsBatchOf, published, Does}
 use Rattle.batcher_core.proofs.EntryLists.{each_so, each_both, each_at}
+use Rattle.batcher_core.proofs.CallOrder.{one_way}
 
 -- an entry of the list has this worker
 abbrev HasWorker : List Entry → ℕ → Type 0
@@ -36,9 +37,6 @@ find P (x ∷ xs) w all (inr h) = find P xs w all.1 h
 unmapped : (P : ℕ → Type 0) (xs : List Entry) → AllByRecursion P (map (λ (e : Entry). e.worker) xs) → AllByRecursion (λ (e : Entry). P e.worker) xs
 unmapped P [] h = tt
 unmapped P (x ∷ xs) h = (h.0, unmapped P xs h.1)
-
-one_way : (a b : Op) (v w : ℕ) → ComesFirst a v b w → ComesFirst b w a v → ⊥
-one_way a b v w h g = grind arith
 
 entry_same : (a b : Entry) → a.worker ≡ b.worker → a.leaf ≡ b.leaf → a.op ≡ b.op → a.reply ≡ b.reply → a ≡ b
 entry_same a b w l o r = λ i. record { worker = w i; leaf = l i; op = o i; reply = r i }

@@ -17,6 +17,7 @@ pub mod laws;
 mod lists;
 mod opening;
 mod opens;
+mod order;
 pub mod progress;
 mod publish;
 mod receipts;

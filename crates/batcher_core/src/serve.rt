@@ -18,6 +18,7 @@ fn serve_one(objects: &mut Plain, op: Op) -> Result<Reply, AllocError>
 {
     match op {
         Op::CounterAdd(addend) => objects.serve(Op::CounterAdd(addend)),
+        other => objects.serve(other),
     }
 }
 

@@ -6,8 +6,9 @@ use Rattle.std.proofs.lemmas.Bool.{leb-false, lt-leb}
 use Rattle.std.proofs.lemmas.Grind.{flat_map-append}
 use Rattle.seq_objects.specs.declared.act.Act.{Act}
 use Rattle.sp_order.specs.Precedence.{Tree, leaf}
+use Rattle.batchrun.specs.Forms.{act_tokens}
 use Rattle.batchrun.specs.Joins.{joined}
-use Rattle.batchrun.specs.Grammar.{Items, nothing, leaf_then, block_then, act_tokens, head_tokens, items_tokens, HasSmallNumbers, nesting, acts_in, shapes_in, kind_of}
+use Rattle.batchrun.specs.Grammar.{Items, nothing, leaf_then, block_then, head_tokens, items_tokens, HasSmallNumbers, nesting, acts_in, shapes_in, kind_of}
 use Rattle.batchrun.specs.declared.piece.Piece.{Piece}
 use Rattle.batchrun.specs.declared.piece.Piece.TheVariants.{Leaf, Open, Close}
 use Rattle.batchrun.specs.Steps.{piece_tokens, State, OpenBlock, at, run}

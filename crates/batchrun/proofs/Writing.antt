@@ -1,62 +1,12 @@
 -- Tokens write one list of pieces at most, and what is left of it is read from where its front leads.
-use Rattle.std.proofs.Common.{◌≡◌, ℕ, List, [], ◌∷◌, ◌++◌, Bool, true, false, Option, Some, None, get_or, refl, sym, ap, ◌∙◌, arith}
+use Rattle.std.proofs.Common.{◌≡◌, ℕ, List, [], ◌∷◌, ◌++◌, Bool, true, false, Option, Some, None, refl, sym, ap, ◌∙◌}
 use Rattle.std.specs.List.{AllByRecursion, flat_map}
-use Rattle.std.specs.Fmt.{decimal}
-use Rattle.std.proofs.lemmas.Fmt.{decimal_injective}
-use Rattle.seq_objects.specs.declared.act.Act.TheVariants.{Work, Call}
-use Rattle.seq_objects.specs.declared.op.Op.TheVariants.{CounterAdd}
-use Rattle.batchrun.specs.declared.head.Head.TheVariants.{Seq, Par}
 use Rattle.batchrun.specs.declared.piece.Piece.{Piece}
-use Rattle.batchrun.specs.declared.piece.Piece.TheVariants.{Leaf, Open, Close}
 use Rattle.batchrun.specs.Steps.{piece_tokens, IsSmall, State, step, run, Leads}
+use Rattle.batchrun.proofs.Telling.{some_token, same_front}
 
 abbrev pub AreSmall : List Piece → Type 0
 AreSmall pieces = AllByRecursion (λ piece. IsSmall piece) pieces
-
--- by what a piece is told from another kind
-abbrev first_byte : List (List ℕ) → ℕ
-first_byte [] = 0
-first_byte (token ∷ tokens) = get_or token 0 0
-
--- two pieces that begin one list of tokens are the same, and so are the tokens behind them
-pub same_front : (p q : Piece) (xs ys : List (List ℕ)) → IsSmall p → IsSmall q → piece_tokens p ++ xs ≡ piece_tokens q ++ ys → (p ≡ q) × (xs ≡ ys)
-same_front (Leaf (Work m)) (Leaf (Work n)) xs ys small small' is =
-    let digits : decimal m ≡ decimal n = cc in
-    (ap (λ k. Leaf (Work k)) (decimal_injective m n (omega arith) (omega arith) digits), cc)
-same_front (Leaf (Call (CounterAdd m))) (Leaf (Call (CounterAdd n))) xs ys small small' is =
-    let digits : decimal m ≡ decimal n = cc in
-    (ap (λ k. Leaf (Call (CounterAdd k))) (decimal_injective m n (omega arith) (omega arith) digits), cc)
-same_front (Open Seq) (Open Seq) xs ys small small' is = (refl, cc)
-same_front (Open Par) (Open Par) xs ys small small' is = (refl, cc)
-same_front Close Close xs ys small small' is = (refl, cc)
-same_front (Leaf (Work m)) (Leaf (Call (CounterAdd n))) xs ys small small' is = absurd (omega (arith, ap first_byte is))
-same_front (Leaf (Work m)) (Open Seq) xs ys small small' is = absurd (omega (arith, ap first_byte is))
-same_front (Leaf (Work m)) (Open Par) xs ys small small' is = absurd (omega (arith, ap first_byte is))
-same_front (Leaf (Work m)) Close xs ys small small' is = absurd (omega (arith, ap first_byte is))
-same_front (Leaf (Call (CounterAdd m))) (Leaf (Work n)) xs ys small small' is = absurd (omega (arith, ap first_byte is))
-same_front (Leaf (Call (CounterAdd m))) (Open Seq) xs ys small small' is = absurd (omega (arith, ap first_byte is))
-same_front (Leaf (Call (CounterAdd m))) (Open Par) xs ys small small' is = absurd (omega (arith, ap first_byte is))
-same_front (Leaf (Call (CounterAdd m))) Close xs ys small small' is = absurd (omega (arith, ap first_byte is))
-same_front (Open Seq) (Leaf (Work n)) xs ys small small' is = absurd (omega (arith, ap first_byte is))
-same_front (Open Seq) (Leaf (Call (CounterAdd n))) xs ys small small' is = absurd (omega (arith, ap first_byte is))
-same_front (Open Seq) (Open Par) xs ys small small' is = absurd (omega (arith, ap first_byte is))
-same_front (Open Seq) Close xs ys small small' is = absurd (omega (arith, ap first_byte is))
-same_front (Open Par) (Leaf (Work n)) xs ys small small' is = absurd (omega (arith, ap first_byte is))
-same_front (Open Par) (Leaf (Call (CounterAdd n))) xs ys small small' is = absurd (omega (arith, ap first_byte is))
-same_front (Open Par) (Open Seq) xs ys small small' is = absurd (omega (arith, ap first_byte is))
-same_front (Open Par) Close xs ys small small' is = absurd (omega (arith, ap first_byte is))
-same_front Close (Leaf (Work n)) xs ys small small' is = absurd (omega (arith, ap first_byte is))
-same_front Close (Leaf (Call (CounterAdd n))) xs ys small small' is = absurd (omega (arith, ap first_byte is))
-same_front Close (Open Seq) xs ys small small' is = absurd (omega (arith, ap first_byte is))
-same_front Close (Open Par) xs ys small small' is = absurd (omega (arith, ap first_byte is))
-
--- a piece has a token
-pub some_token : (p : Piece) (xs : List (List ℕ)) → piece_tokens p ++ xs ≡ [] → ⊥
-some_token (Leaf (Work m)) xs is = cc
-some_token (Leaf (Call (CounterAdd m))) xs is = cc
-some_token (Open Seq) xs is = cc
-some_token (Open Par) xs is = cc
-some_token Close xs is = cc
 
 one_list : (ps qs : List Piece) → AreSmall ps → AreSmall qs → flat_map piece_tokens ps ≡ flat_map piece_tokens qs → ps ≡ qs
 one_list [] [] small small' is = refl

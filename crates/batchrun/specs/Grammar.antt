@@ -1,11 +1,8 @@
 -- The grammar of the job language, as derivations: what items a text writes, and what they are.
-use Rattle.std.specs.Prelude.{ℕ, ◌+◌, ◌<◌, ◌^◌, List, [], ◌∷◌, ◌++◌, codes, max, option_to_list}
-use Rattle.std.specs.Fmt.{decimal}
-use Rattle.seq_objects.specs.Objects.{argument_of}
+use Rattle.std.specs.Prelude.{ℕ, ◌+◌, List, [], ◌∷◌, ◌++◌, codes, max, option_to_list}
 use Rattle.seq_objects.specs.declared.act.Act.{Act}
-use Rattle.seq_objects.specs.declared.act.Act.TheVariants.{Work, Call}
-use Rattle.seq_objects.specs.declared.op.Op.TheVariants.{CounterAdd}
 use Rattle.sp_order.specs.Precedence.{Tree, leaf, seq, par}
+use Rattle.batchrun.specs.Forms.{act_tokens, number_of, IsSmallNumber}
 use Rattle.batchrun.specs.Joins.{joined}
 use Rattle.batchrun.specs.declared.head.Head.{Head}
 use Rattle.batchrun.specs.declared.head.Head.TheVariants.{Seq, Par}
@@ -15,11 +12,6 @@ pub data Items : Type 0 where
   nothing : Items
   leaf_then : Act → (more : Items) → Items
   block_then : Head → (body : Items) → (more : Items) → Items
-
--- the tokens that write an act; a number is written in decimal, without leading zeros
-abbrev pub act_tokens : Act → List (List ℕ)
-act_tokens (Work steps) = codes "work" ∷ decimal steps ∷ []
-act_tokens (Call (CounterAdd addend)) = codes "counter" ∷ codes "add" ∷ decimal addend ∷ []
 
 -- the tokens that open a block
 abbrev pub head_tokens : Head → List (List ℕ)
@@ -32,15 +24,10 @@ items_tokens nothing = []
 items_tokens (leaf_then act more) = act_tokens act ++ items_tokens more
 items_tokens (block_then head body more) = head_tokens head ++ (items_tokens body ++ codes "}" ∷ items_tokens more)
 
--- the number in an act
-abbrev pub number_of : Act → ℕ
-number_of (Work steps) = steps
-number_of (Call op) = argument_of op
-
 -- each number fits 32 bits
 abbrev pub HasSmallNumbers : Items → Type 0
 HasSmallNumbers nothing = Unit {0}
-HasSmallNumbers (leaf_then act more) = (number_of act < 2 ^ 32) × HasSmallNumbers more
+HasSmallNumbers (leaf_then act more) = IsSmallNumber (number_of act) × HasSmallNumbers more
 HasSmallNumbers (block_then head body more) = HasSmallNumbers body × HasSmallNumbers more
 
 -- how many blocks are open where most are

@@ -9,6 +9,7 @@ pub use Rattle.batch_history.specs.Text
 pub use Rattle.batcher_core.specs.Reports
 pub mod Words
 pub mod Tokens
+pub mod Forms
 pub mod Joins
 pub mod Grammar
 pub mod Language

@@ -1,10 +1,11 @@
 -- A machine that reads a text piece by piece. Private: what is promised of a reading cites the grammar.
-use Rattle.std.specs.Prelude.{◌≡◌, ℕ, ◌<◌, ◌^◌, List, [], ◌∷◌, ◌++◌, length, codes, Bool, true, false, nat_le, if◌then◌else◌, Option, Some, None, option_and_then, option_to_list}
+use Rattle.std.specs.Prelude.{◌≡◌, ℕ, List, [], ◌∷◌, ◌++◌, length, codes, Bool, true, false, nat_le, if◌then◌else◌, Option, Some, None, option_and_then, option_to_list}
 use Rattle.seq_objects.specs.declared.act.Act.{Act}
 use Rattle.sp_order.specs.Precedence.{Tree, leaf, seq}
 use Rattle.sp_order.specs.Jobs.{JobValue}
+use Rattle.batchrun.specs.Forms.{act_tokens, number_of, IsSmallNumber}
 use Rattle.batchrun.specs.Joins.{joined}
-use Rattle.batchrun.specs.Grammar.{act_tokens, head_tokens, number_of, kind_of}
+use Rattle.batchrun.specs.Grammar.{head_tokens, kind_of}
 use Rattle.batchrun.specs.declared.head.Head.{Head}
 use Rattle.batchrun.specs.declared.piece.Piece.{Piece}
 use Rattle.batchrun.specs.declared.piece.Piece.TheVariants.{Leaf, Open, Close}
@@ -17,7 +18,7 @@ piece_tokens Close = codes "}" ∷ []
 
 -- the number of a piece fits 32 bits
 abbrev pub IsSmall : Piece → Type 0
-IsSmall (Leaf act) = number_of act < 2 ^ 32
+IsSmall (Leaf act) = IsSmallNumber (number_of act)
 IsSmall (Open head) = Unit {0}
 IsSmall Close = Unit {0}
 

@@ -15,6 +15,9 @@ pub mod join;
 mod language_tests;
 pub mod laws;
 pub mod number;
+pub mod operation;
+#[cfg(test)]
+mod operation_tests;
 pub mod outcome;
 pub mod piece;
 pub mod reader;

@@ -34,6 +34,7 @@ pub(crate) fn number_in(token: &[u8]) -> Option<u32>
 /// The number that the text's first token writes, and the text behind it.
 pub(crate) fn next_number(text: &[u8]) -> Option<(u32, &[u8])>
     ensures some { IfSome result (λ found. tokens text.now ≡ decimal found.0 ∷ tokens found.1.now) }
+    ensures small { IfSome result (λ found. found.0 < 2 ^ 32) }
     ensures none { IfNone result ((number : ℕ) (more : List (List ℕ)) → number < 2 ^ 32 → tokens text.now ≡ decimal number ∷ more → ⊥) }
     ensures within { IfSome result (λ found. length found.1.now ≤ length text.now) }
 {

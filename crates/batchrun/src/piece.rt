@@ -1,14 +1,16 @@
 //! The pieces of a job's text.
-ghost use Rattle.std.specs.Prelude.{◌≡◌, ◌<◌, ◌≤◌, ◌^◌, [], ◌∷◌, ◌++◌, ℕ, List, codes, length, MatchOption, IfSome, IfNone};
+ghost use Rattle.std.specs.Prelude.{◌≡◌, ◌≤◌, [], ◌∷◌, ◌++◌, ℕ, List, codes, length, MatchOption, IfSome, IfNone};
 ghost use Rattle.batchrun.specs.Tokens.{tokens};
-ghost use Rattle.batchrun.specs.Grammar.{act_tokens, number_of, head_tokens};
+ghost use Rattle.batchrun.specs.Forms.{act_tokens, number_of, IsSmallNumber};
+ghost use Rattle.batchrun.specs.Grammar.{head_tokens};
 ghost use Rattle.batchrun.specs.Steps.{piece_tokens, IsSmall};
 ghost use Rattle.batchrun.specs.declared.piece.Piece.{Piece};
 
 use crate::head::Head;
 use crate::number::next_number;
+use crate::operation::operation_behind;
 use crate::token::next_token;
-use seq_objects::{Act, Op};
+use seq_objects::Act;
 
 /// A piece of a job's text.
 #[derive(Clone, Copy, Debug, PartialEq, Eq)]
@@ -24,22 +26,17 @@ pub enum Piece {
 /// The act whose first token was `word` and whose others begin the text, and the text behind them.
 fn act_behind<'a>(word: &[u8], text: &'a [u8]) -> Option<(Act, &'a [u8])>
     ensures some { IfSome result (λ found. word.now ∷ tokens text.now ≡ act_tokens found.0 ++ tokens found.1.now) }
-    ensures fits { IfSome result (λ found. number_of found.0 < 2 ^ 32) }
-    ensures none { IfNone result ((act : Act) (more : List (List ℕ)) → number_of act < 2 ^ 32 → word.now ∷ tokens text.now ≡ act_tokens act ++ more → ⊥) }
+    ensures fits { IfSome result (λ found. IsSmallNumber (number_of found.0)) }
+    ensures none { IfNone result ((act : Act) (more : List (List ℕ)) → IsSmallNumber (number_of act) → word.now ∷ tokens text.now ≡ act_tokens act ++ more → ⊥) }
     ensures within { IfSome result (λ found. length found.1.now ≤ length text.now) }
 {
     if word == b"work".as_slice() {
         let (steps, rest) = next_number(text)?;
         return Some((Act::Work(steps), rest));
     }
-    if word == b"counter".as_slice() {
-        let (second, after) = next_token(text)?;
-        if second == b"add".as_slice() {
-            let (addend, rest) = next_number(after)?;
-            return Some((Act::Call(Op::CounterAdd(addend)), rest));
-        }
-    }
-    None
+    let (verb, after) = next_token(text)?;
+    let (op, rest) = operation_behind(word, verb, after)?;
+    Some((Act::Call(op), rest))
 }
 
 /// What a word opens, if it is the head of a block.

@@ -22,6 +22,8 @@ pub mod outcome;
 pub mod piece;
 pub mod reader;
 pub mod run;
+#[cfg(test)]
+mod schedule_tests;
 pub mod status;
 pub mod tell;
 #[cfg(test)]

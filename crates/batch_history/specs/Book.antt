@@ -4,7 +4,7 @@ use Rattle.std.specs.Prelude.{◌≡◌, ◌≢◌, ◌<◌, ◌^◌, List, [], 
 use Rattle.std.specs.List.{AllByRecursion}
 use Rattle.seq_objects.specs.Objects.{Objects, opening, after, reply_to}
 use Rattle.seq_objects.specs.BatchOrder.{ComesFirst}
-use Rattle.batch_history.specs.Pairs.{EachPair, AreDistinct}
+use Rattle.seq_objects.specs.Pairs.{EachPair, AreDistinct}
 use Rattle.batch_history.specs.declared.batch.Entry.{Entry}
 
 -- the entries of a book, one batch after another

@@ -9,7 +9,7 @@ use Rattle.seq_objects.specs.declared.act.Act.TheVariants.{Work, Call}
 use Rattle.seq_objects.specs.declared.op.Op.{Op}
 use Rattle.sp_order.specs.Precedence.{IsBefore, leaf_count}
 use Rattle.sp_order.specs.Jobs.{JobValue}
-use Rattle.batch_history.specs.Pairs.{HasEachOnce}
+use Rattle.seq_objects.specs.Pairs.{HasEachOnce}
 use Rattle.batch_history.specs.Book.{flat, IsLegal, IsBatch}
 use Rattle.batch_history.specs.declared.batch.Entry.{Entry}
 use Rattle.batch_history.specs.declared.row.Row.{Row}

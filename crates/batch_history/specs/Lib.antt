@@ -2,9 +2,9 @@ pub use Rattle.seq_objects.specs.Objects
 pub use Rattle.seq_objects.specs.BatchOrder
 pub use Rattle.seq_objects.specs.Spin
 pub use Rattle.seq_objects.specs.Words
+pub use Rattle.seq_objects.specs.Pairs
 pub use Rattle.sp_order.specs.Precedence
 pub use Rattle.sp_order.specs.Jobs
-pub mod Pairs
 pub mod Book
 pub mod Lawful
 pub mod Text

@@ -7,7 +7,7 @@ use Rattle.std.proofs.lemmas.Simd.{map-map}
 use Rattle.seq_objects.specs.BatchOrder.{ComesFirst}
 use Rattle.seq_objects.specs.declared.call.Call.{Call}
 use Rattle.batch_history.specs.declared.batch.Entry.{Entry}
-use Rattle.batch_history.specs.Pairs.{EachPair}
+use Rattle.seq_objects.specs.Pairs.{EachPair}
 use Rattle.batch_history.specs.Book.{IsLegalFrom}
 use Rattle.batcher_core.specs.declared.task.Task.{Task}
 use Rattle.batcher_core.specs.declared.status.Status.{Status}

@@ -6,7 +6,7 @@ use Rattle.std.proofs.Math.ListN.{drop_of_length-le}
 use Rattle.std.proofs.lemmas.Bool.Decides.{nat_tests}
 use Rattle.std.specs.List.{AllByRecursion}
 use Rattle.batch_history.specs.declared.batch.Entry.{Entry}
-use Rattle.batch_history.specs.Pairs.{AreDistinct}
+use Rattle.seq_objects.specs.Pairs.{AreDistinct}
 use Rattle.batch_history.specs.Book.{flat}
 use Rattle.batcher_core.specs.declared.status.Receipt.{Receipt}
 use Rattle.batcher_core.specs.Operations.{Place, place_in, or_else, place_of}

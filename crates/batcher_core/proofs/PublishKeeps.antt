@@ -8,7 +8,7 @@ use Rattle.seq_objects.specs.declared.act.Act.TheVariants.{Work, Call}
 use Rattle.sp_order.specs.declared.node.Kind.TheVariants.{LeafNode}
 use Rattle.sp_order.specs.Plans.{IsPlan}
 use Rattle.batch_history.specs.declared.batch.Entry.{Entry}
-use Rattle.batch_history.specs.Pairs.{AreDistinct}
+use Rattle.seq_objects.specs.Pairs.{AreDistinct}
 use Rattle.batch_history.specs.Book.{flat, IsBatch}
 use Rattle.batcher_core.specs.declared.progress.Progress.{Progress}
 use Rattle.batcher_core.specs.declared.progress.Progress.TheVariants.{Taken}

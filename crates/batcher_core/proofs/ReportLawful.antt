@@ -12,7 +12,7 @@ use Rattle.sp_order.specs.Jobs.{JobValue}
 use Rattle.batch_history.specs.declared.batch.Entry.{Entry}
 use Rattle.batch_history.specs.declared.row.Row.{Row}
 use Rattle.batch_history.specs.declared.report.Report.{Report}
-use Rattle.batch_history.specs.Pairs.{HasEachOnce}
+use Rattle.seq_objects.specs.Pairs.{HasEachOnce}
 use Rattle.batch_history.specs.Book.{flat}
 use Rattle.batch_history.specs.Lawful.{HasRows, KeepsOrder, IsCallLeaf, HasCalls, KeepsTicks, HasValues, Lawful}
 use Rattle.batcher_core.specs.State.{CoreJob, State, core_job}

@@ -5,7 +5,7 @@ use Rattle.std.proofs.lemmas.Bool.Decides.{nat_tests}
 use Rattle.std.proofs.lemmas.Cmp.{nat_eq_equiv}
 use Rattle.std.proofs.lemmas.Map.Steps.{length-le_from_distinct_below, le-length_from_below}
 use Rattle.std.proofs.lemmas.Map.Views.{Contains-from_any, list_any-from_Contains}
-use Rattle.batch_history.specs.Pairs.{AreDistinct, HasEachOnce}
+use Rattle.seq_objects.specs.Pairs.{AreDistinct, HasEachOnce}
 use Rattle.batch_history.specs.Lawful.{ticks_of}
 use Rattle.batch_history.specs.declared.row.Row.{Row}
 use Rattle.batcher_core.specs.declared.progress.Progress.TheVariants.{Ran}

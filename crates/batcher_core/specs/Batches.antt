@@ -5,7 +5,7 @@ use Rattle.seq_objects.specs.BatchOrder.{ComesFirst}
 use Rattle.seq_objects.specs.declared.call.Call.{Call}
 use Rattle.sp_order.specs.declared.node.Kind.TheVariants.{LeafNode}
 use Rattle.batch_history.specs.declared.batch.Entry.{Entry}
-use Rattle.batch_history.specs.Pairs.{EachPair, AreDistinct}
+use Rattle.seq_objects.specs.Pairs.{EachPair, AreDistinct}
 use Rattle.batcher_core.specs.declared.task.Task.{Task}
 use Rattle.batcher_core.specs.declared.task.Task.TheVariants.{Started}
 use Rattle.batcher_core.specs.declared.status.Receipt.{Receipt}

@@ -4,7 +4,7 @@ use Rattle.std.specs.List.{AllByRecursion}
 use Rattle.seq_objects.specs.Objects as objects
 use Rattle.sp_order.specs.declared.node.Kind.TheVariants.{LeafNode}
 use Rattle.batch_history.specs.declared.batch.Entry.{Entry}
-use Rattle.batch_history.specs.Pairs.{AreDistinct}
+use Rattle.seq_objects.specs.Pairs.{AreDistinct}
 use Rattle.batch_history.specs.Book.{flat, IsLegal, IsBatch}
 use Rattle.batcher_core.specs.declared.progress.Progress.TheVariants.{Ran}
 use Rattle.batcher_core.specs.declared.task.Task.{Task}

@@ -5,7 +5,7 @@ pub use Rattle.sp_order.specs.Plans
 pub use Rattle.sp_order.specs.Stands
 pub use Rattle.sp_order.specs.TreeCode
 pub use Rattle.sp_order.specs.Preorder
-pub use Rattle.batch_history.specs.Pairs
+pub use Rattle.seq_objects.specs.Pairs
 pub use Rattle.batch_history.specs.Book
 pub use Rattle.batch_history.specs.Lawful
 pub mod State

@@ -2,7 +2,7 @@
 ghost use Rattle.std.specs.Prelude.{◌≡◌, ◌<◌, ◌≤◌, ◌^◌, length, map};
 ghost use Rattle.sp_order.specs.Preorder.{nodes_of};
 ghost use Rattle.batch_history.specs.Book.{flat};
-ghost use Rattle.batch_history.specs.Pairs.{AreDistinct};
+ghost use Rattle.seq_objects.specs.Pairs.{AreDistinct};
 ghost use Rattle.batcher_core.specs.State.{core_job};
 ghost use Rattle.batcher_core.specs.Operations.{place_of};
 ghost use Rattle.batcher_core.specs.Tasks.{names};

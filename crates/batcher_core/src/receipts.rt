@@ -1,7 +1,7 @@
 //! The receipts for the entries of a book.
 ghost use Rattle.std.specs.Prelude.{◌≡◌, ◌<◌, ◌^◌, length, map};
 ghost use Rattle.batch_history.specs.Book.{flat};
-ghost use Rattle.batch_history.specs.Pairs.{AreDistinct};
+ghost use Rattle.seq_objects.specs.Pairs.{AreDistinct};
 ghost use Rattle.batcher_core.specs.Operations.{place_in, place_of};
 ghost use Rattle.batcher_core.specs.Batches.{receipt_at};
 

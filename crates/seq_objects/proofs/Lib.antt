@@ -1,3 +1,5 @@
 mod Bags
+mod Classes
 mod Keys
+mod Meets
 mod Members

@@ -1,6 +1,10 @@
 pub mod Objects
 pub mod BatchOrder
+pub mod Batches
 pub mod Heaps
 pub mod Orders
+pub mod Pairs
+pub mod Pieces
+pub mod Serial
 pub mod Spin
 pub mod Words

@@ -3,11 +3,14 @@
 //! The meaning of every run rests on this crate: the serial objects say what each operation does and
 //! replies, `Plain` serves them one after another, and the batch order says in which order the calls of one
 //! batch are served. `laws` says that the lists of the serial objects stay in order, and what is in them. The
-//! work of a leaf without a call is here too. The crate stands on nothing but std.
+//! work of a leaf without a call is here too. `Batched` is what a structure owes that serves a whole batch in
+//! pieces: the replies and the content of serving its calls one after another; `serve_batch` shows that this
+//! is enough. The crate stands on nothing but std.
 #![tactic(auto)]
 
 pub mod act;
 mod bag;
+pub mod batched;
 pub mod call;
 pub mod laws;
 pub mod op;
@@ -16,6 +19,7 @@ pub mod reply;
 pub mod work;
 
 pub use act::Act;
+pub use batched::{Batched, serve_batch};
 pub use call::{Call, comes_first};
 pub use op::Op;
 pub use plain::Plain;

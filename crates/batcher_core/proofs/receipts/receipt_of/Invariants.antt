@@ -1,6 +1,6 @@
 use Rattle.std.proofs.Common.{◌≡◌, ◌≤◌, length, take, map}
 use Rattle.batch_history.specs.Book.{flat}
-use Rattle.batch_history.specs.Pairs.{AreDistinct}
+use Rattle.seq_objects.specs.Pairs.{AreDistinct}
 use Rattle.batcher_core.specs.Operations.{place_of}
 use Rattle.batcher_core.proofs.receipts.receipt_of.Given as goal
 

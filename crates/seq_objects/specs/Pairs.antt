@@ -1,4 +1,4 @@
--- Lists without repeats.
+-- What holds of each two elements of a list, and lists without repeats.
 use Rattle.std.specs.Prelude.{◌≢◌, ℕ, List, [], ◌∷◌, Contains}
 use Rattle.std.specs.List.{AllByRecursion}
 

@@ -1,0 +1,2 @@
+mod Law
+mod Rows

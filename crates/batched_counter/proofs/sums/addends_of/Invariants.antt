@@ -1,0 +1,7 @@
+use Rattle.std.proofs.Common.{◌≡◌, ◌++◌, drop}
+use Rattle.batched_counter.specs.Adds.{addends}
+use Rattle.batched_counter.proofs.sums.addends_of.Given as goal
+
+-- the addends so far and those of what is left are all
+abbrev pub invariant-loop-call : goal.invariant-loop-call
+invariant-loop-call l = l.all.items ++ addends (drop l.call-index l.calls) ≡ addends l.calls

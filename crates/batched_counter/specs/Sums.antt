@@ -1,0 +1,12 @@
+-- Sums of lists of numbers.
+use Rattle.std.specs.Prelude.{ℕ, ◌+◌, List, [], ◌∷◌}
+
+-- the sum of all
+abbrev pub total : List ℕ → ℕ
+total [] = 0
+total (x ∷ xs) = x + total xs
+
+-- for each number, the sum of n, of those before it and of itself
+abbrev pub sums_from : ℕ → List ℕ → List ℕ
+sums_from n [] = []
+sums_from n (x ∷ xs) = (n + x) ∷ sums_from (n + x) xs

@@ -1,0 +1,15 @@
+mod Basics
+mod Cutting
+mod Final
+mod Law
+mod Moved
+mod Numbers
+mod Parts
+mod Remembered
+mod Replies
+mod Rows
+mod Serial
+mod Striped
+mod Taken
+mod Tops
+mod Whole

@@ -1,0 +1,9 @@
+pub mod Calls
+pub mod Stripes
+pub mod Lists
+pub mod Rooms
+pub mod Moves
+pub mod Pieces
+pub mod Cuts
+pub mod Kept
+pub mod Joined

@@ -1,0 +1,27 @@
+//! The pieces of a batch, each of one stripe.
+ghost use Rattle.std.specs.Prelude.{◌+◌, ◌<◌, ◌≤◌, length};
+
+use crate::stripe::Stripe;
+
+/// A stripe, with the batch's calls of it.
+#[derive(Drop)]
+pub struct Piece {
+    /// Which of the stripes it is.
+    pub number: usize,
+    pub stripe: Stripe,
+    /// The items that go to this stripe, in their order.
+    pub pushes: Vec<u32>,
+    /// How many of the batch's pops take an item of this stripe.
+    pub pops: usize,
+    ghost low: { number < 16 },
+    ghost few: { pops ≤ length stripe.items.items + length pushes.items },
+}
+
+/// A stripe after its piece, and the items that were taken, the newest first.
+#[derive(Drop)]
+pub struct Served {
+    pub number: usize,
+    pub stripe: Stripe,
+    pub popped: Vec<u32>,
+    ghost low: { number < 16 },
+}

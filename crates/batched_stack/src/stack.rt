@@ -1,0 +1,162 @@
+//! The stack.
+ghost use Rattle.std.specs.Prelude.{◌≡◌, [], length, IfOk, OnOk};
+ghost use Rattle.seq_objects.specs.Serial.{replies_to_all, after_all, of_stack};
+ghost use Rattle.seq_objects.specs.Pieces.{AllMeet, Opening};
+ghost use Rattle.batched_stack.specs.declared.piece.Piece.{Piece as PieceOf};
+ghost use Rattle.batched_stack.specs.Stripes.{StackView};
+ghost use Rattle.batched_stack.specs.Rooms.{AreNext};
+ghost use Rattle.batched_stack.specs.Moves.{first_rooms};
+ghost use Rattle.batched_stack.specs.Kept.{AreEmpty};
+ghost use Rattle.batched_stack.specs.Calls.{MayServe};
+ghost use Rattle.batched_stack.specs.Pieces.{Cut, Meets, Remembers};
+
+use crate::cut::{cut, pops_of, pushes_of};
+use crate::join::{put_back, replies_of, rooms_of};
+use crate::piece::{Piece, Served};
+use crate::room::empty_stripe;
+use crate::serve::serve_piece;
+use crate::stripe::Stripe;
+use seq_objects::{Batched, Call, Reply};
+use std::alloc::{AllocError, Global};
+use std::marker::Model;
+
+/// A stack in 16 stripes. Contracts see its items, the last one the top, and the rooms of its stripes.
+#[derive(Drop)]
+pub struct Stack {
+    stripes: Vec<Stripe>,
+    rooms: Vec<u64>,
+    count: usize,
+}
+
+impl Model for Stack {
+    ghost use Rattle.batched_stack.specs.Stripes.{StackView, items_of};
+    ghost use Rattle.batched_stack.specs.Lists.{lists};
+    ghost use Rattle.batched_stack.specs.Kept.{IsWhole};
+
+    ghost Value = { StackView };
+
+    ghost view = { λ s. record { items = items_of (lists s.stripes.items) s.count; rooms = s.rooms.items } };
+
+    ghost invariant = { λ s. IsWhole s.stripes.items s.rooms.items s.count };
+}
+
+/// More items than any memory holds.
+const TOO_MANY: usize = 1 << 62;
+
+/// What is kept of a stack while its pieces are worked on: the stripes that no piece has, and how many items
+/// the stack had and how many pushes and pops the batch has.
+#[derive(Drop)]
+pub struct Rest {
+    pub stripes: Vec<Stripe>,
+    pub count: usize,
+    pub pushes: usize,
+    pub pops: usize,
+}
+
+/// Stripes without items.
+fn empty_stripes(alloc: Global) -> Result<Vec<Stripe>, AllocError>
+    ensures { IfOk result (λ v. AreEmpty v.items) }
+{
+    let mut stripes = Vec::new(alloc);
+    for _ in 0..16u32 {
+        stripes.push(empty_stripe(alloc)?)?;
+    }
+    Ok(stripes)
+}
+
+impl Stack {
+    /// A stack without items.
+    pub fn new(alloc: Global) -> Result<Stack, AllocError>
+        ensures items { IfOk result (λ s. s.items ≡ []) }
+        ensures rooms { IfOk result (λ s. s.rooms ≡ first_rooms) }
+    {
+        let stripes = empty_stripes(alloc)?;
+        let rooms = rooms_of(alloc, &stripes)?;
+        Ok(Stack {
+            stripes,
+            rooms,
+            count: 0,
+        })
+    }
+
+    /// The rooms of the 16 stripes: how many items each stripe's vector has room for.
+    pub fn rooms(&self) -> &[u64]
+        ensures rooms { result.now ≡ self.now.rooms }
+        ensures sixteen { length result.now ≡ 16 }
+    {
+        &self.rooms
+    }
+}
+
+impl Batched for Stack {
+    type In = Piece;
+
+    type Out = Served;
+
+    type Rest = Rest;
+
+    const MOST: u32 = 16;
+
+    ghost MOST = { 16 };
+
+    ghost content = { λ stack. of_stack stack.items };
+
+    ghost may_serve = { MayServe };
+
+    ghost cut = { Cut };
+
+    ghost meets = { Meets };
+
+    ghost remembers = { Remembers };
+
+    fn begin(self, alloc: Global, calls: &[Call]) -> Result<(Rest, Vec<Piece>), AllocError> {
+        let items = pushes_of(alloc, calls)?;
+        let pops = pops_of(calls);
+        let Stack {
+            stripes,
+            rooms: _,
+            count,
+        } = self;
+        if count >= TOO_MANY || items.len() >= TOO_MANY {
+            return Err(AllocError);
+        }
+        let (stripes, pieces) = cut(alloc, stripes, count, &items, pops)?;
+        let rest = Rest {
+            stripes,
+            count,
+            pushes: items.len(),
+            pops,
+        };
+        Ok((rest, pieces))
+    }
+
+    fn piece(alloc: Global, input: Piece) -> Result<Served, AllocError> {
+        serve_piece(alloc, input)
+    }
+
+    fn end(alloc: Global, rest: Rest, outs: Vec<Served>) -> Result<(Stack, Vec<Reply>), AllocError>
+        requires { (o : Opening StackView PieceOf) × Remembers rest o × AllMeet Meets o.ins outs.items }
+        ensures replies { IfOk result (λ p. (o : Opening StackView PieceOf) → Remembers rest o → AllMeet Meets o.ins outs.items → p.1.items ≡ replies_to_all (of_stack o.before.items) o.calls) }
+        ensures content { IfOk result (λ p. (o : Opening StackView PieceOf) → Remembers rest o → AllMeet Meets o.ins outs.items → of_stack p.0.items ≡ after_all (of_stack o.before.items) o.calls) }
+        // Each stripe's room is the one that the rule gives.
+        ensures rooms { IfOk result (λ p. (o : Opening StackView PieceOf) → Remembers rest o → AllMeet Meets o.ins outs.items → AreNext o.before.rooms (length p.0.items) p.0.rooms) }
+    {
+        let Rest {
+            stripes,
+            count,
+            pushes,
+            pops,
+        } = rest;
+        let total = count + pushes;
+        let left = total.saturating_sub(pops);
+        let (stripes, popped) = put_back(alloc, stripes, outs)?;
+        let rooms = rooms_of(alloc, &stripes)?;
+        let replies = replies_of(alloc, &popped, total, left, pushes, pops)?;
+        let stack = Stack {
+            stripes,
+            rooms,
+            count: left,
+        };
+        Ok((stack, replies))
+    }
+}

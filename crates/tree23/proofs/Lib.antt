@@ -1,0 +1,10 @@
+pub mod Adding
+pub mod Ascending
+pub mod Beside
+pub mod Depths
+pub mod Inserting
+pub mod KeysBehind
+pub mod Removing
+pub mod SidesOfAKey
+pub mod Sizes
+pub mod Trees

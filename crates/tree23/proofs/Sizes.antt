@@ -1,0 +1,38 @@
+-- The size of a node is that of its subtrees and of its own keys.
+use Rattle.std.proofs.Common.{◌≡◌, ℕ, ◌+◌, ◌%◌, ◌^◌, Bool, true, false, ◌==◌, nat_lt, if◌then◌else◌, List, [], ◌∷◌, ◌||◌, ◌++◌, length, arith, length-append}
+use Rattle.tree23.specs.Keys.{has, with_key, without_key}
+use Rattle.tree23.specs.Mending.{IsSizeWithOneMore, IsTaken}
+use Rattle.tree23.specs.Nodes.{IsSize}
+use Rattle.tree23.specs.Steps.{IsAdded}
+
+pub size_of_two : (i j : ℕ) (a b : List ℕ) (k : ℕ) → i ≡ length a % 2 ^ 64 → j ≡ length b % 2 ^ 64 → ((i + j) % 2 ^ 64 + 1) % 2 ^ 64 ≡ length (a ++ k ∷ b) % 2 ^ 64
+size_of_two i j a b k is is' = rw length-append (omega (arith, is, is'))
+
+pub size_of_three : (i j l : ℕ) (a b c : List ℕ) (k m : ℕ) → i ≡ length a % 2 ^ 64 → j ≡ length b % 2 ^ 64 → l ≡ length c % 2 ^ 64
+    → (((i + j) % 2 ^ 64 + l) % 2 ^ 64 + 2) % 2 ^ 64 ≡ length (a ++ k ∷ (b ++ m ∷ c)) % 2 ^ 64
+size_of_three i j l a b c k m is is' is'' = rw length-append (rw length-append (omega (arith, is, is', is'')))
+
+-- a key that is put in is one key more
+length_with : (key : ℕ) (xs : List ℕ) → has key xs ≡ false → length (with_key key xs) ≡ length xs + 1
+length_with key [] none = omega arith
+length_with key (x ∷ xs) none = step (nat_lt key x) (key == x) none (length_with key xs) where
+  step : (first same : Bool) → (same || has key xs) ≡ false → (has key xs ≡ false → length (with_key key xs) ≡ length xs + 1)
+      → length (if first then key ∷ x ∷ xs else (if same then x ∷ xs else x ∷ with_key key xs)) ≡ length (x ∷ xs) + 1
+  step true same none rest = omega arith
+  step false true none rest = absurd (cc)
+  step false false none rest = omega (arith, rest none)
+
+pub size_of_added : (key size : ℕ) (old new : List ℕ) → IsAdded key old new → IsSize size old → (size + 1) % 2 ^ 64 ≡ length new % 2 ^ 64
+size_of_added key size old new added is = rw added.is (omega (arith, is, length_with key old added.absent))
+
+-- and one less without it
+length_without : (key : ℕ) (xs : List ℕ) → has key xs ≡ true → length xs ≡ length (without_key key xs) + 1
+length_without key [] there = absurd (cc)
+length_without key (x ∷ xs) there = step (key == x) there (length_without key xs) where
+  step : (same : Bool) → (same || has key xs) ≡ true → (has key xs ≡ true → length xs ≡ length (without_key key xs) + 1)
+      → length (x ∷ xs) ≡ length (if same then xs else x ∷ without_key key xs) + 1
+  step true met rest = omega arith
+  step false met rest = omega (arith, rest met)
+
+pub size_of_taken : (key size : ℕ) (old new : List ℕ) → IsTaken key old new → IsSize size old → IsSizeWithOneMore size new
+size_of_taken key size old new taken kept = rw taken.is (omega (arith, kept, length_without key old taken.present))

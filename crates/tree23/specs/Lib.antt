@@ -1,0 +1,5 @@
+pub mod Keys
+pub mod Mending
+pub mod Nodes
+pub mod Splits
+pub mod Steps

@@ -1,0 +1,69 @@
+-- What a tree of nodes holds, and when it is balanced.
+use Rattle.std.specs.Prelude.{◌≡◌, ℕ, ◌+◌, ◌%◌, ◌<◌, ◌^◌, List, [], ◌∷◌, ◌++◌, length, ⊤}
+use Rattle.std.specs.List.{AllByRecursion}
+use Rattle.tree23.specs.declared.node.Tree.{Tree}
+use Rattle.tree23.specs.declared.node.Tree.TheVariants.{Leaf, One', Two', Three'}
+use Rattle.tree23.specs.declared.node.Grown.{Grown}
+use Rattle.tree23.specs.declared.node.Grown.TheVariants.{Fits, Splits}
+use Rattle.tree23.specs.Keys.{StrictlyAscends}
+
+-- the keys in order
+abbrev pub keys : Tree → List ℕ
+keys Leaf = []
+keys (One' p n a k b m c) = keys a
+keys (Two' p n a k b m c) = keys a ++ k ∷ keys b
+keys (Three' p n a k b m c) = keys a ++ k ∷ (keys b ++ m ∷ keys c)
+
+-- the levels of nodes, along the left edge
+abbrev pub depth : Tree → ℕ
+depth Leaf = 0
+depth (One' p n a k b m c) = depth a + 1
+depth (Two' p n a k b m c) = depth a + 1
+depth (Three' p n a k b m c) = depth a + 1
+
+-- the number with 64 bits that a node keeps of its keys
+abbrev pub IsSize : ℕ → List ℕ → Type 0
+IsSize n set = n ≡ length set % 2 ^ 64
+
+-- each node has two or three sides of one depth, and tells its size
+abbrev pub IsTree : Tree → Type 0
+IsTree Leaf = ⊤
+IsTree (One' p n a k b m c) = ⊥
+IsTree (Two' p n a k b m c) = IsTree a × IsTree b × (depth b ≡ depth a) × IsSize n (keys a ++ k ∷ keys b)
+IsTree (Three' p n a k b m c) = IsTree a × IsTree b × IsTree c × (depth b ≡ depth a) × (depth c ≡ depth a) × IsSize n (keys a ++ k ∷ (keys b ++ m ∷ keys c))
+
+-- the tree's root, and its keys
+pub record IsSet (root : Tree) : Type 0 where
+  pub tree : IsTree root
+  pub ascends : StrictlyAscends (keys root)
+  pub small : AllByRecursion (λ k. k < 2 ^ 32) (keys root)
+
+abbrev pub grown_keys : Grown → List ℕ
+grown_keys (Fits n) = keys n
+grown_keys (Splits a k b) = keys a ++ k ∷ keys b
+
+-- a tree of this depth, or two
+abbrev pub IsGrown : ℕ → Grown → Type 0
+IsGrown d (Fits n) = IsTree n × (depth n ≡ d)
+IsGrown d (Splits a k b) = IsTree a × IsTree b × (depth a ≡ d) × (depth b ≡ d)
+
+-- a tree, but the root may have one side
+abbrev pub IsLoose : Tree → Type 0
+IsLoose Leaf = ⊤
+IsLoose (One' p n a k b m c) = IsTree a
+IsLoose (Two' p n a k b m c) = IsTree (Two' p n a k b m c)
+IsLoose (Three' p n a k b m c) = IsTree (Three' p n a k b m c)
+
+-- the root has one side or two
+abbrev pub IsNarrow : Tree → Type 0
+IsNarrow Leaf = ⊥
+IsNarrow (One' p n a k b m c) = ⊤
+IsNarrow (Two' p n a k b m c) = ⊤
+IsNarrow (Three' p n a k b m c) = ⊥
+
+-- the root has three sides
+abbrev pub IsWide : Tree → Type 0
+IsWide Leaf = ⊥
+IsWide (One' p n a k b m c) = ⊥
+IsWide (Two' p n a k b m c) = ⊥
+IsWide (Three' p n a k b m c) = ⊤

@@ -1,0 +1,73 @@
+-- What an insertion into a tree comes to.
+use Rattle.std.specs.Prelude.{◌≡◌, ℕ, Bool, true, false, List, [], ◌∷◌, ◌++◌, Option, Some, None, ⊤}
+use Rattle.tree23.specs.declared.node.Tree.{Tree}
+use Rattle.tree23.specs.declared.node.Tree.TheVariants.{Leaf, One', Two', Three'}
+use Rattle.tree23.specs.declared.insert.Step.{Step}
+use Rattle.tree23.specs.declared.insert.Step.TheVariants.{Memory, Present, Added, Splits}
+use Rattle.tree23.specs.Keys.{with_key, has}
+use Rattle.tree23.specs.Nodes.{keys, depth, IsTree}
+
+-- the key was not there, and now it is
+pub record IsAdded (key : ℕ) (old new : List ℕ) : Type 0 where
+  pub is : new ≡ with_key key old
+  pub absent : has key old ≡ false
+
+-- the key was there, and nothing was changed
+pub record IsFound (key : ℕ) (old new : List ℕ) : Type 0 where
+  pub same : new ≡ old
+  pub present : has key old ≡ true
+
+-- whether a key is new
+abbrev pub IsInserted : ℕ → List ℕ → List ℕ → Bool → Type 0
+IsInserted key old new true = IsAdded key old new
+IsInserted key old new false = IsFound key old new
+
+-- a tree whose root has no room for one side more
+abbrev pub IsFull : Tree → Type 0
+IsFull Leaf = ⊤
+IsFull (One' p n a k b m c) = ⊥
+IsFull (Two' p n a k b m c) = ⊥
+IsFull (Three' p n a k b m c) = ⊤
+
+abbrev pub IsStep : ℕ → Tree → Tree → Step → Type 0
+IsStep key old new Memory = keys new ≡ keys old
+IsStep key old new Present = IsFound key (keys old) (keys new)
+IsStep key old new Added = IsAdded key (keys old) (keys new)
+IsStep key old new (Splits k right) = IsAdded key (keys old) (keys new ++ k ∷ keys right) × IsTree right × (depth right ≡ depth old) × IsFull old
+
+-- a box is there for a tree whose root has no room
+abbrev pub IsSpare : {A : Type 0} → Option A → Tree → Type 0
+IsSpare None tree = IsFull tree → ⊥
+IsSpare (Some box) tree = ⊤
+
+-- a node of two or of three trees of one depth, whatever its size says
+abbrev pub AreTwoSides : Tree → Type 0
+AreTwoSides Leaf = ⊥
+AreTwoSides (One' p n a k b m c) = ⊥
+AreTwoSides (Two' p n a k b m c) = IsTree a × IsTree b × (depth b ≡ depth a)
+AreTwoSides (Three' p n a k b m c) = ⊥
+
+abbrev pub AreThreeSides : Tree → Type 0
+AreThreeSides Leaf = ⊥
+AreThreeSides (One' p n a k b m c) = ⊥
+AreThreeSides (Two' p n a k b m c) = ⊥
+AreThreeSides (Three' p n a k b m c) = IsTree a × IsTree b × IsTree c × (depth b ≡ depth a) × (depth c ≡ depth a)
+
+-- the keys of a node, with a key and further keys behind one of its sides
+abbrev pub behind_first : ℕ → List ℕ → Tree → List ℕ
+behind_first j x Leaf = []
+behind_first j x (One' p n a k b m c) = []
+behind_first j x (Two' p n a k b m c) = keys a ++ j ∷ (x ++ k ∷ keys b)
+behind_first j x (Three' p n a k b m c) = (keys a ++ j ∷ x) ++ k ∷ (keys b ++ m ∷ keys c)
+
+abbrev pub behind_second : ℕ → List ℕ → Tree → List ℕ
+behind_second j x Leaf = []
+behind_second j x (One' p n a k b m c) = []
+behind_second j x (Two' p n a k b m c) = keys a ++ k ∷ (keys b ++ j ∷ x)
+behind_second j x (Three' p n a k b m c) = (keys a ++ k ∷ keys b) ++ j ∷ (x ++ m ∷ keys c)
+
+abbrev pub behind_third : ℕ → List ℕ → Tree → List ℕ
+behind_third j x Leaf = []
+behind_third j x (One' p n a k b m c) = []
+behind_third j x (Two' p n a k b m c) = []
+behind_third j x (Three' p n a k b m c) = (keys a ++ k ∷ keys b) ++ m ∷ (keys c ++ j ∷ x)

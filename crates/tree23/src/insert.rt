@@ -1,0 +1,188 @@
+//! A key put into a tree.
+ghost use Rattle.std.specs.Prelude.{◌≡◌, ◌+◌, ◌%◌, ◌^◌, IfOk, OnErr};
+ghost use Rattle.tree23.specs.declared.insert.Step.TheVariants.{Added};
+ghost use Rattle.tree23.specs.Keys.{StrictlyAscends};
+ghost use Rattle.tree23.specs.Nodes.{keys, depth, IsTree, IsNarrow, IsWide};
+ghost use Rattle.tree23.specs.Steps.{IsInserted, IsSpare, IsStep};
+
+use crate::node::{Node, Tree, bare, two};
+use crate::widen::{split_first, split_second, split_third, widen_first, widen_second};
+use std::alloc::{AllocError, Global};
+use std::mem;
+
+/// What an insertion came to.
+#[derive(Drop)]
+pub enum Step {
+    /// Nothing was changed.
+    Memory,
+    Present,
+    Added,
+    /// The rest of the keys, behind a key.
+    Splits(u32, Tree),
+}
+
+/// A box, where the tree may come apart when a key is put in.
+pub fn spare_for(alloc: Global, tree: &Tree) -> Result<Option<Box<Node>>, AllocError>
+    ensures { IfOk result (λ spare. IsSpare spare tree.now) }
+{
+    match tree {
+        Tree::Two(_) | Tree::One(_) => Ok(None),
+        Tree::Leaf | Tree::Three(_) => {
+            let spare = Box::new(alloc, bare())?;
+            Ok(Some(spare))
+        }
+    }
+}
+
+/// One key more below.
+fn counted(size: &mut u64) -> Step
+    ensures size { size.new ≡ (size.old + 1) % 2 ^ 64 }
+    ensures added { result ≡ Added }
+{
+    *size = size.wrapping_add(1);
+    Step::Added
+}
+
+/// Puts the key into a whole tree, and says whether it is new.
+pub fn insert_at_root(alloc: Global, root: &mut Tree, key: u32) -> Result<bool, AllocError>
+    requires tree { IsTree root.old }
+    requires ascends { StrictlyAscends (keys root.old) }
+    ensures tree { IsTree root.new }
+    ensures ok { IfOk result (λ added. IsInserted key (keys root.old) (keys root.new) added) }
+    ensures err { OnErr result (keys root.new ≡ keys root.old) }
+{
+    let spare = spare_for(alloc, root)?;
+    match insert_in(alloc, root, key) {
+        Step::Memory => Err(AllocError),
+        Step::Present => Ok(false),
+        Step::Added => Ok(true),
+        Step::Splits(k, right) => {
+            let Some(spare) = spare else { unreachable!() };
+            let left = mem::replace(root, Tree::Leaf);
+            *root = two(spare, left, k, right);
+            Ok(true)
+        }
+    }
+}
+
+/// Puts the key into the tree, in place.
+#[cycle(insertion)]
+#[tactic(auto, using(crate::proofs::Adding::adding))]
+pub fn insert_in(alloc: Global, tree: &mut Tree, key: u32) -> Step
+    requires tree { IsTree tree.old }
+    requires ascends { StrictlyAscends (keys tree.old) }
+    ensures tree { IsTree tree.new }
+    ensures depth { depth tree.new ≡ depth tree.old }
+    ensures step { IsStep key tree.old tree.new result }
+{
+    match tree {
+        Tree::Leaf => Step::Splits(key, Tree::Leaf),
+        Tree::Two(_) => insert_in_two(alloc, tree, key),
+        Tree::Three(_) => insert_in_three(alloc, tree, key),
+        Tree::One(_) => unreachable!(),
+    }
+}
+
+/// The same at a root with two sides.
+#[cycle(insertion)]
+#[tactic(auto, using(crate::proofs::Adding::adding))]
+fn insert_in_two(alloc: Global, tree: &mut Tree, key: u32) -> Step
+    requires tree { IsTree tree.old }
+    requires narrow { IsNarrow tree.old }
+    requires ascends { StrictlyAscends (keys tree.old) }
+    ensures tree { IsTree tree.new }
+    ensures depth { depth tree.new ≡ depth tree.old }
+    ensures step { IsStep key tree.old tree.new result }
+{
+    match tree {
+        Tree::Two(node) => {
+            if key < node.low {
+                match insert_in(alloc, &mut node.first, key) {
+                    Step::Splits(j, right) => {
+                        widen_first(tree, j, right);
+                        Step::Added
+                    }
+                    Step::Added => counted(&mut node.size),
+                    Step::Present => Step::Present,
+                    Step::Memory => Step::Memory,
+                }
+            } else if node.low < key {
+                match insert_in(alloc, &mut node.second, key) {
+                    Step::Splits(j, right) => {
+                        widen_second(tree, j, right);
+                        Step::Added
+                    }
+                    Step::Added => counted(&mut node.size),
+                    Step::Present => Step::Present,
+                    Step::Memory => Step::Memory,
+                }
+            } else {
+                Step::Present
+            }
+        }
+        Tree::Leaf | Tree::One(_) | Tree::Three(_) => unreachable!(),
+    }
+}
+
+/// The same at a root with three sides.
+#[cycle(insertion)]
+#[tactic(auto, using(crate::proofs::Adding::adding))]
+fn insert_in_three(alloc: Global, tree: &mut Tree, key: u32) -> Step
+    requires tree { IsTree tree.old }
+    requires wide { IsWide tree.old }
+    requires ascends { StrictlyAscends (keys tree.old) }
+    ensures tree { IsTree tree.new }
+    ensures depth { depth tree.new ≡ depth tree.old }
+    ensures step { IsStep key tree.old tree.new result }
+{
+    match tree {
+        Tree::Three(node) => {
+            if key < node.low {
+                let Ok(spare) = spare_for(alloc, &node.first) else {
+                    return Step::Memory;
+                };
+                match insert_in(alloc, &mut node.first, key) {
+                    Step::Splits(j, right) => {
+                        let Some(spare) = spare else { unreachable!() };
+                        let (k, rest) = split_first(tree, spare, j, right);
+                        Step::Splits(k, rest)
+                    }
+                    Step::Added => counted(&mut node.size),
+                    Step::Present => Step::Present,
+                    Step::Memory => Step::Memory,
+                }
+            } else if key == node.low || key == node.high {
+                Step::Present
+            } else if key < node.high {
+                let Ok(spare) = spare_for(alloc, &node.second) else {
+                    return Step::Memory;
+                };
+                match insert_in(alloc, &mut node.second, key) {
+                    Step::Splits(j, right) => {
+                        let Some(spare) = spare else { unreachable!() };
+                        let (k, rest) = split_second(tree, spare, j, right);
+                        Step::Splits(k, rest)
+                    }
+                    Step::Added => counted(&mut node.size),
+                    Step::Present => Step::Present,
+                    Step::Memory => Step::Memory,
+                }
+            } else {
+                let Ok(spare) = spare_for(alloc, &node.third) else {
+                    return Step::Memory;
+                };
+                match insert_in(alloc, &mut node.third, key) {
+                    Step::Splits(j, right) => {
+                        let Some(spare) = spare else { unreachable!() };
+                        let (k, rest) = split_third(tree, spare, j, right);
+                        Step::Splits(k, rest)
+                    }
+                    Step::Added => counted(&mut node.size),
+                    Step::Present => Step::Present,
+                    Step::Memory => Step::Memory,
+                }
+            }
+        }
+        Tree::Leaf | Tree::One(_) | Tree::Two(_) => unreachable!(),
+    }
+}

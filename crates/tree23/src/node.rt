@@ -1,0 +1,141 @@
+//! The nodes of a 2-3 tree, and how they are made of their sides.
+ghost use Rattle.std.specs.Prelude.{◌≡◌, ◌+◌, ◌%◌, ◌<◌, ◌^◌, ◌++◌, ◌∷◌, length};
+ghost use Rattle.tree23.specs.Nodes.{keys, depth, IsTree, IsLoose, IsNarrow};
+
+/// A tree of nodes. What lies below the lowest nodes is `Leaf`, which takes no memory.
+#[cycle(tree)]
+#[derive(Drop)]
+pub enum Tree {
+    Leaf,
+    /// Only between a removal and its repair: the first side alone, and no key.
+    One(Box<Node>),
+    /// The first and the second side, around the low key.
+    Two(Box<Node>),
+    /// Three sides, around both keys.
+    Three(Box<Node>),
+}
+
+/// The sides and the keys of a node, of which the tree's variant tells how many are in use. So a node stays
+/// where it is while a side comes or goes.
+#[cycle(tree)]
+#[derive(Drop)]
+pub struct Node {
+    /// How many keys there are here and below.
+    pub size: u64,
+    pub first: Tree,
+    pub low: u32,
+    pub second: Tree,
+    pub high: u32,
+    pub third: Tree,
+}
+
+/// A tree, or two of one depth around a key.
+#[derive(Drop)]
+pub enum Grown {
+    Fits(Tree),
+    Splits(Tree, u32, Tree),
+}
+
+impl Tree {
+    /// How many levels of nodes there are.
+    pub fn depth(&self) -> u64
+        requires tree { IsTree self.now }
+        requires fits { depth self.now < 2 ^ 64 }
+        ensures { result ≡ depth self.now }
+    {
+        match self {
+            Tree::Leaf => 0,
+            Tree::One(node) => node.first.depth() + 1,
+            Tree::Two(node) => node.first.depth() + 1,
+            Tree::Three(node) => node.first.depth() + 1,
+        }
+    }
+
+    /// How many keys there are, without counting them.
+    pub fn size(&self) -> u64
+        requires { IsTree self.now }
+        ensures { result ≡ length (keys self.now) % 2 ^ 64 }
+    {
+        match self {
+            Tree::Leaf => 0,
+            Tree::Two(node) => node.size,
+            Tree::Three(node) => node.size,
+            Tree::One(_) => unreachable!(),
+        }
+    }
+}
+
+/// A node with nothing in it.
+pub fn bare() -> Node {
+    Node {
+        size: 0,
+        first: Tree::Leaf,
+        low: 0,
+        second: Tree::Leaf,
+        high: 0,
+        third: Tree::Leaf,
+    }
+}
+
+/// One side alone, in a node that is there.
+pub fn one(mut node: Box<Node>, a: Tree) -> Tree
+    requires a { IsTree a }
+    ensures keys { keys result ≡ keys a }
+    ensures loose { IsLoose result }
+    ensures narrow { IsNarrow result }
+    ensures depth { depth result ≡ depth a + 1 }
+{
+    *node = Node { first: a, ..bare() };
+    Tree::One(node)
+}
+
+/// Two sides around a key, in a node that is there.
+pub fn two(mut node: Box<Node>, a: Tree, k: u32, b: Tree) -> Tree
+    requires a { IsTree a }
+    requires b { IsTree b }
+    requires level { depth b ≡ depth a }
+    ensures keys { keys result ≡ keys a ++ k ∷ keys b }
+    ensures tree { IsTree result }
+    ensures loose { IsLoose result }
+    ensures narrow { IsNarrow result }
+    ensures depth { depth result ≡ depth a + 1 }
+{
+    let size = a.size().wrapping_add(b.size()).wrapping_add(1);
+    *node = Node {
+        size,
+        first: a,
+        low: k,
+        second: b,
+        high: 0,
+        third: Tree::Leaf,
+    };
+    Tree::Two(node)
+}
+
+/// Three sides around two keys, in a node that is there.
+pub fn three(mut node: Box<Node>, a: Tree, k: u32, b: Tree, m: u32, c: Tree) -> Tree
+    requires a { IsTree a }
+    requires b { IsTree b }
+    requires c { IsTree c }
+    requires level_b { depth b ≡ depth a }
+    requires level_c { depth c ≡ depth a }
+    ensures keys { keys result ≡ keys a ++ k ∷ (keys b ++ m ∷ keys c) }
+    ensures tree { IsTree result }
+    ensures loose { IsLoose result }
+    ensures depth { depth result ≡ depth a + 1 }
+{
+    let size = a
+        .size()
+        .wrapping_add(b.size())
+        .wrapping_add(c.size())
+        .wrapping_add(2);
+    *node = Node {
+        size,
+        first: a,
+        low: k,
+        second: b,
+        high: m,
+        third: c,
+    };
+    Tree::Three(node)
+}

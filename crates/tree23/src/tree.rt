@@ -1,0 +1,134 @@
+//! The tree, seen as the list of its keys.
+ghost use Rattle.std.specs.Prelude.{◌≡◌, ◌+◌, ◌<◌, ◌≤◌, ◌^◌, [], ◌++◌, length, not, IfOk, OnOk, OnErr};
+ghost use Rattle.std.specs.List.{AllByRecursion};
+ghost use Rattle.tree23.specs.Keys.{StrictlyAscends, AllBelow, with_key, has, without_key, least_above};
+ghost use Rattle.tree23.specs.Splits.{IsSplit};
+
+use crate::insert::insert_at_root;
+use crate::join::chain;
+use crate::look::{find_in, next_in};
+use crate::node::Tree;
+use crate::remove::{lower, remove_in};
+use crate::split::split;
+use std::alloc::{AllocError, Global};
+use std::marker::Model;
+
+/// A set of numbers, as a balanced tree. Contracts see it as the list of its keys, which strictly ascends.
+#[derive(Drop)]
+pub struct Tree23 {
+    root: Tree,
+    alloc: Global,
+}
+
+impl Model for Tree23 {
+    ghost use Rattle.std.specs.Prelude.{ℕ, List};
+
+    ghost Value = { List ℕ };
+
+    ghost use Rattle.tree23.specs.Nodes.{keys, IsSet};
+
+    ghost view = { λ t. keys t.root };
+
+    ghost invariant = { λ t. IsSet t.root };
+}
+
+impl Tree23 {
+    /// The empty set. It takes no memory.
+    pub fn new(alloc: Global) -> Tree23
+        ensures { result ≡ [] }
+    {
+        Tree23 {
+            root: Tree::Leaf,
+            alloc,
+        }
+    }
+
+    /// What is so of each tree: its keys are in order, without repeats, and have 32 bits. The call does
+    /// nothing.
+    pub fn keys_ascend(&self)
+        ensures ascends { StrictlyAscends self.now }
+        ensures small { AllByRecursion (λ k. k < 2 ^ 32) self.now }
+    {
+        let _root = &self.root;
+    }
+
+    /// How many keys there are. They are not counted: each subtree keeps its number.
+    pub fn len(&self) -> u64
+        ensures keys { result ≡ length self.now }
+        ensures small { result ≤ 2 ^ 32 }
+    {
+        self.root.size()
+    }
+
+    /// How many levels there are. A tree with few keys may be as deep as one with a few more.
+    pub fn depth(&self) -> u32
+        ensures least { 2 ^ result ≤ length self.now + 1 }
+        ensures most { length self.now < 3 ^ result }
+    {
+        self.root.depth() as u32
+    }
+
+    /// Whether the key is there.
+    pub fn find(&self, key: u32) -> bool
+        ensures { result ≡ has key self.now }
+    {
+        find_in(&self.root, key)
+    }
+
+    /// The least key that is greater, if there is one.
+    pub fn next(&self, key: u32) -> Option<u32>
+        ensures { result ≡ least_above key self.now }
+    {
+        next_in(&self.root, key)
+    }
+
+    /// Puts the key in, and says whether it is new.
+    #[tactic(auto, using(crate::proofs::Inserting::set_inserted, crate::proofs::Inserting::inserted_keys, crate::proofs::Inserting::inserted_answer))]
+    pub fn insert(&mut self, key: u32) -> Result<bool, AllocError>
+        ensures answer { IfOk result (λ added. added ≡ not (has key self.old)) }
+        ensures keys { OnOk result (self.new ≡ with_key key self.old) }
+        ensures err { OnErr result (self.new ≡ self.old) }
+    {
+        let added = insert_at_root(self.alloc, &mut self.root, key)?;
+        Ok(added)
+    }
+
+    /// Takes the key out, and says whether it was there. It takes no memory.
+    #[tactic(auto, using(crate::proofs::Trees::set_without, crate::proofs::Removing::removed_keys, crate::proofs::Removing::removed_found))]
+    pub fn remove(&mut self, key: u32) -> bool
+        ensures answer { result ≡ has key self.old }
+        ensures keys { self.new ≡ without_key key self.old }
+    {
+        let found = remove_in(&mut self.root, key);
+        lower(&mut self.root);
+        found
+    }
+
+    /// The keys below `key`, and the others. The subtrees beside the path to the key move whole.
+    pub fn split_below(self, key: u32) -> Result<(Tree23, Tree23), AllocError>
+        ensures { IfOk result (λ p. IsSplit key self p.0 p.1) }
+    {
+        let alloc = self.alloc;
+        let depth = self.root.depth();
+        let h = split(alloc, self.root, depth, key)?;
+        Ok((
+            Tree23 { root: h.low, alloc },
+            Tree23 {
+                root: h.high,
+                alloc,
+            },
+        ))
+    }
+
+    /// The keys of both. The less deep tree moves whole to the edge of the other.
+    pub fn concat(low: Tree23, high: Tree23) -> Result<Tree23, AllocError>
+        requires { AllBelow low high }
+        ensures { IfOk result (λ tree. tree ≡ low ++ high) }
+    {
+        let alloc = low.alloc;
+        let low_depth = low.root.depth();
+        let high_depth = high.root.depth();
+        let (root, _) = chain(alloc, low.root, low_depth, high.root, high_depth)?;
+        Ok(Tree23 { root, alloc })
+    }
+}

@@ -1,0 +1,9 @@
+mod Asked
+mod Calls
+mod Cuts
+mod Filters
+mod Halves
+mod Law
+mod Merging
+mod Ranges
+mod Sides

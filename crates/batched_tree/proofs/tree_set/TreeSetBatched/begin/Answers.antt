@@ -1,0 +1,25 @@
+use Rattle.std.proofs.Common.{◌≡◌, ◌∙◌}
+use Rattle.batched_tree.specs.Keys.{distinct_keys}
+use Rattle.batched_tree.proofs.Cuts.{all_of_tree, some_key}
+use Rattle.batched_tree.proofs.Ranges.{remembered}
+use Rattle.batched_tree.proofs.tree_set.TreeSetBatched.begin.Goals as goal
+
+pub starts_of-requires : goal.starts_of-requires
+starts_of-requires c = rw (c.deref.ensures.value, c.in_ok-keys.ensures) (some_key c.args.calls.now c.requires.batch.some)
+
+pub parts_of-requires : goal.parts_of-requires
+parts_of-requires c = rw (c.in_ok-to_vec.ensures.items_if_clones_equal (λ x y same. same)) (all_of_tree c.args.calls.now c.requires.may)
+
+pub returns-clause-remembers : goal.returns-clause-remembers
+returns-clause-remembers c =
+    let calls = c.args.calls.now in
+    let keys : c.deref.result.now ≡ distinct_keys calls = c.deref.ensures.value ∙ c.in_ok-keys.ensures in
+    let same : c.in_ok-to_vec.field-0.items ≡ calls = c.in_ok-to_vec.ensures.items_if_clones_equal (λ x y same. same) in
+    let pieces = rw (same, c.deref-3.ensures.value, c.self.view_is) at c.in_ok-parts.ensures.parts in
+    let ascends = rw c.self.view_is at c.keys_ascend.ensures.ascends in
+    let groups = rw c.deref-2.ensures.value at c.in_ok-groups.ensures in
+    remembered c.args.self calls c.deref.result.now c.in_ok-starts.starts.items c.in_ok-parts.parts.items (record { groups = c.in_ok-groups.groups })
+    ascends c.requires.batch c.requires.may keys c.in_ok-starts.ensures.groups pieces groups
+
+pub returns-clause-cut : goal.returns-clause-cut
+returns-clause-cut c = (returns-clause-remembers c).cut

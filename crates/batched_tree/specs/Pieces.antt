@@ -1,0 +1,53 @@
+-- The pieces of a batch: a part of the tree and of the calls for each group of the calls' keys.
+use Rattle.std.specs.Prelude.{◌≡◌, ℕ, ◌+◌, ◌/◌, List, [], ◌∷◌, length, filter, map}
+use Rattle.std.specs.declared.option.Option.{Option}
+use Rattle.std.specs.Option.{unwrap_or}
+use Rattle.seq_objects.specs.declared.call.Call.{Call}
+use Rattle.seq_objects.specs.Objects.{Objects, has}
+use Rattle.seq_objects.specs.Orders.{StrictlyAscends}
+use Rattle.seq_objects.specs.Batches.{AreOneBatch, AreOf, IsOfTree}
+use Rattle.seq_objects.specs.Serial.{of_set, after_all}
+use Rattle.seq_objects.specs.Pieces.{Opening}
+use Rattle.batched_tree.specs.declared.part.Part.{Part}
+use Rattle.batched_tree.specs.declared.part.Served.{Served}
+use Rattle.batched_tree.specs.declared.part.Groups.{Groups}
+use Rattle.batched_tree.specs.Keys.{key_of, distinct_keys}
+use Rattle.batched_tree.specs.Groups.{AreGroups, least_of, starts_of, is_in, least_beyond, group_of}
+use Rattle.batched_tree.specs.Replies.{replies_within}
+
+-- the part of a group: the keys of the set in its range, the calls whose keys are in the group, and the least
+-- key of the set beyond the range, if there is one
+pub record IsPart (set : List ℕ) (calls : List Call) (group : List ℕ) (start : ℕ) (end : Option ℕ) (part : Part) : Type 0 where
+  pub keys_are : part.tree ≡ filter (is_in start end) set
+  pub calls_are : part.calls.items ≡ filter (λ call. has (key_of call) group) calls
+  pub beyond_is : part.beyond ≡ least_beyond end set
+
+-- each group has a part, in the order of the groups. The range of the first group begins at `start`, that of
+-- each other group at its least key, and each ends before the least key of the next group
+abbrev pub AreParts : List ℕ → List Call → ℕ → List (List ℕ) → List Part → Type 0
+AreParts set calls start [] parts = parts ≡ []
+AreParts set calls start (group ∷ groups) [] = ⊥
+AreParts set calls start (group ∷ groups) (part ∷ parts) = IsPart set calls group start (least_of groups) part × AreParts set calls (unwrap_or (least_of groups) 0) groups parts
+
+-- a group has a sixteenth of the distinct keys of the calls, rounded up, and the first range begins at 0
+pub record Cut (objects : Objects) (calls : List Call) (ins : List Part) : Type 0 where
+  pub groups : List (List ℕ)
+  pub groups_are : AreGroups ((length (distinct_keys calls) + 15) / 16) (distinct_keys calls) groups
+  pub parts : AreParts objects.set calls 0 groups ins
+
+-- the out has the keys after the calls, and the replies to them
+pub record Meets (part : Part) (served : Served) : Type 0 where
+  pub keys : served.tree ≡ (after_all (of_set part.tree) part.calls.items).set
+  pub replies : served.replies.items ≡ replies_within part.beyond (of_set part.tree) part.calls.items
+
+-- all calls are of the tree
+abbrev pub MayServe : Objects → List Call → Type 0
+MayServe objects calls = AreOf IsOfTree calls
+
+-- what is kept is the number of the group of each call of the batch, which could be served and was cut so
+pub record Remembers (rest : Groups) (o : Opening (List ℕ) Part) : Type 0 where
+  pub ascends : StrictlyAscends o.before
+  pub batch : AreOneBatch o.calls
+  pub may : MayServe (of_set o.before) o.calls
+  pub cut : Cut (of_set o.before) o.calls o.ins
+  pub groups : rest.groups.items ≡ map (λ call. group_of (key_of call) (starts_of cut.groups)) o.calls

@@ -1,0 +1,34 @@
+-- What a piece replies, which has the keys of a range alone.
+use Rattle.std.specs.Prelude.{ℕ, List, [], ◌∷◌}
+use Rattle.std.specs.declared.option.Option.{Option}
+use Rattle.seq_objects.specs.declared.op.Op.{Op}
+use Rattle.seq_objects.specs.declared.op.Op.TheVariants.{CounterAdd, Push, Pop, TreeInsert, TreeRemove, TreeFind, TreeNext, PqInsert, PqTake}
+use Rattle.seq_objects.specs.declared.call.Call.{Call}
+use Rattle.seq_objects.specs.declared.reply.Reply.{Reply}
+use Rattle.seq_objects.specs.declared.reply.Reply.TheVariants as reply
+use Rattle.seq_objects.specs.Objects.{Objects, after, reply_to, number_or_empty}
+
+-- a reply, but the least key beyond the range, if there is one, in place of an empty one
+abbrev pub or_beyond : Reply → Option ℕ → Reply
+or_beyond (reply.Number number) beyond = reply.Number number
+or_beyond reply.Unit beyond = reply.Unit
+or_beyond reply.Empty beyond = number_or_empty beyond
+or_beyond reply.Yes beyond = reply.Yes
+or_beyond reply.No beyond = reply.No
+
+-- the least key beyond the range matters to a question for the next key alone
+abbrev pub reply_within : Option ℕ → Op → Reply → Reply
+reply_within beyond (CounterAdd addend) reply = reply
+reply_within beyond (Push item) reply = reply
+reply_within beyond Pop reply = reply
+reply_within beyond (TreeInsert key) reply = reply
+reply_within beyond (TreeRemove key) reply = reply
+reply_within beyond (TreeFind key) reply = reply
+reply_within beyond (TreeNext key) reply = or_beyond reply beyond
+reply_within beyond (PqInsert item) reply = reply
+reply_within beyond PqTake reply = reply
+
+-- the replies to calls that are served one after another, where a key is the least beyond the range
+abbrev pub replies_within : Option ℕ → Objects → List Call → List Reply
+replies_within beyond objects [] = []
+replies_within beyond objects (call ∷ calls) = reply_within beyond call.op (reply_to objects call.op) ∷ replies_within beyond (after objects call.op) calls

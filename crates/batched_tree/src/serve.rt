@@ -1,0 +1,57 @@
+//! What a piece does: it serves its calls on its subtree, one after another.
+ghost use Rattle.std.specs.Prelude.{◌≡◌, true, IfOk, OnOk};
+ghost use Rattle.seq_objects.specs.Objects.{after, reply_to, number_or_empty, yes_or_no};
+ghost use Rattle.seq_objects.specs.Serial.{of_set};
+ghost use Rattle.batched_tree.specs.Keys.{is_of_tree};
+ghost use Rattle.batched_tree.specs.Replies.{reply_within};
+ghost use Rattle.batched_tree.specs.Pieces.{Meets};
+
+use crate::part::{Part, Served};
+use seq_objects::{Op, Reply};
+use std::alloc::{AllocError, Global};
+use tree23::Tree23;
+
+fn number_or_empty(number: Option<u32>) -> Reply
+    ensures { result ≡ number_or_empty number }
+{
+    match number {
+        Some(number) => Reply::Number(u64::from(number)),
+        None => Reply::Empty,
+    }
+}
+
+fn yes_or_no(yes: bool) -> Reply
+    ensures { result ≡ yes_or_no yes }
+{
+    if yes { Reply::Yes } else { Reply::No }
+}
+
+/// Serves one operation on a subtree, where a key of the whole tree is the least beyond its range.
+fn serve_one(tree: &mut Tree23, beyond: Option<u32>, op: Op) -> Result<Reply, AllocError>
+    requires { is_of_tree op ≡ true }
+    ensures reply { IfOk result (λ reply. reply ≡ reply_within beyond op (reply_to (of_set tree.old) op)) }
+    ensures after { OnOk result (of_set tree.new ≡ after (of_set tree.old) op) }
+{
+    let reply = match op {
+        Op::TreeInsert(key) => yes_or_no(tree.insert(key)?),
+        Op::TreeRemove(key) => yes_or_no(tree.remove(key)),
+        Op::TreeFind(key) => yes_or_no(tree.find(key)),
+        Op::TreeNext(key) => number_or_empty(tree.next(key).or(beyond)),
+        _ => Reply::Empty,
+    };
+    Ok(reply)
+}
+
+/// Serves the calls of a piece.
+pub(crate) fn served(alloc: Global, part: Part) -> Result<Served, AllocError>
+    ensures { IfOk result (λ served. Meets part served) }
+{
+    let beyond = part.beyond;
+    let calls = part.calls;
+    let mut tree = part.tree;
+    let mut replies = Vec::new(alloc);
+    for call in &calls {
+        replies.push(serve_one(&mut tree, beyond, call.op)?)?;
+    }
+    Ok(Served { tree, replies })
+}

@@ -1,0 +1,98 @@
+//! The tree.
+ghost use Rattle.std.specs.Prelude.{◌≡◌, ℕ, [], List, IfOk};
+ghost use Rattle.seq_objects.specs.Orders.{StrictlyAscends};
+ghost use Rattle.seq_objects.specs.Serial.{replies_to_all, after_all, of_set};
+ghost use Rattle.seq_objects.specs.Pieces.{AllMeet, Opening};
+ghost use Rattle.batched_tree.specs.declared.part.Part.{Part as PartOf};
+ghost use Rattle.batched_tree.specs.Pieces.{MayServe, Meets, Cut, Remembers};
+
+use crate::cut::parts_of;
+use crate::groups::{groups_of, keys_of, starts_of};
+use crate::join::{joined, merged};
+use crate::part::{Groups, Part, Served};
+use crate::serve::served;
+use seq_objects::{Batched, Call, Reply};
+use std::alloc::{AllocError, Global};
+use std::marker::Model;
+use tree23::Tree23;
+
+/// A set of numbers. Contracts see it as the list of its keys, which strictly ascends.
+#[derive(Drop)]
+pub struct TreeSet {
+    tree: Tree23,
+}
+
+impl Model for TreeSet {
+    ghost use Rattle.std.specs.Prelude.{ℕ, List};
+
+    ghost Value = { List ℕ };
+
+    ghost view = { λ s. s.tree };
+}
+
+impl TreeSet {
+    /// The empty set. It takes no memory.
+    pub fn new(alloc: Global) -> Result<TreeSet, AllocError>
+        ensures { IfOk result (λ s. s ≡ []) }
+    {
+        Ok(TreeSet {
+            tree: Tree23::new(alloc),
+        })
+    }
+
+    /// What is so of each set: its keys are in order, without repeats. The call does nothing.
+    pub fn keys_ascend(&self)
+        ensures { StrictlyAscends self.now }
+    {
+        self.tree.keys_ascend();
+    }
+}
+
+impl Batched for TreeSet {
+    type In = Part;
+
+    type Out = Served;
+
+    type Rest = Groups;
+
+    const MOST: u32 = 16;
+
+    ghost MOST = { 16 };
+
+    ghost content = { of_set };
+
+    ghost may_serve = { MayServe };
+
+    ghost cut = { Cut };
+
+    ghost meets = { Meets };
+
+    ghost remembers = { Remembers };
+
+    fn begin(self, alloc: Global, calls: &[Call]) -> Result<(Groups, Vec<Part>), AllocError> {
+        self.tree.keys_ascend();
+        let keys = keys_of(alloc, calls)?;
+        let starts = starts_of(alloc, &keys)?;
+        let groups = groups_of(alloc, &starts, calls)?;
+        let parts = parts_of(alloc, self.tree, calls.to_vec(alloc)?, &starts)?;
+        Ok((Groups { groups }, parts))
+    }
+
+    fn piece(alloc: Global, input: Part) -> Result<Served, AllocError> {
+        served(alloc, input)
+    }
+
+    fn end(
+        alloc: Global,
+        rest: Groups,
+        outs: Vec<Served>,
+    ) -> Result<(TreeSet, Vec<Reply>), AllocError>
+        requires { (o : Opening (List ℕ) PartOf) × Remembers rest o × AllMeet Meets o.ins outs.items }
+        ensures replies { IfOk result (λ p. (o : Opening (List ℕ) PartOf) → Remembers rest o → AllMeet Meets o.ins outs.items → p.1.items ≡ replies_to_all (of_set o.before) o.calls) }
+        ensures content { IfOk result (λ p. (o : Opening (List ℕ) PartOf) → Remembers rest o → AllMeet Meets o.ins outs.items → of_set p.0 ≡ after_all (of_set o.before) o.calls) }
+    {
+        let (tree, pieces) = joined(alloc, outs)?;
+        let replies = merged(alloc, &rest.groups, pieces)?;
+        Ok((TreeSet { tree }, replies))
+    }
+}

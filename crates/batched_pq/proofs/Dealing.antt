@@ -1,0 +1,85 @@
+-- Inserts that are dealt out to the shards: together the shards have each of them once.
+use Rattle.std.proofs.Common.{◌≡◌, ◌≢◌, ℕ, zero, suc, ◌+◌, ◌%◌, ◌<◌, ◌≤◌, List, [], ◌∷◌, ◌++◌, length, get_or, drop, Bool, true, false, ◌==◌, refl, ap, ◌∙◌, arith}
+use Rattle.std.proofs.lemmas.Grind.{common_steps}
+use Rattle.std.proofs.lemmas.Bool.Decides.{nat_tests}
+use Rattle.seq_objects.specs.Orders.{copies, one_if}
+use Rattle.batched_pq.specs.declared.share.Share.{Share}
+use Rattle.batched_pq.specs.Calls.{inserts_for}
+use Rattle.batched_pq.specs.Pieces.{AreShares, shards_in}
+use Rattle.batched_pq.proofs.Bags.{copies_append}
+
+first_goes : (shard i item : ℕ) (items : List ℕ) → i % 8 ≡ shard → inserts_for shard i (item ∷ items) ≡ item ∷ inserts_for shard (i + 1) items
+first_goes shard i item items is = grind (arith, nat_tests)
+
+first_passes : (shard i item : ℕ) (items : List ℕ) → i % 8 ≢ shard → inserts_for shard i (item ∷ items) ≡ inserts_for shard (i + 1) items
+first_passes shard i item items other = grind (arith, nat_tests)
+
+-- the insert at a place goes to its shard, and to no other
+pub goes : (shard i : ℕ) (items : List ℕ) → i < length items → i % 8 ≡ shard → inserts_for shard i (drop i items) ≡ get_or items i 0 ∷ inserts_for shard (i + 1) (drop (i + 1) items)
+goes shard i items within is =
+    let first : drop i items ≡ get_or items i 0 ∷ drop (i + 1) items = grind (arith, common_steps) in
+    rw first (first_goes shard i (get_or items i 0) (drop (i + 1) items) is)
+
+pub passes : (shard i : ℕ) (items : List ℕ) → i < length items → i % 8 ≢ shard → inserts_for shard i (drop i items) ≡ inserts_for shard (i + 1) (drop (i + 1) items)
+passes shard i items within other =
+    let first : drop i items ≡ get_or items i 0 ∷ drop (i + 1) items = grind (arith, common_steps) in
+    rw first (first_passes shard i (get_or items i 0) (drop (i + 1) items) other)
+
+-- the copies of a number in the inserts of so many shards, from one on
+abbrev spread : (n i : ℕ) → List ℕ → (shard count : ℕ) → ℕ
+spread n i items shard zero = 0
+spread n i items shard (suc count) = copies n (inserts_for shard i items) + spread n i items (shard + 1) count
+
+spread_none : (n i shard count : ℕ) → spread n i [] shard count ≡ 0
+spread_none n i shard zero = refl
+spread_none n i shard (suc count) = omega (arith, spread_none n i (shard + 1) count)
+
+spread_past : (n i item : ℕ) (items : List ℕ) (shard count : ℕ) → i % 8 < shard → spread n i (item ∷ items) shard count ≡ spread n (i + 1) items shard count
+spread_past n i item items shard zero past = refl
+spread_past n i item items shard (suc count) past =
+    let other : i % 8 ≢ shard = omega arith in
+    rw (first_passes shard i item items other) (ap (λ k. copies n (inserts_for shard (i + 1) items) + k) (spread_past n i item items (shard + 1) count (omega arith)))
+
+-- the first insert is in one of the shards
+spread_first : (n i item : ℕ) (items : List ℕ) (shard count : ℕ) → shard ≤ i % 8 → i % 8 < shard + count → spread n i (item ∷ items) shard count ≡ one_if (n == item) + spread n (i + 1) items shard count
+spread_first n i item items shard zero from below = absurd (omega arith)
+spread_first n i item items shard (suc count) from below = step (i % 8 == shard) refl (λ past. spread_first n i item items (shard + 1) count past (omega arith)) where
+  step : (here : Bool) → (i % 8 == shard) ≡ here → (shard + 1 ≤ i % 8 → spread n i (item ∷ items) (shard + 1) count ≡ one_if (n == item) + spread n (i + 1) items (shard + 1) count) → copies n (inserts_for shard i (item ∷ items)) + spread n i (item ∷ items) (shard + 1) count ≡ one_if (n == item) + (copies n (inserts_for shard (i + 1) items) + spread n (i + 1) items (shard + 1) count)
+  step true is later =
+      let here : i % 8 ≡ shard = grind (arith, nat_tests) in
+      omega (arith, ap (λ xs. copies n xs) (first_goes shard i item items here), spread_past n i item items (shard + 1) count (omega arith))
+  step false is later =
+      let other : i % 8 ≢ shard = grind (arith, nat_tests) in
+      omega (arith, ap (λ xs. copies n xs) (first_passes shard i item items other), later (omega arith))
+
+spread_all : (n i : ℕ) (items : List ℕ) → spread n i items 0 8 ≡ copies n items
+spread_all n i [] = spread_none n i 0 8
+spread_all n i (item ∷ items) = spread_first n i item items 0 8 (omega arith) (omega arith) ∙ ap (λ k. one_if (n == item) + k) (spread_all n (i + 1) items)
+
+-- the inserts in the pieces
+abbrev pub inserts_in : List Share → List ℕ
+inserts_in [] = []
+inserts_in (share ∷ shares) = share.inserts.items ++ inserts_in shares
+
+pub shares_count : (shard : ℕ) (inserts : List ℕ) (takes : ℕ) (shares : List Share) → AreShares shard inserts takes shares → shard + length shares ≡ 8
+shares_count shard inserts takes [] dealt = omega (arith, dealt)
+shares_count shard inserts takes (share ∷ shares) dealt = omega (arith, shares_count (shard + 1) inserts takes shares dealt.2)
+
+copies_spread : (n shard : ℕ) (inserts : List ℕ) (takes : ℕ) (shares : List Share) → AreShares shard inserts takes shares → copies n (inserts_in shares) ≡ spread n 0 inserts shard (length shares)
+copies_spread n shard inserts takes [] dealt = refl
+copies_spread n shard inserts takes (share ∷ shares) dealt =
+    copies_append n share.inserts.items (inserts_in shares)
+    ∙ rw dealt.0 (ap (λ k. copies n (inserts_for shard 0 inserts) + k) (copies_spread n (shard + 1) inserts takes shares dealt.2))
+
+pub copies_dealt : (n : ℕ) (inserts : List ℕ) (takes : ℕ) (shares : List Share) → AreShares 0 inserts takes shares → copies n (inserts_in shares) ≡ copies n inserts
+copies_dealt n inserts takes shares dealt =
+    let eight : length shares ≡ 8 = omega (arith, shares_count 0 inserts takes shares dealt) in
+    copies_spread n 0 inserts takes shares dealt ∙ ap (λ k. spread n 0 inserts 0 k) eight ∙ spread_all n 0 inserts
+
+pub shards_push : (shares : List Share) (share : Share) → shards_in (shares ++ share ∷ []) ≡ shards_in shares ++ share.shard ∷ []
+shards_push [] share = refl
+shards_push (first ∷ shares) share = ap (λ shards. first.shard ∷ shards) (shards_push shares share)
+
+pub shards_length : (shares : List Share) → length (shards_in shares) ≡ length shares
+shards_length [] = refl
+shards_length (share ∷ shares) = omega (arith, shards_length shares)

@@ -1,0 +1,10 @@
+pub mod Bags
+pub mod Choosing
+pub mod Dealing
+pub mod Fronts
+pub mod Law
+pub mod Ranks
+pub mod Roots
+pub mod Rows
+pub mod Serial
+pub mod Taking

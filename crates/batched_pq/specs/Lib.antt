@@ -1,0 +1,7 @@
+pub mod Nodes
+pub mod Bags
+pub mod Leftist
+pub mod Shards
+pub mod Choice
+pub mod Calls
+pub mod Pieces

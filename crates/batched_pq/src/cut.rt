@@ -1,0 +1,92 @@
+//! Cutting a batch into a piece for each shard.
+ghost use Rattle.std.specs.Prelude.{◌≡◌, ◌≤◌, length, IfOk};
+ghost use Rattle.batched_pq.specs.Calls.{item_of, takes_in, inserts_of, takes_of, inserts_for};
+ghost use Rattle.batched_pq.specs.Pieces.{AreShares, shards_in};
+
+use crate::shard::Shard;
+use crate::share::Share;
+use seq_objects::{Call, Op};
+use std::alloc::{AllocError, Global};
+
+/// The item that an operation inserts.
+fn item_of(op: Op) -> Option<u32>
+    ensures { result ≡ item_of op }
+{
+    match op {
+        Op::PqInsert(item) => Some(item),
+        _ => None,
+    }
+}
+
+/// One for a take.
+fn takes_in(op: Op) -> usize
+    ensures is { result ≡ takes_in op }
+    ensures small { result ≤ 1 }
+{
+    match op {
+        Op::PqTake => 1,
+        _ => 0,
+    }
+}
+
+/// The items that are inserted, in the order of the calls.
+pub(crate) fn inserts_of(alloc: Global, calls: &[Call]) -> Result<Vec<u32>, AllocError>
+    ensures { IfOk result (λ v. v.items ≡ inserts_of calls.now) }
+{
+    let mut inserts = Vec::new(alloc);
+    for call in calls {
+        if let Some(item) = item_of(call.op) {
+            inserts.push(item)?;
+        }
+    }
+    Ok(inserts)
+}
+
+/// How many calls are takes.
+pub(crate) fn takes_of(calls: &[Call]) -> usize
+    ensures { result ≡ takes_of calls.now }
+{
+    let mut takes = 0;
+    for call in calls {
+        takes += takes_in(call.op);
+    }
+    takes
+}
+
+/// The inserts of one shard.
+fn inserts_for(alloc: Global, number: usize, inserts: &[u32]) -> Result<Vec<u32>, AllocError>
+    ensures { IfOk result (λ v. v.items ≡ inserts_for number 0 inserts.now) }
+{
+    let mut own = Vec::new(alloc);
+    for (i, item) in inserts.iter().enumerate() {
+        if i % 8 == number {
+            own.push(*item)?;
+        }
+    }
+    Ok(own)
+}
+
+/// A piece for each shard.
+pub(crate) fn shares_of(
+    alloc: Global,
+    shards: Vec<Shard>,
+    inserts: &[u32],
+    takes: usize,
+) -> Result<Vec<Share>, AllocError>
+    requires { length shards.items ≡ 8 }
+    ensures shares { IfOk result (λ v. AreShares 0 inserts.now takes v.items) }
+    ensures shards { IfOk result (λ v. shards_in v.items ≡ shards.items) }
+{
+    let mut shares = Vec::new(alloc);
+    let mut number = 0;
+    for shard in shards {
+        let own = inserts_for(alloc, number, inserts)?;
+        shares.push(Share {
+            shard,
+            inserts: own,
+            takes,
+        })?;
+        number += 1;
+    }
+    Ok(shares)
+}

@@ -1,0 +1,23 @@
+//! A priority queue in eight shards, which serves a batch of inserts and takes in pieces.
+//!
+//! `Queue` obeys the law of batches: each shard takes its part of a batch's inserts and brings its least
+//! items to its front, apart from the other shards, and the end takes the least of the fronts, one for each
+//! take. So the replies to a batch and the items after it are those of one call after another. The crate
+//! stands on `seq_objects`, which has the law.
+#![tactic(auto)]
+
+mod choice;
+mod cut;
+pub mod heap;
+mod node;
+pub mod queue;
+pub mod shard;
+pub mod share;
+
+pub use heap::Heap;
+pub use queue::Queue;
+pub use shard::Shard;
+pub use share::{Counts, Share};
+
+#[cfg(test)]
+mod tests;

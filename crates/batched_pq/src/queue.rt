@@ -1,0 +1,99 @@
+//! The queue.
+ghost use Rattle.std.specs.Prelude.{◌≡◌, ℕ, List, [], IfOk};
+ghost use Rattle.seq_objects.specs.Serial.{replies_to_all, after_all, of_bag};
+ghost use Rattle.seq_objects.specs.Pieces.{AllMeet, Opening};
+ghost use Rattle.batched_pq.specs.declared.share.Share.{Share as ShareOf};
+ghost use Rattle.batched_pq.specs.Pieces.{MayServe, Cut, Meets, Remembers};
+
+use crate::choice::replies_of;
+use crate::cut::{inserts_of, shares_of, takes_of};
+use crate::shard::{Shard, prepare};
+use crate::share::{Counts, Share};
+use seq_objects::{Batched, Call, Reply};
+use std::alloc::{AllocError, Global};
+use std::marker::Model;
+
+/// Numbers, of which the least is taken first, in eight shards. Contracts see them as an ascending list, where
+/// one number may stand several times.
+#[derive(Drop)]
+pub struct Queue {
+    shards: Vec<Shard>,
+}
+
+impl Model for Queue {
+    ghost use Rattle.std.specs.Prelude.{◌≡◌, ℕ, List, length};
+    ghost use Rattle.batched_pq.specs.Shards.{bag_of};
+
+    ghost Value = { List ℕ };
+
+    ghost view = { λ q. bag_of q.shards.items };
+
+    ghost invariant = { λ q. length q.shards.items ≡ 8 };
+}
+
+impl Queue {
+    /// The opening queue, which is empty.
+    pub fn new(alloc: Global) -> Result<Queue, AllocError>
+        ensures { IfOk result (λ q. q ≡ []) }
+    {
+        let mut shards = Vec::new(alloc);
+        for _ in 0..8u32 {
+            shards.push(Shard::new(alloc))?;
+        }
+        Ok(Queue { shards })
+    }
+}
+
+impl Batched for Queue {
+    type In = Share;
+
+    type Out = Shard;
+
+    type Rest = Counts;
+
+    const MOST: u32 = 8;
+
+    ghost MOST = { 8 };
+
+    ghost content = { of_bag };
+
+    ghost may_serve = { MayServe };
+
+    ghost cut = { Cut };
+
+    ghost meets = { Meets };
+
+    ghost remembers = { Remembers };
+
+    fn begin(self, alloc: Global, calls: &[Call]) -> Result<(Counts, Vec<Share>), AllocError> {
+        let Queue { shards } = self;
+        let inserts = inserts_of(alloc, calls)?;
+        let takes = takes_of(calls);
+        let shares = shares_of(alloc, shards, &inserts, takes)?;
+        let counts = Counts {
+            inserts: inserts.len(),
+            takes,
+        };
+        Ok((counts, shares))
+    }
+
+    fn piece(alloc: Global, input: Share) -> Result<Shard, AllocError> {
+        let Share {
+            shard,
+            inserts,
+            takes,
+        } = input;
+        let out = prepare(alloc, shard, &inserts, takes)?;
+        Ok(out)
+    }
+
+    fn end(alloc: Global, rest: Counts, outs: Vec<Shard>) -> Result<(Queue, Vec<Reply>), AllocError>
+        requires { (o : Opening (List ℕ) ShareOf) × Remembers rest o × AllMeet Meets o.ins outs.items }
+        ensures replies { IfOk result (λ p. (o : Opening (List ℕ) ShareOf) → Remembers rest o → AllMeet Meets o.ins outs.items → p.1.items ≡ replies_to_all (of_bag o.before) o.calls) }
+        ensures content { IfOk result (λ p. (o : Opening (List ℕ) ShareOf) → Remembers rest o → AllMeet Meets o.ins outs.items → of_bag p.0 ≡ after_all (of_bag o.before) o.calls) }
+    {
+        let mut shards = outs;
+        let replies = replies_of(alloc, rest.inserts, rest.takes, &mut shards)?;
+        Ok((Queue { shards }, replies))
+    }
+}

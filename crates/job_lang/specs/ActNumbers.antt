@@ -1,0 +1,29 @@
+-- The numbers of operations and of acts.
+use Rattle.std.specs.Prelude.{ℕ, ◌<◌, ◌^◌, List, Option, Some, None, IfSome}
+use Rattle.std.specs.List.{AllByRecursion}
+use Rattle.seq_objects.specs.declared.act.Act.{Act}
+use Rattle.seq_objects.specs.declared.act.Act.TheVariants.{Work, Call}
+use Rattle.seq_objects.specs.declared.op.Op.{Op}
+use Rattle.seq_objects.specs.declared.op.Op.TheVariants.{CounterAdd, Push, Pop, TreeInsert, TreeRemove, TreeFind, TreeNext, PqInsert, PqTake}
+
+abbrev pub op_number : Op → Option ℕ
+op_number (CounterAdd addend) = Some addend
+op_number (Push item) = Some item
+op_number Pop = None
+op_number (TreeInsert key) = Some key
+op_number (TreeRemove key) = Some key
+op_number (TreeFind key) = Some key
+op_number (TreeNext key) = Some key
+op_number (PqInsert item) = Some item
+op_number PqTake = None
+
+abbrev pub act_number : Act → Option ℕ
+act_number (Work steps) = Some steps
+act_number (Call op) = op_number op
+
+-- a number, if there is one, fits 32 bits
+abbrev pub IsSmall : Option ℕ → Type 0
+IsSmall number = IfSome number (λ number. number < 2 ^ 32)
+
+abbrev pub AreSmall : List Act → Type 0
+AreSmall acts = AllByRecursion (λ act. IsSmall (act_number act)) acts

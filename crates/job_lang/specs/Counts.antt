@@ -1,0 +1,35 @@
+-- How many leaves items make, and how deep their blocks nest. Counts have no bound.
+use Rattle.std.specs.Prelude.{ℕ, ◌+◌, ◌*◌, max, Some}
+use Rattle.job_lang.specs.declared.word.Word.{Word}
+use Rattle.job_lang.specs.declared.word.Word.TheVariants.{Number}
+use Rattle.job_lang.specs.Grammar.{Items, nothing, leaf_then, block_then, Head, seq_block, par_block, for_loop, pfor_loop}
+
+-- the number that a word says
+abbrev pub said : Word → ℕ
+said (Number (Some number)) = number
+said _ = 0
+
+-- how often a block runs its items
+abbrev pub copies_of : Head → ℕ
+copies_of seq_block = 1
+copies_of par_block = 1
+copies_of (for_loop copies) = said copies
+copies_of (pfor_loop copies) = said copies
+
+-- a leaf counts once, and a block as often as it has copies
+abbrev pub count : Items → ℕ
+count nothing = 0
+count (leaf_then leaf more) = 1 + count more
+count (block_then head body more) = copies_of head * count body + count more
+
+-- the count of the first item
+abbrev pub count_first : Items → ℕ
+count_first nothing = 0
+count_first (leaf_then leaf more) = 1
+count_first (block_then head body more) = copies_of head * count body
+
+-- how many blocks are open where most are
+abbrev pub nesting : Items → ℕ
+nesting nothing = 0
+nesting (leaf_then leaf more) = nesting more
+nesting (block_then head body more) = max (nesting body + 1) (nesting more)

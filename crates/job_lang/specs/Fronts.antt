@@ -1,0 +1,14 @@
+-- The front of a text, where no comment is open. Private: no public contract cites it.
+use Rattle.std.specs.Prelude.{ℕ, List, [], ◌∷◌, Bool, true, ◌&&◌, not, if◌then◌else◌}
+use Rattle.std.specs.List.{prefix_len}
+use Rattle.job_lang.specs.Text.{is_blank, is_brace, is_hash, is_in_chunk}
+
+-- nothing is left, or a byte that is no blank and begins no comment
+abbrev pub begins_token : List ℕ → Bool
+begins_token [] = true
+begins_token (byte ∷ text) = not (is_blank byte) && not (is_hash byte)
+
+-- how many bytes the token has that begins there
+abbrev pub token_len : List ℕ → ℕ
+token_len [] = 0
+token_len (byte ∷ text) = if is_brace byte then 1 else prefix_len (λ byte. is_in_chunk byte) (byte ∷ text)

@@ -1,0 +1,58 @@
+-- The job language: which texts are jobs, of which job each is, and which fault a text has that is none.
+use Rattle.std.specs.Prelude.{◌≡◌, ℕ, ◌≤◌, List, None, Some, IsTrue}
+use Rattle.std.specs.List.{AllByRecursion}
+use Rattle.sp_order.specs.Jobs.{JobValue}
+use Rattle.job_lang.specs.declared.word.PlacedWord.{PlacedWord}
+use Rattle.job_lang.specs.declared.fault.JobFault.{JobFault}
+use Rattle.job_lang.specs.declared.fault.JobFault.TheVariants as fault
+use Rattle.job_lang.specs.Text.{forbidden_line, last_line}
+use Rattle.job_lang.specs.Words.{placed_words}
+use Rattle.job_lang.specs.Grammar.{Items, Derives}
+use Rattle.job_lang.specs.Faults.{words_of, has_good_numbers, IsReadingFault}
+use Rattle.job_lang.specs.Counts.{count, nesting}
+use Rattle.job_lang.specs.Meaning.{job_of}
+use Rattle.job_lang.specs.Limits.{IsLeavesLine, argument_line}
+
+-- The grammar gives the tokens these items: the loose grammar derives them, each number is spelled well and fits 32 bits,
+-- and at most 32 blocks are open at once.
+pub record AreItemsOf (tokens : List PlacedWord) (items : Items) : Type 0 where
+  pub derives : Derives (words_of tokens) items
+  pub numbers : AllByRecursion (λ token. IsTrue (has_good_numbers token.word)) tokens
+  pub nests : nesting items ≤ 32
+
+-- The text is a job's: no byte outside comments is forbidden, the grammar gives it items, these have at most 20,000 leaves,
+-- no argument of a copy is too large, and the job is that of the items.
+pub record IsJobOf (text : List ℕ) (job : JobValue) : Type 0 where
+  pub allowed : forbidden_line text ≡ None
+  pub items : Items
+  pub read : AreItemsOf (placed_words text) items
+  pub few : count items ≤ 20000
+  pub small : argument_line (placed_words text) items ≡ None
+  pub means : job ≡ job_of items
+
+-- the grammar accepts the text
+abbrev pub Accepts : List ℕ → Type 0
+Accepts text = (job : JobValue) × IsJobOf text job
+
+-- The grammar gives the text these items, but the leaves are too many, on this line.
+pub record HasTooManyLeaves (text : List ℕ) (line : ℕ) : Type 0 where
+  pub allowed : forbidden_line text ≡ None
+  pub items : Items
+  pub read : AreItemsOf (placed_words text) items
+  pub where_it_is : IsLeavesLine (placed_words text) items line
+
+-- The grammar gives the text these items, and the leaves are few enough, but an argument is too large in some copy.
+pub record HasTooLargeArgument (text : List ℕ) (line : ℕ) : Type 0 where
+  pub allowed : forbidden_line text ≡ None
+  pub items : Items
+  pub read : AreItemsOf (placed_words text) items
+  pub few : count items ≤ 20000
+  pub where_it_is : argument_line (placed_words text) items ≡ Some line
+
+-- The text has this fault, the first in this order: a forbidden byte; a token, or the end of the text, that can't stand, has
+-- a wrong number or nests too deep; too many leaves; an argument that is too large.
+abbrev pub IsFaultOf : List ℕ → JobFault → Type 0
+IsFaultOf text (fault.Byte line) = forbidden_line text ≡ Some line
+IsFaultOf text (fault.Leaves line) = HasTooManyLeaves text line
+IsFaultOf text (fault.Argument line) = HasTooLargeArgument text line
+IsFaultOf text found = (forbidden_line text ≡ None) × IsReadingFault (last_line text) (placed_words text) found

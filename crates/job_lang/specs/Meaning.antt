@@ -1,0 +1,68 @@
+-- What items stand for: the shapes of their copies, and the acts of the leaves from left to right.
+use Rattle.std.specs.Prelude.{ℕ, zero, suc, ◌+◌, ◌*◌, List, [], ◌∷◌, ◌++◌, Some, option_to_list}
+use Rattle.seq_objects.specs.declared.act.Act.{Act}
+use Rattle.seq_objects.specs.declared.act.Act.TheVariants.{Work, Call}
+use Rattle.seq_objects.specs.declared.op.Op.TheVariants.{CounterAdd, Push, Pop, TreeInsert, TreeRemove, TreeFind, TreeNext, PqInsert, PqTake}
+use Rattle.sp_order.specs.Precedence.{Tree, leaf, seq, par}
+use Rattle.sp_order.specs.Jobs.{JobValue}
+use Rattle.job_lang.specs.declared.word.Word.{Word}
+use Rattle.job_lang.specs.declared.word.Word.TheVariants.{Number, Copies}
+use Rattle.job_lang.specs.Grammar.{Items, nothing, leaf_then, block_then, seq_block, par_block, for_loop, pfor_loop, Leaf, with_argument, stack_pop, queue_take, Verb, work, counter_add, stack_push, tree_insert, tree_remove, tree_find, tree_next, queue_insert}
+use Rattle.job_lang.specs.Counts.{said}
+use Rattle.job_lang.specs.Joins.{joined}
+
+-- the number of an argument in the copy of this number
+abbrev pub number_in : ℕ → Word → ℕ
+number_in copy (Number (Some number)) = number
+number_in copy (Copies (Some by)) = by.0 * copy + by.1
+number_in copy _ = 0
+
+-- one line for each form of a leaf
+abbrev pub act_with : Verb → ℕ → Act
+act_with work number = Work number
+act_with counter_add number = Call (CounterAdd number)
+act_with stack_push number = Call (Push number)
+act_with tree_insert number = Call (TreeInsert number)
+act_with tree_remove number = Call (TreeRemove number)
+act_with tree_find number = Call (TreeFind number)
+act_with tree_next number = Call (TreeNext number)
+act_with queue_insert number = Call (PqInsert number)
+
+abbrev pub act_of : ℕ → Leaf → Act
+act_of copy (with_argument verb argument) = act_with verb (number_in copy argument)
+act_of copy stack_pop = Call Pop
+act_of copy queue_take = Call PqTake
+
+-- what so many copies give, copy 0 first
+abbrev pub each_copy : {X : Type 0} → ℕ → (ℕ → List X) → List X
+each_copy zero in_copy = []
+each_copy (suc copies) in_copy = each_copy copies in_copy ++ in_copy copies
+
+-- what the leaves do, from left to right, in the copy of the innermost loop that has this number
+abbrev pub acts_in : ℕ → Items → List Act
+acts_in copy nothing = []
+acts_in copy (leaf_then l more) = act_of copy l ∷ acts_in copy more
+acts_in copy (block_then seq_block body more) = acts_in copy body ++ acts_in copy more
+acts_in copy (block_then par_block body more) = acts_in copy body ++ acts_in copy more
+acts_in copy (block_then (for_loop copies) body more) = each_copy (said copies) (λ k. acts_in k body) ++ acts_in copy more
+acts_in copy (block_then (pfor_loop copies) body more) = each_copy (said copies) (λ k. acts_in k body) ++ acts_in copy more
+
+-- the shape to which shapes are joined, in a list that is empty where there are none
+abbrev pub merged : (Tree → Tree → Tree) → List Tree → List Tree
+merged kind shapes = option_to_list (joined kind shapes)
+
+-- The shapes of the items, without those that vanish. A block joins the shapes of its items, in series or in parallel; a
+-- loop joins so its copies, each of which is its items in series.
+abbrev pub shapes_in : ℕ → Items → List Tree
+shapes_in copy nothing = []
+shapes_in copy (leaf_then _ more) = leaf ∷ shapes_in copy more
+shapes_in copy (block_then seq_block body more) = merged seq (shapes_in copy body) ++ shapes_in copy more
+shapes_in copy (block_then par_block body more) = merged par (shapes_in copy body) ++ shapes_in copy more
+shapes_in copy (block_then (for_loop copies) body more) =
+    merged seq (each_copy (said copies) (λ k. merged seq (shapes_in k body))) ++ shapes_in copy more
+shapes_in copy (block_then (pfor_loop copies) body more) =
+    merged par (each_copy (said copies) (λ k. merged seq (shapes_in k body))) ++ shapes_in copy more
+
+-- the job of items that stand in no loop: they run in series
+abbrev pub job_of : Items → JobValue
+job_of items = record { shape = joined seq (shapes_in 0 items); acts = acts_in 0 items }

@@ -1,0 +1,44 @@
+//! The job language: which texts are jobs, the reader and the writer.
+//!
+//! The reader is the grammar: `read_job` gives a job exactly where the grammar accepts the text, and this job, and else
+//! exactly the text's one fault, with its line. It reads the tokens of the text once, with a stack of open blocks, and then
+//! makes the copies of the loops. `write_job` writes a job's canonical text, which is a text of this job. `laws` says that
+//! each text has one job or one fault, and not both. The crate stands on `sp_order` and `seq_objects`, and on `thiserror`
+//! for how faults are displayed, of which no clause speaks.
+#![tactic(auto)]
+
+mod blocks;
+mod call;
+mod count;
+mod cursor;
+pub mod error;
+mod excess;
+mod expand;
+pub mod fault;
+mod item;
+mod items;
+mod join;
+pub mod laws;
+mod limits;
+mod reader;
+mod scanner;
+mod spelling;
+#[cfg(test)]
+mod tests;
+mod text;
+#[cfg(test)]
+mod text_tests;
+mod tokens;
+#[cfg(test)]
+mod tokens_tests;
+mod trim;
+mod width;
+mod word;
+mod writer;
+#[cfg(test)]
+mod writer_tests;
+
+pub use error::JobErr;
+pub use fault::JobFault;
+pub use reader::read_job;
+pub use writer::write_job;

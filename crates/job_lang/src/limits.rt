@@ -1,0 +1,44 @@
+//! Where a text whose tokens have no fault goes past a limit.
+ghost use Rattle.std.specs.Prelude.{◌≡◌, ◌<◌, ◌≤◌, ◌^◌, IfSome, IfNone, length};
+ghost use Rattle.job_lang.specs.Counts.{count};
+ghost use Rattle.job_lang.specs.Faults.{words_of};
+ghost use Rattle.job_lang.specs.Grammar.{items_words};
+ghost use Rattle.job_lang.specs.Limits.{IsLeavesLine, argument_line};
+ghost use Rattle.job_lang.specs.Views.{items_of};
+
+use crate::count::count_item;
+use crate::excess::{Words, excess_in_items};
+use crate::item::Item;
+use crate::width::item_width;
+use crate::word::PlacedWord;
+
+/// A job has at most so many leaves.
+const MOST_LEAVES: u64 = 20_000;
+
+/// The line of the first word of the first item with which the leaves are too many.
+pub(crate) fn leaves_line(words: &[PlacedWord], items: &[Item]) -> Option<u32>
+    requires writes { items_words (items_of items.now) ≡ words_of words.now }
+    requires short { length words.now < 2 ^ 59 }
+    ensures some { IfSome result (λ line. IsLeavesLine words.now (items_of items.now) line) }
+    ensures none { IfNone result (count (items_of items.now) ≤ 20000) }
+{
+    let mut leaves = 0;
+    let mut place = 0;
+    for item in items {
+        leaves += count_item(item);
+        if leaves > MOST_LEAVES {
+            return Some(words[place].line);
+        }
+        place += item_width(item);
+    }
+    None
+}
+
+/// The line of the first argument that is too large in some copy.
+#[tactic(auto, using(crate::proofs::Excesses::found_line))]
+pub(crate) fn argument_line(words: &[PlacedWord], items: &[Item]) -> Option<u32>
+    ensures { result ≡ argument_line words.now (items_of items.now) }
+{
+    let mut words = Words { rest: words };
+    excess_in_items(0, items, &mut words)
+}

@@ -1,0 +1,49 @@
+//! The reader of jobs.
+ghost use Rattle.std.specs.Prelude.{◌≡◌, ◌≤◌, ◌⊎◌, Ok, Err, IfOk, length};
+ghost use Rattle.sp_order.specs.Jobs.{JobValue};
+ghost use Rattle.job_lang.specs.Language.{IsJobOf, IsFaultOf};
+ghost use Rattle.job_lang.specs.declared.fault.JobFault.{JobFault};
+ghost use Rattle.job_lang.specs.declared.error.JobErr.TheVariants.{Bad, Memory};
+
+use crate::error::JobErr;
+use crate::expand::expand;
+use crate::fault::JobFault;
+use crate::items::read_items;
+use crate::limits::{argument_line, leaves_line};
+use crate::text::{forbidden_line, last_line};
+use crate::tokens::words_in;
+use sp_order::Job;
+use std::alloc::Global;
+
+/// Reads a text, and answers its job or its fault.
+#[tactic(auto, using(crate::proofs::ReadingFaults::reading_fault, crate::proofs::Arguments::numbers_fit))]
+fn read(alloc: Global, text: &[u8]) -> Result<Job, JobErr>
+    requires { length text.now ≤ 1048576 }
+    ensures job { IfOk result (λ job. IsJobOf text.now job) }
+    ensures fault { (fault : JobFault) → result ≡ Err (Bad fault) → IsFaultOf text.now fault }
+{
+    if let Some(line) = forbidden_line(text) {
+        return Err(JobErr::Bad(JobFault::Byte { line }));
+    }
+    let words = words_in(alloc, text)?;
+    let items = read_items(alloc, &words, last_line(text))?;
+    if let Some(line) = leaves_line(&words, &items) {
+        return Err(JobErr::Bad(JobFault::Leaves { line }));
+    }
+    if let Some(line) = argument_line(&words, &items) {
+        return Err(JobErr::Bad(JobFault::Argument { line }));
+    }
+    let job = expand(alloc, &items)?;
+    Ok(job)
+}
+
+/// The job that a text writes, or its fault. For want of memory it may answer `Memory` for any text, and for nothing else.
+pub fn read_job(alloc: Global, text: &[u8]) -> Result<Job, JobErr>
+    requires { length text.now ≤ 1048576 }
+    ensures job { IfOk result (λ job. IsJobOf text.now job) }
+    ensures fault { (fault : JobFault) → result ≡ Err (Bad fault) → IsFaultOf text.now fault }
+    ensures accepts { (job : JobValue) → IsJobOf text.now job → (result ≡ Ok job) ⊎ (result ≡ Err Memory) }
+    ensures refuses { (fault : JobFault) → IsFaultOf text.now fault → (result ≡ Err (Bad fault)) ⊎ (result ≡ Err Memory) }
+{
+    read(alloc, text)
+}

@@ -1,0 +1,39 @@
+//! The words of the language.
+
+/// What a token says. The number of a `Number`, and the factor and the addend of a `Copies`, are missing where one of
+/// them has a leading zero or does not fit 32 bits.
+#[derive(Clone, Copy, Debug, PartialEq, Eq)]
+pub enum Word {
+    Open,
+    Close,
+    Work,
+    Counter,
+    Stack,
+    Tree,
+    Queue,
+    Add,
+    Push,
+    Pop,
+    Insert,
+    Remove,
+    Find,
+    Next,
+    Take,
+    Seq,
+    Par,
+    For,
+    Pfor,
+    /// A run of digits.
+    Number(Option<u32>),
+    /// The number of the copy times a factor, plus an addend.
+    Copies(Option<(u32, u32)>),
+    /// No word of the language.
+    Other,
+}
+
+/// A word, and the line on which its token begins.
+#[derive(Clone, Copy, Debug, PartialEq, Eq)]
+pub struct PlacedWord {
+    pub word: Word,
+    pub line: u32,
+}

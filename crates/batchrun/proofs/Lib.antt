@@ -1,13 +1,6 @@
 pub mod Numbers
 pub mod Counts
-pub mod Calling
-pub mod Telling
-pub mod Writing
-pub mod Running
-pub mod Deriving
-pub mod Spelling
-pub mod Opened
-pub mod Joining
+pub mod Schedules
 pub mod Fronts
 pub mod Ends
 pub mod InMemory

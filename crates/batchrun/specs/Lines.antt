@@ -1,20 +1,12 @@
 -- The line that each status has on err, and the number with which the process exits.
 use Rattle.std.specs.Prelude.{ℕ, List, [], ◌++◌, codes}
 use Rattle.std.specs.Fmt.{decimal}
-use Rattle.batchrun.specs.declared.fault.JobFault.{JobFault}
-use Rattle.batchrun.specs.declared.fault.JobFault.TheVariants.{Byte, Grammar, Number, Nesting, Leaves, Argument}
+use Rattle.job_lang.specs.Lines.{line_in}
+use Rattle.job_lang.specs.declared.fault.JobFault.{JobFault}
+use Rattle.job_lang.specs.declared.fault.JobFault.TheVariants.{Byte, Grammar, Number, Nesting, Leaves, Argument}
 use Rattle.batchrun.specs.declared.status.Refusal.TheVariants.{TooLong, Job}
 use Rattle.batchrun.specs.declared.status.Status.{Status}
 use Rattle.batchrun.specs.declared.status.Status.TheVariants.{Done, Made, Usage, ReadFault, Refused, WriteFault, Memory}
-
--- the line of the text that a fault names
-abbrev pub line_in : JobFault → ℕ
-line_in (Byte line) = line
-line_in (Grammar line) = line
-line_in (Number line) = line
-line_in (Nesting line) = line
-line_in (Leaves line) = line
-line_in (Argument line) = line
 
 -- what is said of a fault behind its line
 abbrev pub fault_words : JobFault → List ℕ

@@ -1,5 +1,5 @@
 -- What each status of a run says: one definition for each concern, with a line for each status.
-use Rattle.std.specs.Prelude.{◌≡◌, ℕ, ◌<◌, ◌≤◌, ◌⊎◌, List, [], length, Bool, IsTrue, Option, None, Some, IfSome}
+use Rattle.std.specs.Prelude.{◌≡◌, ℕ, ◌<◌, ◌≤◌, ◌⊎◌, List, length, Bool, IsTrue, Option, None, Some, IfSome}
 use Rattle.std.specs.Io.KnownBytes.{Appends, Keeps}
 use Rattle.bt_io.specs.Bytes.{IsWhole, AppendsFront}
 use Rattle.sp_order.specs.Jobs.{JobValue}
@@ -7,8 +7,8 @@ use Rattle.batch_history.specs.declared.report.Report.{Report}
 use Rattle.batch_history.specs.Lawful.{Lawful}
 use Rattle.batch_history.specs.Text.{report_text}
 use Rattle.batcher_core.specs.Reports.{IsDrivenReport}
-use Rattle.batchrun.specs.Language.{IsJobOf, IsFaultOf}
-use Rattle.batchrun.specs.declared.fault.JobFault.{JobFault}
+use Rattle.job_lang.specs.Language.{IsJobOf, IsFaultOf}
+use Rattle.job_lang.specs.declared.fault.JobFault.{JobFault}
 use Rattle.batchrun.specs.declared.status.Refusal.TheVariants.{TooLong, Job}
 use Rattle.batchrun.specs.declared.status.Status.{Status}
 use Rattle.batchrun.specs.declared.status.Status.TheVariants.{Done, Made, Usage, ReadFault, Refused, WriteFault, Memory}
@@ -26,11 +26,11 @@ pub record HasRun (held : Option (List ℕ)) (workers : ℕ) (report : Report) :
   pub accepted : IsJobOf bytes job
   pub lawful : Lawful job workers report
 
--- The bytes that were read are a job's, and the report is lawful; it is the one that the turns of so many workers, round
--- robin from worker 0 on, make of this job.
-pub record HasDriven (held : Option (List ℕ)) (workers : ℕ) (report : Report) : Type 0 where
+-- The bytes that were read are a job's, and the report is lawful; it is the one that turns make of this job: those of the
+-- schedule, and then those of so many workers round robin from worker 0 on.
+pub record HasDriven (held : Option (List ℕ)) (workers : ℕ) (schedule : List ℕ) (report : Report) : Type 0 where
   pub run : HasRun held workers report
-  pub driven : IsDrivenReport run.job workers [] report
+  pub driven : IsDrivenReport run.job workers schedule report
 
 -- The bytes that were read have this fault.
 pub record IsRefused (held : Option (List ℕ)) (fault : JobFault) : Type 0 where

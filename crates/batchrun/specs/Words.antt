@@ -1,24 +1,56 @@
 -- The command line.
-use Rattle.std.specs.Prelude.{ℕ, zero, suc, ◌&&◌, not, if◌then◌else◌, List, [], ◌∷◌, codes, map, Option, None, Some, string_bytes}
-use Rattle.std.specs.Option.{option_map}
+use Rattle.std.specs.Prelude.{◌≢◌, ◌≡◌, ℕ, zero, suc, ◌-◌, Bool, ◌&&◌, not, nat_le, nat_lt, if◌then◌else◌, List, [], ◌∷◌, length, slice_index, codes, map, Option, None, Some, string_bytes}
+use Rattle.std.specs.List.{list_all}
+use Rattle.std.specs.Option.{option_map, option_and_then}
 use Rattle.std.specs.Str.{bytes_eq}
 use Rattle.std.specs.Fmt.{decimal}
 use Rattle.std.specs.declared.string.String.{String}
 use Rattle.std.specs.declared.alloc.Global.{Global}
 
--- run the job of a file by turns on one thread, with so many workers
+-- run the job of a file by turns on one thread, with so many workers: first those that the schedule lists, and then all round
+-- robin
 pub data Command : Type 0 where
-  step : (file : List ℕ) → (workers : ℕ) → Command
+  step : (file : List ℕ) → (workers : ℕ) → (schedule : List ℕ) → Command
+
+-- the word begins with no plus, and with no zero but that of `0`
+abbrev pub BeginsPlain : List ℕ → Type 0
+BeginsPlain word = (slice_index word 0 ≢ 43) × (slice_index word 0 ≡ 48 → length word ≡ 1)
 
 -- the number from 1 to the most that the word writes in decimal, if it writes one
 abbrev pub number_up_to : ℕ → List ℕ → Option ℕ
 number_up_to zero word = None
 number_up_to (suc fewer) word = if bytes_eq word (decimal (suc fewer)) then Some (suc fewer) else number_up_to fewer word
 
--- The commands are `step FILE WORKERS`. A file has a name; there are 1 to 32 workers.
+-- the number that a digit of base 32 stands for: `0` to `9`, and `a` to `v` for 10 to 31; 32, which is no worker's, for a byte
+-- that is no digit
+abbrev pub digit_value : ℕ → ℕ
+digit_value byte =
+    if nat_le 48 byte && nat_le byte 57 then byte - 48
+    else if nat_le 97 byte && nat_le byte 118 then byte - 87
+    else 32
+
+-- a schedule is at most 65,536 digits, each of which names one of so many workers
+abbrev pub is_schedule : ℕ → List ℕ → Bool
+is_schedule workers word = nat_le (length word) 65536 && list_all (λ byte. nat_lt (digit_value byte) workers) word
+
+-- the workers that a schedule names
+abbrev pub workers_named : List ℕ → List ℕ
+workers_named word = map digit_value word
+
+abbrev pub schedule_in : ℕ → List ℕ → Option (List ℕ)
+schedule_in workers word = if is_schedule workers word then Some (workers_named word) else None
+
+-- a file has a name; there are 1 to 32 workers
+abbrev pub step_command : List ℕ → List ℕ → List ℕ → List ℕ → Option Command
+step_command name file workers schedule =
+    if bytes_eq name (codes "step") && not (bytes_eq file [])
+    then option_and_then (λ count. option_map (step file count) (schedule_in count schedule)) (number_up_to 32 workers)
+    else None
+
+-- The commands are `step FILE WORKERS` and `step FILE WORKERS SCHEDULE`. Without a schedule it is the empty one.
 abbrev pub command_of : List (List ℕ) → Option Command
-command_of (name ∷ file ∷ workers ∷ []) =
-    if bytes_eq name (codes "step") && not (bytes_eq file []) then option_map (step file) (number_up_to 32 workers) else None
+command_of (name ∷ file ∷ workers ∷ []) = step_command name file workers []
+command_of (name ∷ file ∷ workers ∷ schedule ∷ []) = step_command name file workers schedule
 command_of _ = None
 
 -- the bytes of the words
@@ -27,8 +59,12 @@ spelled words = map string_bytes words
 
 -- the file that a command names
 abbrev pub file_of : Command → List ℕ
-file_of (step file workers) = file
+file_of (step file workers schedule) = file
 
 -- the workers that a command asks for
 abbrev pub workers_of : Command → ℕ
-workers_of (step file workers) = workers
+workers_of (step file workers schedule) = workers
+
+-- the workers that take the first turns
+abbrev pub schedule_of : Command → List ℕ
+schedule_of (step file workers schedule) = schedule

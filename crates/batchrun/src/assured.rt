@@ -3,7 +3,7 @@ ghost use Rattle.std.specs.Prelude.{◌≡◌, ◌-◌, [], length, Some, IsSome
 ghost use Rattle.std.specs.Option.{ForSome};
 ghost use Rattle.bt_io.specs.Causes.{Rose};
 ghost use Rattle.bt_io.specs.Memory.{file_named};
-ghost use Rattle.batchrun.specs.Words.{command_of, spelled, file_of, workers_of};
+ghost use Rattle.batchrun.specs.Words.{command_of, spelled, file_of, workers_of, schedule_of};
 ghost use Rattle.batchrun.specs.Lines.{fault_line};
 ghost use Rattle.batchrun.specs.Outcomes.{Headline, HasRun, HasDriven, HoldsJob, IsUnlessMemory, Tells};
 
@@ -29,7 +29,7 @@ pub fn step_in_memory(
     ensures answer { IsUnlessMemory result.status Status.Done }
     ensures headline { Headline (λ report. ForSome (command_of (spelled words.now)) (λ c. HasRun (file_named shelf.old.files (file_of c)) (workers_of c) report))
         result.status result.report (Some out.old.taken) (Some out.new.taken) }
-    ensures driven { IfSome result.report (λ report. ForSome (command_of (spelled words.now)) (λ c. HasDriven (file_named shelf.old.files (file_of c)) (workers_of c) report)) }
+    ensures driven { IfSome result.report (λ report. ForSome (command_of (spelled words.now)) (λ c. HasDriven (file_named shelf.old.files (file_of c)) (workers_of c) (schedule_of c) report)) }
     ensures tells { Tells (fault_line result.status) (Some err.old.taken) (Some err.new.taken) (Rose err.old.faults err.new.faults) }
 {
     run_step(alloc, words, shelf, out, err)

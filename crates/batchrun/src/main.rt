@@ -6,21 +6,13 @@
 #![tactic(auto)]
 
 pub mod assured;
-pub mod blocks;
 pub mod command;
-pub mod fault;
-pub mod head;
-pub mod join;
 #[cfg(test)]
 mod language_tests;
-pub mod laws;
 pub mod number;
-pub mod operation;
 #[cfg(test)]
 mod operation_tests;
 pub mod outcome;
-pub mod piece;
-pub mod reader;
 pub mod run;
 #[cfg(test)]
 mod schedule_tests;
@@ -28,7 +20,6 @@ pub mod status;
 pub mod tell;
 #[cfg(test)]
 mod tests;
-pub mod token;
 pub mod top;
 
 use bt_io::{NoPause, Sink, StdShelf, StdSink};

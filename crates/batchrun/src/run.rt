@@ -1,5 +1,6 @@
 //! The run of a job by turns.
-ghost use Rattle.std.specs.Prelude.{◌<◌, ◌≤◌, [], IfOk};
+ghost use Rattle.std.specs.Prelude.{◌<◌, ◌≤◌, IfOk};
+ghost use Rattle.std.specs.List.{AllByRecursion};
 ghost use Rattle.batch_history.specs.Lawful.{Lawful};
 ghost use Rattle.batcher_core.specs.Reports.{IsDrivenReport};
 
@@ -8,11 +9,18 @@ use batcher_core::{Core, drive};
 use sp_order::Job;
 use std::alloc::{AllocError, Global};
 
-/// Runs a job on one thread: so many workers take turns on the scheduler's core, round robin from worker 0 on.
-pub fn run_by_turns(alloc: Global, job: &Job, workers: u32) -> Result<Report, AllocError>
+/// Runs a job on one thread: so many workers take turns on the scheduler's core, first those of the schedule, and then all
+/// round robin from worker 0 on.
+pub fn run_by_turns(
+    alloc: Global,
+    job: &Job,
+    workers: u32,
+    schedule: &[u32],
+) -> Result<Report, AllocError>
     requires some_workers { 0 < workers }
     requires few_workers { workers ≤ 32 }
-    ensures driven { IfOk result (λ report. IsDrivenReport job.now workers [] report) }
+    requires schedule { AllByRecursion (λ worker. worker < workers) schedule.now }
+    ensures driven { IfOk result (λ report. IsDrivenReport job.now workers schedule.now report) }
     ensures lawful { IfOk result (λ report. Lawful job.now workers report) }
 {
     if job.shape().is_none() {
@@ -23,5 +31,5 @@ pub fn run_by_turns(alloc: Global, job: &Job, workers: u32) -> Result<Report, Al
         });
     }
     let core = Core::start(alloc, job, workers)?;
-    drive(alloc, core, &[])
+    drive(alloc, core, schedule)
 }

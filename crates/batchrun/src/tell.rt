@@ -3,13 +3,27 @@ ghost use Rattle.std.specs.Prelude.{◌≡◌, OnOk};
 ghost use Rattle.std.specs.Io.KnownBytes.{Appends};
 ghost use Rattle.bt_io.specs.Bytes.{AppendsFront};
 ghost use Rattle.bt_io.specs.Causes.{HasCause, Rose};
-ghost use Rattle.batchrun.specs.Lines.{fault_line, refusal_line};
+ghost use Rattle.batchrun.specs.Lines.{fault_line, refusal_line, fault_words};
 ghost use Rattle.batchrun.specs.Outcomes.{Tells};
 
-use crate::fault::JobFault;
 use crate::status::{Refusal, Status};
 use bt_io::{Failed, Sink, write_all};
 use itoa::Buffer;
+use job_lang::JobFault;
+
+/// What is said of a fault behind its line, with a line feed.
+fn fault_words(fault: JobFault) -> &'static [u8]
+    ensures { result.now ≡ fault_words fault }
+{
+    match fault {
+        JobFault::Byte { .. } => b": byte not allowed\n",
+        JobFault::Grammar { .. } => b": not in the grammar\n",
+        JobFault::Number { .. } => b": number out of range\n",
+        JobFault::Nesting { .. } => b": blocks nested too deep\n",
+        JobFault::Leaves { .. } => b": too many leaves\n",
+        JobFault::Argument { .. } => b": argument out of range\n",
+    }
+}
 
 /// Writes the line of a job that is refused for this fault.
 fn write_refusal<E: Sink>(err: &mut E, fault: JobFault) -> Result<(), Failed>
@@ -20,7 +34,7 @@ fn write_refusal<E: Sink>(err: &mut E, fault: JobFault) -> Result<(), Failed>
     let mut buffer = Buffer::new();
     write_all(err, b"batchrun: line ")?;
     write_all(err, buffer.format(fault.line()).as_bytes())?;
-    write_all(err, fault.words())
+    write_all(err, fault_words(fault))
 }
 
 /// Writes the line of a status, if it has one.

@@ -1,11 +1,11 @@
 //! What no clause says of runs: the printed bytes of worked jobs, and each status once.
 ghost use Rattle.std.specs.Prelude.{◌<◌};
 
-use crate::fault::JobFault;
 use crate::outcome::Outcome;
 use crate::status::{Refusal, Status};
 use crate::top::batchrun;
 use bt_io::{MemShelf, MemSink, NoPause};
+use job_lang::JobFault;
 use std::alloc::{AllocError, Global};
 use std::sync::Wait;
 use std::test::Fail;
@@ -187,7 +187,7 @@ fn a_file_has_at_most_1048576_bytes(rt: HostRuntime) -> Result<(), Fail> {
 
 #[test]
 fn other_words_are_a_wrong_use(rt: HostRuntime) -> Result<(), Fail> {
-    let uses: [&'static [&'static str]; 20] = [
+    let uses: [&'static [&'static str]; 22] = [
         &[],
         &["step"],
         &["step", "-"],
@@ -196,9 +196,11 @@ fn other_words_are_a_wrong_use(rt: HostRuntime) -> Result<(), Fail> {
         &["step", "-", "01"],
         &["step", "-", "+1"],
         &["step", "-", "2", "02"],
-        &["step", "-", "1", ""],
-        &["step", "-", "1", "0"],
-        &["step", "-", ""],
+        &["step", "-", "1", "1"],
+        &["step", "-", "1", " "],
+        &["step", "-", "32", "w"],
+        &["step", "-", "32", "A"],
+        &["step", "-", "1", "0", "0"],
         &["step", "-", "1 "],
         &["step", "-", "4294967297"],
         &["step", "", "1"],

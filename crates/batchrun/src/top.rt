@@ -2,18 +2,19 @@
 ghost use Rattle.std.specs.Prelude.{◌≡◌, ◌↔◌, ◌<◌, ◌≤◌, Err, IsSome, IsNone, IfOk, IfErr, IfSome, IsTrue};
 ghost use Rattle.std.specs.Option.{ForSome};
 ghost use Rattle.bt_io.specs.Causes.{Rose};
-ghost use Rattle.batchrun.specs.Words.{command_of, spelled, file_of, workers_of};
+ghost use Rattle.batchrun.specs.Words.{command_of, spelled, file_of, workers_of, schedule_of, is_schedule, workers_named};
 ghost use Rattle.batchrun.specs.Lines.{fault_line};
 ghost use Rattle.batchrun.specs.Outcomes.{WasRead, HasRun, HasDriven, Headline, HasCause, Completes, IsAssured, Tells, StopsReading, FailsPast};
 
-use crate::command::step_of;
+use crate::command::{schedule_of, step_of};
 use crate::outcome::Outcome;
-use crate::reader::{JobErr, read_job};
 use crate::run::run_by_turns;
 use crate::status::{Refusal, Status};
 use crate::tell::tell;
 use batch_history::text;
 use bt_io::{Failed, Pause, ReadErr, Shelf, Sink, read_up_to, write_all};
+use job_lang::laws::texts_have_one_job_or_fault;
+use job_lang::{JobErr, read_job};
 use std::alloc::Global;
 use std::sync::Wait;
 use std::thread::Threads;
@@ -40,23 +41,28 @@ fn read_file<I: Shelf>(alloc: Global, shelf: &mut I, file: &str) -> Result<Vec<u
     }
 }
 
-/// Runs the job of a file, and writes its report.
+/// Runs the job of a command's file, and writes its report.
 fn step<I: Shelf, O: Sink>(
     alloc: Global,
     file: &str,
     workers: u32,
+    schedule: &[u8],
     shelf: &mut I,
     out: &mut O,
 ) -> Outcome
     requires may { IsTrue (I.may shelf.old file.now) }
     requires some_workers { 0 < workers }
     requires few_workers { workers ≤ 32 }
+    requires schedule { IsTrue (is_schedule workers schedule.now) }
     ensures headline { Headline (HasRun (I.held shelf.old file.now) workers) result.status result.report (O.taken out.old) (O.taken out.new) }
-    ensures driven { IfSome result.report (HasDriven (I.held shelf.old file.now) workers) }
+    ensures driven { IfSome result.report (HasDriven (I.held shelf.old file.now) workers (workers_named schedule.now)) }
     ensures cause { HasCause result.status (I.held shelf.old file.now) (Rose (I.faults shelf.old) (I.faults shelf.new)) (Rose (O.faults out.old) (O.faults out.new)) }
     ensures reads { IsTrue (I.never_fails shelf.old) → IsSome (I.held shelf.old file.now) → result.status ≡ Status.ReadFault → ⊥ }
     ensures writes { FailsPast result.status result.report (O.sure out.old) }
 {
+    let Ok(turns) = schedule_of(alloc, schedule, workers) else {
+        return Outcome::stopped(Status::Memory);
+    };
     let bytes = match read_file(alloc, shelf, file) {
         Ok(bytes) => bytes,
         Err(status) => return Outcome::stopped(status),
@@ -66,7 +72,7 @@ fn step<I: Shelf, O: Sink>(
         Err(JobErr::Bad(fault)) => return Outcome::stopped(Status::Refused(Refusal::Job(fault))),
         Err(JobErr::Memory) => return Outcome::stopped(Status::Memory),
     };
-    let Ok(report) = run_by_turns(alloc, &job, workers) else {
+    let Ok(report) = run_by_turns(alloc, &job, workers, turns.as_slice()) else {
         return Outcome::stopped(Status::Memory);
     };
     let Ok(lines) = text(alloc, &job, &report) else {
@@ -99,7 +105,7 @@ pub fn run_step<I: Shelf, O: Sink, E: Sink>(
 
     ensures headline { Headline (λ report. ForSome (command_of (spelled words.now)) (λ c. HasRun (I.held shelf.old (file_of c)) (workers_of c) report))
         result.status result.report (O.taken out.old) (O.taken out.new) }
-    ensures driven { IfSome result.report (λ report. ForSome (command_of (spelled words.now)) (λ c. HasDriven (I.held shelf.old (file_of c)) (workers_of c) report)) }
+    ensures driven { IfSome result.report (λ report. ForSome (command_of (spelled words.now)) (λ c. HasDriven (I.held shelf.old (file_of c)) (workers_of c) (schedule_of c) report)) }
     ensures cause { ForSome (command_of (spelled words.now)) (λ c. HasCause result.status (I.held shelf.old (file_of c))
         (Rose (I.faults shelf.old) (I.faults shelf.new)) (Rose (O.faults out.old) (O.faults out.new))) }
     ensures completes { ForSome (command_of (spelled words.now)) (λ c. Completes result.status (I.held shelf.old (file_of c))
@@ -108,10 +114,18 @@ pub fn run_step<I: Shelf, O: Sink, E: Sink>(
         (I.never_fails shelf.old) (O.sure out.old)) }
     ensures tells { Tells (fault_line result.status) (E.taken err.old) (E.taken err.new) (Rose (E.faults err.old) (E.faults err.new)) }
 {
+    texts_have_one_job_or_fault();
     let Some(command) = step_of(words) else {
         unreachable!();
     };
-    let outcome = step(alloc, command.file, command.workers, shelf, out);
+    let outcome = step(
+        alloc,
+        command.file,
+        command.workers,
+        command.schedule,
+        shelf,
+        out,
+    );
     tell(err, outcome.status);
     outcome
 }
@@ -132,7 +146,7 @@ pub fn batchrun<R: Threads + Wait + Sync, I: Shelf, O: Sink, E: Sink, G: Pause +
 
     ensures headline { Headline (λ report. ForSome (command_of (spelled words.now)) (λ c. HasRun (I.held shelf.old (file_of c)) (workers_of c) report))
         result.status result.report (O.taken out.old) (O.taken out.new) }
-    ensures driven { IfSome result.report (λ report. ForSome (command_of (spelled words.now)) (λ c. HasDriven (I.held shelf.old (file_of c)) (workers_of c) report)) }
+    ensures driven { IfSome result.report (λ report. ForSome (command_of (spelled words.now)) (λ c. HasDriven (I.held shelf.old (file_of c)) (workers_of c) (schedule_of c) report)) }
     ensures usage { (result.status ≡ Status.Usage) ↔ IsNone (command_of (spelled words.now)) }
     ensures cause { ForSome (command_of (spelled words.now)) (λ c. HasCause result.status (I.held shelf.old (file_of c))
         (Rose (I.faults shelf.old) (I.faults shelf.new)) (Rose (O.faults out.old) (O.faults out.new))) }

@@ -1,6 +1,7 @@
 use Rattle.std.proofs.Common.{◌≡◌, ◌++◌, codes, ap, ◌∙◌}
 use Rattle.std.specs.Fmt.{decimal}
-use Rattle.batchrun.specs.Lines.{line_in, fault_words}
+use Rattle.job_lang.specs.Lines.{line_in}
+use Rattle.batchrun.specs.Lines.{fault_words}
 use Rattle.std.proofs.KnownBytes.{Appends-trans}
 use Rattle.batchrun.proofs.Fronts.{front_of_first, front_of_next, whole_of_next}
 use Rattle.batchrun.proofs.tell.write_refusal.Goals as goal
@@ -22,7 +23,7 @@ returns-clause-ok g c =
     let digits : c.as_bytes.result.now ≡ decimal (line_in c.args.fault) = c.as_bytes.ensures.value ∙ c.format.ensures.text ∙ ap decimal c.line.ensures in
     whole_of_next c.write_all-3.result (taken c.args.err.now) (taken c.write_all-2.new.sink) (taken c.write_all-3.new.sink) (codes "batchrun: line " ++ decimal (line_in c.args.fault)) (fault_words c.args.fault)
     (Appends-trans (taken c.args.err.now) (taken c.write_all.new.sink) (taken c.write_all-2.new.sink) (codes "batchrun: line ") (decimal (line_in c.args.fault)) c.in_ok-write_all.ensures.ok (rw digits at c.in_ok-write_all-2.ensures.ok))
-    (rw c.words.ensures at c.write_all-3.ensures.ok)
+    (rw c.fault_words.ensures at c.write_all-3.ensures.ok)
 
 pub returns-clause-front : goal.returns-clause-front
 returns-clause-front g c =
@@ -30,4 +31,4 @@ returns-clause-front g c =
     let digits : c.as_bytes.result.now ≡ decimal (line_in c.args.fault) = c.as_bytes.ensures.value ∙ c.format.ensures.text ∙ ap decimal c.line.ensures in
     front_of_next (taken c.args.err.now) (taken c.write_all-2.new.sink) (taken c.write_all-3.new.sink) (codes "batchrun: line " ++ decimal (line_in c.args.fault)) (fault_words c.args.fault)
     (Appends-trans (taken c.args.err.now) (taken c.write_all.new.sink) (taken c.write_all-2.new.sink) (codes "batchrun: line ") (decimal (line_in c.args.fault)) c.in_ok-write_all.ensures.ok (rw digits at c.in_ok-write_all-2.ensures.ok))
-    (rw c.words.ensures at c.write_all-3.ensures.front)
+    (rw c.fault_words.ensures at c.write_all-3.ensures.front)

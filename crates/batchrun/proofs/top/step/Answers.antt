@@ -8,13 +8,13 @@ text-requires g c = rows_count c.in-Ok-read_job.job c.args.workers c.in-Ok-run_b
 
 pub returns-clause-driven : goal.returns-clause-driven
 returns-clause-driven g c =
-    has_driven _ c.args.workers c.in-Ok.bytes.items c.in-Ok-read_job.job c.in-Ok-run_by_turns.report c.in-Ok.ensures.ok
-    (rw c.as_slice.ensures.value at c.in-Ok-read_job.ensures.ok) c.in-Ok-run_by_turns.ensures.lawful c.in-Ok-run_by_turns.ensures.driven
+    has_driven _ c.args.workers c.in-Ok-read_file.bytes.items c.in-Ok-read_job.job _ c.in-Ok-run_by_turns.report c.in-Ok-read_file.ensures.ok
+    (rw c.as_slice.ensures.value at c.in-Ok-read_job.ensures.job) c.in-Ok-run_by_turns.ensures.lawful (rw (c.as_slice-2.ensures.value ∙ c.in-Ok.ensures.schedule) at c.in-Ok-run_by_turns.ensures.driven)
 
 pub returns-clause-headline : goal.returns-clause-headline
 returns-clause-headline g c =
     let run = (returns-clause-driven g c).run in
     elim c.match-write_all.branch [
-      | in-Ok-write_all w ↦ rw w.status-is (run, rw (c.as_slice-2.ensures.value ∙ c.in-Ok-text.ensures) at w.in-Ok-write_all.ensures.ok)
-      | in-Err-write_all w ↦ rw w.status-is (run, rw (c.as_slice-2.ensures.value ∙ c.in-Ok-text.ensures) at w.in-Err-write_all.ensures.front)
+      | in-Ok-write_all w ↦ rw w.status-is (run, rw (c.as_slice-3.ensures.value ∙ c.in-Ok-text.ensures) at w.in-Ok-write_all.ensures.ok)
+      | in-Err-write_all w ↦ rw w.status-is (run, rw (c.as_slice-3.ensures.value ∙ c.in-Ok-text.ensures) at w.in-Err-write_all.ensures.front)
     ]

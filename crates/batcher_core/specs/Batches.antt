@@ -1,11 +1,11 @@
 -- The calls of which a batch is made, its entries, and the receipt for an entry.
 use Rattle.std.specs.Prelude.{ℕ, ◌≡◌, ◌<◌, Bool, true, Option, None, Some, List, map, Contains}
 use Rattle.std.specs.List.{AllByRecursion}
-use Rattle.seq_objects.specs.BatchOrder.{ComesFirst}
+use Rattle.seq_objects.specs.Batches.{AreInBatchOrder}
 use Rattle.seq_objects.specs.declared.call.Call.{Call}
 use Rattle.sp_order.specs.declared.node.Kind.TheVariants.{LeafNode}
 use Rattle.batch_history.specs.declared.batch.Entry.{Entry}
-use Rattle.seq_objects.specs.Pairs.{EachPair, AreDistinct}
+use Rattle.seq_objects.specs.Pairs.{AreDistinct}
 use Rattle.batcher_core.specs.declared.task.Task.{Task}
 use Rattle.batcher_core.specs.declared.task.Task.TheVariants.{Started}
 use Rattle.batcher_core.specs.declared.status.Receipt.{Receipt}
@@ -17,10 +17,6 @@ abbrev pub IsCallOf : CoreJob → Task → Call → Type 0
 IsCallOf job task call =
     (node : ℕ) × (start : ℕ) × (job.plan.kind node ≡ Some (LeafNode call.leaf)) × (task ≡ Started node start)
     × (op_in (job.act call.leaf) ≡ Some call.op)
-
--- each call is served before each later one
-abbrev pub AreInBatchOrder : List Call → Type 0
-AreInBatchOrder calls = EachPair (λ first second. ComesFirst first.op first.worker second.op second.worker) calls
 
 -- the calls of the workers that are taken, each once, in batch order
 pub record AreTakenCalls (job : CoreJob) (task : ℕ → Task) (took : ℕ → Bool) (calls : List Call) : Type 0 where

@@ -1,4 +1,4 @@
-mod Bags
+pub mod Bags
 mod Classes
 mod Keys
 mod Meets

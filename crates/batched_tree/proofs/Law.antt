@@ -1,5 +1,5 @@
 -- The outs of the pieces come to the replies and the content of one call after another.
-use Rattle.std.proofs.Common.{◌≡◌, ℕ, suc, ◌+◌, ◌<◌, ◌≤◌, inl, inr, Bool, true, false, not, cond, nat_lt, List, [], ◌∷◌, ◌++◌, map, filter, length, get_or, drop, slice_get, None, refl, ap, sym, ◌∙◌, append-nil, arith}
+use Rattle.std.proofs.Common.{◌≡◌, ℕ, ◌+◌, ◌<◌, ◌≤◌, inl, inr, Bool, true, false, not, cond, nat_lt, List, [], ◌∷◌, ◌++◌, map, filter, length, get_or, drop, slice_get, None, refl, ap, sym, ◌∙◌, append-nil, arith}
 use Rattle.std.proofs.Math.ListN.{set}
 use Rattle.std.specs.List.{AllByRecursion}
 use Rattle.std.specs.declared.option.Option.{Option}
@@ -29,6 +29,7 @@ use Rattle.batched_tree.specs.Joined.{merged, replies_of, joined, CanJoin}
 use Rattle.batched_tree.proofs.Sides.{all_filter, all_passed, is_less, is_not_less, all_below, all_from, both_sides, ascends_from}
 use Rattle.batched_tree.proofs.Cuts.{some_key}
 use Rattle.batched_tree.proofs.Filters.{all_map}
+use Rattle.batched_tree.proofs.Dealing.{group_within}
 use Rattle.batched_tree.proofs.Ranges.{cut_pieces}
 use Rattle.batched_tree.proofs.Halves.{shared, less_or_not, halves_replies, halves_after, set_after, kept}
 
@@ -187,13 +188,6 @@ can_join (b ∷ starts) set low calls (part ∷ ins) (out ∷ outs) tree above k
     rw own (turned low t all, can_join starts (from b set) (low ++ t) (calls_from b calls) ins outs (tree_from b calls tree) above' keys' parts.1 meet.1)
 
 -- each call has a piece
-group_within : (key : ℕ) (starts : List ℕ) → group_of key starts ≤ length starts
-group_within key [] = omega arith
-group_within key (start ∷ starts) = step (nat_lt key start) (group_within key starts) where
-  step : (t : Bool) → group_of key starts ≤ length starts → cond t 0 (suc (group_of key starts)) ≤ suc (length starts)
-  step true le = omega arith
-  step false le = omega arith
-
 length_parts : (starts set : List ℕ) (calls : List Call) (ins : List Part) → ArePieces set calls starts ins → length ins ≡ length starts + 1
 length_parts [] set calls [] parts = absurd parts
 length_parts (b ∷ starts) set calls [] parts = absurd parts

@@ -1,6 +1,7 @@
 mod Asked
 mod Calls
 mod Cuts
+mod Dealing
 mod Filters
 mod Halves
 mod Law

@@ -12,7 +12,7 @@ pub first_or_empty : (replies : List Reply) → unwrap_or (slice_get replies 0) 
 first_or_empty [] = refl
 first_or_empty (reply ∷ replies) = refl
 
-drop_here : (groups : List ℕ) (i : ℕ) → i < length groups → drop i groups ≡ get_or groups i 0 ∷ drop (i + 1) groups
+pub drop_here : (groups : List ℕ) (i : ℕ) → i < length groups → drop i groups ≡ get_or groups i 0 ∷ drop (i + 1) groups
 drop_here groups i less = rw (add-one, drop-cons groups i 0)
 
 pub merged_more : (groups : List ℕ) (i : ℕ) (left : List (List Reply)) (before all own : List Reply) → i < length groups → AllByRecursion (λ group. group < length left) (drop i groups)

@@ -126,6 +126,16 @@ least_is : (size b : ℕ) (keys starts : List ℕ) → 0 < size → slice_get ke
 least_is size b keys [] some is = is
 least_is size b keys (start ∷ starts) some is = get_take size keys some ∙ is
 
+-- only the least key may be 0, and it begins the first group
+get_above : (size b : ℕ) (keys : List ℕ) → 0 < size → StrictlyAscends keys → slice_get keys size ≡ Some b → 0 < b
+get_above zero b keys some up is = absurd (omega arith)
+get_above (suc size) b [] some up is = absurd (cc)
+get_above (suc size) b (k ∷ keys) some up is = let less : k < b = all_get (λ j. k < j) keys size b up.0 is in omega (arith, less)
+
+starts_above : (size : ℕ) (keys starts : List ℕ) → 0 < size → StrictlyAscends keys → AreStarts size keys starts → AllByRecursion (λ start. 0 < start) starts
+starts_above size keys [] some up are = tt
+starts_above size keys (b ∷ starts) some up are = (get_above size b keys some up are.0, starts_above size (drop size keys) starts some (apart size b keys up are.0).ascends are.1)
+
 in_last : (start key : ℕ) (keys : List ℕ) → AllByRecursion (λ k. start ≤ k) keys → (key < start) ⊎ (has key keys ≡ true) → not (nat_lt key start) ≡ has key keys
 in_last start key keys up (inl less) =
     let test : nat_lt key start ≡ true = grind (arith, nat_tests) in
@@ -326,6 +336,12 @@ cut_pieces objects calls parts some cut =
     let keys = distinct_keys calls in
     let pieces = pieces_are ((length keys + 15) / 16) cut.groups keys 0 objects.set calls parts (omega arith) cut.groups_are (at_all calls some) cut.parts in
     rw (from_0 objects.set, calls_from_0 calls) at pieces
+
+pub starts_not_0 : (calls : List Call) (keys starts : List ℕ) → 0 < length calls → keys ≡ distinct_keys calls → AreStarts ((length keys + 15) / 16) keys starts → AllByRecursion (λ start. 0 < start) starts
+starts_not_0 calls keys starts some is are =
+    let are' = rw is at are in
+    let some' = some_key calls some in
+    starts_above ((length (distinct_keys calls) + 15) / 16) (distinct_keys calls) starts (omega arith) (keys_ascend [] calls tt) are'
 
 -- how a batch was opened, by what the code tells of it
 pub remembered : (set : List ℕ) (calls : List Call) (keys starts : List ℕ) (parts : List Part) (rest : Groups) → StrictlyAscends set → AreOneBatch calls → AreOf IsOfTree calls → keys ≡ distinct_keys calls

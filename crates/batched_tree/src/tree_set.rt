@@ -74,7 +74,7 @@ impl Batched for TreeSet {
         let keys = keys_of(alloc, calls)?;
         let starts = starts_of(alloc, &keys)?;
         let groups = groups_of(alloc, &starts, calls)?;
-        let parts = parts_of(alloc, self.tree, calls.to_vec(alloc)?, &starts)?;
+        let parts = parts_of(alloc, self.tree, &starts, calls, &groups)?;
         Ok((Groups { groups }, parts))
     }
 

@@ -53,7 +53,7 @@ pub(crate) fn joined(alloc: Global, outs: Vec<Served>) -> Result<(Tree23, Vec<Re
     ensures replies { IfOk result (λ p. p.1.items ≡ replies_of outs.items) }
 {
     let mut tree = Tree23::new(alloc);
-    let mut replies = Vec::new(alloc);
+    let mut replies = Vec::with_capacity(alloc, outs.len())?;
     for served in outs {
         tree = Tree23::concat(tree, served.tree)?;
         replies.push(Replies::new(served.replies))?;
@@ -71,7 +71,7 @@ pub(crate) fn merged(
     ensures { IfOk result (λ v. v.items ≡ merged groups.now pieces.items) }
 {
     let mut left = pieces;
-    let mut replies = Vec::new(alloc);
+    let mut replies = Vec::with_capacity(alloc, groups.len())?;
     for group in groups {
         let next = left[*group].next();
         replies.push(next.unwrap_or(Reply::Empty))?;

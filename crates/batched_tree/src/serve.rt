@@ -49,7 +49,7 @@ pub(crate) fn served(alloc: Global, part: Part) -> Result<Served, AllocError>
     let beyond = part.beyond;
     let calls = part.calls;
     let mut tree = part.tree;
-    let mut replies = Vec::new(alloc);
+    let mut replies = Vec::with_capacity(alloc, calls.len())?;
     for call in &calls {
         replies.push(serve_one(&mut tree, beyond, call.op)?)?;
     }

@@ -1,5 +1,5 @@
 //! The tree.
-ghost use Rattle.std.specs.Prelude.{◌≡◌, ℕ, [], List, IfOk};
+ghost use Rattle.std.specs.Prelude.{◌≡◌, ℕ, [], List, IfOk, IsOk};
 ghost use Rattle.seq_objects.specs.Orders.{StrictlyAscends};
 ghost use Rattle.seq_objects.specs.Serial.{replies_to_all, after_all, of_set};
 ghost use Rattle.seq_objects.specs.Pieces.{AllMeet, Opening};
@@ -33,7 +33,8 @@ impl Model for TreeSet {
 impl TreeSet {
     /// The empty set. It takes no memory.
     pub fn new(alloc: Global) -> Result<TreeSet, AllocError>
-        ensures { IfOk result (λ s. s ≡ []) }
+        ensures opening { IfOk result (λ s. s ≡ []) }
+        ensures sure { IsOk result }
     {
         Ok(TreeSet {
             tree: Tree23::new(alloc),

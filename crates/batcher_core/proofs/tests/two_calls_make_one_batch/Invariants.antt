@@ -1,5 +1,0 @@
-use Rattle.std.proofs.Common.{◌≡◌, false}
-use Rattle.batcher_core.proofs.tests.two_calls_make_one_batch.Given as goal
-
-abbrev pub invariant-loop-first : goal.invariant-loop-first
-invariant-loop-first g l = record { workers : l.core.workers ≡ 2; unspent : l.core.spent ≡ false }

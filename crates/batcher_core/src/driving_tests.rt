@@ -7,6 +7,7 @@ use crate::{Core, drive};
 use batch_history::text;
 use seq_objects::{Act, Op};
 use std::alloc::{AllocError, Global};
+use std::str::from_utf8;
 use std::test::Fail;
 
 /// The text of the report of a parallel block of two leaves, which make these calls.
@@ -94,7 +95,7 @@ fn schedules_make_these_reports(rt: HostRuntime) -> Result<(), Fail> {
     for (case, left, right, schedule, report) in CASES {
         assert!(rt; is_of_two(schedule), "{case}");
         let told = told(rt.alloc(), left, right, schedule)?;
-        assert_eq!(rt; told.as_slice(), report.as_bytes(), "{case}");
+        assert_eq!(rt; from_utf8(&told)?, report, "{case}");
     }
     Ok(())
 }

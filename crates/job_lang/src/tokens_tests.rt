@@ -1,64 +1,54 @@
 //! The words of worked texts with their lines, and the spellings of words.
 use crate::spelling::word_of;
 use crate::tokens::words_in;
-use crate::word::Word;
+use crate::word::{PlacedWord, Word};
+use std::alloc::{AllocError, Global};
+use std::fmt::Write;
 use std::test::Fail;
+
+/// The words of a text, each with its line before it, where the text is not too long for them.
+fn told(alloc: Global, text: &[u8]) -> Result<String, AllocError> {
+    if text.len() > 1_048_576 {
+        return "too long".to_string(alloc);
+    }
+    let mut told = String::new(alloc);
+    for PlacedWord { word, line } in words_in(alloc, text)?.iter() {
+        write!(told, "{line} {word:?}\n")?;
+    }
+    Ok(told)
+}
 
 #[test]
 fn words_of_texts(rt: HostRuntime) -> Result<(), Fail> {
-    const ONE: Word = Word::Number(Some(1));
-    let rows: [(&[u8], &[(Word, u32)]); 13] = [
-        (b"", &[]),
-        (b"#\xff", &[]),
-        (b"\t\r\n # work 1\n", &[]),
-        (b"work 1# tail", &[(Word::Work, 1), (ONE, 1)]),
+    let rows: [(&[u8], &str); 13] = [
+        (b"", ""),
+        (b"#\xff", ""),
+        (b"\t\r\n # work 1\n", ""),
+        (b"work 1# tail", "1 Work\n1 Number(Some(1))\n"),
         (
             b"work 1# tail\n2",
-            &[(Word::Work, 1), (ONE, 1), (Word::Number(Some(2)), 2)],
+            "1 Work\n1 Number(Some(1))\n2 Number(Some(2))\n",
         ),
-        (b"work#\n1", &[(Word::Work, 1), (ONE, 2)]),
-        (b"wo#rk\nrk", &[(Word::Other, 1), (Word::Other, 2)]),
+        (b"work#\n1", "1 Work\n2 Number(Some(1))\n"),
+        (b"wo#rk\nrk", "1 Other\n2 Other\n"),
         (
             b"work\r\n\t1\r\n\r\nwork",
-            &[(Word::Work, 1), (ONE, 2), (Word::Work, 4)],
+            "1 Work\n2 Number(Some(1))\n4 Work\n",
         ),
         (
             b"seq{work 1}",
-            &[
-                (Word::Seq, 1),
-                (Word::Open, 1),
-                (Word::Work, 1),
-                (ONE, 1),
-                (Word::Close, 1),
-            ],
+            "1 Seq\n1 Open\n1 Work\n1 Number(Some(1))\n1 Close\n",
         ),
-        (
-            b"{{}\n}",
-            &[
-                (Word::Open, 1),
-                (Word::Open, 1),
-                (Word::Close, 1),
-                (Word::Close, 2),
-            ],
-        ),
-        (
-            b"# one # two \x00\xff\nstack#\xff\npop",
-            &[(Word::Stack, 2), (Word::Pop, 3)],
-        ),
+        (b"{{}\n}", "1 Open\n1 Open\n1 Close\n2 Close\n"),
+        (b"# one # two \x00\xff\nstack#\xff\npop", "2 Stack\n3 Pop\n"),
         (
             b"pfor 1{#}\n}",
-            &[(Word::Pfor, 1), (ONE, 1), (Word::Open, 1), (Word::Close, 2)],
+            "1 Pfor\n1 Number(Some(1))\n1 Open\n2 Close\n",
         ),
-        (b"1\n\n\n@", &[(ONE, 1), (Word::Copies(Some((1, 0))), 4)]),
+        (b"1\n\n\n@", "1 Number(Some(1))\n4 Copies(Some((1, 0)))\n"),
     ];
     for (text, words) in rows {
-        assert!(rt; text.len() <= 1_048_576);
-        let found = words_in(rt.alloc(), text)?;
-        assert_eq!(rt; found.len(), words.len(), "{text:?}");
-        for (placed, (word, line)) in found.iter().zip(words) {
-            assert_eq!(rt; placed.word, *word, "{text:?}");
-            assert_eq!(rt; placed.line, *line, "{text:?}");
-        }
+        assert_eq!(rt; told(rt.alloc(), text)?.as_str(), words, "{text:?}");
     }
     Ok(())
 }

@@ -19,6 +19,11 @@ fn told(alloc: Global, left: Op, right: Op, schedule: &[u32]) -> Result<Vec<u8>,
     text(alloc, &job, &report)
 }
 
+/// The bytes of a report as a text, in which a failure can be read.
+fn shown(report: &[u8]) -> &str {
+    from_utf8(report).unwrap_or("not UTF-8")
+}
+
 /// Whether a schedule names workers 0 and 1 alone.
 fn is_of_two(schedule: &[u32]) -> bool
     ensures { IsTrue result → AllByRecursion (λ worker. worker < 2) schedule.now }
@@ -95,7 +100,7 @@ fn schedules_make_these_reports(rt: HostRuntime) -> Result<(), Fail> {
     for (case, left, right, schedule, report) in CASES {
         assert!(rt; is_of_two(schedule), "{case}");
         let told = told(rt.alloc(), left, right, schedule)?;
-        assert_eq!(rt; from_utf8(&told)?, report, "{case}");
+        assert_eq!(rt; shown(&told), report, "{case}");
     }
     Ok(())
 }

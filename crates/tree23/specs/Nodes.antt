@@ -38,14 +38,20 @@ pub record IsSet (root : Tree) : Type 0 where
   pub ascends : StrictlyAscends (keys root)
   pub small : AllByRecursion (λ k. k < 2 ^ 32) (keys root)
 
-abbrev pub grown_keys : Grown → List ℕ
-grown_keys (Fits n) = keys n
-grown_keys (Splits a k b) = keys a ++ k ∷ keys b
+-- a tree's root, and how many levels it has
+pub record IsRooted (root : Tree) (levels : ℕ) : Type 0 where
+  pub set : IsSet root
+  pub levels_are : levels ≡ depth root
 
--- a tree of this depth, or two
-abbrev pub IsGrown : ℕ → Grown → Type 0
-IsGrown d (Fits n) = IsTree n × (depth n ≡ d)
-IsGrown d (Splits a k b) = IsTree a × IsTree b × (depth a ≡ d) × (depth b ≡ d)
+-- the keys of a tree and of what came off it
+abbrev pub grown_keys : Tree → Grown → List ℕ
+grown_keys tree Fits = keys tree
+grown_keys tree (Splits k right) = keys tree ++ k ∷ keys right
+
+-- a tree of this depth, and what came off it is one too
+abbrev pub IsGrown : ℕ → Tree → Grown → Type 0
+IsGrown d tree Fits = IsTree tree × (depth tree ≡ d)
+IsGrown d tree (Splits k right) = IsTree tree × IsTree right × (depth tree ≡ d) × (depth right ≡ d)
 
 -- a tree, but the root may have one side
 abbrev pub IsLoose : Tree → Type 0

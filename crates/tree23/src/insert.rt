@@ -1,5 +1,5 @@
 //! A key put into a tree.
-ghost use Rattle.std.specs.Prelude.{◌≡◌, ◌+◌, ◌%◌, ◌^◌, IfOk, OnErr};
+ghost use Rattle.std.specs.Prelude.{◌≡◌, ◌+◌, ◌%◌, ◌<◌, ◌^◌, IfOk, OnErr};
 ghost use Rattle.tree23.specs.declared.insert.Step.TheVariants.{Added};
 ghost use Rattle.tree23.specs.Keys.{StrictlyAscends};
 ghost use Rattle.tree23.specs.Nodes.{keys, depth, IsTree, IsNarrow, IsWide};
@@ -43,11 +43,19 @@ fn counted(size: &mut u64) -> Step
     Step::Added
 }
 
-/// Puts the key into a whole tree, and says whether it is new.
-pub fn insert_at_root(alloc: Global, root: &mut Tree, key: u32) -> Result<bool, AllocError>
+/// Puts the key into a whole tree, of which the number of levels is kept, and says whether it is new.
+pub fn insert_at_root(
+    alloc: Global,
+    root: &mut Tree,
+    levels: &mut u64,
+    key: u32,
+) -> Result<bool, AllocError>
     requires tree { IsTree root.old }
     requires ascends { StrictlyAscends (keys root.old) }
+    requires levels { levels.old ≡ depth root.old }
+    requires fits { depth root.old < 2 ^ 63 }
     ensures tree { IsTree root.new }
+    ensures levels { levels.new ≡ depth root.new }
     ensures ok { IfOk result (λ added. IsInserted key (keys root.old) (keys root.new) added) }
     ensures err { OnErr result (keys root.new ≡ keys root.old) }
 {
@@ -60,6 +68,7 @@ pub fn insert_at_root(alloc: Global, root: &mut Tree, key: u32) -> Result<bool, 
             let Some(spare) = spare else { unreachable!() };
             let left = mem::replace(root, Tree::Leaf);
             *root = two(spare, left, k, right);
+            *levels += 1;
             Ok(true)
         }
     }

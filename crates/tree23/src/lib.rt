@@ -12,6 +12,7 @@ mod look;
 mod mend;
 mod node;
 mod remove;
+mod spares;
 mod split;
 pub mod tree;
 mod widen;

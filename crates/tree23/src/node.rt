@@ -29,28 +29,16 @@ pub struct Node {
     pub third: Tree,
 }
 
-/// A tree, or two of one depth around a key.
+/// What came off a tree that other keys were put into in place.
 #[derive(Drop)]
 pub enum Grown {
-    Fits(Tree),
-    Splits(Tree, u32, Tree),
+    /// Nothing.
+    Fits,
+    /// A key, and a tree of the same depth behind it.
+    Splits(u32, Tree),
 }
 
 impl Tree {
-    /// How many levels of nodes there are.
-    pub fn depth(&self) -> u64
-        requires tree { IsTree self.now }
-        requires fits { depth self.now < 2 ^ 64 }
-        ensures { result ≡ depth self.now }
-    {
-        match self {
-            Tree::Leaf => 0,
-            Tree::One(node) => node.first.depth() + 1,
-            Tree::Two(node) => node.first.depth() + 1,
-            Tree::Three(node) => node.first.depth() + 1,
-        }
-    }
-
     /// How many keys there are, without counting them.
     pub fn size(&self) -> u64
         requires { IsTree self.now }

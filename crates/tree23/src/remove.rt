@@ -116,31 +116,17 @@ pub fn pop_first(tree: &mut Tree) -> Option<u32>
     }
 }
 
-/// The tree under a root that may have one side.
-pub fn whole(tree: Tree, tree_depth: u64) -> (Tree, u64)
-    requires loose { IsLoose tree }
-    requires tree_depth { tree_depth ≡ depth tree }
-    ensures keys { keys result.0 ≡ keys tree }
-    ensures tree { IsTree result.0 }
-    ensures depth { result.1 ≡ depth result.0 }
-{
-    match tree {
-        Tree::One(node) => {
-            let Node { first, .. } = Box::into_inner(node);
-            (first, tree_depth - 1)
-        }
-        tree => (tree, tree_depth),
-    }
-}
-
-/// The tree under a root that may have one side, in place.
-pub fn lower(tree: &mut Tree)
+/// The tree under a root that may have one side, and how many levels it has.
+pub fn lower(tree: &mut Tree, levels: &mut u64)
     requires loose { IsLoose tree.old }
+    requires levels { levels.old ≡ depth tree.old }
     ensures keys { keys tree.new ≡ keys tree.old }
     ensures tree { IsTree tree.new }
+    ensures levels { levels.new ≡ depth tree.new }
 {
     if let Tree::One(node) = tree {
         *tree = mem::replace(&mut node.first, Tree::Leaf);
+        *levels -= 1;
     }
 }
 

@@ -9,6 +9,7 @@ use crate::join::chain;
 use crate::look::{find_in, next_in};
 use crate::node::Tree;
 use crate::remove::{lower, remove_in};
+use crate::spares::Spares;
 use crate::split::split;
 use std::alloc::{AllocError, Global};
 use std::marker::Model;
@@ -17,6 +18,8 @@ use std::marker::Model;
 #[derive(Drop)]
 pub struct Tree23 {
     root: Tree,
+    /// How many levels of nodes the root has.
+    levels: u64,
     alloc: Global,
 }
 
@@ -25,11 +28,11 @@ impl Model for Tree23 {
 
     ghost Value = { List ℕ };
 
-    ghost use Rattle.tree23.specs.Nodes.{keys, IsSet};
+    ghost use Rattle.tree23.specs.Nodes.{keys, IsRooted};
 
     ghost view = { λ t. keys t.root };
 
-    ghost invariant = { λ t. IsSet t.root };
+    ghost invariant = { λ t. IsRooted t.root t.levels };
 }
 
 impl Tree23 {
@@ -39,6 +42,7 @@ impl Tree23 {
     {
         Tree23 {
             root: Tree::Leaf,
+            levels: 0,
             alloc,
         }
     }
@@ -65,7 +69,7 @@ impl Tree23 {
         ensures least { 2 ^ result ≤ length self.now + 1 }
         ensures most { length self.now < 3 ^ result }
     {
-        self.root.depth() as u32
+        self.levels as u32
     }
 
     /// Whether the key is there.
@@ -89,7 +93,7 @@ impl Tree23 {
         ensures keys { OnOk result (self.new ≡ with_key key self.old) }
         ensures err { OnErr result (self.new ≡ self.old) }
     {
-        let added = insert_at_root(self.alloc, &mut self.root, key)?;
+        let added = insert_at_root(self.alloc, &mut self.root, &mut self.levels, key)?;
         Ok(added)
     }
 
@@ -100,7 +104,7 @@ impl Tree23 {
         ensures keys { self.new ≡ without_key key self.old }
     {
         let found = remove_in(&mut self.root, key);
-        lower(&mut self.root);
+        lower(&mut self.root, &mut self.levels);
         found
     }
 
@@ -109,12 +113,17 @@ impl Tree23 {
         ensures { IfOk result (λ p. IsSplit key self p.0 p.1) }
     {
         let alloc = self.alloc;
-        let depth = self.root.depth();
-        let h = split(alloc, self.root, depth, key)?;
+        let mut spares = Spares::new();
+        let h = split(alloc, self.root, self.levels, key, &mut spares)?;
         Ok((
-            Tree23 { root: h.low, alloc },
+            Tree23 {
+                root: h.low,
+                levels: h.low_depth,
+                alloc,
+            },
             Tree23 {
                 root: h.high,
+                levels: h.high_depth,
                 alloc,
             },
         ))
@@ -126,9 +135,11 @@ impl Tree23 {
         ensures { IfOk result (λ tree. tree ≡ low ++ high) }
     {
         let alloc = low.alloc;
-        let low_depth = low.root.depth();
-        let high_depth = high.root.depth();
-        let (root, _) = chain(alloc, low.root, low_depth, high.root, high_depth)?;
-        Ok(Tree23 { root, alloc })
+        let (root, levels) = chain(alloc, low.root, low.levels, high.root, high.levels)?;
+        Ok(Tree23 {
+            root,
+            levels,
+            alloc,
+        })
     }
 }

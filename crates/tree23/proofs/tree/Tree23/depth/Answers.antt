@@ -1,16 +1,13 @@
 use Rattle.std.proofs.Common.{arith}
 use Rattle.tree23.proofs.Depths.{keys_at_least, keys_at_most}
-use Rattle.tree23.proofs.Trees.{set_depth, set_depth_small}
+use Rattle.tree23.proofs.Trees.{set_depth_small}
 use Rattle.tree23.proofs.tree.Tree23.depth.Goals as goal
 
-pub depth-requires-clause-fits : goal.depth-requires-clause-fits
-depth-requires-clause-fits c = omega (arith, set_depth _ c.self.invariant)
-
 pub overflow_cast-result : goal.overflow_cast-result
-overflow_cast-result c = omega (arith, c.depth.ensures, set_depth_small _ c.self.invariant)
+overflow_cast-result c = omega (arith, c.self.invariant.levels_are, set_depth_small _ c.self.invariant.set)
 
 pub returns-clause-least : goal.returns-clause-least
-returns-clause-least c = rw (c.depth.ensures, ← c.self.view_is) (keys_at_least _ c.self.invariant.tree)
+returns-clause-least c = rw (c.self.invariant.levels_are, ← c.self.view_is) (keys_at_least _ c.self.invariant.set.tree)
 
 pub returns-clause-most : goal.returns-clause-most
-returns-clause-most c = rw (c.depth.ensures, ← c.self.view_is) (keys_at_most _ c.self.invariant.tree)
+returns-clause-most c = rw (c.self.invariant.levels_are, ← c.self.view_is) (keys_at_most _ c.self.invariant.set.tree)

@@ -3,7 +3,7 @@ use Rattle.tree23.proofs.Trees.{set_length}
 use Rattle.tree23.proofs.tree.Tree23.len.Goals as goal
 
 pub returns-clause-keys : goal.returns-clause-keys
-returns-clause-keys c = rw (← c.self.view_is) (omega (arith, c.size.ensures, set_length _ c.self.invariant))
+returns-clause-keys c = rw (← c.self.view_is) (omega (arith, c.size.ensures, set_length _ c.self.invariant.set))
 
 pub returns-clause-small : goal.returns-clause-small
-returns-clause-small c = omega (arith, c.size.ensures, set_length _ c.self.invariant)
+returns-clause-small c = omega (arith, c.size.ensures, set_length _ c.self.invariant.set)

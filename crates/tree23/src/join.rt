@@ -111,6 +111,7 @@ pub fn join_left(
 }
 
 /// A tree and what came off it, under one root, and the depth that they come to.
+#[inline]
 fn under_one_root(
     alloc: Global,
     tree: Tree,

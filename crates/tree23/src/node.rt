@@ -40,6 +40,7 @@ pub enum Grown {
 
 impl Tree {
     /// How many keys there are, without counting them.
+    #[inline]
     pub fn size(&self) -> u64
         requires { IsTree self.now }
         ensures { result ≡ length (keys self.now) % 2 ^ 64 }
@@ -54,6 +55,7 @@ impl Tree {
 }
 
 /// A node with nothing in it.
+#[inline]
 pub fn bare() -> Node {
     Node {
         size: 0,
@@ -78,6 +80,7 @@ pub fn one(mut node: Box<Node>, a: Tree) -> Tree
 }
 
 /// Two sides around a key, in a node that is there.
+#[inline]
 pub fn two(mut node: Box<Node>, a: Tree, k: u32, b: Tree) -> Tree
     requires a { IsTree a }
     requires b { IsTree b }
@@ -101,6 +104,7 @@ pub fn two(mut node: Box<Node>, a: Tree, k: u32, b: Tree) -> Tree
 }
 
 /// Three sides around two keys, in a node that is there.
+#[inline]
 pub fn three(mut node: Box<Node>, a: Tree, k: u32, b: Tree, m: u32, c: Tree) -> Tree
     requires a { IsTree a }
     requires b { IsTree b }

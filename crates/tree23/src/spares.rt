@@ -11,17 +11,20 @@ pub struct Spares {
 
 impl Spares {
     /// None.
+    #[inline]
     pub fn new() -> Spares {
         Spares { top: Tree::Leaf }
     }
 
     /// Keeps a box. What is still in its first side is dropped.
+    #[inline]
     pub fn keep(&mut self, mut node: Box<Node>) {
         node.first = mem::replace(&mut self.top, Tree::Leaf);
         self.top = Tree::One(node);
     }
 
     /// A box that is at hand, or a new one.
+    #[inline]
     pub fn take(&mut self, alloc: Global) -> Result<Box<Node>, AllocError> {
         match mem::replace(&mut self.top, Tree::Leaf) {
             Tree::One(mut node) => {

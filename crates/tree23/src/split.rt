@@ -20,6 +20,7 @@ pub struct Halves {
 }
 
 /// The high part with a key and a tree behind it.
+#[inline]
 fn with_more_high(
     alloc: Global,
     halves: Halves,
@@ -52,6 +53,7 @@ fn with_more_high(
 }
 
 /// The low part with a tree and a key before it.
+#[inline]
 fn with_more_low(
     alloc: Global,
     tree: Tree,

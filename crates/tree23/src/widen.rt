@@ -7,6 +7,7 @@ use crate::node::{Node, Tree, bare, three, two};
 use std::mem;
 
 /// Two sides, and one more behind the first.
+#[inline]
 pub fn widen_first(tree: &mut Tree, j: u32, right: Tree)
     requires sides { AreTwoSides tree.old }
     requires right { IsTree right }
@@ -28,6 +29,7 @@ pub fn widen_first(tree: &mut Tree, j: u32, right: Tree)
 }
 
 /// Two sides, and one more behind the second.
+#[inline]
 pub fn widen_second(tree: &mut Tree, j: u32, right: Tree)
     requires sides { AreTwoSides tree.old }
     requires right { IsTree right }
@@ -49,6 +51,7 @@ pub fn widen_second(tree: &mut Tree, j: u32, right: Tree)
 }
 
 /// Three sides, and one more behind the first: the first two stay.
+#[inline]
 pub fn split_first(tree: &mut Tree, spare: Box<Node>, j: u32, right: Tree) -> (u32, Tree)
     requires sides { AreThreeSides tree.old }
     requires right { IsTree right }
@@ -75,6 +78,7 @@ pub fn split_first(tree: &mut Tree, spare: Box<Node>, j: u32, right: Tree) -> (u
 }
 
 /// Three sides, and one more behind the second.
+#[inline]
 pub fn split_second(tree: &mut Tree, spare: Box<Node>, j: u32, right: Tree) -> (u32, Tree)
     requires sides { AreThreeSides tree.old }
     requires right { IsTree right }
@@ -101,6 +105,7 @@ pub fn split_second(tree: &mut Tree, spare: Box<Node>, j: u32, right: Tree) -> (
 }
 
 /// Three sides, and one more behind the third.
+#[inline]
 pub fn split_third(tree: &mut Tree, spare: Box<Node>, j: u32, right: Tree) -> (u32, Tree)
     requires sides { AreThreeSides tree.old }
     requires right { IsTree right }

@@ -1,5 +1,5 @@
 -- What an insertion into a tree comes to.
-use Rattle.std.specs.Prelude.{◌≡◌, ℕ, Bool, true, false, List, [], ◌∷◌, ◌++◌, Option, Some, None, ⊤}
+use Rattle.std.specs.Prelude.{◌≡◌, ℕ, ◌<◌, Bool, true, false, List, [], ◌∷◌, ◌++◌, Option, Some, None, ⊤}
 use Rattle.tree23.specs.declared.node.Tree.{Tree}
 use Rattle.tree23.specs.declared.node.Tree.TheVariants.{Leaf, One', Two', Three'}
 use Rattle.tree23.specs.declared.insert.Step.{Step}
@@ -34,6 +34,13 @@ IsStep key old new Memory = keys new ≡ keys old
 IsStep key old new Present = IsFound key (keys old) (keys new)
 IsStep key old new Added = IsAdded key (keys old) (keys new)
 IsStep key old new (Splits k right) = IsAdded key (keys old) (keys new ++ k ∷ keys right) × IsTree right × (depth right ≡ depth old) × IsFull old
+
+-- a key is behind the low key of a tree's root
+abbrev pub IsBehindLow : ℕ → Tree → Type 0
+IsBehindLow key Leaf = ⊥
+IsBehindLow key (One' p n a k b m c) = ⊥
+IsBehindLow key (Two' p n a k b m c) = k < key
+IsBehindLow key (Three' p n a k b m c) = k < key
 
 -- a box is there for a tree whose root has no room
 abbrev pub IsSpare : {A : Type 0} → Option A → Tree → Type 0

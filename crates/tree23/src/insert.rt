@@ -3,7 +3,7 @@ ghost use Rattle.std.specs.Prelude.{◌≡◌, ◌+◌, ◌%◌, ◌<◌, ◌^�
 ghost use Rattle.tree23.specs.declared.insert.Step.TheVariants.{Added};
 ghost use Rattle.tree23.specs.Keys.{StrictlyAscends};
 ghost use Rattle.tree23.specs.Nodes.{keys, depth, IsTree, IsNarrow, IsWide};
-ghost use Rattle.tree23.specs.Steps.{IsInserted, IsSpare, IsStep};
+ghost use Rattle.tree23.specs.Steps.{IsBehindLow, IsInserted, IsSpare, IsStep};
 
 use crate::node::{Node, Tree, bare, two};
 use crate::widen::{split_first, split_second, split_third, widen_first, widen_second};
@@ -160,9 +160,31 @@ fn insert_in_three(alloc: Global, tree: &mut Tree, key: u32) -> Step
                     Step::Present => Step::Present,
                     Step::Memory => Step::Memory,
                 }
-            } else if key == node.low || key == node.high {
+            } else if node.low < key {
+                insert_behind_low(alloc, tree, key)
+            } else {
                 Step::Present
-            } else if key < node.high {
+            }
+        }
+        Tree::Leaf | Tree::One(_) | Tree::Two(_) => unreachable!(),
+    }
+}
+
+/// The same of a key behind the low one of a root with three sides.
+#[cycle(insertion)]
+#[tactic(auto, using(crate::proofs::Adding::adding))]
+fn insert_behind_low(alloc: Global, tree: &mut Tree, key: u32) -> Step
+    requires tree { IsTree tree.old }
+    requires wide { IsWide tree.old }
+    requires behind { IsBehindLow key tree.old }
+    requires ascends { StrictlyAscends (keys tree.old) }
+    ensures tree { IsTree tree.new }
+    ensures depth { depth tree.new ≡ depth tree.old }
+    ensures step { IsStep key tree.old tree.new result }
+{
+    match tree {
+        Tree::Three(node) => {
+            if key < node.high {
                 let Ok(spare) = spare_for(alloc, &node.second) else {
                     return Step::Memory;
                 };
@@ -176,7 +198,7 @@ fn insert_in_three(alloc: Global, tree: &mut Tree, key: u32) -> Step
                     Step::Present => Step::Present,
                     Step::Memory => Step::Memory,
                 }
-            } else {
+            } else if node.high < key {
                 let Ok(spare) = spare_for(alloc, &node.third) else {
                     return Step::Memory;
                 };
@@ -190,6 +212,8 @@ fn insert_in_three(alloc: Global, tree: &mut Tree, key: u32) -> Step
                     Step::Present => Step::Present,
                     Step::Memory => Step::Memory,
                 }
+            } else {
+                Step::Present
             }
         }
         Tree::Leaf | Tree::One(_) | Tree::Two(_) => unreachable!(),

@@ -87,62 +87,62 @@ insert_in_three-returns-in-Some-clause-step t c =
     let k : keys c.split_first-k.new.tree ++ c.split_first-k.result.0 ∷ keys c.split_first-k.result.1 ≡ (keys c.insert_in.new.tree ++ c.in-Splits.j ∷ keys c.in-Splits.right) ++ c.in-Three.node.value.low ∷ (keys c.in-Three.node.value.second ++ c.in-Three.node.value.high ∷ keys c.in-Three.node.value.third) = search rules in
     rw c.in-Three.is (record { is = k ∙ a.is; absent = a.absent }, search rules, search rules, tt)
 
-pub insert_in_three-returns-in-Added-insert_in-clause-step : goal.insert_in_three-returns-in-Added-insert_in-clause-step
-insert_in_three-returns-in-Added-insert_in-clause-step t c =
+pub insert_behind_low-returns-in-Added-clause-step : goal.insert_behind_low-returns-in-Added-clause-step
+insert_behind_low-returns-in-Added-clause-step t c =
     let s : StrictlyAscends (keys c.in-Three.node.value.first ++ c.in-Three.node.value.low ∷ (keys c.in-Three.node.value.second ++ c.in-Three.node.value.high ∷ keys c.in-Three.node.value.third)) = rw c.in-Three.is at c.requires.ascends in
-    let gt : c.in-Three.node.value.low < c.args.key = grind arith in
+    let gt : c.in-Three.node.value.low < c.args.key = rw c.in-Three.is at c.requires.behind in
     let lt : c.args.key < c.in-Three.node.value.high = grind arith in
-    let i = rw c.deref_mut-then-key-deref-4.ensures.value at c.in-Added-insert_in.ensures.step in
+    let i = rw c.deref_mut.ensures.value at c.in-Added.ensures.step in
     let a = added_mid _ _ _ _ _ _ _ s gt lt i in
-    rw (c.in-Three.is, c.counted-in-Added-insert_in.ensures.added) (record { is = search (rules, a.is); absent = a.absent })
+    rw (c.in-Three.is, c.counted.ensures.added) (record { is = search (rules, a.is); absent = a.absent })
 
-pub insert_in_three-returns-in-Added-insert_in-clause-tree : goal.insert_in_three-returns-in-Added-insert_in-clause-tree
-insert_in_three-returns-in-Added-insert_in-clause-tree t c =
+pub insert_behind_low-returns-in-Added-clause-tree : goal.insert_behind_low-returns-in-Added-clause-tree
+insert_behind_low-returns-in-Added-clause-tree t c =
     let s : StrictlyAscends (keys c.in-Three.node.value.first ++ c.in-Three.node.value.low ∷ (keys c.in-Three.node.value.second ++ c.in-Three.node.value.high ∷ keys c.in-Three.node.value.third)) = rw c.in-Three.is at c.requires.ascends in
-    let gt : c.in-Three.node.value.low < c.args.key = grind arith in
+    let gt : c.in-Three.node.value.low < c.args.key = rw c.in-Three.is at c.requires.behind in
     let lt : c.args.key < c.in-Three.node.value.high = grind arith in
-    let i = rw c.deref_mut-then-key-deref-4.ensures.value at c.in-Added-insert_in.ensures.step in
+    let i = rw c.deref_mut.ensures.value at c.in-Added.ensures.step in
     let a = added_mid _ _ _ _ _ _ _ s gt lt i in
     let u = rw c.in-Three.is at c.requires.tree in
     let n = size_of_added c.args.key c.in-Three.node.value.size _ _ a u.5 in
     (search rules, search rules, search rules, search rules, search rules, search (rules, n))
 
-pub insert_in_three-returns-in-Some-spare-clause-step : goal.insert_in_three-returns-in-Some-spare-clause-step
-insert_in_three-returns-in-Some-spare-clause-step t c =
+pub insert_behind_low-returns-in-Some-clause-step : goal.insert_behind_low-returns-in-Some-clause-step
+insert_behind_low-returns-in-Some-clause-step t c =
     let s : StrictlyAscends (keys c.in-Three.node.value.first ++ c.in-Three.node.value.low ∷ (keys c.in-Three.node.value.second ++ c.in-Three.node.value.high ∷ keys c.in-Three.node.value.third)) = rw c.in-Three.is at c.requires.ascends in
-    let gt : c.in-Three.node.value.low < c.args.key = grind arith in
+    let gt : c.in-Three.node.value.low < c.args.key = rw c.in-Three.is at c.requires.behind in
     let lt : c.args.key < c.in-Three.node.value.high = grind arith in
-    let i = rw c.deref_mut-then-key-deref-4.ensures.value at c.in-Splits-insert_in.ensures.step.0 in
+    let i = rw c.deref_mut.ensures.value at c.in-Splits.ensures.step.0 in
     let a = three_mid _ _ _ _ _ _ _ _ _ s gt lt i in
-    let k : keys c.split_second-k.new.tree ++ c.split_second-k.result.0 ∷ keys c.split_second-k.result.1 ≡ (keys c.in-Three.node.value.first ++ c.in-Three.node.value.low ∷ keys c.insert_in-then-key-deref-4.new.tree) ++ c.in-Splits-insert_in.j ∷ (keys c.in-Splits-insert_in.right ++ c.in-Three.node.value.high ∷ keys c.in-Three.node.value.third) = search rules in
+    let k : keys c.split_second-k.new.tree ++ c.split_second-k.result.0 ∷ keys c.split_second-k.result.1 ≡ (keys c.in-Three.node.value.first ++ c.in-Three.node.value.low ∷ keys c.insert_in.new.tree) ++ c.in-Splits.j ∷ (keys c.in-Splits.right ++ c.in-Three.node.value.high ∷ keys c.in-Three.node.value.third) = search rules in
     rw c.in-Three.is (record { is = k ∙ a.is; absent = a.absent }, search rules, search rules, tt)
 
-pub insert_in_three-returns-in-Added-insert_in-2-clause-step : goal.insert_in_three-returns-in-Added-insert_in-2-clause-step
-insert_in_three-returns-in-Added-insert_in-2-clause-step t c =
+pub insert_behind_low-returns-in-Added-insert_in-clause-step : goal.insert_behind_low-returns-in-Added-insert_in-clause-step
+insert_behind_low-returns-in-Added-insert_in-clause-step t c =
     let s : StrictlyAscends (keys c.in-Three.node.value.first ++ c.in-Three.node.value.low ∷ (keys c.in-Three.node.value.second ++ c.in-Three.node.value.high ∷ keys c.in-Three.node.value.third)) = rw c.in-Three.is at c.requires.ascends in
-    let gt : c.in-Three.node.value.low < c.args.key = grind arith in
+    let gt : c.in-Three.node.value.low < c.args.key = rw c.in-Three.is at c.requires.behind in
     let gt' : c.in-Three.node.value.high < c.args.key = grind arith in
-    let i = rw c.deref_mut-else-key-deref-4.ensures.value at c.in-Added-insert_in-2.ensures.step in
+    let i = rw c.deref_mut-then-deref-key.ensures.value at c.in-Added-insert_in.ensures.step in
     let a = added_right _ _ _ _ _ s gt (added_right _ _ _ _ _ (ascends_behind _ _ _ s) gt' i) in
-    rw (c.in-Three.is, c.counted-in-Added-insert_in-2.ensures.added) (record { is = search (rules, a.is); absent = a.absent })
+    rw (c.in-Three.is, c.counted-in-Added-insert_in.ensures.added) (record { is = search (rules, a.is); absent = a.absent })
 
-pub insert_in_three-returns-in-Added-insert_in-2-clause-tree : goal.insert_in_three-returns-in-Added-insert_in-2-clause-tree
-insert_in_three-returns-in-Added-insert_in-2-clause-tree t c =
+pub insert_behind_low-returns-in-Added-insert_in-clause-tree : goal.insert_behind_low-returns-in-Added-insert_in-clause-tree
+insert_behind_low-returns-in-Added-insert_in-clause-tree t c =
     let s : StrictlyAscends (keys c.in-Three.node.value.first ++ c.in-Three.node.value.low ∷ (keys c.in-Three.node.value.second ++ c.in-Three.node.value.high ∷ keys c.in-Three.node.value.third)) = rw c.in-Three.is at c.requires.ascends in
-    let gt : c.in-Three.node.value.low < c.args.key = grind arith in
+    let gt : c.in-Three.node.value.low < c.args.key = rw c.in-Three.is at c.requires.behind in
     let gt' : c.in-Three.node.value.high < c.args.key = grind arith in
-    let i = rw c.deref_mut-else-key-deref-4.ensures.value at c.in-Added-insert_in-2.ensures.step in
+    let i = rw c.deref_mut-then-deref-key.ensures.value at c.in-Added-insert_in.ensures.step in
     let a = added_right _ _ _ _ _ s gt (added_right _ _ _ _ _ (ascends_behind _ _ _ s) gt' i) in
     let u = rw c.in-Three.is at c.requires.tree in
     let n = size_of_added c.args.key c.in-Three.node.value.size _ _ a u.5 in
     (search rules, search rules, search rules, search rules, search rules, search (rules, n))
 
-pub insert_in_three-returns-in-Some-spare-2-clause-step : goal.insert_in_three-returns-in-Some-spare-2-clause-step
-insert_in_three-returns-in-Some-spare-2-clause-step t c =
+pub insert_behind_low-returns-in-Some-spare-clause-step : goal.insert_behind_low-returns-in-Some-spare-clause-step
+insert_behind_low-returns-in-Some-spare-clause-step t c =
     let s : StrictlyAscends (keys c.in-Three.node.value.first ++ c.in-Three.node.value.low ∷ (keys c.in-Three.node.value.second ++ c.in-Three.node.value.high ∷ keys c.in-Three.node.value.third)) = rw c.in-Three.is at c.requires.ascends in
-    let gt : c.in-Three.node.value.low < c.args.key = grind arith in
+    let gt : c.in-Three.node.value.low < c.args.key = rw c.in-Three.is at c.requires.behind in
     let gt' : c.in-Three.node.value.high < c.args.key = grind arith in
-    let i = rw c.deref_mut-else-key-deref-4.ensures.value at c.in-Splits-insert_in-2.ensures.step.0 in
+    let i = rw c.deref_mut-then-deref-key.ensures.value at c.in-Splits-insert_in.ensures.step.0 in
     let a = three_right _ _ _ _ _ _ _ s gt gt' i in
-    let k : keys c.split_third-k.new.tree ++ c.split_third-k.result.0 ∷ keys c.split_third-k.result.1 ≡ (keys c.in-Three.node.value.first ++ c.in-Three.node.value.low ∷ keys c.in-Three.node.value.second) ++ c.in-Three.node.value.high ∷ (keys c.insert_in-else-key-deref-4.new.tree ++ c.in-Splits-insert_in-2.j ∷ keys c.in-Splits-insert_in-2.right) = search rules in
+    let k : keys c.split_third-k.new.tree ++ c.split_third-k.result.0 ∷ keys c.split_third-k.result.1 ≡ (keys c.in-Three.node.value.first ++ c.in-Three.node.value.low ∷ keys c.in-Three.node.value.second) ++ c.in-Three.node.value.high ∷ (keys c.insert_in-then-deref-key.new.tree ++ c.in-Splits-insert_in.j ∷ keys c.in-Splits-insert_in.right) = search rules in
     rw c.in-Three.is (record { is = k ∙ a.is; absent = a.absent }, search rules, search rules, tt)

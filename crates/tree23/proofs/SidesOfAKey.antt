@@ -1,9 +1,7 @@
 -- The two sides of a key in a list that rises.
 use Rattle.std.proofs.Common.{◌≡◌, ℕ, ◌<◌, ◌≤◌, List, ◌∷◌, ◌++◌, length, sym, ap, ◌∙◌, subst, append_assoc, arith, length-append}
-use Rattle.std.specs.Prelude.{Result, Ok, Err, IfOk}
+use Rattle.std.specs.Prelude.{Result, Ok, Err, OnOk}
 use Rattle.std.specs.List.{AllByRecursion}
-use Rattle.tree23.specs.declared.split.Halves.{Halves}
-use Rattle.tree23.specs.Nodes.{keys}
 use Rattle.tree23.specs.Keys.{StrictlyAscends, AllBelow}
 use Rattle.tree23.specs.Splits.{IsSplit}
 use Rattle.tree23.proofs.Ascending.{all_map, all_append, all_below_key, all_above_key, ascends_front, ascends_behind}
@@ -54,8 +52,11 @@ below_all n key high less above = all_map (λ k. key ≤ k) (λ k. n < k) (λ k 
 pub sides_apart : (key : ℕ) (whole low high : List ℕ) → IsSplit key whole low high → AllBelow low high
 sides_apart key whole low high cut = all_map (λ k. k < key) (λ k. AllByRecursion (λ j. k < j) high) (λ k less. below_all k key high less cut.above) low cut.below
 
--- the two parts of a tree, of which each is known
-pub halves_split : {E : Type 0} (result : Result Halves E) (key : ℕ) (whole low high : List ℕ) → IfOk result (λ h. keys h.low ≡ low) → IfOk result (λ h. keys h.high ≡ high)
-    → IsSplit key whole low high → IfOk result (λ h. IsSplit key whole (keys h.low) (keys h.high))
-halves_split (Ok h) key whole low high l u cut = rw (l, u) cut
-halves_split (Err e) key whole low high l u cut = tt
+-- the two sides of a cut, of which one is known by an equation
+pub low_known : {A E : Type 0} (result : Result A E) (key : ℕ) (whole low low' high : List ℕ) → OnOk result (low ≡ low') → IsSplit key whole low' high → OnOk result (IsSplit key whole low high)
+low_known (Ok v) key whole low low' high is cut = rw is cut
+low_known (Err e) key whole low low' high is cut = tt
+
+pub high_known : {A E : Type 0} (result : Result A E) (key : ℕ) (whole low high high' : List ℕ) → OnOk result (high ≡ high') → IsSplit key whole low high' → OnOk result (IsSplit key whole low high)
+high_known (Ok v) key whole low high high' is cut = rw is cut
+high_known (Err e) key whole low high high' is cut = tt

@@ -3,6 +3,7 @@ use Rattle.std.specs.Prelude.{◌≡◌, ℕ, ◌+◌, ◌%◌, ◌<◌, ◌^◌
 use Rattle.std.specs.List.{AllByRecursion}
 use Rattle.tree23.specs.declared.node.Tree.{Tree}
 use Rattle.tree23.specs.declared.node.Tree.TheVariants.{Leaf, One', Two', Three'}
+use Rattle.tree23.specs.declared.node.Part.{Part}
 use Rattle.tree23.specs.declared.node.Grown.{Grown}
 use Rattle.tree23.specs.declared.node.Grown.TheVariants.{Fits, Splits}
 use Rattle.tree23.specs.Keys.{StrictlyAscends}
@@ -39,9 +40,14 @@ pub record IsSet (root : Tree) : Type 0 where
   pub small : AllByRecursion (λ k. k < 2 ^ 32) (keys root)
 
 -- a tree's root, and how many levels it has
-pub record IsRooted (root : Tree) (levels : ℕ) : Type 0 where
-  pub set : IsSet root
-  pub levels_are : levels ≡ depth root
+pub record IsRooted (root : Part) : Type 0 where
+  pub set : IsSet root.tree
+  pub levels_are : root.levels ≡ depth root.tree
+
+-- a tree, and how many levels it has
+pub record IsPart (part : Part) : Type 0 where
+  pub tree_is : IsTree part.tree
+  pub levels_are : part.levels ≡ depth part.tree
 
 -- the keys of a tree and of what came off it
 abbrev pub grown_keys : Tree → Grown → List ℕ

@@ -1,8 +1,8 @@
 //! Trees put together around a key.
-ghost use Rattle.std.specs.Prelude.{◌≡◌, ◌+◌, ◌%◌, ◌<◌, ◌^◌, ◌++◌, ◌∷◌, length, IfOk};
-ghost use Rattle.tree23.specs.Nodes.{keys, depth, IsTree, grown_keys, IsGrown};
+ghost use Rattle.std.specs.Prelude.{◌≡◌, ◌+◌, ◌%◌, ◌<◌, ◌^◌, ◌++◌, ◌∷◌, length, IfOk, OnOk};
+ghost use Rattle.tree23.specs.Nodes.{keys, depth, IsTree, IsPart, grown_keys, IsGrown};
 
-use crate::node::{Grown, Tree, two};
+use crate::node::{Grown, Part, Tree, two};
 use crate::remove::{lower, pop_first};
 use crate::spares::Spares;
 use crate::widen::{split_first, split_third, widen_first, widen_second};
@@ -110,86 +110,102 @@ pub fn join_left(
     }
 }
 
-/// A tree and what came off it, under one root, and the depth that they come to.
+/// A tree and what came off it, under one root.
 #[inline]
 fn under_one_root(
     alloc: Global,
-    tree: Tree,
-    tree_depth: u64,
+    part: &mut Part,
     grown: Grown,
     spares: &mut Spares,
-) -> Result<(Tree, u64), AllocError>
-    requires grown { IsGrown tree_depth tree grown }
-    requires fits { tree_depth < 2 ^ 63 }
-    ensures keys { IfOk result (λ p. keys p.0 ≡ grown_keys tree grown) }
-    ensures tree { IfOk result (λ p. IsTree p.0) }
-    ensures depth { IfOk result (λ p. p.1 ≡ depth p.0) }
+) -> Result<(), AllocError>
+    requires grown { IsGrown part.old.levels part.old.tree grown }
+    requires fits { part.old.levels < 2 ^ 63 }
+    ensures keys { OnOk result (keys part.new.tree ≡ grown_keys part.old.tree grown) }
+    ensures part { OnOk result (IsPart part.new) }
 {
-    match grown {
-        Grown::Fits => Ok((tree, tree_depth)),
-        Grown::Splits(k, right) => {
-            let root = spares.take(alloc)?;
-            Ok((two(root, tree, k, right), tree_depth + 1))
-        }
+    if let Grown::Splits(k, right) = grown {
+        let root = spares.take(alloc)?;
+        let left = mem::replace(&mut part.tree, Tree::Leaf);
+        part.tree = two(root, left, k, right);
+        part.levels += 1;
     }
+    Ok(())
 }
 
-/// Two trees of any depths around a key, and the depth that they come to.
+/// Puts a key and a tree of any depth behind another.
 #[tactic(auto, using(crate::proofs::Depths::depth_within))]
-pub fn join(
+pub fn put_behind(
     alloc: Global,
-    mut low: Tree,
-    low_depth: u64,
+    low: &mut Part,
     key: u32,
-    mut high: Tree,
-    high_depth: u64,
+    mut high: Part,
     spares: &mut Spares,
-) -> Result<(Tree, u64), AllocError>
-    requires low { IsTree low }
-    requires high { IsTree high }
-    requires low_depth { low_depth ≡ depth low }
-    requires high_depth { high_depth ≡ depth high }
-    requires fits { length (keys low) + length (keys high) < 2 ^ 63 }
-    ensures keys { IfOk result (λ p. keys p.0 ≡ keys low ++ key ∷ keys high) }
-    ensures tree { IfOk result (λ p. IsTree p.0) }
-    ensures depth { IfOk result (λ p. p.1 ≡ depth p.0) }
+) -> Result<(), AllocError>
+    requires low { IsPart low.old }
+    requires high { IsPart high }
+    requires fits { length (keys low.old.tree) + length (keys high.tree) < 2 ^ 63 }
+    ensures keys { OnOk result (keys low.new.tree ≡ keys low.old.tree ++ key ∷ keys high.tree) }
+    ensures part { OnOk result (IsPart low.new) }
 {
-    if low_depth >= high_depth {
-        let added = high.size().wrapping_add(1);
-        let levels = low_depth - high_depth;
-        let grown = join_right(alloc, &mut low, levels, key, high, added, spares)?;
-        under_one_root(alloc, low, low_depth, grown, spares)
+    if low.levels >= high.levels {
+        let added = high.tree.size().wrapping_add(1);
+        let levels = low.levels - high.levels;
+        let grown = join_right(alloc, &mut low.tree, levels, key, high.tree, added, spares)?;
+        under_one_root(alloc, low, grown, spares)
     } else {
-        let added = low.size().wrapping_add(1);
-        let levels = high_depth - low_depth;
-        let grown = join_left(alloc, low, key, &mut high, levels, added, spares)?;
-        under_one_root(alloc, high, high_depth, grown, spares)
+        let added = low.tree.size().wrapping_add(1);
+        let levels = high.levels - low.levels;
+        let left = mem::replace(&mut low.tree, Tree::Leaf);
+        let grown = join_left(alloc, left, key, &mut high.tree, levels, added, spares)?;
+        *low = high;
+        under_one_root(alloc, low, grown, spares)
     }
 }
 
-/// Two trees of any depths, and the depth that they come to.
-pub fn chain(
+/// Puts a tree of any depth and a key before another.
+#[tactic(auto, using(crate::proofs::Depths::depth_within))]
+pub fn put_before(
     alloc: Global,
-    low: Tree,
-    low_depth: u64,
-    mut high: Tree,
-    mut high_depth: u64,
-) -> Result<(Tree, u64), AllocError>
-    requires low { IsTree low }
-    requires high { IsTree high }
-    requires low_depth { low_depth ≡ depth low }
-    requires high_depth { high_depth ≡ depth high }
-    requires fits { length (keys low) + length (keys high) < 2 ^ 63 }
-    ensures keys { IfOk result (λ p. keys p.0 ≡ keys low ++ keys high) }
-    ensures tree { IfOk result (λ p. IsTree p.0) }
-    ensures depth { IfOk result (λ p. p.1 ≡ depth p.0) }
+    mut low: Part,
+    key: u32,
+    high: &mut Part,
+    spares: &mut Spares,
+) -> Result<(), AllocError>
+    requires low { IsPart low }
+    requires high { IsPart high.old }
+    requires fits { length (keys low.tree) + length (keys high.old.tree) < 2 ^ 63 }
+    ensures keys { OnOk result (keys high.new.tree ≡ keys low.tree ++ key ∷ keys high.old.tree) }
+    ensures part { OnOk result (IsPart high.new) }
 {
-    match pop_first(&mut high) {
-        None => Ok((low, low_depth)),
+    if low.levels >= high.levels {
+        let added = high.tree.size().wrapping_add(1);
+        let levels = low.levels - high.levels;
+        let right = mem::replace(&mut high.tree, Tree::Leaf);
+        let grown = join_right(alloc, &mut low.tree, levels, key, right, added, spares)?;
+        *high = low;
+        under_one_root(alloc, high, grown, spares)
+    } else {
+        let added = low.tree.size().wrapping_add(1);
+        let levels = high.levels - low.levels;
+        let grown = join_left(alloc, low.tree, key, &mut high.tree, levels, added, spares)?;
+        under_one_root(alloc, high, grown, spares)
+    }
+}
+
+/// Puts the keys of a tree of any depth behind those of another.
+pub fn chain(alloc: Global, low: &mut Part, mut high: Part) -> Result<(), AllocError>
+    requires low { IsPart low.old }
+    requires high { IsPart high }
+    requires fits { length (keys low.old.tree) + length (keys high.tree) < 2 ^ 63 }
+    ensures keys { OnOk result (keys low.new.tree ≡ keys low.old.tree ++ keys high.tree) }
+    ensures part { OnOk result (IsPart low.new) }
+{
+    match pop_first(&mut high.tree) {
+        None => Ok(()),
         Some(key) => {
-            lower(&mut high, &mut high_depth);
+            lower(&mut high.tree, &mut high.levels);
             let mut spares = Spares::new();
-            join(alloc, low, low_depth, key, high, high_depth, &mut spares)
+            put_behind(alloc, low, key, high, &mut spares)
         }
     }
 }

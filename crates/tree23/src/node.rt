@@ -1,6 +1,9 @@
 //! The nodes of a 2-3 tree, and how they are made of their sides.
 ghost use Rattle.std.specs.Prelude.{◌≡◌, ◌+◌, ◌%◌, ◌<◌, ◌^◌, ◌++◌, ◌∷◌, length};
-ghost use Rattle.tree23.specs.Nodes.{keys, depth, IsTree, IsLoose, IsNarrow};
+ghost use Rattle.tree23.specs.Nodes.{keys, depth, IsTree, IsPart, IsLoose, IsNarrow};
+ghost use Rattle.tree23.specs.declared.node.Tree.TheVariants.{Leaf};
+
+use std::mem;
 
 /// A tree of nodes. What lies below the lowest nodes is `Leaf`, which takes no memory.
 #[cycle(tree)]
@@ -29,6 +32,13 @@ pub struct Node {
     pub third: Tree,
 }
 
+/// A tree, and how many levels of nodes it has.
+#[derive(Drop)]
+pub struct Part {
+    pub tree: Tree,
+    pub levels: u64,
+}
+
 /// What came off a tree that other keys were put into in place.
 #[derive(Drop)]
 pub enum Grown {
@@ -54,6 +64,20 @@ impl Tree {
     }
 }
 
+impl Part {
+    /// No keys.
+    #[inline]
+    pub fn empty() -> Part
+        ensures part { IsPart result }
+        ensures keys { result.tree ≡ Leaf }
+    {
+        Part {
+            tree: Tree::Leaf,
+            levels: 0,
+        }
+    }
+}
+
 /// A node with nothing in it.
 #[inline]
 pub fn bare() -> Node {
@@ -67,7 +91,7 @@ pub fn bare() -> Node {
     }
 }
 
-/// One side alone, in a node that is there.
+/// One side alone, in a node in which nothing is: what is there is not dropped.
 pub fn one(mut node: Box<Node>, a: Tree) -> Tree
     requires a { IsTree a }
     ensures keys { keys result ≡ keys a }
@@ -75,11 +99,11 @@ pub fn one(mut node: Box<Node>, a: Tree) -> Tree
     ensures narrow { IsNarrow result }
     ensures depth { depth result ≡ depth a + 1 }
 {
-    *node = Node { first: a, ..bare() };
+    mem::forget(mem::replace(&mut *node, Node { first: a, ..bare() }));
     Tree::One(node)
 }
 
-/// Two sides around a key, in a node that is there.
+/// Two sides around a key, in a node in which nothing is.
 #[inline]
 pub fn two(mut node: Box<Node>, a: Tree, k: u32, b: Tree) -> Tree
     requires a { IsTree a }
@@ -92,7 +116,7 @@ pub fn two(mut node: Box<Node>, a: Tree, k: u32, b: Tree) -> Tree
     ensures depth { depth result ≡ depth a + 1 }
 {
     let size = a.size().wrapping_add(b.size()).wrapping_add(1);
-    *node = Node {
+    let made = Node {
         size,
         first: a,
         low: k,
@@ -100,10 +124,11 @@ pub fn two(mut node: Box<Node>, a: Tree, k: u32, b: Tree) -> Tree
         high: 0,
         third: Tree::Leaf,
     };
+    mem::forget(mem::replace(&mut *node, made));
     Tree::Two(node)
 }
 
-/// Three sides around two keys, in a node that is there.
+/// Three sides around two keys, in a node in which nothing is.
 #[inline]
 pub fn three(mut node: Box<Node>, a: Tree, k: u32, b: Tree, m: u32, c: Tree) -> Tree
     requires a { IsTree a }
@@ -121,7 +146,7 @@ pub fn three(mut node: Box<Node>, a: Tree, k: u32, b: Tree, m: u32, c: Tree) -> 
         .wrapping_add(b.size())
         .wrapping_add(c.size())
         .wrapping_add(2);
-    *node = Node {
+    let made = Node {
         size,
         first: a,
         low: k,
@@ -129,5 +154,6 @@ pub fn three(mut node: Box<Node>, a: Tree, k: u32, b: Tree, m: u32, c: Tree) -> 
         high: m,
         third: c,
     };
+    mem::forget(mem::replace(&mut *node, made));
     Tree::Three(node)
 }

@@ -1,115 +1,45 @@
 //! A tree cut at a key.
-ghost use Rattle.std.specs.Prelude.{◌≡◌, ◌+◌, ◌<◌, ◌≤◌, ◌^◌, ◌++◌, ◌∷◌, length, IfOk};
+ghost use Rattle.std.specs.Prelude.{◌≡◌, ◌<◌, ◌^◌, length, OnOk};
 ghost use Rattle.tree23.specs.Keys.{StrictlyAscends};
 ghost use Rattle.tree23.specs.Nodes.{keys, depth, IsTree, IsNarrow, IsWide};
-ghost use Rattle.tree23.specs.Splits.{IsSplit, AreTrees};
+ghost use Rattle.tree23.specs.Splits.{IsSplit, AreParts, AreEmpty};
 
-use crate::join::join;
-use crate::node::{Node, Tree, bare, two};
+use crate::join::{put_before, put_behind};
+use crate::node::{Node, Part, Tree, bare, two};
 use crate::spares::Spares;
 use std::alloc::{AllocError, Global};
 use std::mem;
 
-/// The two parts of a tree, with their depths.
+/// The two parts of a tree.
 #[derive(Drop)]
 pub struct Halves {
-    pub low: Tree,
-    pub low_depth: u64,
-    pub high: Tree,
-    pub high_depth: u64,
+    pub low: Part,
+    pub high: Part,
 }
 
-/// The high part with a key and a tree behind it.
-#[inline]
-fn with_more_high(
-    alloc: Global,
-    halves: Halves,
-    key: u32,
-    tree: Tree,
-    tree_depth: u64,
-    spares: &mut Spares,
-) -> Result<Halves, AllocError>
-    requires trees { AreTrees halves }
-    requires tree { IsTree tree }
-    requires tree_depth { tree_depth ≡ depth tree }
-    requires fits { length (keys halves.high) + length (keys tree) < 2 ^ 63 }
-    ensures trees { IfOk result AreTrees }
-    ensures low { IfOk result (λ h. keys h.low ≡ keys halves.low) }
-    ensures high { IfOk result (λ h. keys h.high ≡ keys halves.high ++ key ∷ keys tree) }
-{
-    let Halves {
-        low,
-        low_depth,
-        high,
-        high_depth,
-    } = halves;
-    let (high, high_depth) = join(alloc, high, high_depth, key, tree, tree_depth, spares)?;
-    Ok(Halves {
-        low,
-        low_depth,
-        high,
-        high_depth,
-    })
-}
-
-/// The low part with a tree and a key before it.
-#[inline]
-fn with_more_low(
-    alloc: Global,
-    tree: Tree,
-    tree_depth: u64,
-    key: u32,
-    halves: Halves,
-    spares: &mut Spares,
-) -> Result<Halves, AllocError>
-    requires trees { AreTrees halves }
-    requires tree { IsTree tree }
-    requires tree_depth { tree_depth ≡ depth tree }
-    requires fits { length (keys tree) + length (keys halves.low) < 2 ^ 63 }
-    ensures trees { IfOk result AreTrees }
-    ensures low { IfOk result (λ h. keys h.low ≡ keys tree ++ key ∷ keys halves.low) }
-    ensures high { IfOk result (λ h. keys h.high ≡ keys halves.high) }
-{
-    let Halves {
-        low,
-        low_depth,
-        high,
-        high_depth,
-    } = halves;
-    let (low, low_depth) = join(alloc, tree, tree_depth, key, low, low_depth, spares)?;
-    Ok(Halves {
-        low,
-        low_depth,
-        high,
-        high_depth,
-    })
-}
-
-/// The keys below `key`, and the others.
+/// Puts the keys below `key` and the others into two parts that are empty.
 #[cycle(cut)]
 pub fn split(
     alloc: Global,
     tree: Tree,
-    tree_depth: u64,
+    levels: u64,
     key: u32,
+    halves: &mut Halves,
     spares: &mut Spares,
-) -> Result<Halves, AllocError>
+) -> Result<(), AllocError>
     requires tree { IsTree tree }
     requires ascends { StrictlyAscends (keys tree) }
-    requires tree_depth { tree_depth ≡ depth tree }
+    requires levels { levels ≡ depth tree }
     requires fits { length (keys tree) < 2 ^ 62 }
-    ensures trees { IfOk result AreTrees }
-    ensures split { IfOk result (λ h. IsSplit key (keys tree) (keys h.low) (keys h.high)) }
+    requires parts { AreParts halves.old }
+    requires empty { AreEmpty halves.old }
+    ensures parts { OnOk result (AreParts halves.new) }
+    ensures split { OnOk result (IsSplit key (keys tree) (keys halves.new.low.tree) (keys halves.new.high.tree)) }
 {
     match &tree {
-        Tree::Leaf => Ok(Halves {
-            low: Tree::Leaf,
-            low_depth: 0,
-            high: Tree::Leaf,
-            high_depth: 0,
-        }),
-        Tree::Two(_) => split_two(alloc, tree, tree_depth, key, spares),
-        Tree::Three(_) => split_three(alloc, tree, tree_depth, key, spares),
+        Tree::Leaf => Ok(()),
+        Tree::Two(_) => split_two(alloc, tree, levels, key, halves, spares),
+        Tree::Three(_) => split_three(alloc, tree, levels, key, halves, spares),
         Tree::One(_) => unreachable!(),
     }
 }
@@ -119,21 +49,24 @@ pub fn split(
 fn split_two(
     alloc: Global,
     tree: Tree,
-    tree_depth: u64,
+    levels: u64,
     key: u32,
+    halves: &mut Halves,
     spares: &mut Spares,
-) -> Result<Halves, AllocError>
+) -> Result<(), AllocError>
     requires tree { IsTree tree }
     requires narrow { IsNarrow tree }
     requires ascends { StrictlyAscends (keys tree) }
-    requires tree_depth { tree_depth ≡ depth tree }
+    requires levels { levels ≡ depth tree }
     requires fits { length (keys tree) < 2 ^ 62 }
-    ensures trees { IfOk result AreTrees }
-    ensures split { IfOk result (λ h. IsSplit key (keys tree) (keys h.low) (keys h.high)) }
+    requires parts { AreParts halves.old }
+    requires empty { AreEmpty halves.old }
+    ensures parts { OnOk result (AreParts halves.new) }
+    ensures split { OnOk result (IsSplit key (keys tree) (keys halves.new.low.tree) (keys halves.new.high.tree)) }
 {
     match tree {
         Tree::Two(mut node) => {
-            let side = tree_depth - 1;
+            let side = levels - 1;
             let Node {
                 first,
                 low,
@@ -142,11 +75,19 @@ fn split_two(
             } = mem::replace(&mut *node, bare());
             spares.keep(node);
             if key <= low {
-                let halves = split(alloc, first, side, key, spares)?;
-                with_more_high(alloc, halves, low, second, side, spares)
+                split(alloc, first, side, key, halves, spares)?;
+                let rest = Part {
+                    tree: second,
+                    levels: side,
+                };
+                put_behind(alloc, &mut halves.high, low, rest, spares)
             } else {
-                let halves = split(alloc, second, side, key, spares)?;
-                with_more_low(alloc, first, side, low, halves, spares)
+                split(alloc, second, side, key, halves, spares)?;
+                let rest = Part {
+                    tree: first,
+                    levels: side,
+                };
+                put_before(alloc, rest, low, &mut halves.low, spares)
             }
         }
         Tree::Leaf | Tree::One(_) | Tree::Three(_) => unreachable!(),
@@ -158,21 +99,24 @@ fn split_two(
 fn split_three(
     alloc: Global,
     tree: Tree,
-    tree_depth: u64,
+    levels: u64,
     key: u32,
+    halves: &mut Halves,
     spares: &mut Spares,
-) -> Result<Halves, AllocError>
+) -> Result<(), AllocError>
     requires tree { IsTree tree }
     requires wide { IsWide tree }
     requires ascends { StrictlyAscends (keys tree) }
-    requires tree_depth { tree_depth ≡ depth tree }
+    requires levels { levels ≡ depth tree }
     requires fits { length (keys tree) < 2 ^ 62 }
-    ensures trees { IfOk result AreTrees }
-    ensures split { IfOk result (λ h. IsSplit key (keys tree) (keys h.low) (keys h.high)) }
+    requires parts { AreParts halves.old }
+    requires empty { AreEmpty halves.old }
+    ensures parts { OnOk result (AreParts halves.new) }
+    ensures split { OnOk result (IsSplit key (keys tree) (keys halves.new.low.tree) (keys halves.new.high.tree)) }
 {
     match tree {
         Tree::Three(mut node) => {
-            let side = tree_depth - 1;
+            let side = levels - 1;
             let Node {
                 first,
                 low,
@@ -182,18 +126,26 @@ fn split_three(
                 ..
             } = mem::replace(&mut *node, bare());
             if key <= low {
-                let rest = two(node, second, high, third);
-                let halves = split(alloc, first, side, key, spares)?;
-                with_more_high(alloc, halves, low, rest, tree_depth, spares)
+                let tree = two(node, second, high, third);
+                split(alloc, first, side, key, halves, spares)?;
+                put_behind(alloc, &mut halves.high, low, Part { tree, levels }, spares)
             } else if key <= high {
                 spares.keep(node);
-                let halves = split(alloc, second, side, key, spares)?;
-                let halves = with_more_low(alloc, first, side, low, halves, spares)?;
-                with_more_high(alloc, halves, high, third, side, spares)
+                split(alloc, second, side, key, halves, spares)?;
+                let before = Part {
+                    tree: first,
+                    levels: side,
+                };
+                put_before(alloc, before, low, &mut halves.low, spares)?;
+                let behind = Part {
+                    tree: third,
+                    levels: side,
+                };
+                put_behind(alloc, &mut halves.high, high, behind, spares)
             } else {
-                let rest = two(node, first, low, second);
-                let halves = split(alloc, third, side, key, spares)?;
-                with_more_low(alloc, rest, tree_depth, high, halves, spares)
+                let tree = two(node, first, low, second);
+                split(alloc, third, side, key, halves, spares)?;
+                put_before(alloc, Part { tree, levels }, high, &mut halves.low, spares)
             }
         }
         Tree::Leaf | Tree::One(_) | Tree::Two(_) => unreachable!(),

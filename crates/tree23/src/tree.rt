@@ -7,19 +7,17 @@ ghost use Rattle.tree23.specs.Splits.{IsSplit};
 use crate::insert::insert_at_root;
 use crate::join::chain;
 use crate::look::{find_in, next_in};
-use crate::node::Tree;
+use crate::node::Part;
 use crate::remove::{lower, remove_in};
 use crate::spares::Spares;
-use crate::split::split;
+use crate::split::{Halves, split};
 use std::alloc::{AllocError, Global};
 use std::marker::Model;
 
 /// A set of numbers, as a balanced tree. Contracts see it as the list of its keys, which strictly ascends.
 #[derive(Drop)]
 pub struct Tree23 {
-    root: Tree,
-    /// How many levels of nodes the root has.
-    levels: u64,
+    root: Part,
     alloc: Global,
 }
 
@@ -30,9 +28,9 @@ impl Model for Tree23 {
 
     ghost use Rattle.tree23.specs.Nodes.{keys, IsRooted};
 
-    ghost view = { λ t. keys t.root };
+    ghost view = { λ t. keys t.root.tree };
 
-    ghost invariant = { λ t. IsRooted t.root t.levels };
+    ghost invariant = { λ t. IsRooted t.root };
 }
 
 impl Tree23 {
@@ -41,8 +39,7 @@ impl Tree23 {
         ensures { result ≡ [] }
     {
         Tree23 {
-            root: Tree::Leaf,
-            levels: 0,
+            root: Part::empty(),
             alloc,
         }
     }
@@ -53,7 +50,7 @@ impl Tree23 {
         ensures ascends { StrictlyAscends self.now }
         ensures small { AllByRecursion (λ k. k < 2 ^ 32) self.now }
     {
-        let _root = &self.root;
+        let _root = &self.root.tree;
     }
 
     /// How many keys there are. They are not counted: each subtree keeps its number.
@@ -61,7 +58,7 @@ impl Tree23 {
         ensures keys { result ≡ length self.now }
         ensures small { result ≤ 2 ^ 32 }
     {
-        self.root.size()
+        self.root.tree.size()
     }
 
     /// How many levels there are. A tree with few keys may be as deep as one with a few more.
@@ -69,21 +66,21 @@ impl Tree23 {
         ensures least { 2 ^ result ≤ length self.now + 1 }
         ensures most { length self.now < 3 ^ result }
     {
-        self.levels as u32
+        self.root.levels as u32
     }
 
     /// Whether the key is there.
     pub fn find(&self, key: u32) -> bool
         ensures { result ≡ has key self.now }
     {
-        find_in(&self.root, key)
+        find_in(&self.root.tree, key)
     }
 
     /// The least key that is greater, if there is one.
     pub fn next(&self, key: u32) -> Option<u32>
         ensures { result ≡ least_above key self.now }
     {
-        next_in(&self.root, key)
+        next_in(&self.root.tree, key)
     }
 
     /// Puts the key in, and says whether it is new.
@@ -93,7 +90,7 @@ impl Tree23 {
         ensures keys { OnOk result (self.new ≡ with_key key self.old) }
         ensures err { OnErr result (self.new ≡ self.old) }
     {
-        let added = insert_at_root(self.alloc, &mut self.root, &mut self.levels, key)?;
+        let added = insert_at_root(self.alloc, &mut self.root.tree, &mut self.root.levels, key)?;
         Ok(added)
     }
 
@@ -103,8 +100,8 @@ impl Tree23 {
         ensures answer { result ≡ has key self.old }
         ensures keys { self.new ≡ without_key key self.old }
     {
-        let found = remove_in(&mut self.root, key);
-        lower(&mut self.root, &mut self.levels);
+        let found = remove_in(&mut self.root.tree, key);
+        lower(&mut self.root.tree, &mut self.root.levels);
         found
     }
 
@@ -113,20 +110,15 @@ impl Tree23 {
         ensures { IfOk result (λ p. IsSplit key self p.0 p.1) }
     {
         let alloc = self.alloc;
+        let mut halves = Halves {
+            low: Part::empty(),
+            high: Part::empty(),
+        };
         let mut spares = Spares::new();
-        let h = split(alloc, self.root, self.levels, key, &mut spares)?;
-        Ok((
-            Tree23 {
-                root: h.low,
-                levels: h.low_depth,
-                alloc,
-            },
-            Tree23 {
-                root: h.high,
-                levels: h.high_depth,
-                alloc,
-            },
-        ))
+        let Part { tree, levels } = self.root;
+        split(alloc, tree, levels, key, &mut halves, &mut spares)?;
+        let Halves { low, high } = halves;
+        Ok((Tree23 { root: low, alloc }, Tree23 { root: high, alloc }))
     }
 
     /// The keys of both. The less deep tree moves whole to the edge of the other.
@@ -134,12 +126,11 @@ impl Tree23 {
         requires { AllBelow low high }
         ensures { IfOk result (λ tree. tree ≡ low ++ high) }
     {
-        let alloc = low.alloc;
-        let (root, levels) = chain(alloc, low.root, low.levels, high.root, high.levels)?;
+        let mut root = low.root;
+        chain(low.alloc, &mut root, high.root)?;
         Ok(Tree23 {
             root,
-            levels,
-            alloc,
+            alloc: low.alloc,
         })
     }
 }

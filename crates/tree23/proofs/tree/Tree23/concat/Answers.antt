@@ -7,6 +7,6 @@ chain-requires-clause-fits c = omega (arith, set_length _ c.low.invariant.set, s
 
 pub invariant_of-result : goal.invariant_of-result
 invariant_of-result c = record {
-  set = set_both _ _ _ c.low.invariant.set c.high.invariant.set c.in_ok-root.ensures.tree c.in_ok-root.ensures.keys (rw (c.low.view_is, c.high.view_is) c.requires);
-  levels_are = c.in_ok-root.ensures.depth;
+  set = set_both _ _ _ c.low.invariant.set c.high.invariant.set c.in_ok-chain.ensures.part.tree_is c.in_ok-chain.ensures.keys (rw (c.low.view_is, c.high.view_is) c.requires);
+  levels_are = c.in_ok-chain.ensures.part.levels_are;
 }

@@ -2,10 +2,10 @@
 ghost use Rattle.std.specs.Prelude.{◌≡◌, ◌+◌, ◌%◌, ◌<◌, ◌^◌, IfOk, OnErr};
 ghost use Rattle.tree23.specs.declared.insert.Step.TheVariants.{Added};
 ghost use Rattle.tree23.specs.Keys.{StrictlyAscends};
-ghost use Rattle.tree23.specs.Nodes.{keys, depth, IsTree, IsNarrow, IsWide};
+ghost use Rattle.tree23.specs.Nodes.{keys, depth, IsTree, IsPart, IsNarrow, IsWide};
 ghost use Rattle.tree23.specs.Steps.{IsBehindLow, IsInserted, IsSpare, IsStep};
 
-use crate::node::{Node, Tree, bare, two};
+use crate::node::{Node, Part, Tree, bare, two};
 use crate::widen::{split_first, split_second, split_third, widen_first, widen_second};
 use std::alloc::{AllocError, Global};
 use std::mem;
@@ -43,32 +43,25 @@ fn counted(size: &mut u64) -> Step
     Step::Added
 }
 
-/// Puts the key into a whole tree, of which the number of levels is kept, and says whether it is new.
-pub fn insert_at_root(
-    alloc: Global,
-    root: &mut Tree,
-    levels: &mut u64,
-    key: u32,
-) -> Result<bool, AllocError>
-    requires tree { IsTree root.old }
-    requires ascends { StrictlyAscends (keys root.old) }
-    requires levels { levels.old ≡ depth root.old }
-    requires fits { depth root.old < 2 ^ 63 }
-    ensures tree { IsTree root.new }
-    ensures levels { levels.new ≡ depth root.new }
-    ensures ok { IfOk result (λ added. IsInserted key (keys root.old) (keys root.new) added) }
-    ensures err { OnErr result (keys root.new ≡ keys root.old) }
+/// Puts the key into a whole tree, and says whether it is new.
+pub fn insert_at_root(alloc: Global, root: &mut Part, key: u32) -> Result<bool, AllocError>
+    requires part { IsPart root.old }
+    requires ascends { StrictlyAscends (keys root.old.tree) }
+    requires fits { root.old.levels < 2 ^ 63 }
+    ensures part { IsPart root.new }
+    ensures ok { IfOk result (λ added. IsInserted key (keys root.old.tree) (keys root.new.tree) added) }
+    ensures err { OnErr result (keys root.new.tree ≡ keys root.old.tree) }
 {
-    let spare = spare_for(alloc, root)?;
-    match insert_in(alloc, root, key) {
+    let spare = spare_for(alloc, &root.tree)?;
+    match insert_in(alloc, &mut root.tree, key) {
         Step::Memory => Err(AllocError),
         Step::Present => Ok(false),
         Step::Added => Ok(true),
         Step::Splits(k, right) => {
             let Some(spare) = spare else { unreachable!() };
-            let left = mem::replace(root, Tree::Leaf);
-            *root = two(spare, left, k, right);
-            *levels += 1;
+            let left = mem::replace(&mut root.tree, Tree::Leaf);
+            root.tree = two(spare, left, k, right);
+            root.levels += 1;
             Ok(true)
         }
     }

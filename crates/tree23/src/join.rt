@@ -203,7 +203,7 @@ pub fn chain(alloc: Global, low: &mut Part, mut high: Part) -> Result<(), AllocE
     match pop_first(&mut high.tree) {
         None => Ok(()),
         Some(key) => {
-            lower(&mut high.tree, &mut high.levels);
+            lower(&mut high);
             let mut spares = Spares::new();
             put_behind(alloc, low, key, high, &mut spares)
         }

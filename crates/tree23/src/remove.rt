@@ -2,11 +2,11 @@
 ghost use Rattle.std.specs.Prelude.{◌≡◌, ◌<◌, ◌∷◌};
 ghost use Rattle.tree23.specs.Keys.{StrictlyAscends};
 ghost use Rattle.tree23.specs.declared.node.Tree.TheVariants.{Leaf};
-ghost use Rattle.tree23.specs.Nodes.{keys, depth, IsTree, IsLoose, IsNarrow, IsWide};
+ghost use Rattle.tree23.specs.Nodes.{keys, depth, IsTree, IsPart, IsLoose, IsNarrow, IsWide};
 ghost use Rattle.tree23.specs.Mending.{IsRemoved, IsPopped, first_side, second_side, third_side, keys_but_low, keys_but_high};
 
 use crate::mend::{mend_first, mend_second, mend_third};
-use crate::node::{Node, Tree, bare, one, two};
+use crate::node::{Node, Part, Tree, bare, one, two};
 use std::mem;
 
 /// Takes the first side, which is a leaf, and the key behind it off a node.
@@ -116,17 +116,16 @@ pub fn pop_first(tree: &mut Tree) -> Option<u32>
     }
 }
 
-/// The tree under a root that may have one side, and how many levels it has.
-pub fn lower(tree: &mut Tree, levels: &mut u64)
-    requires loose { IsLoose tree.old }
-    requires levels { levels.old ≡ depth tree.old }
-    ensures keys { keys tree.new ≡ keys tree.old }
-    ensures tree { IsTree tree.new }
-    ensures levels { levels.new ≡ depth tree.new }
+/// The tree under a root that may have one side.
+pub fn lower(part: &mut Part)
+    requires loose { IsLoose part.old.tree }
+    requires levels { part.old.levels ≡ depth part.old.tree }
+    ensures keys { keys part.new.tree ≡ keys part.old.tree }
+    ensures part { IsPart part.new }
 {
-    if let Tree::One(node) = tree {
-        *tree = mem::replace(&mut node.first, Tree::Leaf);
-        *levels -= 1;
+    if let Tree::One(node) = &mut part.tree {
+        part.tree = mem::replace(&mut node.first, Tree::Leaf);
+        part.levels -= 1;
     }
 }
 

@@ -90,7 +90,7 @@ impl Tree23 {
         ensures keys { OnOk result (self.new ≡ with_key key self.old) }
         ensures err { OnErr result (self.new ≡ self.old) }
     {
-        let added = insert_at_root(self.alloc, &mut self.root.tree, &mut self.root.levels, key)?;
+        let added = insert_at_root(self.alloc, &mut self.root, key)?;
         Ok(added)
     }
 
@@ -101,7 +101,7 @@ impl Tree23 {
         ensures keys { self.new ≡ without_key key self.old }
     {
         let found = remove_in(&mut self.root.tree, key);
-        lower(&mut self.root.tree, &mut self.root.levels);
+        lower(&mut self.root);
         found
     }
 

@@ -3,8 +3,6 @@ ghost use Rattle.std.specs.Prelude.{◌≡◌, ◌+◌, ◌%◌, ◌<◌, ◌^�
 ghost use Rattle.tree23.specs.Nodes.{keys, depth, IsTree, IsPart, IsLoose, IsNarrow};
 ghost use Rattle.tree23.specs.declared.node.Tree.TheVariants.{Leaf};
 
-use std::mem;
-
 /// A tree of nodes. What lies below the lowest nodes is `Leaf`, which takes no memory.
 #[cycle(tree)]
 #[derive(Drop)]
@@ -91,7 +89,7 @@ pub fn bare() -> Node {
     }
 }
 
-/// One side alone, in a node in which nothing is: what is there is not dropped.
+/// One side alone, in a node that is there.
 pub fn one(mut node: Box<Node>, a: Tree) -> Tree
     requires a { IsTree a }
     ensures keys { keys result ≡ keys a }
@@ -99,11 +97,11 @@ pub fn one(mut node: Box<Node>, a: Tree) -> Tree
     ensures narrow { IsNarrow result }
     ensures depth { depth result ≡ depth a + 1 }
 {
-    mem::forget(mem::replace(&mut *node, Node { first: a, ..bare() }));
+    *node = Node { first: a, ..bare() };
     Tree::One(node)
 }
 
-/// Two sides around a key, in a node in which nothing is.
+/// Two sides around a key, in a node that is there.
 #[inline]
 pub fn two(mut node: Box<Node>, a: Tree, k: u32, b: Tree) -> Tree
     requires a { IsTree a }
@@ -116,7 +114,7 @@ pub fn two(mut node: Box<Node>, a: Tree, k: u32, b: Tree) -> Tree
     ensures depth { depth result ≡ depth a + 1 }
 {
     let size = a.size().wrapping_add(b.size()).wrapping_add(1);
-    let made = Node {
+    *node = Node {
         size,
         first: a,
         low: k,
@@ -124,11 +122,10 @@ pub fn two(mut node: Box<Node>, a: Tree, k: u32, b: Tree) -> Tree
         high: 0,
         third: Tree::Leaf,
     };
-    mem::forget(mem::replace(&mut *node, made));
     Tree::Two(node)
 }
 
-/// Three sides around two keys, in a node in which nothing is.
+/// Three sides around two keys, in a node that is there.
 #[inline]
 pub fn three(mut node: Box<Node>, a: Tree, k: u32, b: Tree, m: u32, c: Tree) -> Tree
     requires a { IsTree a }
@@ -146,7 +143,7 @@ pub fn three(mut node: Box<Node>, a: Tree, k: u32, b: Tree, m: u32, c: Tree) -> 
         .wrapping_add(b.size())
         .wrapping_add(c.size())
         .wrapping_add(2);
-    let made = Node {
+    *node = Node {
         size,
         first: a,
         low: k,
@@ -154,6 +151,5 @@ pub fn three(mut node: Box<Node>, a: Tree, k: u32, b: Tree, m: u32, c: Tree) -> 
         high: m,
         third: c,
     };
-    mem::forget(mem::replace(&mut *node, made));
     Tree::Three(node)
 }

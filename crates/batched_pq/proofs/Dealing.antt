@@ -1,5 +1,5 @@
 -- Inserts that are dealt out to the shards: together the shards have each of them once.
-use Rattle.std.proofs.Common.{◌≡◌, ◌≢◌, ℕ, zero, suc, ◌+◌, ◌%◌, ◌<◌, ◌≤◌, List, [], ◌∷◌, ◌++◌, length, get_or, drop, Bool, true, false, ◌==◌, refl, ap, ◌∙◌, arith}
+use Rattle.std.proofs.Common.{◌≡◌, ◌≢◌, ℕ, zero, suc, ◌+◌, ◌%◌, ◌<◌, ◌≤◌, nat_lt, List, [], ◌∷◌, ◌++◌, length, get_or, drop, Bool, true, false, ◌==◌, refl, ap, sym, ◌∙◌, arith}
 use Rattle.std.proofs.lemmas.Grind.{common_steps}
 use Rattle.std.proofs.lemmas.Bool.Decides.{nat_tests}
 use Rattle.seq_objects.specs.Orders.{copies, one_if}
@@ -24,6 +24,40 @@ pub passes : (shard i : ℕ) (items : List ℕ) → i < length items → i % 8 �
 passes shard i items within other =
     let first : drop i items ≡ get_or items i 0 ∷ drop (i + 1) items = grind (arith, common_steps) in
     rw first (first_passes shard i (get_or items i 0) (drop (i + 1) items) other)
+
+-- behind the last insert there is none
+pub none_after : (shard i : ℕ) (items : List ℕ) → length items ≤ i → inserts_for shard i (drop i items) ≡ []
+none_after shard i items past =
+    let none : drop i items ≡ [] = grind (arith, common_steps) in
+    rw none refl
+
+-- none of so many inserts goes to the shard
+passed : (count shard i : ℕ) (items : List ℕ) → ((j : ℕ) → j < count → (i + j) % 8 ≢ shard) → inserts_for shard i (drop i items) ≡ inserts_for shard (i + count) (drop (i + count) items)
+passed zero shard i items others = let same : i + 0 ≡ i = omega arith in rw same refl
+passed (suc count) shard i items others = step (nat_lt i (length items)) refl (λ later. passed count shard (i + 1) items later) where
+  step : (within : Bool) → nat_lt i (length items) ≡ within
+      → (((j : ℕ) → j < count → (i + 1 + j) % 8 ≢ shard) → inserts_for shard (i + 1) (drop (i + 1) items) ≡ inserts_for shard (i + 1 + count) (drop (i + 1 + count) items))
+      → inserts_for shard i (drop i items) ≡ inserts_for shard (i + suc count) (drop (i + suc count) items)
+  step true is rest =
+      let other : i % 8 ≢ shard = λ same. others 0 (omega arith) (omega (arith, same)) in
+      let next : i + suc count ≡ i + 1 + count = omega arith in
+      rw next (passes shard i items (grind (arith, nat_tests)) other ∙ rest (λ j less same. others (j + 1) (omega (arith, less)) (omega (arith, same))))
+  step false is rest =
+      let all : length items ≤ i = grind (arith, nat_tests) in
+      rw (none_after shard i items all, none_after shard (i + suc count) items (omega (arith, all))) refl
+
+-- a shard's first insert is the one with its number
+pub first_one : (shard : ℕ) (items : List ℕ) → shard < 8 → inserts_for shard shard (drop shard items) ≡ inserts_for shard 0 items
+first_one shard items less =
+    let start : 0 + shard ≡ shard = omega arith in
+    let all : drop 0 items ≡ items = grind (arith, common_steps) in
+    sym (rw (start, all) at (passed shard shard 0 items (λ j below same. omega (arith, same, below, less))))
+
+-- and its next one is the eighth from there
+pub next_one : (shard i : ℕ) (items : List ℕ) → i < length items → i % 8 ≡ shard → inserts_for shard i (drop i items) ≡ get_or items i 0 ∷ inserts_for shard (i + 8) (drop (i + 8) items)
+next_one shard i items within is =
+    let next : i + 1 + 7 ≡ i + 8 = omega arith in
+    goes shard i items within is ∙ ap (λ (xs : List ℕ). get_or items i 0 ∷ xs) (rw next at (passed 7 shard (i + 1) items (λ j less same. omega (arith, same, less, is))))
 
 -- the copies of a number in the inserts of so many shards, from one on
 abbrev spread : (n i : ℕ) → List ℕ → (shard count : ℕ) → ℕ

@@ -11,7 +11,8 @@ use Rattle.batched_pq.specs.Shards.{Parts, all_of, items_of, bag_of, CanGive, Al
 use Rattle.batched_pq.specs.Calls.{inserts_of, takes_of}
 use Rattle.batched_pq.specs.Choice.{take_replies, after_takes, insert_replies}
 use Rattle.batched_pq.specs.Pieces.{AreShares, shards_in, Meets, Remembers}
-use Rattle.batched_pq.proofs.Bags.{copies_append, copies_in_order, copies_with_items, ascends_in_order, ascends_with_items, same_bag}
+use Rattle.seq_objects.proofs.Bags.{same_bag}
+use Rattle.batched_pq.proofs.Bags.{copies_append, copies_in_order, copies_with_items, ascends_in_order, ascends_with_items}
 use Rattle.batched_pq.proofs.Dealing.{inserts_in, copies_dealt, shares_count}
 use Rattle.batched_pq.proofs.Serial.{serial_replies, serial_after}
 

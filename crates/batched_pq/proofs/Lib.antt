@@ -6,5 +6,6 @@ pub mod Law
 pub mod Ranks
 pub mod Roots
 pub mod Rows
+pub mod Runs
 pub mod Serial
 pub mod Taking

@@ -1,5 +1,6 @@
 pub mod Nodes
 pub mod Bags
+pub mod Runs
 pub mod Leftist
 pub mod Shards
 pub mod Choice

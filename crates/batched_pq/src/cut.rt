@@ -1,5 +1,5 @@
 //! Cutting a batch into a piece for each shard.
-ghost use Rattle.std.specs.Prelude.{◌≡◌, ◌≤◌, length, IfOk};
+ghost use Rattle.std.specs.Prelude.{◌≡◌, ◌<◌, ◌≤◌, length, IfOk};
 ghost use Rattle.batched_pq.specs.Calls.{item_of, takes_in, inserts_of, takes_of, inserts_for};
 ghost use Rattle.batched_pq.specs.Pieces.{AreShares, shards_in};
 
@@ -33,7 +33,7 @@ fn takes_in(op: Op) -> usize
 pub(crate) fn inserts_of(alloc: Global, calls: &[Call]) -> Result<Vec<u32>, AllocError>
     ensures { IfOk result (λ v. v.items ≡ inserts_of calls.now) }
 {
-    let mut inserts = Vec::new(alloc);
+    let mut inserts = Vec::with_capacity(alloc, calls.len())?;
     for call in calls {
         if let Some(item) = item_of(call.op) {
             inserts.push(item)?;
@@ -55,13 +55,14 @@ pub(crate) fn takes_of(calls: &[Call]) -> usize
 
 /// The inserts of one shard.
 fn inserts_for(alloc: Global, number: usize, inserts: &[u32]) -> Result<Vec<u32>, AllocError>
+    requires { number < 8 }
     ensures { IfOk result (λ v. v.items ≡ inserts_for number 0 inserts.now) }
 {
-    let mut own = Vec::new(alloc);
-    for (i, item) in inserts.iter().enumerate() {
-        if i % 8 == number {
-            own.push(*item)?;
-        }
+    let mut own = Vec::with_capacity(alloc, inserts.len().div_ceil(8))?;
+    let mut i = number;
+    while i < inserts.len() {
+        own.push(inserts[i])?;
+        i += 8;
     }
     Ok(own)
 }
@@ -77,7 +78,7 @@ pub(crate) fn shares_of(
     ensures shares { IfOk result (λ v. AreShares 0 inserts.now takes v.items) }
     ensures shards { IfOk result (λ v. shards_in v.items ≡ shards.items) }
 {
-    let mut shares = Vec::new(alloc);
+    let mut shares = Vec::with_capacity(alloc, shards.len())?;
     let mut number = 0;
     for shard in shards {
         let own = inserts_for(alloc, number, inserts)?;

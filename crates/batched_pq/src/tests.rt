@@ -14,7 +14,7 @@ fn calls_of(alloc: Global, items: &[u32], takes: u32) -> Result<Vec<Call>, Alloc
     ensures batch { IfOk result (λ v. AreOneBatch v.items) }
     ensures queue { IfOk result (λ v. AreOf IsOfQueue v.items) }
 {
-    let mut calls = Vec::new(alloc);
+    let mut calls = Vec::with_capacity(alloc, 32)?;
     let mut worker = 0;
     'inserts: for item in items {
         calls.push(Call {
@@ -263,7 +263,7 @@ fn batches_reply_as_one_thread(rt: HostRuntime) -> Result<(), Fail> {
 #[test]
 fn a_heap_of_any_order_is_taken_and_dropped(rt: HostRuntime) -> Result<(), Fail> {
     for order in [Order::Ascending, Order::Descending, Order::Mixed] {
-        let mut heap = Heap::new();
+        let mut heap = Heap::new(rt.alloc());
         for place in 0..20000 {
             heap.push(rt.alloc(), item_at(order, place))?;
         }
@@ -273,9 +273,7 @@ fn a_heap_of_any_order_is_taken_and_dropped(rt: HostRuntime) -> Result<(), Fail>
             assert!(rt; last <= item);
             last = item;
         }
-        let mut other = Heap::new();
-        other.push(rt.alloc(), 0)?;
-        heap.append(other)?;
+        heap.push(rt.alloc(), 0)?;
         assert_eq!(rt; heap.pop(), Some(0));
     }
     Ok(())

@@ -1,14 +1,20 @@
-use Rattle.std.proofs.Common.{append_assoc}
-use Rattle.batched_pq.proofs.Dealing.{goes, passes}
+use Rattle.std.proofs.Common.{arith, append_assoc, append-nil}
+use Rattle.batched_pq.proofs.Dealing.{first_one, next_one, none_after}
 use Rattle.batched_pq.proofs.cut.inserts_for.Goals as goal
-use Rattle.batched_pq.proofs.cut.inserts_for.Goals.{then-i-number+in_ok-push, else-i-number}
+
+pub loop-i-init : goal.loop-i-init
+loop-i-init c = record {
+  own = omega arith;
+  all = rw c.in_ok-own.ensures.items (first_one c.args.number c.args.inserts.now c.requires);
+}
 
 pub loop-i-preserved : goal.loop-i-preserved
-loop-i-preserved c = elim c.if-i-number.branch [
-  | then-i-number+in_ok-push w ↦
-      let here = goes c.args.number c.loop-i.i c.args.inserts.now c.loop-i-test.true w.if-i-number.true in
-      rw (w.own-is, w.in_ok-push.ensures.items, append_assoc) (rw here at c.loop-i.invariant)
-  | else-i-number w ↦
-      let past = passes c.args.number c.loop-i.i c.args.inserts.now c.loop-i-test.true w.if-i-number.false in
-      rw w.own-is (rw past at c.loop-i.invariant)
-]
+loop-i-preserved c =
+    let i = c.loop-i.invariant in
+    record {
+      own = omega (arith, i.own);
+      all = rw (c.in_ok-push.ensures.items, append_assoc) (rw (next_one c.args.number c.loop-i.i c.args.inserts.now c.loop-i-test.true i.own) at i.all);
+    }
+
+pub returns : goal.returns
+returns c = rw (none_after c.args.number c.loop-i.i c.args.inserts.now c.loop-i-test.false, append-nil) at c.loop-i.invariant.all

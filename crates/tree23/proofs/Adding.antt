@@ -1,8 +1,13 @@
 -- A key put beside another.
-use Rattle.std.proofs.Common.{◌≡◌, ℕ, ◌<◌, List, ◌∷◌, ◌++◌, refl, sym, ap, ◌∙◌, subst, append_assoc}
-use Rattle.tree23.specs.Keys.{StrictlyAscends}
-use Rattle.tree23.specs.Steps.{IsAdded, IsFound}
+use Rattle.std.proofs.Common.{◌≡◌, ℕ, ◌<◌, List, ◌∷◌, ◌++◌, take, drop, false, refl, sym, ap, ◌∙◌, subst, append_assoc}
+use Rattle.std.specs.List.{insert}
+use Rattle.tree23.specs.Keys.{StrictlyAscends, has}
+use Rattle.tree23.specs.Steps.{IsAdded, IsFound, IsPut}
+use Rattle.tree23.specs.declared.put.Put.{Put}
+use Rattle.tree23.specs.declared.put.Put.TheVariants.{Full, OutOfMemory, Found, Done}
 use Rattle.tree23.proofs.Ascending.{ascends_front, ascends_behind}
+use Rattle.tree23.specs.Splits.{IsSplit}
+use Rattle.tree23.proofs.Blocks.{with_at}
 use Rattle.tree23.proofs.Beside.{with_left, with_right, has_left, has_right, has_here}
 
 pub added_left : (key k : ℕ) (a b a' : List ℕ) → StrictlyAscends (a ++ k ∷ b) → key < k → IsAdded key a a' → IsAdded key (a ++ k ∷ b) (a' ++ k ∷ b)
@@ -52,3 +57,20 @@ pub three_right : (key k m : ℕ) (a b c new : List ℕ) → StrictlyAscends (a 
 three_right key k m a b c new s gt gt' i =
     let inner = added_right key m b c new (ascends_behind a k (b ++ m ∷ c) s) gt' i in
     subst (IsAdded key (a ++ k ∷ (b ++ m ∷ c))) (sym (append_assoc a (k ∷ b) (m ∷ new))) (added_right key k a (b ++ m ∷ c) (b ++ m ∷ new) s gt inner)
+
+-- a key put in at its place
+pub added_at : (key at : ℕ) (xs new : List ℕ) → IsSplit key xs (take at xs) (drop at xs) → has key xs ≡ false → new ≡ insert xs at key → IsAdded key xs new
+added_at key at xs new cut none is = record { is = is ∙ sym (with_at key at xs cut none); absent = none }
+
+-- what an attempt comes to on one side of a key
+pub put_left : (key k : ℕ) (a b a' : List ℕ) (put : Put) → StrictlyAscends (a ++ k ∷ b) → key < k → IsPut key a a' put → IsPut key (a ++ k ∷ b) (a' ++ k ∷ b) put
+put_left key k a b a' Full s lt i = ap (λ z. z ++ k ∷ b) i
+put_left key k a b a' OutOfMemory s lt i = ap (λ z. z ++ k ∷ b) i
+put_left key k a b a' Found s lt i = found_left key k a b a' s lt i
+put_left key k a b a' Done s lt i = added_left key k a b a' s lt i
+
+pub put_right : (key k : ℕ) (a b b' : List ℕ) (put : Put) → StrictlyAscends (a ++ k ∷ b) → k < key → IsPut key b b' put → IsPut key (a ++ k ∷ b) (a ++ k ∷ b') put
+put_right key k a b b' Full s lt i = ap (λ z. a ++ k ∷ z) i
+put_right key k a b b' OutOfMemory s lt i = ap (λ z. a ++ k ∷ z) i
+put_right key k a b b' Found s lt i = found_right key k a b b' s lt i
+put_right key k a b b' Done s lt i = added_right key k a b b' s lt i

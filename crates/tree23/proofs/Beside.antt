@@ -9,7 +9,7 @@ pub append_around : (xs : List ℕ) (j : ℕ) (ys : List ℕ) (k : ℕ) (zs : Li
 append_around xs j ys k zs = append_assoc xs (j ∷ ys) (k ∷ zs)
 
 -- a key that is below all keys of a list
-has_none : (key : ℕ) (xs : List ℕ) → AllByRecursion (λ x. key < x) xs → has key xs ≡ false
+pub has_none : (key : ℕ) (xs : List ℕ) → AllByRecursion (λ x. key < x) xs → has key xs ≡ false
 has_none key [] below = refl
 has_none key (x ∷ xs) below = step (key == x) refl (has_none key xs below.1) where
   step : (same : Bool) → (key == x) ≡ same → has key xs ≡ false → (same || has key xs) ≡ false
@@ -24,13 +24,13 @@ without_none key (x ∷ xs) below = step (key == x) refl (without_none key xs be
   step false is rest = ap (λ zs. x ∷ zs) rest
 
 -- a key that is above the first of a list
-has_past : (key x : ℕ) (xs : List ℕ) → x < key → has key (x ∷ xs) ≡ has key xs
+pub has_past : (key x : ℕ) (xs : List ℕ) → x < key → has key (x ∷ xs) ≡ has key xs
 has_past key x xs less = step (key == x) refl where
   step : (same : Bool) → (key == x) ≡ same → (same || has key xs) ≡ has key xs
   step true is = absurd (grind (arith, nat_tests, less))
   step false is = refl
 
-with_past : (key x : ℕ) (xs : List ℕ) → x < key → with_key key (x ∷ xs) ≡ x ∷ with_key key xs
+pub with_past : (key x : ℕ) (xs : List ℕ) → x < key → with_key key (x ∷ xs) ≡ x ∷ with_key key xs
 with_past key x xs less = step (nat_lt key x) (key == x) refl refl where
   step : (first same : Bool) → nat_lt key x ≡ first → (key == x) ≡ same
       → (if first then key ∷ x ∷ xs else (if same then x ∷ xs else x ∷ with_key key xs)) ≡ x ∷ with_key key xs
@@ -147,7 +147,7 @@ least_here key k (x ∷ xs) ys less none = step (nat_lt key x) none (least_here 
   step true none rest = absurd (cc)
   step false none rest = rest none
 
-least_past : (key x : ℕ) (xs : List ℕ) → x ≤ key → least_above key (x ∷ xs) ≡ least_above key xs
+pub least_past : (key x : ℕ) (xs : List ℕ) → x ≤ key → least_above key (x ∷ xs) ≡ least_above key xs
 least_past key x xs le = step (nat_lt key x) refl where
   step : (more : Bool) → nat_lt key x ≡ more → (if more then Some x else least_above key xs) ≡ least_above key xs
   step true is = absurd (grind (arith, nat_tests, le))

@@ -3,7 +3,9 @@ use Rattle.std.proofs.Common.{◌≡◌, ℕ, ◌+◌, ◌%◌, ◌^◌, Bool, t
 use Rattle.tree23.specs.Keys.{has, with_key, without_key}
 use Rattle.tree23.specs.Mending.{IsSizeWithOneMore, IsTaken}
 use Rattle.tree23.specs.Nodes.{IsSize}
-use Rattle.tree23.specs.Steps.{IsAdded}
+use Rattle.tree23.specs.Steps.{IsAdded, IsPut, size_after}
+use Rattle.tree23.specs.declared.put.Put.{Put}
+use Rattle.tree23.specs.declared.put.Put.TheVariants.{Full, OutOfMemory, Found, Done}
 
 pub size_of_two : (i j : ℕ) (a b : List ℕ) (k : ℕ) → i ≡ length a % 2 ^ 64 → j ≡ length b % 2 ^ 64 → ((i + j) % 2 ^ 64 + 1) % 2 ^ 64 ≡ length (a ++ k ∷ b) % 2 ^ 64
 size_of_two i j a b k is is' = rw length-append (omega (arith, is, is'))
@@ -24,6 +26,12 @@ length_with key (x ∷ xs) none = step (nat_lt key x) (key == x) none (length_wi
 
 pub size_of_added : (key size : ℕ) (old new : List ℕ) → IsAdded key old new → IsSize size old → (size + 1) % 2 ^ 64 ≡ length new % 2 ^ 64
 size_of_added key size old new added is = rw added.is (omega (arith, is, length_with key old added.absent))
+
+pub size_of_put : (key size : ℕ) (old new : List ℕ) (put : Put) → IsPut key old new put → IsSize size old → size_after put size ≡ length new % 2 ^ 64
+size_of_put key size old new Full i is = rw i is
+size_of_put key size old new OutOfMemory i is = rw i is
+size_of_put key size old new Found i is = rw i.same is
+size_of_put key size old new Done i is = size_of_added key size old new i is
 
 -- and one less without it
 length_without : (key : ℕ) (xs : List ℕ) → has key xs ≡ true → length xs ≡ length (without_key key xs) + 1

@@ -1,23 +1,29 @@
 -- What a tree of nodes holds, and when it is balanced.
-use Rattle.std.specs.Prelude.{◌≡◌, ℕ, ◌+◌, ◌%◌, ◌<◌, ◌^◌, List, [], ◌∷◌, ◌++◌, length, ⊤}
+use Rattle.std.specs.Prelude.{◌≡◌, ℕ, ◌+◌, ◌%◌, ◌<◌, ◌≤◌, ◌^◌, List, [], ◌∷◌, ◌++◌, length, ⊤}
 use Rattle.std.specs.List.{AllByRecursion}
 use Rattle.tree23.specs.declared.node.Tree.{Tree}
-use Rattle.tree23.specs.declared.node.Tree.TheVariants.{Leaf, One', Two', Three'}
+use Rattle.tree23.specs.declared.node.Tree.TheVariants.{Leaf, Block, One', Two', Three'}
 use Rattle.tree23.specs.declared.node.Part.{Part}
 use Rattle.tree23.specs.declared.node.Grown.{Grown}
 use Rattle.tree23.specs.declared.node.Grown.TheVariants.{Fits, Splits}
 use Rattle.tree23.specs.Keys.{StrictlyAscends}
 
+-- the most keys of a block
+abbrev pub room : ℕ
+room = 64
+
 -- the keys in order
 abbrev pub keys : Tree → List ℕ
 keys Leaf = []
+keys (Block b) = b.value.items
 keys (One' p n a k b m c) = keys a
 keys (Two' p n a k b m c) = keys a ++ k ∷ keys b
 keys (Three' p n a k b m c) = keys a ++ k ∷ (keys b ++ m ∷ keys c)
 
--- the levels of nodes, along the left edge
+-- the levels of nodes above the blocks, along the left edge
 abbrev pub depth : Tree → ℕ
 depth Leaf = 0
+depth (Block b) = 0
 depth (One' p n a k b m c) = depth a + 1
 depth (Two' p n a k b m c) = depth a + 1
 depth (Three' p n a k b m c) = depth a + 1
@@ -26,9 +32,10 @@ depth (Three' p n a k b m c) = depth a + 1
 abbrev pub IsSize : ℕ → List ℕ → Type 0
 IsSize n set = n ≡ length set % 2 ^ 64
 
--- each node has two or three sides of one depth, and tells its size
+-- each node has two or three sides of one depth, and tells its size; no block is too long
 abbrev pub IsTree : Tree → Type 0
 IsTree Leaf = ⊤
+IsTree (Block b) = length b.value.items ≤ room
 IsTree (One' p n a k b m c) = ⊥
 IsTree (Two' p n a k b m c) = IsTree a × IsTree b × (depth b ≡ depth a) × IsSize n (keys a ++ k ∷ keys b)
 IsTree (Three' p n a k b m c) = IsTree a × IsTree b × IsTree c × (depth b ≡ depth a) × (depth c ≡ depth a) × IsSize n (keys a ++ k ∷ (keys b ++ m ∷ keys c))
@@ -62,6 +69,7 @@ IsGrown d tree (Splits k right) = IsTree tree × IsTree right × (depth tree ≡
 -- a tree, but the root may have one side
 abbrev pub IsLoose : Tree → Type 0
 IsLoose Leaf = ⊤
+IsLoose (Block b) = IsTree (Block b)
 IsLoose (One' p n a k b m c) = IsTree a
 IsLoose (Two' p n a k b m c) = IsTree (Two' p n a k b m c)
 IsLoose (Three' p n a k b m c) = IsTree (Three' p n a k b m c)
@@ -69,6 +77,7 @@ IsLoose (Three' p n a k b m c) = IsTree (Three' p n a k b m c)
 -- the root has one side or two
 abbrev pub IsNarrow : Tree → Type 0
 IsNarrow Leaf = ⊥
+IsNarrow (Block b) = ⊥
 IsNarrow (One' p n a k b m c) = ⊤
 IsNarrow (Two' p n a k b m c) = ⊤
 IsNarrow (Three' p n a k b m c) = ⊥
@@ -76,6 +85,15 @@ IsNarrow (Three' p n a k b m c) = ⊥
 -- the root has three sides
 abbrev pub IsWide : Tree → Type 0
 IsWide Leaf = ⊥
+IsWide (Block b) = ⊥
 IsWide (One' p n a k b m c) = ⊥
 IsWide (Two' p n a k b m c) = ⊥
 IsWide (Three' p n a k b m c) = ⊤
+
+-- the tree is a block alone
+abbrev pub IsBottom : Tree → Type 0
+IsBottom Leaf = ⊤
+IsBottom (Block b) = ⊤
+IsBottom (One' p n a k b m c) = ⊥
+IsBottom (Two' p n a k b m c) = ⊥
+IsBottom (Three' p n a k b m c) = ⊥

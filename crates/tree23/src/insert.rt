@@ -1,11 +1,13 @@
 //! A key put into a tree.
-ghost use Rattle.std.specs.Prelude.{◌≡◌, ◌+◌, ◌%◌, ◌<◌, ◌^◌, IfOk, OnErr};
+ghost use Rattle.std.specs.Prelude.{◌≡◌, length, ◌≤◌, ◌+◌, ◌%◌, ◌<◌, ◌^◌, IfOk, OnErr};
 ghost use Rattle.tree23.specs.declared.insert.Step.TheVariants.{Added};
 ghost use Rattle.tree23.specs.Keys.{StrictlyAscends};
-ghost use Rattle.tree23.specs.Nodes.{keys, depth, IsTree, IsPart, IsNarrow, IsWide};
-ghost use Rattle.tree23.specs.Steps.{IsBehindLow, IsInserted, IsSpare, IsStep};
+ghost use Rattle.tree23.specs.Nodes.{room, keys, depth, IsTree, IsPart, IsNarrow, IsWide};
+ghost use Rattle.tree23.specs.Steps.{IsBehindLow, IsInserted, IsSpare, IsStep, IsBlockStep};
 
+use crate::block::{ROOM, block_of, is_at, place, put_in_halves};
 use crate::node::{Node, Part, Tree, bare, two};
+use crate::put::{Put, put_in};
 use crate::widen::{split_first, split_second, split_third, widen_first, widen_second};
 use std::alloc::{AllocError, Global};
 use std::mem;
@@ -26,8 +28,9 @@ pub fn spare_for(alloc: Global, tree: &Tree) -> Result<Option<Box<Node>>, AllocE
     ensures { IfOk result (λ spare. IsSpare spare tree.now) }
 {
     match tree {
-        Tree::Two(_) | Tree::One(_) => Ok(None),
-        Tree::Leaf | Tree::Three(_) => {
+        Tree::Leaf | Tree::Two(_) | Tree::One(_) => Ok(None),
+        Tree::Block(block) if block.len() < ROOM => Ok(None),
+        Tree::Block(_) | Tree::Three(_) => {
             let spare = Box::new(alloc, bare())?;
             Ok(Some(spare))
         }
@@ -45,6 +48,23 @@ fn counted(size: &mut u64) -> Step
 
 /// Puts the key into a whole tree, and says whether it is new.
 pub fn insert_at_root(alloc: Global, root: &mut Part, key: u32) -> Result<bool, AllocError>
+    requires part { IsPart root.old }
+    requires ascends { StrictlyAscends (keys root.old.tree) }
+    requires fits { root.old.levels < 2 ^ 63 }
+    ensures part { IsPart root.new }
+    ensures ok { IfOk result (λ added. IsInserted key (keys root.old.tree) (keys root.new.tree) added) }
+    ensures err { OnErr result (keys root.new.tree ≡ keys root.old.tree) }
+{
+    match put_in(alloc, &mut root.tree, key) {
+        Put::Done => Ok(true),
+        Put::Found => Ok(false),
+        Put::OutOfMemory => Err(AllocError),
+        Put::Full => insert_where_full(alloc, root, key),
+    }
+}
+
+/// The same where the block of the key has no room.
+fn insert_where_full(alloc: Global, root: &mut Part, key: u32) -> Result<bool, AllocError>
     requires part { IsPart root.old }
     requires ascends { StrictlyAscends (keys root.old.tree) }
     requires fits { root.old.levels < 2 ^ 63 }
@@ -78,10 +98,40 @@ pub fn insert_in(alloc: Global, tree: &mut Tree, key: u32) -> Step
     ensures step { IsStep key tree.old tree.new result }
 {
     match tree {
-        Tree::Leaf => Step::Splits(key, Tree::Leaf),
+        Tree::Leaf => match block_of(alloc, key) {
+            Ok(block) => {
+                *tree = Tree::Block(block);
+                Step::Added
+            }
+            Err(_) => Step::Memory,
+        },
+        Tree::Block(block) => insert_in_block(alloc, block, key),
         Tree::Two(_) => insert_in_two(alloc, tree, key),
         Tree::Three(_) => insert_in_three(alloc, tree, key),
         Tree::One(_) => unreachable!(),
+    }
+}
+
+/// The same at a block.
+fn insert_in_block(alloc: Global, block: &mut Vec<u32>, key: u32) -> Step
+    requires fits { length block.old.items ≤ room }
+    requires ascends { StrictlyAscends block.old.items }
+    ensures fits { length block.new.items ≤ room }
+    ensures step { IsBlockStep key block.old.items block.new.items result }
+{
+    let at = place(block, key);
+    if is_at(block, at, key) {
+        Step::Present
+    } else if block.len() < ROOM {
+        match block.insert(at, key) {
+            Ok(()) => Step::Added,
+            Err(_) => Step::Memory,
+        }
+    } else {
+        match put_in_halves(alloc, block, at, key) {
+            Ok((middle, behind)) => Step::Splits(middle, Tree::Block(behind)),
+            Err(_) => Step::Memory,
+        }
     }
 }
 
@@ -122,7 +172,7 @@ fn insert_in_two(alloc: Global, tree: &mut Tree, key: u32) -> Step
                 Step::Present
             }
         }
-        Tree::Leaf | Tree::One(_) | Tree::Three(_) => unreachable!(),
+        Tree::Leaf | Tree::Block(_) | Tree::One(_) | Tree::Three(_) => unreachable!(),
     }
 }
 
@@ -159,7 +209,7 @@ fn insert_in_three(alloc: Global, tree: &mut Tree, key: u32) -> Step
                 Step::Present
             }
         }
-        Tree::Leaf | Tree::One(_) | Tree::Two(_) => unreachable!(),
+        Tree::Leaf | Tree::Block(_) | Tree::One(_) | Tree::Two(_) => unreachable!(),
     }
 }
 
@@ -209,6 +259,6 @@ fn insert_behind_low(alloc: Global, tree: &mut Tree, key: u32) -> Step
                 Step::Present
             }
         }
-        Tree::Leaf | Tree::One(_) | Tree::Two(_) => unreachable!(),
+        Tree::Leaf | Tree::Block(_) | Tree::One(_) | Tree::Two(_) => unreachable!(),
     }
 }

@@ -1,13 +1,81 @@
 //! Trees put together around a key.
-ghost use Rattle.std.specs.Prelude.{◌≡◌, ◌+◌, ◌%◌, ◌<◌, ◌^◌, ◌++◌, ◌∷◌, length, IfOk, OnOk};
-ghost use Rattle.tree23.specs.Nodes.{keys, depth, IsTree, IsPart, grown_keys, IsGrown};
+ghost use Rattle.std.specs.Prelude.{◌≡◌, ◌+◌, ◌%◌, ◌<◌, ◌^◌, ◌++◌, ◌∷◌, true, length, IfOk, OnOk};
+ghost use Rattle.tree23.specs.Nodes.{room, keys, depth, IsTree, IsBottom, IsPart, grown_keys, IsGrown};
 
+use crate::block::ROOM;
 use crate::node::{Grown, Part, Tree, two};
 use crate::remove::{lower, pop_first};
 use crate::spares::Spares;
 use crate::widen::{split_first, split_third, widen_first, widen_second};
 use std::alloc::{AllocError, Global};
 use std::mem;
+
+/// Whether two trees are blocks that fit into one, with a key between them.
+#[inline]
+fn become_one(low: &Tree, high: &Tree) -> bool
+    requires low { IsTree low.now }
+    requires high { IsTree high.now }
+    ensures bottom { result ≡ true → IsBottom low.now × IsBottom high.now }
+    ensures fits { result ≡ true → length (keys low.now) + length (keys high.now) < room }
+{
+    match high {
+        Tree::Leaf | Tree::Block(_) => match low {
+            Tree::Leaf | Tree::Block(_) => low.size() + high.size() < ROOM as u64,
+            Tree::One(_) | Tree::Two(_) | Tree::Three(_) => false,
+        },
+        Tree::One(_) | Tree::Two(_) | Tree::Three(_) => false,
+    }
+}
+
+/// A block's keys, in the memory that they have, or in a new one's where there are none.
+fn block_in(alloc: Global, tree: Tree) -> Result<Box<Vec<u32>>, AllocError>
+    requires bottom { IsBottom tree }
+    ensures { IfOk result (λ b. b.value.items ≡ keys tree) }
+{
+    match tree {
+        Tree::Block(block) => Ok(block),
+        Tree::Leaf => {
+            let keys = Vec::with_capacity(alloc, ROOM + 1)?;
+            let block = Box::new(alloc, keys)?;
+            Ok(block)
+        }
+        Tree::One(_) | Tree::Two(_) | Tree::Three(_) => unreachable!(),
+    }
+}
+
+/// Puts a block's keys behind others.
+fn put_block_behind(block: &mut Vec<u32>, high: &Tree) -> Result<(), AllocError>
+    requires bottom { IsBottom high.now }
+    ensures { OnOk result (block.new.items ≡ block.old.items ++ keys high.now) }
+{
+    match high {
+        Tree::Block(behind) => {
+            block.extend_from_slice(behind)?;
+            Ok(())
+        }
+        Tree::Leaf => Ok(()),
+        Tree::One(_) | Tree::Two(_) | Tree::Three(_) => unreachable!(),
+    }
+}
+
+/// Puts a key and a tree behind one of the same depth. Blocks become one where that has room.
+fn meet(alloc: Global, low: &mut Tree, key: u32, high: Tree) -> Result<Grown, AllocError>
+    requires low { IsTree low.old }
+    requires high { IsTree high }
+    requires level { depth low.old ≡ depth high }
+    ensures keys { IfOk result (λ g. grown_keys low.new g ≡ keys low.old ++ key ∷ keys high) }
+    ensures grown { IfOk result (λ g. IsGrown (depth low.old) low.new g) }
+{
+    if become_one(low, &high) {
+        let mut block = block_in(alloc, mem::replace(low, Tree::Leaf))?;
+        block.push(key)?;
+        put_block_behind(&mut block, &high)?;
+        *low = Tree::Block(block);
+        Ok(Grown::Fits)
+    } else {
+        Ok(Grown::Splits(key, high))
+    }
+}
 
 /// Puts a key and `high` behind a tree at its right edge, that many levels below its root. `added` is how
 /// many keys that is.
@@ -28,7 +96,7 @@ pub fn join_right(
     ensures grown { IfOk result (λ g. IsGrown (depth low.old) low.new g) }
 {
     if levels == 0 {
-        return Ok(Grown::Splits(key, high));
+        return meet(alloc, low, key, high);
     }
     match low {
         Tree::Two(node) => {
@@ -59,7 +127,7 @@ pub fn join_right(
                 }
             }
         }
-        Tree::Leaf | Tree::One(_) => unreachable!(),
+        Tree::Leaf | Tree::Block(_) | Tree::One(_) => unreachable!(),
     }
 }
 
@@ -83,7 +151,7 @@ pub fn join_left(
 {
     if levels == 0 {
         let right = mem::replace(high, low);
-        return Ok(Grown::Splits(key, right));
+        return meet(alloc, high, key, right);
     }
     match high {
         Tree::Two(node) => {
@@ -106,7 +174,7 @@ pub fn join_left(
                 }
             }
         }
-        Tree::Leaf | Tree::One(_) => unreachable!(),
+        Tree::Leaf | Tree::Block(_) | Tree::One(_) => unreachable!(),
     }
 }
 
@@ -204,7 +272,7 @@ pub fn chain(alloc: Global, low: &mut Part, mut high: Part) -> Result<(), AllocE
         None => Ok(()),
         Some(key) => {
             lower(&mut high);
-            let mut spares = Spares::new();
+            let mut spares = Spares::new(alloc);
             put_behind(alloc, low, key, high, &mut spares)
         }
     }

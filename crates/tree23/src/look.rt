@@ -1,8 +1,9 @@
 //! Keys looked up.
-ghost use Rattle.std.specs.Prelude.{◌≡◌};
+ghost use Rattle.std.specs.Prelude.{◌≡◌, slice_get};
 ghost use Rattle.tree23.specs.Keys.{StrictlyAscends, has, least_above};
 ghost use Rattle.tree23.specs.Nodes.{keys, IsTree};
 
+use crate::block::{is_at, place};
 use crate::node::Tree;
 
 /// Whether the key is there.
@@ -14,6 +15,7 @@ pub fn find_in(tree: &Tree, key: u32) -> bool
 {
     match tree {
         Tree::Leaf => false,
+        Tree::Block(block) => is_at(block, place(block, key), key),
         Tree::Two(node) => {
             if key < node.low {
                 find_in(&node.first, key)
@@ -38,6 +40,21 @@ pub fn find_in(tree: &Tree, key: u32) -> bool
     }
 }
 
+/// The least key of a block above.
+#[inline]
+fn next_in_block(block: &[u32], key: u32) -> Option<u32>
+    requires ascends { StrictlyAscends block.now }
+    ensures { result ≡ least_above key block.now }
+{
+    let at = place(block, key);
+    let behind = if is_at(block, at, key) { at + 1 } else { at };
+    if behind < block.len() {
+        Some(block[behind])
+    } else {
+        None
+    }
+}
+
 /// The least key above.
 #[tactic(auto, using(crate::proofs::Beside::nexts))]
 pub fn next_in(tree: &Tree, key: u32) -> Option<u32>
@@ -47,6 +64,7 @@ pub fn next_in(tree: &Tree, key: u32) -> Option<u32>
 {
     match tree {
         Tree::Leaf => None,
+        Tree::Block(block) => next_in_block(block, key),
         Tree::Two(node) => {
             if key < node.low {
                 match next_in(&node.first, key) {
@@ -72,6 +90,22 @@ pub fn next_in(tree: &Tree, key: u32) -> Option<u32>
                 next_in(&node.third, key)
             }
         }
+        Tree::One(_) => unreachable!(),
+    }
+}
+
+/// The least key.
+pub fn first_in(tree: &Tree) -> Option<u32>
+    requires tree { IsTree tree.now }
+    ensures { result ≡ slice_get (keys tree.now) 0 }
+{
+    match tree {
+        Tree::Leaf => None,
+        Tree::Block(block) => block.first().copied(),
+        Tree::Two(node) | Tree::Three(node) => match first_in(&node.first) {
+            Some(key) => Some(key),
+            None => Some(node.low),
+        },
         Tree::One(_) => unreachable!(),
     }
 }

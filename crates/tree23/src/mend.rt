@@ -45,7 +45,7 @@ fn join_first(node: Box<Node>, a: Tree, k: u32, b: Tree) -> Tree
                         two(right, second, high, third),
                     )
                 }
-                Tree::Leaf | Tree::One(_) => unreachable!(),
+                Tree::Leaf | Tree::Block(_) | Tree::One(_) => unreachable!(),
             }
         }
         whole => two(node, whole, k, b),
@@ -91,7 +91,7 @@ fn join_second(node: Box<Node>, a: Tree, k: u32, b: Tree) -> Tree
                         two(right, third, k, x),
                     )
                 }
-                Tree::Leaf | Tree::One(_) => unreachable!(),
+                Tree::Leaf | Tree::Block(_) | Tree::One(_) => unreachable!(),
             }
         }
         whole => two(node, a, k, whole),
@@ -122,7 +122,7 @@ fn behind(rest: Tree, m: u32, c: Tree) -> Tree
             } = mem::replace(&mut *node, bare());
             three(node, first, low, second, m, c)
         }
-        Tree::Leaf | Tree::Three(_) => unreachable!(),
+        Tree::Leaf | Tree::Block(_) | Tree::Three(_) => unreachable!(),
     }
 }
 
@@ -150,7 +150,7 @@ fn before(a: Tree, k: u32, rest: Tree) -> Tree
             } = mem::replace(&mut *node, bare());
             three(node, a, k, first, low, second)
         }
-        Tree::Leaf | Tree::Three(_) => unreachable!(),
+        Tree::Leaf | Tree::Block(_) | Tree::Three(_) => unreachable!(),
     }
 }
 
@@ -196,7 +196,7 @@ pub fn mend_first(tree: &mut Tree)
                 node.size = node.size.wrapping_sub(1);
             }
         }
-        Tree::Leaf | Tree::One(_) => unreachable!(),
+        Tree::Leaf | Tree::Block(_) | Tree::One(_) => unreachable!(),
     }
 }
 
@@ -242,7 +242,7 @@ pub fn mend_second(tree: &mut Tree)
                 node.size = node.size.wrapping_sub(1);
             }
         }
-        Tree::Leaf | Tree::One(_) => unreachable!(),
+        Tree::Leaf | Tree::Block(_) | Tree::One(_) => unreachable!(),
     }
 }
 
@@ -272,6 +272,6 @@ pub fn mend_third(tree: &mut Tree)
                 node.size = node.size.wrapping_sub(1);
             }
         }
-        Tree::Leaf | Tree::One(_) | Tree::Two(_) => unreachable!(),
+        Tree::Leaf | Tree::Block(_) | Tree::One(_) | Tree::Two(_) => unreachable!(),
     }
 }

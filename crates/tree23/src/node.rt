@@ -3,11 +3,14 @@ ghost use Rattle.std.specs.Prelude.{◌≡◌, ◌+◌, ◌%◌, ◌<◌, ◌^�
 ghost use Rattle.tree23.specs.Nodes.{keys, depth, IsTree, IsPart, IsLoose, IsNarrow};
 ghost use Rattle.tree23.specs.declared.node.Tree.TheVariants.{Leaf};
 
-/// A tree of nodes. What lies below the lowest nodes is `Leaf`, which takes no memory.
+/// A tree of nodes. What lies below the lowest nodes are blocks of keys.
 #[cycle(tree)]
 #[derive(Drop)]
 pub enum Tree {
+    /// A block without keys. It takes no memory.
     Leaf,
+    /// The keys of a block, which strictly ascend.
+    Block(Box<Vec<u32>>),
     /// Only between a removal and its repair: the first side alone, and no key.
     One(Box<Node>),
     /// The first and the second side, around the low key.
@@ -55,6 +58,7 @@ impl Tree {
     {
         match self {
             Tree::Leaf => 0,
+            Tree::Block(block) => block.len() as u64,
             Tree::Two(node) => node.size,
             Tree::Three(node) => node.size,
             Tree::One(_) => unreachable!(),

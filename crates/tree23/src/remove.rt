@@ -1,19 +1,19 @@
 //! Keys taken out of a tree, in place and with no memory.
-ghost use Rattle.std.specs.Prelude.{◌≡◌, ◌<◌, ◌∷◌};
-ghost use Rattle.tree23.specs.Keys.{StrictlyAscends};
-ghost use Rattle.tree23.specs.declared.node.Tree.TheVariants.{Leaf};
+ghost use Rattle.std.specs.Prelude.{◌≡◌, ◌<◌, [], ◌∷◌};
+ghost use Rattle.tree23.specs.Keys.{StrictlyAscends, has, without_key};
 ghost use Rattle.tree23.specs.Nodes.{keys, depth, IsTree, IsPart, IsLoose, IsNarrow, IsWide};
 ghost use Rattle.tree23.specs.Mending.{IsRemoved, IsPopped, first_side, second_side, third_side, keys_but_low, keys_but_high};
 
+use crate::block::{is_at, place};
 use crate::mend::{mend_first, mend_second, mend_third};
 use crate::node::{Node, Part, Tree, bare, one, two};
 use std::mem;
 
-/// Takes the first side, which is a leaf, and the key behind it off a node.
+/// Takes the first side, which has no keys, and the key behind it off a node.
 fn drop_first(tree: &mut Tree) -> u32
     requires tree { IsTree tree.old }
     requires some { 0 < depth tree.old }
-    requires lowest { first_side tree.old ≡ Leaf }
+    requires bare { keys (first_side tree.old) ≡ [] }
     ensures keys { keys tree.old ≡ result ∷ keys tree.new }
     ensures loose { IsLoose tree.new }
     ensures depth { depth tree.new ≡ depth tree.old }
@@ -35,15 +35,15 @@ fn drop_first(tree: &mut Tree) -> u32
             *tree = two(node, second, high, third);
             low
         }
-        Tree::Leaf | Tree::One(_) => unreachable!(),
+        Tree::Leaf | Tree::Block(_) | Tree::One(_) => unreachable!(),
     }
 }
 
-/// Takes the key behind the first side off a node, and the second side, which is a leaf.
+/// Takes the key behind the first side off a node, and the second side, which has no keys.
 fn drop_low(tree: &mut Tree)
     requires tree { IsTree tree.old }
     requires some { 0 < depth tree.old }
-    requires lowest { second_side tree.old ≡ Leaf }
+    requires bare { keys (second_side tree.old) ≡ [] }
     ensures keys { keys tree.new ≡ keys_but_low tree.old }
     ensures loose { IsLoose tree.new }
     ensures depth { depth tree.new ≡ depth tree.old }
@@ -62,15 +62,15 @@ fn drop_low(tree: &mut Tree)
             } = mem::replace(&mut *node, bare());
             *tree = two(node, first, high, third);
         }
-        Tree::Leaf | Tree::One(_) => unreachable!(),
+        Tree::Leaf | Tree::Block(_) | Tree::One(_) => unreachable!(),
     }
 }
 
-/// Takes the key behind the second of three sides off a node, and the third side, which is a leaf.
+/// Takes the key behind the second of three sides off a node, and the third side, which has no keys.
 fn drop_high(tree: &mut Tree)
     requires tree { IsTree tree.old }
     requires wide { IsWide tree.old }
-    requires lowest { third_side tree.old ≡ Leaf }
+    requires bare { keys (third_side tree.old) ≡ [] }
     ensures keys { keys tree.new ≡ keys_but_high tree.old }
     ensures loose { IsLoose tree.new }
     ensures depth { depth tree.new ≡ depth tree.old }
@@ -85,7 +85,7 @@ fn drop_high(tree: &mut Tree)
             } = mem::replace(&mut *node, bare());
             *tree = two(node, first, low, second);
         }
-        Tree::Leaf | Tree::One(_) | Tree::Two(_) => unreachable!(),
+        Tree::Leaf | Tree::Block(_) | Tree::One(_) | Tree::Two(_) => unreachable!(),
     }
 }
 
@@ -98,6 +98,13 @@ pub fn pop_first(tree: &mut Tree) -> Option<u32>
 {
     match tree {
         Tree::Leaf => None,
+        Tree::Block(block) => {
+            if block.is_empty() {
+                None
+            } else {
+                Some(block.remove(0))
+            }
+        }
         Tree::Two(node) => match pop_first(&mut node.first) {
             Some(key) => {
                 mend_first(tree);
@@ -152,7 +159,7 @@ pub fn remove_low(tree: &mut Tree)
             }
             None => drop_low(tree),
         },
-        Tree::Leaf | Tree::One(_) => unreachable!(),
+        Tree::Leaf | Tree::Block(_) | Tree::One(_) => unreachable!(),
     }
 }
 
@@ -172,8 +179,24 @@ pub fn remove_high(tree: &mut Tree)
             }
             None => drop_high(tree),
         },
-        Tree::Leaf | Tree::One(_) | Tree::Two(_) => unreachable!(),
+        Tree::Leaf | Tree::Block(_) | Tree::One(_) | Tree::Two(_) => unreachable!(),
     }
+}
+
+/// Takes the key out of a block, and says whether it was there.
+#[inline]
+#[tactic(auto, using(crate::proofs::Removing::removing_at))]
+fn remove_in_block(block: &mut Vec<u32>, key: u32) -> bool
+    requires ascends { StrictlyAscends block.old.items }
+    ensures answer { result ≡ has key block.old.items }
+    ensures keys { block.new.items ≡ without_key key block.old.items }
+{
+    let at = place(block, key);
+    let found = is_at(block, at, key);
+    if found {
+        block.remove(at);
+    }
+    found
 }
 
 /// Takes the key out, and says whether it was there. The root may be left with one side.
@@ -188,6 +211,7 @@ pub fn remove_in(tree: &mut Tree, key: u32) -> bool
 {
     match tree {
         Tree::Leaf => false,
+        Tree::Block(block) => remove_in_block(block, key),
         Tree::Two(_) => remove_in_two(tree, key),
         Tree::Three(_) => remove_in_three(tree, key),
         Tree::One(_) => unreachable!(),
@@ -228,7 +252,7 @@ fn remove_in_two(tree: &mut Tree, key: u32) -> bool
                 true
             }
         }
-        Tree::Leaf | Tree::One(_) | Tree::Three(_) => unreachable!(),
+        Tree::Leaf | Tree::Block(_) | Tree::One(_) | Tree::Three(_) => unreachable!(),
     }
 }
 
@@ -277,6 +301,6 @@ fn remove_in_three(tree: &mut Tree, key: u32) -> bool
                 }
             }
         }
-        Tree::Leaf | Tree::One(_) | Tree::Two(_) => unreachable!(),
+        Tree::Leaf | Tree::Block(_) | Tree::One(_) | Tree::Two(_) => unreachable!(),
     }
 }

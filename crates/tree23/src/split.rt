@@ -1,9 +1,10 @@
 //! A tree cut at a key.
 ghost use Rattle.std.specs.Prelude.{◌≡◌, ◌<◌, ◌^◌, length, OnOk};
 ghost use Rattle.tree23.specs.Keys.{StrictlyAscends};
-ghost use Rattle.tree23.specs.Nodes.{keys, depth, IsTree, IsNarrow, IsWide};
+ghost use Rattle.tree23.specs.Nodes.{keys, depth, IsTree, IsBottom, IsNarrow, IsWide};
 ghost use Rattle.tree23.specs.Splits.{IsSplit, AreParts, AreEmpty};
 
+use crate::block::cut_block;
 use crate::join::{put_before, put_behind};
 use crate::node::{Node, Part, Tree, bare, two};
 use crate::spares::Spares;
@@ -37,10 +38,37 @@ pub fn split(
     ensures split { OnOk result (IsSplit key (keys tree) (keys halves.new.low.tree) (keys halves.new.high.tree)) }
 {
     match &tree {
-        Tree::Leaf => Ok(()),
+        Tree::Leaf | Tree::Block(_) => split_block(tree, key, halves, spares),
         Tree::Two(_) => split_two(alloc, tree, levels, key, halves, spares),
         Tree::Three(_) => split_three(alloc, tree, levels, key, halves, spares),
         Tree::One(_) => unreachable!(),
+    }
+}
+
+/// The same of a block.
+fn split_block(
+    tree: Tree,
+    key: u32,
+    halves: &mut Halves,
+    spares: &mut Spares,
+) -> Result<(), AllocError>
+    requires tree { IsTree tree }
+    requires bottom { IsBottom tree }
+    requires ascends { StrictlyAscends (keys tree) }
+    requires parts { AreParts halves.old }
+    requires empty { AreEmpty halves.old }
+    ensures parts { OnOk result (AreParts halves.new) }
+    ensures split { OnOk result (IsSplit key (keys tree) (keys halves.new.low.tree) (keys halves.new.high.tree)) }
+{
+    match tree {
+        Tree::Block(mut block) => {
+            let behind = cut_block(&mut block, key, spares)?;
+            halves.low.tree = Tree::Block(block);
+            halves.high.tree = Tree::Block(behind);
+            Ok(())
+        }
+        Tree::Leaf => Ok(()),
+        Tree::One(_) | Tree::Two(_) | Tree::Three(_) => unreachable!(),
     }
 }
 
@@ -90,7 +118,7 @@ fn split_two(
                 put_before(alloc, rest, low, &mut halves.low, spares)
             }
         }
-        Tree::Leaf | Tree::One(_) | Tree::Three(_) => unreachable!(),
+        Tree::Leaf | Tree::Block(_) | Tree::One(_) | Tree::Three(_) => unreachable!(),
     }
 }
 
@@ -148,6 +176,6 @@ fn split_three(
                 put_before(alloc, Part { tree, levels }, high, &mut halves.low, spares)
             }
         }
-        Tree::Leaf | Tree::One(_) | Tree::Two(_) => unreachable!(),
+        Tree::Leaf | Tree::Block(_) | Tree::One(_) | Tree::Two(_) => unreachable!(),
     }
 }

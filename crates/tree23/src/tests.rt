@@ -1,7 +1,7 @@
 //! The tree on a small example, and side by side with the library's ordered set.
 ghost use Rattle.std.specs.Prelude.{◌<◌};
 
-use crate::Tree23;
+use crate::{Rest, Row, Spares, Tree23};
 use std::alloc::{AllocError, Global};
 use std::collections::BTreeSet;
 use std::ops::Bound;
@@ -131,6 +131,79 @@ fn random_calls_answer_as_the_ordered_set(rt: HostRuntime) -> Result<(), Fail> {
                 assert!(rt; same, "at {turn} of {range}");
                 tree = joined;
             }
+        }
+        assert!(rt; same_keys(&tree, &set), "at the end of {range}");
+    }
+    Ok(())
+}
+
+/// Takes the row below a key off a tree, puts the rest behind it, makes calls on both as one row, and makes a tree
+/// of it. Whether all answer as the set.
+fn row_served(
+    alloc: Global,
+    tree: Tree23,
+    set: &mut BTreeSet<u32>,
+    key: u32,
+    range: u64,
+) -> Result<(Tree23, bool), Fail>
+    requires { 0 < range }
+{
+    let mut spares = Spares::new(alloc);
+    let mut rest = Rest::new(tree);
+    let mut row = rest.take_below(key, &mut spares)?;
+    let mut from = set.range((Bound::Included(key), Bound::Unbounded));
+    let mut same = rest.least() == from.next().copied();
+    same = same && !row.find(key) && row.next(key) == None;
+    let high = rest.into_row()?;
+    row.append(high, &mut spares)?;
+    let mut draw = u64::from(key);
+    for _ in 0..8 {
+        draw = next_random(draw);
+        same = same && same_answer_in_row(&mut row, set, draw, range)?;
+    }
+    Ok((row.into_tree(&mut spares)?, same))
+}
+
+/// One call on a row and a set, drawn from a number. Whether both answer the same.
+fn same_answer_in_row(
+    row: &mut Row,
+    set: &mut BTreeSet<u32>,
+    draw: u64,
+    range: u64,
+) -> Result<bool, Fail>
+    requires { 0 < range }
+{
+    let key = (draw >> 40) % range;
+    let key = key as u32;
+    let same = match draw >> 33 & 3 {
+        0 => row.insert(key)? == set.insert(key)?,
+        1 => row.remove(key) == set.remove(&key),
+        2 => row.find(key) == set.contains(&key),
+        _ => row.next(key)
+            == set
+                .range((Bound::Excluded(key), Bound::Unbounded))
+                .next()
+                .copied(),
+    };
+    Ok(same)
+}
+
+#[test]
+fn rows_answer_as_the_ordered_set(rt: HostRuntime) -> Result<(), Fail> {
+    for range in [10, 300, 100000] {
+        let mut tree = Tree23::new(rt.alloc());
+        let mut set = BTreeSet::new(rt.alloc());
+        let mut draw = range;
+        for turn in 0..1500 {
+            for _ in 0..4 {
+                draw = next_random(draw);
+                assert!(rt; same_answer(&mut tree, &mut set, draw, range)?);
+            }
+            draw = next_random(draw);
+            let key = (draw >> 40) % range;
+            let (made, same) = row_served(rt.alloc(), tree, &mut set, key as u32, range)?;
+            assert!(rt; same, "at {turn} of {range}");
+            tree = made;
         }
         assert!(rt; same_keys(&tree, &set), "at the end of {range}");
     }

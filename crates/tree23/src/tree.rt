@@ -1,5 +1,5 @@
 //! The tree, seen as the list of its keys.
-ghost use Rattle.std.specs.Prelude.{◌≡◌, ◌+◌, ◌<◌, ◌≤◌, ◌^◌, [], ◌++◌, length, not, IfOk, OnOk, OnErr};
+ghost use Rattle.std.specs.Prelude.{◌≡◌, ◌+◌, ◌*◌, ◌<◌, ◌≤◌, ◌^◌, [], ◌++◌, length, not, IfOk, OnOk, OnErr};
 ghost use Rattle.std.specs.List.{AllByRecursion};
 ghost use Rattle.tree23.specs.Keys.{StrictlyAscends, AllBelow, with_key, has, without_key, least_above};
 ghost use Rattle.tree23.specs.Splits.{IsSplit};
@@ -17,8 +17,8 @@ use std::marker::Model;
 /// A set of numbers, as a balanced tree. Contracts see it as the list of its keys, which strictly ascends.
 #[derive(Drop)]
 pub struct Tree23 {
-    root: Part,
-    alloc: Global,
+    pub(crate) root: Part,
+    pub(crate) alloc: Global,
 }
 
 impl Model for Tree23 {
@@ -61,10 +61,11 @@ impl Tree23 {
         self.root.tree.size()
     }
 
-    /// How many levels there are. A tree with few keys may be as deep as one with a few more.
+    /// How many levels of nodes there are. Below them stand blocks of up to 64 keys, so that a tree with few
+    /// keys has none, and a tree may be as deep as one with a few more.
     pub fn depth(&self) -> u32
         ensures least { 2 ^ result ≤ length self.now + 1 }
-        ensures most { length self.now < 3 ^ result }
+        ensures most { length self.now < 65 * 3 ^ result }
     {
         self.root.levels as u32
     }
@@ -114,7 +115,7 @@ impl Tree23 {
             low: Part::empty(),
             high: Part::empty(),
         };
-        let mut spares = Spares::new();
+        let mut spares = Spares::new(alloc);
         let Part { tree, levels } = self.root;
         split(alloc, tree, levels, key, &mut halves, &mut spares)?;
         let Halves { low, high } = halves;

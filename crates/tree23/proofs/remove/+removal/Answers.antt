@@ -1,11 +1,25 @@
 use Rattle.std.proofs.Common.{◌++◌, ◌∷◌, ◌<◌, ◌≡◌, ◌∙◌, arith, rules}
+use Rattle.std.specs.Box.{with_value}
+use Rattle.tree23.specs.declared.node.Tree.TheVariants.{Block}
 use Rattle.tree23.specs.Keys.{StrictlyAscends}
 use Rattle.tree23.specs.Nodes.{keys}
 use Rattle.tree23.proofs.Ascending.{ascends_behind}
 use Rattle.tree23.proofs.Beside.{has_left, has_right}
-use Rattle.tree23.proofs.Removing.{taken_left, taken_right, taken_middle, taken_last, taken_here, taken_high}
+use Rattle.tree23.proofs.Removing.{taken_left, taken_right, taken_middle, taken_last, taken_here, taken_high, removed_of_keys, fits_without}
 use Rattle.tree23.proofs.Sizes.{size_of_taken}
 use Rattle.tree23.proofs.remove.+removal.Goals as goal
+
+pub remove_in-returns-in-Block-clause-removed : goal.remove_in-returns-in-Block-clause-removed
+remove_in-returns-in-Block-clause-removed t c =
+    let u = rw c.in-Block.is at c.requires.tree in
+    let h = rw c.deref_mut.ensures.value at c.remove_in_block.ensures.keys in
+    let a = rw c.deref_mut.ensures.value at c.remove_in_block.ensures.answer in
+    rw c.in-Block.is (removed_of_keys c.args.key (Block c.in-Block.block) (Block (with_value c.in-Block.block c.remove_in_block.new.block)) c.remove_in_block.result (fits_without _ _ _ _ h u) a h)
+
+pub remove_in-returns-in-Block-clause-loose : goal.remove_in-returns-in-Block-clause-loose
+remove_in-returns-in-Block-clause-loose t c =
+    let u = rw c.in-Block.is at c.requires.tree in
+    fits_without _ _ _ _ (rw c.deref_mut.ensures.value at c.remove_in_block.ensures.keys) u
 
 pub remove_in_two-mend_first-requires : goal.remove_in_two-mend_first-requires
 remove_in_two-mend_first-requires t c =

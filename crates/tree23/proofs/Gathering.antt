@@ -1,0 +1,37 @@
+-- Entries put together, one after another: the keys of all that is in hand stay what they were.
+use Rattle.std.proofs.Common.{◌≡◌, ℕ, ◌+◌, ◌<◌, ◌^◌, List, ◌∷◌, ◌++◌, length, sym, ap, ◌∙◌, append_assoc, arith, length-append}
+use Rattle.std.specs.Prelude.{Result, Ok, Err, OnOk}
+use Rattle.tree23.specs.declared.forest.Entry.{Entry}
+use Rattle.tree23.specs.Nodes.{keys}
+use Rattle.tree23.specs.Rows.{behind}
+
+-- two entries came off, and one of both went back
+pub together : (old others rest new : List Entry) (low high : Entry) → behind old ≡ behind others ++ high.key ∷ keys high.part.tree → behind others ≡ behind rest ++ low.key ∷ keys low.part.tree
+    → behind new ≡ behind rest ++ low.key ∷ (keys low.part.tree ++ high.key ∷ keys high.part.tree) → behind new ≡ behind old
+together old others rest new low high is is' is'' =
+    is'' ∙ sym (append_assoc (behind rest) (low.key ∷ keys low.part.tree) (high.key ∷ keys high.part.tree)) ∙ ap (λ z. z ++ high.key ∷ keys high.part.tree) (sym is') ∙ sym is
+
+-- a key and a tree behind a list of keys, of which the last went before the tree
+pub gone_before : (front others old high part : List ℕ) (m k : ℕ) → old ≡ others ++ m ∷ high → (front ++ others) ++ m ∷ (high ++ k ∷ part) ≡ (front ++ old) ++ k ∷ part
+gone_before front others old high part m k is = rw is (simp append_assoc)
+
+-- how many keys are in hand
+pub in_hand : (front back part whole added : List ℕ) (k j : ℕ) → (front ++ back) ++ k ∷ part ≡ whole ++ j ∷ added → length whole + length added < 2 ^ 61 → length back + length part < 2 ^ 61
+in_hand front back part whole added k j is fits = omega (arith, ap length is, length-append (front ++ back) (k ∷ part), length-append front back, length-append whole (j ∷ added), fits)
+
+pub among : (front back whole : List ℕ) → front ++ back ≡ whole → length whole < 2 ^ 62 → length back < 2 ^ 62
+among front back whole is fits = omega (arith, ap length is, length-append front back, fits)
+
+-- a list that is known where nothing failed
+pub row_known : {A E : Type 0} (result : Result A E) (row known other : List ℕ) → OnOk result (row ≡ known) → known ≡ other → OnOk result (row ≡ other)
+row_known (Ok v) row known other is is' = is ∙ is'
+row_known (Err e) row known other is is' = tt
+
+-- keys that went behind the last entry
+pub behind_last : (front old new rest last more : List ℕ) → old ≡ rest ++ last → new ≡ rest ++ (last ++ more) → front ++ new ≡ (front ++ old) ++ more
+behind_last front old new rest last more is is' = ap (λ z. front ++ z) (is' ∙ sym (append_assoc rest last more) ∙ ap (λ z. z ++ more) (sym is)) ∙ sym (append_assoc front old more)
+
+-- one of the entries that are still to come
+pub still_fits : (low a b : List ℕ) (e : Entry) (all rest : List Entry) → all ≡ e ∷ rest → low ++ behind all ≡ a ++ b → length a + length b < 2 ^ 61 → length low + length (keys e.part.tree) < 2 ^ 61
+still_fits low a b e all rest is is' fits =
+    omega (arith, ap length is', length-append low (behind all), ap (λ z. length (behind z)) is, length-append (keys e.part.tree) (behind rest), length-append a b, fits)

@@ -1,6 +1,7 @@
 -- One more call goes to the piece of its group.
 use Rattle.std.proofs.Common.{◌≡◌, ℕ, zero, suc, ◌+◌, ◌<◌, ◌≤◌, inl, inr, Bool, true, false, cond, nat_lt, List, [], ◌∷◌, ◌++◌, map, length, get_or, take, ap, ◌∙◌, append-nil, arith}
 use Rattle.std.proofs.Math.ListN.{set}
+use Rattle.std.specs.List.{AllByRecursion}
 use Rattle.std.specs.declared.option.Option.{Option}
 use Rattle.std.proofs.lemmas.Bool.Decides.{nat_tests}
 use Rattle.std.proofs.lemmas.List.{get_or-map, take_more}
@@ -14,12 +15,16 @@ use Rattle.batched_tree.specs.Cuts.{IsPiece, ArePieces}
 use Rattle.batched_tree.proofs.Halves.{less_or_not}
 
 -- each group has a piece
-pub group_within : (key : ℕ) (starts : List ℕ) → group_of key starts ≤ length starts
+group_within : (key : ℕ) (starts : List ℕ) → group_of key starts ≤ length starts
 group_within key [] = omega arith
 group_within key (start ∷ starts) = step (nat_lt key start) (group_within key starts) where
   step : (t : Bool) → group_of key starts ≤ length starts → cond t 0 (suc (group_of key starts)) ≤ suc (length starts)
   step true le = omega arith
   step false le = omega arith
+
+pub groups_within : (n : ℕ) (starts : List ℕ) (calls : List Call) → length starts < n → AllByRecursion (λ group. group < n) (map (λ call. group_of (key_of call) starts) calls)
+groups_within n starts [] less = tt
+groups_within n starts (call ∷ calls) less = (omega (arith, group_within (key_of call) starts), groups_within n starts calls less)
 
 group_at : (starts : List ℕ) (calls : List Call) (i : ℕ) → i < length calls → get_or (map (λ call. group_of (key_of call) starts) calls) i 0 ≤ length starts
 group_at starts [] i less = absurd (omega arith)
@@ -31,13 +36,13 @@ group_less starts calls groups i are less = rw are (omega (arith, group_at start
 
 -- a piece with one more call
 pub record HasMore (call : Call) (old new : Part) : Type 0 where
-  pub tree : new.tree ≡ old.tree
+  pub row : new.row ≡ old.row
   pub calls : new.calls.items ≡ old.calls.items ++ call ∷ []
   pub beyond : new.beyond ≡ old.beyond
 
 piece_more : (keys : List ℕ) (calls : List Call) (beyond : Option ℕ) (call : Call) (old new : Part) → IsPiece keys calls beyond old → HasMore call old new → IsPiece keys (calls ++ call ∷ []) beyond new
 piece_more keys calls beyond call old new is more = record {
-  keys_are = more.tree ∙ is.keys_are;
+  keys_are = more.row ∙ is.keys_are;
   calls_are = more.calls ∙ ap (λ before. before ++ call ∷ []) is.calls_are;
   beyond_is = more.beyond ∙ is.beyond_is;
 }

@@ -29,7 +29,7 @@ use Rattle.batched_tree.specs.Joined.{merged, replies_of, joined, CanJoin}
 use Rattle.batched_tree.proofs.Sides.{all_filter, all_passed, is_less, is_not_less, all_below, all_from, both_sides, ascends_from}
 use Rattle.batched_tree.proofs.Cuts.{some_key}
 use Rattle.batched_tree.proofs.Filters.{all_map}
-use Rattle.batched_tree.proofs.Dealing.{group_within}
+use Rattle.batched_tree.proofs.Dealing.{groups_within}
 use Rattle.batched_tree.proofs.Ranges.{cut_pieces}
 use Rattle.batched_tree.proofs.Halves.{shared, less_or_not, halves_replies, halves_after, set_after, kept}
 
@@ -100,7 +100,7 @@ no_more (part ∷ ins) outs none meet = absurd (cc)
 owed_replies : (set : List ℕ) (calls : List Call) (beyond : Option ℕ) (part : Part) (out : Served) → IsPiece set calls beyond part → Meets part out → out.replies.items ≡ replies_within beyond (of_set set) calls
 owed_replies set calls beyond part out is meet = rw (is.keys_are, is.calls_are, is.beyond_is) at meet.replies
 
-owed_keys : (set : List ℕ) (calls : List Call) (beyond : Option ℕ) (part : Part) (out : Served) → IsPiece set calls beyond part → Meets part out → out.tree ≡ (after_all (of_set set) calls).set
+owed_keys : (set : List ℕ) (calls : List Call) (beyond : Option ℕ) (part : Part) (out : Served) → IsPiece set calls beyond part → Meets part out → out.row ≡ (after_all (of_set set) calls).set
 owed_keys set calls beyond part out is meet = rw (is.keys_are, is.calls_are) at meet.keys
 
 pieces_replies : (starts set : List ℕ) (calls : List Call) (ins : List Part) (outs : List Served) → StrictlyAscends set → AreOf IsOfTree calls → AreInBatchOrder calls
@@ -133,7 +133,7 @@ pieces_after (b ∷ starts) set calls (part ∷ ins) [] up tree parts meet = abs
 pieces_after [] set calls (part ∷ ins) (out ∷ outs) up tree parts meet =
     let none : outs ≡ [] = no_more ins outs parts.1 meet.1 in
     let own = owed_keys set calls None part out parts.0 meet.0 in
-    let whole : joined (out ∷ outs) ≡ (after_all (of_set set) calls).set = rw none (append-nil out.tree ∙ own) in
+    let whole : joined (out ∷ outs) ≡ (after_all (of_set set) calls).set = rw none (append-nil out.row ∙ own) in
     set_after set calls tree ∙ ap of_set (sym whole)
 pieces_after (b ∷ starts) set calls (part ∷ ins) (out ∷ outs) up tree parts meet =
     let low = below b set in
@@ -199,10 +199,6 @@ length_outs [] [] meet = refl
 length_outs [] (out ∷ outs) meet = absurd meet
 length_outs (part ∷ ins) [] meet = absurd meet
 length_outs (part ∷ ins) (out ∷ outs) meet = omega (arith, length_outs ins outs meet.1)
-
-groups_within : (n : ℕ) (starts : List ℕ) (calls : List Call) → length starts < n → AllByRecursion (λ group. group < n) (map (λ call. group_of (key_of call) starts) calls)
-groups_within n starts [] less = tt
-groups_within n starts (call ∷ calls) less = (omega (arith, group_within (key_of call) starts), groups_within n starts calls less)
 
 -- what the end stands on
 pieces_of : (rest : Groups) (o : Opening (List ℕ) Part) (r : Remembers rest o) → ArePieces o.before o.calls (starts_of r.cut.groups) o.ins

@@ -1,5 +1,6 @@
 mod Asked
 mod Calls
+mod Counting
 mod Cuts
 mod Dealing
 mod Filters
@@ -8,3 +9,4 @@ mod Law
 mod Merging
 mod Ranges
 mod Sides
+mod Sorting

@@ -126,15 +126,30 @@ least_is : (size b : ℕ) (keys starts : List ℕ) → 0 < size → slice_get ke
 least_is size b keys [] some is = is
 least_is size b keys (start ∷ starts) some is = get_take size keys some ∙ is
 
--- only the least key may be 0, and it begins the first group
-get_above : (size b : ℕ) (keys : List ℕ) → 0 < size → StrictlyAscends keys → slice_get keys size ≡ Some b → 0 < b
-get_above zero b keys some up is = absurd (omega arith)
-get_above (suc size) b [] some up is = absurd (cc)
-get_above (suc size) b (k ∷ keys) some up is = let less : k < b = all_get (λ j. k < j) keys size b up.0 is in omega (arith, less)
+-- what begins the groups ascends, as the keys do
+all_drop : (P : ℕ → Type 0) (size : ℕ) (keys : List ℕ) → AllByRecursion P keys → AllByRecursion P (drop size keys)
+all_drop P zero keys each = each
+all_drop P (suc size) [] each = tt
+all_drop P (suc size) (k ∷ keys) each = all_drop P size keys each.1
 
-starts_above : (size : ℕ) (keys starts : List ℕ) → 0 < size → StrictlyAscends keys → AreStarts size keys starts → AllByRecursion (λ start. 0 < start) starts
-starts_above size keys [] some up are = tt
-starts_above size keys (b ∷ starts) some up are = (get_above size b keys some up are.0, starts_above size (drop size keys) starts some (apart size b keys up are.0).ascends are.1)
+all_starts : (P : ℕ → Type 0) (size : ℕ) (keys starts : List ℕ) → AllByRecursion P keys → AreStarts size keys starts → AllByRecursion P starts
+all_starts P size keys [] each are = tt
+all_starts P size keys (b ∷ starts) each are = (all_get P keys size b each are.0, all_starts P size (drop size keys) starts (all_drop P size keys each) are.1)
+
+starts_above : (size b : ℕ) (keys starts : List ℕ) → 0 < size → slice_get keys 0 ≡ Some b → StrictlyAscends keys → AreStarts size keys starts → AllByRecursion (λ k. b < k) starts
+starts_above size b keys [] some is up are = tt
+starts_above zero b keys (c ∷ starts) some is up are = absurd (omega arith)
+starts_above (suc size) b [] (c ∷ starts) some is up are = absurd (cc)
+starts_above (suc size) b (k ∷ keys) (c ∷ starts) some is up are =
+    let same : k ≡ b = cc in
+    let above = subst (λ x. AllByRecursion (λ j. x < j) keys) same up.0 in
+    (all_get (λ j. b < j) keys size c above are.0, all_starts (λ j. b < j) (suc size) (drop size keys) starts (all_drop (λ j. b < j) size keys above) are.1)
+
+starts_up : (size : ℕ) (keys starts : List ℕ) → 0 < size → StrictlyAscends keys → AreStarts size keys starts → StrictlyAscends starts
+starts_up size keys [] some up are = tt
+starts_up size keys (b ∷ starts) some up are =
+    let cut = apart size b keys up are.0 in
+    (starts_above size b (drop size keys) starts some (get_drop size keys ∙ are.0) cut.ascends are.1, starts_up size (drop size keys) starts some cut.ascends are.1)
 
 in_last : (start key : ℕ) (keys : List ℕ) → AllByRecursion (λ k. start ≤ k) keys → (key < start) ⊎ (has key keys ≡ true) → not (nat_lt key start) ≡ has key keys
 in_last start key keys up (inl less) =
@@ -337,11 +352,11 @@ cut_pieces objects calls parts some cut =
     let pieces = pieces_are ((length keys + 15) / 16) cut.groups keys 0 objects.set calls parts (omega arith) cut.groups_are (at_all calls some) cut.parts in
     rw (from_0 objects.set, calls_from_0 calls) at pieces
 
-pub starts_not_0 : (calls : List Call) (keys starts : List ℕ) → 0 < length calls → keys ≡ distinct_keys calls → AreStarts ((length keys + 15) / 16) keys starts → AllByRecursion (λ start. 0 < start) starts
-starts_not_0 calls keys starts some is are =
+pub starts_ascend : (calls : List Call) (keys starts : List ℕ) → 0 < length calls → keys ≡ distinct_keys calls → AreStarts ((length keys + 15) / 16) keys starts → StrictlyAscends starts
+starts_ascend calls keys starts some is are =
     let are' = rw is at are in
     let some' = some_key calls some in
-    starts_above ((length (distinct_keys calls) + 15) / 16) (distinct_keys calls) starts (omega arith) (keys_ascend [] calls tt) are'
+    starts_up ((length (distinct_keys calls) + 15) / 16) (distinct_keys calls) starts (omega arith) (keys_ascend [] calls tt) are'
 
 -- how a batch was opened, by what the code tells of it
 pub remembered : (set : List ℕ) (calls : List Call) (keys starts : List ℕ) (parts : List Part) (rest : Groups) → StrictlyAscends set → AreOneBatch calls → AreOf IsOfTree calls → keys ≡ distinct_keys calls

@@ -7,7 +7,7 @@ use Rattle.batched_tree.specs.Keys.{below, from, calls_below, calls_from}
 
 -- a piece that has these keys and calls, and the least key beyond its range
 pub record IsPiece (keys : List ℕ) (calls : List Call) (beyond : Option ℕ) (part : Part) : Type 0 where
-  pub keys_are : part.tree ≡ keys
+  pub keys_are : part.row ≡ keys
   pub calls_are : part.calls.items ≡ calls
   pub beyond_is : part.beyond ≡ beyond
 

@@ -17,9 +17,9 @@ replies_of outs = map (λ served. served.replies.items) outs
 -- the keys of all pieces, in their order
 abbrev pub joined : List Served → List ℕ
 joined [] = []
-joined (served ∷ outs) = served.tree ++ joined outs
+joined (served ∷ outs) = served.row ++ joined outs
 
 -- the keys of each piece are above a set's and above those of the pieces before it
 abbrev pub CanJoin : List ℕ → List Served → Type 0
 CanJoin set [] = ⊤
-CanJoin set (served ∷ outs) = AllBelow set served.tree × CanJoin (set ++ served.tree) outs
+CanJoin set (served ∷ outs) = AllBelow set served.row × CanJoin (set ++ served.row) outs

@@ -18,7 +18,7 @@ use Rattle.batched_tree.specs.Replies.{replies_within}
 -- the part of a group: the keys of the set in its range, the calls whose keys are in the group, and the least
 -- key of the set beyond the range, if there is one
 pub record IsPart (set : List ℕ) (calls : List Call) (group : List ℕ) (start : ℕ) (end : Option ℕ) (part : Part) : Type 0 where
-  pub keys_are : part.tree ≡ filter (is_in start end) set
+  pub keys_are : part.row ≡ filter (is_in start end) set
   pub calls_are : part.calls.items ≡ filter (λ call. has (key_of call) group) calls
   pub beyond_is : part.beyond ≡ least_beyond end set
 
@@ -37,8 +37,8 @@ pub record Cut (objects : Objects) (calls : List Call) (ins : List Part) : Type 
 
 -- the out has the keys after the calls, and the replies to them
 pub record Meets (part : Part) (served : Served) : Type 0 where
-  pub keys : served.tree ≡ (after_all (of_set part.tree) part.calls.items).set
-  pub replies : served.replies.items ≡ replies_within part.beyond (of_set part.tree) part.calls.items
+  pub keys : served.row ≡ (after_all (of_set part.row) part.calls.items).set
+  pub replies : served.replies.items ≡ replies_within part.beyond (of_set part.row) part.calls.items
 
 -- all calls are of the tree
 abbrev pub MayServe : Objects → List Call → Type 0

@@ -7,7 +7,7 @@ use crate::part::Served;
 use seq_objects::Reply;
 use std::alloc::{AllocError, Global};
 use std::marker::Model;
-use tree23::Tree23;
+use tree23::{Row, Spares, Tree23};
 
 /// The replies of a piece that are left. Contracts see them as a list.
 #[derive(Drop)]
@@ -46,18 +46,30 @@ impl Replies {
     }
 }
 
-/// The tree of all subtrees, and the replies of each piece.
-pub(crate) fn joined(alloc: Global, outs: Vec<Served>) -> Result<(Tree23, Vec<Replies>), AllocError>
+/// The tree of all rows, and the replies of each piece.
+pub(crate) fn joined(
+    alloc: Global,
+    outs: Vec<Served>,
+    spares: &mut Spares,
+) -> Result<(Tree23, Vec<Replies>), AllocError>
     requires { CanJoin [] outs.items }
     ensures keys { IfOk result (λ p. p.0 ≡ joined outs.items) }
     ensures replies { IfOk result (λ p. p.1.items ≡ replies_of outs.items) }
 {
-    let mut tree = Tree23::new(alloc);
     let mut replies = Vec::with_capacity(alloc, outs.len())?;
-    for served in outs {
-        tree = Tree23::concat(tree, served.tree)?;
+    let mut pieces = outs.into_iter();
+    let mut row = match pieces.next() {
+        Some(first) => {
+            replies.push(Replies::new(first.replies))?;
+            first.row
+        }
+        None => Row::new(alloc),
+    };
+    for served in pieces {
+        row.append(served.row, spares)?;
         replies.push(Replies::new(served.replies))?;
     }
+    let tree = row.into_tree(spares)?;
     Ok((tree, replies))
 }
 

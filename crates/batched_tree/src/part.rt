@@ -4,26 +4,28 @@ ghost use Rattle.std.specs.List.{list_all};
 ghost use Rattle.batched_tree.specs.Keys.{is_of_tree};
 
 use seq_objects::{Call, Reply};
-use tree23::Tree23;
+use tree23::{Row, Spares};
 
-/// A subtree, the calls whose keys are in its range, and the least key of the whole tree beyond that range.
+/// A row of subtrees, the calls whose keys are in its range, and the least key of the whole tree beyond that range.
 #[derive(Drop)]
 pub struct Part {
-    pub tree: Tree23,
+    pub row: Row,
     pub calls: Vec<Call>,
     pub beyond: Option<u32>,
     ghost of_tree: { list_all (λ call. is_of_tree call.op) calls.items ≡ true },
 }
 
-/// The subtree after the calls, and the replies to them.
+/// The row after the calls, and the replies to them.
 #[derive(Drop)]
 pub struct Served {
-    pub tree: Tree23,
+    pub row: Row,
     pub replies: Vec<Reply>,
 }
 
-/// What is kept while the pieces of a batch are worked on: the number of the group of each call.
+/// What is kept while the pieces of a batch are worked on: the number of the group of each call, and the boxes that
+/// came free at the cuts.
 #[derive(Drop)]
 pub struct Groups {
     pub groups: Vec<usize>,
+    pub spares: Spares,
 }

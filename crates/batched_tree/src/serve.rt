@@ -1,4 +1,4 @@
-//! What a piece does: it serves its calls on its subtree, one after another.
+//! What a piece does: it serves its calls on its row, one after another.
 ghost use Rattle.std.specs.Prelude.{◌≡◌, true, IfOk, OnOk};
 ghost use Rattle.seq_objects.specs.Objects.{after, reply_to, number_or_empty, yes_or_no};
 ghost use Rattle.seq_objects.specs.Serial.{of_set};
@@ -9,7 +9,7 @@ ghost use Rattle.batched_tree.specs.Pieces.{Meets};
 use crate::part::{Part, Served};
 use seq_objects::{Op, Reply};
 use std::alloc::{AllocError, Global};
-use tree23::Tree23;
+use tree23::Row;
 
 fn number_or_empty(number: Option<u32>) -> Reply
     ensures { result ≡ number_or_empty number }
@@ -26,17 +26,17 @@ fn yes_or_no(yes: bool) -> Reply
     if yes { Reply::Yes } else { Reply::No }
 }
 
-/// Serves one operation on a subtree, where a key of the whole tree is the least beyond its range.
-fn serve_one(tree: &mut Tree23, beyond: Option<u32>, op: Op) -> Result<Reply, AllocError>
+/// Serves one operation on a row, where a key of the whole tree is the least beyond its range.
+fn serve_one(row: &mut Row, beyond: Option<u32>, op: Op) -> Result<Reply, AllocError>
     requires { is_of_tree op ≡ true }
-    ensures reply { IfOk result (λ reply. reply ≡ reply_within beyond op (reply_to (of_set tree.old) op)) }
-    ensures after { OnOk result (of_set tree.new ≡ after (of_set tree.old) op) }
+    ensures reply { IfOk result (λ reply. reply ≡ reply_within beyond op (reply_to (of_set row.old) op)) }
+    ensures after { OnOk result (of_set row.new ≡ after (of_set row.old) op) }
 {
     let reply = match op {
-        Op::TreeInsert(key) => yes_or_no(tree.insert(key)?),
-        Op::TreeRemove(key) => yes_or_no(tree.remove(key)),
-        Op::TreeFind(key) => yes_or_no(tree.find(key)),
-        Op::TreeNext(key) => number_or_empty(tree.next(key).or(beyond)),
+        Op::TreeInsert(key) => yes_or_no(row.insert(key)?),
+        Op::TreeRemove(key) => yes_or_no(row.remove(key)),
+        Op::TreeFind(key) => yes_or_no(row.find(key)),
+        Op::TreeNext(key) => number_or_empty(row.next(key).or(beyond)),
         _ => Reply::Empty,
     };
     Ok(reply)
@@ -48,10 +48,10 @@ pub(crate) fn served(alloc: Global, part: Part) -> Result<Served, AllocError>
 {
     let beyond = part.beyond;
     let calls = part.calls;
-    let mut tree = part.tree;
+    let mut row = part.row;
     let mut replies = Vec::with_capacity(alloc, calls.len())?;
     for call in &calls {
-        replies.push(serve_one(&mut tree, beyond, call.op)?)?;
+        replies.push(serve_one(&mut row, beyond, call.op)?)?;
     }
-    Ok(Served { tree, replies })
+    Ok(Served { row, replies })
 }

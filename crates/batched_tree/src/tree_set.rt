@@ -14,12 +14,13 @@ use crate::serve::served;
 use seq_objects::{Batched, Call, Reply};
 use std::alloc::{AllocError, Global};
 use std::marker::Model;
-use tree23::Tree23;
+use tree23::{Spares, Tree23};
 
 /// A set of numbers. Contracts see it as the list of its keys, which strictly ascends.
 #[derive(Drop)]
 pub struct TreeSet {
     tree: Tree23,
+    spares: Spares,
 }
 
 impl Model for TreeSet {
@@ -38,6 +39,7 @@ impl TreeSet {
     {
         Ok(TreeSet {
             tree: Tree23::new(alloc),
+            spares: Spares::new(alloc),
         })
     }
 
@@ -75,8 +77,9 @@ impl Batched for TreeSet {
         let keys = keys_of(alloc, calls)?;
         let starts = starts_of(alloc, &keys)?;
         let groups = groups_of(alloc, &starts, calls)?;
-        let parts = parts_of(alloc, self.tree, &starts, calls, &groups)?;
-        Ok((Groups { groups }, parts))
+        let mut spares = self.spares;
+        let parts = parts_of(alloc, self.tree, &starts, calls, &groups, &mut spares)?;
+        Ok((Groups { groups, spares }, parts))
     }
 
     fn piece(alloc: Global, input: Part) -> Result<Served, AllocError> {
@@ -92,8 +95,9 @@ impl Batched for TreeSet {
         ensures replies { IfOk result (λ p. (o : Opening (List ℕ) PartOf) → Remembers rest o → AllMeet Meets o.ins outs.items → p.1.items ≡ replies_to_all (of_set o.before) o.calls) }
         ensures content { IfOk result (λ p. (o : Opening (List ℕ) PartOf) → Remembers rest o → AllMeet Meets o.ins outs.items → of_set p.0 ≡ after_all (of_set o.before) o.calls) }
     {
-        let (tree, pieces) = joined(alloc, outs)?;
+        let mut spares = rest.spares;
+        let (tree, pieces) = joined(alloc, outs, &mut spares)?;
         let replies = merged(alloc, &rest.groups, pieces)?;
-        Ok((TreeSet { tree }, replies))
+        Ok((TreeSet { tree, spares }, replies))
     }
 }

@@ -81,7 +81,7 @@ pub fn serve_batch<T: Batched>(
     ensures content { IfOk result (λ p. T.content p.0 ≡ after_all (T.content structure) calls.now) }
 {
     let (rest, ins) = structure.begin(alloc, calls)?;
-    let mut outs = Vec::new(alloc);
+    let mut outs = Vec::with_capacity(alloc, ins.len())?;
     for input in ins {
         outs.push(T::piece(alloc, input)?)?;
     }

@@ -1,4 +1,4 @@
--- The pieces of a batch: a part of the tree and of the calls for each group of the calls' keys.
+-- The pieces of a batch: a part of the set and of the calls for each group of the calls' keys.
 use Rattle.std.specs.Prelude.{◌≡◌, ℕ, ◌+◌, ◌/◌, List, [], ◌∷◌, length, filter, map}
 use Rattle.std.specs.declared.option.Option.{Option}
 use Rattle.std.specs.Option.{unwrap_or}

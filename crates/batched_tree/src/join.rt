@@ -4,10 +4,11 @@ ghost use Rattle.std.specs.List.{AllByRecursion};
 ghost use Rattle.batched_tree.specs.Joined.{merged, replies_of, joined, CanJoin};
 
 use crate::part::Served;
+use crate::reserve::Reserve;
 use seq_objects::Reply;
 use std::alloc::{AllocError, Global};
 use std::marker::Model;
-use tree23::{Row, Spares, Tree23};
+use tree23::Row;
 
 /// The replies of a piece that are left. Contracts see them as a list.
 #[derive(Drop)]
@@ -46,12 +47,12 @@ impl Replies {
     }
 }
 
-/// The tree of all rows, and the replies of each piece.
+/// The rows as one, and the replies of each piece.
 pub(crate) fn joined(
     alloc: Global,
     outs: Vec<Served>,
-    spares: &mut Spares,
-) -> Result<(Tree23, Vec<Replies>), AllocError>
+    reserve: &mut Reserve,
+) -> Result<(Row, Vec<Replies>), AllocError>
     requires { CanJoin [] outs.items }
     ensures keys { IfOk result (λ p. p.0 ≡ joined outs.items) }
     ensures replies { IfOk result (λ p. p.1.items ≡ replies_of outs.items) }
@@ -61,16 +62,18 @@ pub(crate) fn joined(
     let mut row = match pieces.next() {
         Some(first) => {
             replies.push(Replies::new(first.replies))?;
+            reserve.keep_calls(first.calls);
             first.row
         }
         None => Row::new(alloc),
     };
     for served in pieces {
-        row.append(served.row, spares)?;
+        row.append(served.row, &mut reserve.spares)?;
         replies.push(Replies::new(served.replies))?;
+        reserve.keep_calls(served.calls);
     }
-    let tree = row.into_tree(spares)?;
-    Ok((tree, replies))
+    row.gather(&mut reserve.spares)?;
+    Ok((row, replies))
 }
 
 /// The replies in the order of the calls, whose groups are given.
@@ -78,6 +81,7 @@ pub(crate) fn merged(
     alloc: Global,
     groups: &[usize],
     pieces: Vec<Replies>,
+    reserve: &mut Reserve,
 ) -> Result<Vec<Reply>, AllocError>
     requires { AllByRecursion (λ group. group < length pieces.items) groups.now }
     ensures { IfOk result (λ v. v.items ≡ merged groups.now pieces.items) }
@@ -87,6 +91,9 @@ pub(crate) fn merged(
     for group in groups {
         let next = left[*group].next();
         replies.push(next.unwrap_or(Reply::Empty))?;
+    }
+    for piece in left {
+        reserve.keep_replies(piece.all);
     }
     Ok(replies)
 }

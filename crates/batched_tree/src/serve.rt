@@ -8,7 +8,7 @@ ghost use Rattle.batched_tree.specs.Pieces.{Meets};
 
 use crate::part::{Part, Served};
 use seq_objects::{Op, Reply};
-use std::alloc::{AllocError, Global};
+use std::alloc::AllocError;
 use tree23::Row;
 
 fn number_or_empty(number: Option<u32>) -> Reply
@@ -26,7 +26,7 @@ fn yes_or_no(yes: bool) -> Reply
     if yes { Reply::Yes } else { Reply::No }
 }
 
-/// Serves one operation on a row, where a key of the whole tree is the least beyond its range.
+/// Serves one operation on a row, where a key of the whole set is the least beyond its range.
 fn serve_one(row: &mut Row, beyond: Option<u32>, op: Op) -> Result<Reply, AllocError>
     requires { is_of_tree op ≡ true }
     ensures reply { IfOk result (λ reply. reply ≡ reply_within beyond op (reply_to (of_set row.old) op)) }
@@ -43,15 +43,20 @@ fn serve_one(row: &mut Row, beyond: Option<u32>, op: Op) -> Result<Reply, AllocE
 }
 
 /// Serves the calls of a piece.
-pub(crate) fn served(alloc: Global, part: Part) -> Result<Served, AllocError>
+pub(crate) fn served(part: Part) -> Result<Served, AllocError>
     ensures { IfOk result (λ served. Meets part served) }
 {
     let beyond = part.beyond;
     let calls = part.calls;
     let mut row = part.row;
-    let mut replies = Vec::with_capacity(alloc, calls.len())?;
+    let mut replies = part.replies;
+    replies.clear();
     for call in &calls {
         replies.push(serve_one(&mut row, beyond, call.op)?)?;
     }
-    Ok(Served { row, replies })
+    Ok(Served {
+        row,
+        replies,
+        calls,
+    })
 }

@@ -1,4 +1,4 @@
-//! The tree.
+//! The set.
 ghost use Rattle.std.specs.Prelude.{◌≡◌, ℕ, [], List, IfOk, IsOk};
 ghost use Rattle.seq_objects.specs.Orders.{StrictlyAscends};
 ghost use Rattle.seq_objects.specs.Serial.{replies_to_all, after_all, of_set};
@@ -10,17 +10,18 @@ use crate::cut::parts_of;
 use crate::groups::{groups_of, keys_of, starts_of};
 use crate::join::{joined, merged};
 use crate::part::{Groups, Part, Served};
+use crate::reserve::Reserve;
 use crate::serve::served;
 use seq_objects::{Batched, Call, Reply};
 use std::alloc::{AllocError, Global};
 use std::marker::Model;
-use tree23::{Spares, Tree23};
+use tree23::Row;
 
 /// A set of numbers. Contracts see it as the list of its keys, which strictly ascends.
 #[derive(Drop)]
 pub struct TreeSet {
-    tree: Tree23,
-    spares: Spares,
+    row: Row,
+    reserve: Reserve,
 }
 
 impl Model for TreeSet {
@@ -28,7 +29,7 @@ impl Model for TreeSet {
 
     ghost Value = { List ℕ };
 
-    ghost view = { λ s. s.tree };
+    ghost view = { λ s. s.row };
 }
 
 impl TreeSet {
@@ -38,8 +39,8 @@ impl TreeSet {
         ensures sure { IsOk result }
     {
         Ok(TreeSet {
-            tree: Tree23::new(alloc),
-            spares: Spares::new(alloc),
+            row: Row::new(alloc),
+            reserve: Reserve::new(alloc),
         })
     }
 
@@ -47,7 +48,7 @@ impl TreeSet {
     pub fn keys_ascend(&self)
         ensures { StrictlyAscends self.now }
     {
-        self.tree.keys_ascend();
+        self.row.keys_ascend();
     }
 }
 
@@ -73,17 +74,17 @@ impl Batched for TreeSet {
     ghost remembers = { Remembers };
 
     fn begin(self, alloc: Global, calls: &[Call]) -> Result<(Groups, Vec<Part>), AllocError> {
-        self.tree.keys_ascend();
+        self.row.keys_ascend();
         let keys = keys_of(alloc, calls)?;
         let starts = starts_of(alloc, &keys)?;
         let groups = groups_of(alloc, &starts, calls)?;
-        let mut spares = self.spares;
-        let parts = parts_of(alloc, self.tree, &starts, calls, &groups, &mut spares)?;
-        Ok((Groups { groups, spares }, parts))
+        let mut reserve = self.reserve;
+        let parts = parts_of(alloc, self.row, &starts, calls, &groups, &mut reserve)?;
+        Ok((Groups { groups, reserve }, parts))
     }
 
-    fn piece(alloc: Global, input: Part) -> Result<Served, AllocError> {
-        served(alloc, input)
+    fn piece(_alloc: Global, input: Part) -> Result<Served, AllocError> {
+        served(input)
     }
 
     fn end(
@@ -95,9 +96,9 @@ impl Batched for TreeSet {
         ensures replies { IfOk result (λ p. (o : Opening (List ℕ) PartOf) → Remembers rest o → AllMeet Meets o.ins outs.items → p.1.items ≡ replies_to_all (of_set o.before) o.calls) }
         ensures content { IfOk result (λ p. (o : Opening (List ℕ) PartOf) → Remembers rest o → AllMeet Meets o.ins outs.items → of_set p.0 ≡ after_all (of_set o.before) o.calls) }
     {
-        let mut spares = rest.spares;
-        let (tree, pieces) = joined(alloc, outs, &mut spares)?;
-        let replies = merged(alloc, &rest.groups, pieces)?;
-        Ok((TreeSet { tree, spares }, replies))
+        let mut reserve = rest.reserve;
+        let (row, pieces) = joined(alloc, outs, &mut reserve)?;
+        let replies = merged(alloc, &rest.groups, pieces, &mut reserve)?;
+        Ok((TreeSet { row, reserve }, replies))
     }
 }

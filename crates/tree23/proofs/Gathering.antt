@@ -1,9 +1,11 @@
 -- Entries put together, one after another: the keys of all that is in hand stay what they were.
-use Rattle.std.proofs.Common.{◌≡◌, ℕ, ◌+◌, ◌<◌, ◌^◌, List, ◌∷◌, ◌++◌, length, sym, ap, ◌∙◌, append_assoc, arith, length-append}
+use Rattle.std.proofs.Common.{◌≡◌, ℕ, ◌+◌, ◌<◌, ◌^◌, List, [], ◌∷◌, ◌++◌, length, reverse, sym, ap, ◌∙◌, append_assoc, arith, length-append}
 use Rattle.std.specs.Prelude.{Result, Ok, Err, OnOk}
 use Rattle.tree23.specs.declared.forest.Entry.{Entry}
 use Rattle.tree23.specs.Nodes.{keys}
 use Rattle.tree23.specs.Rows.{behind}
+use Rattle.tree23.proofs.Entries.{behind_push}
+use Rattle.tree23.proofs.Turning.{turned}
 
 -- two entries came off, and one of both went back
 pub together : (old others rest new : List Entry) (low high : Entry) → behind old ≡ behind others ++ high.key ∷ keys high.part.tree → behind others ≡ behind rest ++ low.key ∷ keys low.part.tree
@@ -19,9 +21,6 @@ gone_before front others old high part m k is = rw is (simp append_assoc)
 pub in_hand : (front back part whole added : List ℕ) (k j : ℕ) → (front ++ back) ++ k ∷ part ≡ whole ++ j ∷ added → length whole + length added < 2 ^ 61 → length back + length part < 2 ^ 61
 in_hand front back part whole added k j is fits = omega (arith, ap length is, length-append (front ++ back) (k ∷ part), length-append front back, length-append whole (j ∷ added), fits)
 
-pub among : (front back whole : List ℕ) → front ++ back ≡ whole → length whole < 2 ^ 62 → length back < 2 ^ 62
-among front back whole is fits = omega (arith, ap length is, length-append front back, fits)
-
 -- a list that is known where nothing failed
 pub row_known : {A E : Type 0} (result : Result A E) (row known other : List ℕ) → OnOk result (row ≡ known) → known ≡ other → OnOk result (row ≡ other)
 row_known (Ok v) row known other is is' = is ∙ is'
@@ -35,3 +34,11 @@ behind_last front old new rest last more is is' = ap (λ z. front ++ z) (is' ∙
 pub still_fits : (low a b : List ℕ) (e : Entry) (all rest : List Entry) → all ≡ e ∷ rest → low ++ behind all ≡ a ++ b → length a + length b < 2 ^ 61 → length low + length (keys e.part.tree) < 2 ^ 61
 still_fits low a b e all rest is is' fits =
     omega (arith, ap length is', length-append low (behind all), ap (λ z. length (behind z)) is, length-append (keys e.part.tree) (behind rest), length-append a b, fits)
+
+-- an entry goes over from the end of those that stand from the last to the first
+pub gone_over : (row row' new entries left : List Entry) (e : Entry) → behind row' ≡ behind row → new ≡ row' ++ e ∷ [] → entries ≡ left ++ e ∷ []
+    → behind new ++ behind (reverse left) ≡ behind row ++ behind (reverse entries)
+gone_over row row' new entries left e same put taken =
+    ap (λ z. z ++ behind (reverse left)) (ap behind put ∙ behind_push row' e ∙ ap (λ z. z ++ e.key ∷ keys e.part.tree) same)
+    ∙ append_assoc (behind row) (e.key ∷ keys e.part.tree) (behind (reverse left))
+    ∙ ap (λ z. behind row ++ behind z) (sym (turned entries left e taken))

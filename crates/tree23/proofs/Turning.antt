@@ -1,29 +1,10 @@
 -- Entries that stand from the last to the first, and the first of them.
-use Rattle.std.proofs.Common.{◌≡◌, ℕ, ◌-◌, List, [], ◌∷◌, ◌++◌, length, reverse, Some, None, Option, refl, sym, ap, ◌∙◌, subst, append_assoc, append-nil, arith, length-append}
+use Rattle.std.proofs.Common.{◌≡◌, ℕ, ◌-◌, List, [], ◌∷◌, ◌++◌, length, reverse, Some, None, Option, refl, sym, ap, ◌∙◌, subst, arith, length-append}
 use Rattle.std.specs.Prelude.{slice_get}
 use Rattle.std.proofs.lemmas.List.{reverse-append, reverse-reverse}
 use Rattle.tree23.specs.declared.forest.Entry.{Entry}
 use Rattle.tree23.specs.Rows.{behind, AreEntries}
-use Rattle.tree23.proofs.Entries.{entries_front, entries_last, entries_push}
-
--- the last entry goes over to the end of others
-pub turn_one : (row entries left row' whole : List Entry) (e : Entry) → row ++ reverse entries ≡ whole → entries ≡ left ++ e ∷ [] → row' ≡ row ++ e ∷ [] → row' ++ reverse left ≡ whole
-turn_one row entries left row' whole e is taken put =
-    ap (λ z. z ++ reverse left) put ∙ append_assoc row (e ∷ []) (reverse left) ∙ ap (λ z. row ++ z) (sym (reverse-append left (e ∷ []))) ∙ ap (λ z. row ++ reverse z) (sym taken) ∙ is
-
-pub turned_put : (row entries left row' : List Entry) (e : Entry) → AreEntries row → AreEntries entries → entries ≡ left ++ e ∷ [] → row' ≡ row ++ e ∷ [] → AreEntries row'
-turned_put row entries left row' e each each' taken put = rw put (entries_push row e each (entries_last left e (subst AreEntries taken each')))
-
-pub turned_left : (entries left : List Entry) (e : Entry) → AreEntries entries → entries ≡ left ++ e ∷ [] → AreEntries left
-turned_left entries left e each taken = entries_front left (e ∷ []) (subst AreEntries taken each)
-
--- all have gone over
-none_of : (entries : List Entry) → length entries ≡ 0 → entries ≡ []
-none_of [] none = refl
-none_of (e ∷ entries) none = absurd (omega (arith, none))
-
-pub turn_all : (row entries whole : List Entry) → row ++ reverse entries ≡ whole → length entries ≡ 0 → row ≡ whole
-turn_all row entries whole is none = sym (append-nil row) ∙ ap (λ z. row ++ reverse z) (sym (none_of entries none)) ∙ is
+use Rattle.tree23.proofs.Entries.{entries_push}
 
 -- entries turned around
 pub turned : (entries left : List Entry) (e : Entry) → entries ≡ left ++ e ∷ [] → reverse entries ≡ e ∷ reverse left

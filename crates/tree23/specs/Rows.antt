@@ -1,4 +1,4 @@
--- Forest in a row, with a key between each two.
+-- Trees in a row, with a key between each two.
 use Rattle.std.specs.Prelude.{◌≡◌, ℕ, ◌<◌, ◌≤◌, ◌^◌, List, [], ◌∷◌, ◌++◌, take, drop, length, reverse, Some, None, Bool, true, false, ⊤}
 use Rattle.std.specs.declared.option.Option.{Option}
 use Rattle.std.specs.List.{AllByRecursion}

@@ -1,11 +1,12 @@
-//! Trees in a row put together: two or three of a depth become one of the next.
+//! Rows put together: where a higher tree comes behind lower ones, these become one, or part of it. Where a row has too
+//! many trees, each three of a depth that stand side by side become one.
 ghost use Rattle.std.specs.Prelude.{◌≡◌, ◌+◌, ◌<◌, ◌^◌, ◌≤◌, ◌++◌, ◌∷◌, true, None, length, IfOk, IfSome, OnOk};
 ghost use Rattle.tree23.specs.Nodes.{keys, depth, IsTree, IsBottom, IsPart};
 ghost use Rattle.tree23.specs.Rows.{behind, in_row, if_melted, IsForest, AreEntries, CanStand, IsTakenOff};
 
 use crate::block::ROOM;
 use crate::forest::{Entry, Forest};
-use crate::join::{put_before, put_behind};
+use crate::join::put_before;
 use crate::node::{Part, Tree, three, two};
 use crate::remove::{lower, pop_first};
 use crate::spares::Spares;
@@ -103,7 +104,6 @@ fn add(
             }
         }
     }
-    make_room(alloc, &mut forest.entries, part.levels, spares)?;
     forest.push(key, part.tree, part.levels)
 }
 
@@ -235,28 +235,23 @@ pub fn append(
     Ok(())
 }
 
-/// All trees as one.
-pub fn gather(alloc: Global, forest: Forest, spares: &mut Spares) -> Result<Part, AllocError>
+/// Makes one of each three trees of a depth that stand side by side.
+pub fn gather(alloc: Global, forest: Forest, spares: &mut Spares) -> Result<Forest, AllocError>
     requires forest { IsForest forest }
     requires fits { length (in_row forest) < 2 ^ 62 }
-    ensures part { IfOk result (λ part. IsPart part) }
-    ensures keys { IfOk result (λ part. keys part.tree ≡ in_row forest) }
+    ensures forest { IfOk result (λ gathered. IsForest gathered) }
+    ensures keys { IfOk result (λ gathered. in_row gathered ≡ in_row forest) }
 {
-    let Forest {
-        mut front,
-        mut entries,
-    } = forest;
-    while let Some(high) = entries.pop() {
-        match pop_equal(&mut entries, high.part.levels) {
-            Some(low) => put_together(alloc, &mut entries, low, high, spares)?,
-            None => match entries.pop() {
-                Some(mut low) => {
-                    put_behind(alloc, &mut low.part, high.key, high.part, spares)?;
-                    entries.push(low)?;
-                }
-                None => put_behind(alloc, &mut front, high.key, high.part, spares)?,
-            },
-        }
+    let Forest { front, mut entries } = forest;
+    let mut gathered = spares.take_row()?;
+    entries.reverse();
+    while let Some(entry) = entries.pop() {
+        make_room(alloc, &mut gathered, entry.part.levels, spares)?;
+        gathered.push(entry)?;
     }
-    Ok(front)
+    spares.keep_row(entries);
+    Ok(Forest {
+        front,
+        entries: gathered,
+    })
 }

@@ -3,8 +3,11 @@
 //!
 //! Contracts see the tree as the list of its keys, which strictly ascends, and each call is exact on that
 //! list. A tree of depth d holds at least 2 ^ d - 1 keys, also after a cut and after two trees are put
-//! together, for which whole subtrees move. Where a tree is cut at many keys at once, `Rest` gives the parts as
-//! rows of its subtrees, which have the same calls and become one tree again. The crate stands on nothing but std.
+//! together, for which whole subtrees move.
+//!
+//! A `Row` is a set as several such trees side by side, for sets that are cut at many keys at once and put together
+//! again. Keys are put in, taken out and looked up as in a tree; `Rest` gives the parts of a row below one key after
+//! another; and a part is put behind another. The crate stands on nothing but std.
 #![tactic(auto)]
 
 mod block;

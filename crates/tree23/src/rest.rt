@@ -1,4 +1,4 @@
-//! What is left of a tree while its keys are taken off from the least on.
+//! What is left of a row while its keys are taken off from the least on.
 ghost use Rattle.std.specs.Prelude.{◌≡◌, ◌<◌, ◌≤◌, List, [], ◌∷◌, ◌++◌, slice_get, None, IfOk, IfSome};
 ghost use Rattle.tree23.specs.declared.forest.Entry.{Entry as EntryOf};
 ghost use Rattle.tree23.specs.Keys.{StrictlyAscends};
@@ -12,7 +12,6 @@ use crate::look::first_in;
 use crate::node::Part;
 use crate::row::Row;
 use crate::spares::Spares;
-use crate::tree::Tree23;
 use std::alloc::{AllocError, Global};
 use std::marker::Model;
 use std::mem;
@@ -37,13 +36,13 @@ impl Model for Rest {
 }
 
 impl Rest {
-    /// The keys of a tree. It takes no memory.
-    pub fn new(tree: Tree23) -> Rest
-        ensures { result ≡ tree }
+    /// The keys of a row. It takes no memory.
+    pub fn new(row: Row) -> Rest
+        ensures { result ≡ row }
     {
-        let front = tree.root;
-        let alloc = tree.alloc;
-        let entries = Vec::new(alloc);
+        let alloc = row.alloc;
+        let Forest { front, mut entries } = row.forest;
+        entries.reverse();
         Rest {
             forest: Forest { front, entries },
             alloc,
@@ -63,7 +62,8 @@ impl Rest {
         }
     }
 
-    /// Takes off the keys below `key`. The subtrees beside the way to the key move whole.
+    /// Takes off the keys below `key`. The subtrees beside the way to the key move whole. Without memory all keys are
+    /// lost.
     pub fn take_below(&mut self, key: u32, spares: &mut Spares) -> Result<Row, AllocError>
         ensures { IfOk result (λ row. IsSplit key self.old row self.new) }
     {
@@ -76,23 +76,14 @@ impl Rest {
         Ok(Row::of(low, alloc))
     }
 
-    /// All that is left, as a row.
-    pub fn into_row(self) -> Result<Row, AllocError>
-        ensures { IfOk result (λ row. row ≡ self) }
+    /// All that is left, as a row. It takes no memory.
+    pub fn into_row(self) -> Row
+        ensures { result ≡ self }
     {
         let alloc = self.alloc;
         let Forest { front, mut entries } = self.forest;
-        let mut row = Vec::with_capacity(alloc, entries.len())?;
-        while let Some(entry) = entries.pop() {
-            row.push(entry)?;
-        }
-        Ok(Row::of(
-            Forest {
-                front,
-                entries: row,
-            },
-            alloc,
-        ))
+        entries.reverse();
+        Row::of(Forest { front, entries }, alloc)
     }
 }
 

@@ -1,4 +1,4 @@
-//! A part of a set, as a row of trees: cheap to cut off and to put behind another, and with the calls of a tree.
+//! A set as a row of trees: cheap to cut at many keys, and to put together again.
 ghost use Rattle.std.specs.Prelude.{◌≡◌, ◌<◌, ◌^◌, [], ◌++◌, not, IfOk, OnOk, OnErr};
 ghost use Rattle.std.specs.List.{AllByRecursion};
 ghost use Rattle.tree23.specs.Keys.{StrictlyAscends, AllBelow, with_key, has, without_key, least_above};
@@ -8,16 +8,18 @@ use crate::forest::Forest;
 use crate::gather::{append, gather};
 use crate::row_calls::{find_in_row, insert_in_row, next_in_row, remove_in_row};
 use crate::spares::Spares;
-use crate::tree::Tree23;
 use std::alloc::{AllocError, Global};
 use std::marker::Model;
 use std::mem;
 
+/// How many trees behind keys a row may have before they are gathered.
+const MANY: usize = 64;
+
 /// A set of numbers, as a row of balanced trees. Contracts see it as the list of its keys, which strictly ascends.
 #[derive(Drop)]
 pub struct Row {
-    forest: Forest,
-    alloc: Global,
+    pub(crate) forest: Forest,
+    pub(crate) alloc: Global,
 }
 
 impl Model for Row {
@@ -105,13 +107,17 @@ impl Row {
         Ok(())
     }
 
-    /// The keys as one tree.
+    /// Makes one of each three trees of a depth that stand side by side, where there are many trees. Without memory
+    /// keys are lost.
     #[tactic(auto, using(crate::proofs::KeySets::key_set_length))]
-    pub fn into_tree(self, spares: &mut Spares) -> Result<Tree23, AllocError>
-        ensures { IfOk result (λ tree. tree ≡ self) }
+    pub fn gather(&mut self, spares: &mut Spares) -> Result<(), AllocError>
+        ensures { OnOk result (self.new ≡ self.old) }
     {
-        let alloc = self.alloc;
-        let root = gather(alloc, self.forest, spares)?;
-        Ok(Tree23 { root, alloc })
+        if self.forest.entries.len() > MANY {
+            let alloc = self.alloc;
+            let forest = mem::replace(&mut self.forest, Forest::empty(alloc));
+            self.forest = gather(alloc, forest, spares)?;
+        }
+        Ok(())
     }
 }

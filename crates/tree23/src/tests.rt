@@ -97,20 +97,15 @@ fn cut_and_joined(tree: Tree23, set: &BTreeSet<u32>, key: u32) -> Result<(Tree23
 }
 
 /// Whether a tree has exactly the keys of the set, each found as the next.
-fn same_keys(tree: &Tree23, set: &BTreeSet<u32>) -> bool {
-    let mut last = None;
+fn tree_has_the_keys(tree: &Tree23, set: &BTreeSet<u32>) -> bool {
+    let mut next = if tree.find(0) { Some(0) } else { tree.next(0) };
     for key in set.iter() {
-        let next = match last {
-            Some(before) => tree.next(before),
-            None if tree.find(0) => Some(0),
-            None => tree.next(0),
-        };
         if next != Some(*key) {
             return false;
         }
-        last = Some(*key);
+        next = tree.next(*key);
     }
-    tree.len() == set.len() as u64
+    next == None && tree.len() == set.len() as u64
 }
 
 #[test]
@@ -118,6 +113,9 @@ fn random_calls_answer_as_the_ordered_set(rt: HostRuntime) -> Result<(), Fail> {
     for range in [10, 300, 100000] {
         let mut tree = Tree23::new(rt.alloc());
         let mut set = BTreeSet::new(rt.alloc());
+        for key in 0..range / 5 {
+            assert_eq!(rt; tree.insert(key as u32 * 5)?, set.insert(key as u32 * 5)?);
+        }
         let mut draw = range;
         for turn in 0..6000 {
             draw = next_random(draw);
@@ -132,36 +130,36 @@ fn random_calls_answer_as_the_ordered_set(rt: HostRuntime) -> Result<(), Fail> {
                 tree = joined;
             }
         }
-        assert!(rt; same_keys(&tree, &set), "at the end of {range}");
+        assert!(rt; tree_has_the_keys(&tree, &set), "at the end of {range}");
     }
     Ok(())
 }
 
-/// Takes the row below a key off a tree, puts the rest behind it, makes calls on both as one row, and makes a tree
-/// of it. Whether all answer as the set.
+/// Takes the row below a key off a row, puts the rest behind it, and makes calls on both as one row. Whether all answer
+/// as the set.
 fn row_served(
     alloc: Global,
-    tree: Tree23,
+    row: Row,
     set: &mut BTreeSet<u32>,
     key: u32,
     range: u64,
-) -> Result<(Tree23, bool), Fail>
+) -> Result<(Row, bool), Fail>
     requires { 0 < range }
 {
     let mut spares = Spares::new(alloc);
-    let mut rest = Rest::new(tree);
+    let mut rest = Rest::new(row);
     let mut row = rest.take_below(key, &mut spares)?;
     let mut from = set.range((Bound::Included(key), Bound::Unbounded));
     let mut same = rest.least() == from.next().copied();
     same = same && !row.find(key) && row.next(key) == None;
-    let high = rest.into_row()?;
-    row.append(high, &mut spares)?;
+    row.append(rest.into_row(), &mut spares)?;
+    row.gather(&mut spares)?;
     let mut draw = u64::from(key);
     for _ in 0..8 {
         draw = next_random(draw);
         same = same && same_answer_in_row(&mut row, set, draw, range)?;
     }
-    Ok((row.into_tree(&mut spares)?, same))
+    Ok((row, same))
 }
 
 /// One call on a row and a set, drawn from a number. Whether both answer the same.
@@ -188,24 +186,35 @@ fn same_answer_in_row(
     Ok(same)
 }
 
+/// Whether a row has exactly the keys of the set, each found as the next.
+fn row_has_the_keys(row: &Row, set: &BTreeSet<u32>) -> bool {
+    let mut next = if row.find(0) { Some(0) } else { row.next(0) };
+    for key in set.iter() {
+        if next != Some(*key) {
+            return false;
+        }
+        next = row.next(*key);
+    }
+    next == None
+}
+
 #[test]
 fn rows_answer_as_the_ordered_set(rt: HostRuntime) -> Result<(), Fail> {
     for range in [10, 300, 100000] {
-        let mut tree = Tree23::new(rt.alloc());
+        let mut row = Row::new(rt.alloc());
         let mut set = BTreeSet::new(rt.alloc());
+        for key in 0..range / 5 {
+            assert_eq!(rt; row.insert(key as u32 * 5)?, set.insert(key as u32 * 5)?);
+        }
         let mut draw = range;
         for turn in 0..1500 {
-            for _ in 0..4 {
-                draw = next_random(draw);
-                assert!(rt; same_answer(&mut tree, &mut set, draw, range)?);
-            }
             draw = next_random(draw);
             let key = (draw >> 40) % range;
-            let (made, same) = row_served(rt.alloc(), tree, &mut set, key as u32, range)?;
+            let (served, same) = row_served(rt.alloc(), row, &mut set, key as u32, range)?;
             assert!(rt; same, "at {turn} of {range}");
-            tree = made;
+            row = served;
         }
-        assert!(rt; same_keys(&tree, &set), "at the end of {range}");
+        assert!(rt; row_has_the_keys(&row, &set), "at the end of {range}");
     }
     Ok(())
 }

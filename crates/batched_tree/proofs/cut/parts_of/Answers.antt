@@ -1,11 +1,8 @@
 use Rattle.std.proofs.Common.{◌∙◌, refl, arith}
 use Rattle.std.proofs.lemmas.Grind.{common_steps}
 use Rattle.std.proofs.lemmas.List.{length-set}
-use Rattle.batched_tree.proofs.Dealing.{groups_within, group_less, dealt_more}
+use Rattle.batched_tree.proofs.Dealing.{group_less, dealt_more}
 use Rattle.batched_tree.proofs.cut.parts_of.Goals as goal
-
-pub counts_of-counts-requires : goal.counts_of-counts-requires
-counts_of-counts-requires c = rw c.requires.groups (groups_within 16 c.args.starts.now c.args.calls.now (omega (arith, c.requires.few)))
 
 pub index_mut-requires : goal.index_mut-requires
 index_mut-requires c =
@@ -16,7 +13,7 @@ pub loop-place-preserved : goal.loop-place-preserved
 loop-place-preserved c =
     let at = c.loop-place in
     record {
-      parts = dealt_more c.args.starts.now c.args.tree c.args.calls.now c.args.groups.now at.place _ at.parts.items c.index_mut.result.now _ c.loop-place-test.true c.requires.groups at.invariant.parts c.index_mut.ensures.value (record { row = refl; calls = c.in_ok-push.ensures.items; beyond = refl });
+      parts = dealt_more c.args.starts.now c.args.set c.args.calls.now c.args.groups.now at.place _ at.parts.items c.index_mut.result.now _ c.loop-place-test.true c.requires.groups at.invariant.parts c.index_mut.ensures.value (record { row = refl; calls = c.in_ok-push.ensures.items; beyond = refl });
       count = length-set at.parts.items _ _ ∙ at.invariant.count;
       of_tree = grind (arith, common_steps, at.invariant.of_tree);
     }

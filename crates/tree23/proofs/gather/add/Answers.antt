@@ -74,16 +74,8 @@ loop-high-preserved c =
       keys_are = rw (c.in-None.ensures.taken, c.in_ok-put_before-in-None.ensures.keys) (gone_before _ _ _ _ _ _ _ high.keys_are ∙ c.loop-high.invariant.keys_are);
     }
 
-pub make_room-requires-clause-entries : goal.make_room-requires-clause-entries
-make_room-requires-clause-entries c = rw c.in_default.ensures.taken c.loop-high.invariant.forest.entries_are
-
-pub make_room-requires-clause-fits : goal.make_room-requires-clause-fits
-make_room-requires-clause-fits c =
-    let fits = in_hand _ (behind c.loop-high.forest.entries.items) _ _ _ _ _ c.loop-high.invariant.keys_are c.requires.fits in
-    rw c.in_default.ensures.taken (omega (arith, fits))
-
 pub push-requires-clause-forest : goal.push-requires-clause-forest
-push-requires-clause-forest c = record { front_is = c.loop-high.invariant.forest.front_is; entries_are = c.in_ok-make_room.ensures.entries }
+push-requires-clause-forest c = record { front_is = c.loop-high.invariant.forest.front_is; entries_are = rw c.in_default.ensures.taken c.loop-high.invariant.forest.entries_are }
 
 pub push-requires-clause-tree : goal.push-requires-clause-tree
 push-requires-clause-tree c = c.loop-high.invariant.part.tree_is
@@ -93,5 +85,5 @@ push-requires-clause-levels c = c.loop-high.invariant.part.levels_are
 
 pub returns-clause-keys : goal.returns-clause-keys
 returns-clause-keys c =
-    let same = c.in_ok-make_room.ensures.keys ∙ ap behind c.in_default.ensures.taken in
+    let same = ap behind c.in_default.ensures.taken in
     row_known _ _ _ _ c.push.ensures.row (ap (λ z. (keys c.loop-high.forest.front.tree ++ z) ++ c.loop-high.key ∷ keys c.loop-high.part.tree) same ∙ c.loop-high.invariant.keys_are)

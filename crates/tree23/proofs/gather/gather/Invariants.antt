@@ -1,14 +1,13 @@
-use Rattle.std.proofs.Common.{◌≡◌, ◌++◌, length}
-use Rattle.tree23.specs.Nodes.{keys, IsPart}
-use Rattle.tree23.specs.Rows.{behind, in_row, AreEntries}
+use Rattle.std.proofs.Common.{◌≡◌, ◌++◌, length, reverse}
+use Rattle.tree23.specs.Rows.{behind, AreEntries}
 use Rattle.tree23.proofs.gather.gather.Given as goal
 
-abbrev pub invariant-loop-high : goal.invariant-loop-high
-invariant-loop-high l = record {
-  front : IsPart l.front;
+abbrev pub invariant-loop-entry : goal.invariant-loop-entry
+invariant-loop-entry l = record {
+  gathered : AreEntries l.gathered.items;
   entries : AreEntries l.entries.items;
-  keys_are : keys l.front.tree ++ behind l.entries.items ≡ in_row l.fn.forest;
+  keys_are : behind l.gathered.items ++ behind (reverse l.entries.items) ≡ behind l.fn.forest.entries.items;
 }
 
-abbrev pub decreases-loop-high : goal.decreases-loop-high
-decreases-loop-high l = length l.entries.items
+abbrev pub decreases-loop-entry : goal.decreases-loop-entry
+decreases-loop-entry l = length l.entries.items

@@ -1,4 +1,4 @@
-use Rattle.std.proofs.Common.{◌<◌, ◌∙◌, sym, arith}
+use Rattle.std.proofs.Common.{◌∙◌, sym, arith}
 use Rattle.std.proofs.lemmas.Bool.Decides.{nat_tests}
 use Rattle.tree23.proofs.Ascending.{ascends_front}
 use Rattle.tree23.proofs.RowKeys.{in_entry, ascends_in_entry, has_in_front, has_in_entry, has_entry}

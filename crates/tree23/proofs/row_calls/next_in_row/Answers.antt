@@ -1,4 +1,4 @@
-use Rattle.std.proofs.Common.{◌∙◌, sym, arith}
+use Rattle.std.proofs.Common.{◌∙◌, sym}
 use Rattle.tree23.proofs.Ascending.{ascends_front}
 use Rattle.tree23.proofs.RowKeys.{in_entry, ascends_in_entry, least_in_front, least_in_entry}
 use Rattle.tree23.proofs.row_calls.next_in_row.Goals as goal

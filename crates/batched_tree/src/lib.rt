@@ -19,4 +19,6 @@ pub use part::{Groups, Part, Served};
 pub use tree_set::TreeSet;
 
 #[cfg(test)]
+mod costs;
+#[cfg(test)]
 mod tests;

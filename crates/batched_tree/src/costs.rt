@@ -1,5 +1,5 @@
 //! What 20,000 calls of each kind cost, one at a time and in batches of 32, beside the library's ordered set. What is
-//! tested is that all three answer alike; the times are printed for readers.
+//! tested is that the answers of all three have the same sum; the times are printed for readers.
 
 use crate::TreeSet;
 use crate::tests::{is_batch, put_call};
@@ -122,7 +122,7 @@ fn in_tree(rt: &HostRuntime, tree: &mut Tree23, ops: &[Op]) -> Result<Cost, Fail
     Ok(Cost { time, sum })
 }
 
-/// The sum of replies, where Yes counts as one and all but numbers else as none.
+/// The sum of replies: a number counts as itself, Yes as one, and every other reply as none.
 fn sum_of(replies: &[Reply]) -> u64 {
     let mut sum = 0u64;
     for reply in replies {
@@ -135,7 +135,7 @@ fn sum_of(replies: &[Reply]) -> u64 {
     sum
 }
 
-/// What batches take and answer, where each is one, and the set after them.
+/// The set after batches, and what they take and answer. Calls that are no batch are left out.
 #[tactic(auto, using(crate::proofs::Calls::tree_can_serve))]
 fn in_batches(
     rt: &HostRuntime,

@@ -37,7 +37,7 @@ fn serve_one(row: &mut Row, beyond: Option<u32>, op: Op) -> Result<Reply, AllocE
         Op::TreeRemove(key) => yes_or_no(row.remove(key)),
         Op::TreeFind(key) => yes_or_no(row.find(key)),
         Op::TreeNext(key) => number_or_empty(row.next(key).or(beyond)),
-        _ => Reply::Empty,
+        _ => unreachable!(),
     };
     Ok(reply)
 }

@@ -1,5 +1,5 @@
 -- A key put beside another.
-use Rattle.std.proofs.Common.{◌≡◌, ℕ, ◌<◌, List, ◌∷◌, ◌++◌, take, drop, false, refl, sym, ap, ◌∙◌, subst, append_assoc}
+use Rattle.std.proofs.Common.{◌≡◌, ℕ, ◌<◌, List, ◌∷◌, ◌++◌, take, drop, false, refl, sym, ap, ◌∙◌, subst, append_assoc, arith, length-append}
 use Rattle.std.specs.List.{insert}
 use Rattle.tree23.specs.Keys.{StrictlyAscends, has}
 use Rattle.tree23.specs.Steps.{IsAdded, IsFound, IsPut}
@@ -64,13 +64,21 @@ added_at key at xs new cut none is = record { is = is ∙ sym (with_at key at xs
 
 -- what an attempt comes to on one side of a key
 pub put_left : (key k : ℕ) (a b a' : List ℕ) (put : Put) → StrictlyAscends (a ++ k ∷ b) → key < k → IsPut key a a' put → IsPut key (a ++ k ∷ b) (a' ++ k ∷ b) put
-put_left key k a b a' Full s lt i = ap (λ z. z ++ k ∷ b) i
+put_left key k a b a' Full s lt i = record {
+  same = ap (λ z. z ++ k ∷ b) i.same;
+  absent = has_left key k a b lt s ∙ i.absent;
+  many = omega (arith, i.many, length-append a (k ∷ b));
+}
 put_left key k a b a' OutOfMemory s lt i = ap (λ z. z ++ k ∷ b) i
 put_left key k a b a' Found s lt i = found_left key k a b a' s lt i
 put_left key k a b a' Done s lt i = added_left key k a b a' s lt i
 
 pub put_right : (key k : ℕ) (a b b' : List ℕ) (put : Put) → StrictlyAscends (a ++ k ∷ b) → k < key → IsPut key b b' put → IsPut key (a ++ k ∷ b) (a ++ k ∷ b') put
-put_right key k a b b' Full s lt i = ap (λ z. a ++ k ∷ z) i
+put_right key k a b b' Full s lt i = record {
+  same = ap (λ z. a ++ k ∷ z) i.same;
+  absent = has_right key k a b lt s ∙ i.absent;
+  many = omega (arith, i.many, length-append a (k ∷ b));
+}
 put_right key k a b b' OutOfMemory s lt i = ap (λ z. a ++ k ∷ z) i
 put_right key k a b b' Found s lt i = found_right key k a b b' s lt i
 put_right key k a b b' Done s lt i = added_right key k a b b' s lt i

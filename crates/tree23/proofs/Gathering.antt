@@ -1,6 +1,5 @@
 -- Entries put together, one after another: the keys of all that is in hand stay what they were.
 use Rattle.std.proofs.Common.{◌≡◌, ℕ, ◌+◌, ◌<◌, ◌^◌, List, [], ◌∷◌, ◌++◌, length, reverse, sym, ap, ◌∙◌, append_assoc, arith, length-append}
-use Rattle.std.specs.Prelude.{Result, Ok, Err, OnOk}
 use Rattle.tree23.specs.declared.forest.Entry.{Entry}
 use Rattle.tree23.specs.Nodes.{keys}
 use Rattle.tree23.specs.Rows.{behind}
@@ -21,24 +20,22 @@ gone_before front others old high part m k is = rw is (simp append_assoc)
 pub in_hand : (front back part whole added : List ℕ) (k j : ℕ) → (front ++ back) ++ k ∷ part ≡ whole ++ j ∷ added → length whole + length added < 2 ^ 61 → length back + length part < 2 ^ 61
 in_hand front back part whole added k j is fits = omega (arith, ap length is, length-append (front ++ back) (k ∷ part), length-append front back, length-append whole (j ∷ added), fits)
 
--- a list that is known where nothing failed
-pub row_known : {A E : Type 0} (result : Result A E) (row known other : List ℕ) → OnOk result (row ≡ known) → known ≡ other → OnOk result (row ≡ other)
-row_known (Ok v) row known other is is' = is ∙ is'
-row_known (Err e) row known other is is' = tt
-
 -- keys that went behind the last entry
 pub behind_last : (front old new rest last more : List ℕ) → old ≡ rest ++ last → new ≡ rest ++ (last ++ more) → front ++ new ≡ (front ++ old) ++ more
 behind_last front old new rest last more is is' = ap (λ z. front ++ z) (is' ∙ sym (append_assoc rest last more) ∙ ap (λ z. z ++ more) (sym is)) ∙ sym (append_assoc front old more)
 
 -- one of the entries that are still to come
-pub still_fits : (low a b : List ℕ) (e : Entry) (all rest : List Entry) → all ≡ e ∷ rest → low ++ behind all ≡ a ++ b → length a + length b < 2 ^ 61 → length low + length (keys e.part.tree) < 2 ^ 61
-still_fits low a b e all rest is is' fits =
-    omega (arith, ap length is', length-append low (behind all), ap (λ z. length (behind z)) is, length-append (keys e.part.tree) (behind rest), length-append a b, fits)
+pub still_fits : (low whole : List ℕ) (e : Entry) (all rest : List Entry) → all ≡ e ∷ rest → low ++ behind all ≡ whole → length whole < 2 ^ 61 → length low + length (keys e.part.tree) < 2 ^ 61
+still_fits low whole e all rest is is' fits = omega (arith, ap length is', length-append low (behind all), ap (λ z. length (behind z)) is, length-append (keys e.part.tree) (behind rest), fits)
 
--- an entry goes over from the end of those that stand from the last to the first
-pub gone_over : (row row' new entries left : List Entry) (e : Entry) → behind row' ≡ behind row → new ≡ row' ++ e ∷ [] → entries ≡ left ++ e ∷ []
-    → behind new ++ behind (reverse left) ≡ behind row ++ behind (reverse entries)
-gone_over row row' new entries left e same put taken =
-    ap (λ z. z ++ behind (reverse left)) (ap behind put ∙ behind_push row' e ∙ ap (λ z. z ++ e.key ∷ keys e.part.tree) same)
-    ∙ append_assoc (behind row) (e.key ∷ keys e.part.tree) (behind (reverse left))
-    ∙ ap (λ z. behind row ++ behind z) (sym (turned entries left e taken))
+-- an entry goes over from the end of those that stand from the last to the first, after it took others in
+pub gone_over : (front front' : List ℕ) (row row' row'' new entries left : List Entry) (e e' : Entry)
+    → (front' ++ behind row') ++ e'.key ∷ keys e'.part.tree ≡ (front ++ behind row) ++ e.key ∷ keys e.part.tree
+    → behind row'' ≡ behind row' → new ≡ row'' ++ e' ∷ [] → entries ≡ left ++ e ∷ []
+    → (front' ++ behind new) ++ behind (reverse left) ≡ (front ++ behind row) ++ behind (reverse entries)
+gone_over front front' row row' row'' new entries left e e' absorbed same put taken =
+    let back = ap behind put ∙ behind_push row'' e' ∙ ap (λ z. z ++ e'.key ∷ keys e'.part.tree) same in
+    let whole = ap (λ z. front' ++ z) back ∙ sym (append_assoc front' (behind row') (e'.key ∷ keys e'.part.tree)) ∙ absorbed in
+    ap (λ z. z ++ behind (reverse left)) whole
+    ∙ append_assoc (front ++ behind row) (e.key ∷ keys e.part.tree) (behind (reverse left))
+    ∙ ap (λ z. (front ++ behind row) ++ behind z) (sym (turned entries left e taken))

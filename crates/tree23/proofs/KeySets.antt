@@ -11,14 +11,14 @@ use Rattle.tree23.proofs.Inserting.{inserted_keys}
 pub key_set_as : (old new : List ℕ) → IsKeySet old → new ≡ old → IsKeySet new
 key_set_as old new s is = record { ascends = rw is s.ascends; small = rw is s.small }
 
--- one with a key, and without it
+-- one with a key
 pub key_set_with : (key : ℕ) (old new : List ℕ) → IsKeySet old → new ≡ with_key key old → key < 2 ^ 32 → IsKeySet new
 key_set_with key old new s is small = record {
   ascends = rw is (ascends_with key old s.ascends);
   small = rw is (all_with (λ k. k < 2 ^ 32) key old small s.small);
 }
 
--- one with a key, and without it
+-- one without a key
 pub key_set_without : (key : ℕ) (old new : List ℕ) → IsKeySet old → new ≡ without_key key old → IsKeySet new
 key_set_without key old new s is = record {
   ascends = rw is (ascends_without key old s.ascends);

@@ -1,18 +1,11 @@
 -- The size of a node is that of its subtrees and of its own keys.
-use Rattle.std.proofs.Common.{◌≡◌, ℕ, ◌+◌, ◌%◌, ◌^◌, Bool, true, false, ◌==◌, nat_lt, if◌then◌else◌, List, [], ◌∷◌, ◌||◌, ◌++◌, length, arith, length-append}
+use Rattle.std.proofs.Common.{◌≡◌, ℕ, ◌+◌, ◌%◌, ◌^◌, Bool, true, false, ◌==◌, nat_lt, if◌then◌else◌, List, [], ◌∷◌, ◌||◌, length, arith}
 use Rattle.tree23.specs.Keys.{has, with_key, without_key}
 use Rattle.tree23.specs.Mending.{IsSizeWithOneMore, IsTaken}
 use Rattle.tree23.specs.Nodes.{IsSize}
 use Rattle.tree23.specs.Steps.{IsAdded, IsPut, size_after}
 use Rattle.tree23.specs.declared.put.Put.{Put}
 use Rattle.tree23.specs.declared.put.Put.TheVariants.{Full, OutOfMemory, Found, Done}
-
-pub size_of_two : (i j : ℕ) (a b : List ℕ) (k : ℕ) → i ≡ length a % 2 ^ 64 → j ≡ length b % 2 ^ 64 → ((i + j) % 2 ^ 64 + 1) % 2 ^ 64 ≡ length (a ++ k ∷ b) % 2 ^ 64
-size_of_two i j a b k is is' = rw length-append (omega (arith, is, is'))
-
-pub size_of_three : (i j l : ℕ) (a b c : List ℕ) (k m : ℕ) → i ≡ length a % 2 ^ 64 → j ≡ length b % 2 ^ 64 → l ≡ length c % 2 ^ 64
-    → (((i + j) % 2 ^ 64 + l) % 2 ^ 64 + 2) % 2 ^ 64 ≡ length (a ++ k ∷ (b ++ m ∷ c)) % 2 ^ 64
-size_of_three i j l a b c k m is is' is'' = rw length-append (rw length-append (omega (arith, is, is', is'')))
 
 -- a key that is put in is one key more
 length_with : (key : ℕ) (xs : List ℕ) → has key xs ≡ false → length (with_key key xs) ≡ length xs + 1
@@ -28,7 +21,7 @@ pub size_of_added : (key size : ℕ) (old new : List ℕ) → IsAdded key old ne
 size_of_added key size old new added is = rw added.is (omega (arith, is, length_with key old added.absent))
 
 pub size_of_put : (key size : ℕ) (old new : List ℕ) (put : Put) → IsPut key old new put → IsSize size old → size_after put size ≡ length new % 2 ^ 64
-size_of_put key size old new Full i is = rw i is
+size_of_put key size old new Full i is = rw i.same is
 size_of_put key size old new OutOfMemory i is = rw i is
 size_of_put key size old new Found i is = rw i.same is
 size_of_put key size old new Done i is = size_of_added key size old new i is

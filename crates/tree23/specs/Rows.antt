@@ -88,7 +88,7 @@ abbrev pub IsTakenOff : List Entry → List Entry → Option Entry → Type 0
 IsTakenOff old new None = new ≡ old
 IsTakenOff old new (Some e) = old ≡ new ++ e ∷ []
 
--- the keys of a tree are there too, if it is so
+-- these keys where a block was melted in, and none otherwise
 abbrev pub if_melted : Bool → List ℕ → List ℕ
 if_melted true set = set
 if_melted false set = []

@@ -19,6 +19,12 @@ pub record IsFound (key : ℕ) (old new : List ℕ) : Type 0 where
   pub same : new ≡ old
   pub present : has key old ≡ true
 
+-- the key is not there, and the block where it belongs has no room: nothing was changed
+pub record IsHeldUp (key : ℕ) (old new : List ℕ) : Type 0 where
+  pub same : new ≡ old
+  pub absent : has key old ≡ false
+  pub many : room ≤ length old
+
 -- whether a key is new
 abbrev pub IsInserted : ℕ → List ℕ → List ℕ → Bool → Type 0
 IsInserted key old new true = IsAdded key old new
@@ -34,7 +40,7 @@ IsFull (Three' p n a k b m c) = ⊤
 
 -- what the first attempt comes to, which puts a key into a block with room
 abbrev pub IsPut : ℕ → List ℕ → List ℕ → Put → Type 0
-IsPut key old new Full = new ≡ old
+IsPut key old new Full = IsHeldUp key old new
 IsPut key old new OutOfMemory = new ≡ old
 IsPut key old new Found = IsFound key old new
 IsPut key old new Done = IsAdded key old new

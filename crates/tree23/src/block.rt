@@ -42,18 +42,28 @@ pub fn is_at(block: &[u32], at: usize, key: u32) -> bool
     at < block.len() && block[at] == key
 }
 
-/// A block with one key.
-pub fn block_of(alloc: Global, key: u32) -> Result<Box<Vec<u32>>, AllocError>
-    ensures { IfOk result (λ b. b.value.items ≡ key ∷ []) }
+/// A block without keys, in which there is memory for one key too many.
+#[inline]
+pub fn empty_block(alloc: Global) -> Result<Box<Vec<u32>>, AllocError>
+    ensures empty { IfOk result (λ b. b.value.items ≡ []) }
+    ensures memory { IfOk result (λ b. room < b.value.cap) }
 {
-    let mut keys = Vec::with_capacity(alloc, ROOM + 1)?;
-    keys.push(key)?;
+    let keys = Vec::with_capacity(alloc, ROOM + 1)?;
     let block = Box::new(alloc, keys)?;
     Ok(block)
 }
 
-/// Puts a key that is not there into a block that may be full: the key in the middle, and a block of
-/// what is behind it, come off. Nothing is changed where there is no memory.
+/// A block with one key.
+pub fn block_of(alloc: Global, key: u32) -> Result<Box<Vec<u32>>, AllocError>
+    ensures { IfOk result (λ b. b.value.items ≡ key ∷ []) }
+{
+    let mut block = empty_block(alloc)?;
+    block.push(key)?;
+    Ok(block)
+}
+
+/// Puts a key that is not there into a full block: the key in the middle, and a block of what is behind it,
+/// come off. Nothing is changed where there is no memory.
 pub fn put_in_halves(
     alloc: Global,
     block: &mut Vec<u32>,
@@ -70,7 +80,7 @@ pub fn put_in_halves(
     ensures high_fits { IfOk result (λ p. length p.1.value.items ≤ room) }
     ensures err { OnErr result (block.new.items ≡ block.old.items) }
 {
-    let mut behind = Box::new(alloc, Vec::with_capacity(alloc, ROOM + 1)?)?;
+    let mut behind = empty_block(alloc)?;
     block.insert(at, key)?;
     behind.extend_from_slice(&block[HALF + 1..])?;
     let middle = block[HALF];

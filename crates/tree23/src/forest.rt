@@ -1,4 +1,4 @@
-//! Trees in a row, with a key between each two: what a set is while it is cut and put together.
+//! Trees in a row, with a key between each two: what a `Row` is made of.
 ghost use Rattle.std.specs.Prelude.{◌≡◌, ◌++◌, ◌∷◌, [], reverse, OnOk};
 ghost use Rattle.std.specs.Option.{option_to_list};
 ghost use Rattle.tree23.specs.declared.node.Tree.TheVariants.{Leaf};

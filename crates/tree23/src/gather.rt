@@ -1,5 +1,5 @@
 //! Rows put together: where a higher tree comes behind lower ones, these become one, or part of it. Where a row has too
-//! many trees, each three of a depth that stand side by side become one.
+//! many trees they are gathered: where a tree comes behind three of its depth, these become one.
 ghost use Rattle.std.specs.Prelude.{◌≡◌, ◌+◌, ◌<◌, ◌^◌, ◌≤◌, ◌++◌, ◌∷◌, true, None, length, IfOk, IfSome, OnOk};
 ghost use Rattle.tree23.specs.Nodes.{keys, depth, IsTree, IsBottom, IsPart};
 ghost use Rattle.tree23.specs.Rows.{behind, in_row, if_melted, IsForest, AreEntries, CanStand, IsTakenOff};
@@ -81,7 +81,37 @@ fn is_crowded(entries: &[Entry], levels: u64) -> bool {
         && entries[count - 3].part.levels == levels
 }
 
-/// Puts a key and a tree behind all. Entries with fewer levels become one, or part of the tree, before that.
+/// Takes trees off the end that have fewer levels than a tree that comes behind them. They become trees with as many, or
+/// part of it.
+#[inline]
+fn absorb(
+    alloc: Global,
+    forest: &mut Forest,
+    entry: Entry,
+    spares: &mut Spares,
+) -> Result<Entry, AllocError>
+    requires forest { IsForest forest.old }
+    requires part { IsPart entry.part }
+    requires fits { length (in_row forest.old) + length (keys entry.part.tree) < 2 ^ 61 }
+    ensures forest { OnOk result (IsForest forest.new) }
+    ensures part { IfOk result (λ e. IsPart e.part) }
+    ensures keys { IfOk result (λ e. in_row forest.new ++ e.key ∷ keys e.part.tree ≡ in_row forest.old ++ entry.key ∷ keys entry.part.tree) }
+{
+    let Entry { mut key, mut part } = entry;
+    while let Some(high) = pop_lower(&mut forest.entries, part.levels) {
+        match pop_equal(&mut forest.entries, high.part.levels) {
+            Some(low) => put_together(alloc, &mut forest.entries, low, high, spares)?,
+            None => {
+                put_before(alloc, high.part, key, &mut part, spares)?;
+                key = high.key;
+            }
+        }
+    }
+    Ok(Entry { key, part })
+}
+
+/// Puts a key and a tree behind all.
+#[inline]
 fn add(
     alloc: Global,
     forest: &mut Forest,
@@ -94,16 +124,7 @@ fn add(
     ensures forest { OnOk result (IsForest forest.new) }
     ensures keys { OnOk result (in_row forest.new ≡ in_row forest.old ++ entry.key ∷ keys entry.part.tree) }
 {
-    let Entry { mut key, mut part } = entry;
-    while let Some(high) = pop_lower(&mut forest.entries, part.levels) {
-        match pop_equal(&mut forest.entries, high.part.levels) {
-            Some(low) => put_together(alloc, &mut forest.entries, low, high, spares)?,
-            None => {
-                put_before(alloc, high.part, key, &mut part, spares)?;
-                key = high.key;
-            }
-        }
-    }
+    let Entry { key, part } = absorb(alloc, forest, entry, spares)?;
     forest.push(key, part.tree, part.levels)
 }
 
@@ -170,7 +191,7 @@ fn melt_into_last(forest: &mut Forest, tree: &Tree) -> Result<bool, AllocError>
     }
 }
 
-/// Whether nothing is there yet.
+/// Whether no tree was put here yet. An empty block counts as one.
 #[inline]
 fn is_empty(forest: &Forest) -> bool
     ensures { result ≡ true → CanStand None forest.now }
@@ -235,23 +256,25 @@ pub fn append(
     Ok(())
 }
 
-/// Makes one of each three trees of a depth that stand side by side.
+/// Makes fewer trees of many: lower trees before a higher one become part of it, or trees as high, and three before
+/// another of their depth become one.
 pub fn gather(alloc: Global, forest: Forest, spares: &mut Spares) -> Result<Forest, AllocError>
     requires forest { IsForest forest }
-    requires fits { length (in_row forest) < 2 ^ 62 }
+    requires fits { length (in_row forest) < 2 ^ 61 }
     ensures forest { IfOk result (λ gathered. IsForest gathered) }
     ensures keys { IfOk result (λ gathered. in_row gathered ≡ in_row forest) }
 {
     let Forest { front, mut entries } = forest;
-    let mut gathered = spares.take_row()?;
+    let mut gathered = Forest {
+        front,
+        entries: spares.take_row()?,
+    };
     entries.reverse();
     while let Some(entry) = entries.pop() {
-        make_room(alloc, &mut gathered, entry.part.levels, spares)?;
-        gathered.push(entry)?;
+        let entry = absorb(alloc, &mut gathered, entry, spares)?;
+        make_room(alloc, &mut gathered.entries, entry.part.levels, spares)?;
+        gathered.entries.push(entry)?;
     }
     spares.keep_row(entries);
-    Ok(Forest {
-        front,
-        entries: gathered,
-    })
+    Ok(gathered)
 }

@@ -2,7 +2,7 @@
 ghost use Rattle.std.specs.Prelude.{◌≡◌, ◌+◌, ◌%◌, ◌<◌, ◌^◌, ◌++◌, ◌∷◌, true, length, IfOk, OnOk};
 ghost use Rattle.tree23.specs.Nodes.{room, keys, depth, IsTree, IsBottom, IsPart, grown_keys, IsGrown};
 
-use crate::block::ROOM;
+use crate::block::{ROOM, empty_block};
 use crate::node::{Grown, Part, Tree, two};
 use crate::remove::{lower, pop_first};
 use crate::spares::Spares;
@@ -27,18 +27,14 @@ fn become_one(low: &Tree, high: &Tree) -> bool
     }
 }
 
-/// A block's keys, in the memory that they have, or in a new one's where there are none.
+/// The block of a tree's keys: the tree's own, or a new one where it has none.
 fn block_in(alloc: Global, tree: Tree) -> Result<Box<Vec<u32>>, AllocError>
     requires bottom { IsBottom tree }
     ensures { IfOk result (λ b. b.value.items ≡ keys tree) }
 {
     match tree {
         Tree::Block(block) => Ok(block),
-        Tree::Leaf => {
-            let keys = Vec::with_capacity(alloc, ROOM + 1)?;
-            let block = Box::new(alloc, keys)?;
-            Ok(block)
-        }
+        Tree::Leaf => empty_block(alloc),
         Tree::One(_) | Tree::Two(_) | Tree::Three(_) => unreachable!(),
     }
 }
@@ -58,7 +54,7 @@ fn put_block_behind(block: &mut Vec<u32>, high: &Tree) -> Result<(), AllocError>
     }
 }
 
-/// Puts a key and a tree behind one of the same depth. Blocks become one where that has room.
+/// Puts a key and a tree behind one of the same depth. Two blocks become one where one has room for both and the key.
 fn meet(alloc: Global, low: &mut Tree, key: u32, high: Tree) -> Result<Grown, AllocError>
     requires low { IsTree low.old }
     requires high { IsTree high }

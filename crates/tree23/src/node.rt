@@ -11,7 +11,7 @@ pub enum Tree {
     Leaf,
     /// The keys of a block, which strictly ascend.
     Block(Box<Vec<u32>>),
-    /// Only between a removal and its repair: the first side alone, and no key.
+    /// The first side alone, and no key: only between a removal and its repair.
     One(Box<Node>),
     /// The first and the second side, around the low key.
     Two(Box<Node>),

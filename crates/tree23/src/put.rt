@@ -11,7 +11,7 @@ use std::alloc::Global;
 /// What the attempt came to.
 #[derive(Drop)]
 pub enum Put {
-    /// Nothing was changed, as the block of the key has no room.
+    /// Nothing was changed: the key is not there, and the block where it belongs has no room.
     Full,
     /// Nothing was changed.
     OutOfMemory,

@@ -110,7 +110,7 @@ fn passed(mut high: Forest, key: u32, spares: &mut Spares) -> Result<(Carving, P
     Ok((Carving { low, before, high }, part))
 }
 
-/// The last entry, if its key is below.
+/// Takes the last entry off, if its key is below.
 fn pop_below(entries: &mut Vec<Entry>, key: u32) -> Option<Entry>
     ensures taken { IsTakenOff entries.old.items entries.new.items result }
     ensures below { IfSome result (λ e. e.key < key) }

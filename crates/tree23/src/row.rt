@@ -107,8 +107,7 @@ impl Row {
         Ok(())
     }
 
-    /// Makes one of each three trees of a depth that stand side by side, where there are many trees. Without memory
-    /// keys are lost.
+    /// Makes fewer trees, where there are many. Without memory keys are lost.
     #[tactic(auto, using(crate::proofs::KeySets::key_set_length))]
     pub fn gather(&mut self, spares: &mut Spares) -> Result<(), AllocError>
         ensures { OnOk result (self.new ≡ self.old) }

@@ -1,4 +1,4 @@
-//! Keys looked up, put in and taken out of trees in a row: each in the one tree in whose range it is.
+//! Keys looked up in, put into and taken out of trees in a row: each in the one tree in whose range it is.
 ghost use Rattle.std.specs.Prelude.{◌≡◌, ◌<◌, ◌^◌, drop, length, IfOk, OnErr};
 ghost use Rattle.tree23.specs.Keys.{StrictlyAscends, has, without_key, least_above};
 ghost use Rattle.tree23.specs.Rows.{in_row, or_first_key, IsForest, IsPlace};

@@ -2,17 +2,18 @@
 ghost use Rattle.std.specs.Prelude.{◌≡◌, [], IfOk};
 ghost use Rattle.tree23.specs.Nodes.{IsBottom};
 
-use crate::block::ROOM;
+use crate::block::empty_block;
 use crate::forest::Entry;
 use crate::node::{Node, Tree, bare};
 use std::alloc::{AllocError, Global};
-use std::mem;
+
+/// How many boxes of nodes, how many blocks and how many vectors of rows are kept at most.
+const MOST: usize = 256;
 
 /// Boxes and vectors that are at hand. Nothing that contracts say of trees and rows depends on them.
 #[derive(Drop)]
 pub struct Spares {
-    /// Each node in the first side of the one before it.
-    nodes: Tree,
+    nodes: Vec<Box<Node>>,
     blocks: Vec<Box<Vec<u32>>>,
     rows: Vec<Vec<Entry>>,
     alloc: Global,
@@ -23,41 +24,43 @@ impl Spares {
     #[inline]
     pub fn new(alloc: Global) -> Spares {
         Spares {
-            nodes: Tree::Leaf,
+            nodes: Vec::new(alloc),
             blocks: Vec::new(alloc),
             rows: Vec::new(alloc),
             alloc,
         }
     }
 
-    /// Keeps a node. What is still in its first side is dropped.
+    /// Keeps a node, unless there are many, or there is no memory for its place here.
     #[inline]
-    pub(crate) fn keep(&mut self, mut node: Box<Node>) {
-        node.first = mem::replace(&mut self.nodes, Tree::Leaf);
-        self.nodes = Tree::One(node);
+    pub(crate) fn keep(&mut self, node: Box<Node>) {
+        if self.nodes.len() < MOST {
+            if let Err(_) = self.nodes.push(node) {}
+        }
     }
 
     /// A node that is at hand, or a new one.
     #[inline]
     pub(crate) fn take(&mut self, alloc: Global) -> Result<Box<Node>, AllocError> {
-        match mem::replace(&mut self.nodes, Tree::Leaf) {
-            Tree::One(mut node) => {
-                self.nodes = mem::replace(&mut node.first, Tree::Leaf);
-                Ok(node)
-            }
-            Tree::Leaf | Tree::Block(_) | Tree::Two(_) | Tree::Three(_) => {
+        match self.nodes.pop() {
+            Some(node) => Ok(node),
+            None => {
                 let node = Box::new(alloc, bare())?;
                 Ok(node)
             }
         }
     }
 
-    /// Keeps the memory of a block, unless there is none for its place here.
+    /// Keeps the memory of a block, unless there are many, or there is no memory for its place here.
     pub(crate) fn keep_block(&mut self, tree: Tree)
         requires bottom { IsBottom tree }
     {
         match tree {
-            Tree::Block(block) => { if let Err(_) = self.blocks.push(block) {} }
+            Tree::Block(block) => {
+                if self.blocks.len() < MOST {
+                    if let Err(_) = self.blocks.push(block) {}
+                }
+            }
             Tree::Leaf => {}
             Tree::One(_) | Tree::Two(_) | Tree::Three(_) => unreachable!(),
         }
@@ -73,18 +76,16 @@ impl Spares {
                 block.clear();
                 Ok(block)
             }
-            None => {
-                let keys = Vec::with_capacity(self.alloc, ROOM + 1)?;
-                let block = Box::new(self.alloc, keys)?;
-                Ok(block)
-            }
+            None => empty_block(self.alloc),
         }
     }
 
-    /// Keeps the vector of a row, unless there is no memory for its place here.
+    /// Keeps the vector of a row, unless there are many, or there is no memory for its place here.
     #[inline]
     pub(crate) fn keep_row(&mut self, row: Vec<Entry>) {
-        if let Err(_) = self.rows.push(row) {}
+        if self.rows.len() < MOST {
+            if let Err(_) = self.rows.push(row) {}
+        }
     }
 
     /// A vector for a row, at hand or new.

@@ -61,8 +61,8 @@ impl Tree23 {
         self.root.tree.size()
     }
 
-    /// How many levels of nodes there are. Below them stand blocks of up to 128 keys, so that a tree with few
-    /// keys has none, and a tree may be as deep as one with a few more.
+    /// How many levels of nodes there are. Below them stand blocks of up to 128 keys, so a tree with few keys
+    /// may have none.
     pub fn depth(&self) -> u32
         ensures least { 2 ^ result ≤ length self.now + 1 }
         ensures most { length self.now < 129 * 3 ^ result }

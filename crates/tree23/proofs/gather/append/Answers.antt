@@ -1,4 +1,4 @@
-use Rattle.std.proofs.Common.{◌++◌, ◌∙◌, ap, append_assoc}
+use Rattle.std.proofs.Common.{◌++◌, ◌∙◌, ap, append_assoc, arith, length-append}
 use Rattle.std.proofs.lemmas.List.{reverse-reverse}
 use Rattle.tree23.specs.Nodes.{keys}
 use Rattle.tree23.specs.Rows.{behind, in_row}
@@ -21,4 +21,7 @@ pub add-requires-clause-part : goal.add-requires-clause-part
 add-requires-clause-part c = (taken _ _ _ c.loop-entry.invariant.entries c.in-Some.ensures.items).part
 
 pub add-requires-clause-fits : goal.add-requires-clause-fits
-add-requires-clause-fits c = still_fits (in_row c.loop-entry.low) _ _ c.in-Some.entry _ _ (turned _ _ _ c.in-Some.ensures.items) c.loop-entry.invariant.keys_are c.requires.fits
+add-requires-clause-fits c =
+    let low = in_row c.args.low.now in
+    let high = in_row c.args.high in
+    still_fits (in_row c.loop-entry.low) (low ++ high) c.in-Some.entry _ _ (turned _ _ _ c.in-Some.ensures.items) c.loop-entry.invariant.keys_are (omega (arith, length-append low high, c.requires.fits))

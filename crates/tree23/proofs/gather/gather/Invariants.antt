@@ -1,12 +1,12 @@
 use Rattle.std.proofs.Common.{◌≡◌, ◌++◌, length, reverse}
-use Rattle.tree23.specs.Rows.{behind, AreEntries}
+use Rattle.tree23.specs.Rows.{behind, in_row, IsForest, AreEntries}
 use Rattle.tree23.proofs.gather.gather.Given as goal
 
 abbrev pub invariant-loop-entry : goal.invariant-loop-entry
 invariant-loop-entry l = record {
-  gathered : AreEntries l.gathered.items;
+  gathered : IsForest l.gathered;
   entries : AreEntries l.entries.items;
-  keys_are : behind l.gathered.items ++ behind (reverse l.entries.items) ≡ behind l.fn.forest.entries.items;
+  keys_are : in_row l.gathered ++ behind (reverse l.entries.items) ≡ in_row l.fn.forest;
 }
 
 abbrev pub decreases-loop-entry : goal.decreases-loop-entry

@@ -1,7 +1,7 @@
 use Rattle.std.proofs.Common.{◌≡◌, ◌++◌, ◌∷◌, length}
 use Rattle.tree23.specs.Nodes.{keys, IsPart}
 use Rattle.tree23.specs.Rows.{in_row, IsForest}
-use Rattle.tree23.proofs.gather.add.Given as goal
+use Rattle.tree23.proofs.gather.absorb.Given as goal
 
 abbrev pub invariant-loop-high : goal.invariant-loop-high
 invariant-loop-high l = record {

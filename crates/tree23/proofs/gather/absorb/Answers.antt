@@ -2,8 +2,8 @@ use Rattle.std.proofs.Common.{◌∷◌, ◌++◌, ap, ◌∙◌, arith}
 use Rattle.tree23.specs.Nodes.{keys}
 use Rattle.tree23.specs.Rows.{behind}
 use Rattle.tree23.proofs.Entries.{taken}
-use Rattle.tree23.proofs.Gathering.{together, gone_before, in_hand, row_known}
-use Rattle.tree23.proofs.gather.add.Goals as goal
+use Rattle.tree23.proofs.Gathering.{together, gone_before, in_hand}
+use Rattle.tree23.proofs.gather.absorb.Goals as goal
 
 pub put_together-requires-clause-entries : goal.put_together-requires-clause-entries
 put_together-requires-clause-entries c =
@@ -74,16 +74,8 @@ loop-high-preserved c =
       keys_are = rw (c.in-None.ensures.taken, c.in_ok-put_before-in-None.ensures.keys) (gone_before _ _ _ _ _ _ _ high.keys_are ∙ c.loop-high.invariant.keys_are);
     }
 
-pub push-requires-clause-forest : goal.push-requires-clause-forest
-push-requires-clause-forest c = record { front_is = c.loop-high.invariant.forest.front_is; entries_are = rw c.in_default.ensures.taken c.loop-high.invariant.forest.entries_are }
-
-pub push-requires-clause-tree : goal.push-requires-clause-tree
-push-requires-clause-tree c = c.loop-high.invariant.part.tree_is
-
-pub push-requires-clause-levels : goal.push-requires-clause-levels
-push-requires-clause-levels c = c.loop-high.invariant.part.levels_are
+pub returns-clause-forest : goal.returns-clause-forest
+returns-clause-forest c = record { front_is = c.loop-high.invariant.forest.front_is; entries_are = rw c.in_default.ensures.taken c.loop-high.invariant.forest.entries_are }
 
 pub returns-clause-keys : goal.returns-clause-keys
-returns-clause-keys c =
-    let same = ap behind c.in_default.ensures.taken in
-    row_known _ _ _ _ c.push.ensures.row (ap (λ z. (keys c.loop-high.forest.front.tree ++ z) ++ c.loop-high.key ∷ keys c.loop-high.part.tree) same ∙ c.loop-high.invariant.keys_are)
+returns-clause-keys c = ap (λ z. (keys c.loop-high.forest.front.tree ++ behind z) ++ c.loop-high.key ∷ keys c.loop-high.part.tree) c.in_default.ensures.taken ∙ c.loop-high.invariant.keys_are

@@ -28,8 +28,8 @@ keys_at_least (Three' p n a k b m c) t =
     let y = rw level at (keys_at_least b t.1) in
     rw pow_more (omega (arith, x, y, length-append (keys a) (k ∷ (keys b ++ m ∷ keys c)), length-append (keys b) (m ∷ keys c)))
 
--- a tree of depth d holds fewer than 129 * 3 ^ d keys, as there are 3 ^ d blocks at most, and 3 ^ d - 1 keys above them
-pub keys_at_most : (tree : Tree) → IsTree tree → length (keys tree) < 129 * 3 ^ depth tree
+-- a tree of depth d holds fewer than 257 * 3 ^ d keys, as there are 3 ^ d blocks at most, and 3 ^ d - 1 keys above them
+pub keys_at_most : (tree : Tree) → IsTree tree → length (keys tree) < 257 * 3 ^ depth tree
 keys_at_most Leaf t = omega arith
 keys_at_most (Block b) t = omega arith
 keys_at_most (One' p n a k b m c) t = absurd t

@@ -10,7 +10,7 @@ use Rattle.tree23.specs.Keys.{StrictlyAscends}
 
 -- the most keys of a block
 abbrev pub room : ℕ
-room = 128
+room = 256
 
 -- the keys in order
 abbrev pub keys : Tree → List ℕ

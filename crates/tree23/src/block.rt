@@ -8,7 +8,7 @@ use crate::spares::Spares;
 use std::alloc::{AllocError, Global};
 
 /// How many keys a block has at most.
-pub const ROOM: usize = 128;
+pub const ROOM: usize = 256;
 
 const HALF: usize = ROOM / 2;
 

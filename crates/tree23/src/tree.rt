@@ -61,11 +61,11 @@ impl Tree23 {
         self.root.tree.size()
     }
 
-    /// How many levels of nodes there are. Below them stand blocks of up to 128 keys, so a tree with few keys
+    /// How many levels of nodes there are. Below them stand blocks of up to 256 keys, so a tree with few keys
     /// may have none.
     pub fn depth(&self) -> u32
         ensures least { 2 ^ result ≤ length self.now + 1 }
-        ensures most { length self.now < 129 * 3 ^ result }
+        ensures most { length self.now < 257 * 3 ^ result }
     {
         self.root.levels as u32
     }

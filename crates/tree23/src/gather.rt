@@ -10,7 +10,7 @@ use crate::join::put_before;
 use crate::node::{Part, Tree, three, two};
 use crate::remove::{lower, pop_first};
 use crate::spares::Spares;
-use std::alloc::{AllocError, Global};
+use std::alloc::AllocError;
 
 /// Takes the last entry off, if its tree has fewer levels.
 #[inline]
@@ -39,7 +39,6 @@ fn pop_equal(entries: &mut Vec<Entry>, levels: u64) -> Option<Entry>
 /// Makes one entry of two with as many levels, and of the one before them if that has as many, and puts it back.
 #[tactic(auto, using(crate::proofs::Entries::entries))]
 fn put_together(
-    alloc: Global,
     entries: &mut Vec<Entry>,
     low: Entry,
     high: Entry,
@@ -54,7 +53,7 @@ fn put_together(
     ensures keys { OnOk result (behind entries.new.items ≡ behind entries.old.items ++ low.key ∷ (keys low.part.tree ++ high.key ∷ keys high.part.tree)) }
     ensures count { OnOk result (length entries.new.items ≤ length entries.old.items + 1) }
 {
-    let node = spares.take(alloc)?;
+    let node = spares.take()?;
     let levels = low.part.levels;
     let (key, tree) = match pop_equal(entries, levels) {
         None => (low.key, two(node, low.part.tree, high.key, high.part.tree)),
@@ -84,12 +83,7 @@ fn is_crowded(entries: &[Entry], levels: u64) -> bool {
 /// Takes trees off the end that have fewer levels than a tree that comes behind them. They become trees with as many, or
 /// part of it.
 #[inline]
-fn absorb(
-    alloc: Global,
-    forest: &mut Forest,
-    entry: Entry,
-    spares: &mut Spares,
-) -> Result<Entry, AllocError>
+fn absorb(forest: &mut Forest, entry: Entry, spares: &mut Spares) -> Result<Entry, AllocError>
     requires forest { IsForest forest.old }
     requires part { IsPart entry.part }
     requires fits { length (in_row forest.old) + length (keys entry.part.tree) < 2 ^ 61 }
@@ -100,9 +94,9 @@ fn absorb(
     let Entry { mut key, mut part } = entry;
     while let Some(high) = pop_lower(&mut forest.entries, part.levels) {
         match pop_equal(&mut forest.entries, high.part.levels) {
-            Some(low) => put_together(alloc, &mut forest.entries, low, high, spares)?,
+            Some(low) => put_together(&mut forest.entries, low, high, spares)?,
             None => {
-                put_before(alloc, high.part, key, &mut part, spares)?;
+                put_before(high.part, key, &mut part, spares)?;
                 key = high.key;
             }
         }
@@ -112,30 +106,20 @@ fn absorb(
 
 /// Puts a key and a tree behind all.
 #[inline]
-fn add(
-    alloc: Global,
-    forest: &mut Forest,
-    entry: Entry,
-    spares: &mut Spares,
-) -> Result<(), AllocError>
+fn add(forest: &mut Forest, entry: Entry, spares: &mut Spares) -> Result<(), AllocError>
     requires forest { IsForest forest.old }
     requires part { IsPart entry.part }
     requires fits { length (in_row forest.old) + length (keys entry.part.tree) < 2 ^ 61 }
     ensures forest { OnOk result (IsForest forest.new) }
     ensures keys { OnOk result (in_row forest.new ≡ in_row forest.old ++ entry.key ∷ keys entry.part.tree) }
 {
-    let Entry { key, part } = absorb(alloc, forest, entry, spares)?;
+    let Entry { key, part } = absorb(forest, entry, spares)?;
     forest.push(key, part.tree, part.levels)
 }
 
 /// Makes one of the last three entries, if each has that many levels.
 #[tactic(auto, using(crate::proofs::Entries::entries))]
-fn make_room(
-    alloc: Global,
-    entries: &mut Vec<Entry>,
-    levels: u64,
-    spares: &mut Spares,
-) -> Result<(), AllocError>
+fn make_room(entries: &mut Vec<Entry>, levels: u64, spares: &mut Spares) -> Result<(), AllocError>
     requires entries { AreEntries entries.old.items }
     requires fits { length (behind entries.old.items) < 2 ^ 62 }
     ensures entries { OnOk result (AreEntries entries.new.items) }
@@ -144,7 +128,7 @@ fn make_room(
     if is_crowded(entries, levels) {
         if let Some(high) = pop_equal(entries, levels) {
             match pop_equal(entries, levels) {
-                Some(low) => put_together(alloc, entries, low, high, spares)?,
+                Some(low) => put_together(entries, low, high, spares)?,
                 None => entries.push(high)?,
             }
         }
@@ -203,12 +187,7 @@ fn is_empty(forest: &Forest) -> bool
 }
 
 /// Puts a tree behind all, with no key before it.
-fn add_front(
-    alloc: Global,
-    forest: &mut Forest,
-    front: Part,
-    spares: &mut Spares,
-) -> Result<(), AllocError>
+fn add_front(forest: &mut Forest, front: Part, spares: &mut Spares) -> Result<(), AllocError>
     requires forest { IsForest forest.old }
     requires front { IsPart front }
     requires fits { length (in_row forest.old) + length (keys front.tree) < 2 ^ 61 }
@@ -228,18 +207,13 @@ fn add_front(
         None => Ok(()),
         Some(key) => {
             lower(&mut part);
-            add(alloc, forest, Entry { key, part }, spares)
+            add(forest, Entry { key, part }, spares)
         }
     }
 }
 
 /// Puts trees behind others.
-pub fn append(
-    alloc: Global,
-    low: &mut Forest,
-    high: Forest,
-    spares: &mut Spares,
-) -> Result<(), AllocError>
+pub fn append(low: &mut Forest, high: Forest, spares: &mut Spares) -> Result<(), AllocError>
     requires low { IsForest low.old }
     requires high { IsForest high }
     requires fits { length (in_row low.old) + length (in_row high) < 2 ^ 61 }
@@ -247,10 +221,10 @@ pub fn append(
     ensures keys { OnOk result (in_row low.new ≡ in_row low.old ++ in_row high) }
 {
     let Forest { front, mut entries } = high;
-    add_front(alloc, low, front, spares)?;
+    add_front(low, front, spares)?;
     entries.reverse();
     while let Some(entry) = entries.pop() {
-        add(alloc, low, entry, spares)?;
+        add(low, entry, spares)?;
     }
     spares.keep_row(entries);
     Ok(())
@@ -258,7 +232,7 @@ pub fn append(
 
 /// Makes fewer trees of many: lower trees before a higher one become part of it, or trees as high, and three before
 /// another of their depth become one.
-pub fn gather(alloc: Global, forest: Forest, spares: &mut Spares) -> Result<Forest, AllocError>
+pub fn gather(forest: Forest, spares: &mut Spares) -> Result<Forest, AllocError>
     requires forest { IsForest forest }
     requires fits { length (in_row forest) < 2 ^ 61 }
     ensures forest { IfOk result (λ gathered. IsForest gathered) }
@@ -271,8 +245,8 @@ pub fn gather(alloc: Global, forest: Forest, spares: &mut Spares) -> Result<Fore
     };
     entries.reverse();
     while let Some(entry) = entries.pop() {
-        let entry = absorb(alloc, &mut gathered, entry, spares)?;
-        make_room(alloc, &mut gathered.entries, entry.part.levels, spares)?;
+        let entry = absorb(&mut gathered, entry, spares)?;
+        make_room(&mut gathered.entries, entry.part.levels, spares)?;
         gathered.entries.push(entry)?;
     }
     spares.keep_row(entries);

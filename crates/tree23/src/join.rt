@@ -2,7 +2,7 @@
 ghost use Rattle.std.specs.Prelude.{◌≡◌, ◌+◌, ◌%◌, ◌<◌, ◌^◌, ◌++◌, ◌∷◌, true, length, IfOk, OnOk};
 ghost use Rattle.tree23.specs.Nodes.{room, keys, depth, IsTree, IsBottom, IsPart, grown_keys, IsGrown};
 
-use crate::block::{ROOM, empty_block};
+use crate::block::ROOM;
 use crate::node::{Grown, Part, Tree, two};
 use crate::remove::{lower, pop_first};
 use crate::spares::Spares;
@@ -27,14 +27,14 @@ fn become_one(low: &Tree, high: &Tree) -> bool
     }
 }
 
-/// The block of a tree's keys: the tree's own, or a new one where it has none.
-fn block_in(alloc: Global, tree: Tree) -> Result<Box<Vec<u32>>, AllocError>
+/// The block of a tree's keys: the tree's own, or an empty one where it has none.
+fn block_in(tree: Tree, spares: &mut Spares) -> Result<Box<Vec<u32>>, AllocError>
     requires bottom { IsBottom tree }
     ensures { IfOk result (λ b. b.value.items ≡ keys tree) }
 {
     match tree {
         Tree::Block(block) => Ok(block),
-        Tree::Leaf => empty_block(alloc),
+        Tree::Leaf => spares.take_block(),
         Tree::One(_) | Tree::Two(_) | Tree::Three(_) => unreachable!(),
     }
 }
@@ -55,7 +55,7 @@ fn put_block_behind(block: &mut Vec<u32>, high: &Tree) -> Result<(), AllocError>
 }
 
 /// Puts a key and a tree behind one of the same depth. Two blocks become one where one has room for both and the key.
-fn meet(alloc: Global, low: &mut Tree, key: u32, high: Tree) -> Result<Grown, AllocError>
+fn meet(low: &mut Tree, key: u32, high: Tree, spares: &mut Spares) -> Result<Grown, AllocError>
     requires low { IsTree low.old }
     requires high { IsTree high }
     requires level { depth low.old ≡ depth high }
@@ -63,7 +63,7 @@ fn meet(alloc: Global, low: &mut Tree, key: u32, high: Tree) -> Result<Grown, Al
     ensures grown { IfOk result (λ g. IsGrown (depth low.old) low.new g) }
 {
     if become_one(low, &high) {
-        let mut block = block_in(alloc, mem::replace(low, Tree::Leaf))?;
+        let mut block = block_in(mem::replace(low, Tree::Leaf), spares)?;
         block.push(key)?;
         put_block_behind(&mut block, &high)?;
         *low = Tree::Block(block);
@@ -76,7 +76,6 @@ fn meet(alloc: Global, low: &mut Tree, key: u32, high: Tree) -> Result<Grown, Al
 /// Puts a key and `high` behind a tree at its right edge, that many levels below its root. `added` is how
 /// many keys that is.
 pub fn join_right(
-    alloc: Global,
     low: &mut Tree,
     levels: u64,
     key: u32,
@@ -92,32 +91,24 @@ pub fn join_right(
     ensures grown { IfOk result (λ g. IsGrown (depth low.old) low.new g) }
 {
     if levels == 0 {
-        return meet(alloc, low, key, high);
+        return meet(low, key, high, spares);
     }
     match low {
         Tree::Two(node) => {
-            match join_right(
-                alloc,
-                &mut node.second,
-                levels - 1,
-                key,
-                high,
-                added,
-                spares,
-            )? {
+            match join_right(&mut node.second, levels - 1, key, high, added, spares)? {
                 Grown::Fits => node.size = node.size.wrapping_add(added),
                 Grown::Splits(k, right) => widen_second(low, k, right),
             }
             Ok(Grown::Fits)
         }
         Tree::Three(node) => {
-            match join_right(alloc, &mut node.third, levels - 1, key, high, added, spares)? {
+            match join_right(&mut node.third, levels - 1, key, high, added, spares)? {
                 Grown::Fits => {
                     node.size = node.size.wrapping_add(added);
                     Ok(Grown::Fits)
                 }
                 Grown::Splits(k, right) => {
-                    let spare = spares.take(alloc)?;
+                    let spare = spares.take()?;
                     let (m, rest) = split_third(low, spare, k, right);
                     Ok(Grown::Splits(m, rest))
                 }
@@ -130,7 +121,6 @@ pub fn join_right(
 /// Puts `low` and a key before a tree at its left edge, that many levels below its root. `added` is how
 /// many keys that is.
 pub fn join_left(
-    alloc: Global,
     low: Tree,
     key: u32,
     high: &mut Tree,
@@ -147,24 +137,24 @@ pub fn join_left(
 {
     if levels == 0 {
         let right = mem::replace(high, low);
-        return meet(alloc, high, key, right);
+        return meet(high, key, right, spares);
     }
     match high {
         Tree::Two(node) => {
-            match join_left(alloc, low, key, &mut node.first, levels - 1, added, spares)? {
+            match join_left(low, key, &mut node.first, levels - 1, added, spares)? {
                 Grown::Fits => node.size = node.size.wrapping_add(added),
                 Grown::Splits(k, right) => widen_first(high, k, right),
             }
             Ok(Grown::Fits)
         }
         Tree::Three(node) => {
-            match join_left(alloc, low, key, &mut node.first, levels - 1, added, spares)? {
+            match join_left(low, key, &mut node.first, levels - 1, added, spares)? {
                 Grown::Fits => {
                     node.size = node.size.wrapping_add(added);
                     Ok(Grown::Fits)
                 }
                 Grown::Splits(k, right) => {
-                    let spare = spares.take(alloc)?;
+                    let spare = spares.take()?;
                     let (m, rest) = split_first(high, spare, k, right);
                     Ok(Grown::Splits(m, rest))
                 }
@@ -176,19 +166,14 @@ pub fn join_left(
 
 /// A tree and what came off it, under one root.
 #[inline]
-fn under_one_root(
-    alloc: Global,
-    part: &mut Part,
-    grown: Grown,
-    spares: &mut Spares,
-) -> Result<(), AllocError>
+fn under_one_root(part: &mut Part, grown: Grown, spares: &mut Spares) -> Result<(), AllocError>
     requires grown { IsGrown part.old.levels part.old.tree grown }
     requires fits { part.old.levels < 2 ^ 63 }
     ensures keys { OnOk result (keys part.new.tree ≡ grown_keys part.old.tree grown) }
     ensures part { OnOk result (IsPart part.new) }
 {
     if let Grown::Splits(k, right) = grown {
-        let root = spares.take(alloc)?;
+        let root = spares.take()?;
         let left = mem::replace(&mut part.tree, Tree::Leaf);
         part.tree = two(root, left, k, right);
         part.levels += 1;
@@ -199,7 +184,6 @@ fn under_one_root(
 /// Puts a key and a tree of any depth behind another.
 #[tactic(auto, using(crate::proofs::Depths::depth_within))]
 pub fn put_behind(
-    alloc: Global,
     low: &mut Part,
     key: u32,
     mut high: Part,
@@ -214,22 +198,21 @@ pub fn put_behind(
     if low.levels >= high.levels {
         let added = high.tree.size().wrapping_add(1);
         let levels = low.levels - high.levels;
-        let grown = join_right(alloc, &mut low.tree, levels, key, high.tree, added, spares)?;
-        under_one_root(alloc, low, grown, spares)
+        let grown = join_right(&mut low.tree, levels, key, high.tree, added, spares)?;
+        under_one_root(low, grown, spares)
     } else {
         let added = low.tree.size().wrapping_add(1);
         let levels = high.levels - low.levels;
         let left = mem::replace(&mut low.tree, Tree::Leaf);
-        let grown = join_left(alloc, left, key, &mut high.tree, levels, added, spares)?;
+        let grown = join_left(left, key, &mut high.tree, levels, added, spares)?;
         *low = high;
-        under_one_root(alloc, low, grown, spares)
+        under_one_root(low, grown, spares)
     }
 }
 
 /// Puts a tree of any depth and a key before another.
 #[tactic(auto, using(crate::proofs::Depths::depth_within))]
 pub fn put_before(
-    alloc: Global,
     mut low: Part,
     key: u32,
     high: &mut Part,
@@ -245,14 +228,14 @@ pub fn put_before(
         let added = high.tree.size().wrapping_add(1);
         let levels = low.levels - high.levels;
         let right = mem::replace(&mut high.tree, Tree::Leaf);
-        let grown = join_right(alloc, &mut low.tree, levels, key, right, added, spares)?;
+        let grown = join_right(&mut low.tree, levels, key, right, added, spares)?;
         *high = low;
-        under_one_root(alloc, high, grown, spares)
+        under_one_root(high, grown, spares)
     } else {
         let added = low.tree.size().wrapping_add(1);
         let levels = high.levels - low.levels;
-        let grown = join_left(alloc, low.tree, key, &mut high.tree, levels, added, spares)?;
-        under_one_root(alloc, high, grown, spares)
+        let grown = join_left(low.tree, key, &mut high.tree, levels, added, spares)?;
+        under_one_root(high, grown, spares)
     }
 }
 
@@ -269,7 +252,7 @@ pub fn chain(alloc: Global, low: &mut Part, mut high: Part) -> Result<(), AllocE
         Some(key) => {
             lower(&mut high);
             let mut spares = Spares::new(alloc);
-            put_behind(alloc, low, key, high, &mut spares)
+            put_behind(low, key, high, &mut spares)
         }
     }
 }

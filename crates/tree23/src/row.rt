@@ -102,7 +102,7 @@ impl Row {
     {
         let alloc = self.alloc;
         let mut forest = mem::replace(&mut self.forest, Forest::empty(alloc));
-        append(alloc, &mut forest, high.forest, spares)?;
+        append(&mut forest, high.forest, spares)?;
         self.forest = forest;
         Ok(())
     }
@@ -115,7 +115,7 @@ impl Row {
         if self.forest.entries.len() > MANY {
             let alloc = self.alloc;
             let forest = mem::replace(&mut self.forest, Forest::empty(alloc));
-            self.forest = gather(alloc, forest, spares)?;
+            self.forest = gather(forest, spares)?;
         }
         Ok(())
     }

@@ -41,11 +41,11 @@ impl Spares {
 
     /// A node that is at hand, or a new one.
     #[inline]
-    pub(crate) fn take(&mut self, alloc: Global) -> Result<Box<Node>, AllocError> {
+    pub(crate) fn take(&mut self) -> Result<Box<Node>, AllocError> {
         match self.nodes.pop() {
             Some(node) => Ok(node),
             None => {
-                let node = Box::new(alloc, bare())?;
+                let node = Box::new(self.alloc, bare())?;
                 Ok(node)
             }
         }

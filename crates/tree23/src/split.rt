@@ -8,7 +8,7 @@ use crate::block::cut_block;
 use crate::join::{put_before, put_behind};
 use crate::node::{Node, Part, Tree, bare, two};
 use crate::spares::Spares;
-use std::alloc::{AllocError, Global};
+use std::alloc::AllocError;
 use std::mem;
 
 /// The two parts of a tree.
@@ -21,7 +21,6 @@ pub struct Halves {
 /// Puts the keys below `key` and the others into two parts that are empty.
 #[cycle(cut)]
 pub fn split(
-    alloc: Global,
     tree: Tree,
     levels: u64,
     key: u32,
@@ -39,8 +38,8 @@ pub fn split(
 {
     match &tree {
         Tree::Leaf | Tree::Block(_) => split_block(tree, key, halves, spares),
-        Tree::Two(_) => split_two(alloc, tree, levels, key, halves, spares),
-        Tree::Three(_) => split_three(alloc, tree, levels, key, halves, spares),
+        Tree::Two(_) => split_two(tree, levels, key, halves, spares),
+        Tree::Three(_) => split_three(tree, levels, key, halves, spares),
         Tree::One(_) => unreachable!(),
     }
 }
@@ -75,7 +74,6 @@ fn split_block(
 /// The same of a root with two sides.
 #[cycle(cut)]
 fn split_two(
-    alloc: Global,
     tree: Tree,
     levels: u64,
     key: u32,
@@ -103,19 +101,19 @@ fn split_two(
             } = mem::replace(&mut *node, bare());
             spares.keep(node);
             if key <= low {
-                split(alloc, first, side, key, halves, spares)?;
+                split(first, side, key, halves, spares)?;
                 let rest = Part {
                     tree: second,
                     levels: side,
                 };
-                put_behind(alloc, &mut halves.high, low, rest, spares)
+                put_behind(&mut halves.high, low, rest, spares)
             } else {
-                split(alloc, second, side, key, halves, spares)?;
+                split(second, side, key, halves, spares)?;
                 let rest = Part {
                     tree: first,
                     levels: side,
                 };
-                put_before(alloc, rest, low, &mut halves.low, spares)
+                put_before(rest, low, &mut halves.low, spares)
             }
         }
         Tree::Leaf | Tree::Block(_) | Tree::One(_) | Tree::Three(_) => unreachable!(),
@@ -125,7 +123,6 @@ fn split_two(
 /// The same of a root with three sides.
 #[cycle(cut)]
 fn split_three(
-    alloc: Global,
     tree: Tree,
     levels: u64,
     key: u32,
@@ -155,25 +152,25 @@ fn split_three(
             } = mem::replace(&mut *node, bare());
             if key <= low {
                 let tree = two(node, second, high, third);
-                split(alloc, first, side, key, halves, spares)?;
-                put_behind(alloc, &mut halves.high, low, Part { tree, levels }, spares)
+                split(first, side, key, halves, spares)?;
+                put_behind(&mut halves.high, low, Part { tree, levels }, spares)
             } else if key <= high {
                 spares.keep(node);
-                split(alloc, second, side, key, halves, spares)?;
+                split(second, side, key, halves, spares)?;
                 let before = Part {
                     tree: first,
                     levels: side,
                 };
-                put_before(alloc, before, low, &mut halves.low, spares)?;
+                put_before(before, low, &mut halves.low, spares)?;
                 let behind = Part {
                     tree: third,
                     levels: side,
                 };
-                put_behind(alloc, &mut halves.high, high, behind, spares)
+                put_behind(&mut halves.high, high, behind, spares)
             } else {
                 let tree = two(node, first, low, second);
-                split(alloc, third, side, key, halves, spares)?;
-                put_before(alloc, Part { tree, levels }, high, &mut halves.low, spares)
+                split(third, side, key, halves, spares)?;
+                put_before(Part { tree, levels }, high, &mut halves.low, spares)
             }
         }
         Tree::Leaf | Tree::Block(_) | Tree::One(_) | Tree::Two(_) => unreachable!(),

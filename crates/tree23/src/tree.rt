@@ -117,7 +117,7 @@ impl Tree23 {
         };
         let mut spares = Spares::new(alloc);
         let Part { tree, levels } = self.root;
-        split(alloc, tree, levels, key, &mut halves, &mut spares)?;
+        split(tree, levels, key, &mut halves, &mut spares)?;
         let Halves { low, high } = halves;
         Ok((Tree23 { root: low, alloc }, Tree23 { root: high, alloc }))
     }

@@ -5,7 +5,7 @@ use Rattle.tree23.specs.declared.node.Tree.TheVariants.{Leaf, Block, One', Two',
 use Rattle.tree23.specs.declared.put.Put.{Put}
 use Rattle.tree23.specs.declared.put.Put.TheVariants.{Full, OutOfMemory, Found, Done}
 use Rattle.tree23.specs.declared.insert.Step.{Step}
-use Rattle.tree23.specs.declared.insert.Step.TheVariants.{Memory, Present, Added, Splits}
+use Rattle.tree23.specs.declared.insert.Step.TheVariants.{Memory, Added, Splits}
 use Rattle.tree23.specs.Keys.{with_key, has}
 use Rattle.tree23.specs.Nodes.{room, keys, depth, IsTree}
 
@@ -55,14 +55,12 @@ size_after Done n = (n + 1) % 2 ^ 64
 -- what an insertion comes to. A tree comes apart only where its root is full
 abbrev pub IsStep : ℕ → Tree → Tree → Step → Type 0
 IsStep key old new Memory = keys new ≡ keys old
-IsStep key old new Present = IsFound key (keys old) (keys new)
 IsStep key old new Added = IsAdded key (keys old) (keys new)
 IsStep key old new (Splits k right) = IsAdded key (keys old) (keys new ++ k ∷ keys right) × IsTree right × (depth right ≡ depth old) × IsFull old
 
 -- the same at a block
 abbrev pub IsBlockStep : ℕ → List ℕ → List ℕ → Step → Type 0
 IsBlockStep key old new Memory = new ≡ old
-IsBlockStep key old new Present = IsFound key old new
 IsBlockStep key old new Added = IsAdded key old new
 IsBlockStep key old new (Splits k right) = IsAdded key old (new ++ k ∷ keys right) × IsTree right × (depth right ≡ 0) × (room ≤ length old)
 

@@ -1,11 +1,11 @@
-//! A key put into a tree.
-ghost use Rattle.std.specs.Prelude.{◌≡◌, length, ◌≤◌, ◌+◌, ◌%◌, ◌<◌, ◌^◌, IfOk, OnErr};
+//! A key put into a tree, of which a block may come apart.
+ghost use Rattle.std.specs.Prelude.{◌≡◌, length, ◌≤◌, ◌+◌, ◌%◌, ◌<◌, ◌^◌, IfOk, OnOk, OnErr, false};
 ghost use Rattle.tree23.specs.declared.insert.Step.TheVariants.{Added};
-ghost use Rattle.tree23.specs.Keys.{StrictlyAscends};
+ghost use Rattle.tree23.specs.Keys.{StrictlyAscends, has};
 ghost use Rattle.tree23.specs.Nodes.{room, keys, depth, IsTree, IsPart, IsNarrow, IsWide};
-ghost use Rattle.tree23.specs.Steps.{IsBehindLow, IsInserted, IsSpare, IsStep, IsBlockStep};
+ghost use Rattle.tree23.specs.Steps.{IsAdded, IsBehindLow, IsInserted, IsSpare, IsStep, IsBlockStep};
 
-use crate::block::{ROOM, block_of, is_at, place, put_in_halves};
+use crate::block::{ROOM, block_of, place, put_in_halves};
 use crate::node::{Node, Part, Tree, bare, two};
 use crate::put::{Put, put_in};
 use crate::widen::{split_first, split_second, split_third, widen_first, widen_second};
@@ -17,7 +17,6 @@ use std::mem;
 pub enum Step {
     /// Nothing was changed.
     Memory,
-    Present,
     Added,
     /// The rest of the keys, behind a key.
     Splits(u32, Tree),
@@ -59,40 +58,44 @@ pub fn insert_at_root(alloc: Global, root: &mut Part, key: u32) -> Result<bool, 
         Put::Done => Ok(true),
         Put::Found => Ok(false),
         Put::OutOfMemory => Err(AllocError),
-        Put::Full => insert_where_full(alloc, root, key),
-    }
-}
-
-/// The same where the block of the key has no room.
-fn insert_where_full(alloc: Global, root: &mut Part, key: u32) -> Result<bool, AllocError>
-    requires part { IsPart root.old }
-    requires ascends { StrictlyAscends (keys root.old.tree) }
-    requires fits { root.old.levels < 2 ^ 63 }
-    ensures part { IsPart root.new }
-    ensures ok { IfOk result (λ added. IsInserted key (keys root.old.tree) (keys root.new.tree) added) }
-    ensures err { OnErr result (keys root.new.tree ≡ keys root.old.tree) }
-{
-    let spare = spare_for(alloc, &root.tree)?;
-    match insert_in(alloc, &mut root.tree, key) {
-        Step::Memory => Err(AllocError),
-        Step::Present => Ok(false),
-        Step::Added => Ok(true),
-        Step::Splits(k, right) => {
-            let Some(spare) = spare else { unreachable!() };
-            let left = mem::replace(&mut root.tree, Tree::Leaf);
-            root.tree = two(spare, left, k, right);
-            root.levels += 1;
+        Put::Full => {
+            insert_where_full(alloc, root, key)?;
             Ok(true)
         }
     }
 }
 
-/// Puts the key into the tree, in place.
+/// Puts in a key that is not there, where its block has no room.
+fn insert_where_full(alloc: Global, root: &mut Part, key: u32) -> Result<(), AllocError>
+    requires part { IsPart root.old }
+    requires ascends { StrictlyAscends (keys root.old.tree) }
+    requires absent { has key (keys root.old.tree) ≡ false }
+    requires fits { root.old.levels < 2 ^ 63 }
+    ensures part { IsPart root.new }
+    ensures ok { OnOk result (IsAdded key (keys root.old.tree) (keys root.new.tree)) }
+    ensures err { OnErr result (keys root.new.tree ≡ keys root.old.tree) }
+{
+    let spare = spare_for(alloc, &root.tree)?;
+    match insert_in(alloc, &mut root.tree, key) {
+        Step::Memory => Err(AllocError),
+        Step::Added => Ok(()),
+        Step::Splits(k, right) => {
+            let Some(spare) = spare else { unreachable!() };
+            let left = mem::replace(&mut root.tree, Tree::Leaf);
+            root.tree = two(spare, left, k, right);
+            root.levels += 1;
+            Ok(())
+        }
+    }
+}
+
+/// Puts a key that is not there into the tree, in place.
 #[cycle(insertion)]
 #[tactic(auto, using(crate::proofs::Adding::adding))]
 pub fn insert_in(alloc: Global, tree: &mut Tree, key: u32) -> Step
     requires tree { IsTree tree.old }
     requires ascends { StrictlyAscends (keys tree.old) }
+    requires absent { has key (keys tree.old) ≡ false }
     ensures tree { IsTree tree.new }
     ensures depth { depth tree.new ≡ depth tree.old }
     ensures step { IsStep key tree.old tree.new result }
@@ -116,13 +119,12 @@ pub fn insert_in(alloc: Global, tree: &mut Tree, key: u32) -> Step
 fn insert_in_block(alloc: Global, block: &mut Vec<u32>, key: u32) -> Step
     requires fits { length block.old.items ≤ room }
     requires ascends { StrictlyAscends block.old.items }
+    requires absent { has key block.old.items ≡ false }
     ensures fits { length block.new.items ≤ room }
     ensures step { IsBlockStep key block.old.items block.new.items result }
 {
     let at = place(block, key);
-    if is_at(block, at, key) {
-        Step::Present
-    } else if block.len() < ROOM {
+    if block.len() < ROOM {
         match block.insert(at, key) {
             Ok(()) => Step::Added,
             Err(_) => Step::Memory,
@@ -142,6 +144,7 @@ fn insert_in_two(alloc: Global, tree: &mut Tree, key: u32) -> Step
     requires tree { IsTree tree.old }
     requires narrow { IsNarrow tree.old }
     requires ascends { StrictlyAscends (keys tree.old) }
+    requires absent { has key (keys tree.old) ≡ false }
     ensures tree { IsTree tree.new }
     ensures depth { depth tree.new ≡ depth tree.old }
     ensures step { IsStep key tree.old tree.new result }
@@ -155,7 +158,6 @@ fn insert_in_two(alloc: Global, tree: &mut Tree, key: u32) -> Step
                         Step::Added
                     }
                     Step::Added => counted(&mut node.size),
-                    Step::Present => Step::Present,
                     Step::Memory => Step::Memory,
                 }
             } else if node.low < key {
@@ -165,11 +167,10 @@ fn insert_in_two(alloc: Global, tree: &mut Tree, key: u32) -> Step
                         Step::Added
                     }
                     Step::Added => counted(&mut node.size),
-                    Step::Present => Step::Present,
                     Step::Memory => Step::Memory,
                 }
             } else {
-                Step::Present
+                unreachable!()
             }
         }
         Tree::Leaf | Tree::Block(_) | Tree::One(_) | Tree::Three(_) => unreachable!(),
@@ -183,6 +184,7 @@ fn insert_in_three(alloc: Global, tree: &mut Tree, key: u32) -> Step
     requires tree { IsTree tree.old }
     requires wide { IsWide tree.old }
     requires ascends { StrictlyAscends (keys tree.old) }
+    requires absent { has key (keys tree.old) ≡ false }
     ensures tree { IsTree tree.new }
     ensures depth { depth tree.new ≡ depth tree.old }
     ensures step { IsStep key tree.old tree.new result }
@@ -200,13 +202,12 @@ fn insert_in_three(alloc: Global, tree: &mut Tree, key: u32) -> Step
                         Step::Splits(k, rest)
                     }
                     Step::Added => counted(&mut node.size),
-                    Step::Present => Step::Present,
                     Step::Memory => Step::Memory,
                 }
             } else if node.low < key {
                 insert_behind_low(alloc, tree, key)
             } else {
-                Step::Present
+                unreachable!()
             }
         }
         Tree::Leaf | Tree::Block(_) | Tree::One(_) | Tree::Two(_) => unreachable!(),
@@ -221,6 +222,7 @@ fn insert_behind_low(alloc: Global, tree: &mut Tree, key: u32) -> Step
     requires wide { IsWide tree.old }
     requires behind { IsBehindLow key tree.old }
     requires ascends { StrictlyAscends (keys tree.old) }
+    requires absent { has key (keys tree.old) ≡ false }
     ensures tree { IsTree tree.new }
     ensures depth { depth tree.new ≡ depth tree.old }
     ensures step { IsStep key tree.old tree.new result }
@@ -238,7 +240,6 @@ fn insert_behind_low(alloc: Global, tree: &mut Tree, key: u32) -> Step
                         Step::Splits(k, rest)
                     }
                     Step::Added => counted(&mut node.size),
-                    Step::Present => Step::Present,
                     Step::Memory => Step::Memory,
                 }
             } else if node.high < key {
@@ -252,11 +253,10 @@ fn insert_behind_low(alloc: Global, tree: &mut Tree, key: u32) -> Step
                         Step::Splits(k, rest)
                     }
                     Step::Added => counted(&mut node.size),
-                    Step::Present => Step::Present,
                     Step::Memory => Step::Memory,
                 }
             } else {
-                Step::Present
+                unreachable!()
             }
         }
         Tree::Leaf | Tree::Block(_) | Tree::One(_) | Tree::Two(_) => unreachable!(),

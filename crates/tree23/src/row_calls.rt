@@ -10,7 +10,8 @@ use crate::look::{find_in, next_in};
 use crate::remove::{lower, pop_first, remove_in};
 use std::alloc::{AllocError, Global};
 
-/// How many of the keys of a row's entries, which ascend, are not above a key.
+/// How many of the keys of a row's entries, which ascend, are not above a key. They are looked at one after another: a
+/// row that is gathered has few.
 #[inline]
 fn place(forest: &Forest, key: u32) -> usize
     ensures { IsPlace key forest.now.entries.items result }

@@ -1,8 +1,9 @@
-use Rattle.std.proofs.Common.{◌++◌, ◌∷◌, ◌<◌, ◌≡◌, ◌∙◌, arith, rules}
-use Rattle.tree23.specs.Keys.{StrictlyAscends}
+use Rattle.std.proofs.Common.{◌++◌, ◌∷◌, ◌<◌, ◌≡◌, ◌∙◌, sym, false, arith, rules}
+use Rattle.tree23.specs.Keys.{StrictlyAscends, has}
 use Rattle.tree23.specs.Nodes.{keys}
 use Rattle.tree23.proofs.Adding.{added_left, added_right, added_mid, two_left, three_mid, three_right}
 use Rattle.tree23.proofs.Ascending.{ascends_behind}
+use Rattle.tree23.proofs.Beside.{has_right}
 use Rattle.tree23.proofs.Sizes.{size_of_added}
 use Rattle.tree23.proofs.insert.+insertion.Goals as goal
 
@@ -146,3 +147,12 @@ insert_behind_low-returns-in-Some-spare-clause-step t c =
     let a = three_right _ _ _ _ _ _ _ s gt gt' i in
     let k : keys c.split_third-k.new.tree ++ c.split_third-k.result.0 ∷ keys c.split_third-k.result.1 ≡ (keys c.in-Three.node.value.first ++ c.in-Three.node.value.low ∷ keys c.in-Three.node.value.second) ++ c.in-Three.node.value.high ∷ (keys c.insert_in-then-deref-key.new.tree ++ c.in-Splits-insert_in.j ∷ keys c.in-Splits-insert_in.right) = search rules in
     rw c.in-Three.is (record { is = k ∙ a.is; absent = a.absent }, search rules, search rules, tt)
+
+pub insert_behind_low-insert_in-requires-then-deref-key : goal.insert_behind_low-insert_in-requires-then-deref-key
+insert_behind_low-insert_in-requires-then-deref-key t c =
+    let s : StrictlyAscends (keys c.in-Three.node.value.first ++ c.in-Three.node.value.low ∷ (keys c.in-Three.node.value.second ++ c.in-Three.node.value.high ∷ keys c.in-Three.node.value.third)) = rw c.in-Three.is at c.requires.ascends in
+    let none : has c.args.key (keys c.in-Three.node.value.first ++ c.in-Three.node.value.low ∷ (keys c.in-Three.node.value.second ++ c.in-Three.node.value.high ∷ keys c.in-Three.node.value.third)) ≡ false = rw c.in-Three.is at c.requires.absent in
+    let gt : c.in-Three.node.value.low < c.args.key = rw c.in-Three.is at c.requires.behind in
+    let gt' : c.in-Three.node.value.high < c.args.key = grind arith in
+    let absent = sym (has_right _ _ _ _ gt' (ascends_behind _ _ _ s)) ∙ sym (has_right _ _ _ _ gt s) ∙ none in
+    (search rules, (search rules, (rw c.deref_mut-then-deref-key.ensures.value (ascends_behind _ _ _ (ascends_behind _ _ _ s)), rw c.deref_mut-then-deref-key.ensures.value absent)))

@@ -1,5 +1,5 @@
 //! What is left of a row while its keys are taken off from the least on.
-ghost use Rattle.std.specs.Prelude.{◌≡◌, ◌<◌, ◌≤◌, List, [], ◌∷◌, ◌++◌, slice_get, None, IfOk, IfSome};
+ghost use Rattle.std.specs.Prelude.{◌≡◌, ◌<◌, ◌≤◌, List, [], ◌∷◌, ◌++◌, slice_get, None, IfOk, IfSome, OnErr};
 ghost use Rattle.tree23.specs.declared.forest.Entry.{Entry as EntryOf};
 ghost use Rattle.tree23.specs.Keys.{StrictlyAscends};
 ghost use Rattle.tree23.specs.Nodes.{keys, IsPart};
@@ -65,7 +65,8 @@ impl Rest {
     /// Takes off the keys below `key`. The subtrees beside the way to the key move whole. Without memory all keys are
     /// lost.
     pub fn take_below(&mut self, key: u32, spares: &mut Spares) -> Result<Row, AllocError>
-        ensures { IfOk result (λ row. IsSplit key self.old row self.new) }
+        ensures split { IfOk result (λ row. IsSplit key self.old row self.new) }
+        ensures err { OnErr result (self.new ≡ []) }
     {
         let alloc = self.alloc;
         let high = mem::replace(&mut self.forest, Forest::empty(alloc));

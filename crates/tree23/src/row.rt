@@ -94,11 +94,12 @@ impl Row {
         remove_in_row(&mut self.forest, key)
     }
 
-    /// Puts the keys of another row behind these. Low trees become one on the way. Without memory keys are lost.
+    /// Puts the keys of another row behind these. Low trees become one on the way. Without memory all keys are lost.
     #[tactic(auto, using(crate::proofs::KeySets::key_set_length))]
     pub fn append(&mut self, high: Row, spares: &mut Spares) -> Result<(), AllocError>
         requires { AllBelow self.old high }
-        ensures { OnOk result (self.new ≡ self.old ++ high) }
+        ensures keys { OnOk result (self.new ≡ self.old ++ high) }
+        ensures err { OnErr result (self.new ≡ []) }
     {
         let alloc = self.alloc;
         let mut forest = mem::replace(&mut self.forest, Forest::empty(alloc));
@@ -107,10 +108,11 @@ impl Row {
         Ok(())
     }
 
-    /// Makes fewer trees, where there are many. Without memory keys are lost.
+    /// Makes fewer trees, where there are many. Without memory all keys are lost.
     #[tactic(auto, using(crate::proofs::KeySets::key_set_length))]
     pub fn gather(&mut self, spares: &mut Spares) -> Result<(), AllocError>
-        ensures { OnOk result (self.new ≡ self.old) }
+        ensures keys { OnOk result (self.new ≡ self.old) }
+        ensures err { OnErr result (self.new ≡ []) }
     {
         if self.forest.entries.len() > MANY {
             let alloc = self.alloc;

@@ -1,24 +1,23 @@
--- The event that a turn chooses has what its code looks up.
+-- What the code of an event looks up is there: the tick and the looks have room, and a node that is claimed stands at an end of its list.
 use Rattle.std.proofs.Common.{ℕ, ◌≡◌, ◌<◌, ◌+◌, ◌^◌, Option, Some, None, IfSome, List, arith, refl, sym, ◌∙◌, ap}
 use Rattle.seq_objects.specs.declared.act.Act.{Act}
 use Rattle.sp_order.specs.Precedence.{Tree}
 use Rattle.sp_order.specs.Preorder.{nodes_of}
 use Rattle.batcher_core.specs.declared.event.Event.{Event}
-use Rattle.batcher_core.specs.declared.event.Event.TheVariants.{Claim, Start, OpenParRight, OpenParLeft, OpenSeqLeft, OpenSeqRight, Post, Win, Take, Publish, Answer, Release, Leave, Keep, End, FinishLeaf, FinishSeq, FinishPar, ArriveFirst, ArriveSecond}
+use Rattle.batcher_core.specs.declared.event.Event.TheVariants.{Claim, Take}
 use Rattle.batcher_core.specs.declared.hold.Hold.{Hold as HoldTable}
 use Rattle.batcher_core.specs.declared.table.Table.{Table}
 use Rattle.batcher_core.specs.State.{Hold, core_job}
 use Rattle.batcher_core.specs.Events.{Needs}
 use Rattle.batcher_core.specs.Choice.{choice}
 use Rattle.batcher_core.specs.Ranges.{IsInRange}
-use Rattle.batcher_core.specs.Shown.{state_of, ready_of, shown, hold_of}
-use Rattle.batcher_core.specs.Looks.{Allows}
+use Rattle.batcher_core.specs.Shown.{state_of, ready_of, shown, hold_of, IsAtEnd}
 use Rattle.batcher_core.specs.Cores.{Fits}
 use Rattle.batcher_core.proofs.InRange.{event_in}
 use Rattle.batcher_core.proofs.TickRoom.{tick_most}
 use Rattle.batcher_core.proofs.ClaimEnds.{claim_ends}
 use Rattle.batcher_core.proofs.Choices.{choice_needs}
-use Rattle.batcher_core.proofs.ListKeeps.{lists_fit}
+use Rattle.batcher_core.proofs.PartsCarried.{kept_parts}
 
 tick_of : (t : Table) → (state_of t).tick ≡ t.tick
 unfolding state_of
@@ -37,40 +36,25 @@ look_room None hd is room = tt
 look_room (Some h) hd is room = let e : h.looks ≡ hd.looks = ap looks_of is in omega (arith, e, room)
 
 module _ (tree : Tree) (acts : List Act) (workers : ℕ) (t : Table) (w : ℕ) (h : Fits tree acts workers t) where
-  room : t.tick + 1 < 2 ^ 64
-  room = let l = tick_most (core_job tree acts workers) (state_of t) h.laws h.parts in let m = h.most in let e = tick_of t in omega (arith, l, m, e)
+  -- the tick has room
+  pub room : t.tick + 1 < 2 ^ 64
+  room = let l = tick_most (core_job tree acts workers) (state_of t) h.laws (kept_parts tree acts workers t h) in let m = h.most in let e = tick_of t in omega (arith, l, m, e)
 
-  needs_allow : (event : Event) → choice (core_job tree acts workers) (shown t) w ≡ Some event → Needs (core_job tree acts workers) (state_of t) w event
-      → Allows (core_job tree acts workers) t w event
-  needs_allow (Claim n) chosen needs = claim_ends (core_job tree acts workers) (shown t) w n h.parts h.lists needs.0 needs.1 chosen
-  needs_allow (Start n) chosen needs = room
-  needs_allow (OpenParRight p l r) chosen needs = tt
-  needs_allow (OpenParLeft p l r) chosen needs = tt
-  needs_allow (OpenSeqLeft p l r) chosen needs = tt
-  needs_allow (OpenSeqRight p l r) chosen needs = tt
-  needs_allow (Post n a) chosen needs = tt
-  needs_allow Win chosen needs = tt
-  needs_allow (Take u) chosen needs =
+  -- the look has room
+  pub take_room : (u : ℕ) → Needs (core_job tree acts workers) (state_of t) w (Take u) → IfSome t.hold (λ (h : HoldTable). h.looks < 32)
+  take_room u needs =
       let few = h.few in let at = needs.2 in let below = needs.3 in
       look_room t.hold needs.0 (sym (held t) ∙ needs.1.0) (omega (arith, few, at, below))
-  needs_allow Publish chosen needs = needs
-  needs_allow (Answer u r) chosen needs = tt
-  needs_allow Release chosen needs = tt
-  needs_allow (Leave r) chosen needs = tt
-  needs_allow (Keep n a v) chosen needs = tt
-  needs_allow (End n a) chosen needs = room
-  needs_allow (FinishLeaf n a b) chosen needs = tt
-  needs_allow (FinishSeq p l r) chosen needs = tt
-  needs_allow (FinishPar p l r) chosen needs = tt
-  needs_allow (ArriveFirst p l r n) chosen needs = tt
-  needs_allow (ArriveSecond p l r n) chosen needs = tt
 
   module _ (below : w < workers) (event : Event) (chosen : choice (core_job tree acts workers) (shown t) w ≡ Some event) where
     pub chosen_needs : Needs (core_job tree acts workers) (state_of t) w event
-    chosen_needs = choice_needs (core_job tree acts workers) (shown t) w event h.laws below h.parts (lists_fit workers (state_of t).node (ready_of t) h.lists) chosen
+    chosen_needs = choice_needs (core_job tree acts workers) (shown t) w event h.laws below (kept_parts tree acts workers t h) h.inv.lists chosen
 
     pub chosen_in_range : IsInRange (nodes_of tree).count workers event
-    chosen_in_range = event_in (core_job tree acts workers) (state_of t) h.laws h.parts w event chosen_needs
+    chosen_in_range = event_in (core_job tree acts workers) (state_of t) h.laws (kept_parts tree acts workers t h) w event chosen_needs
 
-    pub chosen_allows : Allows (core_job tree acts workers) t w event
-    chosen_allows = needs_allow event chosen chosen_needs
+    -- a claimed node stands at an end of its list
+    pub chosen_at_end : (n : ℕ) → event ≡ Claim n → (v : ℕ) → IsAtEnd n (ready_of t v)
+    chosen_at_end n claims =
+        let needs : Needs (core_job tree acts workers) (state_of t) w (Claim n) = rw claims at chosen_needs in
+        claim_ends (core_job tree acts workers) (shown t) w n (kept_parts tree acts workers t h) h.inv.lists needs.0 needs.1 (chosen ∙ ap Some claims)

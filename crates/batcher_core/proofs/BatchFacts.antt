@@ -18,9 +18,9 @@ use Rattle.batcher_core.specs.Operations.{leaf_of, op_of, Place, place_in, or_el
 use Rattle.batcher_core.specs.Tasks.{names, TaskFits}
 use Rattle.batcher_core.specs.Events.{published}
 use Rattle.batcher_core.specs.GateParts.{HasReceipt, is_taken_by, HoldStands}
-use Rattle.batcher_core.specs.KeptNodes.{TasksKept}
-use Rattle.batcher_core.specs.KeptTicks.{stamp, stamps}
-use Rattle.batcher_core.specs.KeptBook.{StatusFits, EntryFits, IsEarlier, is_booked, booked_by, worker_at}
+use Rattle.batcher_core.proofs.KeptNodes.{TasksKept}
+use Rattle.batcher_core.proofs.KeptTicks.{stamp, stamps}
+use Rattle.batcher_core.proofs.KeptBook.{StatusFits, EntryFits, IsEarlier, is_booked, booked_by, worker_at}
 use Rattle.batcher_core.proofs.Books.{place_append, place_in_batch}
 
 -- the node that a task has started

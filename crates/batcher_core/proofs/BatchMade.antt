@@ -1,5 +1,5 @@
 -- The entries of the calls that were taken, once served, make the batch that is to be published.
-use Rattle.std.proofs.Common.{ℕ, ◌≡◌, ◌≢◌, ◌<◌, ◌≤◌, ◌+◌, ◌*◌, ◌^◌, Bool, true, false, Some, List, [], ◌∷◌, map, length, arith, ◌∙◌, ap}
+use Rattle.std.proofs.Common.{ℕ, ◌≡◌, ◌≢◌, ◌<◌, ◌≤◌, Bool, true, false, Some, List, [], ◌∷◌, map, length, arith, ◌∙◌, ap}
 use Rattle.std.specs.Prelude.{Contains}
 use Rattle.std.specs.List.{AllByRecursion}
 use Rattle.std.proofs.lemmas.List.{length-map}
@@ -16,8 +16,8 @@ use Rattle.batcher_core.specs.declared.status.CallState.{CallState}
 use Rattle.batcher_core.specs.State.{CoreJob, Hold, State}
 use Rattle.batcher_core.specs.Events.{has_taken, IsTakenCall, IsBatchOf}
 use Rattle.batcher_core.specs.GateParts.{IsAtCall, is_taken_by, HoldStands}
-use Rattle.batcher_core.specs.KeptBook.{StatusFits}
-use Rattle.batcher_core.specs.KeptParts.{PartsKept}
+use Rattle.batcher_core.proofs.KeptBook.{StatusFits}
+use Rattle.batcher_core.proofs.KeptParts.{PartsKept}
 use Rattle.batcher_core.specs.Batches.{IsCallOf, AreTakenCalls, call_in, AreEntriesOf}
 use Rattle.batcher_core.proofs.EntryLists.{each_so, each_mapped}
 use Rattle.batcher_core.proofs.BatchFacts.{executing}
@@ -65,11 +65,6 @@ module _ (job : CoreJob) (s : State) (hd : Hold) (h : PartsKept job s) (there : 
       (each_mapped (λ (call : Call). call.worker) (λ (call : Call). (hd.took call.worker ≡ true) × IsCallOf job (s.task call.worker) call)
       (λ w. w < job.workers) (λ call is. taken_below call.worker is.0) calls taken.only) in
       rw length-map at few
-
-  -- so there is room for the sums of serving them
-  pub serving_room : (calls : List Call) → AreTakenCalls job s.task hd.took calls → job.workers ≤ 32 → s.objects.counter + 32 * 2 ^ 32 ≤ 2 ^ 64
-      → s.objects.counter + length calls * 2 ^ 32 ≤ 2 ^ 64
-  serving_room calls taken workers room = let few = few_calls calls taken in omega (arith, few, workers, room)
 
   module _ (entries : List Entry) (taken : AreTakenCalls job s.task hd.took (map call_in entries)) where
     workers_same : map (λ (call : Call). call.worker) (map call_in entries) ≡ map (λ (e : Entry). e.worker) entries

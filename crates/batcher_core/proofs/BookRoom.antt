@@ -4,20 +4,14 @@ use Rattle.std.proofs.lemmas.List.{length-map}
 use Rattle.std.specs.List.{IsDistinct, AllByRecursion, list_any}
 use Rattle.std.proofs.Math.Dec.{eqb}
 use Rattle.std.proofs.lemmas.Map.Steps.{length-le_from_distinct_below}
-use Rattle.seq_objects.specs.Objects as objects
-use Rattle.seq_objects.specs.Objects.{Objects, after, argument_of}
+use Rattle.seq_objects.specs.Objects.{Objects}
 use Rattle.seq_objects.specs.declared.call.Call.{Call as Asked}
-use Rattle.seq_objects.specs.declared.op.Op.{Op}
-use Rattle.seq_objects.specs.declared.op.Op.TheVariants.{CounterAdd, Push, Pop, TreeInsert, TreeRemove, TreeFind, TreeNext, PqInsert, PqTake}
-use Rattle.seq_objects.specs.declared.act.Act.{Act}
-use Rattle.seq_objects.specs.declared.act.Act.TheVariants.{Work, Call}
 use Rattle.batch_history.specs.declared.batch.Entry.{Entry}
 use Rattle.seq_objects.specs.Pairs.{AreDistinct}
 use Rattle.batch_history.specs.Book.{flat, IsBatch}
 use Rattle.batcher_core.specs.State.{CoreJob, State}
 use Rattle.batcher_core.specs.Operations.{op_in, IsCall}
-use Rattle.batcher_core.specs.Serving.{served}
-use Rattle.batcher_core.specs.KeptParts.{PartsKept}
+use Rattle.batcher_core.proofs.KeptParts.{PartsKept}
 use Rattle.batcher_core.specs.Batches.{call_in, AreEntriesOf}
 use Rattle.batcher_core.proofs.EntryLists.{each_so, each_mapped}
 use Rattle.batcher_core.proofs.Books.{flat_append}
@@ -45,32 +39,6 @@ few_batches [] h = omega arith
 few_batches ([] ∷ book) h = absurd (h.0.some refl)
 few_batches ((e ∷ es) ∷ book) h = let more = few_batches book h.1 in omega (arith, length-append es (flat book), more)
 
--- the act of a leaf that has an operation
-act_calls : (act : Act) (op : Op) → op_in act ≡ Some op → act ≡ Call op
-act_calls (Work steps) op e = cc
-act_calls (Call op') op e = cc
-
--- one operation adds less than 2^32 to the counter
-counter_step : (objects : Objects) (op : Op) → argument_of op < 2 ^ 32 → (after objects op).counter ≤ objects.counter + 2 ^ 32
-counter_step objects (CounterAdd addend) small = omega (arith, small)
-counter_step objects (Push item) small = omega arith
-counter_step objects Pop small = omega arith
-counter_step objects (TreeInsert key) small = omega arith
-counter_step objects (TreeRemove key) small = omega arith
-counter_step objects (TreeFind key) small = omega arith
-counter_step objects (TreeNext key) small = omega arith
-counter_step objects (PqInsert item) small = omega arith
-counter_step objects PqTake small = omega arith
-
--- and so do many
-counter_steps : (objects : Objects) (entries : List Entry) → AllByRecursion (λ (e : Entry). argument_of e.op < 2 ^ 32) entries
-    → (served objects entries).counter ≤ objects.counter + length entries * 2 ^ 32
-counter_steps objects [] small = omega arith
-counter_steps objects (e ∷ es) small =
-    let first = counter_step objects e.op small.0 in
-    let rest = counter_steps (after objects e.op) es small.1 in
-    omega (arith, first, rest)
-
 -- the counter stays so, if a batch makes it no greater than that
 pub counter_grows : (book : List (List Entry)) (calls : List Asked) (batch : List Entry) (old new : Objects) → AreEntriesOf calls batch
     → new.counter ≤ old.counter + length calls * 2 ^ 32 → old.counter ≤ length (flat book) * 2 ^ 32 → new.counter ≤ length (flat (book ++ batch ∷ [])) * 2 ^ 32
@@ -93,14 +61,6 @@ module _ (job : CoreJob) (s : State) (h : PartsKept job s) where
   -- so batches and places have numbers below that of the nodes
   pub book_room : ((leaf : ℕ) → IsCall job leaf → leaf < job.plan.count) → (length (flat s.book) ≤ job.plan.count) × (length s.book ≤ length (flat s.book))
   book_room below = (few_entries job.plan.count below, few_batches s.book h.book.batches)
-
-  -- the counter, where each operation adds less than 2^32
-  pub counter_most : ((leaf : ℕ) (op : Op) → job.act leaf ≡ Call op → argument_of op < 2 ^ 32) → s.objects.counter ≤ length (flat s.book) * 2 ^ 32
-  counter_most small =
-      let each = each_so (λ (e : Entry). op_in (job.act e.leaf) ≡ Some e.op) (λ (e : Entry). argument_of e.op < 2 ^ 32)
-      (λ e is. small e.leaf e.op (act_calls (job.act e.leaf) e.op is)) (flat s.book) h.book.operations in
-      let steps = counter_steps objects.opening (flat s.book) each in
-      rw h.book.objects_after (omega (arith, steps))
 
   -- a counter that has grown so has room for 32 more operations
   pub counter_room : ((leaf : ℕ) → IsCall job leaf → leaf < job.plan.count) → job.plan.count < 40000 → s.objects.counter ≤ length (flat s.book) * 2 ^ 32

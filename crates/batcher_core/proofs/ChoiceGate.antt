@@ -15,8 +15,8 @@ use Rattle.batcher_core.specs.Operations.{leaf_of, IsCall, Place, place_of}
 use Rattle.batcher_core.specs.Tasks.{names, TaskFits}
 use Rattle.batcher_core.specs.Events.{Needs, Holds}
 use Rattle.batcher_core.specs.GateParts.{IsAtCall, is_taken_by, is_published, HoldStands}
-use Rattle.batcher_core.specs.KeptBook.{StatusFits, booked_by, worker_at}
-use Rattle.batcher_core.specs.KeptParts.{PartsKept}
+use Rattle.batcher_core.proofs.KeptBook.{StatusFits, booked_by, worker_at}
+use Rattle.batcher_core.proofs.KeptParts.{PartsKept}
 use Rattle.batcher_core.specs.Choice.{some_below, least_below, is_owed, leaf_named, answer_with, choice_answer, choice_holding}
 use Rattle.batcher_core.proofs.ChoiceSearch.{if_both, some_is_found, none_is_found, least_is_chosen, no_least}
 use Rattle.batcher_core.proofs.ChoiceTasks.{Gives}

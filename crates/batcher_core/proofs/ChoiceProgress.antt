@@ -1,5 +1,5 @@
 -- Where the root is not done, some worker's turn makes an event.
-use Rattle.std.proofs.Common.{ℕ, zero, suc, ◌≡◌, ◌≢◌, ◌<◌, ◌+◌, ◌⊎◌, Bool, true, false, Option, Some, None, List, arith, refl, inl, inr, sym, ◌∙◌, ap}
+use Rattle.std.proofs.Common.{ℕ, zero, suc, ◌≡◌, ◌≢◌, ◌<◌, ◌+◌, ◌⊎◌, Bool, true, false, Option, Some, None, List, [], arith, refl, inl, inr, sym, ◌∙◌, ap}
 use Rattle.std.proofs.lemmas.Bool.{cases_eq, cases_lt}
 use Rattle.sp_order.specs.declared.node.Kind.TheVariants.{LeafNode, SeqNode, ParNode}
 use Rattle.sp_order.specs.declared.node.Move.{Move}
@@ -15,7 +15,6 @@ use Rattle.batcher_core.specs.declared.task.Task.TheVariants.{Idle}
 use Rattle.batcher_core.specs.declared.status.Status.{Status}
 use Rattle.batcher_core.specs.declared.status.Status.TheVariants.{Free, Pending, Executing, Served}
 use Rattle.batcher_core.specs.declared.status.CallState.{CallState}
-use Rattle.batcher_core.specs.declared.status.CallState.TheVariants.{Out}
 use Rattle.batcher_core.specs.declared.status.Receipt.{Receipt}
 use Rattle.batcher_core.specs.declared.event.Event.{Event}
 use Rattle.batcher_core.specs.declared.event.Event.TheVariants.{Claim, Win, Leave}
@@ -24,14 +23,15 @@ use Rattle.batcher_core.specs.Lists.{ListsFit}
 use Rattle.batcher_core.specs.Tasks.{is_done, names}
 use Rattle.batcher_core.specs.Events.{Needs}
 use Rattle.batcher_core.specs.GateParts.{is_taken_by, HoldStands}
-use Rattle.batcher_core.specs.KeptNodes.{passed_if, LeftAlone, TasksKept}
-use Rattle.batcher_core.specs.KeptBook.{StatusFits}
-use Rattle.batcher_core.specs.KeptParts.{PartsKept}
+use Rattle.batcher_core.proofs.KeptNodes.{passed_if, LeftAlone, TasksKept}
+use Rattle.batcher_core.proofs.KeptBook.{StatusFits}
+use Rattle.batcher_core.proofs.KeptParts.{PartsKept}
 use Rattle.batcher_core.specs.Choice.{choice_holding, choice_free, choice}
 use Rattle.batcher_core.proofs.FinishTasks.{unnamed}
 use Rattle.batcher_core.proofs.ChoiceTasks.{Gives, task_gives}
 use Rattle.batcher_core.proofs.ChoiceGate.{holding_gives}
-use Rattle.batcher_core.proofs.Choices.{is_idle, call_out, none_has_no_event}
+use Rattle.batcher_core.proofs.StatusRows.{call_out, out_busy, idle_free}
+use Rattle.batcher_core.proofs.Choices.{is_idle, none_has_no_event}
 
 ready_or_taken : (x : Progress) → x ≢ Waiting → is_done x ≡ false → (x ≡ Ready) ⊎ (x ≡ Taken)
 ready_or_taken x h g = grind arith
@@ -76,12 +76,6 @@ HasEvent job s = (w : ℕ) × (w < job.workers) × (event : Event) × Needs job 
 given : (job : CoreJob) (s : State) (w : ℕ) (o : Option Event) → Gives job s w o → (event : Event) × Needs job s w event
 given job s w None h = absurd h
 given job s w (Some event) h = (event, h)
-
-out_busy : (job : CoreJob) (book : List (List Entry)) (t : Task) (st : Status) (c : CallState) (b : Bool) → c ≡ Out → StatusFits job book t st c b → t ≢ Idle
-out_busy job book t st c b out h idle = grind arith
-
-trapped_not_idle : (job : CoreJob) (book : List (List Entry)) (t : Task) (st : Status) (c : CallState) (b : Bool) → t ≡ Idle → StatusFits job book t st c b → st ≡ Free
-trapped_not_idle job book t st c b idle h = grind arith
 
 which_trapped : (job : CoreJob) (book : List (List Entry)) (t : Task) (st : Status) (c : CallState) (b : Bool) → b ≡ false → StatusFits job book t st c b → (st ≡ Free) ⊎ ((st ≡ Pending) ⊎ ((receipt : Receipt) × (st ≡ Served receipt)))
 which_trapped job book t Free c b e h = inl refl
@@ -134,13 +128,18 @@ module _ (job : CoreJob) (s : State) (laws : IsPlan job.plan) (h : PartsKept job
   all_idle : ((w : ℕ) → w < job.workers → s.task w ≡ Idle) → (v : ℕ) → s.task v ≡ Idle
   all_idle idle v = elim (cases_lt v job.workers) [ inl below ↦ idle v below | inr beyond ↦ h.beyond v beyond ]
 
+  -- where nobody has a task, a node is ready
+  some_ready : (tree : Tree) → IsPlanOf job.plan tree → is_done (s.node 0) ≡ false → ((v : ℕ) → s.task v ≡ Idle) → (n : ℕ) × (s.node n ≡ Ready)
+  some_ready tree plan going idle =
+      let unheld = λ (n : ℕ). unnamed job.plan s.node s.mark s.task h.holder 0 laws h.nodes h.tasks n (λ v e. let f = sym (ap names (idle v)) ∙ e in cc) in
+      find_ready job.plan s.node s.mark s.task h.holder h.tasks unheld tree 0 0 Root plan.stands (ready_or_taken (s.node 0) h.nodes.root going)
+
   idle_event : (tree : Tree) (ready : ℕ → List ℕ) → IsPlanOf job.plan tree → ListsFit job.workers s.node ready → is_done (s.node 0) ≡ false → ((v : ℕ) → s.task v ≡ Idle) → HasEvent job s
   idle_event tree ready plan lists going idle =
-      let unheld = λ (n : ℕ). unnamed job.plan s.node s.mark s.task h.holder 0 laws h.nodes h.tasks n (λ v e. let f = sym (ap names (idle v)) ∙ e in cc) in
-      let found = find_ready job.plan s.node s.mark s.task h.holder h.tasks unheld tree 0 0 Root plan.stands (ready_or_taken (s.node 0) h.nodes.root going) in
+      let found = some_ready tree plan going idle in
       let home = lists.each found.0 found.1 in
-      let free = trapped_not_idle job s.book (s.task home.0) (s.status home.0) (s.call home.0) (is_taken_by s.hold home.0) (idle home.0) (h.statuses home.0) in
-      (home.0, home.1, Claim found.0, (free, idle home.0, found.1))
+      let free = idle_free job s.book (s.task home.0) (s.status home.0) (s.call home.0) (is_taken_by s.hold home.0) (idle home.0) (h.statuses home.0) in
+      (home.0, home.1, Claim found.0, (free.0, idle home.0, found.1))
 
   some_event : (tree : Tree) (ready : ℕ → List ℕ) → IsPlanOf job.plan tree → ListsFit job.workers s.node ready → is_done (s.node 0) ≡ false → (o : Option Hold) → s.hold ≡ o → HasEvent job s
   some_event tree ready plan lists going (Some hd) held = holder_event hd held
@@ -150,9 +149,40 @@ module _ (job : CoreJob) (s : State) (laws : IsPlan job.plan) (h : PartsKept job
         | inr idle ↦ idle_event tree ready plan lists going (all_idle idle)
       ]
 
+  -- a worker that has a task is among those that go on, where the others have none
+  busy_live : (live : ℕ → Bool) (w : ℕ) (b : Bool) → live w ≡ b → (live w ≡ false → s.task w ≡ Idle) → s.task w ≢ Idle → live w ≡ true
+  busy_live live w true is idle busy = is
+  busy_live live w false is idle busy = absurd (busy (idle is))
+
+  -- one of the workers that go on has an event
+  live_event : (tree : Tree) (live : ℕ → Bool) (one : ℕ) → IsPlanOf job.plan tree → is_done (s.node 0) ≡ false → one < job.workers → live one ≡ true
+      → ((w : ℕ) → w < job.workers → live w ≡ false → s.task w ≡ Idle) → (o : Option Hold) → s.hold ≡ o
+      → (w : ℕ) × (w < job.workers) × (live w ≡ true) × (event : Event) × Needs job s w event
+  live_event tree live one plan going below on idle (Some hd) held =
+      let stands : HoldStands job.workers s.status s.call (Some hd) = rw held at h.hold in
+      let busy = out_busy job s.book (s.task hd.worker) (s.status hd.worker) (s.call hd.worker) (is_taken_by s.hold hd.worker) stands.0 (h.statuses hd.worker) in
+      let has = given job s hd.worker (choice_holding job s hd) (holding_gives job s hd.worker h hd (held, refl)) in
+      let among = busy_below hd.worker busy in
+      (hd.worker, among, busy_live live hd.worker (live hd.worker) refl (idle hd.worker among) busy, has.0, has.1)
+  live_event tree live one plan going below on idle None none =
+      elim (search (λ w. s.task w ≡ Idle) (λ w. s.task w ≢ Idle) (λ w. is_idle (s.task w)) job.workers) [
+        | inl found ↦ (let has = busy_event found.0 none found.2 (λ v. []) in (found.0, found.1, busy_live live found.0 (live found.0) refl (idle found.0 found.1) found.2, has.0, has.1))
+        | inr all ↦ (let ready = some_ready tree plan going (all_idle all) in
+          let free = idle_free job s.book (s.task one) (s.status one) (s.call one) (is_taken_by s.hold one) (all one below) (h.statuses one) in
+          (one, below, on, Claim ready.0, (free.0, all one below, ready.1)))
+      ]
+
 -- where the root is not done, the turn of some worker makes an event
 pub some_turn : (job : CoreJob) (tree : Tree) (s : CoreState) → IsPlan job.plan → IsPlanOf job.plan tree → PartsKept job s.state → ListsFit job.workers s.state.node s.ready
     → is_done (s.state.node 0) ≡ false → (w : ℕ) × (w < job.workers) × (choice job s w ≢ None)
 some_turn job tree s laws plan h lists going =
     let some = some_event job s.state laws h tree s.ready plan lists going s.state.hold refl in
     (some.0, some.1, λ none. none_has_no_event job s some.0 laws some.1 h lists none some.2 some.3)
+
+-- where the root is not done, and those workers have no task that do not go on, the turn of one that does makes an event
+pub some_live_turn : (job : CoreJob) (tree : Tree) (s : CoreState) (live : ℕ → Bool) (one : ℕ) → IsPlan job.plan → IsPlanOf job.plan tree → PartsKept job s.state → ListsFit job.workers s.state.node s.ready
+    → is_done (s.state.node 0) ≡ false → one < job.workers → live one ≡ true → ((w : ℕ) → w < job.workers → live w ≡ false → s.state.task w ≡ Idle)
+    → (w : ℕ) × (w < job.workers) × (live w ≡ true) × (choice job s w ≢ None)
+some_live_turn job tree s live one laws plan h lists going below on idle =
+    let some = live_event job s.state laws h tree live one plan going below on idle s.state.hold refl in
+    (some.0, some.1, some.2, λ none. none_has_no_event job s some.0 laws some.1 h lists none some.3 some.4)

@@ -1,39 +1,27 @@
 -- The node that a turn claims is the newest of the own list, or, where that is empty, the oldest of another one; and
 -- the claim takes it off at that end.
-use Rattle.std.proofs.Common.{ℕ, zero, suc, ◌≡◌, ◌≢◌, ◌<◌, ◌+◌, ◌-◌, ◌%◌, ◌==◌, Bool, if◌then◌else◌, Option, Some, None, List, [], ◌∷◌, ◌++◌, arith, refl, inl, inr, sym, ◌∙◌, ap}
+use Rattle.std.proofs.Common.{ℕ, zero, suc, ◌≡◌, ◌≢◌, ◌<◌, ◌+◌, ◌-◌, ◌%◌, ◌==◌, if◌then◌else◌, Option, Some, None, List, [], ◌∷◌, ◌++◌, arith, refl, inl, inr, sym, ◌∙◌, ap}
 use Rattle.std.proofs.lemmas.Bool.Decides.{nat_tests}
 use Rattle.std.proofs.lemmas.Bool.{cases_eq}
 use Rattle.sp_order.specs.Plans.{IsPlan}
-use Rattle.batch_history.specs.declared.batch.Entry.{Entry}
 use Rattle.batcher_core.specs.declared.progress.Progress.{Progress}
-use Rattle.batcher_core.specs.declared.task.Task.{Task}
 use Rattle.batcher_core.specs.declared.task.Task.TheVariants.{Idle}
-use Rattle.batcher_core.specs.declared.status.Status.{Status}
 use Rattle.batcher_core.specs.declared.status.Status.TheVariants.{Free}
-use Rattle.batcher_core.specs.declared.status.CallState.{CallState}
-use Rattle.batcher_core.specs.declared.status.CallState.TheVariants.{Out}
 use Rattle.batcher_core.specs.declared.event.Event.{Event}
 use Rattle.batcher_core.specs.declared.event.Event.TheVariants.{Claim}
 use Rattle.batcher_core.specs.State.{put, CoreJob, Hold, State, CoreState}
 use Rattle.batcher_core.specs.Lists.{without, times, ready_after, ListsFit}
 use Rattle.batcher_core.specs.GateParts.{is_taken_by, HoldStands}
-use Rattle.batcher_core.specs.KeptBook.{StatusFits}
-use Rattle.batcher_core.specs.KeptParts.{PartsKept}
+use Rattle.batcher_core.proofs.KeptParts.{PartsKept}
 use Rattle.batcher_core.specs.Choice.{oldest_or, choice_steal, last_of, choice_idle, choice_free, choice_by, choice_under, choice, LeavesAnEnd}
+use Rattle.batcher_core.proofs.Ends.{without_none}
 use Rattle.batcher_core.proofs.Puts.{put_at, put_other}
+use Rattle.batcher_core.proofs.StatusRows.{not_out}
 use Rattle.batcher_core.proofs.ChoiceIdle.{HoldsNot, first_stands}
 use Rattle.batcher_core.proofs.Choices.{choice_needs}
 
-skips : (n x : ℕ) (xs : List ℕ) → (if x == n then 1 else 0) + times n xs ≡ 0 → without n xs ≡ xs → (if x == n then without n xs else x ∷ without n xs) ≡ x ∷ xs
-skips n x xs none same = grind (arith, nat_tests)
-
 none_of : (n x : ℕ) (xs : List ℕ) → times n (x ∷ xs) ≡ 0 → times n xs ≡ 0
 none_of n x xs none = omega (arith, none)
-
--- a list without a number that does not stand in it is the list
-pub without_none : (n : ℕ) (xs : List ℕ) → times n xs ≡ 0 → without n xs ≡ xs
-without_none n [] none = refl
-without_none n (x ∷ xs) none = skips n x xs none (without_none n xs (none_of n x xs none))
 
 drops_first : (n : ℕ) (xs other : List ℕ) → (if n == n then xs else other) ≡ xs
 drops_first n xs other = grind (arith, nat_tests)
@@ -63,7 +51,7 @@ without_last n (x ∷ xs) once =
     keeps n x (without n (xs ++ n ∷ [])) xs both.0 (without_last n xs both.1)
 
 -- a node that stands in a list stands there once, and in no other
-once_there : (workers : ℕ) (node : ℕ → Progress) (ready : ℕ → List ℕ) (v n : ℕ) → ListsFit workers node ready → times n (ready v) ≢ 0
+pub once_there : (workers : ℕ) (node : ℕ → Progress) (ready : ℕ → List ℕ) (v n : ℕ) → ListsFit workers node ready → times n (ready v) ≢ 0
     → (times n (ready v) ≡ 1) × ((u : ℕ) → u ≢ v → times n (ready u) ≡ 0)
 once_there workers node ready v n lists stands =
     let home = lists.each n (lists.only n v stands) in
@@ -117,7 +105,7 @@ stolen_is ready workers from zero n e = absurd (grind arith)
 stolen_is ready workers from (suc many) n e =
     oldest_is ready (from % workers) n (ready (from % workers)) (choice_steal ready workers (from + 1) many) refl (stolen_is ready workers (from + 1) many n) e
 
-idle_leaves : (job : CoreJob) (node : ℕ → Progress) (ready : ℕ → List ℕ) (w n : ℕ) (ns : List ℕ) → ListsFit job.workers node ready → ready w ≡ ns
+pub idle_leaves : (job : CoreJob) (node : ℕ → Progress) (ready : ℕ → List ℕ) (w n : ℕ) (ns : List ℕ) → ListsFit job.workers node ready → ready w ≡ ns
     → choice_idle job ready w ns ≡ Some (Claim n) → LeavesAnEnd ready w n
 idle_leaves job node ready w n (m ∷ ms) lists at e =
     let ends = ends_with m n ms (claimed_is (last_of m ms) n e) in
@@ -126,14 +114,11 @@ idle_leaves job node ready w n [] lists at e =
     let oldest = stolen_is ready job.workers (w + 1) (job.workers - 1) n e in
     inr (oldest.0, oldest.1, at, oldest.2, claim_oldest job.workers node ready w oldest.0 n oldest.1 lists oldest.2)
 
-free_not_out : (job : CoreJob) (book : List (List Entry)) (t : Task) (st : Status) (c : CallState) (b : Bool) → st ≡ Free → StatusFits job book t st c b → c ≢ Out
-free_not_out job book t st c b free h out = grind arith
-
 -- a worker that is not trapped does not have the flag
 pub free_holds_not : (job : CoreJob) (s : State) (w : ℕ) → PartsKept job s → s.status w ≡ Free → HoldsNot s w
 free_holds_not job s w h free hd held mine =
     let stands : HoldStands job.workers s.status s.call (Some hd) = rw held at h.hold in
-    free_not_out job s.book (s.task w) (s.status w) (s.call w) (is_taken_by s.hold w) free (h.statuses w) (rw mine at stands.0)
+    not_out job s.book (s.task w) (s.status w) (s.call w) (is_taken_by s.hold w) free (h.statuses w) (rw mine at stands.0)
 
 pub not_under : (job : CoreJob) (s : CoreState) (w : ℕ) (o : Option Hold) → ((h : Hold) → o ≡ Some h → h.worker ≢ w) → choice_under job s w o ≡ choice_by job s w (s.state.status w)
 not_under job s w None away = refl

@@ -1,5 +1,5 @@
 -- What the searches of a turn find.
-use Rattle.std.proofs.Common.{ℕ, zero, suc, ◌≡◌, ◌≢◌, ◌<◌, ◌||◌, Bool, true, false, if◌then◌else◌, Option, Some, None, arith, refl, inl, inr}
+use Rattle.std.proofs.Common.{ℕ, zero, suc, ◌≡◌, ◌<◌, ◌||◌, Bool, true, false, if◌then◌else◌, Option, Some, None, arith, refl, inl, inr}
 use Rattle.std.proofs.lemmas.Bool.{cases_eq}
 use Rattle.batcher_core.specs.Choice.{some_below, first_of, least_below}
 
@@ -7,10 +7,6 @@ use Rattle.batcher_core.specs.Choice.{some_below, first_of, least_below}
 pub if_both : {A : Type 0} (P : A → Type 0) (b : Bool) (x y : A) → (b ≡ true → P x) → (b ≡ false → P y) → P (if b then x else y)
 if_both P true x y so else_so = so refl
 if_both P false x y so else_so = else_so refl
-
-either_true : (a b : Bool) → (a || b) ≡ true → a ≢ true → b ≡ true
-either_true true b e other = absurd (other refl)
-either_true false b e other = e
 
 neither_true : (a b : Bool) → (a || b) ≡ false → (a ≡ false) × (b ≡ false)
 neither_true true b e = absurd (grind arith)

@@ -1,5 +1,6 @@
 -- The turns of a worker that is not trapped and has a task: the choice is an event whose needs are met.
-use Rattle.std.proofs.Common.{ℕ, ◌≡◌, ◌≢◌, ◌+◌, ◌==◌, ◌⊎◌, Bool, Option, Some, None, List, arith, refl, inl, inr, ap, eqb-true}
+use Rattle.std.proofs.Common.{ℕ, ◌≡◌, ◌≢◌, ◌<◌, ◌+◌, ◌==◌, ◌⊎◌, Bool, Option, Some, None, List, arith, refl, inl, inr, ap, eqb-true}
+use Rattle.std.proofs.lemmas.Bool.{cases_eq}
 use Rattle.std.proofs.lemmas.Bool.Decides.{nat_tests}
 use Rattle.seq_objects.specs.declared.act.Act.{Act}
 use Rattle.seq_objects.specs.declared.act.Act.TheVariants.{Work, Call}
@@ -8,10 +9,8 @@ use Rattle.sp_order.specs.declared.node.Kind.TheVariants.{LeafNode, SeqNode, Par
 use Rattle.sp_order.specs.declared.node.Move.{Move}
 use Rattle.sp_order.specs.declared.node.Move.TheVariants.{Root, OpenSecond, FinishParent, Arrive as ArriveAt}
 use Rattle.sp_order.specs.Plans.{IsPlan, IsSide, HasSide, parent_of}
-use Rattle.batch_history.specs.declared.batch.Entry.{Entry}
 use Rattle.batcher_core.specs.declared.task.Task.{Task}
 use Rattle.batcher_core.specs.declared.task.Task.TheVariants.{Idle, Run, Half, Started, Kept, Ended, Whole, Handed}
-use Rattle.batcher_core.specs.declared.status.Status.{Status}
 use Rattle.batcher_core.specs.declared.status.Status.TheVariants.{Free}
 use Rattle.batcher_core.specs.declared.status.CallState.{CallState}
 use Rattle.batcher_core.specs.declared.status.CallState.TheVariants.{NotCalled, Out, Got}
@@ -19,14 +18,14 @@ use Rattle.batcher_core.specs.declared.event.Event.{Event}
 use Rattle.batcher_core.specs.declared.event.Event.TheVariants.{ArriveFirst, ArriveSecond}
 use Rattle.batcher_core.specs.State.{CoreJob, State}
 use Rattle.batcher_core.specs.Operations.{leaf_of, op_in}
-use Rattle.batcher_core.specs.Tasks.{is_done, TaskFits}
+use Rattle.batcher_core.specs.Tasks.{is_done, names, TaskFits}
 use Rattle.batcher_core.specs.Events.{Needs}
 use Rattle.batcher_core.specs.GateParts.{is_taken_by}
-use Rattle.batcher_core.specs.KeptNodes.{passed_if}
-use Rattle.batcher_core.specs.KeptBook.{StatusFits}
-use Rattle.batcher_core.specs.KeptParts.{PartsKept}
+use Rattle.batcher_core.proofs.KeptNodes.{passed_if}
+use Rattle.batcher_core.proofs.KeptParts.{PartsKept}
 use Rattle.batcher_core.specs.Choice.{choice_run, choice_half, choice_started, choice_second, choice_parent, choice_arrive, choice_whole, choice_handed, choice_free}
 use Rattle.batcher_core.proofs.ChoiceSearch.{if_both}
+use Rattle.batcher_core.proofs.StatusRows.{not_out}
 
 -- an event that is chosen has what it needs, and where none is chosen none has
 abbrev pub Allows : CoreJob → State → ℕ → Option Event → Type 0
@@ -48,8 +47,15 @@ low_mark a b o q k e held some = grind arith
 held_at : (holder : ℕ → Option ℕ) (n l r w : ℕ) → (n ≡ l) ⊎ (n ≡ r) → holder n ≡ Some w → (holder l ≢ None) ⊎ (holder r ≢ None)
 held_at holder n l r w which e = grind arith
 
-not_out : (job : CoreJob) (book : List (List Entry)) (t : Task) (st : Status) (c : CallState) (b : Bool) → st ≡ Free → StatusFits job book t st c b → c ≢ Out
-not_out job book t st c b free h out = grind arith
+-- a side that is to arrive is the first or the second
+pub mark_low : (job : CoreJob) (s : State) (w p l r n : ℕ) → IsPlan job.plan → PartsKept job s → s.task w ≡ Whole n → job.plan.kind p ≡ Some (ParNode l r) → IsSide job.plan p n → s.mark p < 2
+mark_low job s w p l r n laws h mine kind side =
+    let which : (n ≡ l) ⊎ (n ≡ r) = rw kind at (laws.has_side p n side) in
+    let held = held_at h.holder n l r w which (h.tasks.holders.named w n (ap names mine)) in
+    elim (cases_eq (s.mark p) 0) [
+      | inl zero ↦ omega (arith, zero)
+      | inr some ↦ let one = low_mark (is_done (s.node l)) (is_done (s.node r)) (h.holder l) (h.holder r) (s.mark p) (h.tasks.marks p l r kind) held some in omega (arith, one)
+    ]
 
 module _ (job : CoreJob) (s : State) (w : ℕ) (laws : IsPlan job.plan) (h : PartsKept job s) (free : s.status w ≡ Free) where
   run_gives : (n : ℕ) (k : Option Kind) → s.task w ≡ Run n → job.plan.kind n ≡ k → k ≢ None → Gives job s w (choice_run k n)

@@ -1,35 +1,26 @@
 -- The choice of a turn is an event whose needs are met, and there is none exactly where no event can happen.
-use Rattle.std.proofs.Common.{ℕ, ◌≡◌, ◌≢◌, ◌<◌, ◌==◌, ◌⊎◌, Bool, true, Option, Some, None, List, arith, refl, inl, inr, ◌∙◌, eqb-true}
+use Rattle.std.proofs.Common.{ℕ, ◌≡◌, ◌≢◌, ◌<◌, ◌==◌, ◌⊎◌, Option, Some, None, List, arith, refl, inl, inr, ◌∙◌, eqb-true}
 use Rattle.std.proofs.lemmas.Bool.Decides.{nat_tests}
 use Rattle.sp_order.specs.Plans.{IsPlan}
-use Rattle.batch_history.specs.declared.batch.Entry.{Entry}
 use Rattle.batcher_core.specs.declared.task.Task.{Task}
 use Rattle.batcher_core.specs.declared.task.Task.TheVariants.{Idle}
 use Rattle.batcher_core.specs.declared.status.Status.{Status}
 use Rattle.batcher_core.specs.declared.status.Status.TheVariants.{Free, Pending, Executing, Served}
-use Rattle.batcher_core.specs.declared.status.CallState.{CallState}
-use Rattle.batcher_core.specs.declared.status.CallState.TheVariants.{Out}
 use Rattle.batcher_core.specs.declared.event.Event.{Event}
 use Rattle.batcher_core.specs.State.{CoreJob, Hold, State, CoreState}
 use Rattle.batcher_core.specs.Lists.{ListsFit}
 use Rattle.batcher_core.specs.Events.{Needs}
 use Rattle.batcher_core.specs.GateParts.{is_taken_by}
-use Rattle.batcher_core.specs.KeptBook.{StatusFits}
-use Rattle.batcher_core.specs.KeptParts.{PartsKept}
+use Rattle.batcher_core.proofs.KeptParts.{PartsKept}
 use Rattle.batcher_core.specs.Choice.{choice_holding, choice_pending, choice_free, choice_by, choice_under, choice}
 use Rattle.batcher_core.proofs.ChoiceSearch.{if_both}
 use Rattle.batcher_core.proofs.ChoiceTasks.{Allows, gives_allows, task_gives}
 use Rattle.batcher_core.proofs.ChoiceGate.{holding_gives}
 use Rattle.batcher_core.proofs.ChoiceIdle.{HoldsNot, none_trapped, idle_allows}
+use Rattle.batcher_core.proofs.StatusRows.{call_out, executing_taken}
 
 pub is_idle : (t : Task) → (t ≡ Idle) ⊎ (t ≢ Idle)
 is_idle t = grind arith
-
-pub call_out : (job : CoreJob) (book : List (List Entry)) (t : Task) (st : Status) (c : CallState) (b : Bool) → st ≢ Free → StatusFits job book t st c b → c ≡ Out
-call_out job book t st c b busy h = grind arith
-
-executing_taken : (job : CoreJob) (book : List (List Entry)) (t : Task) (st : Status) (c : CallState) (b : Bool) → st ≡ Executing → StatusFits job book t st c b → b ≡ true
-executing_taken job book t st c b executing h = grind arith
 
 module _ (job : CoreJob) (s : State) (w : ℕ) (ready : ℕ → List ℕ) (laws : IsPlan job.plan) (among : w < job.workers) (h : PartsKept job s) (lists : ListsFit job.workers s.node ready) where
   free_allows : (t : Task) → HoldsNot s w → s.status w ≡ Free → s.task w ≡ t → Allows job s w (choice_free job (record { state = s; ready = ready }) w t)

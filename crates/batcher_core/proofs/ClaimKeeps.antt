@@ -15,10 +15,10 @@ use Rattle.batcher_core.specs.declared.event.Event.TheVariants.{Claim}
 use Rattle.batcher_core.specs.State.{put, CoreJob, State}
 use Rattle.batcher_core.specs.Events.{Needs}
 use Rattle.batcher_core.specs.GateParts.{IsAtCall, is_taken_by, is_published}
-use Rattle.batcher_core.specs.KeptNodes.{HoldersFit}
-use Rattle.batcher_core.specs.KeptTicks.{Stamp, stamps}
-use Rattle.batcher_core.specs.KeptBook.{StatusFits, BookKept, booked_by, valued_by}
-use Rattle.batcher_core.specs.KeptParts.{PartsKept}
+use Rattle.batcher_core.proofs.KeptNodes.{HoldersFit}
+use Rattle.batcher_core.proofs.KeptTicks.{Stamp, stamps}
+use Rattle.batcher_core.proofs.KeptBook.{StatusFits, BookKept, booked_by, valued_by}
+use Rattle.batcher_core.proofs.KeptParts.{PartsKept}
 use Rattle.batcher_core.proofs.Puts.{put_at, put_other}
 use Rattle.batcher_core.proofs.NodeSteps.{claim_nodes}
 use Rattle.batcher_core.proofs.ClaimTasks.{claim_tasks, beyond_put}

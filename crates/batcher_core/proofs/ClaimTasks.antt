@@ -8,7 +8,7 @@ use Rattle.batcher_core.specs.declared.task.Task.{Task}
 use Rattle.batcher_core.specs.declared.task.Task.TheVariants.{Idle, Run}
 use Rattle.batcher_core.specs.State.{put}
 use Rattle.batcher_core.specs.Tasks.{TaskFits}
-use Rattle.batcher_core.specs.KeptNodes.{NodesKept, TasksKept}
+use Rattle.batcher_core.proofs.KeptNodes.{NodesKept, TasksKept}
 use Rattle.batcher_core.proofs.Puts.{put_each}
 use Rattle.batcher_core.proofs.Holders.{take_task}
 use Rattle.batcher_core.proofs.TaskFrames.{claim_task, unheld}

@@ -18,6 +18,7 @@ use Rattle.batcher_core.specs.Looks.{TaskIn, MoveIn, Looks}
 use Rattle.batcher_core.specs.Cores.{Fits}
 use Rattle.batcher_core.proofs.InRange.{parent_in, named_in}
 use Rattle.batcher_core.proofs.BookRoom.{book_room}
+use Rattle.batcher_core.proofs.PartsCarried.{kept_parts}
 
 task_in : (nodes : ℕ) (task : Task) → ((n : ℕ) → names task ≡ Some n → n < nodes) → TaskIn nodes task
 task_in nodes Idle h = tt
@@ -44,16 +45,16 @@ book_of t = refl
 
 pub looks : (tree : Tree) (acts : List Act) (workers : ℕ) (t : Table) → Fits tree acts workers t → Looks (nodes_of tree) acts workers t
 looks tree acts workers t h =
-    let room = rw (book_of t) at (book_room (core_job tree acts workers) (state_of t) h.parts h.calls_in) in
+    let room = rw (book_of t) at (book_room (core_job tree acts workers) (state_of t) (kept_parts tree acts workers t h) h.calls_in) in
     let most = h.most in
     record {
       few = h.few;
       sizes = h.sizes;
-      tasks_in = λ w. task_in (nodes_of tree).count ((state_of t).task w) (λ n name. named_in (core_job tree acts workers) (state_of t) h.laws h.parts w n name);
-      at_leaf = λ w n start e. started_leaf (nodes_of tree) (state_of t).node (state_of t).mark ((state_of t).task w) n start (h.parts.tasks.fits w) e;
+      tasks_in = λ w. task_in (nodes_of tree).count ((state_of t).task w) (λ n name. named_in (core_job tree acts workers) (state_of t) h.laws (kept_parts tree acts workers t h) w n name);
+      at_leaf = λ w n start e. started_leaf (nodes_of tree) (state_of t).node (state_of t).mark ((state_of t).task w) n start ((kept_parts tree acts workers t h).tasks.fits w) e;
       moves_in = λ n. move_in (nodes_of tree) h.laws n ((nodes_of tree).after n) refl;
       leaves_in = h.leaves_in;
-      leaves = rw (book_of t) at h.parts.book.leaves;
+      leaves = rw (book_of t) at (kept_parts tree acts workers t h).book.leaves;
       few_batches = omega (arith, room.0, room.1, most);
       few_entries = omega (arith, room.0, most);
       filled = h.filled;

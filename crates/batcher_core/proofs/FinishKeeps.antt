@@ -16,10 +16,10 @@ use Rattle.batcher_core.specs.State.{put, CoreJob, State}
 use Rattle.batcher_core.specs.Tasks.{is_done, TaskFits}
 use Rattle.batcher_core.specs.Events.{Needs, task_after}
 use Rattle.batcher_core.specs.GateParts.{is_published}
-use Rattle.batcher_core.specs.KeptNodes.{HoldersFit, passed_if}
-use Rattle.batcher_core.specs.KeptTicks.{stamps}
-use Rattle.batcher_core.specs.KeptBook.{booked_by, valued_by}
-use Rattle.batcher_core.specs.KeptParts.{PartsKept}
+use Rattle.batcher_core.proofs.KeptNodes.{HoldersFit, passed_if}
+use Rattle.batcher_core.proofs.KeptTicks.{stamps}
+use Rattle.batcher_core.proofs.KeptBook.{booked_by, valued_by}
+use Rattle.batcher_core.proofs.KeptParts.{PartsKept}
 use Rattle.batcher_core.proofs.NodeSteps.{finish_nodes}
 use Rattle.batcher_core.proofs.FinishTasks as leaves
 use Rattle.batcher_core.proofs.RootTasks as roots

@@ -12,7 +12,7 @@ use Rattle.batcher_core.specs.declared.task.Task.{Task}
 use Rattle.batcher_core.specs.declared.task.Task.TheVariants.{Idle, Ended, Whole, Handed}
 use Rattle.batcher_core.specs.State.{put}
 use Rattle.batcher_core.specs.Tasks.{is_done, names, TaskFits}
-use Rattle.batcher_core.specs.KeptNodes.{NodesKept, passed_if, LeftAlone, TasksKept}
+use Rattle.batcher_core.proofs.KeptNodes.{NodesKept, passed_if, LeftAlone, TasksKept}
 use Rattle.batcher_core.proofs.Puts.{put_at, put_each}
 use Rattle.batcher_core.proofs.Holders.{keep_task, drop_task, move_task}
 use Rattle.batcher_core.proofs.TaskFrames.{finish_task, arrive_task}

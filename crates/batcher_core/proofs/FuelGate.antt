@@ -19,11 +19,11 @@ use Rattle.batcher_core.specs.Operations.{leaf_of, op_in}
 use Rattle.batcher_core.specs.Tasks.{TaskFits}
 use Rattle.batcher_core.specs.Events.{Needs, is_pending, new_hold, looked, published, answered}
 use Rattle.batcher_core.specs.GateParts.{is_taken_by, HoldStands}
-use Rattle.batcher_core.specs.KeptBook.{StatusFits}
-use Rattle.batcher_core.specs.KeptParts.{PartsKept}
+use Rattle.batcher_core.proofs.KeptParts.{PartsKept}
 use Rattle.batcher_core.specs.Fuel.{total, worker_cost, task_cost, leaf_cost, status_cost, owns, hold_cost, fuel}
 use Rattle.batcher_core.proofs.Puts.{put_at, put_other}
 use Rattle.batcher_core.proofs.FuelJobs.{total_change}
+use Rattle.batcher_core.proofs.StatusRows.{taken_executing}
 
 pub total_le : (f g : ℕ → ℕ) (n : ℕ) → ((m : ℕ) → m < n → g m ≤ f m) → total g n ≤ total f n
 total_le f g zero h = omega arith
@@ -41,9 +41,6 @@ owns_not workers status call w (Some hd) h e = elim (cases_eq hd.worker w) [
 
 call_due : (job : CoreJob) (k : Option Kind) (u : ℕ) → k ≡ Some (LeafNode u) → op_in (job.act (leaf_of k)) ≢ None → leaf_cost job k ≡ job.workers + 6
 call_due job k u e is = grind arith
-
-taken_executes : (job : CoreJob) (book : List (List Entry)) (t : Task) (st : Status) (c : CallState) (b : Bool) → StatusFits job book t st c b → b ≡ true → st ≡ Executing
-taken_executes job book t st c b h e = grind arith
 
 self_eq : (w : ℕ) → (w == w) ≡ true
 self_eq w = grind (arith, nat_tests)
@@ -107,7 +104,7 @@ module _ (job : CoreJob) (s : State) (w : ℕ) (below : w < job.workers) (h : Pa
       let e = needs.1.0 in let took = needs.3 in let unanswered = needs.4 in
       let hf : HoldStands job.workers s.status s.call (Some needs.0) = rw e at h.hold in
       let in' : u < job.workers = (let a = hf.2 u took in let b = hf.1 in omega arith) in
-      let st : s.status u ≡ Executing = taken_executes job s.book (s.task u) (s.status u) (s.call u) (is_taken_by s.hold u) (h.statuses u) (rw (e, took, unanswered) refl) in
+      let st : s.status u ≡ Executing = taken_executing job s.book (s.task u) (s.status u) (s.call u) (is_taken_by s.hold u) (rw (e, took, unanswered) refl) (h.statuses u) in
       let a = total_change (cost_of job s) (λ m. worker_cost job (owns s.hold m) (s.task m) (put s.status u (Served r) m) (s.call m)) u job.workers in' (λ m other. rw (put_other s.status u m (Served r) other) refl) in
       let a' = rw (put_at s.status u u (Served r) refl, st) at a in
       let a'' = rw e at a' in

@@ -15,7 +15,7 @@ use Rattle.batcher_core.specs.declared.event.Event.TheVariants.{Claim, Start, Op
 use Rattle.batcher_core.specs.State.{put, CoreJob, State}
 use Rattle.batcher_core.specs.Tasks.{TaskFits}
 use Rattle.batcher_core.specs.Events.{Needs, task_after}
-use Rattle.batcher_core.specs.KeptParts.{PartsKept}
+use Rattle.batcher_core.proofs.KeptParts.{PartsKept}
 use Rattle.batcher_core.specs.Fuel.{total, node_cost, worker_cost, task_cost, run_cost, left_cost, first_cost, leaf_cost, due_cost, free_cost, owns, workers_fuel, fuel}
 use Rattle.batcher_core.proofs.Puts.{put_at, put_other}
 

@@ -17,7 +17,7 @@ use Rattle.batcher_core.specs.State.{put, CoreJob, State, CoreState, opening_sta
 use Rattle.batcher_core.specs.Operations.{op_in}
 use Rattle.batcher_core.specs.Serving.{served}
 use Rattle.batcher_core.specs.Events.{Needs, Does}
-use Rattle.batcher_core.specs.KeptParts.{PartsKept}
+use Rattle.batcher_core.proofs.KeptParts.{PartsKept}
 use Rattle.batcher_core.specs.Choice.{choice_by, choice}
 use Rattle.batcher_core.specs.Lists.{ListsFit}
 use Rattle.batcher_core.specs.Fuel.{total, fuel, node_cost, worker_cost, leaf_cost, first_cost, call_cost, one_if, one_if_call, call_count}
@@ -67,37 +67,6 @@ turn_lowers job s w event new laws below h lists chosen does =
     let needs = choice_needs job s w event laws below h lists chosen in
     event_lowers job s.state w event new laws below h needs
     (λ win. wins_pending job s w (rw win at needs) (rw win at chosen)) does
-
--- an event draws one tick at most
-tick_step : (job : CoreJob) (s : State) (w : ℕ) (event : Event) (new : State) → Does job s w event new → new.tick ≤ s.tick + 1
-tick_step job s w (Claim n) new does = rw does (omega arith)
-tick_step job s w (Start n) new does = rw does (omega arith)
-tick_step job s w (OpenParRight p l r) new does = rw does (omega arith)
-tick_step job s w (OpenParLeft p l r) new does = rw does (omega arith)
-tick_step job s w (OpenSeqLeft p l r) new does = rw does (omega arith)
-tick_step job s w (OpenSeqRight p l r) new does = rw does (omega arith)
-tick_step job s w (Post n t) new does = rw does (omega arith)
-tick_step job s w Win new does = rw does (omega arith)
-tick_step job s w (Take u) new does = rw does (omega arith)
-tick_step job s w (Answer u r) new does = rw does (omega arith)
-tick_step job s w Release new does = rw does (omega arith)
-tick_step job s w (Leave r) new does = rw does (omega arith)
-tick_step job s w (Keep n t v) new does = rw does (omega arith)
-tick_step job s w (End n t) new does = rw does (omega arith)
-tick_step job s w (FinishLeaf n t e) new does = rw does (omega arith)
-tick_step job s w (FinishSeq p l r) new does = rw does (omega arith)
-tick_step job s w (FinishPar p l r) new does = rw does (omega arith)
-tick_step job s w (ArriveFirst p l r n) new does = rw does (omega arith)
-tick_step job s w (ArriveSecond p l r n) new does = rw does (omega arith)
-tick_step job s w Publish new does = rw does.2 (omega arith)
-
--- so the tick and the count together do not grow
-pub tick_paid : (job : CoreJob) (s : CoreState) (w : ℕ) (event : Event) (new : State) → IsPlan job.plan → w < job.workers → PartsKept job s.state → ListsFit job.workers s.state.node s.ready
-    → choice job s w ≡ Some event → Does job s.state w event new → new.tick + fuel job new ≤ s.state.tick + fuel job s.state
-tick_paid job s w event new laws below h lists chosen does =
-    let less = turn_lowers job s w event new laws below h lists chosen does in
-    let more = tick_step job s.state w event new does in
-    omega (arith, less, more)
 
 leaf_start : (p : ℕ) (o : Option Op) → call_cost p o ≡ one_if o * (p + 6)
 leaf_start p None = omega arith

@@ -17,9 +17,10 @@ use Rattle.batcher_core.specs.Operations.{leaf_of, IsCall, place_of, IsReceipt}
 use Rattle.batcher_core.specs.Serving.{served}
 use Rattle.batcher_core.specs.Events.{Needs, is_pending, new_hold, looked, answered}
 use Rattle.batcher_core.specs.GateParts.{IsAtCall, HasReceipt, is_taken_by, is_published, HoldStands}
-use Rattle.batcher_core.specs.KeptBook.{StatusFits, booked_by}
-use Rattle.batcher_core.specs.KeptParts.{PartsKept}
+use Rattle.batcher_core.proofs.KeptBook.{StatusFits, booked_by}
+use Rattle.batcher_core.proofs.KeptParts.{PartsKept}
 use Rattle.batcher_core.proofs.Puts.{put_at, put_other}
+use Rattle.batcher_core.proofs.StatusRows.{call_out, taken_executing}
 
 -- one row, at each event of the gate
 post_row : (job : CoreJob) (book : List (List Entry)) (t : Task) (st : Status) (c : CallState) (b : Bool) → IsAtCall job t → st ≡ Free → c ≡ NotCalled → StatusFits job book t st c b → StatusFits job book t Pending Out b
@@ -117,10 +118,6 @@ answer_hold workers status call h u r there took hf = (
   grind (arith, nat_tests),
 )
 
--- a worker that is taken and not answered is executing
-executing_row : (job : CoreJob) (book : List (List Entry)) (t : Task) (st : Status) (c : CallState) (b : Bool) → b ≡ true → StatusFits job book t st c b → st ≡ Executing
-executing_row job book t st c b e h = grind arith
-
 -- the receipt of the leaf that a task has started
 started_receipt : (job : CoreJob) (book : List (List Entry)) (t : Task) (n s : ℕ) (r : Receipt) → t ≡ Started n s → IsReceipt (place_of book (leaf_of (job.plan.kind n))) r → HasReceipt job book t r
 started_receipt job book t n s r e h = rw e h
@@ -154,7 +151,7 @@ answer_keeps job s w u r h needs =
     let there : s.hold ≡ Some hd = needs.1.0 in
     let hold : HoldStands job.workers s.status s.call (Some hd) = rw there at h.hold in
     let rows : (v : ℕ) → StatusFits job s.book (s.task v) (s.status v) (s.call v) (is_taken_by (Some hd) v) = λ v. rw there at (h.statuses v) in
-    let ex : s.status u ≡ Executing = executing_row job s.book (s.task u) (s.status u) (s.call u) (hd.took u && not (hd.answered u)) (taken_yes hd u needs.3 needs.4) (rows u) in
+    let ex : s.status u ≡ Executing = taken_executing job s.book (s.task u) (s.status u) (s.call u) (hd.took u && not (hd.answered u)) (taken_yes hd u needs.3 needs.4) (rows u) in
     record {
       holder = h.holder;
       nodes = h.nodes;
@@ -171,16 +168,12 @@ answer_keeps job s w u r h needs =
       values = h.values;
     }
 
--- a look
-pending_out : (job : CoreJob) (book : List (List Entry)) (t : Task) (st : Status) (c : CallState) (b : Bool) → st ≡ Pending → StatusFits job book t st c b → c ≡ Out
-pending_out job book t st c b pending h = grind arith
-
 -- a look that takes changes not who is in the book
 take_booked : (x : Progress) (o : Option ℕ) (job : CoreJob) (book : List (List Entry)) (task : ℕ → Task) (status : ℕ → Status) (call : ℕ → CallState) (u : ℕ) (taken : Bool) → status u ≡ Pending
     → StatusFits job book (task u) (status u) (call u) taken
     → booked_by x o task (put status u Executing) call false ≡ booked_by x o task status call false
 take_booked x o job book task status call u taken pending row =
-    let out : call u ≡ Out = pending_out job book (task u) (status u) (call u) taken pending row in
+    let out : call u ≡ Out = call_out job book (task u) (status u) (call u) taken (λ free. let f = sym pending ∙ free in cc) row in
     grind (arith, nat_tests)
 
 -- the hold, after a look that takes

@@ -7,7 +7,7 @@ use Rattle.batcher_core.specs.declared.event.Event.TheVariants.{Publish}
 use Rattle.batcher_core.specs.State.{CoreJob, State}
 use Rattle.batcher_core.specs.Operations.{IsCall}
 use Rattle.batcher_core.specs.Events.{Needs, IsBatchOf}
-use Rattle.batcher_core.specs.KeptParts.{PartsKept}
+use Rattle.batcher_core.proofs.KeptParts.{PartsKept}
 use Rattle.batcher_core.proofs.EntryLists.{each_so, each_mapped}
 use Rattle.batcher_core.proofs.PublishKeeps.{publish_keeps}
 use Rattle.batcher_core.proofs.BookRoom.{leaves_call}

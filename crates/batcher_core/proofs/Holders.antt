@@ -4,7 +4,7 @@ use Rattle.std.proofs.lemmas.Bool.Decides.{nat_tests}
 use Rattle.batcher_core.specs.declared.task.Task.{Task}
 use Rattle.batcher_core.specs.State.{put}
 use Rattle.batcher_core.specs.Tasks.{names}
-use Rattle.batcher_core.specs.KeptNodes.{HoldersFit}
+use Rattle.batcher_core.proofs.KeptNodes.{HoldersFit}
 
 -- a worker takes a task
 pub take_task : (task : ℕ → Task) (holder : ℕ → Option ℕ) (w n : ℕ) (t : Task) → HoldersFit task holder

@@ -1,33 +1,23 @@
 -- The nodes that tasks, lists and events name are nodes of the plan, and the workers are among those that there are.
-use Rattle.std.proofs.Common.{ℕ, ◌≡◌, ◌≢◌, ◌<◌, Bool, true, Some, List, arith, inl, inr, ap}
-use Rattle.std.proofs.lemmas.Bool.{cases_lt}
+use Rattle.std.proofs.Common.{ℕ, ◌≡◌, ◌≢◌, ◌<◌, true, Some, List, arith, ap}
 use Rattle.sp_order.specs.declared.node.Kind.{Kind}
 use Rattle.sp_order.specs.declared.node.Kind.TheVariants.{SeqNode, ParNode}
 use Rattle.sp_order.specs.Plans.{Nodes, IsPlan, IsSide, parent_of}
-use Rattle.batch_history.specs.declared.batch.Entry.{Entry}
 use Rattle.batcher_core.specs.declared.progress.Progress.{Progress}
 use Rattle.batcher_core.specs.declared.progress.Progress.TheVariants.{Waiting}
 use Rattle.batcher_core.specs.declared.task.Task.{Task}
-use Rattle.batcher_core.specs.declared.task.Task.TheVariants.{Idle}
-use Rattle.batcher_core.specs.declared.status.Status.{Status}
-use Rattle.batcher_core.specs.declared.status.CallState.{CallState}
-use Rattle.batcher_core.specs.declared.status.CallState.TheVariants.{Out}
 use Rattle.batcher_core.specs.declared.event.Event.{Event}
 use Rattle.batcher_core.specs.declared.event.Event.TheVariants.{Claim, Start, OpenParRight, OpenParLeft, OpenSeqLeft, OpenSeqRight, Post, Win, Take, Publish, Answer, Release, Leave, Keep, End, FinishLeaf, FinishSeq, FinishPar, ArriveFirst, ArriveSecond}
 use Rattle.batcher_core.specs.State.{CoreJob, Hold, State}
 use Rattle.batcher_core.specs.Lists.{times, ListsFit}
 use Rattle.batcher_core.specs.Tasks.{names, TaskFits}
 use Rattle.batcher_core.specs.Events.{Needs}
-use Rattle.batcher_core.specs.GateParts.{is_taken_by, HoldStands}
-use Rattle.batcher_core.specs.KeptBook.{StatusFits}
-use Rattle.batcher_core.specs.KeptParts.{PartsKept}
+use Rattle.batcher_core.specs.GateParts.{HoldStands}
+use Rattle.batcher_core.proofs.KeptParts.{PartsKept}
 use Rattle.batcher_core.specs.Ranges.{AreNodes, IsInRange}
 
 named_not_waiting : (plan : Nodes) (node : ℕ → Progress) (mark : ℕ → ℕ) (t : Task) (n : ℕ) → TaskFits plan node mark t → names t ≡ Some n → node n ≢ Waiting
 named_not_waiting plan node mark t n fits name = grind arith
-
-out_busy : (job : CoreJob) (book : List (List Entry)) (t : Task) (st : Status) (c : CallState) (b : Bool) → c ≡ Out → StatusFits job book t st c b → t ≢ Idle
-out_busy job book t st c b out h idle = grind arith
 
 -- a node of some kind is a node, and so is each side, and each parent of a side
 module _ (plan : Nodes) (laws : IsPlan plan) where
@@ -58,15 +48,6 @@ module _ (job : CoreJob) (s : State) (laws : IsPlan job.plan) (h : PartsKept job
   -- and so is what stands in a list
   pub ready_in : (ready : ℕ → List ℕ) → ListsFit job.workers s.node ready → (n v : ℕ) → times n (ready v) ≢ 0 → n < job.plan.count
   ready_in ready lists n v stands = let is = lists.only n v stands in standing_in n (λ waits. cc)
-
-  -- the worker that has the flag is one of the workers
-  pub holder_in : (hd : Hold) → s.hold ≡ Some hd → hd.worker < job.workers
-  holder_in hd held =
-      let stands : HoldStands job.workers s.status s.call (Some hd) = rw held at h.hold in
-      elim (cases_lt hd.worker job.workers) [
-        | inl below ↦ below
-        | inr beyond ↦ absurd (out_busy job s.book (s.task hd.worker) (s.status hd.worker) (s.call hd.worker) (is_taken_by s.hold hd.worker) stands.0 (h.statuses hd.worker) (h.beyond hd.worker beyond))
-      ]
 
   -- and so is each whose call is taken
   pub taken_in : (hd : Hold) → s.hold ≡ Some hd → (u : ℕ) → hd.took u ≡ true → u < job.workers

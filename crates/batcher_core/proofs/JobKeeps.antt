@@ -9,10 +9,10 @@ use Rattle.batcher_core.specs.declared.status.Status.TheVariants.{Free}
 use Rattle.batcher_core.specs.State.{put, CoreJob, State}
 use Rattle.batcher_core.specs.Tasks.{is_done}
 use Rattle.batcher_core.specs.GateParts.{IsAtCall, is_published}
-use Rattle.batcher_core.specs.KeptNodes.{NodesKept, TasksKept}
-use Rattle.batcher_core.specs.KeptTicks.{stamps}
-use Rattle.batcher_core.specs.KeptBook.{booked_by, valued_by}
-use Rattle.batcher_core.specs.KeptParts.{PartsKept}
+use Rattle.batcher_core.proofs.KeptNodes.{NodesKept, TasksKept}
+use Rattle.batcher_core.proofs.KeptTicks.{stamps}
+use Rattle.batcher_core.proofs.KeptBook.{booked_by, valued_by}
+use Rattle.batcher_core.proofs.KeptParts.{PartsKept}
 use Rattle.batcher_core.proofs.ClaimTasks.{beyond_put}
 use Rattle.batcher_core.proofs.TickSteps.{same_ticks}
 use Rattle.batcher_core.proofs.ClaimKeeps.{statuses_free, same_book}

@@ -19,10 +19,10 @@ use Rattle.batcher_core.specs.Operations.{IsCall, Place, place_of}
 use Rattle.batcher_core.specs.Tasks.{TaskFits}
 use Rattle.batcher_core.specs.Events.{Needs}
 use Rattle.batcher_core.specs.GateParts.{IsAtCall, is_taken_by, is_published}
-use Rattle.batcher_core.specs.KeptNodes.{HoldersFit}
-use Rattle.batcher_core.specs.KeptTicks.{Stamp, stamp, stamps, RanBefore, ComesBefore, TicksKept}
-use Rattle.batcher_core.specs.KeptBook.{StatusFits, EntryFits, IsEarlier, BookKept, booked_by, worker_at, valued_by}
-use Rattle.batcher_core.specs.KeptParts.{PartsKept}
+use Rattle.batcher_core.proofs.KeptNodes.{HoldersFit}
+use Rattle.batcher_core.proofs.KeptTicks.{Stamp, stamp, stamps, RanBefore, ComesBefore, TicksKept}
+use Rattle.batcher_core.proofs.KeptBook.{StatusFits, EntryFits, IsEarlier, BookKept, booked_by, worker_at, valued_by}
+use Rattle.batcher_core.proofs.KeptParts.{PartsKept}
 use Rattle.batcher_core.proofs.Puts.{put_at, put_other}
 use Rattle.batcher_core.proofs.FinishTasks.{go_on}
 use Rattle.batcher_core.proofs.ClaimTasks.{beyond_put}

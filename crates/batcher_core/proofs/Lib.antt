@@ -1,5 +1,11 @@
+pub mod KeptNodes
+pub mod KeptTicks
+pub mod KeptBook
+pub mod KeptParts
+pub mod KeptLists
 pub mod EntryLists
 pub mod Books
+pub mod StatusRows
 pub mod Puts
 pub mod Holders
 pub mod TaskFrames
@@ -26,7 +32,6 @@ pub mod BookSearch
 pub mod CallsIn
 pub mod BatchMade
 pub mod HistoryMade
-pub mod ReceiptsFound
 pub mod Written
 pub mod Ends
 pub mod ClaimEnds
@@ -42,6 +47,7 @@ pub mod OpeningKept
 pub mod NodesStand
 pub mod TicksStand
 pub mod PartsStand
+pub mod PartsCarried
 pub mod ListKeeps
 pub mod Reached
 pub mod OneCall

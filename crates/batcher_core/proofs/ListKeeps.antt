@@ -1,7 +1,7 @@
 -- Each event keeps the lists of ready nodes.
 use Rattle.std.proofs.Common.{ℕ, ◌≡◌, ◌≢◌, ◌<◌, ◌+◌, ◌==◌, true, if◌then◌else◌, Option, Some, None, List, [], ◌∷◌, ◌++◌, arith, refl, subst, sym, ◌∙◌, ap}
 use Rattle.batcher_core.specs.Lists.{without, times, ready_after, ListsFit}
-use Rattle.batcher_core.specs.KeptLists.{stands_in, ListsKept}
+use Rattle.batcher_core.proofs.KeptLists.{stands_in, ListsKept}
 use Rattle.batcher_core.specs.State.{opening_core}
 use Rattle.std.proofs.lemmas.Bool.Decides.{nat_tests}
 use Rattle.sp_order.specs.declared.node.Kind.TheVariants.{SeqNode, ParNode}
@@ -15,7 +15,7 @@ use Rattle.batcher_core.specs.declared.event.Event.TheVariants.{Claim, Start, Op
 use Rattle.batcher_core.specs.State.{put, CoreJob, State, opening_state}
 use Rattle.batcher_core.specs.Tasks.{is_done, TaskFits}
 use Rattle.batcher_core.specs.Events.{Needs, Does}
-use Rattle.batcher_core.specs.KeptParts.{PartsKept}
+use Rattle.batcher_core.proofs.KeptParts.{PartsKept}
 
 -- how often a number stands in two lists
 times_append : (n : ℕ) (xs ys : List ℕ) → times n (xs ++ ys) ≡ times n xs + times n ys

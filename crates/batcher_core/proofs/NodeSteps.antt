@@ -9,7 +9,7 @@ use Rattle.batcher_core.specs.declared.progress.Progress.TheVariants.{Waiting, R
 use Rattle.batcher_core.specs.State.{put}
 use Rattle.batcher_core.specs.Operations.{IsLeaf}
 use Rattle.batcher_core.specs.Tasks.{is_done}
-use Rattle.batcher_core.specs.KeptNodes.{NodesKept}
+use Rattle.batcher_core.proofs.KeptNodes.{NodesKept}
 use Rattle.batcher_core.proofs.Puts.{put_at, put_other}
 
 -- a ready node is taken

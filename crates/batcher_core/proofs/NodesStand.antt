@@ -8,7 +8,7 @@ use Rattle.batcher_core.specs.declared.progress.Progress.TheVariants.{Waiting, R
 use Rattle.batcher_core.specs.declared.task.Task.{Task}
 use Rattle.batcher_core.specs.declared.task.Task.TheVariants.{Whole}
 use Rattle.batcher_core.specs.Tasks.{is_done, names, TaskFits}
-use Rattle.batcher_core.specs.KeptNodes.{NodesKept, passed_if, LeftAlone, TasksKept}
+use Rattle.batcher_core.proofs.KeptNodes.{NodesKept, passed_if, LeftAlone, TasksKept}
 use Rattle.batcher_core.proofs.TickSteps.{under_done}
 
 -- what is under a waiting node waits

@@ -14,10 +14,10 @@ use Rattle.batcher_core.specs.State.{put, CoreJob, State}
 use Rattle.batcher_core.specs.Tasks.{is_done, names, TaskFits}
 use Rattle.batcher_core.specs.Events.{Needs}
 use Rattle.batcher_core.specs.GateParts.{is_published}
-use Rattle.batcher_core.specs.KeptNodes.{HoldersFit}
-use Rattle.batcher_core.specs.KeptTicks.{stamps}
-use Rattle.batcher_core.specs.KeptBook.{booked_by, valued_by}
-use Rattle.batcher_core.specs.KeptParts.{PartsKept}
+use Rattle.batcher_core.proofs.KeptNodes.{HoldersFit}
+use Rattle.batcher_core.proofs.KeptTicks.{stamps}
+use Rattle.batcher_core.proofs.KeptBook.{booked_by, valued_by}
+use Rattle.batcher_core.proofs.KeptParts.{PartsKept}
 use Rattle.batcher_core.proofs.NodeSteps.{open_nodes}
 use Rattle.batcher_core.proofs.OpenTasks as opens
 use Rattle.batcher_core.proofs.JobKeeps.{still_ran, job_keeps}

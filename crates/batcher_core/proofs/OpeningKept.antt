@@ -12,10 +12,10 @@ use Rattle.batcher_core.specs.declared.status.CallState.{CallState}
 use Rattle.batcher_core.specs.declared.status.CallState.TheVariants.{NotCalled}
 use Rattle.batcher_core.specs.State.{put, CoreJob, opening_state}
 use Rattle.batcher_core.specs.Operations.{place_of}
-use Rattle.batcher_core.specs.KeptNodes.{NodesKept, TasksKept}
-use Rattle.batcher_core.specs.KeptTicks.{Stamp, stamps, StartOf, TicksKept}
-use Rattle.batcher_core.specs.KeptBook.{booked_by, valued_by}
-use Rattle.batcher_core.specs.KeptParts.{PartsKept}
+use Rattle.batcher_core.proofs.KeptNodes.{NodesKept, TasksKept}
+use Rattle.batcher_core.proofs.KeptTicks.{Stamp, stamps, StartOf, TicksKept}
+use Rattle.batcher_core.proofs.KeptBook.{booked_by, valued_by}
+use Rattle.batcher_core.proofs.KeptParts.{PartsKept}
 
 -- the nodes
 opening_nodes : (plan : Nodes) → IsPlan plan → (plan.kind 0 ≢ None) → NodesKept plan (put (λ n. Waiting) 0 Ready)

@@ -26,21 +26,18 @@ use Rattle.batcher_core.specs.State.{CoreJob, State}
 use Rattle.batcher_core.specs.Operations.{op_in, Place, place_of}
 use Rattle.batcher_core.specs.Tasks.{is_done, names, TaskFits}
 use Rattle.batcher_core.specs.GateParts.{IsAtCall, HasReceipt, is_taken_by, is_published}
-use Rattle.batcher_core.specs.KeptNodes.{HoldersFit, TasksKept}
-use Rattle.batcher_core.specs.KeptBook.{StatusFits, IsEarlier, is_booked, booked_by, worker_at, valued_by, value_due}
-use Rattle.batcher_core.specs.KeptParts.{PartsKept}
+use Rattle.batcher_core.proofs.KeptNodes.{HoldersFit, TasksKept}
+use Rattle.batcher_core.proofs.KeptBook.{StatusFits, IsEarlier, is_booked, booked_by, worker_at, valued_by, value_due}
+use Rattle.batcher_core.proofs.KeptParts.{PartsKept}
 use Rattle.batcher_core.proofs.TicksStand.{stamped, stamped_end, ticks_stand}
 use Rattle.batcher_core.proofs.NodesStand.{nodes_stand, tasks_stand}
 use Rattle.batcher_core.proofs.Books.{found_in_book}
 use Rattle.batcher_core.proofs.PublishKeeps.{valued_is_booked, there_if}
+use Rattle.batcher_core.proofs.StatusRows.{call_out, executing_taken, taken_executing, idle_free}
 
 -- one worker's status and call
 is_out : (job : CoreJob) (book : List (List Entry)) (t : Task) (st : Status) (c : CallState) (b : Bool) → StatusFits job book t st c b → c ≡ Out → st ≢ Free
 is_out job book t st c b h out free = grind arith
-
--- and the other way round
-is_trapped : (job : CoreJob) (book : List (List Entry)) (t : Task) (st : Status) (c : CallState) (b : Bool) → StatusFits job book t st c b → st ≢ Free → c ≡ Out
-is_trapped job book t st c b h trapped = grind arith
 
 -- a worker that has made its call is at a leaf that calls
 is_at_call : (job : CoreJob) (book : List (List Entry)) (t : Task) (st : Status) (c : CallState) (b : Bool) → StatusFits job book t st c b → c ≢ NotCalled → IsAtCall job t
@@ -56,14 +53,6 @@ is_at_call job book t Executing (Got r) b h called = absurd h
 is_at_call job book t (Served q) NotCalled b h called = absurd h
 is_at_call job book t (Served q) Out b h called = h.1
 is_at_call job book t (Served q) (Got r) b h called = absurd h
-
--- a worker that is executing is taken and not answered
-is_executing : (job : CoreJob) (book : List (List Entry)) (t : Task) (st : Status) (c : CallState) (b : Bool) → StatusFits job book t st c b → st ≡ Executing → b ≡ true
-is_executing job book t st c b h e = grind arith
-
--- and the other way round
-is_taken : (job : CoreJob) (book : List (List Entry)) (t : Task) (st : Status) (c : CallState) (b : Bool) → StatusFits job book t st c b → b ≡ true → st ≡ Executing
-is_taken job book t st c b h e = grind arith
 
 -- a worker that is served has its receipt
 served_has : (job : CoreJob) (book : List (List Entry)) (t : Task) (st : Status) (c : CallState) (b : Bool) (r : Receipt) → StatusFits job book t st c b → st ≡ Served r → HasReceipt job book t r
@@ -90,9 +79,9 @@ got_has job book t st c b r h e = row st c e h where
 -- the statuses
 pub statuses_stand : (job : CoreJob) (s : State) → ((w : ℕ) → StatusFits job s.book (s.task w) (s.status w) (s.call w) (is_taken_by s.hold w)) → StatusesStand job s
 statuses_stand job s h = record {
-  out = λ w. (is_out job s.book (s.task w) (s.status w) (s.call w) (is_taken_by s.hold w) (h w), is_trapped job s.book (s.task w) (s.status w) (s.call w) (is_taken_by s.hold w) (h w));
+  out = λ w. (is_out job s.book (s.task w) (s.status w) (s.call w) (is_taken_by s.hold w) (h w), λ busy. call_out job s.book (s.task w) (s.status w) (s.call w) (is_taken_by s.hold w) busy (h w));
   at_call = λ w. is_at_call job s.book (s.task w) (s.status w) (s.call w) (is_taken_by s.hold w) (h w);
-  executing = λ w. (is_executing job s.book (s.task w) (s.status w) (s.call w) (is_taken_by s.hold w) (h w), is_taken job s.book (s.task w) (s.status w) (s.call w) (is_taken_by s.hold w) (h w));
+  executing = λ w. (λ e. executing_taken job s.book (s.task w) (s.status w) (s.call w) (is_taken_by s.hold w) e (h w), λ e. taken_executing job s.book (s.task w) (s.status w) (s.call w) (is_taken_by s.hold w) e (h w));
   served_receipt = λ w r. served_has job s.book (s.task w) (s.status w) (s.call w) (is_taken_by s.hold w) r (h w);
   got_receipt = λ w r. got_has job s.book (s.task w) (s.status w) (s.call w) (is_taken_by s.hold w) r (h w);
 }
@@ -153,7 +142,7 @@ if_true true v w e = (refl, cc)
 if_true false v w e = cc
 
 -- and by how far its leaf has come
-by_node : (s : State) (holder : ℕ → Option ℕ) (n w : ℕ) (x : Progress) (o : Option ℕ) → HoldersFit s.task holder → s.node n ≡ x → holder n ≡ o
+pub by_node : (s : State) (holder : ℕ → Option ℕ) (n w : ℕ) (x : Progress) (o : Option ℕ) → HoldersFit s.task holder → s.node n ≡ x → holder n ≡ o
     → booked_by x o s.task s.status s.call (is_published s.hold) ≡ Some w → IsBooked s n w
 by_node s holder n w Waiting o h at held e = cc
 by_node s holder n w Ready o h at held e = cc
@@ -165,7 +154,7 @@ by_node s holder n w Taken (Some v) h at held e =
     subst (IsBooked s n) f.1 (by_task s n v (s.task v) refl (h.holds v n held) f.0)
 
 -- and back
-is_by : (s : State) (plan : Nodes) (holder : ℕ → Option ℕ) (n w : ℕ) → TasksKept plan s.node s.mark s.task holder → IsBooked s n w
+pub is_by : (s : State) (plan : Nodes) (holder : ℕ → Option ℕ) (n w : ℕ) → TasksKept plan s.node s.mark s.task holder → IsBooked s n w
     → booked_by (s.node n) (holder n) s.task s.status s.call (is_published s.hold) ≡ Some w
 is_by s plan holder n w h (inl ran) = rw ran.2 refl
 is_by s plan holder n w h (inr (inl kept)) =
@@ -234,10 +223,6 @@ values_stand job s h = record {
       (is.0, h.values n leaf kind valued ∙ is.1, is.2);
 }
 
--- an idle worker is free, and has made no call
-idle_row : (job : CoreJob) (book : List (List Entry)) (t : Task) (st : Status) (c : CallState) (b : Bool) → t ≡ Idle → StatusFits job book t st c b → (st ≡ Free) × (c ≡ NotCalled)
-idle_row job book t st c b idle h = grind arith
-
 -- All parts.
 pub parts_stand : (job : CoreJob) (s : State) → PartsKept job s → Parts job s
 parts_stand job s h = record {
@@ -249,5 +234,5 @@ parts_stand job s h = record {
   book = book_stands job s h;
   members = members_stand job s h;
   values = values_stand job s h;
-  beyond = λ w far. let idle = h.beyond w far in let row = idle_row job s.book (s.task w) (s.status w) (s.call w) (is_taken_by s.hold w) idle (h.statuses w) in (idle, row.0, row.1);
+  beyond = λ w far. let idle = h.beyond w far in let row = idle_free job s.book (s.task w) (s.status w) (s.call w) (is_taken_by s.hold w) idle (h.statuses w) in (idle, row.0, row.1);
 }

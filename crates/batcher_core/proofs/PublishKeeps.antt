@@ -25,9 +25,9 @@ use Rattle.batcher_core.specs.Serving.{served}
 use Rattle.batcher_core.specs.Tasks.{names, TaskFits}
 use Rattle.batcher_core.specs.Events.{has_taken, Needs, published, IsTakenCall, IsBatchOf}
 use Rattle.batcher_core.specs.GateParts.{is_taken_by, is_published, HoldStands}
-use Rattle.batcher_core.specs.KeptNodes.{HoldersFit}
-use Rattle.batcher_core.specs.KeptBook.{StatusFits, booked_by, worker_at, valued_by, value_due}
-use Rattle.batcher_core.specs.KeptParts.{PartsKept}
+use Rattle.batcher_core.proofs.KeptNodes.{HoldersFit}
+use Rattle.batcher_core.proofs.KeptBook.{StatusFits, booked_by, worker_at, valued_by, value_due}
+use Rattle.batcher_core.proofs.KeptParts.{PartsKept}
 use Rattle.batcher_core.proofs.EntryLists.{each_append, each_so, each_both, each_mapped, each_at, distinct_append, apart_by, distinct_leaves}
 use Rattle.batcher_core.proofs.Books.{which_place, place_append, place_in_batch, found_entry, each_found, each_in_book, flat_append, served_append, legal_append}
 use Rattle.batcher_core.proofs.BatchFacts.{started_at, op_kept, BatchFits, status_kept, taken_same, hold_kept, earlier_append, booked_published, entry_kept, executing, took_it, new_entry, has_place, ended_booked, batch_node, batch_each}

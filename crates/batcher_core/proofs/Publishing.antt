@@ -17,6 +17,7 @@ use Rattle.batcher_core.specs.Cores.{Fits}
 use Rattle.batcher_core.proofs.BookRoom.{counter_room}
 use Rattle.batcher_core.proofs.BatchMade.{taken_at_call, few_calls, batch_made}
 use Rattle.batcher_core.proofs.HistoryMade.{history_made}
+use Rattle.batcher_core.proofs.PartsCarried.{kept_parts}
 
 same_hold : (a b : Hold) → Some a ≡ Some b → a ≡ b
 same_hold a b e = cc
@@ -38,22 +39,22 @@ module _ (tree : Tree) (acts : List Act) (workers : ℕ) (t : Table) (hold : Hol
   unpublished = ap (λ (x : Hold). x.published) (sym same) ∙ needs.4
 
   pub at_call : (v : ℕ) → at hold.took false v ≡ true → IsAtCall (core_job tree acts workers) ((state_of t).task v)
-  at_call v took = taken_at_call (core_job tree acts workers) (state_of t) (shown_hold hold) h.parts (held t hold there) unpublished v took
+  at_call v took = taken_at_call (core_job tree acts workers) (state_of t) (shown_hold hold) (kept_parts tree acts workers t h) (held t hold there) unpublished v took
 
   module _ (calls : List Call) (taken : AreTakenCalls (core_job tree acts workers) (state_of t).task (at hold.took false) calls) where
     pub room : (state_of t).objects.counter + length calls * 2 ^ 32 ≤ 2 ^ 64
     room =
-        let all = counter_room (core_job tree acts workers) (state_of t) h.parts h.calls_in h.most (counter_fits t h.counter) in
-        let few = few_calls (core_job tree acts workers) (state_of t) (shown_hold hold) h.parts (held t hold there) calls taken in
+        let all = counter_room (core_job tree acts workers) (state_of t) (kept_parts tree acts workers t h) h.calls_in h.most (counter_fits t h.counter) in
+        let few = few_calls (core_job tree acts workers) (state_of t) (shown_hold hold) (kept_parts tree acts workers t h) (held t hold there) calls taken in
         let workers_few = h.few in omega (arith, all, few, workers_few)
 
     module _ (entries : List Entry) (are : AreEntriesOf calls entries) (legal : IsLegalFrom (state_of t).objects entries) where
       pub is_batch : IsBatchOf (core_job tree acts workers) (state_of t) entries
-      is_batch = batch_made (core_job tree acts workers) (state_of t) (shown_hold hold) h.parts (held t hold there) calls entries
+      is_batch = batch_made (core_job tree acts workers) (state_of t) (shown_hold hold) (kept_parts tree acts workers t h) (held t hold there) calls entries
           (needs.3.0, ap (λ (x : Hold). x.took needs.3.0) (sym same) ∙ needs.3.1) taken are legal
 
       pub is_history : IsHistory ((state_of t).book ++ entries ∷ [])
-      is_history = history_made (core_job tree acts workers) (state_of t) w entries h.laws h.parts needs is_batch h.few
+      is_history = history_made (core_job tree acts workers) (state_of t) w entries h.laws (kept_parts tree acts workers t h) needs is_batch h.few
           (λ leaf calls. let below = h.calls_in leaf calls in let most = h.most in omega (arith, below, most))
 
 -- a worker that publishes has the flag

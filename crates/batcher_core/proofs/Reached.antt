@@ -7,8 +7,8 @@ use Rattle.sp_order.specs.Stands.{Stands, IsPlanOf}
 use Rattle.batcher_core.specs.State.{CoreJob, CoreState, opening_core}
 use Rattle.batcher_core.specs.Events.{EventKind, IsCoreEvent}
 use Rattle.batcher_core.specs.Invariant.{Invariant}
-use Rattle.batcher_core.specs.KeptParts.{PartsKept}
-use Rattle.batcher_core.specs.KeptLists.{ListsKept}
+use Rattle.batcher_core.proofs.KeptParts.{PartsKept}
+use Rattle.batcher_core.proofs.KeptLists.{ListsKept}
 use Rattle.batcher_core.specs.Runs.{IsReached, at_opening, by_event}
 use Rattle.batcher_core.proofs.EventKeeps.{event_keeps}
 use Rattle.batcher_core.proofs.OpeningKept.{opening_kept}

@@ -11,7 +11,7 @@ use Rattle.batcher_core.specs.declared.task.Task.{Task}
 use Rattle.batcher_core.specs.declared.task.Task.TheVariants.{Idle}
 use Rattle.batcher_core.specs.State.{put}
 use Rattle.batcher_core.specs.Tasks.{is_done, names, TaskFits}
-use Rattle.batcher_core.specs.KeptNodes.{NodesKept, passed_if, LeftAlone, TasksKept}
+use Rattle.batcher_core.proofs.KeptNodes.{NodesKept, passed_if, LeftAlone, TasksKept}
 use Rattle.batcher_core.proofs.Puts.{put_each}
 use Rattle.batcher_core.proofs.Holders.{drop_task}
 use Rattle.batcher_core.proofs.TaskFrames.{finish_task}

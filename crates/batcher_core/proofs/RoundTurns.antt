@@ -12,18 +12,18 @@ use Rattle.sp_order.specs.Preorder.{nodes_of}
 use Rattle.batcher_core.specs.declared.event.Event.{Event}
 use Rattle.batcher_core.specs.State.{CoreJob, CoreState}
 use Rattle.batcher_core.specs.Tasks.{is_done}
-use Rattle.batcher_core.specs.KeptParts.{PartsKept}
-use Rattle.batcher_core.specs.KeptLists.{ListsKept}
+use Rattle.batcher_core.proofs.KeptParts.{PartsKept}
+use Rattle.batcher_core.specs.Lists.{ListsFit}
 use Rattle.batcher_core.specs.Fuel.{fuel}
 use Rattle.batcher_core.specs.Choice.{choice, least_below}
 use Rattle.batcher_core.specs.Runs.{IsTurnOf, IsTurn}
 use Rattle.batcher_core.specs.Cores.{Seen, job_in, state_in, is_over_in, Fits}
 use Rattle.batcher_core.proofs.Searches.{least_stays, least_in}
 use Rattle.batcher_core.proofs.ChoiceSearch.{least_is_chosen, no_least}
-use Rattle.batcher_core.proofs.ListKeeps.{lists_fit}
 use Rattle.batcher_core.proofs.ChoiceProgress.{some_turn}
 use Rattle.batcher_core.proofs.FuelLowers.{turn_lowers}
 use Rattle.batcher_core.proofs.TurnsTaken.{SameJob, job_same, goes_on}
+use Rattle.batcher_core.proofs.PartsCarried.{kept_parts}
 
 -- the worker so many after this one has an event
 abbrev pub acts_after : CoreJob → CoreState → ℕ → ℕ → Bool
@@ -115,14 +115,14 @@ room f g k i j less few =
     omega (arith, a, b, few)
 
 module _ (job : CoreJob) (tree : Tree) (old new : CoreState) (robin : ℕ) (laws : IsPlan job.plan) (plan : IsPlanOf job.plan tree) (parts : PartsKept job old.state)
-    (lists : ListsKept job.workers old.state.node old.ready) (below : robin < job.workers) (going : is_done (old.state.node 0) ≡ false) where
+    (lists : ListsFit job.workers old.state.node old.ready) (below : robin < job.workers) (going : is_done (old.state.node 0) ≡ false) where
   fewer_by : (o : Option Event) → choice job old robin ≡ o → IsTurnOf job old robin o new → turns_left job new ((robin + 1) % job.workers) < turns_left job old robin
   fewer_by None none turn =
-      let some = some_turn job tree old laws plan parts (lists_fit job.workers old.state.node old.ready lists) going in
+      let some = some_turn job tree old laws plan parts lists going in
       let nearer = nearer job old robin below none some.0 some.1 some.2 in
       rw turn (omega (arith, nearer))
   fewer_by (Some event) chosen turn =
-      let less = turn_lowers job old robin event new.state laws below parts (lists_fit job.workers old.state.node old.ready lists) chosen turn.happens.does in
+      let less = turn_lowers job old robin event new.state laws below parts lists chosen turn.happens.does in
       let few = few_idle (acts_after job new ((robin + 1) % job.workers)) job.workers (least_below (acts_after job new ((robin + 1) % job.workers)) job.workers) refl in
       room (fuel job new.state) (fuel job old.state) (job.workers + 1) (idle_turns job new ((robin + 1) % job.workers)) (idle_turns job old robin) less (omega (arith, few))
 
@@ -136,7 +136,7 @@ pub round_fewer : (first core next : Seen) (workers robin : ℕ) → SameJob fir
     → turns_left (job_in first) (state_in next) ((robin + 1) % workers) < turns_left (job_in first) (state_in core) robin
 round_fewer first core next workers robin same fits plan all below more unspent turn =
     let few = same.2 in
-    let fewer = turns_fewer (job_in core) core.tree (state_in core) (state_in next) robin fits.laws plan fits.parts fits.lists (omega (arith, below, all, few)) (goes_on _ _ more unspent) turn in
+    let fewer = turns_fewer (job_in core) core.tree (state_in core) (state_in next) robin fits.laws plan (kept_parts core.tree core.acts core.workers core.table fits) fits.inv.lists (omega (arith, below, all, few)) (goes_on _ _ more unspent) turn in
     let first_fewer : turns_left (job_in first) (state_in next) ((robin + 1) % first.workers) < turns_left (job_in first) (state_in core) robin =
     subst (λ (job : CoreJob). turns_left job (state_in next) ((robin + 1) % job.workers) < turns_left job (state_in core) robin) (job_same first core same) fewer in
     subst (λ (n : ℕ). turns_left (job_in first) (state_in next) ((robin + 1) % n) < turns_left (job_in first) (state_in core) robin) (sym all) first_fewer

@@ -10,7 +10,7 @@ use Rattle.batcher_core.specs.declared.task.Task.{Task}
 use Rattle.batcher_core.specs.declared.task.Task.TheVariants.{Handed}
 use Rattle.batcher_core.specs.State.{put}
 use Rattle.batcher_core.specs.Tasks.{is_done, names, TaskFits}
-use Rattle.batcher_core.specs.KeptNodes.{TasksKept}
+use Rattle.batcher_core.proofs.KeptNodes.{TasksKept}
 
 -- another task, when a ready node is taken
 pub claim_task : (plan : Nodes) (node : ℕ → Progress) (mark : ℕ → ℕ) (n : ℕ) → node n ≡ Ready → (t : Task) → TaskFits plan node mark t → TaskFits plan (put node n Taken) mark t

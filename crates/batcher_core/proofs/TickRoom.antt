@@ -6,8 +6,8 @@ use Rattle.std.proofs.Math.Dec.{eqb}
 use Rattle.std.proofs.lemmas.Map.Steps.{length-le_from_distinct_below}
 use Rattle.sp_order.specs.Plans.{IsPlan}
 use Rattle.batcher_core.specs.State.{CoreJob, State}
-use Rattle.batcher_core.specs.KeptTicks.{Stamp, Drawn, StartOf, EndOf, StartsAt, EndsAt, stamps}
-use Rattle.batcher_core.specs.KeptParts.{PartsKept}
+use Rattle.batcher_core.proofs.KeptTicks.{Stamp, Drawn, StartOf, EndOf, StartsAt, EndsAt, stamps}
+use Rattle.batcher_core.proofs.KeptParts.{PartsKept}
 use Rattle.batcher_core.proofs.InRange.{standing_in}
 
 abbrev code : Drawn → ℕ

@@ -7,8 +7,8 @@ use Rattle.batcher_core.specs.declared.progress.Progress.TheVariants.{Waiting, R
 use Rattle.batcher_core.specs.declared.task.Task.{Task}
 use Rattle.batcher_core.specs.State.{put}
 use Rattle.batcher_core.specs.Tasks.{is_done}
-use Rattle.batcher_core.specs.KeptNodes.{NodesKept}
-use Rattle.batcher_core.specs.KeptTicks.{Stamp, stamp, stamps, StartOf, EndOf, RanBefore, ComesBefore, TicksKept}
+use Rattle.batcher_core.proofs.KeptNodes.{NodesKept}
+use Rattle.batcher_core.proofs.KeptTicks.{Stamp, stamp, stamps, StartOf, EndOf, RanBefore, ComesBefore, TicksKept}
 
 -- what is under a done node is done
 pub under_done : {plan : Nodes} {a n : ℕ} (node : ℕ → Progress) → NodesKept plan node → IsUnder plan a n → is_done (node a) ≡ true → is_done (node n) ≡ true

@@ -7,8 +7,8 @@ use Rattle.batcher_core.specs.declared.progress.Progress.TheVariants.{Waiting, R
 use Rattle.batcher_core.specs.declared.task.Task.{Task}
 use Rattle.batcher_core.specs.declared.task.Task.TheVariants.{Idle, Run, Half, Started, Kept, Ended, Whole, Handed}
 use Rattle.batcher_core.specs.Tasks.{names, TaskFits}
-use Rattle.batcher_core.specs.KeptNodes.{TasksKept}
-use Rattle.batcher_core.specs.KeptTicks.{stamp, stamp_in_task, stamp_by, stamps, Drawn, StartOf, EndOf, RanBefore, EndsBefore, StartsAt, EndsAt, TicksKept}
+use Rattle.batcher_core.proofs.KeptNodes.{TasksKept}
+use Rattle.batcher_core.proofs.KeptTicks.{stamp, stamp_in_task, stamp_by, stamps, Drawn, StartOf, EndOf, RanBefore, EndsBefore, StartsAt, EndsAt, TicksKept}
 
 -- whose start or end a tick was drawn for: the worker's, while its task names the leaf, else the leaf's own
 abbrev start_source : Progress → Option ℕ → ℕ → Draw

@@ -3,8 +3,8 @@ use Rattle.std.proofs.Common.{ℕ, ◌≢◌, ◌<◌, ◌≤◌, ◌+◌, ◌*�
 use Rattle.sp_order.specs.Plans.{IsPlan}
 use Rattle.batcher_core.specs.declared.event.Event.{Event}
 use Rattle.batcher_core.specs.State.{CoreJob, CoreState, opening_state, opening_core}
-use Rattle.batcher_core.specs.KeptParts.{PartsKept}
-use Rattle.batcher_core.specs.KeptLists.{ListsKept}
+use Rattle.batcher_core.proofs.KeptParts.{PartsKept}
+use Rattle.batcher_core.proofs.KeptLists.{ListsKept}
 use Rattle.batcher_core.specs.Fuel.{fuel, call_count}
 use Rattle.batcher_core.specs.Runs.{IsStep, Step, TurnsLead}
 use Rattle.batcher_core.proofs.EventKeeps.{event_keeps}

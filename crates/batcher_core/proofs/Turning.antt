@@ -1,5 +1,5 @@
 -- A turn keeps what the core keeps to, and makes what it answers.
-use Rattle.std.proofs.Common.{ℕ, ◌≡◌, ◌<◌, Some, None, List, refl, sym, ◌∙◌, subst}
+use Rattle.std.proofs.Common.{ℕ, ◌≡◌, ◌<◌, Some, None, List, refl, ◌∙◌}
 use Rattle.seq_objects.specs.declared.act.Act.{Act}
 use Rattle.sp_order.specs.Precedence.{Tree}
 use Rattle.sp_order.specs.Preorder.{nodes_of}
@@ -9,14 +9,13 @@ use Rattle.batcher_core.specs.declared.turn.Turn.TheVariants.{Moved, Idle}
 use Rattle.batcher_core.specs.State.{core_job}
 use Rattle.batcher_core.specs.Lists.{ready_after}
 use Rattle.batcher_core.specs.Events.{Does, Happens}
-use Rattle.batcher_core.specs.KeptLists.{ListsKept}
 use Rattle.batcher_core.specs.Choice.{choice}
 use Rattle.batcher_core.specs.Shown.{state_of, ready_of, shown, Sizes, SameSizes}
 use Rattle.batcher_core.specs.Cores.{Fits, Makes}
-use Rattle.batcher_core.proofs.EventKeeps.{event_keeps}
-use Rattle.batcher_core.proofs.ListKeeps.{lists_after, lists_fit}
 use Rattle.batcher_core.proofs.Choices.{none_has_no_event}
 use Rattle.batcher_core.proofs.Allowed.{chosen_needs}
+use Rattle.batcher_core.specs.Events.{kind_of}
+use Rattle.batcher_core.proofs.PartsCarried.{kept_parts, event_keeps_all}
 
 sizes_kept : (old new : Table) (nodes workers : ℕ) → Sizes old nodes workers → SameSizes old new → Sizes new nodes workers
 sizes_kept old new nodes workers h same = record {
@@ -48,9 +47,8 @@ module _ (tree : Tree) (acts : List Act) (workers : ℕ) (old new : Table) (w : 
     sizes = sizes_kept old new (nodes_of tree).count workers h.sizes same;
     counter = same.counter_same h.counter;
     filled = same.filled_same h.filled;
-    parts = event_keeps (core_job tree acts workers) (state_of old) (state_of new) w event h.laws h.parts happens;
-    lists = subst (ListsKept workers (state_of new).node) (sym lists)
-        (lists_after (core_job tree acts workers) (state_of old) w (ready_of old) h.laws h.parts below h.lists event (state_of new) happens.needs does);
+    inv = event_keeps_all (core_job tree acts workers) (shown old) (shown new) w (kind_of event) h.laws h.inv
+        (record { event = event; is = refl; happens = happens; lists = lists });
   }
 
   -- an event was chosen, and has happened
@@ -62,4 +60,4 @@ pub makes_none : (tree : Tree) (acts : List Act) (workers : ℕ) (old : Table) (
     → Fits tree acts workers old → w < workers → choice (core_job tree acts workers) (shown old) w ≡ None
     → Makes Idle (core_job tree acts workers) (shown old) w (shown old)
 makes_none tree acts workers old w h below none =
-    (refl, λ kind next is. none_has_no_event (core_job tree acts workers) (shown old) w h.laws below h.parts (lists_fit workers (state_of old).node (ready_of old) h.lists) none is.event is.happens.needs)
+    (refl, λ kind next is. none_has_no_event (core_job tree acts workers) (shown old) w h.laws below (kept_parts tree acts workers old h) h.inv.lists none is.event is.happens.needs)

@@ -21,24 +21,21 @@ use Rattle.batcher_core.specs.Operations.{leaf_of, op_in, place_of}
 use Rattle.batcher_core.specs.Tasks.{TaskFits}
 use Rattle.batcher_core.specs.Events.{value_in, Needs}
 use Rattle.batcher_core.specs.GateParts.{is_taken_by, is_published, HoldStands}
-use Rattle.batcher_core.specs.KeptNodes.{HoldersFit}
-use Rattle.batcher_core.specs.KeptTicks.{stamps}
-use Rattle.batcher_core.specs.KeptBook.{StatusFits, booked_by, valued_by, value_due}
-use Rattle.batcher_core.specs.KeptParts.{PartsKept}
+use Rattle.batcher_core.proofs.KeptNodes.{HoldersFit}
+use Rattle.batcher_core.proofs.KeptTicks.{stamps}
+use Rattle.batcher_core.proofs.KeptBook.{StatusFits, booked_by, valued_by, value_due}
+use Rattle.batcher_core.proofs.KeptParts.{PartsKept}
 use Rattle.batcher_core.proofs.Puts.{put_at, put_other}
 use Rattle.batcher_core.proofs.FinishTasks.{go_on}
 use Rattle.batcher_core.proofs.ClaimTasks.{beyond_put}
 use Rattle.batcher_core.proofs.TickSteps.{same_ticks}
 use Rattle.batcher_core.proofs.ClaimKeeps.{same_book}
 use Rattle.batcher_core.proofs.LeafKeeps.{keep_stamp}
+use Rattle.batcher_core.proofs.StatusRows.{not_out}
 
 -- a free worker, once its call is over
 kept_row : (job : CoreJob) (book : List (List Entry)) (t u : Task) (st : Status) (c : CallState) (b : Bool) → st ≡ Free → StatusFits job book t st c b → StatusFits job book u st NotCalled b
 kept_row job book t u st c b free h = grind arith
-
--- its call is not out
-not_out : (job : CoreJob) (book : List (List Entry)) (t : Task) (st : Status) (c : CallState) (b : Bool) → st ≡ Free → StatusFits job book t st c b → c ≢ Out
-not_out job book t st c b free h = grind arith
 
 -- the hold
 kept_hold : (workers : ℕ) (status : ℕ → Status) (call : ℕ → CallState) (w : ℕ) (o : Option Hold) → call w ≢ Out → HoldStands workers status call o → HoldStands workers status (put call w NotCalled) o

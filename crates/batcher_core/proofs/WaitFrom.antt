@@ -18,8 +18,8 @@ use Rattle.batcher_core.specs.Operations.{Place, place_in, or_else, place_of, Is
 use Rattle.batcher_core.specs.Events.{task_after, Happens}
 use Rattle.batcher_core.specs.Tasks.{names}
 use Rattle.batcher_core.specs.GateParts.{is_published}
-use Rattle.batcher_core.specs.KeptBook.{booked_by}
-use Rattle.batcher_core.specs.KeptParts.{PartsKept}
+use Rattle.batcher_core.proofs.KeptBook.{booked_by}
+use Rattle.batcher_core.proofs.KeptParts.{PartsKept}
 use Rattle.batcher_core.specs.Waits.{IsTrapped, started_leaf, leaf_place, task_place, StaysTrapped, at_once, by_event}
 use Rattle.batcher_core.proofs.Books.{place_append, place_in_batch}
 use Rattle.batcher_core.proofs.PublishKeeps.{no_entry}

@@ -16,7 +16,7 @@ use Rattle.batcher_core.specs.Serving.{served}
 use Rattle.batcher_core.specs.Events.{task_after, is_pending, new_hold, looked, published, answered, Needs, IsBatchOf, Happens}
 use Rattle.batcher_core.specs.GateParts.{HoldStands}
 use Rattle.batcher_core.specs.Invariant.{Parts}
-use Rattle.batcher_core.specs.KeptParts.{PartsKept}
+use Rattle.batcher_core.proofs.KeptParts.{PartsKept}
 use Rattle.batcher_core.specs.Waits.{IsTrapped, started_leaf, task_place, StatusWaits, WaitsSince}
 use Rattle.batcher_core.proofs.Puts.{put_at, put_other}
 use Rattle.batcher_core.proofs.GateKeeps.{no_more}

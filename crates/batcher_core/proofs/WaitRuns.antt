@@ -4,7 +4,7 @@ use Rattle.sp_order.specs.Plans.{IsPlan}
 use Rattle.batcher_core.specs.declared.status.Status.TheVariants.{Served}
 use Rattle.batcher_core.specs.declared.status.Receipt.{Receipt}
 use Rattle.batcher_core.specs.State.{CoreJob, State}
-use Rattle.batcher_core.specs.KeptParts.{PartsKept}
+use Rattle.batcher_core.proofs.KeptParts.{PartsKept}
 use Rattle.batcher_core.specs.Waits.{task_place, WaitsSince, StaysTrapped, at_once, by_event}
 use Rattle.batcher_core.proofs.EventKeeps.{event_keeps}
 use Rattle.batcher_core.proofs.PartsStand.{parts_stand}

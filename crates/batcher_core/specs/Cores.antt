@@ -12,11 +12,10 @@ use Rattle.batcher_core.specs.State.{CoreJob, CoreState, core_job}
 use Rattle.batcher_core.specs.Operations.{IsCall}
 use Rattle.batcher_core.specs.Tasks.{is_done}
 use Rattle.batcher_core.specs.Events.{EventKind, IsCoreEvent}
-use Rattle.batcher_core.specs.KeptParts.{PartsKept}
-use Rattle.batcher_core.specs.KeptLists.{ListsKept}
+use Rattle.batcher_core.specs.Invariant.{Invariant}
 use Rattle.batcher_core.specs.Choice.{choice}
 use Rattle.batcher_core.specs.Runs.{IsStep}
-use Rattle.batcher_core.specs.Shown.{state_of, ready_of, shown, Sizes, CounterFits, FilledFits}
+use Rattle.batcher_core.specs.Shown.{state_of, shown, Sizes, CounterFits, FilledFits}
 use Rattle.batcher_core.specs.Looks.{LeafIn, work_due}
 
 -- what contracts see of a core
@@ -55,8 +54,7 @@ pub record Fits (tree : Tree) (acts : List Act) (workers : ℕ) (t : Table) : Ty
   pub sizes : Sizes t (nodes_of tree).count workers
   pub counter : CounterFits t
   pub filled : FilledFits t
-  pub parts : PartsKept (core_job tree acts workers) (state_of t)
-  pub lists : ListsKept workers (state_of t).node (ready_of t)
+  pub inv : Invariant (core_job tree acts workers) (shown t)
 
 abbrev pub moved_if : Option Event → Turn
 moved_if None = Idle

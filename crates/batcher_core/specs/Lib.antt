@@ -17,12 +17,7 @@ pub mod Tasks
 pub mod JobParts
 pub mod GateParts
 pub mod Invariant
-pub mod KeptNodes
-pub mod KeptTicks
-pub mod KeptBook
-pub mod KeptParts
 pub mod Shown
-pub mod KeptLists
 pub mod Choice
 pub mod Runs
 pub mod Looks

@@ -1,5 +1,5 @@
 -- What the choice of a turn looks up, and what the code of an event does.
-use Rattle.std.specs.Prelude.{ℕ, ◌≡◌, ◌<◌, ◌≤◌, ◌+◌, ◌-◌, ◌^◌, Option, None, Some, IfSome, List, [], ◌∷◌, length, map, slice_index_or}
+use Rattle.std.specs.Prelude.{ℕ, ◌≡◌, ◌<◌, ◌≤◌, ◌+◌, ◌-◌, ◌^◌, Option, None, Some, List, [], ◌∷◌, length, map, slice_index_or}
 use Rattle.seq_objects.specs.declared.act.Act.{Act}
 use Rattle.seq_objects.specs.declared.act.Act.TheVariants.{Work, Call}
 use Rattle.sp_order.specs.declared.node.Kind.{Kind}
@@ -10,15 +10,13 @@ use Rattle.sp_order.specs.Plans.{Nodes}
 use Rattle.batcher_core.specs.declared.task.Task.{Task}
 use Rattle.batcher_core.specs.declared.task.Task.TheVariants.{Idle, Run, Half, Started, Kept, Ended, Whole, Handed}
 use Rattle.batcher_core.specs.declared.event.Event.{Event}
-use Rattle.batcher_core.specs.declared.event.Event.TheVariants.{Claim, Start, OpenParRight, OpenParLeft, OpenSeqLeft, OpenSeqRight, Post, Win, Take, Publish, Answer, Release, Leave, Keep, End, FinishLeaf, FinishSeq, FinishPar, ArriveFirst, ArriveSecond}
+use Rattle.batcher_core.specs.declared.event.Event.TheVariants.{Claim}
 use Rattle.batcher_core.specs.declared.table.Table.{Table}
 use Rattle.seq_objects.specs.Pairs.{AreDistinct}
 use Rattle.batch_history.specs.Book.{flat}
-use Rattle.batcher_core.specs.State.{CoreJob}
 use Rattle.batcher_core.specs.Operations.{IsLeaf}
-use Rattle.batcher_core.specs.Events.{Needs}
 use Rattle.batcher_core.specs.Choice.{choice_steal, last_of, choice_second, choice_parent, choice_arrive}
-use Rattle.batcher_core.specs.Shown.{state_of, ready_of, Sizes, IsAtEnd, FilledFits}
+use Rattle.batcher_core.specs.Shown.{state_of, Sizes, FilledFits}
 
 -- the node that a task names is below this number
 abbrev pub TaskIn : ℕ → Task → Type 0
@@ -92,26 +90,3 @@ work_due plan acts (Kept n s) = None
 work_due plan acts (Ended n s e) = None
 work_due plan acts (Whole n) = None
 work_due plan acts (Handed n) = None
-
--- what the code of an event looks up is there, beside the nodes and the workers of which the event speaks
-abbrev pub Allows : CoreJob → Table → ℕ → Event → Type 0
-Allows job t w (Claim n) = (v : ℕ) → IsAtEnd n (ready_of t v)
-Allows job t w (Start n) = t.tick + 1 < 2 ^ 64
-Allows job t w (OpenParRight p l r) = Unit {0}
-Allows job t w (OpenParLeft p l r) = Unit {0}
-Allows job t w (OpenSeqLeft p l r) = Unit {0}
-Allows job t w (OpenSeqRight p l r) = Unit {0}
-Allows job t w (Post n s) = Unit {0}
-Allows job t w Win = Unit {0}
-Allows job t w (Take u) = IfSome t.hold (λ h. h.looks < 32)
-Allows job t w Publish = Needs job (state_of t) w Publish
-Allows job t w (Answer u receipt) = Unit {0}
-Allows job t w Release = Unit {0}
-Allows job t w (Leave receipt) = Unit {0}
-Allows job t w (Keep n s v) = Unit {0}
-Allows job t w (End n s) = t.tick + 1 < 2 ^ 64
-Allows job t w (FinishLeaf n s e) = Unit {0}
-Allows job t w (FinishSeq p l r) = Unit {0}
-Allows job t w (FinishPar p l r) = Unit {0}
-Allows job t w (ArriveFirst p l r n) = Unit {0}
-Allows job t w (ArriveSecond p l r n) = Unit {0}

@@ -1,12 +1,12 @@
 //! Doing an event.
-ghost use Rattle.std.specs.Prelude.{◌≡◌, ◌<◌, IfOk};
+ghost use Rattle.std.specs.Prelude.{◌≡◌, ◌<◌, ℕ, IfOk};
 ghost use Rattle.sp_order.specs.Preorder.{nodes_of};
 ghost use Rattle.batcher_core.specs.State.{core_job};
-ghost use Rattle.batcher_core.specs.Events.{Does};
+ghost use Rattle.batcher_core.specs.Events.{Needs, Does};
 ghost use Rattle.batcher_core.specs.Ranges.{IsInRange};
-ghost use Rattle.batcher_core.specs.Shown.{state_of, ready_of, SameSizes};
+ghost use Rattle.batcher_core.specs.Shown.{state_of, ready_of, SameSizes, IsAtEnd};
 ghost use Rattle.batcher_core.specs.Lists.{ready_after};
-ghost use Rattle.batcher_core.specs.Looks.{Allows};
+ghost use Rattle.batcher_core.specs.declared.event.Event.TheVariants.{Claim};
 ghost use Rattle.batcher_core.specs.Cores.{Fits};
 
 use crate::event::Event;
@@ -30,7 +30,8 @@ impl Table {
         requires fits { Fits plan.now acts.now workers self.old }
         requires worker_in { worker < workers }
         requires in_range { IsInRange (nodes_of plan.now).count workers event }
-        requires allows { Allows (core_job plan.now acts.now workers) self.old worker event }
+        requires needs { Needs (core_job plan.now acts.now workers) (state_of self.old) worker event }
+        requires at_end { (n : ℕ) → event ≡ Claim n → (v : ℕ) → IsAtEnd n (ready_of self.old v) }
         ensures sizes { IfOk result (λ _. SameSizes self.old self.new) }
         ensures event { IfOk result (λ _. Does (core_job plan.now acts.now workers) (state_of self.old) worker event (state_of self.new)) }
         ensures lists { IfOk result (λ _. ready_of self.new ≡ ready_after worker event (ready_of self.old)) }

@@ -1,7 +1,6 @@
 //! The laws of the core, each as the contract of a function that does nothing.
 //!
-//! What the proofs carry from event to event, `PartsKept` and `ListsKept`, is more than the invariant says, and
-//! implies it. Neither the parts nor what is carried of them look at the lists of ready nodes.
+//! The eight parts do not look at the lists of ready nodes.
 ghost use Rattle.std.specs.Prelude.{◌≡◌, ◌≢◌, ℕ, ◌<◌, None, Some, List, [], ◌∷◌};
 ghost use Rattle.seq_objects.specs.declared.act.Act.{Act};
 ghost use Rattle.seq_objects.specs.declared.act.Act.TheVariants.{Call};
@@ -11,51 +10,37 @@ ghost use Rattle.sp_order.specs.declared.node.Move.TheVariants.{OpenSecond, Fini
 ghost use Rattle.sp_order.specs.Precedence.{Tree, leaf, leaves, IsBefore};
 ghost use Rattle.sp_order.specs.Plans.{Nodes, IsPlan, IsSide};
 ghost use Rattle.sp_order.specs.Stands.{IsPlanOf};
-ghost use Rattle.batcher_core.specs.declared.progress.Progress.{Progress};
 ghost use Rattle.batcher_core.specs.declared.progress.Progress.TheVariants.{Ran};
 ghost use Rattle.batcher_core.specs.declared.event.Event.{Event};
 ghost use Rattle.batcher_core.specs.State.{CoreJob, State, CoreState, opening_state, opening_core, core_job};
-ghost use Rattle.batcher_core.specs.Events.{EventKind, Happens, IsEvent};
-ghost use Rattle.batcher_core.specs.Lists.{ready_after, ListsFit};
+ghost use Rattle.batcher_core.specs.Events.{EventKind, Happens, IsEvent, IsCoreEvent};
 ghost use Rattle.batcher_core.specs.JobParts.{HasStart};
 ghost use Rattle.batcher_core.specs.Invariant.{Parts, Invariant};
-ghost use Rattle.batcher_core.specs.KeptParts.{PartsKept};
-ghost use Rattle.batcher_core.specs.KeptLists.{ListsKept};
 ghost use Rattle.batcher_core.specs.Runs.{Step, Reaches, IsReached};
 
 use sp_order::laws::{
     before_is_by_series, leaf_has_one_node, plan_has_sides, plan_stands_for_tree,
 };
 
-/// Of a job with a root, the opening state has what the proofs carry.
+/// Of a job with a root, the opening state has the eight parts.
 pub fn opening_has_parts()
-    ensures { (job : CoreJob) → IsPlan job.plan → job.plan.kind 0 ≢ None → PartsKept job opening_state }
+    ensures { (job : CoreJob) → IsPlan job.plan → job.plan.kind 0 ≢ None → Parts job opening_state }
 {}
 
-/// Each event of a worker keeps it.
+/// Each event of a worker keeps them, without a look at the lists of ready nodes.
 pub fn event_keeps_parts()
-    ensures event { (job : CoreJob) (old new : State) (worker : ℕ) (event : Event) → IsPlan job.plan → PartsKept job old → Happens job old worker event new → PartsKept job new }
-    ensures kind { (job : CoreJob) (old new : State) (worker : ℕ) (kind : EventKind) → IsPlan job.plan → PartsKept job old → IsEvent job old worker kind new → PartsKept job new }
+    ensures event { (job : CoreJob) (old new : State) (worker : ℕ) (event : Event) → IsPlan job.plan → Parts job old → Happens job old worker event new → Parts job new }
+    ensures kind { (job : CoreJob) (old new : State) (worker : ℕ) (kind : EventKind) → IsPlan job.plan → Parts job old → IsEvent job old worker kind new → Parts job new }
 {}
 
-/// What the proofs carry implies the eight parts of the invariant.
-pub fn kept_parts_hold()
-    ensures { (job : CoreJob) (state : State) → PartsKept job state → Parts job state }
+/// The opening state with its lists has the invariant.
+pub fn opening_has_invariant()
+    ensures { (job : CoreJob) → IsPlan job.plan → job.plan.kind 0 ≢ None → 0 < job.workers → Invariant job opening_core }
 {}
 
-/// The opening lists have what the proofs carry.
-pub fn opening_has_lists()
-    ensures { (workers : ℕ) → 0 < workers → ListsKept workers opening_core.state.node opening_core.ready }
-{}
-
-/// Each event of a worker keeps it.
-pub fn event_keeps_lists()
-    ensures { (job : CoreJob) (old new : State) (worker : ℕ) (event : Event) (ready : ℕ → List ℕ) → IsPlan job.plan → PartsKept job old → ListsKept job.workers old.node ready → Happens job old worker event new → ListsKept job.workers new.node (ready_after worker event ready) }
-{}
-
-/// What the proofs carry of the lists implies what the invariant says of them.
-pub fn kept_lists_hold()
-    ensures { (workers : ℕ) (node : ℕ → Progress) (ready : ℕ → List ℕ) → ListsKept workers node ready → ListsFit workers node ready }
+/// Each event of a worker keeps the invariant.
+pub fn event_keeps_invariant()
+    ensures { (job : CoreJob) (old new : CoreState) (worker : ℕ) (kind : EventKind) → IsPlan job.plan → Invariant job old → IsCoreEvent job old worker kind new → Invariant job new }
 {}
 
 /// Each state that can be reached has the invariant: each that a list of events, one after another, leads to from

@@ -11,7 +11,6 @@ ghost use Rattle.batcher_core.specs.Reports.{IsReportOf};
 ghost use Rattle.batcher_core.specs.Cores.{job_in, state_in, due_in, turn_due, is_over_in, Makes, Fits};
 
 use crate::event::Event;
-use crate::laws::{kept_lists_hold, kept_parts_hold};
 use crate::report_laws::{done_leaves_have_run, done_report_is_lawful};
 use crate::rows::rows_of;
 use crate::spun::Spun;
@@ -156,8 +155,6 @@ impl Core {
     pub fn stands(&self)
         ensures { self.now.spent ≡ false → Invariant (job_in self.now) (state_in self.now) }
     {
-        kept_parts_hold();
-        kept_lists_hold();
         self.fits();
     }
 
@@ -182,7 +179,6 @@ impl Core {
         ensures lawful { IfOk result (λ report. Lawful (record { shape = Some self.tree; acts = self.acts }) self.workers report) }
     {
         plan_stands_for_tree();
-        kept_parts_hold();
         done_leaves_have_run();
         done_report_is_lawful();
         let leaf_total = self.acts.len() as u32;

@@ -9,7 +9,6 @@ ghost use Rattle.batcher_core.specs.declared.status.Receipt.{Receipt};
 ghost use Rattle.batcher_core.specs.State.{CoreJob, State, CoreState, core_job};
 ghost use Rattle.batcher_core.specs.Events.{Happens};
 ghost use Rattle.batcher_core.specs.Invariant.{Parts};
-ghost use Rattle.batcher_core.specs.KeptParts.{PartsKept};
 ghost use Rattle.batcher_core.specs.Runs.{IsReached};
 ghost use Rattle.batcher_core.specs.Waits.{IsTrapped, WaitsSince, StaysTrapped};
 
@@ -22,12 +21,12 @@ pub fn trapped_waits_from_now()
 
 /// Each event of a worker keeps what is said of a worker that waits, as long as that one stays trapped.
 pub fn event_keeps_waits()
-    ensures { (job : CoreJob) (old new : State) (worker : ℕ) (event : Event) (waiter since : ℕ) → IsPlan job.plan → PartsKept job old → Happens job old worker event new → IsTrapped new waiter → WaitsSince job old waiter since → WaitsSince job new waiter since }
+    ensures { (job : CoreJob) (old new : State) (worker : ℕ) (event : Event) (waiter since : ℕ) → IsPlan job.plan → Parts job old → Happens job old worker event new → IsTrapped new waiter → WaitsSince job old waiter since → WaitsSince job new waiter since }
 {}
 
 /// A worker that stays trapped from a state on waits since then.
 pub fn trapped_waits_since_then()
-    ensures kept { (job : CoreJob) (worker : ℕ) (first last : State) → IsPlan job.plan → PartsKept job first → StaysTrapped job worker first last → WaitsSince job last worker (length first.book) }
+    ensures kept { (job : CoreJob) (worker : ℕ) (first last : State) → IsPlan job.plan → Parts job first → StaysTrapped job worker first last → WaitsSince job last worker (length first.book) }
     ensures reached { (tree : Tree) (acts : List Act) (workers worker : ℕ) (first : CoreState) (last : State) → 0 < workers → IsReached (core_job tree acts workers) first → StaysTrapped (core_job tree acts workers) worker first.state last → WaitsSince (core_job tree acts workers) last worker (length first.state.book) }
 {
     plan_stands_for_tree();

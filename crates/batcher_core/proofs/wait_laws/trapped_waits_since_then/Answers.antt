@@ -1,11 +1,12 @@
 use Rattle.sp_order.specs.Preorder.{nodes_of}
 use Rattle.batcher_core.specs.State.{core_job}
 use Rattle.batcher_core.proofs.Reached.{has_root, reached_parts}
+use Rattle.batcher_core.proofs.PartsCarried.{parts_carried}
 use Rattle.batcher_core.proofs.WaitRuns.{along_waits}
 use Rattle.batcher_core.proofs.wait_laws.trapped_waits_since_then.Goals as goal
 
 pub returns-clause-kept : goal.returns-clause-kept
-returns-clause-kept c = along_waits
+returns-clause-kept c job worker first last laws parts = along_waits job worker first last laws (parts_carried job first parts)
 
 pub returns-clause-reached : goal.returns-clause-reached
 returns-clause-reached c tree acts workers worker first last some reached stays =

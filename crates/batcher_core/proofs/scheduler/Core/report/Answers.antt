@@ -11,7 +11,7 @@ rows_of-requires-clause-ran c =
     let over = over_is _ _ (rw (← c.self.view_is) at c.requires) in
     let fits = c.self.invariant.1 over.0 in
     let job = core_job c.self.inside.plan c.self.inside.acts.items c.self.inside.workers in
-    let parts = c.kept_parts_hold.ensures job (state_of c.self.inside.table) fits.parts in
+    let parts = fits.inv.parts in
     let all : c.len-leaf_total.result ≡ leaves c.self.inside.plan = c.len-leaf_total.ensures ∙ c.self.inside.acts.ok.0 ∙ sym fits.leaves in
     rw (c.deref.ensures.value, all)
     (λ leaf below. (c.done_leaves_have_run.ensures job c.self.inside.plan (state_of c.self.inside.table) (c.plan_stands_for_tree.ensures c.self.inside.plan) parts over.1 leaf below).0)
@@ -22,7 +22,7 @@ rows_of-requires-clause-valued c =
     let over = over_is _ _ (rw (← c.self.view_is) at c.requires) in
     let fits = c.self.invariant.1 over.0 in
     let job = core_job c.self.inside.plan c.self.inside.acts.items c.self.inside.workers in
-    let parts = c.kept_parts_hold.ensures job (state_of c.self.inside.table) fits.parts in
+    let parts = fits.inv.parts in
     let all : c.len-leaf_total.result ≡ leaves c.self.inside.plan = c.len-leaf_total.ensures ∙ c.self.inside.acts.ok.0 ∙ sym fits.leaves in
     rw (c.deref-2.ensures.value, all)
     (λ leaf below. (c.done_leaves_have_run.ensures job c.self.inside.plan (state_of c.self.inside.table) (c.plan_stands_for_tree.ensures c.self.inside.plan) parts over.1 leaf below).1)
@@ -41,7 +41,7 @@ returns-clause-lawful c =
     let over = over_is _ _ (rw (← c.self.view_is) at c.requires) in
     let fits = c.self.invariant.1 over.0 in
     let job = core_job c.self.inside.plan c.self.inside.acts.items c.self.inside.workers in
-    let parts = c.kept_parts_hold.ensures job (state_of c.self.inside.table) fits.parts in
+    let parts = fits.inv.parts in
     let is = rw (← c.self.view_is) at (returns-clause-report c) in
     rw (← c.self.view_is)
     (c.done_report_is_lawful.ensures c.self.inside.plan c.self.inside.acts.items c.self.inside.workers (state_of c.self.inside.table) _ (sym fits.leaves) parts over.1 is)

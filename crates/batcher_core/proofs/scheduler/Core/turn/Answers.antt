@@ -1,5 +1,5 @@
 use Rattle.std.proofs.Common.{sym, ◌∙◌}
-use Rattle.batcher_core.proofs.Allowed.{chosen_in_range, chosen_allows}
+use Rattle.batcher_core.proofs.Allowed.{chosen_in_range, chosen_needs, chosen_at_end}
 use Rattle.batcher_core.proofs.Turning.{fits_after, makes_event, makes_none}
 use Rattle.batcher_core.proofs.scheduler.Core.turn.Goals as goal
 
@@ -15,12 +15,18 @@ apply-requires-clause-in_range c =
     let chosen = rw (← c.self.view_is) at (sym c.choice.ensures ∙ c.in-Some-choice.is) in
     chosen_in_range c.self.inside.plan c.self.inside.acts.items c.self.inside.workers c.self.inside.table c.args.worker (c.self.invariant.1 c.if-self.false) below c.in-Some-choice.event chosen
 
-pub apply-requires-clause-allows : goal.apply-requires-clause-allows
-apply-requires-clause-allows c =
+pub apply-requires-clause-needs : goal.apply-requires-clause-needs
+apply-requires-clause-needs c =
     let below = rw (← c.self.view_is) at c.requires.worker_in in
     let chosen = rw (← c.self.view_is) at (sym c.choice.ensures ∙ c.in-Some-choice.is) in
     rw c.as_slice-acts.ensures.value
-    (chosen_allows c.self.inside.plan c.self.inside.acts.items c.self.inside.workers c.self.inside.table c.args.worker (c.self.invariant.1 c.if-self.false) below c.in-Some-choice.event chosen)
+    (chosen_needs c.self.inside.plan c.self.inside.acts.items c.self.inside.workers c.self.inside.table c.args.worker (c.self.invariant.1 c.if-self.false) below c.in-Some-choice.event chosen)
+
+pub apply-requires-clause-at_end : goal.apply-requires-clause-at_end
+apply-requires-clause-at_end c =
+    let below = rw (← c.self.view_is) at c.requires.worker_in in
+    let chosen = rw (← c.self.view_is) at (sym c.choice.ensures ∙ c.in-Some-choice.is) in
+    chosen_at_end c.self.inside.plan c.self.inside.acts.items c.self.inside.workers c.self.inside.table c.args.worker (c.self.invariant.1 c.if-self.false) below c.in-Some-choice.event chosen
 
 pub invariant_of-self : goal.invariant_of-self
 invariant_of-self c =

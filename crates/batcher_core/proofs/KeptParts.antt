@@ -5,9 +5,9 @@ use Rattle.batcher_core.specs.declared.task.Task.TheVariants.{Idle}
 use Rattle.batcher_core.specs.State.{CoreJob, State}
 use Rattle.batcher_core.specs.Operations.{IsCall, place_of}
 use Rattle.batcher_core.specs.GateParts.{is_taken_by, is_published, HoldStands}
-use Rattle.batcher_core.specs.KeptNodes.{NodesKept, TasksKept}
-use Rattle.batcher_core.specs.KeptTicks.{stamps, TicksKept}
-use Rattle.batcher_core.specs.KeptBook.{StatusFits, BookKept, worker_at, booked_by, valued_by, value_due}
+use Rattle.batcher_core.proofs.KeptNodes.{NodesKept, TasksKept}
+use Rattle.batcher_core.proofs.KeptTicks.{stamps, TicksKept}
+use Rattle.batcher_core.proofs.KeptBook.{StatusFits, BookKept, worker_at, booked_by, valued_by, value_due}
 
 -- All that the proofs carry, with the worker whose task names each node.
 pub record PartsKept (job : CoreJob) (s : State) : Type 0 where

@@ -21,7 +21,7 @@ use Rattle.batcher_core.specs.State.{CoreJob}
 use Rattle.batcher_core.specs.Operations.{IsCall, op_of, Place, place_of}
 use Rattle.batcher_core.specs.Serving.{served}
 use Rattle.batcher_core.specs.GateParts.{IsAtCall, HasReceipt}
-use Rattle.batcher_core.specs.KeptTicks.{Stamp, stamp}
+use Rattle.batcher_core.proofs.KeptTicks.{Stamp, stamp}
 
 -- the status and the call of one worker, with its task, and with whether the hold has taken its call and not answered it
 abbrev pub StatusFits : CoreJob → List (List Entry) → Task → Status → CallState → Bool → Type 0

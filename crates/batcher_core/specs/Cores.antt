@@ -5,7 +5,7 @@ use Rattle.sp_order.specs.Precedence.{Tree, leaves}
 use Rattle.sp_order.specs.Plans.{IsPlan}
 use Rattle.sp_order.specs.Preorder.{nodes_of}
 use Rattle.batcher_core.specs.declared.event.Event.{Event}
-use Rattle.batcher_core.specs.declared.table.Table.{Table}
+use Rattle.batcher_core.specs.declared.state.Table.{Table}
 use Rattle.batcher_core.specs.declared.turn.Turn.{Turn}
 use Rattle.batcher_core.specs.declared.turn.Turn.TheVariants.{Moved, Spin, Idle}
 use Rattle.batcher_core.specs.State.{CoreJob, CoreState, core_job}

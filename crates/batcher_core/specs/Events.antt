@@ -9,13 +9,13 @@ use Rattle.sp_order.specs.declared.node.Kind.TheVariants.{LeafNode, SeqNode, Par
 use Rattle.sp_order.specs.Plans.{IsSide}
 use Rattle.batch_history.specs.declared.batch.Entry.{Entry}
 use Rattle.batch_history.specs.Book.{IsBatch, IsLegalFrom}
-use Rattle.batcher_core.specs.declared.progress.Progress.TheVariants.{Ready, Taken, Done, Ran}
-use Rattle.batcher_core.specs.declared.task.Task.{Task}
-use Rattle.batcher_core.specs.declared.task.Task.TheVariants.{Idle, Run, Half, Started, Kept, Ended, Whole, Handed}
-use Rattle.batcher_core.specs.declared.status.Status.{Status}
-use Rattle.batcher_core.specs.declared.status.Status.TheVariants.{Free, Pending, Executing, Served}
-use Rattle.batcher_core.specs.declared.status.CallState.{CallState}
-use Rattle.batcher_core.specs.declared.status.CallState.TheVariants.{NotCalled, Out, Got}
+use Rattle.batcher_core.specs.declared.state.progress.Progress.TheVariants.{Ready, Taken, Done, Ran}
+use Rattle.batcher_core.specs.declared.state.task.Task.{Task}
+use Rattle.batcher_core.specs.declared.state.task.Task.TheVariants.{Idle, Run, Half, Started, Kept, Ended, Whole, Handed}
+use Rattle.batcher_core.specs.declared.state.status.Status.{Status}
+use Rattle.batcher_core.specs.declared.state.status.Status.TheVariants.{Free, Pending, Executing, Served}
+use Rattle.batcher_core.specs.declared.state.status.CallState.{CallState}
+use Rattle.batcher_core.specs.declared.state.status.CallState.TheVariants.{NotCalled, Out, Got}
 use Rattle.batcher_core.specs.declared.event.Event.{Event}
 use Rattle.batcher_core.specs.declared.event.Event.TheVariants.{Claim, Start, OpenParRight, OpenParLeft, OpenSeqLeft, OpenSeqRight, Post, Win, Take, Publish, Answer, Release, Leave, Keep, End, FinishLeaf, FinishSeq, FinishPar, ArriveFirst, ArriveSecond}
 use Rattle.batcher_core.specs.State.{put, CoreJob, Hold, State, CoreState}

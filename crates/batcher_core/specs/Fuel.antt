@@ -3,14 +3,14 @@ use Rattle.std.specs.Prelude.{ℕ, zero, suc, ◌+◌, ◌-◌, ◌==◌, Bool, 
 use Rattle.seq_objects.specs.declared.op.Op.{Op}
 use Rattle.sp_order.specs.declared.node.Kind.{Kind}
 use Rattle.sp_order.specs.declared.node.Kind.TheVariants.{LeafNode, SeqNode, ParNode}
-use Rattle.batcher_core.specs.declared.progress.Progress.{Progress}
-use Rattle.batcher_core.specs.declared.progress.Progress.TheVariants.{Waiting, Ready, Taken, Done, Ran}
-use Rattle.batcher_core.specs.declared.task.Task.{Task}
-use Rattle.batcher_core.specs.declared.task.Task.TheVariants.{Idle, Run, Half, Started, Kept, Ended, Whole, Handed}
-use Rattle.batcher_core.specs.declared.status.Status.{Status}
-use Rattle.batcher_core.specs.declared.status.Status.TheVariants.{Free, Pending, Executing, Served}
-use Rattle.batcher_core.specs.declared.status.CallState.{CallState}
-use Rattle.batcher_core.specs.declared.status.CallState.TheVariants.{NotCalled, Out, Got}
+use Rattle.batcher_core.specs.declared.state.progress.Progress.{Progress}
+use Rattle.batcher_core.specs.declared.state.progress.Progress.TheVariants.{Waiting, Ready, Taken, Done, Ran}
+use Rattle.batcher_core.specs.declared.state.task.Task.{Task}
+use Rattle.batcher_core.specs.declared.state.task.Task.TheVariants.{Idle, Run, Half, Started, Kept, Ended, Whole, Handed}
+use Rattle.batcher_core.specs.declared.state.status.Status.{Status}
+use Rattle.batcher_core.specs.declared.state.status.Status.TheVariants.{Free, Pending, Executing, Served}
+use Rattle.batcher_core.specs.declared.state.status.CallState.{CallState}
+use Rattle.batcher_core.specs.declared.state.status.CallState.TheVariants.{NotCalled, Out, Got}
 use Rattle.batcher_core.specs.State.{CoreJob, Hold, State}
 use Rattle.batcher_core.specs.Operations.{op_in}
 

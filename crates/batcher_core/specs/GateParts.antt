@@ -6,14 +6,14 @@ use Rattle.sp_order.specs.declared.node.Kind.TheVariants.{LeafNode}
 use Rattle.batch_history.specs.declared.batch.Entry.{Entry}
 use Rattle.seq_objects.specs.Pairs.{AreDistinct}
 use Rattle.batch_history.specs.Book.{flat, IsLegal, IsBatch}
-use Rattle.batcher_core.specs.declared.progress.Progress.TheVariants.{Ran}
-use Rattle.batcher_core.specs.declared.task.Task.{Task}
-use Rattle.batcher_core.specs.declared.task.Task.TheVariants.{Idle, Run, Half, Started, Kept, Ended, Whole, Handed}
-use Rattle.batcher_core.specs.declared.status.Status.{Status}
-use Rattle.batcher_core.specs.declared.status.Status.TheVariants.{Free, Pending, Executing, Served}
-use Rattle.batcher_core.specs.declared.status.CallState.{CallState}
-use Rattle.batcher_core.specs.declared.status.CallState.TheVariants.{NotCalled, Out, Got}
-use Rattle.batcher_core.specs.declared.status.Receipt.{Receipt}
+use Rattle.batcher_core.specs.declared.state.progress.Progress.TheVariants.{Ran}
+use Rattle.batcher_core.specs.declared.state.task.Task.{Task}
+use Rattle.batcher_core.specs.declared.state.task.Task.TheVariants.{Idle, Run, Half, Started, Kept, Ended, Whole, Handed}
+use Rattle.batcher_core.specs.declared.state.status.Status.{Status}
+use Rattle.batcher_core.specs.declared.state.status.Status.TheVariants.{Free, Pending, Executing, Served}
+use Rattle.batcher_core.specs.declared.state.status.CallState.{CallState}
+use Rattle.batcher_core.specs.declared.state.status.CallState.TheVariants.{NotCalled, Out, Got}
+use Rattle.batcher_core.specs.declared.state.status.Receipt.{Receipt}
 use Rattle.batcher_core.specs.State.{CoreJob, Hold, State}
 use Rattle.batcher_core.specs.Operations.{leaf_of, IsCall, op_of, Place, place_of, IsReceipt}
 use Rattle.batcher_core.specs.Serving.{served}

@@ -1,8 +1,8 @@
 -- The invariant: what holds in each state that can be reached.
 use Rattle.std.specs.Prelude.{ℕ, ◌≡◌, ◌≤◌}
-use Rattle.batcher_core.specs.declared.task.Task.TheVariants.{Idle}
-use Rattle.batcher_core.specs.declared.status.Status.TheVariants.{Free}
-use Rattle.batcher_core.specs.declared.status.CallState.TheVariants.{NotCalled}
+use Rattle.batcher_core.specs.declared.state.task.Task.TheVariants.{Idle}
+use Rattle.batcher_core.specs.declared.state.status.Status.TheVariants.{Free}
+use Rattle.batcher_core.specs.declared.state.status.CallState.TheVariants.{NotCalled}
 use Rattle.batcher_core.specs.State.{CoreJob, State, CoreState}
 use Rattle.batcher_core.specs.Lists.{ListsFit}
 use Rattle.batcher_core.specs.JobParts.{NodesStand, TasksStand, TicksStand, ValuesStand}

@@ -6,7 +6,7 @@ use Rattle.seq_objects.specs.declared.op.Op.{Op}
 use Rattle.sp_order.specs.declared.node.Kind.{Kind}
 use Rattle.sp_order.specs.declared.node.Kind.TheVariants.{LeafNode, SeqNode, ParNode}
 use Rattle.batch_history.specs.declared.batch.Entry.{Entry}
-use Rattle.batcher_core.specs.declared.status.Receipt.{Receipt}
+use Rattle.batcher_core.specs.declared.state.status.Receipt.{Receipt}
 use Rattle.batcher_core.specs.State.{CoreJob}
 
 -- the leaf that a node is

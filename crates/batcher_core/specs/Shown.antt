@@ -2,12 +2,12 @@
 use Rattle.std.specs.Prelude.{ℕ, ◌≡◌, ◌≢◌, ◌<◌, ◌≤◌, ◌⊎◌, ◌-◌, ◌*◌, ◌^◌, false, Option, None, Some, List, [], length, get_or, map}
 use Rattle.std.specs.declared.collections.VecDeque.{VecDeque}
 use Rattle.batch_history.specs.Book.{flat}
-use Rattle.batcher_core.specs.declared.progress.Progress.TheVariants.{Waiting}
-use Rattle.batcher_core.specs.declared.task.Task.TheVariants.{Idle}
-use Rattle.batcher_core.specs.declared.status.Status.TheVariants.{Free}
-use Rattle.batcher_core.specs.declared.status.CallState.TheVariants.{NotCalled}
-use Rattle.batcher_core.specs.declared.hold.Hold.{Hold as HoldTable}
-use Rattle.batcher_core.specs.declared.table.Table.{Table}
+use Rattle.batcher_core.specs.declared.state.progress.Progress.TheVariants.{Waiting}
+use Rattle.batcher_core.specs.declared.state.task.Task.TheVariants.{Idle}
+use Rattle.batcher_core.specs.declared.state.status.Status.TheVariants.{Free}
+use Rattle.batcher_core.specs.declared.state.status.CallState.TheVariants.{NotCalled}
+use Rattle.batcher_core.specs.declared.state.hold.Hold.{Hold as HoldTable}
+use Rattle.batcher_core.specs.declared.state.Table.{Table}
 use Rattle.batcher_core.specs.State.{Hold, State, CoreState}
 use Rattle.batcher_core.specs.Lists.{times, one_if_filled}
 use Rattle.batcher_core.specs.Fuel.{total}

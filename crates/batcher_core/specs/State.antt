@@ -7,14 +7,14 @@ use Rattle.sp_order.specs.Precedence.{Tree}
 use Rattle.sp_order.specs.Plans.{Nodes}
 use Rattle.sp_order.specs.Preorder.{nodes_of}
 use Rattle.batch_history.specs.declared.batch.Entry.{Entry}
-use Rattle.batcher_core.specs.declared.progress.Progress.{Progress}
-use Rattle.batcher_core.specs.declared.progress.Progress.TheVariants.{Waiting, Ready}
-use Rattle.batcher_core.specs.declared.task.Task.{Task}
-use Rattle.batcher_core.specs.declared.task.Task.TheVariants.{Idle}
-use Rattle.batcher_core.specs.declared.status.Status.{Status}
-use Rattle.batcher_core.specs.declared.status.Status.TheVariants.{Free}
-use Rattle.batcher_core.specs.declared.status.CallState.{CallState}
-use Rattle.batcher_core.specs.declared.status.CallState.TheVariants.{NotCalled}
+use Rattle.batcher_core.specs.declared.state.progress.Progress.{Progress}
+use Rattle.batcher_core.specs.declared.state.progress.Progress.TheVariants.{Waiting, Ready}
+use Rattle.batcher_core.specs.declared.state.task.Task.{Task}
+use Rattle.batcher_core.specs.declared.state.task.Task.TheVariants.{Idle}
+use Rattle.batcher_core.specs.declared.state.status.Status.{Status}
+use Rattle.batcher_core.specs.declared.state.status.Status.TheVariants.{Free}
+use Rattle.batcher_core.specs.declared.state.status.CallState.{CallState}
+use Rattle.batcher_core.specs.declared.state.status.CallState.TheVariants.{NotCalled}
 
 -- f with the value x at n
 abbrev pub put : {A : Type 0} → (ℕ → A) → ℕ → A → ℕ → A

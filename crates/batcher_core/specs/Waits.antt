@@ -6,10 +6,10 @@
 -- at that moment, if that has looked past it, and for the next one.
 use Rattle.std.specs.Prelude.{ℕ, ◌≡◌, ◌≢◌, ◌≤◌, ◌+◌, ◌⊎◌, true, false, Option, None, Some, List, length}
 use Rattle.batch_history.specs.declared.batch.Entry.{Entry}
-use Rattle.batcher_core.specs.declared.task.Task.{Task}
-use Rattle.batcher_core.specs.declared.task.Task.TheVariants.{Idle, Run, Half, Started, Kept, Ended, Whole, Handed}
-use Rattle.batcher_core.specs.declared.status.Status.{Status}
-use Rattle.batcher_core.specs.declared.status.Status.TheVariants.{Free, Pending, Executing, Served}
+use Rattle.batcher_core.specs.declared.state.task.Task.{Task}
+use Rattle.batcher_core.specs.declared.state.task.Task.TheVariants.{Idle, Run, Half, Started, Kept, Ended, Whole, Handed}
+use Rattle.batcher_core.specs.declared.state.status.Status.{Status}
+use Rattle.batcher_core.specs.declared.state.status.Status.TheVariants.{Free, Pending, Executing, Served}
 use Rattle.batcher_core.specs.declared.event.Event.{Event}
 use Rattle.batcher_core.specs.State.{CoreJob, Hold, State}
 use Rattle.batcher_core.specs.Operations.{leaf_of, Place, place_of}

@@ -9,9 +9,16 @@ ghost use Rattle.batcher_core.specs.Lists.{ready_after};
 ghost use Rattle.batcher_core.specs.declared.event.Event.TheVariants.{Claim};
 ghost use Rattle.batcher_core.specs.Cores.{Fits};
 
+mod gate;
+pub(crate) mod gather;
+mod opens;
+mod publish;
+pub(crate) mod serve;
+mod steps;
+
 use crate::event::Event;
-use crate::table::Table;
-use crate::task::Task;
+use crate::state::Table;
+use crate::state::task::Task;
 use seq_objects::Act;
 use sp_order::Plan;
 use std::alloc::{AllocError, Global};

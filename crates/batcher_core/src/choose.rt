@@ -9,10 +9,13 @@ ghost use Rattle.batcher_core.specs.Looks.{Looks, MoveIn, LeafIn, claim_choice, 
 ghost use Rattle.seq_objects.specs.Spin.{spin_of};
 ghost use Rattle.seq_objects.specs.declared.act.Act.TheVariants.{Work};
 
+mod gate;
+pub(crate) mod receipt;
+
 use crate::event::Event;
-use crate::status::{CallState, Status};
-use crate::table::Table;
-use crate::task::Task;
+use crate::state::Table;
+use crate::state::status::{CallState, Status};
+use crate::state::task::Task;
 use seq_objects::{Act, value};
 use sp_order::Plan;
 use sp_order::node::{Kind, Move};

@@ -1,6 +1,6 @@
 //! The events of a worker.
 
-use crate::status::Receipt;
+use crate::state::status::Receipt;
 
 /// What a worker does in one step. There is a variant for each row of the rules, with the nodes that the row
 /// speaks of.

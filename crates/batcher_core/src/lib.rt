@@ -7,45 +7,26 @@
 
 mod apply;
 mod choose;
-mod choose_gate;
-pub mod driving;
+pub mod driver;
 pub mod event;
-mod gate;
-mod gather;
-pub mod hold;
 pub mod laws;
-mod lists;
-mod opening;
-mod opens;
 mod order;
-pub mod progress;
-mod publish;
-mod receipts;
-pub mod report_laws;
-mod rows;
+mod report;
 pub mod scheduler;
-mod serve;
 pub mod spun;
-pub mod status;
-mod steps;
-pub mod table;
-pub mod task;
+pub mod state;
 pub mod turn;
-pub mod turn_laws;
-pub mod wait_laws;
 
-pub use driving::drive;
+pub use driver::drive;
 pub use event::Event;
-pub use hold::Hold;
-pub use progress::Progress;
 pub use scheduler::Core;
 pub use spun::Spun;
-pub use status::{CallState, Receipt, Status};
-pub use table::Table;
-pub use task::Task;
+pub use state::Table;
+pub use state::hold::Hold;
+pub use state::progress::Progress;
+pub use state::status::{CallState, Receipt, Status};
+pub use state::task::Task;
 pub use turn::Turn;
 
-#[cfg(test)]
-mod driving_tests;
 #[cfg(test)]
 mod tests;

@@ -11,10 +11,10 @@ ghost use Rattle.batcher_core.specs.Reports.{IsReportOf};
 ghost use Rattle.batcher_core.specs.Cores.{job_in, state_in, due_in, turn_due, is_over_in, Makes, Fits};
 
 use crate::event::Event;
-use crate::report_laws::{done_leaves_have_run, done_report_is_lawful};
-use crate::rows::rows_of;
+use crate::laws::report::{done_leaves_have_run, done_report_is_lawful};
+use crate::report::rows_of;
 use crate::spun::Spun;
-use crate::table::Table;
+use crate::state::Table;
 use crate::turn::Turn;
 use batch_history::{Report, Rows};
 use seq_objects::Act;

@@ -1,6 +1,6 @@
 use Rattle.std.proofs.Common.{refl}
 use Rattle.sp_order.specs.Preorder.{nodes_of}
-use Rattle.batcher_core.proofs.Starting.{root_in, opening_fits, shown_opening}
+use Rattle.batcher_core.proofs.CodeLemmas.Starting.{root_in, opening_fits, shown_opening}
 use Rattle.batcher_core.proofs.scheduler.Core.start.Goals as goal
 
 pub opening-requires-clause-nodes : goal.opening-requires-clause-nodes

@@ -1,6 +1,6 @@
 use Rattle.std.proofs.Common.{sym, ◌∙◌}
-use Rattle.batcher_core.proofs.Allowed.{chosen_in_range, chosen_needs, chosen_at_end}
-use Rattle.batcher_core.proofs.Turning.{fits_after, makes_event, makes_none}
+use Rattle.batcher_core.proofs.ChoiceLemmas.Allowed.{chosen_in_range, chosen_needs, chosen_at_end}
+use Rattle.batcher_core.proofs.CodeLemmas.Turning.{fits_after, makes_event, makes_none}
 use Rattle.batcher_core.proofs.scheduler.Core.turn.Goals as goal
 
 pub returns-in_default-choice-clause-event : goal.returns-in_default-choice-clause-event

@@ -1,0 +1,6 @@
+pub mod CallOrder
+pub mod TakenCalls
+pub mod ServedCalls
+pub mod Made
+pub mod History
+pub mod Publishing

@@ -1,0 +1,68 @@
+-- There is at most one entry for each leaf that calls, so the numbers of batches, of places and of the counter have room.
+use Rattle.std.proofs.Common.{ℕ, ◌≡◌, ◌≢◌, ◌<◌, ◌≤◌, ◌+◌, ◌*◌, ◌^◌, true, false, Some, List, [], ◌∷◌, ◌++◌, length, map, arith, refl, inl, inr, sym, ◌∙◌, ap, eqb-true, length-append}
+use Rattle.std.proofs.lemmas.List.{length-map}
+use Rattle.std.specs.List.{IsDistinct, AllByRecursion, list_any}
+use Rattle.std.proofs.Math.Dec.{eqb}
+use Rattle.std.proofs.lemmas.Map.Steps.{length-le_from_distinct_below}
+use Rattle.seq_objects.specs.Objects.{Objects}
+use Rattle.seq_objects.specs.declared.call.Call.{Call as Asked}
+use Rattle.batch_history.specs.declared.batch.Entry.{Entry}
+use Rattle.seq_objects.specs.Pairs.{AreDistinct}
+use Rattle.batch_history.specs.Book.{flat, IsBatch}
+use Rattle.batcher_core.specs.State.{CoreJob, State}
+use Rattle.batcher_core.specs.Operations.{op_in, IsCall}
+use Rattle.batcher_core.proofs.Inductive.Parts.{PartsKept}
+use Rattle.batcher_core.specs.Batches.{call_in, AreEntriesOf}
+use Rattle.batcher_core.proofs.BookLemmas.EntryLists.{each_so, each_mapped}
+use Rattle.batcher_core.proofs.BookLemmas.Books.{flat_append}
+use Rattle.batcher_core.proofs.CodeLemmas.TickRoom.{either, code_apart}
+
+distinct_eqb : (xs : List ℕ) → AreDistinct xs → IsDistinct eqb xs
+unfolding IsDistinct
+distinct_eqb [] h = tt
+distinct_eqb (x ∷ xs) h = (each_so (λ y. x ≢ y) (λ y. eqb x y ≡ false) (λ y apart. code_apart x y apart) xs h.0, distinct_eqb xs h.1)
+
+each_below : (xs : List ℕ) (most q : ℕ) → AllByRecursion (λ x. x < most) xs → list_any (eqb q) xs ≡ true → q < most
+each_below [] most q h any = let z : false ≡ true = any in absurd (cc)
+each_below (x ∷ xs) most q h any = elim (either (eqb q x) (list_any (eqb q) xs) any) [
+  | inl e ↦ let same = eqb-true q x e in omega (arith, same, h.0)
+  | inr r ↦ each_below xs most q h.1 r
+]
+
+-- there are no more distinct numbers than numbers below their bound
+pub distinct_few : (xs : List ℕ) (most : ℕ) → AreDistinct xs → AllByRecursion (λ x. x < most) xs → length xs ≤ most
+distinct_few xs most distinct below = length-le_from_distinct_below xs most (distinct_eqb xs distinct) (λ q any. each_below xs most q below any)
+
+-- no batch is empty, so there are no more batches than entries
+pub few_batches : (book : List (List Entry)) → AllByRecursion IsBatch book → length book ≤ length (flat book)
+few_batches [] h = omega arith
+few_batches ([] ∷ book) h = absurd (h.0.some refl)
+few_batches ((e ∷ es) ∷ book) h = let more = few_batches book h.1 in omega (arith, length-append es (flat book), more)
+
+-- the counter stays so, if a batch makes it no greater than that
+pub counter_grows : (book : List (List Entry)) (calls : List Asked) (batch : List Entry) (old new : Objects) → AreEntriesOf calls batch
+    → new.counter ≤ old.counter + length calls * 2 ^ 32 → old.counter ≤ length (flat book) * 2 ^ 32 → new.counter ≤ length (flat (book ++ batch ∷ [])) * 2 ^ 32
+counter_grows book calls batch old new are grown most =
+    let len : length batch ≡ length calls = sym (length-map batch call_in) ∙ ap length are in
+    rw (flat_append book batch) (omega (arith, grown, most, len, length-append (flat book) batch))
+
+module _ (job : CoreJob) (s : State) (h : PartsKept job s) where
+  -- the leaves that are in the book call
+  pub leaves_call : AllByRecursion (λ (e : Entry). IsCall job e.leaf) (flat s.book)
+  leaves_call = each_so (λ (e : Entry). op_in (job.act e.leaf) ≡ Some e.op) (λ (e : Entry). IsCall job e.leaf) (λ e is none. cc) (flat s.book) h.book.operations
+
+  -- there are no more entries than numbers of leaves that call
+  pub few_entries : (most : ℕ) → ((leaf : ℕ) → IsCall job leaf → leaf < most) → length (flat s.book) ≤ most
+  few_entries most below =
+      let few = distinct_few (map (λ (e : Entry). e.leaf) (flat s.book)) most h.book.leaves
+      (each_mapped (λ (e : Entry). e.leaf) (λ (e : Entry). IsCall job e.leaf) (λ leaf. leaf < most) (λ e is. below e.leaf is) (flat s.book) leaves_call) in
+      rw length-map at few
+
+  -- so batches and places have numbers below that of the nodes
+  pub book_room : ((leaf : ℕ) → IsCall job leaf → leaf < job.plan.count) → (length (flat s.book) ≤ job.plan.count) × (length s.book ≤ length (flat s.book))
+  book_room below = (few_entries job.plan.count below, few_batches s.book h.book.batches)
+
+  -- a counter that has grown so has room for 32 more operations
+  pub counter_room : ((leaf : ℕ) → IsCall job leaf → leaf < job.plan.count) → job.plan.count < 40000 → s.objects.counter ≤ length (flat s.book) * 2 ^ 32
+      → s.objects.counter + 32 * 2 ^ 32 ≤ 2 ^ 64
+  counter_room below few most = let entries = few_entries job.plan.count below in omega (arith, entries, few, most)

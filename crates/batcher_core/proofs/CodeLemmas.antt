@@ -1,0 +1,9 @@
+pub mod Puts
+pub mod Written
+pub mod Filled
+pub mod CoreFits
+pub mod Copies
+pub mod TickRoom
+pub mod Starting
+pub mod Turning
+pub mod InRange

@@ -1,0 +1,61 @@
+-- What the choice of a turn looks up is there, in what a core keeps to.
+use Rattle.std.proofs.Common.{ℕ, ◌≡◌, ◌<◌, Some, List, arith, refl}
+use Rattle.seq_objects.specs.declared.act.Act.{Act}
+use Rattle.sp_order.specs.Precedence.{Tree}
+use Rattle.sp_order.specs.Plans.{Nodes, IsPlan}
+use Rattle.sp_order.specs.Preorder.{nodes_of}
+use Rattle.sp_order.specs.declared.node.Move.{Move}
+use Rattle.sp_order.specs.declared.node.Move.TheVariants.{Root, OpenSecond, FinishParent, Arrive}
+use Rattle.batcher_core.specs.declared.state.progress.Progress.{Progress}
+use Rattle.batcher_core.specs.declared.state.task.Task.{Task}
+use Rattle.batcher_core.specs.declared.state.task.Task.TheVariants.{Idle, Run, Half, Started, Kept, Ended, Whole, Handed}
+use Rattle.batcher_core.specs.declared.state.Table.{Table}
+use Rattle.batcher_core.specs.State.{core_job}
+use Rattle.batcher_core.specs.Operations.{IsLeaf}
+use Rattle.batcher_core.specs.Tasks.{names, TaskFits}
+use Rattle.batcher_core.specs.Shown.{state_of}
+use Rattle.batcher_core.specs.Looks.{TaskIn, MoveIn, Looks}
+use Rattle.batcher_core.specs.Cores.{Fits}
+use Rattle.batcher_core.proofs.CodeLemmas.InRange.{parent_in, named_in}
+use Rattle.batcher_core.proofs.BookLemmas.Room.{book_room}
+use Rattle.batcher_core.proofs.Inductive.FromParts.{kept_parts}
+
+task_in : (nodes : ℕ) (task : Task) → ((n : ℕ) → names task ≡ Some n → n < nodes) → TaskIn nodes task
+task_in nodes Idle h = tt
+task_in nodes (Run n) h = h n refl
+task_in nodes (Half n) h = h n refl
+task_in nodes (Started n s) h = h n refl
+task_in nodes (Kept n s) h = h n refl
+task_in nodes (Ended n s e) h = h n refl
+task_in nodes (Whole n) h = h n refl
+task_in nodes (Handed n) h = h n refl
+
+move_in : (plan : Nodes) → IsPlan plan → (n : ℕ) (move : Move) → plan.after n ≡ move → MoveIn plan.count move
+move_in plan laws n Root e = tt
+move_in plan laws n (OpenSecond p) e = parent_in plan laws p n (rw e refl)
+move_in plan laws n (FinishParent p) e = parent_in plan laws p n (rw e refl)
+move_in plan laws n (Arrive p) e = parent_in plan laws p n (rw e refl)
+
+started_leaf : (plan : Nodes) (node : ℕ → Progress) (mark : ℕ → ℕ) (task : Task) (n start : ℕ) → TaskFits plan node mark task → task ≡ Started n start → IsLeaf (plan.kind n)
+started_leaf plan node mark task n start h e = (rw e at h).0
+
+book_of : (t : Table) → (state_of t).book ≡ t.history
+unfolding state_of
+book_of t = refl
+
+pub looks : (tree : Tree) (acts : List Act) (workers : ℕ) (t : Table) → Fits tree acts workers t → Looks (nodes_of tree) acts workers t
+looks tree acts workers t h =
+    let room = rw (book_of t) at (book_room (core_job tree acts workers) (state_of t) (kept_parts tree acts workers t h) h.calls_in) in
+    let most = h.most in
+    record {
+      few = h.few;
+      sizes = h.sizes;
+      tasks_in = λ w. task_in (nodes_of tree).count ((state_of t).task w) (λ n name. named_in (core_job tree acts workers) (state_of t) h.laws (kept_parts tree acts workers t h) w n name);
+      at_leaf = λ w n start e. started_leaf (nodes_of tree) (state_of t).node (state_of t).mark ((state_of t).task w) n start ((kept_parts tree acts workers t h).tasks.fits w) e;
+      moves_in = λ n. move_in (nodes_of tree) h.laws n ((nodes_of tree).after n) refl;
+      leaves_in = h.leaves_in;
+      leaves = rw (book_of t) at (kept_parts tree acts workers t h).book.leaves;
+      few_batches = omega (arith, room.0, room.1, most);
+      few_entries = omega (arith, room.0, most);
+      filled = h.filled;
+    }

@@ -1,0 +1,51 @@
+-- The opening table of a job has what a core keeps to.
+use Rattle.std.proofs.Common.{ℕ, ◌≡◌, ◌<◌, ◌≤◌, Option, Some, List, length, arith, refl, sym, ap, subst}
+use Rattle.seq_objects.specs.declared.act.Act.{Act}
+use Rattle.sp_order.specs.Precedence.{Tree, leaf_count}
+use Rattle.sp_order.specs.Plans.{IsPlan}
+use Rattle.sp_order.specs.Stands.{IsPlanOf}
+use Rattle.sp_order.specs.Preorder.{nodes_of}
+use Rattle.batcher_core.specs.declared.state.Table.{Table}
+use Rattle.batcher_core.specs.State.{State, core_job, opening_state, opening_core}
+use Rattle.batcher_core.specs.Shown.{state_of, ready_of, shown, Sizes, CounterFits, FilledFits}
+use Rattle.batcher_core.specs.Cores.{Fits}
+use Rattle.batcher_core.proofs.InvariantLemmas.Reached.{has_root}
+use Rattle.batcher_core.proofs.BookLemmas.LeavesIn.{leaves_in}
+use Rattle.batcher_core.proofs.BookLemmas.CallsIn.{calls_in}
+use Rattle.batcher_core.specs.Invariant.{Invariant}
+use Rattle.batcher_core.specs.Runs.{at_opening}
+use Rattle.batcher_core.proofs.InvariantLemmas.Reached.{reached_invariant}
+
+core_opens : opening_core.state ≡ opening_state
+unfolding opening_core
+core_opens = refl
+
+-- the counter starts at 0
+counter_opens : (t : Table) → state_of t ≡ opening_state → CounterFits t
+unfolding state_of opening_state
+counter_opens t e = let zero : t.objects.counter ≡ 0 = ap (λ (s : State). s.objects.counter) e in omega (arith, zero)
+
+pub root_in : (tree : Tree) → IsPlanOf (nodes_of tree) tree → IsPlan (nodes_of tree) → 0 < (nodes_of tree).count
+root_in tree stands laws = laws.within 0 (has_root (nodes_of tree) tree stands)
+
+pub shown_opening : (t : Table) → state_of t ≡ opening_state → ready_of t ≡ opening_core.ready → shown t ≡ opening_core
+unfolding opening_core
+shown_opening t state ready = rw (state, ready) refl
+
+pub opening_fits : (tree : Tree) (shape : Option Tree) (acts : List Act) (workers : ℕ) (t : Table) → 0 < workers → workers ≤ 32 → IsPlanOf (nodes_of tree) tree → IsPlan (nodes_of tree)
+    → (nodes_of tree).count < 40000 → Some tree ≡ shape → leaf_count shape ≡ length acts → Sizes t (nodes_of tree).count workers
+    → state_of t ≡ opening_state → ready_of t ≡ opening_core.ready → FilledFits t → Fits tree acts workers t
+opening_fits tree shape acts workers t some few stands laws most is leaves sizes state lists filled = record {
+  some = some;
+  few = few;
+  laws = laws;
+  most = most;
+  leaves = rw (sym is) at leaves;
+  leaves_in = leaves_in (nodes_of tree) tree (length acts) stands (rw (sym is) at leaves);
+  calls_in = calls_in tree acts workers stands (sym (rw (sym is) at leaves));
+  sizes = sizes;
+  counter = counter_opens t state;
+  filled = filled;
+  inv = subst (Invariant (core_job tree acts workers)) (sym (shown_opening t state lists))
+      (reached_invariant (core_job tree acts workers) opening_core laws (has_root (nodes_of tree) tree stands) some at_opening);
+}

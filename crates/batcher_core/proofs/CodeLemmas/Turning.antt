@@ -1,0 +1,63 @@
+-- A turn keeps what the core keeps to, and makes what it answers.
+use Rattle.std.proofs.Common.{ℕ, ◌≡◌, ◌<◌, Some, None, List, refl, ◌∙◌}
+use Rattle.seq_objects.specs.declared.act.Act.{Act}
+use Rattle.sp_order.specs.Precedence.{Tree}
+use Rattle.sp_order.specs.Preorder.{nodes_of}
+use Rattle.batcher_core.specs.declared.event.Event.{Event}
+use Rattle.batcher_core.specs.declared.state.Table.{Table}
+use Rattle.batcher_core.specs.declared.turn.Turn.TheVariants.{Moved, Idle}
+use Rattle.batcher_core.specs.State.{core_job}
+use Rattle.batcher_core.specs.Lists.{ready_after}
+use Rattle.batcher_core.specs.Events.{Does, Happens}
+use Rattle.batcher_core.specs.Choice.{choice}
+use Rattle.batcher_core.specs.Shown.{state_of, ready_of, shown, Sizes, SameSizes}
+use Rattle.batcher_core.specs.Cores.{Fits, Makes}
+use Rattle.batcher_core.proofs.ChoiceLemmas.Choices.{none_has_no_event}
+use Rattle.batcher_core.proofs.ChoiceLemmas.Allowed.{chosen_needs}
+use Rattle.batcher_core.specs.Events.{kind_of}
+use Rattle.batcher_core.proofs.Inductive.FromParts.{kept_parts, event_keeps_all}
+
+sizes_kept : (old new : Table) (nodes workers : ℕ) → Sizes old nodes workers → SameSizes old new → Sizes new nodes workers
+sizes_kept old new nodes workers h same = record {
+  nodes_len = same.nodes_same ∙ h.nodes_len;
+  marks_len = same.marks_same ∙ h.marks_len;
+  values_len = same.values_same ∙ h.values_len;
+  tasks_len = same.tasks_same ∙ h.tasks_len;
+  statuses_len = same.statuses_same ∙ h.statuses_len;
+  calls_len = same.calls_same ∙ h.calls_len;
+  ready_len = same.ready_same ∙ h.ready_len;
+}
+
+module _ (tree : Tree) (acts : List Act) (workers : ℕ) (old new : Table) (w : ℕ) (event : Event) (h : Fits tree acts workers old) (below : w < workers)
+    (chosen : choice (core_job tree acts workers) (shown old) w ≡ Some event) (does : Does (core_job tree acts workers) (state_of old) w event (state_of new))
+    (lists : ready_of new ≡ ready_after w event (ready_of old)) where
+  happens : Happens (core_job tree acts workers) (state_of old) w event (state_of new)
+  happens = record { worker_in = below; needs = chosen_needs tree acts workers old w h below event chosen; does = does }
+
+  -- after the chosen event the table fits
+  pub fits_after : SameSizes old new → Fits tree acts workers new
+  fits_after same = record {
+    some = h.some;
+    few = h.few;
+    laws = h.laws;
+    most = h.most;
+    leaves = h.leaves;
+    leaves_in = h.leaves_in;
+    calls_in = h.calls_in;
+    sizes = sizes_kept old new (nodes_of tree).count workers h.sizes same;
+    counter = same.counter_same h.counter;
+    filled = same.filled_same h.filled;
+    inv = event_keeps_all (core_job tree acts workers) (shown old) (shown new) w (kind_of event) h.laws h.inv
+        (record { event = event; is = refl; happens = happens; lists = lists });
+  }
+
+  -- an event was chosen, and has happened
+  pub makes_event : Makes Moved (core_job tree acts workers) (shown old) w (shown new)
+  makes_event = (event, chosen, record { happens = happens; lists = lists })
+
+-- none was chosen, and none can happen
+pub makes_none : (tree : Tree) (acts : List Act) (workers : ℕ) (old : Table) (w : ℕ)
+    → Fits tree acts workers old → w < workers → choice (core_job tree acts workers) (shown old) w ≡ None
+    → Makes Idle (core_job tree acts workers) (shown old) w (shown old)
+makes_none tree acts workers old w h below none =
+    (refl, λ kind next is. none_has_no_event (core_job tree acts workers) (shown old) w h.laws below (kept_parts tree acts workers old h) h.inv.lists none is.event is.happens.needs)

@@ -1,0 +1,9 @@
+pub mod Nodes
+pub mod Ticks
+pub mod Book
+pub mod Parts
+pub mod Lists
+pub mod NodesHold
+pub mod TicksHold
+pub mod PartsHold
+pub mod FromParts

@@ -1,0 +1,25 @@
+-- What the proofs carry of a state. It implies the invariant's parts.
+use Rattle.std.specs.Prelude.{ℕ, ◌≡◌, ◌≤◌, true, Option, Some}
+use Rattle.sp_order.specs.declared.node.Kind.TheVariants.{LeafNode}
+use Rattle.batcher_core.specs.declared.state.task.Task.TheVariants.{Idle}
+use Rattle.batcher_core.specs.State.{CoreJob, State}
+use Rattle.batcher_core.specs.Operations.{IsCall, place_of}
+use Rattle.batcher_core.specs.GateParts.{is_taken_by, is_published, HoldStands}
+use Rattle.batcher_core.proofs.Inductive.Nodes.{NodesKept, TasksKept}
+use Rattle.batcher_core.proofs.Inductive.Ticks.{stamps, TicksKept}
+use Rattle.batcher_core.proofs.Inductive.Book.{StatusFits, BookKept, worker_at, booked_by, valued_by, value_due}
+
+-- All that the proofs carry, with the worker whose task names each node.
+pub record PartsKept (job : CoreJob) (s : State) : Type 0 where
+  pub holder : ℕ → Option ℕ
+  pub nodes : NodesKept job.plan s.node
+  pub tasks : TasksKept job.plan s.node s.mark s.task holder
+  pub beyond : (w : ℕ) → job.workers ≤ w → s.task w ≡ Idle
+  pub ticks : TicksKept job.plan job.workers s.node s.tick (stamps s.node s.task holder)
+  pub statuses : (w : ℕ) → StatusFits job s.book (s.task w) (s.status w) (s.call w) (is_taken_by s.hold w)
+  pub hold : HoldStands job.workers s.status s.call s.hold
+  pub book : BookKept job s.book s.objects (stamps s.node s.task holder)
+  pub booked : (n leaf : ℕ) → job.plan.kind n ≡ Some (LeafNode leaf) → IsCall job leaf
+      → worker_at (place_of s.book leaf) ≡ booked_by (s.node n) (holder n) s.task s.status s.call (is_published s.hold)
+  pub values : (n leaf : ℕ) → job.plan.kind n ≡ Some (LeafNode leaf) → valued_by (s.node n) (holder n) s.task ≡ true
+      → s.value n ≡ value_due (job.act leaf) (place_of s.book leaf)

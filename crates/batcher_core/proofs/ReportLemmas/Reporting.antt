@@ -1,0 +1,24 @@
+-- The report of a core that is over.
+use Rattle.std.proofs.Common.{ℕ, ◌≡◌, ◌&&◌, not, Bool, true, false, None, List, map, refl}
+use Rattle.std.specs.List.{AllByRecursion, range_with_len}
+use Rattle.seq_objects.specs.declared.act.Act.{Act}
+use Rattle.sp_order.specs.Precedence.{Tree, leaves}
+use Rattle.sp_order.specs.Preorder.{nodes_of}
+use Rattle.batch_history.specs.declared.row.Row.{Row}
+use Rattle.batcher_core.specs.declared.state.progress.Progress.TheVariants.{Waiting}
+use Rattle.batcher_core.specs.declared.state.Table.{Table}
+use Rattle.batcher_core.specs.State.{core_job}
+use Rattle.batcher_core.specs.Shown.{at, state_of}
+use Rattle.batcher_core.specs.Reports.{TellsLeaf, IsReportOf}
+
+-- a core that is over is not spent, and its root is done
+pub over_is : (spent done : Bool) → (not spent && done) ≡ true → (spent ≡ false) × (done ≡ true)
+over_is false done h = (refl, h)
+over_is true done h = absurd cc
+
+-- the report of the rows of all leaves
+pub reported : (tree : Tree) (acts : List Act) (workers : ℕ) (t : Table) (rows : List Row) → map (λ (row : Row). row.leaf) rows ≡ range_with_len 0 (leaves tree)
+    → AllByRecursion (λ (row : Row). TellsLeaf (nodes_of tree).node_of (at t.nodes.items Waiting) (at t.values.items None) row) rows
+    → IsReportOf (core_job tree acts workers) (leaves tree) (state_of t) (record { workers = workers; history = t.history; rows = rows })
+unfolding state_of
+reported tree acts workers t rows order tell = record { workers = refl; leaves = order; rows = tell; history = refl }

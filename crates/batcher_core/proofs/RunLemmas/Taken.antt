@@ -1,0 +1,76 @@
+-- What the turns of a run have made.
+use Rattle.std.proofs.Common.{ℕ, ◌≡◌, ◌<◌, ◌+◌, ◌%◌, ◌&&◌, not, Bool, true, false, Option, Some, None, List, [], refl, sym, ◌∙◌, ap, subst, inl, inr, length, drop, slice_index_or, Result, Ok, Err, IfOk}
+use Rattle.std.proofs.lemmas.List.{drop_more}
+use Rattle.std.proofs.lemmas.Option.{same_Some}
+use Rattle.seq_objects.specs.declared.act.Act.{Act}
+use Rattle.sp_order.specs.Precedence.{Tree}
+use Rattle.batcher_core.specs.declared.event.Event.{Event}
+use Rattle.batcher_core.specs.declared.turn.Turn.{Turn}
+use Rattle.batcher_core.specs.State.{CoreJob, CoreState, core_job}
+use Rattle.batcher_core.specs.Tasks.{is_done}
+use Rattle.batcher_core.specs.Choice.{choice}
+use Rattle.batcher_core.specs.Runs.{IsStep, IsTurnOf, IsTurn, Drives, over, by_schedule, by_robin}
+use Rattle.batcher_core.specs.Cores.{Seen, job_in, state_in, due_in, is_over_in, moved_if, turn_due, Makes}
+use Rattle.batcher_core.proofs.RunLemmas.OneRun.{over_or}
+
+made_of : (job : CoreJob) (old new : CoreState) (w : ℕ) (chosen : Option Event) → choice job old w ≡ chosen → Makes (moved_if chosen) job old w new → IsTurnOf job old w chosen new
+made_of job old new w None is makes = makes.0
+made_of job old new w (Some event) is makes =
+    subst (λ (e : Event). IsStep job old w e new) (same_Some makes.0 event (sym makes.1 ∙ is)) makes.2
+
+made_due : (job : CoreJob) (old new : CoreState) (w : ℕ) (due : Option ℕ) (steps : ℕ) → Makes (turn_due due (Some steps) (choice job old w)) job old w new → IsTurn job old w new
+made_due job old new w None steps makes = made_of job old new w (choice job old w) refl makes
+made_due job old new w (Some n) steps makes = made_of job old new w (choice job old w) refl makes
+
+turn_made : (job : CoreJob) (old new : CoreState) (w : ℕ) (due : Option ℕ) (steps : ℕ) (t : Turn) → t ≡ turn_due due (Some steps) (choice job old w) → Makes t job old w new → IsTurn job old w new
+turn_made job old new w due steps t is makes = made_due job old new w due steps (subst (λ (u : Turn). Makes u job old w new) is makes)
+
+-- a core shows the same job
+abbrev pub SameJob : Seen → Seen → Type 0
+SameJob old new = (new.tree ≡ old.tree) × (new.acts ≡ old.acts) × (new.workers ≡ old.workers)
+
+pub job_same : (old new : Seen) → SameJob old new → job_in new ≡ job_in old
+job_same old new same = ap (λ (tree : Tree). core_job tree new.acts new.workers) same.0 ∙ ap (λ (acts : List Act). core_job old.tree acts new.workers) same.1
+    ∙ ap (λ (workers : ℕ). core_job old.tree old.acts workers) same.2
+
+pub same_since : (first old new : Seen) → SameJob first old → SameJob old new → SameJob first new
+same_since first old new h g = (g.0 ∙ h.0, g.1 ∙ h.1, g.2 ∙ h.2)
+
+-- a turn that is given some work, where the turn before it has changed nothing
+pub spun_turn : {E : Type 0} (old mid new : Seen) (w steps : ℕ) (result : Result Turn E) → SameJob old mid → state_in mid ≡ state_in old
+    → IfOk result (λ t. t ≡ turn_due (due_in mid w) (Some steps) (choice (job_in mid) (state_in mid) w)) → IfOk result (λ t. Makes t (job_in mid) (state_in mid) w (state_in new))
+    → IfOk result (λ _. IsTurn (job_in old) (state_in old) w (state_in new))
+spun_turn old mid new w steps (Err e) same still is makes = tt
+spun_turn old mid new w steps (Ok t) same still is makes =
+    subst (λ (s : CoreState). IsTurn (job_in old) s w (state_in new)) still
+    (subst (λ (job : CoreJob). IsTurn job (state_in mid) w (state_in new)) (job_same old mid same)
+    (turn_made (job_in mid) (state_in mid) (state_in new) w (due_in mid w) steps t is makes))
+
+-- a core that is not spent and not over has more to do
+pub goes_on : (spent done : Bool) → (not spent && done) ≡ false → spent ≡ false → done ≡ false
+goes_on false done h unspent = h
+goes_on true done h unspent = absurd cc
+
+-- where the root is done nothing is left of a schedule
+pub over_before : (job : CoreJob) (s last : CoreState) (schedule rest : List ℕ) (robin : ℕ) → is_done (s.state.node 0) ≡ true → Drives job s rest robin last → Drives job s schedule robin last
+over_before job s last schedule rest robin done drives = elim (over_or job s last rest robin drives) [
+  | inl end ↦ subst (λ (n : CoreState). Drives job s schedule robin n) (sym end.1) (over done)
+  | inr on ↦ (let e = sym done ∙ on.0 in absurd cc)
+]
+
+-- a turn of a core that goes on, before the turns that are left
+module _ (first core next : Seen) (same : SameJob first core) (more : is_over_in core ≡ false) (unspent : core.spent ≡ false) where
+  first_turn : (w : ℕ) → IsTurn (job_in core) (state_in core) w (state_in next) → IsTurn (job_in first) (state_in core) w (state_in next)
+  first_turn w turn = subst (λ (job : CoreJob). IsTurn job (state_in core) w (state_in next)) (job_same first core same) turn
+
+  pub scheduled_before : (schedule : List ℕ) (i : ℕ) → i < length schedule → IsTurn (job_in core) (state_in core) (slice_index_or schedule i 0) (state_in next)
+      → (last : CoreState) → Drives (job_in first) (state_in next) (drop (i + 1) schedule) 0 last → Drives (job_in first) (state_in core) (drop i schedule) 0 last
+  scheduled_before schedule i below turn last drives =
+      subst (λ (rest : List ℕ). Drives (job_in first) (state_in core) rest 0 last) (sym (drop_more schedule i 0 below))
+      (by_schedule (goes_on _ _ more unspent) (first_turn (slice_index_or schedule i 0) turn) drives)
+
+  pub robin_before : (workers robin : ℕ) → workers ≡ first.workers → IsTurn (job_in core) (state_in core) robin (state_in next)
+      → (last : CoreState) → Drives (job_in first) (state_in next) [] ((robin + 1) % workers) last → Drives (job_in first) (state_in core) [] robin last
+  robin_before workers robin all turn last drives =
+      by_robin (goes_on _ _ more unspent) (first_turn robin turn)
+      (subst (λ (n : ℕ). Drives (job_in first) (state_in next) [] ((robin + 1) % n) last) all drives)

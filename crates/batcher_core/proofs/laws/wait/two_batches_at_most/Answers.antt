@@ -1,0 +1,12 @@
+use Rattle.sp_order.specs.Preorder.{nodes_of}
+use Rattle.batcher_core.specs.State.{core_job}
+use Rattle.batcher_core.proofs.InvariantLemmas.Reached.{has_root, reached_parts}
+use Rattle.batcher_core.proofs.WaitLemmas.Runs.{two_at_most}
+use Rattle.batcher_core.proofs.laws.wait.two_batches_at_most.Goals as goal
+
+pub returns : goal.returns
+returns c tree acts workers worker first last receipt some reached stays served =
+    let stands = c.plan_stands_for_tree.ensures tree in
+    let laws = c.plan_has_sides.ensures (nodes_of tree) tree stands in
+    let job = core_job tree acts workers in
+    two_at_most job worker first.state last receipt laws (reached_parts job first laws (has_root (nodes_of tree) tree stands) some reached) stays served

@@ -1,0 +1,7 @@
+use Rattle.std.proofs.Common.{◌≡◌, false}
+use Rattle.batcher_core.specs.Choice.{some_below}
+use Rattle.batcher_core.specs.Shown.{at}
+use Rattle.batcher_core.proofs.state.hold.Hold.has_taken.Given as goal
+
+abbrev pub invariant-loop-worker : goal.invariant-loop-worker
+invariant-loop-worker l = some_below (at l.self.took false) l.worker ≡ false

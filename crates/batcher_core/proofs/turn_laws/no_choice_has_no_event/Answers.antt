@@ -1,6 +1,0 @@
-use Rattle.batcher_core.proofs.Choices.{none_has_no_event}
-use Rattle.batcher_core.proofs.PartsCarried.{parts_carried}
-use Rattle.batcher_core.proofs.turn_laws.no_choice_has_no_event.Goals as goal
-
-pub returns : goal.returns
-returns c job state worker laws among inv none event needs = none_has_no_event job state worker laws among (parts_carried job state.state inv.parts) inv.lists none event needs

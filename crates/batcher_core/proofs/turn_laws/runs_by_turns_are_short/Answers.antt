@@ -1,6 +1,0 @@
-use Rattle.batcher_core.proofs.Reached.{has_root}
-use Rattle.batcher_core.proofs.TurnRuns.{run_is_short}
-use Rattle.batcher_core.proofs.turn_laws.runs_by_turns_are_short.Goals as goal
-
-pub returns : goal.returns
-returns c job tree steps state plan some run = run_is_short job steps state (c.plan_has_sides.ensures job.plan tree plan) (has_root job.plan tree plan) some run

@@ -1,5 +1,0 @@
-use Rattle.batcher_core.proofs.OneRun.{one_driven}
-use Rattle.batcher_core.proofs.turn_laws.schedule_drives_to_one_state.Goals as goal
-
-pub returns : goal.returns
-returns c job schedule a b h g = one_driven job schedule a b h g

@@ -1,6 +1,0 @@
-use Rattle.batcher_core.proofs.PartsCarried.{parts_carried}
-use Rattle.batcher_core.proofs.ChoiceTasks.{mark_low}
-use Rattle.batcher_core.proofs.turn_laws.sides_are_two.Goals as goal
-
-pub returns : goal.returns
-returns c job state worker p l r n laws parts mine kind side = mark_low job state worker p l r n laws (parts_carried job state parts) mine kind side

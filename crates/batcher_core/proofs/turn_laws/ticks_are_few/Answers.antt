@@ -1,6 +1,0 @@
-use Rattle.batcher_core.proofs.PartsCarried.{parts_carried}
-use Rattle.batcher_core.proofs.TickRoom.{tick_most}
-use Rattle.batcher_core.proofs.turn_laws.ticks_are_few.Goals as goal
-
-pub returns : goal.returns
-returns c job state laws parts = tick_most job state laws (parts_carried job state parts)

@@ -1,0 +1,107 @@
+//! What each event of the gate writes, but a publish.
+ghost use Rattle.std.specs.Prelude.{◌≡◌, ◌<◌, length, None, Some, IfSome, if◌then◌else◌};
+ghost use Rattle.batcher_core.specs.State.{put};
+ghost use Rattle.batcher_core.specs.Shown.{state_of, ready_of, SameSizes};
+ghost use Rattle.batcher_core.specs.Events.{is_pending as status_pending, new_hold, looked as hold_looked, answered as hold_answered};
+ghost use Rattle.batcher_core.specs.declared.state.status.Status.TheVariants.{Free, Pending, Executing, Served};
+ghost use Rattle.batcher_core.specs.declared.state.status.CallState.TheVariants.{Out, Got};
+
+use crate::state::Table;
+use crate::state::hold::{Hold, answered, looked};
+use crate::state::status::{CallState, Receipt, Status};
+
+/// Whether a call with this status is posted, and no worker has taken it.
+fn is_pending(status: Status) -> bool
+    ensures { result ≡ status_pending status }
+{
+    match status {
+        Status::Pending => true,
+        _ => false,
+    }
+}
+
+/// The status of a worker once it is looked at.
+fn after_look(status: Status) -> Status
+    ensures { result ≡ if status_pending status then Executing else status }
+{
+    match status {
+        Status::Pending => Status::Executing,
+        other => other,
+    }
+}
+
+impl Table {
+    /// The worker posts the call of the leaf that it has started.
+    #[tactic(auto, using(crate::proofs::CodeLemmas::Written::at_written), unfolding(crate::specs::Shown::state_of, crate::specs::Shown::ready_of))]
+    pub(crate) fn post(&mut self, worker: u32)
+        requires status_in { worker < length self.old.statuses.items }
+        requires call_in { worker < length self.old.calls.items }
+        ensures sizes { SameSizes self.old self.new }
+        ensures event { state_of self.new ≡ record (state_of self.old) { status = put (state_of self.old).status worker Pending; call = put (state_of self.old).call worker Out } }
+        ensures lists { ready_of self.new ≡ ready_of self.old }
+    {
+        self.statuses[worker as usize] = Status::Pending;
+        self.calls[worker as usize] = CallState::Out;
+    }
+
+    /// The worker takes the flag.
+    #[tactic(auto, unfolding(crate::specs::Shown::state_of, crate::specs::Shown::ready_of))]
+    pub(crate) fn win(&mut self, worker: u32)
+        ensures sizes { SameSizes self.old self.new }
+        ensures event { state_of self.new ≡ record (state_of self.old) { hold = Some (new_hold worker) } }
+        ensures lists { ready_of self.new ≡ ready_of self.old }
+    {
+        self.hold = Some(Hold::of(worker));
+    }
+
+    /// The worker that has the flag looks at this one, and takes its call if that is pending.
+    #[tactic(auto, using(crate::proofs::CodeLemmas::Written::at_written), unfolding(crate::specs::Shown::state_of, crate::specs::Shown::ready_of))]
+    pub(crate) fn take(&mut self, other: u32)
+        requires status_in { other < length self.old.statuses.items }
+        requires other_in { other < 32 }
+        requires room { IfSome self.old.hold (λ h. h.looks < 32) }
+        ensures sizes { SameSizes self.old self.new }
+        ensures event { state_of self.new ≡ record (state_of self.old) { status = if status_pending ((state_of self.old).status other) then put (state_of self.old).status other Executing else (state_of self.old).status; hold = hold_looked (state_of self.old).hold (status_pending ((state_of self.old).status other)) other } }
+        ensures lists { ready_of self.new ≡ ready_of self.old }
+    {
+        let status = self.statuses[other as usize];
+        self.hold = looked(self.hold, other, is_pending(status));
+        self.statuses[other as usize] = after_look(status);
+    }
+
+    /// This worker is handed its receipt.
+    #[tactic(auto, using(crate::proofs::CodeLemmas::Written::at_written), unfolding(crate::specs::Shown::state_of, crate::specs::Shown::ready_of))]
+    pub(crate) fn answer(&mut self, other: u32, receipt: Receipt)
+        requires status_in { other < length self.old.statuses.items }
+        requires other_in { other < 32 }
+        ensures sizes { SameSizes self.old self.new }
+        ensures event { state_of self.new ≡ record (state_of self.old) { status = put (state_of self.old).status other (Served receipt); hold = hold_answered (state_of self.old).hold other } }
+        ensures lists { ready_of self.new ≡ ready_of self.old }
+    {
+        self.statuses[other as usize] = Status::Served(receipt);
+        self.hold = answered(self.hold, other);
+    }
+
+    /// The flag is let go.
+    #[tactic(auto, unfolding(crate::specs::Shown::state_of, crate::specs::Shown::ready_of))]
+    pub(crate) fn release(&mut self)
+        ensures sizes { SameSizes self.old self.new }
+        ensures event { state_of self.new ≡ record (state_of self.old) { hold = None } }
+        ensures lists { ready_of self.new ≡ ready_of self.old }
+    {
+        self.hold = None;
+    }
+
+    /// The worker leaves its call, with its receipt.
+    #[tactic(auto, using(crate::proofs::CodeLemmas::Written::at_written), unfolding(crate::specs::Shown::state_of, crate::specs::Shown::ready_of))]
+    pub(crate) fn leave(&mut self, worker: u32, receipt: Receipt)
+        requires status_in { worker < length self.old.statuses.items }
+        requires call_in { worker < length self.old.calls.items }
+        ensures sizes { SameSizes self.old self.new }
+        ensures event { state_of self.new ≡ record (state_of self.old) { status = put (state_of self.old).status worker Free; call = put (state_of self.old).call worker (Got receipt) } }
+        ensures lists { ready_of self.new ≡ ready_of self.old }
+    {
+        self.statuses[worker as usize] = Status::Free;
+        self.calls[worker as usize] = CallState::Got(receipt);
+    }
+}

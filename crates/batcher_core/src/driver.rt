@@ -1,0 +1,81 @@
+//! A whole run by turns.
+ghost use Rattle.std.specs.Prelude.{◌≡◌, ◌<◌, ℕ, false, true, Some, [], IfOk};
+ghost use Rattle.std.specs.List.{AllByRecursion};
+ghost use Rattle.sp_order.specs.Precedence.{leaves};
+ghost use Rattle.batch_history.specs.Lawful.{Lawful};
+ghost use Rattle.batcher_core.specs.State.{CoreState};
+ghost use Rattle.batcher_core.specs.Runs.{IsTurn, Drives};
+ghost use Rattle.batcher_core.specs.Cores.{job_in, state_in, is_over_in};
+ghost use Rattle.batcher_core.specs.Reports.{IsDrivenFrom};
+
+#[cfg(test)]
+mod tests;
+
+use crate::scheduler::Core;
+use crate::spun::Spun;
+use crate::turn::Turn;
+use batch_history::Report;
+use sp_order::laws::plan_stands_for_tree;
+use std::alloc::{AllocError, Global};
+
+/// A turn of this worker, in which the work is done that is due of it.
+pub(crate) fn take_turn(core: &mut Core, worker: u32) -> Result<Turn, AllocError>
+    requires { worker < core.old.workers }
+    ensures job { (core.new.tree ≡ core.old.tree) × (core.new.acts ≡ core.old.acts) × (core.new.workers ≡ core.old.workers) }
+    ensures turn { IfOk result (λ _. IsTurn (job_in core.old) (state_in core.old) worker (state_in core.new)) }
+    ensures spent { IfOk result (λ _. core.old.spent ≡ false) }
+{
+    match core.turn(worker, None)? {
+        Turn::Spin(steps) => core.turn(worker, Some(Spun::of(steps))),
+        other => Ok(other),
+    }
+}
+
+/// Takes turns by the workers of the schedule, until it ends or the core is over.
+fn follow(core: &mut Core, schedule: &[u32]) -> Result<(), AllocError>
+    requires { AllByRecursion (λ worker. worker < core.old.workers) schedule.now }
+    ensures job { IfOk result (λ _. (core.new.tree ≡ core.old.tree) × (core.new.acts ≡ core.old.acts) × (core.new.workers ≡ core.old.workers)) }
+    ensures drives { IfOk result (λ _. (last : CoreState) → Drives (job_in core.old) (state_in core.new) [] 0 last → Drives (job_in core.old) (state_in core.old) schedule.now 0 last) }
+    ensures spent { IfOk result (λ _. core.new.spent ≡ false → core.old.spent ≡ false) }
+{
+    for worker in schedule {
+        if core.is_over() {
+            return Ok(());
+        }
+        take_turn(core, *worker)?;
+    }
+    Ok(())
+}
+
+/// Takes turns by all workers round robin, from worker 0 on, until the core is over.
+fn go_round(core: &mut Core) -> Result<(), AllocError>
+    ensures job { IfOk result (λ _. (core.new.tree ≡ core.old.tree) × (core.new.acts ≡ core.old.acts) × (core.new.workers ≡ core.old.workers)) }
+    ensures drives { IfOk result (λ _. Drives (job_in core.old) (state_in core.old) [] 0 (state_in core.new)) }
+    ensures over { IfOk result (λ _. is_over_in core.new ≡ true) }
+    ensures spent { IfOk result (λ _. core.old.spent ≡ false) }
+{
+    plan_stands_for_tree();
+    let workers = core.workers();
+    let mut worker = 0;
+    while !core.is_over() {
+        core.fits();
+        take_turn(core, worker)?;
+        worker = (worker + 1) % workers;
+    }
+    Ok(())
+}
+
+/// Takes turns until the core is over: by the workers of the schedule, and then by all workers round robin, from
+/// worker 0 on. It returns always: each event lowers a count of those that are left, and until the core is over
+/// some worker has one. A core that is spent is an `Err`.
+pub fn drive(alloc: Global, core: Core, schedule: &[u32]) -> Result<Report, AllocError>
+    requires { AllByRecursion (λ worker. worker < core.workers) schedule.now }
+    ensures driven { IfOk result (λ report. IsDrivenFrom (job_in core) (leaves core.tree) (state_in core) schedule.now report) }
+    ensures lawful { IfOk result (λ report. Lawful (record { shape = Some core.tree; acts = core.acts }) core.workers report) }
+    ensures spent { IfOk result (λ _. core.spent ≡ false) }
+{
+    let mut core = core;
+    follow(&mut core, schedule)?;
+    go_round(&mut core)?;
+    core.report(alloc)
+}

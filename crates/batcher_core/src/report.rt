@@ -1,0 +1,56 @@
+//! The rows of a report, made of what is known of the nodes.
+ghost use Rattle.std.specs.Prelude.{◌≡◌, ◌≢◌, ◌<◌, ◌≤◌, ℕ, None, IfOk, map};
+ghost use Rattle.std.specs.List.{AllByRecursion, range_with_len};
+ghost use Rattle.sp_order.specs.Precedence.{leaves};
+ghost use Rattle.sp_order.specs.Preorder.{nodes_of};
+ghost use Rattle.batch_history.specs.declared.row.Row.{Row};
+ghost use Rattle.batcher_core.specs.declared.state.progress.Progress.TheVariants.{Waiting};
+ghost use Rattle.batcher_core.specs.Shown.{at};
+ghost use Rattle.batcher_core.specs.Reports.{HasRun, IsRowFor, TellsLeaf};
+
+use crate::state::progress::Progress;
+use batch_history::Row;
+use sp_order::Plan;
+use std::alloc::{AllocError, Global};
+
+/// The row of a leaf that has run and has a value.
+fn row_of(leaf: u32, progress: Progress, value: Option<u64>) -> Row
+    requires ran { HasRun progress }
+    requires value { value ≢ None }
+    ensures leaf { result.leaf ≡ leaf }
+    ensures row { IsRowFor progress value result }
+{
+    let (worker, start, end) = match progress {
+        Progress::Ran { worker, start, end } => (worker, start, end),
+        _ => (0, 0, 0),
+    };
+    Row {
+        leaf,
+        worker,
+        start,
+        end,
+        value: value.unwrap_or(0),
+    }
+}
+
+/// The rows of the first leaves of a plan, in leaf order, where each of them has run and has a value.
+pub(crate) fn rows_of(
+    alloc: Global,
+    plan: &Plan,
+    nodes: &[Progress],
+    values: &[Option<u64>],
+    leaf_total: u32,
+) -> Result<Vec<Row>, AllocError>
+    requires few { leaf_total ≤ leaves plan.now }
+    requires ran { (leaf : ℕ) → leaf < leaf_total → HasRun (at nodes.now Waiting ((nodes_of plan.now).node_of leaf)) }
+    requires valued { (leaf : ℕ) → leaf < leaf_total → at values.now None ((nodes_of plan.now).node_of leaf) ≢ None }
+    ensures leaves { IfOk result (λ rows. map (λ row. row.leaf) rows.items ≡ range_with_len 0 leaf_total) }
+    ensures rows { IfOk result (λ rows. AllByRecursion (λ row. TellsLeaf (nodes_of plan.now).node_of (at nodes.now Waiting) (at values.now None) row) rows.items) }
+{
+    let mut rows = Vec::with_capacity(alloc, leaf_total as usize)?;
+    for leaf in 0..leaf_total {
+        let node = plan.node_of(leaf) as usize;
+        rows.push(row_of(leaf, nodes[node], values[node]))?;
+    }
+    Ok(rows)
+}

@@ -1,0 +1,74 @@
+//! The parts of the core's state.
+
+ghost use Rattle.std.specs.Prelude.{◌≡◌, ◌<◌, length};
+ghost use Rattle.batcher_core.specs.Shown.{state_of};
+ghost use Rattle.batcher_core.specs.Tasks.{is_done as node_done};
+
+pub mod hold;
+mod opening;
+pub mod progress;
+pub(crate) mod ready;
+pub mod status;
+pub mod task;
+
+use crate::state::hold::Hold;
+use crate::state::progress::Progress;
+use crate::state::status::{CallState, Status};
+use crate::state::task::Task;
+use batch_history::History;
+use seq_objects::Plain;
+use std::collections::VecDeque;
+
+/// The parts of a core's state. Nodes, marks and values go by the numbers of nodes, and the others by those of
+/// workers.
+#[derive(Drop)]
+pub struct Table {
+    /// How far each node has come.
+    pub(crate) nodes: Vec<Progress>,
+    /// How many sides have arrived at each parallel block.
+    pub(crate) marks: Vec<u32>,
+    /// The value of each leaf that has one.
+    pub(crate) values: Vec<Option<u64>>,
+    /// What each worker has in hand.
+    pub(crate) tasks: Vec<Task>,
+    /// How far the call has come that each worker has posted.
+    pub(crate) statuses: Vec<Status>,
+    /// What each worker knows of the call of the leaf that it has started.
+    pub(crate) calls: Vec<CallState>,
+    /// The ready nodes of each worker, the oldest first.
+    pub(crate) ready: Vec<VecDeque<u32>>,
+    /// How many of these lists have a node.
+    pub(crate) filled: usize,
+    /// What the worker that has the flag keeps, if one has it.
+    pub(crate) hold: Option<Hold>,
+    /// The tick that the next start or end of a leaf draws.
+    pub(crate) tick: u64,
+    /// The batches that were served.
+    pub(crate) history: History,
+    /// The shared objects, after all these batches.
+    pub(crate) objects: Plain,
+}
+
+/// Whether a node with this progress is done.
+fn is_done(progress: Progress) -> bool
+    ensures { result ≡ node_done progress }
+{
+    match progress {
+        Progress::Waiting => false,
+        Progress::Ready => false,
+        Progress::Taken => false,
+        Progress::Done => true,
+        Progress::Ran { .. } => true,
+    }
+}
+
+impl Table {
+    /// Whether the root is done.
+    #[tactic(auto, unfolding(crate::specs::Shown::state_of))]
+    pub(crate) fn root_done(&self) -> bool
+        requires { 0 < length self.now.nodes.items }
+        ensures { result ≡ node_done ((state_of self.now).node 0) }
+    {
+        is_done(self.nodes[0])
+    }
+}

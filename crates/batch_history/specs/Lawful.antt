@@ -26,18 +26,18 @@ pub record HasRows (job : JobValue) (workers : ℕ) (report : Report) : Type 0 w
   pub names : report.workers ≡ workers
   pub leaves : map (λ row. row.leaf) report.rows ≡ range_with_len 0 (leaf_count job.shape)
   pub among : AllByRecursion (λ row. row.worker < workers) report.rows
-  pub upright : AllByRecursion (λ row. row.start < row.end) report.rows
+  pub starts_first : AllByRecursion (λ row. row.start < row.end) report.rows
   pub ticks : HasEachOnce (λ tick. tick < 2 * leaf_count job.shape) (ticks_of report.rows)
 
 -- the fact holds of the rows of two leaves
-abbrev pub OfRows : Report → ℕ → ℕ → (Row → Row → Type 0) → Type 0
-OfRows report u v P = ForSome (slice_get report.rows u) (λ row. ForSome (slice_get report.rows v) (λ row'. P row row'))
+abbrev pub ForRows : Report → ℕ → ℕ → (Row → Row → Type 0) → Type 0
+ForRows report u v P = ForSome (slice_get report.rows u) (λ row. ForSome (slice_get report.rows v) (λ row'. P row row'))
 
 -- A leaf that is before another ends before the other starts. Of two leaves of one worker, one ends before the
 -- other starts.
 pub record KeepsOrder (job : JobValue) (report : Report) : Type 0 where
-  pub before : (u v : ℕ) → IsBefore job.shape u v → OfRows report u v (λ row row'. row.end < row'.start)
-  pub alone : (u v : ℕ) → u ≢ v → OfRows report u v (λ row row'. row.worker ≡ row'.worker → (row.end < row'.start) ⊎ (row'.end < row.start))
+  pub before : (u v : ℕ) → IsBefore job.shape u v → ForRows report u v (λ row row'. row.end < row'.start)
+  pub alone : (u v : ℕ) → u ≢ v → ForRows report u v (λ row row'. row.worker ≡ row'.worker → (row.end < row'.start) ⊎ (row'.end < row.start))
 
 -- the leaf calls
 abbrev pub IsCallLeaf : JobValue → ℕ → Type 0
@@ -51,14 +51,14 @@ pub record HasCalls (job : JobValue) (report : Report) : Type 0 where
   pub workers : AllByRecursion (λ entry. ForSome (slice_get report.rows entry.leaf) (λ row. row.worker ≡ entry.worker)) (flat report.history)
 
 -- the entry stands in the batch of that number
-abbrev pub StandsIn : Report → ℕ → Entry → Type 0
-StandsIn report number entry = IsSomeAnd (slice_get report.history number) (λ batch. Contains batch entry)
+abbrev pub IsInBatch : Report → ℕ → Entry → Type 0
+IsInBatch report number entry = IsSomeAnd (slice_get report.history number) (λ batch. Contains batch entry)
 
 -- A call whose leaf ended before the leaf of another started stands in an earlier batch.
 abbrev pub KeepsTicks : Report → Type 0
 KeepsTicks report =
-    (b c : ℕ) (first second : Entry) → StandsIn report b first → StandsIn report c second
-    → OfRows report first.leaf second.leaf (λ row row'. row.end < row'.start → b < c)
+    (b c : ℕ) (first second : Entry) → IsInBatch report b first → IsInBatch report c second
+    → ForRows report first.leaf second.leaf (λ row row'. row.end < row'.start → b < c)
 
 -- The value of a leaf that works is what its work gives, and that of a leaf that calls is its reply's.
 pub record HasValues (job : JobValue) (report : Report) : Type 0 where

@@ -111,7 +111,7 @@ pub record TicksStand (plan : Nodes) (workers : ℕ) (node : ℕ → Progress) (
   pub only : (a : Draw) (t : ℕ) → IsDrawn node task a t → t < tick
   pub each : (t : ℕ) → t < tick → (a : Draw) × IsDrawn node task a t
   -- each start is below its end
-  pub upright : (n w s e : ℕ) → HasEnd node task n w s e → s < e
+  pub starts_first : (n w s e : ℕ) → HasEnd node task n w s e → s < e
   -- each done leaf's worker is one of the workers
   pub among : (n w s e : ℕ) → node n ≡ Ran w s e → w < workers
   -- a leaf that is before one that has a start is done, and its end is below that start

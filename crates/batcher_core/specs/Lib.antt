@@ -2,8 +2,8 @@ pub use Rattle.seq_objects.specs.Objects
 pub use Rattle.seq_objects.specs.Spin
 pub use Rattle.sp_order.specs.Precedence
 pub use Rattle.sp_order.specs.Plans
-pub use Rattle.sp_order.specs.Stands
-pub use Rattle.sp_order.specs.TreeCode
+pub use Rattle.sp_order.specs.PlanOf
+pub use Rattle.sp_order.specs.TreeEncoding
 pub use Rattle.sp_order.specs.Preorder
 pub use Rattle.seq_objects.specs.Pairs
 pub use Rattle.batch_history.specs.Book

@@ -37,7 +37,7 @@ pub struct Core {
 impl Model for Core {
     ghost use Rattle.std.specs.Prelude.{◌≡◌, ◌<◌, false};
     ghost use Rattle.std.specs.Coded.{codes};
-    ghost use Rattle.sp_order.specs.TreeCode.{coded_tree};
+    ghost use Rattle.sp_order.specs.TreeEncoding.{coded_tree};
     ghost use Rattle.batcher_core.specs.Cores.{Seen, Fits};
 
     ghost Value = { Seen };

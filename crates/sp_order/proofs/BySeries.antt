@@ -6,7 +6,7 @@ use Rattle.sp_order.specs.declared.node.Move.{Move}
 use Rattle.sp_order.specs.declared.node.Move.TheVariants.{Root, OpenSecond, FinishParent, Arrive}
 use Rattle.sp_order.specs.Precedence.{Tree, leaf, seq, par, leaves, IsLeafOf, IsBeforeFrom}
 use Rattle.sp_order.specs.Plans.{Nodes, IsUnder, IsPlan, IsBySeries}
-use Rattle.sp_order.specs.Stands.{Stands, IsPlanOf, node_count}
+use Rattle.sp_order.specs.PlanOf.{OccursAt, IsPlanOf, node_count}
 use Rattle.sp_order.proofs.Standing.{node_cases, StandsAt, stands_at}
 use Rattle.sp_order.proofs.PlanLaws.{plan_laws, below_count}
 use Rattle.sp_order.proofs.Descents.{covers, stays, leaf_at}
@@ -18,11 +18,11 @@ pub record SeriesAt (plan : Nodes) (p l r most : ℕ) : Type 0 where
   pub first : ℕ
   pub left_is : l ≡ p + 1
   pub right_is : r ≡ l + node_count left
-  pub stands_left : Stands plan left l first (OpenSecond p)
-  pub stands_right : Stands plan right r (first + leaves left) (FinishParent p)
+  pub stands_left : OccursAt plan left l first (OpenSecond p)
+  pub stands_right : OccursAt plan right r (first + leaves left) (FinishParent p)
   pub ends : r + node_count right ≤ most
 
-top_series : (plan : Nodes) (tree : Tree) (p u most : ℕ) (m : Move) → Stands plan tree p u m → p + node_count tree ≤ most → (l r : ℕ) → plan.kind p ≡ Some (SeqNode l r) → SeriesAt plan p l r most
+top_series : (plan : Nodes) (tree : Tree) (p u most : ℕ) (m : Move) → OccursAt plan tree p u m → p + node_count tree ≤ most → (l r : ℕ) → plan.kind p ≡ Some (SeqNode l r) → SeriesAt plan p l r most
 top_series plan leaf p u most m h ends l r series = let e = h.0 in cc
 top_series plan (seq a b) p u most m h ends l r series =
     let e = h.0 in
@@ -40,7 +40,7 @@ top_series plan (seq a b) p u most m h ends l r series =
     })
 top_series plan (par a b) p u most m h ends l r series = let e = h.0 in cc
 
-pub series_at : (plan : Nodes) (tree : Tree) (n u : ℕ) (m : Move) → Stands plan tree n u m → (p l r : ℕ) → n ≤ p → p < n + node_count tree → plan.kind p ≡ Some (SeqNode l r) → SeriesAt plan p l r (n + node_count tree)
+pub series_at : (plan : Nodes) (tree : Tree) (n u : ℕ) (m : Move) → OccursAt plan tree n u m → (p l r : ℕ) → n ≤ p → p < n + node_count tree → plan.kind p ≡ Some (SeqNode l r) → SeriesAt plan p l r (n + node_count tree)
 series_at plan tree n u m h p l r low high series =
     let at : StandsAt plan p (n + node_count tree) = stands_at plan tree n u m h p low high in
     top_series plan at.tree p at.first (n + node_count tree) (plan.after p) at.stands at.ends l r series
@@ -61,7 +61,7 @@ pub left_covers : (plan : Nodes) (p l r most : ℕ) → SeriesAt plan p l r most
 left_covers plan p l r most at k low high =
     covers plan at.left l at.first (OpenSecond p) at.stands_left k (omega (arith, at.left_is)) (omega (arith, at.right_is))
 
-pub series_from_before : (plan : Nodes) (tree : Tree) (n u : ℕ) (m : Move) → Stands plan tree n u m → (i j : ℕ) → IsBeforeFrom u tree i j → IsBySeries plan (plan.node_of i) (plan.node_of j)
+pub series_from_before : (plan : Nodes) (tree : Tree) (n u : ℕ) (m : Move) → OccursAt plan tree n u m → (i j : ℕ) → IsBeforeFrom u tree i j → IsBySeries plan (plan.node_of i) (plan.node_of j)
 series_from_before plan leaf n u m h i j before = absurd before
 series_from_before plan (par a b) n u m h i j (inl k) = series_from_before plan a (n + 1) u (Arrive n) h.2 i j k
 series_from_before plan (par a b) n u m h i j (inr k) = series_from_before plan b (n + 1 + node_count a) (u + leaves a) (Arrive n) h.3 i j k
@@ -80,19 +80,19 @@ series_from_before plan (seq a b) n u m h i j (inr (inr k)) =
     }
 
 -- a leaf whose node is in a tree that stands, or is not, is one of its leaves, or is not
-leaf_below : (plan : Nodes) (tree : Tree) (n u : ℕ) (m : Move) → Stands plan tree n u m → (i : ℕ) → i < u + leaves tree → plan.node_of i < n → i < u
+leaf_below : (plan : Nodes) (tree : Tree) (n u : ℕ) (m : Move) → OccursAt plan tree n u m → (i : ℕ) → i < u + leaves tree → plan.node_of i < n → i < u
 leaf_below plan tree n u m h i high low = elim (cases_lt i u) [
   | inl e ↦ e
   | inr e ↦ absurd (omega (arith, (leaf_at plan tree n u m h i e high).1))
 ]
 
-leaf_above : (plan : Nodes) (tree : Tree) (n u : ℕ) (m : Move) → Stands plan tree n u m → (i : ℕ) → u ≤ i → n + node_count tree ≤ plan.node_of i → u + leaves tree ≤ i
+leaf_above : (plan : Nodes) (tree : Tree) (n u : ℕ) (m : Move) → OccursAt plan tree n u m → (i : ℕ) → u ≤ i → n + node_count tree ≤ plan.node_of i → u + leaves tree ≤ i
 leaf_above plan tree n u m h i low high = elim (cases_lt i (u + leaves tree)) [
   | inr e ↦ e
   | inl e ↦ absurd (omega (arith, (leaf_at plan tree n u m h i low e).2))
 ]
 
-pub before_from_series : (plan : Nodes) → IsPlan plan → (tree : Tree) (n u : ℕ) (m : Move) → Stands plan tree n u m → (i j : ℕ) → IsLeafOf tree u i → IsLeafOf tree u j → (s : IsBySeries plan (plan.node_of i) (plan.node_of j)) → n ≤ s.parent → s.parent < n + node_count tree → IsBeforeFrom u tree i j
+pub before_from_series : (plan : Nodes) → IsPlan plan → (tree : Tree) (n u : ℕ) (m : Move) → OccursAt plan tree n u m → (i j : ℕ) → IsLeafOf tree u i → IsLeafOf tree u j → (s : IsBySeries plan (plan.node_of i) (plan.node_of j)) → n ≤ s.parent → s.parent < n + node_count tree → IsBeforeFrom u tree i j
 before_from_series plan laws leaf n u m h i j of_i of_j s low high =
     let e : s.parent ≡ n = omega arith in
     let f = rw e at s.series in

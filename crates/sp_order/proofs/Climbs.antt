@@ -5,7 +5,7 @@ use Rattle.sp_order.specs.declared.node.Kind.TheVariants.{LeafNode, SeqNode, Par
 use Rattle.sp_order.specs.declared.node.Move.TheVariants.{Root, OpenSecond, FinishParent, Arrive}
 use Rattle.sp_order.specs.Precedence.{Tree, leaves, IsBeforeFrom}
 use Rattle.sp_order.specs.Plans.{Nodes, parent_of, IsSide, HasSide, IsUnder, itself, one_below, IsPlan, IsBySeries}
-use Rattle.sp_order.specs.Stands.{IsPlanOf, node_count}
+use Rattle.sp_order.specs.PlanOf.{IsPlanOf, node_count}
 use Rattle.sp_order.proofs.PlanLaws.{plan_laws, below_count}
 use Rattle.sp_order.proofs.Descents.{under_trans, under_le, leaf_at}
 use Rattle.sp_order.proofs.BySeries.{SeriesAt, series_at, left_within, left_covers, before_by_series}

@@ -6,7 +6,7 @@ use Rattle.sp_order.specs.declared.node.Move.{Move}
 use Rattle.sp_order.specs.declared.node.Move.TheVariants.{OpenSecond, FinishParent, Arrive}
 use Rattle.sp_order.specs.Precedence.{Tree, leaf, seq, par, leaves}
 use Rattle.sp_order.specs.Plans.{Nodes, parent_of, HasSide, IsUnder, itself, one_below, IsPlan}
-use Rattle.sp_order.specs.Stands.{Stands, node_count}
+use Rattle.sp_order.specs.PlanOf.{OccursAt, node_count}
 use Rattle.sp_order.proofs.Standing.{node_count_above_0, top_after, node_cases, StandsAt, stands_at}
 
 pub under_trans : {plan : Nodes} {a b c : ℕ} → IsUnder plan a b → IsUnder plan b c → IsUnder plan a c
@@ -18,7 +18,7 @@ under_le plan laws a b itself = omega arith
 under_le plan laws a b (one_below {top} {parent} {node} v side) = omega (arith, under_le plan laws a parent v, laws.deeper parent b side)
 
 -- the nodes of a tree that stands are under its top
-pub covers : (plan : Nodes) (tree : Tree) (n u : ℕ) (m : Move) → Stands plan tree n u m → (k : ℕ) → n ≤ k → k < n + node_count tree → IsUnder plan n k
+pub covers : (plan : Nodes) (tree : Tree) (n u : ℕ) (m : Move) → OccursAt plan tree n u m → (k : ℕ) → n ≤ k → k < n + node_count tree → IsUnder plan n k
 covers plan leaf n u m h k low high = let e : k ≡ n = omega arith in rw e itself
 covers plan (seq a b) n u m h k low high = elim (node_cases n (node_count a) (node_count b) k low high) [
   | inl e ↦ rw e itself
@@ -40,7 +40,7 @@ covers plan (par a b) n u m h k low high = elim (node_cases n (node_count a) (no
 ]
 
 -- the sides of the top of a tree that stands are nodes of it
-sides_within : (plan : Nodes) (tree : Tree) (n u : ℕ) (m : Move) → Stands plan tree n u m → (k : ℕ) → HasSide (plan.kind n) k → (n < k) × (k < n + node_count tree)
+sides_within : (plan : Nodes) (tree : Tree) (n u : ℕ) (m : Move) → OccursAt plan tree n u m → (k : ℕ) → HasSide (plan.kind n) k → (n < k) × (k < n + node_count tree)
 sides_within plan leaf n u m h k side = absurd (rw h.0 at side)
 sides_within plan (seq a b) n u m h k side =
     let which : (k ≡ n + 1) ⊎ (k ≡ n + 1 + node_count a) = rw h.0 at side in
@@ -56,7 +56,7 @@ sides_within plan (par a b) n u m h k side =
     ]
 
 -- what is under the top of a tree that stands is a node of it
-pub stays : (plan : Nodes) → IsPlan plan → (tree : Tree) (n u : ℕ) (m : Move) → Stands plan tree n u m → (k : ℕ) → IsUnder plan n k → (n ≤ k) × (k < n + node_count tree)
+pub stays : (plan : Nodes) → IsPlan plan → (tree : Tree) (n u : ℕ) (m : Move) → OccursAt plan tree n u m → (k : ℕ) → IsUnder plan n k → (n ≤ k) × (k < n + node_count tree)
 stays plan laws tree n u m h k itself = (omega arith, omega (arith, node_count_above_0 tree))
 stays plan laws tree n u m h k (one_below {top} {parent} {node} v side) =
     let above = stays plan laws tree n u m h parent v in
@@ -65,7 +65,7 @@ stays plan laws tree n u m h k (one_below {top} {parent} {node} v side) =
     (omega arith, omega (arith, at.ends))
 
 -- each leaf number has its node
-pub leaf_at : (plan : Nodes) (tree : Tree) (n u : ℕ) (m : Move) → Stands plan tree n u m → (i : ℕ) → u ≤ i → i < u + leaves tree → (plan.kind (plan.node_of i) ≡ Some (LeafNode i)) × (n ≤ plan.node_of i) × (plan.node_of i < n + node_count tree)
+pub leaf_at : (plan : Nodes) (tree : Tree) (n u : ℕ) (m : Move) → OccursAt plan tree n u m → (i : ℕ) → u ≤ i → i < u + leaves tree → (plan.kind (plan.node_of i) ≡ Some (LeafNode i)) × (n ≤ plan.node_of i) × (plan.node_of i < n + node_count tree)
 leaf_at plan leaf n u m h i low high =
     let e : i ≡ u = omega arith in
     rw (e, h.2) (h.0, omega arith, omega arith)

@@ -9,7 +9,7 @@ use Rattle.sp_order.specs.declared.node.Move.{Move}
 use Rattle.sp_order.specs.declared.node.Move.TheVariants.{Root, OpenSecond, FinishParent, Arrive}
 use Rattle.sp_order.specs.declared.listing.Pending.{Pending}
 use Rattle.sp_order.specs.Precedence.{Tree, tree_of, seq, par, leaves}
-use Rattle.sp_order.specs.Stands.{node_count}
+use Rattle.sp_order.specs.PlanOf.{node_count}
 use Rattle.sp_order.specs.Preorder.{kinds_from, moves_from, leaf_nodes_from}
 use Rattle.sp_order.specs.Listing.{Lists, linked, HasParentBelow, with_tree, with_pending, with_all}
 use Rattle.sp_order.proofs.Preorders.{length-kinds_from, length-leaf_nodes_from}

@@ -7,7 +7,7 @@ use Rattle.sp_order.specs.declared.node.Move.{Move}
 use Rattle.sp_order.specs.declared.node.Move.TheVariants.{Root, OpenSecond, FinishParent, Arrive}
 use Rattle.sp_order.specs.Precedence.{Tree, leaf, seq, par, leaves}
 use Rattle.sp_order.specs.Plans.{Nodes, parent_of, IsSide, HasSide, IsPlan}
-use Rattle.sp_order.specs.Stands.{Stands, IsPlanOf, node_count}
+use Rattle.sp_order.specs.PlanOf.{OccursAt, IsPlanOf, node_count}
 use Rattle.sp_order.proofs.Standing.{node_count_above_0, top_after, StandsAt, stands_at, HasParent, has_parent}
 
 -- what a node's kind says of its sides, or of its leaf
@@ -17,7 +17,7 @@ FitsKind plan (Some (LeafNode u)) n = plan.node_of u ≡ n
 FitsKind plan (Some (SeqNode l r)) n = (plan.after l ≡ OpenSecond n) × (plan.after r ≡ FinishParent n) × (l < r)
 FitsKind plan (Some (ParNode l r)) n = (plan.after l ≡ Arrive n) × (plan.after r ≡ Arrive n) × (l < r)
 
-fits_kind : (plan : Nodes) (tree : Tree) (n u : ℕ) (m : Move) → Stands plan tree n u m → FitsKind plan (plan.kind n) n
+fits_kind : (plan : Nodes) (tree : Tree) (n u : ℕ) (m : Move) → OccursAt plan tree n u m → FitsKind plan (plan.kind n) n
 fits_kind plan leaf n u m h = rw h.0 h.2
 fits_kind plan (seq a b) n u m h =
     rw h.0 (top_after plan a (n + 1) u (OpenSecond n) h.2, top_after plan b (n + 1 + node_count a) (u + leaves a) (FinishParent n) h.3, omega (arith, node_count_above_0 a))

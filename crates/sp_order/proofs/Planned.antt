@@ -7,7 +7,7 @@ use Rattle.sp_order.specs.declared.node.Kind.{Kind}
 use Rattle.sp_order.specs.declared.node.Move.{Move}
 use Rattle.sp_order.specs.declared.node.Move.TheVariants.{Root}
 use Rattle.sp_order.specs.Precedence.{Tree, leaf, seq, par, leaves}
-use Rattle.sp_order.specs.Stands.{node_count}
+use Rattle.sp_order.specs.PlanOf.{node_count}
 use Rattle.sp_order.specs.Preorder.{nodes_of, tree_told}
 use Rattle.sp_order.specs.declared.listing.Pending.{Pending}
 use Rattle.sp_order.specs.Listing.{Lists, lists_of, with_all, AreListsOf}

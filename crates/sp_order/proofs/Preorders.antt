@@ -8,9 +8,9 @@ use Rattle.sp_order.specs.declared.node.Kind.TheVariants.{LeafNode}
 use Rattle.sp_order.specs.declared.node.Move.{Move}
 use Rattle.sp_order.specs.declared.node.Move.TheVariants.{Root, OpenSecond, FinishParent, Arrive}
 use Rattle.sp_order.specs.Precedence.{Tree, leaf, seq, par, leaves}
-use Rattle.sp_order.specs.TreeCode.{top}
+use Rattle.sp_order.specs.TreeEncoding.{top}
 use Rattle.sp_order.specs.Plans.{Nodes}
-use Rattle.sp_order.specs.Stands.{Stands, IsPlanOf, node_count}
+use Rattle.sp_order.specs.PlanOf.{OccursAt, IsPlanOf, node_count}
 use Rattle.sp_order.specs.Preorder.{kinds_from, moves_from, leaf_nodes_from, nodes_of, joined, trees_told, tree_told}
 
 pub length-kinds_from : (tree : Tree) (n u : ℕ) → length (kinds_from n u tree) ≡ node_count tree
@@ -68,7 +68,7 @@ reads_head f n x xs h =
     rw e at (h 0 (omega arith))
 
 -- a tree whose lists a plan reads stands there
-stands_read : (plan : Nodes) (tree : Tree) (n u : ℕ) (m : Move) → Reads plan.kind n (kinds_from n u tree) → Reads (λ k. Some (plan.after k)) n (moves_from n m tree) → Reads (λ i. Some (plan.node_of i)) u (leaf_nodes_from n tree) → Stands plan tree n u m
+stands_read : (plan : Nodes) (tree : Tree) (n u : ℕ) (m : Move) → Reads plan.kind n (kinds_from n u tree) → Reads (λ k. Some (plan.after k)) n (moves_from n m tree) → Reads (λ i. Some (plan.node_of i)) u (leaf_nodes_from n tree) → OccursAt plan tree n u m
 stands_read plan leaf n u m kinds moves places = (
   reads_head plan.kind n (LeafNode u) [] kinds,
   same_Some _ _ (reads_head (λ k. Some (plan.after k)) n m [] moves),

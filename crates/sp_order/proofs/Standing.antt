@@ -5,14 +5,14 @@ use Rattle.sp_order.specs.declared.node.Move.{Move}
 use Rattle.sp_order.specs.declared.node.Move.TheVariants.{Root, OpenSecond, FinishParent, Arrive}
 use Rattle.sp_order.specs.Precedence.{Tree, leaf, seq, par, leaves}
 use Rattle.sp_order.specs.Plans.{Nodes, HasSide}
-use Rattle.sp_order.specs.Stands.{Stands, node_count}
+use Rattle.sp_order.specs.PlanOf.{OccursAt, node_count}
 
 pub node_count_above_0 : (tree : Tree) → 0 < node_count tree
 node_count_above_0 leaf = omega arith
 node_count_above_0 (seq a b) = omega arith
 node_count_above_0 (par a b) = omega arith
 
-pub top_after : (plan : Nodes) (tree : Tree) (n u : ℕ) (m : Move) → Stands plan tree n u m → plan.after n ≡ m
+pub top_after : (plan : Nodes) (tree : Tree) (n u : ℕ) (m : Move) → OccursAt plan tree n u m → plan.after n ≡ m
 top_after plan leaf n u m h = h.1
 top_after plan (seq a b) n u m h = h.1
 top_after plan (par a b) n u m h = h.1
@@ -25,10 +25,10 @@ node_cases n a b k low high = grind arith
 pub record StandsAt (plan : Nodes) (k most : ℕ) : Type 0 where
   pub tree : Tree
   pub first : ℕ
-  pub stands : Stands plan tree k first (plan.after k)
+  pub stands : OccursAt plan tree k first (plan.after k)
   pub ends : k + node_count tree ≤ most
 
-with_after : (plan : Nodes) (tree : Tree) (n u : ℕ) (m : Move) → Stands plan tree n u m → Stands plan tree n u (plan.after n)
+with_after : (plan : Nodes) (tree : Tree) (n u : ℕ) (m : Move) → OccursAt plan tree n u m → OccursAt plan tree n u (plan.after n)
 with_after plan leaf n u m h = (h.0, refl, h.2)
 with_after plan (seq a b) n u m h = (h.0, refl, h.2, h.3)
 with_after plan (par a b) n u m h = (h.0, refl, h.2, h.3)
@@ -36,10 +36,10 @@ with_after plan (par a b) n u m h = (h.0, refl, h.2, h.3)
 within_more : (plan : Nodes) (k most more : ℕ) → most ≤ more → StandsAt plan k most → StandsAt plan k more
 within_more plan k most more le h = record { tree = h.tree; first = h.first; stands = h.stands; ends = omega (arith, h.ends) }
 
-stands_top : (plan : Nodes) (tree : Tree) (n u k : ℕ) (m : Move) → Stands plan tree n u m → k ≡ n → StandsAt plan k (n + node_count tree)
+stands_top : (plan : Nodes) (tree : Tree) (n u k : ℕ) (m : Move) → OccursAt plan tree n u m → k ≡ n → StandsAt plan k (n + node_count tree)
 stands_top plan tree n u k m h e = rw e (record { tree = tree; first = u; stands = with_after plan tree n u m h; ends = omega arith })
 
-pub stands_at : (plan : Nodes) (tree : Tree) (n u : ℕ) (m : Move) → Stands plan tree n u m → (k : ℕ) → n ≤ k → k < n + node_count tree → StandsAt plan k (n + node_count tree)
+pub stands_at : (plan : Nodes) (tree : Tree) (n u : ℕ) (m : Move) → OccursAt plan tree n u m → (k : ℕ) → n ≤ k → k < n + node_count tree → StandsAt plan k (n + node_count tree)
 stands_at plan leaf n u m h k low high = stands_top plan leaf n u k m h (omega arith)
 stands_at plan (seq a b) n u m h k low high = elim (node_cases n (node_count a) (node_count b) k low high) [
   | inl e ↦ stands_top plan (seq a b) n u k m h e
@@ -60,7 +60,7 @@ HasParent plan (FinishParent p) n = (p < n) × HasSide (plan.kind p) n
 HasParent plan (Arrive p) n = (p < n) × HasSide (plan.kind p) n
 
 -- each node of a tree that stands, but for its top, is a side of another one
-pub has_parent : (plan : Nodes) (tree : Tree) (n u : ℕ) (m : Move) → Stands plan tree n u m → (k : ℕ) → n < k → k < n + node_count tree → HasParent plan (plan.after k) k
+pub has_parent : (plan : Nodes) (tree : Tree) (n u : ℕ) (m : Move) → OccursAt plan tree n u m → (k : ℕ) → n < k → k < n + node_count tree → HasParent plan (plan.after k) k
 has_parent plan leaf n u m h k low high = absurd (omega arith)
 has_parent plan (seq a b) n u m h k low high = elim (node_cases n (node_count a) (node_count b) k (omega arith) high) [
   | inl e ↦ absurd (omega arith)

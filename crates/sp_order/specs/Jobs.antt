@@ -4,7 +4,7 @@ use Rattle.std.specs.Coded.{Coded, code_by, coded×, coded_list, coded_option}
 use Rattle.seq_objects.specs.declared.act.Act.{Act}
 use Rattle.seq_objects.specs.contracts.act.Act as act
 use Rattle.sp_order.specs.Precedence.{Tree, leaf_count}
-use Rattle.sp_order.specs.TreeCode.{coded_tree}
+use Rattle.sp_order.specs.TreeEncoding.{coded_tree}
 
 -- the shape, and what the leaves do, from left to right
 pub record JobValue : Type 0 where

@@ -1,9 +1,9 @@
 pub use Rattle.seq_objects.specs.Objects
 pub mod Precedence
 pub mod Jobs
-pub mod TreeCode
+pub mod TreeEncoding
 pub mod Depth
 pub mod Plans
-pub mod Stands
+pub mod PlanOf
 pub mod Preorder
 pub mod Listing

@@ -14,23 +14,23 @@ node_count (par left right) = node_count left + node_count right + 1
 
 -- The tree stands in the plan at this node, with its leaves numbered from `first` on, and this move after it.
 -- Its left side stands at the next node, and its right side after the nodes and the leaves of the left one.
-abbrev pub Stands : Nodes → Tree → ℕ → ℕ → Move → Type 0
-Stands plan leaf node first after =
+abbrev pub OccursAt : Nodes → Tree → ℕ → ℕ → Move → Type 0
+OccursAt plan leaf node first after =
     (plan.kind node ≡ Some (LeafNode first)) × (plan.after node ≡ after) × (plan.node_of first ≡ node)
-Stands plan (seq left right) node first after =
+OccursAt plan (seq left right) node first after =
     (plan.kind node ≡ Some (SeqNode (node + 1) (node + 1 + node_count left)))
     × (plan.after node ≡ after)
-    × Stands plan left (node + 1) first (OpenSecond node)
-    × Stands plan right (node + 1 + node_count left) (first + leaves left) (FinishParent node)
-Stands plan (par left right) node first after =
+    × OccursAt plan left (node + 1) first (OpenSecond node)
+    × OccursAt plan right (node + 1 + node_count left) (first + leaves left) (FinishParent node)
+OccursAt plan (par left right) node first after =
     (plan.kind node ≡ Some (ParNode (node + 1) (node + 1 + node_count left)))
     × (plan.after node ≡ after)
-    × Stands plan left (node + 1) first (Arrive node)
-    × Stands plan right (node + 1 + node_count left) (first + leaves left) (Arrive node)
+    × OccursAt plan left (node + 1) first (Arrive node)
+    × OccursAt plan right (node + 1 + node_count left) (first + leaves left) (Arrive node)
 
 -- the whole tree stands at node 0, and there are no other nodes
 pub record IsPlanOf (plan : Nodes) (tree : Tree) : Type 0 where
-  pub stands : Stands plan tree 0 0 Root
+  pub stands : OccursAt plan tree 0 0 Root
   pub count : plan.count ≡ node_count tree
   pub no_kind : (n : ℕ) → node_count tree ≤ n → plan.kind n ≡ None
   pub no_move : (n : ℕ) → node_count tree ≤ n → plan.after n ≡ Root

@@ -6,8 +6,8 @@ use Rattle.sp_order.specs.declared.node.Move.{Move}
 use Rattle.sp_order.specs.declared.node.Move.TheVariants.{Root, OpenSecond, FinishParent, Arrive}
 use Rattle.sp_order.specs.Precedence.{Tree, leaf, seq, par, leaves}
 use Rattle.sp_order.specs.Plans.{Nodes}
-use Rattle.sp_order.specs.Stands.{node_count}
-use Rattle.sp_order.specs.TreeCode.{top}
+use Rattle.sp_order.specs.PlanOf.{node_count}
+use Rattle.sp_order.specs.TreeEncoding.{top}
 
 -- what its nodes are, numbered from `node` on, with its leaves numbered from `first` on
 abbrev pub kinds_from : ℕ → ℕ → Tree → List Kind

@@ -3,7 +3,7 @@ ghost use Rattle.std.specs.Prelude.{◌≡◌, ℕ, ◌<◌, ◌↔◌, Some};
 ghost use Rattle.sp_order.specs.declared.node.Kind.TheVariants.{LeafNode};
 ghost use Rattle.sp_order.specs.Precedence.{Tree, leaves, IsBefore};
 ghost use Rattle.sp_order.specs.Plans.{Nodes, IsPlan, IsBySeries};
-ghost use Rattle.sp_order.specs.Stands.{IsPlanOf};
+ghost use Rattle.sp_order.specs.PlanOf.{IsPlanOf};
 ghost use Rattle.sp_order.specs.Preorder.{nodes_of};
 
 /// In a plan that stands for a tree, the root alone has no parent, each side has the parent that names it and

@@ -20,7 +20,7 @@ pub struct Plan {
 
 impl Model for Plan {
     ghost use Rattle.sp_order.specs.Precedence.{Tree};
-    ghost use Rattle.sp_order.specs.TreeCode.{coded_tree};
+    ghost use Rattle.sp_order.specs.TreeEncoding.{coded_tree};
     ghost use Rattle.sp_order.specs.Preorder.{tree_told};
     ghost use Rattle.sp_order.specs.Listing.{AreListsOf, lists_in};
 

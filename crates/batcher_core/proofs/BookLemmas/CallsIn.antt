@@ -4,7 +4,7 @@ use Rattle.seq_objects.specs.declared.act.Act.{Act}
 use Rattle.seq_objects.specs.declared.act.Act.TheVariants.{Work}
 use Rattle.sp_order.specs.Precedence.{Tree, leaf, seq, par, leaves}
 use Rattle.sp_order.specs.Preorder.{nodes_of}
-use Rattle.sp_order.specs.Stands.{node_count, IsPlanOf}
+use Rattle.sp_order.specs.PlanOf.{node_count, IsPlanOf}
 use Rattle.batcher_core.specs.State.{core_job}
 use Rattle.batcher_core.specs.Operations.{op_in, IsCall}
 

@@ -7,7 +7,7 @@ use Rattle.sp_order.specs.declared.node.Move.{Move}
 use Rattle.sp_order.specs.declared.node.Move.TheVariants.{Root, OpenSecond, FinishParent, Arrive}
 use Rattle.sp_order.specs.Precedence.{Tree, leaf, seq, par, leaves}
 use Rattle.sp_order.specs.Plans.{Nodes}
-use Rattle.sp_order.specs.Stands.{node_count, Stands, IsPlanOf}
+use Rattle.sp_order.specs.PlanOf.{node_count, OccursAt, IsPlanOf}
 use Rattle.batcher_core.specs.Looks.{LeafIn}
 
 -- the nodes of a tree that stands at a node hold leaves below a number
@@ -27,7 +27,7 @@ both_below plan node mid past low most kind is other le left right n u a b e = e
     same_some : (x y : Kind) → Some x ≡ Some y → x ≡ y
     same_some x y f = cc
 
-stands_below : (plan : Nodes) (tree : Tree) (node first : ℕ) (after : Move) → Stands plan tree node first after → Below plan node (node + node_count tree) (first + leaves tree)
+stands_below : (plan : Nodes) (tree : Tree) (node first : ℕ) (after : Move) → OccursAt plan tree node first after → Below plan node (node + node_count tree) (first + leaves tree)
 stands_below plan leaf node first after h n u a b e =
     let same : n ≡ node = omega (arith, a, b) in
     let k = rw (same, h.0) at e in let f : first ≡ u = cc in omega (arith, f)

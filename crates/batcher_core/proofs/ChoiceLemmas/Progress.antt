@@ -6,7 +6,7 @@ use Rattle.sp_order.specs.declared.node.Move.{Move}
 use Rattle.sp_order.specs.declared.node.Move.TheVariants.{Root, OpenSecond, FinishParent, Arrive as ArriveAt}
 use Rattle.sp_order.specs.Precedence.{Tree, leaf, seq, par, leaves}
 use Rattle.sp_order.specs.Plans.{Nodes, IsPlan}
-use Rattle.sp_order.specs.Stands.{node_count, Stands, IsPlanOf}
+use Rattle.sp_order.specs.PlanOf.{node_count, OccursAt, IsPlanOf}
 use Rattle.batch_history.specs.declared.batch.Entry.{Entry}
 use Rattle.batcher_core.specs.declared.state.progress.Progress.{Progress}
 use Rattle.batcher_core.specs.declared.state.progress.Progress.TheVariants.{Waiting, Ready, Taken}
@@ -44,7 +44,7 @@ both_passed a b o q e f g h l = grind arith
 
 -- where no task names a node, a ready node stands below each taken one
 module _ (plan : Nodes) (node : ℕ → Progress) (mark : ℕ → ℕ) (task : ℕ → Task) (holder : ℕ → Option ℕ) (h : TasksKept plan node mark task holder) (idle : (n : ℕ) → holder n ≡ None) where
-  find_ready : (a : Tree) (n u : ℕ) (m : Move) → Stands plan a n u m → (node n ≡ Ready) ⊎ (node n ≡ Taken) → (k : ℕ) × (node k ≡ Ready)
+  find_ready : (a : Tree) (n u : ℕ) (m : Move) → OccursAt plan a n u m → (node n ≡ Ready) ⊎ (node n ≡ Taken) → (k : ℕ) × (node k ≡ Ready)
   find_ready a n u m st (inl ready) = (n, ready)
   find_ready leaf n u m st (inr taken) =
       let alone : LeftAlone (Some (LeafNode u)) node mark holder n = rw st.0 at (h.alone n taken (idle n)) in

@@ -3,7 +3,7 @@ use Rattle.std.proofs.Common.{ℕ, ◌≡◌, ◌<◌, ◌≤◌, Option, Some, 
 use Rattle.seq_objects.specs.declared.act.Act.{Act}
 use Rattle.sp_order.specs.Precedence.{Tree, leaf_count}
 use Rattle.sp_order.specs.Plans.{IsPlan}
-use Rattle.sp_order.specs.Stands.{IsPlanOf}
+use Rattle.sp_order.specs.PlanOf.{IsPlanOf}
 use Rattle.sp_order.specs.Preorder.{nodes_of}
 use Rattle.batcher_core.specs.declared.state.Table.{Table}
 use Rattle.batcher_core.specs.State.{State, core_job, opening_state, opening_core}

@@ -310,7 +310,7 @@ module _ (plan : Nodes) (workers : ℕ) (node : ℕ → Progress) (mark : ℕ �
     start_drawn = λ n w s e is. started_draw n w s (known n w s e is).0;
     end_drawn = λ n w s e is.
         let ends = (known n w s (Some e) is).1 e refl in
-        let at = ended_draw n w s e ends in (at.0, at.1, ticks.upright n w s e ends);
+        let at = ended_draw n w s e ends in (at.0, at.1, ticks.starts_first n w s e ends);
     start_at = λ t n low is. let a = ticks.each t low in start_told t n a.0 a.1 (sym (draw_is t a.0 a.1) ∙ is);
     end_at = λ t n low is. let a = ticks.each t low in end_told t n a.0 a.1 (sym (draw_is t a.0 a.1) ∙ is);
     workers_below = λ n w s e is. start_worker n w s (known n w s e is).0;

@@ -168,7 +168,7 @@ module _ (plan : Nodes) (workers : ℕ) (node : ℕ → Progress) (mark : ℕ �
     distinct = λ a b t i j. (drawn_is a t i).0 ∙ sym (drawn_is b t j).0;
     only = λ a t i. (drawn_is a t i).1;
     each = λ t low. drawn_for t (h.draw t) refl low;
-    upright = λ n w s e ends. (h.end_drawn n w s e (stamped_end n w s e ends)).2;
+    starts_first = λ n w s e ends. (h.end_drawn n w s e (stamped_end n w s e ends)).2;
     among = λ n w s e ran. h.workers_below n w s (Some e) (rw ran refl);
     in_order = λ n m w s leaf leaf' before starts.
         let at = stamped m w s starts in

@@ -3,7 +3,7 @@ use Rattle.std.proofs.Common.{◌≢◌, ◌<◌, ℕ, None, sym, subst}
 use Rattle.sp_order.specs.declared.node.Move.TheVariants.{Root}
 use Rattle.sp_order.specs.Precedence.{Tree, leaf, seq, par}
 use Rattle.sp_order.specs.Plans.{Nodes, IsPlan}
-use Rattle.sp_order.specs.Stands.{Stands, IsPlanOf}
+use Rattle.sp_order.specs.PlanOf.{OccursAt, IsPlanOf}
 use Rattle.batcher_core.specs.State.{CoreJob, CoreState, opening_core}
 use Rattle.batcher_core.specs.Events.{EventKind, IsCoreEvent}
 use Rattle.batcher_core.specs.Invariant.{Invariant}
@@ -16,7 +16,7 @@ use Rattle.batcher_core.proofs.Inductive.PartsHold.{parts_stand}
 use Rattle.batcher_core.proofs.InvariantLemmas.ReadyLists.{opening_lists, lists_after, lists_fit}
 
 -- a tree that stands has a root
-has_top : (plan : Nodes) (tree : Tree) → Stands plan tree 0 0 Root → plan.kind 0 ≢ None
+has_top : (plan : Nodes) (tree : Tree) → OccursAt plan tree 0 0 Root → plan.kind 0 ≢ None
 has_top plan leaf h none = let e = h.0 in cc
 has_top plan (seq a b) h none = let e = h.0 in cc
 has_top plan (par a b) h none = let e = h.0 in cc

@@ -3,7 +3,7 @@ use Rattle.std.proofs.Common.{ℕ, ◌≡◌, ◌≢◌, ◌<◌, true, None, So
 use Rattle.sp_order.specs.declared.node.Kind.TheVariants.{LeafNode}
 use Rattle.sp_order.specs.Precedence.{Tree, leaves}
 use Rattle.sp_order.specs.Plans.{IsPlan}
-use Rattle.sp_order.specs.Stands.{IsPlanOf}
+use Rattle.sp_order.specs.PlanOf.{IsPlanOf}
 use Rattle.batcher_core.specs.declared.state.progress.Progress.{Progress}
 use Rattle.batcher_core.specs.declared.state.progress.Progress.TheVariants.{Waiting, Ready, Taken, Done, Ran}
 use Rattle.batcher_core.specs.declared.state.task.Task.TheVariants.{Idle}

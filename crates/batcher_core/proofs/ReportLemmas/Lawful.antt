@@ -20,7 +20,7 @@ use Rattle.batcher_core.specs.Operations.{op_in}
 use Rattle.batcher_core.specs.Reports.{IsRowOf, IsReportOf}
 use Rattle.batcher_core.proofs.BookLemmas.EntryLists.{each_so, each_at, each_mapped}
 use Rattle.batcher_core.proofs.ReportLemmas.EndedRuns.{IsEnded}
-use Rattle.batcher_core.proofs.ReportLemmas.RowTicks.{row_upright, ticks_each_once}
+use Rattle.batcher_core.proofs.ReportLemmas.RowTicks.{row_starts_first, ticks_each_once}
 use Rattle.batcher_core.proofs.ReportLemmas.RowOrder.{IsRowAt, row_at, before_ended, alone_ended}
 use Rattle.batcher_core.proofs.ReportLemmas.RowCalls.{act_at, contained, calls, call_in, worker_is, entry_earlier, work_valued, call_valued}
 
@@ -51,7 +51,7 @@ module _ (tree : Tree) (acts : List Act) (workers : ℕ) (s : State) (report : R
     leaves = r.leaves;
     among = each_so (IsRowOf job s) (λ row. row.worker < workers)
         (λ row is. h.parts.ticks.among ((nodes_of tree).node_of row.leaf) row.worker row.start row.end is.ran) report.rows r.rows;
-    upright = each_so (IsRowOf job s) (λ row. row.start < row.end) (row_upright job (leaves tree) s h) report.rows r.rows;
+    starts_first = each_so (IsRowOf job s) (λ row. row.start < row.end) (row_starts_first job (leaves tree) s h) report.rows r.rows;
     ticks = ticks_each_once job (leaves tree) s h report.rows r.leaves r.rows;
   }
 

@@ -49,8 +49,8 @@ module _ (job : CoreJob) (total : ℕ) (s : State) (h : IsEnded job total s) whe
   same_leaf u v t low low' (inr a) (inr b) = one_leaf u v low low' (let e = h.parts.ticks.distinct (end_of (job.plan.node_of u)) (end_of (job.plan.node_of v)) t a b in cc)
 
   -- a row starts before it ends
-  pub row_upright : (row : Row) → IsRowOf job s row → row.start < row.end
-  row_upright row is = h.parts.ticks.upright (job.plan.node_of row.leaf) row.worker row.start row.end (inl is.ran)
+  pub row_starts_first : (row : Row) → IsRowOf job s row → row.start < row.end
+  row_starts_first row is = h.parts.ticks.starts_first (job.plan.node_of row.leaf) row.worker row.start row.end (inl is.ran)
 
   -- its start is a tick of its leaf
   row_starts : (row : Row) (leaf : ℕ) → row.leaf ≡ leaf → IsRowOf job s row → IsTick leaf row.start
@@ -86,9 +86,9 @@ module _ (job : CoreJob) (total : ℕ) (s : State) (h : IsEnded job total s) whe
       let leaf : row.leaf ≡ first = cc in
       let low : first < total = omega (arith, sum) in
       let more : AllByRecursion (IsTickFrom (first + 1)) (ticks_of rows) = ticks_from rows (first + 1) count (omega (arith, sum)) (cc) each.1 in
-      let upright = row_upright row each.0 in (
+      let starts_first = row_starts_first row each.0 in (
         (
-          (λ e. omega (arith, upright, e)),
+          (λ e. omega (arith, starts_first, e)),
           each_so (IsTickFrom (first + 1)) (λ u. row.start ≢ u) (λ u is. other_tick (first + 1) first row.start u (omega arith) low (row_starts row first leaf each.0) is) (ticks_of rows) more,
         ),
         (

@@ -7,7 +7,7 @@ use Rattle.std.proofs.lemmas.Option.{same_Some}
 use Rattle.std.proofs.Math.Nat.{add-mod_right, mod-add-mod, mod-eq_of_lt, mul-le-mul_right}
 use Rattle.sp_order.specs.Precedence.{Tree}
 use Rattle.sp_order.specs.Plans.{IsPlan}
-use Rattle.sp_order.specs.Stands.{IsPlanOf}
+use Rattle.sp_order.specs.PlanOf.{IsPlanOf}
 use Rattle.sp_order.specs.Preorder.{nodes_of}
 use Rattle.batcher_core.specs.declared.event.Event.{Event}
 use Rattle.batcher_core.specs.State.{CoreJob, CoreState}

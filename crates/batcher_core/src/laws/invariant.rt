@@ -9,7 +9,7 @@ ghost use Rattle.sp_order.specs.declared.node.Kind.TheVariants.{SeqNode, ParNode
 ghost use Rattle.sp_order.specs.declared.node.Move.TheVariants.{OpenSecond, FinishParent, Arrive};
 ghost use Rattle.sp_order.specs.Precedence.{Tree, leaf, leaves, IsBefore};
 ghost use Rattle.sp_order.specs.Plans.{Nodes, IsPlan, IsSide};
-ghost use Rattle.sp_order.specs.Stands.{IsPlanOf};
+ghost use Rattle.sp_order.specs.PlanOf.{IsPlanOf};
 ghost use Rattle.batcher_core.specs.declared.state.progress.Progress.TheVariants.{Ran};
 ghost use Rattle.batcher_core.specs.declared.event.Event.{Event};
 ghost use Rattle.batcher_core.specs.State.{CoreJob, State, CoreState, opening_state, opening_core, core_job};

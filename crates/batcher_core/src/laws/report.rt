@@ -2,7 +2,7 @@
 ghost use Rattle.std.specs.Prelude.{◌≡◌, ◌≢◌, ℕ, ◌<◌, true, None, Some, List, length};
 ghost use Rattle.seq_objects.specs.declared.act.Act.{Act};
 ghost use Rattle.sp_order.specs.Precedence.{Tree, leaves};
-ghost use Rattle.sp_order.specs.Stands.{IsPlanOf};
+ghost use Rattle.sp_order.specs.PlanOf.{IsPlanOf};
 ghost use Rattle.batch_history.specs.Lawful.{Lawful};
 ghost use Rattle.batch_history.specs.declared.report.Report.{Report};
 ghost use Rattle.batcher_core.specs.declared.state.task.Task.TheVariants.{Idle};

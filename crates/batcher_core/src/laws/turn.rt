@@ -6,7 +6,7 @@ ghost use Rattle.sp_order.specs.Precedence.{Tree, leaf};
 ghost use Rattle.sp_order.specs.declared.node.Kind.TheVariants.{ParNode};
 ghost use Rattle.sp_order.specs.Plans.{IsPlan, IsSide};
 ghost use Rattle.batcher_core.specs.declared.state.task.Task.TheVariants.{Idle, Whole};
-ghost use Rattle.sp_order.specs.Stands.{IsPlanOf};
+ghost use Rattle.sp_order.specs.PlanOf.{IsPlanOf};
 ghost use Rattle.batcher_core.specs.declared.state.progress.Progress.TheVariants.{Ran};
 ghost use Rattle.batcher_core.specs.declared.event.Event.{Event};
 ghost use Rattle.batcher_core.specs.declared.event.Event.TheVariants.{Claim};

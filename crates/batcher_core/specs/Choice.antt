@@ -1,26 +1,26 @@
 -- The choice of a worker's turn: the event that it makes, or none. In each function the first line that fits decides.
-use Rattle.std.specs.Prelude.{ℕ, zero, suc, ◌≡◌, ◌⊎◌, ◌+◌, ◌-◌, ◌%◌, ◌==◌, ◌&&◌, ◌||◌, not, nat_lt, Bool, false, if◌then◌else◌, Option, None, Some, List, [], ◌∷◌, ◌++◌}
-use Rattle.seq_objects.specs.Objects.{value_of}
+use Rattle.batcher_core.specs.Lists.{ready_after}
+use Rattle.batcher_core.specs.Operations.{Place, leaf_of, place_of, receipt_for}
+use Rattle.batcher_core.specs.State.{CoreJob, CoreState, Hold, State, put}
+use Rattle.batcher_core.specs.Tasks.{names}
+use Rattle.batcher_core.specs.declared.event.Event.{Event}
+use Rattle.batcher_core.specs.declared.event.Event.TheVariants.{Answer, ArriveFirst, ArriveSecond, Claim, End, FinishLeaf, FinishPar, FinishSeq, Keep, Leave, OpenParLeft, OpenParRight, OpenSeqLeft, OpenSeqRight, Post, Publish, Release, Start, Take, Win}
+use Rattle.batcher_core.specs.declared.state.status.CallState.{CallState}
+use Rattle.batcher_core.specs.declared.state.status.CallState.TheVariants.{Got, NotCalled, Out}
+use Rattle.batcher_core.specs.declared.state.status.Status.{Status}
+use Rattle.batcher_core.specs.declared.state.status.Status.TheVariants.{Executing, Free, Pending, Served}
+use Rattle.batcher_core.specs.declared.state.task.Task.{Task}
+use Rattle.batcher_core.specs.declared.state.task.Task.TheVariants.{Ended, Half, Handed, Idle, Kept, Run, Started, Whole}
+use Rattle.seq_objects.specs.Objects.{after, value_of}
 use Rattle.seq_objects.specs.Spin.{spin_of}
 use Rattle.seq_objects.specs.declared.act.Act.{Act}
-use Rattle.seq_objects.specs.declared.act.Act.TheVariants.{Work, Call}
-use Rattle.sp_order.specs.declared.node.Kind.{Kind}
-use Rattle.sp_order.specs.declared.node.Kind.TheVariants.{LeafNode, SeqNode, ParNode}
-use Rattle.sp_order.specs.declared.node.Move.{Move}
-use Rattle.sp_order.specs.declared.node.Move.TheVariants.{Root, OpenSecond, FinishParent, Arrive as ArriveAt}
+use Rattle.seq_objects.specs.declared.act.Act.TheVariants.{Call, Work}
 use Rattle.sp_order.specs.Plans.{Nodes}
-use Rattle.batcher_core.specs.declared.state.task.Task.{Task}
-use Rattle.batcher_core.specs.declared.state.task.Task.TheVariants.{Idle, Run, Half, Started, Kept, Ended, Whole, Handed}
-use Rattle.batcher_core.specs.declared.state.status.Status.{Status}
-use Rattle.batcher_core.specs.declared.state.status.Status.TheVariants.{Free, Pending, Executing, Served}
-use Rattle.batcher_core.specs.declared.state.status.CallState.{CallState}
-use Rattle.batcher_core.specs.declared.state.status.CallState.TheVariants.{NotCalled, Out, Got}
-use Rattle.batcher_core.specs.declared.event.Event.{Event}
-use Rattle.batcher_core.specs.declared.event.Event.TheVariants.{Claim, Start, OpenParRight, OpenParLeft, OpenSeqLeft, OpenSeqRight, Post, Win, Take, Publish, Answer, Release, Leave, Keep, End, FinishLeaf, FinishSeq, FinishPar, ArriveFirst, ArriveSecond}
-use Rattle.batcher_core.specs.State.{put, CoreJob, Hold, State, CoreState}
-use Rattle.batcher_core.specs.Operations.{leaf_of, Place, place_of, receipt_for}
-use Rattle.batcher_core.specs.Tasks.{names}
-use Rattle.batcher_core.specs.Lists.{ready_after}
+use Rattle.sp_order.specs.declared.node.Kind.{Kind}
+use Rattle.sp_order.specs.declared.node.Kind.TheVariants.{LeafNode, ParNode, SeqNode}
+use Rattle.sp_order.specs.declared.node.Move.{Move}
+use Rattle.sp_order.specs.declared.node.Move.TheVariants.{Arrive as ArriveAt, FinishParent, OpenSecond, Root}
+use Rattle.std.specs.Prelude.{Bool, List, None, Option, Some, [], false, if◌then◌else◌, nat_lt, not, suc, zero, ℕ, ◌%◌, ◌&&◌, ◌++◌, ◌+◌, ◌-◌, ◌==◌, ◌||◌, ◌∷◌, ◌≡◌, ◌⊎◌}
 
 -- some number below the bound is chosen
 unfoldable pub some_below : (ℕ → Bool) → ℕ → Bool

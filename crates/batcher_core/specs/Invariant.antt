@@ -1,12 +1,27 @@
 -- The invariant: what holds in each state that can be reached.
-use Rattle.std.specs.Prelude.{ℕ, ◌≡◌, ◌≤◌}
-use Rattle.batcher_core.specs.declared.state.task.Task.TheVariants.{Idle}
-use Rattle.batcher_core.specs.declared.state.status.Status.TheVariants.{Free}
+use Rattle.batcher_core.specs.Invariant.Book.{BookStands}
+use Rattle.batcher_core.specs.Invariant.Hold.{HoldStands}
+use Rattle.batcher_core.specs.Invariant.Membership.{MembersStand}
+use Rattle.batcher_core.specs.Invariant.Nodes.{NodesStand}
+use Rattle.batcher_core.specs.Invariant.ReadyLists.{ListsFit}
+use Rattle.batcher_core.specs.Invariant.Statuses.{StatusesStand}
+use Rattle.batcher_core.specs.Invariant.Tasks.{TasksStand}
+use Rattle.batcher_core.specs.Invariant.Ticks.{TicksStand}
+use Rattle.batcher_core.specs.Invariant.Values.{ValuesStand}
+use Rattle.batcher_core.specs.State.{CoreJob, CoreState, State}
 use Rattle.batcher_core.specs.declared.state.status.CallState.TheVariants.{NotCalled}
-use Rattle.batcher_core.specs.State.{CoreJob, State, CoreState}
-use Rattle.batcher_core.specs.Lists.{ListsFit}
-use Rattle.batcher_core.specs.JobParts.{NodesStand, TasksStand, TicksStand, ValuesStand}
-use Rattle.batcher_core.specs.GateParts.{StatusesStand, HoldStands, BookStands, MembersStand}
+use Rattle.batcher_core.specs.declared.state.status.Status.TheVariants.{Free}
+use Rattle.batcher_core.specs.declared.state.task.Task.TheVariants.{Idle}
+use Rattle.std.specs.Prelude.{ℕ, ◌-◌, ◌≡◌, ◌≤◌}
+pub mod Nodes
+pub mod Tasks
+pub mod Ticks
+pub mod Statuses
+pub mod Hold
+pub mod Book
+pub mod Membership
+pub mod Values
+pub mod ReadyLists
 
 -- the eight parts, which do not look at the lists of ready nodes
 pub record Parts (job : CoreJob) (s : State) : Type 0 where

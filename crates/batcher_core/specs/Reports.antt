@@ -1,15 +1,15 @@
 -- The report of a state: a row for each leaf, with what the state has of its node, and the book.
-use Rattle.std.specs.Prelude.{ℕ, ◌≡◌, Option, None, Some, List, [], map}
-use Rattle.std.specs.List.{AllByRecursion, range_with_len}
-use Rattle.seq_objects.specs.declared.act.Act.{Act}
-use Rattle.sp_order.specs.Precedence.{Tree, leaves}
-use Rattle.sp_order.specs.Jobs.{JobValue}
-use Rattle.batch_history.specs.declared.row.Row.{Row}
 use Rattle.batch_history.specs.declared.report.Report.{Report}
+use Rattle.batch_history.specs.declared.row.Row.{Row}
+use Rattle.batcher_core.specs.Runs.{Drives}
+use Rattle.batcher_core.specs.State.{CoreJob, CoreState, State, core_job, opening_core}
 use Rattle.batcher_core.specs.declared.state.progress.Progress.{Progress}
 use Rattle.batcher_core.specs.declared.state.progress.Progress.TheVariants.{Ran}
-use Rattle.batcher_core.specs.State.{CoreJob, State, CoreState, core_job, opening_core}
-use Rattle.batcher_core.specs.Runs.{Drives}
+use Rattle.seq_objects.specs.declared.act.Act.{Act}
+use Rattle.sp_order.specs.Jobs.{JobValue}
+use Rattle.sp_order.specs.Precedence.{Tree, leaves}
+use Rattle.std.specs.List.{AllByRecursion, range_with_len}
+use Rattle.std.specs.Prelude.{List, None, Option, Some, [], map, ℕ, ◌-◌, ◌≡◌}
 
 -- a leaf has run that has come so far
 abbrev pub HasRun : Progress → Type 0

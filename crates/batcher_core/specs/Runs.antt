@@ -1,11 +1,11 @@
 -- The states that a core can reach, the runs that reach them, and the run of a schedule.
-use Rattle.std.specs.Prelude.{ℕ, ◌≡◌, ◌+◌, ◌%◌, true, false, Option, None, Some, List, [], ◌∷◌}
-use Rattle.batcher_core.specs.declared.event.Event.{Event}
+use Rattle.batcher_core.specs.Choice.{choice}
+use Rattle.batcher_core.specs.Events.{EventKind, Happens, IsCoreEvent}
+use Rattle.batcher_core.specs.Lists.{ready_after}
 use Rattle.batcher_core.specs.State.{CoreJob, CoreState, opening_core}
 use Rattle.batcher_core.specs.Tasks.{is_done}
-use Rattle.batcher_core.specs.Lists.{ready_after}
-use Rattle.batcher_core.specs.Events.{EventKind, IsCoreEvent, Happens}
-use Rattle.batcher_core.specs.Choice.{choice}
+use Rattle.batcher_core.specs.declared.event.Event.{Event}
+use Rattle.std.specs.Prelude.{List, None, Option, Some, [], false, true, ℕ, ◌%◌, ◌+◌, ◌-◌, ◌∷◌, ◌≡◌}
 
 -- the opening state, and each that an event takes a reached state to
 pub data IsReached (job : CoreJob) : CoreState → Type 0 where

@@ -4,10 +4,10 @@ ghost use Rattle.sp_order.specs.Preorder.{nodes_of};
 ghost use Rattle.batcher_core.specs.State.{core_job};
 ghost use Rattle.batcher_core.specs.Events.{Needs, Does};
 ghost use Rattle.batcher_core.specs.Ranges.{IsInRange};
-ghost use Rattle.batcher_core.specs.Shown.{state_of, ready_of, SameSizes, IsAtEnd};
+ghost use Rattle.batcher_core.specs.Code.Abstraction.{state_of, ready_of, SameSizes, IsAtEnd};
 ghost use Rattle.batcher_core.specs.Lists.{ready_after};
 ghost use Rattle.batcher_core.specs.declared.event.Event.TheVariants.{Claim};
-ghost use Rattle.batcher_core.specs.Cores.{Fits};
+ghost use Rattle.batcher_core.specs.Code.Core.{Fits};
 
 mod gate;
 pub(crate) mod gather;

@@ -4,8 +4,8 @@ ghost use Rattle.sp_order.specs.Preorder.{nodes_of};
 ghost use Rattle.batcher_core.specs.State.{core_job};
 ghost use Rattle.batcher_core.specs.Operations.{leaf_of, IsLeaf};
 ghost use Rattle.batcher_core.specs.Choice.{choice, choice_by, choice_free, choice_run, choice_half, choice_started, choice_second, choice_parent, choice_arrive, choice_handed};
-ghost use Rattle.batcher_core.specs.Shown.{state_of, queues, shown, FilledFits};
-ghost use Rattle.batcher_core.specs.Looks.{Looks, MoveIn, LeafIn, claim_choice, whole_choice, work_due, steps_of as act_steps};
+ghost use Rattle.batcher_core.specs.Code.Abstraction.{state_of, queues, shown, FilledFits};
+ghost use Rattle.batcher_core.specs.Code.Lookups.{Looks, MoveIn, LeafIn, claim_choice, whole_choice, work_due, steps_of as act_steps};
 ghost use Rattle.seq_objects.specs.Spin.{spin_of};
 ghost use Rattle.seq_objects.specs.declared.act.Act.TheVariants.{Work};
 
@@ -192,7 +192,7 @@ impl Table {
     }
 
     /// With a node in hand that is done, by what is to be done then.
-    #[tactic(auto, unfolding(crate::specs::Shown::state_of))]
+    #[tactic(auto, unfolding(crate::specs::Code::Abstraction::state_of))]
     pub(crate) fn choose_whole(&self, plan: &Plan, node: u32) -> Option<Event>
         requires node_in { node < (nodes_of plan.now).count }
         requires marks_in { length self.now.marks.items ≡ (nodes_of plan.now).count }
@@ -210,7 +210,7 @@ impl Table {
     }
 
     /// How many steps of work the leaf has that the worker has started, if it has started one that works.
-    #[tactic(auto, unfolding(crate::specs::Shown::state_of))]
+    #[tactic(auto, unfolding(crate::specs::Code::Abstraction::state_of))]
     pub(crate) fn work_due(
         &self,
         plan: &Plan,
@@ -233,7 +233,7 @@ impl Table {
 
     /// The event that the task of a worker allows that is not trapped. The value is that of the work that is due, if
     /// some is.
-    #[tactic(auto, unfolding(crate::specs::Shown::state_of, crate::specs::Shown::ready_of))]
+    #[tactic(auto, unfolding(crate::specs::Code::Abstraction::state_of, crate::specs::Code::Abstraction::ready_of))]
     pub(crate) fn choose_free(
         &self,
         plan: &Plan,
@@ -263,7 +263,7 @@ impl Table {
     }
 
     /// The event of a worker that does not have the flag, by its status.
-    #[tactic(auto, unfolding(crate::specs::Shown::state_of))]
+    #[tactic(auto, unfolding(crate::specs::Code::Abstraction::state_of))]
     fn choose_by_status(
         &self,
         plan: &Plan,
@@ -286,7 +286,7 @@ impl Table {
     }
 
     /// The event of a worker's turn, if it has one.
-    #[tactic(auto, unfolding(crate::specs::Shown::state_of))]
+    #[tactic(auto, unfolding(crate::specs::Code::Abstraction::state_of))]
     pub(crate) fn choose(
         &self,
         plan: &Plan,

@@ -8,7 +8,7 @@ ghost use Rattle.sp_order.specs.Precedence.{leaves};
 ghost use Rattle.batch_history.specs.Lawful.{Lawful};
 ghost use Rattle.batcher_core.specs.Invariant.{Invariant};
 ghost use Rattle.batcher_core.specs.Reports.{IsReportOf};
-ghost use Rattle.batcher_core.specs.Cores.{job_in, state_in, due_in, turn_due, is_over_in, Makes, Fits};
+ghost use Rattle.batcher_core.specs.Code.Core.{job_in, state_in, due_in, turn_due, is_over_in, Makes, Fits};
 
 use crate::event::Event;
 use crate::laws::report::{done_leaves_have_run, done_report_is_lawful};
@@ -38,7 +38,7 @@ impl Model for Core {
     ghost use Rattle.std.specs.Prelude.{◌≡◌, ◌<◌, false};
     ghost use Rattle.std.specs.Coded.{codes};
     ghost use Rattle.sp_order.specs.TreeEncoding.{coded_tree};
-    ghost use Rattle.batcher_core.specs.Cores.{Seen, Fits};
+    ghost use Rattle.batcher_core.specs.Code.Core.{Seen, Fits};
 
     ghost Value = { Seen };
 

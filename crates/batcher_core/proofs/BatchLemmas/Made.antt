@@ -15,10 +15,11 @@ use Rattle.batcher_core.specs.declared.state.status.Status.TheVariants.{Executin
 use Rattle.batcher_core.specs.declared.state.status.CallState.{CallState}
 use Rattle.batcher_core.specs.State.{CoreJob, Hold, State}
 use Rattle.batcher_core.specs.Events.{has_taken, IsTakenCall, IsBatchOf}
-use Rattle.batcher_core.specs.GateParts.{IsAtCall, is_taken_by, HoldStands}
+use Rattle.batcher_core.specs.Invariant.Statuses.{IsAtCall, is_taken_by}
+use Rattle.batcher_core.specs.Invariant.Hold.{HoldStands}
 use Rattle.batcher_core.proofs.Inductive.Book.{StatusFits}
 use Rattle.batcher_core.proofs.Inductive.Parts.{PartsKept}
-use Rattle.batcher_core.specs.Batches.{IsCallOf, AreTakenCalls, call_in, AreEntriesOf}
+use Rattle.batcher_core.specs.Code.Batches.{IsCallOf, AreTakenCalls, call_in, AreEntriesOf}
 use Rattle.batcher_core.proofs.BookLemmas.EntryLists.{each_so, each_mapped}
 use Rattle.batcher_core.proofs.InvariantLemmas.BatchFacts.{executing}
 use Rattle.batcher_core.proofs.BookLemmas.Room.{distinct_few}

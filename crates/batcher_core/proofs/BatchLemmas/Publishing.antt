@@ -10,10 +10,10 @@ use Rattle.batcher_core.specs.declared.state.hold.Hold.{Hold as HoldTable}
 use Rattle.batcher_core.specs.declared.state.Table.{Table}
 use Rattle.batcher_core.specs.State.{Hold, core_job}
 use Rattle.batcher_core.specs.Events.{Needs, IsBatchOf}
-use Rattle.batcher_core.specs.GateParts.{IsAtCall}
-use Rattle.batcher_core.specs.Batches.{AreTakenCalls, AreEntriesOf}
-use Rattle.batcher_core.specs.Shown.{at, shown_hold, hold_of, state_of, CounterFits}
-use Rattle.batcher_core.specs.Cores.{Fits}
+use Rattle.batcher_core.specs.Invariant.Statuses.{IsAtCall}
+use Rattle.batcher_core.specs.Code.Batches.{AreTakenCalls, AreEntriesOf}
+use Rattle.batcher_core.specs.Code.Abstraction.{at, shown_hold, hold_of, state_of, CounterFits}
+use Rattle.batcher_core.specs.Code.Core.{Fits}
 use Rattle.batcher_core.proofs.BookLemmas.Room.{counter_room}
 use Rattle.batcher_core.proofs.BatchLemmas.Made.{taken_at_call, few_calls, batch_made}
 use Rattle.batcher_core.proofs.BatchLemmas.History.{history_made}

@@ -6,7 +6,7 @@ use Rattle.seq_objects.specs.declared.call.Call.{Call}
 use Rattle.batch_history.specs.declared.batch.Entry.{Entry}
 use Rattle.batch_history.specs.Book.{IsLegalFrom}
 use Rattle.batcher_core.specs.Serving.{served}
-use Rattle.batcher_core.specs.Batches.{call_in, AreEntriesOf}
+use Rattle.batcher_core.specs.Code.Batches.{call_in, AreEntriesOf}
 use Rattle.batcher_core.proofs.BookLemmas.Books.{served_append, legal_append}
 
 -- one more entry is that of one more call

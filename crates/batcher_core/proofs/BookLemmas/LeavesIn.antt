@@ -8,7 +8,7 @@ use Rattle.sp_order.specs.declared.node.Move.TheVariants.{Root, OpenSecond, Fini
 use Rattle.sp_order.specs.Precedence.{Tree, leaf, seq, par, leaves}
 use Rattle.sp_order.specs.Plans.{Nodes}
 use Rattle.sp_order.specs.PlanOf.{node_count, OccursAt, IsPlanOf}
-use Rattle.batcher_core.specs.Looks.{LeafIn}
+use Rattle.batcher_core.specs.Code.Lookups.{LeafIn}
 
 -- the nodes of a tree that stands at a node hold leaves below a number
 abbrev Below : Nodes → ℕ → ℕ → ℕ → Type 0

@@ -12,7 +12,7 @@ use Rattle.batch_history.specs.Book.{flat, IsBatch}
 use Rattle.batcher_core.specs.State.{CoreJob, State}
 use Rattle.batcher_core.specs.Operations.{op_in, IsCall}
 use Rattle.batcher_core.proofs.Inductive.Parts.{PartsKept}
-use Rattle.batcher_core.specs.Batches.{call_in, AreEntriesOf}
+use Rattle.batcher_core.specs.Code.Batches.{call_in, AreEntriesOf}
 use Rattle.batcher_core.proofs.BookLemmas.EntryLists.{each_so, each_mapped}
 use Rattle.batcher_core.proofs.BookLemmas.Books.{flat_append}
 use Rattle.batcher_core.proofs.CodeLemmas.TickRoom.{either, code_apart}

@@ -10,7 +10,7 @@ use Rattle.seq_objects.specs.Pairs.{AreDistinct}
 use Rattle.batch_history.specs.Book.{flat}
 use Rattle.batcher_core.specs.declared.state.status.Receipt.{Receipt}
 use Rattle.batcher_core.specs.Operations.{Place, place_in, or_else, place_of}
-use Rattle.batcher_core.specs.Batches.{receipt_at}
+use Rattle.batcher_core.specs.Code.Batches.{receipt_at}
 use Rattle.batcher_core.proofs.BookLemmas.Books.{or_else_none, place_append, found_entry, found_in_book, flat_append}
 
 -- which of the first entry and the rest is found

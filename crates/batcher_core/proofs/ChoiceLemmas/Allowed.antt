@@ -11,8 +11,8 @@ use Rattle.batcher_core.specs.State.{Hold, core_job}
 use Rattle.batcher_core.specs.Events.{Needs}
 use Rattle.batcher_core.specs.Choice.{choice}
 use Rattle.batcher_core.specs.Ranges.{IsInRange}
-use Rattle.batcher_core.specs.Shown.{state_of, ready_of, shown, hold_of, IsAtEnd}
-use Rattle.batcher_core.specs.Cores.{Fits}
+use Rattle.batcher_core.specs.Code.Abstraction.{state_of, ready_of, shown, hold_of, IsAtEnd}
+use Rattle.batcher_core.specs.Code.Core.{Fits}
 use Rattle.batcher_core.proofs.CodeLemmas.InRange.{event_in}
 use Rattle.batcher_core.proofs.CodeLemmas.TickRoom.{tick_most}
 use Rattle.batcher_core.proofs.ChoiceLemmas.ClaimEnds.{claim_ends}

@@ -8,9 +8,9 @@ use Rattle.batcher_core.specs.declared.state.status.Status.{Status}
 use Rattle.batcher_core.specs.declared.state.status.Status.TheVariants.{Free, Pending, Executing, Served}
 use Rattle.batcher_core.specs.declared.event.Event.{Event}
 use Rattle.batcher_core.specs.State.{CoreJob, Hold, State, CoreState}
-use Rattle.batcher_core.specs.Lists.{ListsFit}
+use Rattle.batcher_core.specs.Invariant.ReadyLists.{ListsFit}
 use Rattle.batcher_core.specs.Events.{Needs}
-use Rattle.batcher_core.specs.GateParts.{is_taken_by}
+use Rattle.batcher_core.specs.Invariant.Statuses.{is_taken_by}
 use Rattle.batcher_core.proofs.Inductive.Parts.{PartsKept}
 use Rattle.batcher_core.specs.Choice.{choice_holding, choice_pending, choice_free, choice_by, choice_under, choice}
 use Rattle.batcher_core.proofs.ChoiceLemmas.Search.{if_both}

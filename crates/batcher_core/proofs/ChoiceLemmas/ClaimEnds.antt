@@ -7,10 +7,11 @@ use Rattle.batcher_core.specs.declared.state.status.Status.TheVariants.{Free}
 use Rattle.batcher_core.specs.declared.event.Event.TheVariants.{Claim}
 use Rattle.std.proofs.Common.{Some}
 use Rattle.batcher_core.specs.State.{CoreJob, CoreState}
-use Rattle.batcher_core.specs.Lists.{times, ListsFit}
+use Rattle.batcher_core.specs.Lists.{times}
+use Rattle.batcher_core.specs.Invariant.ReadyLists.{ListsFit}
 use Rattle.batcher_core.proofs.Inductive.Parts.{PartsKept}
 use Rattle.batcher_core.specs.Choice.{choice, LeavesAnEnd}
-use Rattle.batcher_core.specs.Shown.{IsOldest, IsNewest, IsAtEnd}
+use Rattle.batcher_core.specs.Code.Abstraction.{IsOldest, IsNewest, IsAtEnd}
 use Rattle.batcher_core.proofs.ChoiceLemmas.Ends.{oldest_stands, newest_stands}
 use Rattle.batcher_core.proofs.ChoiceLemmas.Ready.{once_there, idle_leaves, choice_of_idle}
 

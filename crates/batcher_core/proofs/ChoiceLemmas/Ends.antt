@@ -4,7 +4,7 @@ use Rattle.std.proofs.lemmas.Grind.{common_steps}
 use Rattle.std.proofs.lemmas.Bool.Decides.{nat_tests}
 use Rattle.batcher_core.specs.Lists.{without, times}
 use Rattle.std.specs.declared.collections.VecDeque.{VecDeque}
-use Rattle.batcher_core.specs.Shown.{queues, IsOldest, IsNewest, IsAtEnd}
+use Rattle.batcher_core.specs.Code.Abstraction.{queues, IsOldest, IsNewest, IsAtEnd}
 use Rattle.batcher_core.proofs.CodeLemmas.Written.{queues_set, queues_at}
 
 pub without_none : (n : ℕ) (xs : List ℕ) → times n xs ≡ 0 → without n xs ≡ xs

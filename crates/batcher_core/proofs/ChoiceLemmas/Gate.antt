@@ -12,9 +12,11 @@ use Rattle.batcher_core.specs.declared.state.status.CallState.{CallState}
 use Rattle.batcher_core.specs.declared.event.Event.TheVariants.{Take, Publish}
 use Rattle.batcher_core.specs.State.{CoreJob, Hold, State}
 use Rattle.batcher_core.specs.Operations.{leaf_of, IsCall, Place, place_of}
-use Rattle.batcher_core.specs.Tasks.{names, TaskFits}
+use Rattle.batcher_core.specs.Tasks.{names}
+use Rattle.batcher_core.specs.Invariant.Tasks.{TaskFits}
 use Rattle.batcher_core.specs.Events.{Needs, Holds}
-use Rattle.batcher_core.specs.GateParts.{IsAtCall, is_taken_by, is_published, HoldStands}
+use Rattle.batcher_core.specs.Invariant.Statuses.{IsAtCall, is_taken_by}
+use Rattle.batcher_core.specs.Invariant.Hold.{is_published, HoldStands}
 use Rattle.batcher_core.proofs.Inductive.Book.{StatusFits, booked_by, worker_at}
 use Rattle.batcher_core.proofs.Inductive.Parts.{PartsKept}
 use Rattle.batcher_core.specs.Choice.{some_below, least_below, is_owed, leaf_named, answer_with, choice_answer, choice_holding}

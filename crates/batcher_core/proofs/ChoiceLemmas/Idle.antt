@@ -11,7 +11,8 @@ use Rattle.batcher_core.specs.declared.state.status.Receipt.{Receipt}
 use Rattle.batcher_core.specs.declared.event.Event.{Event}
 use Rattle.batcher_core.specs.declared.event.Event.TheVariants.{Claim, Start, OpenParRight, OpenParLeft, OpenSeqLeft, OpenSeqRight, Post, Win, Take, Publish, Answer, Release, Leave, Keep, End, FinishLeaf, FinishSeq, FinishPar, ArriveFirst, ArriveSecond}
 use Rattle.batcher_core.specs.State.{CoreJob, Hold, State}
-use Rattle.batcher_core.specs.Lists.{times, ListsFit}
+use Rattle.batcher_core.specs.Lists.{times}
+use Rattle.batcher_core.specs.Invariant.ReadyLists.{ListsFit}
 use Rattle.batcher_core.specs.Events.{Needs}
 use Rattle.batcher_core.specs.Choice.{oldest_or, choice_steal, last_of, choice_idle}
 use Rattle.batcher_core.proofs.ChoiceLemmas.Tasks.{Allows}

@@ -19,10 +19,11 @@ use Rattle.batcher_core.specs.declared.state.status.Receipt.{Receipt}
 use Rattle.batcher_core.specs.declared.event.Event.{Event}
 use Rattle.batcher_core.specs.declared.event.Event.TheVariants.{Claim, Win, Leave}
 use Rattle.batcher_core.specs.State.{CoreJob, Hold, State, CoreState}
-use Rattle.batcher_core.specs.Lists.{ListsFit}
+use Rattle.batcher_core.specs.Invariant.ReadyLists.{ListsFit}
 use Rattle.batcher_core.specs.Tasks.{is_done, names}
 use Rattle.batcher_core.specs.Events.{Needs}
-use Rattle.batcher_core.specs.GateParts.{is_taken_by, HoldStands}
+use Rattle.batcher_core.specs.Invariant.Statuses.{is_taken_by}
+use Rattle.batcher_core.specs.Invariant.Hold.{HoldStands}
 use Rattle.batcher_core.proofs.Inductive.Nodes.{passed_if, LeftAlone, TasksKept}
 use Rattle.batcher_core.proofs.Inductive.Book.{StatusFits}
 use Rattle.batcher_core.proofs.Inductive.Parts.{PartsKept}

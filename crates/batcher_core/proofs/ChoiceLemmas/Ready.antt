@@ -10,8 +10,10 @@ use Rattle.batcher_core.specs.declared.state.status.Status.TheVariants.{Free}
 use Rattle.batcher_core.specs.declared.event.Event.{Event}
 use Rattle.batcher_core.specs.declared.event.Event.TheVariants.{Claim}
 use Rattle.batcher_core.specs.State.{put, CoreJob, Hold, State, CoreState}
-use Rattle.batcher_core.specs.Lists.{without, times, ready_after, ListsFit}
-use Rattle.batcher_core.specs.GateParts.{is_taken_by, HoldStands}
+use Rattle.batcher_core.specs.Lists.{without, times, ready_after}
+use Rattle.batcher_core.specs.Invariant.ReadyLists.{ListsFit}
+use Rattle.batcher_core.specs.Invariant.Statuses.{is_taken_by}
+use Rattle.batcher_core.specs.Invariant.Hold.{HoldStands}
 use Rattle.batcher_core.proofs.Inductive.Parts.{PartsKept}
 use Rattle.batcher_core.specs.Choice.{oldest_or, choice_steal, last_of, choice_idle, choice_free, choice_by, choice_under, choice, LeavesAnEnd}
 use Rattle.batcher_core.proofs.ChoiceLemmas.Ends.{without_none}

@@ -1,7 +1,7 @@
 -- The search for a node to claim, list by list.
 use Rattle.std.proofs.Common.{ℕ, zero, suc, ◌≡◌, ◌<◌, ◌≤◌, ◌+◌, ◌-◌, ◌%◌, Option, Some, None, List, [], ◌∷◌, length, get_or, arith, refl, sym, ◌∙◌, true, false}
 use Rattle.batcher_core.specs.Choice.{choice_steal, oldest_or, last_of}
-use Rattle.batcher_core.specs.Looks.{claim_choice}
+use Rattle.batcher_core.specs.Code.Lookups.{claim_choice}
 use Rattle.batcher_core.specs.declared.event.Event.{Event}
 use Rattle.batcher_core.specs.declared.event.Event.TheVariants.{Claim}
 

@@ -2,7 +2,7 @@
 use Rattle.std.proofs.Common.{ℕ, zero, suc, ◌≡◌, ◌+◌, List, [], ◌∷◌, ◌++◌, length, map, replicate, arith, refl, ap}
 use Rattle.std.proofs.lemmas.Grind.{common_steps}
 use Rattle.std.specs.declared.collections.VecDeque.{VecDeque}
-use Rattle.batcher_core.specs.Shown.{at, queues}
+use Rattle.batcher_core.specs.Code.Abstraction.{at, queues}
 
 same_at : {A : Type 0} (n : ℕ) (x : A) (m : ℕ) → at (replicate n x) x m ≡ x
 same_at n x m = grind (arith, common_steps)

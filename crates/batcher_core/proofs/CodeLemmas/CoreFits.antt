@@ -12,10 +12,11 @@ use Rattle.batcher_core.specs.declared.state.task.Task.TheVariants.{Idle, Run, H
 use Rattle.batcher_core.specs.declared.state.Table.{Table}
 use Rattle.batcher_core.specs.State.{core_job}
 use Rattle.batcher_core.specs.Operations.{IsLeaf}
-use Rattle.batcher_core.specs.Tasks.{names, TaskFits}
-use Rattle.batcher_core.specs.Shown.{state_of}
-use Rattle.batcher_core.specs.Looks.{TaskIn, MoveIn, Looks}
-use Rattle.batcher_core.specs.Cores.{Fits}
+use Rattle.batcher_core.specs.Tasks.{names}
+use Rattle.batcher_core.specs.Invariant.Tasks.{TaskFits}
+use Rattle.batcher_core.specs.Code.Abstraction.{state_of}
+use Rattle.batcher_core.specs.Code.Lookups.{TaskIn, MoveIn, Looks}
+use Rattle.batcher_core.specs.Code.Core.{Fits}
 use Rattle.batcher_core.proofs.CodeLemmas.InRange.{parent_in, named_in}
 use Rattle.batcher_core.proofs.BookLemmas.Room.{book_room}
 use Rattle.batcher_core.proofs.Inductive.FromParts.{kept_parts}

@@ -5,11 +5,11 @@ use Rattle.std.proofs.lemmas.Bool.{cases_eq, cases_lt}
 use Rattle.std.proofs.lemmas.Grind.{common_steps}
 use Rattle.std.specs.declared.collections.VecDeque.{VecDeque}
 use Rattle.batcher_core.specs.State.{put}
-use Rattle.batcher_core.specs.Lists.{one_if_filled}
-use Rattle.batcher_core.specs.Fuel.{total}
+use Rattle.batcher_core.specs.Code.Abstraction.{one_if_filled}
+use Rattle.batcher_core.specs.Measure.{total}
 use Rattle.batcher_core.specs.Choice.{choice_steal}
-use Rattle.batcher_core.specs.Looks.{claim_choice}
-use Rattle.batcher_core.specs.Shown.{queues, filled_in}
+use Rattle.batcher_core.specs.Code.Lookups.{claim_choice}
+use Rattle.batcher_core.specs.Code.Abstraction.{queues, filled_in}
 use Rattle.batcher_core.proofs.CodeLemmas.Puts.{put_at, put_other}
 use Rattle.batcher_core.proofs.MeasureLemmas.Jobs.{total_change}
 use Rattle.batcher_core.proofs.MeasureLemmas.Lowers.{total_zero}

@@ -9,10 +9,12 @@ use Rattle.batcher_core.specs.declared.state.task.Task.{Task}
 use Rattle.batcher_core.specs.declared.event.Event.{Event}
 use Rattle.batcher_core.specs.declared.event.Event.TheVariants.{Claim, Start, OpenParRight, OpenParLeft, OpenSeqLeft, OpenSeqRight, Post, Win, Take, Publish, Answer, Release, Leave, Keep, End, FinishLeaf, FinishSeq, FinishPar, ArriveFirst, ArriveSecond}
 use Rattle.batcher_core.specs.State.{CoreJob, Hold, State}
-use Rattle.batcher_core.specs.Lists.{times, ListsFit}
-use Rattle.batcher_core.specs.Tasks.{names, TaskFits}
+use Rattle.batcher_core.specs.Lists.{times}
+use Rattle.batcher_core.specs.Invariant.ReadyLists.{ListsFit}
+use Rattle.batcher_core.specs.Tasks.{names}
+use Rattle.batcher_core.specs.Invariant.Tasks.{TaskFits}
 use Rattle.batcher_core.specs.Events.{Needs}
-use Rattle.batcher_core.specs.GateParts.{HoldStands}
+use Rattle.batcher_core.specs.Invariant.Hold.{HoldStands}
 use Rattle.batcher_core.proofs.Inductive.Parts.{PartsKept}
 use Rattle.batcher_core.specs.Ranges.{AreNodes, IsInRange}
 

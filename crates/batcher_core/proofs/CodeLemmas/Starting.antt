@@ -7,8 +7,8 @@ use Rattle.sp_order.specs.PlanOf.{IsPlanOf}
 use Rattle.sp_order.specs.Preorder.{nodes_of}
 use Rattle.batcher_core.specs.declared.state.Table.{Table}
 use Rattle.batcher_core.specs.State.{State, core_job, opening_state, opening_core}
-use Rattle.batcher_core.specs.Shown.{state_of, ready_of, shown, Sizes, CounterFits, FilledFits}
-use Rattle.batcher_core.specs.Cores.{Fits}
+use Rattle.batcher_core.specs.Code.Abstraction.{state_of, ready_of, shown, Sizes, CounterFits, FilledFits}
+use Rattle.batcher_core.specs.Code.Core.{Fits}
 use Rattle.batcher_core.proofs.InvariantLemmas.Reached.{has_root}
 use Rattle.batcher_core.proofs.BookLemmas.LeavesIn.{leaves_in}
 use Rattle.batcher_core.proofs.BookLemmas.CallsIn.{calls_in}

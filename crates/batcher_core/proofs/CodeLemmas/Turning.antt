@@ -10,8 +10,8 @@ use Rattle.batcher_core.specs.State.{core_job}
 use Rattle.batcher_core.specs.Lists.{ready_after}
 use Rattle.batcher_core.specs.Events.{Does, Happens}
 use Rattle.batcher_core.specs.Choice.{choice}
-use Rattle.batcher_core.specs.Shown.{state_of, ready_of, shown, Sizes, SameSizes}
-use Rattle.batcher_core.specs.Cores.{Fits, Makes}
+use Rattle.batcher_core.specs.Code.Abstraction.{state_of, ready_of, shown, Sizes, SameSizes}
+use Rattle.batcher_core.specs.Code.Core.{Fits, Makes}
 use Rattle.batcher_core.proofs.ChoiceLemmas.Choices.{none_has_no_event}
 use Rattle.batcher_core.proofs.ChoiceLemmas.Allowed.{chosen_needs}
 use Rattle.batcher_core.specs.Events.{kind_of}

@@ -20,7 +20,7 @@ use Rattle.batcher_core.specs.declared.state.status.CallState.TheVariants.{NotCa
 use Rattle.batcher_core.specs.State.{CoreJob}
 use Rattle.batcher_core.specs.Operations.{IsCall, op_of, Place, place_of}
 use Rattle.batcher_core.specs.Serving.{served}
-use Rattle.batcher_core.specs.GateParts.{IsAtCall, HasReceipt}
+use Rattle.batcher_core.specs.Invariant.Statuses.{IsAtCall, HasReceipt}
 use Rattle.batcher_core.proofs.Inductive.Ticks.{Stamp, stamp}
 
 -- the status and the call of one worker, with its task, and with whether the hold has taken its call and not answered it

@@ -21,17 +21,23 @@ use Rattle.batcher_core.specs.declared.state.status.CallState.TheVariants.{NotCa
 use Rattle.batcher_core.specs.declared.state.status.Receipt.{Receipt}
 use Rattle.sp_order.specs.Precedence.{Tree}
 use Rattle.batcher_core.specs.declared.state.Table.{Table}
-use Rattle.batcher_core.specs.Shown.{state_of}
-use Rattle.batcher_core.specs.Cores.{Fits}
+use Rattle.batcher_core.specs.Code.Abstraction.{state_of}
+use Rattle.batcher_core.specs.Code.Core.{Fits}
 use Rattle.batcher_core.specs.State.{CoreJob, State, CoreState, core_job}
 use Rattle.batcher_core.specs.Operations.{IsLeaf, op_of, Place, place_of}
-use Rattle.batcher_core.specs.Tasks.{is_done, names, TaskFits}
+use Rattle.batcher_core.specs.Tasks.{is_done, names}
+use Rattle.batcher_core.specs.Invariant.Tasks.{TaskFits}
 use Rattle.batcher_core.specs.Choice.{least_below}
 use Rattle.batcher_core.specs.declared.event.Event.{Event}
 use Rattle.batcher_core.specs.Events.{EventKind, Happens, IsCoreEvent}
-use Rattle.batcher_core.specs.Lists.{times, ListsFit}
-use Rattle.batcher_core.specs.JobParts.{NodesStand, IsNamed, IsCount, IsPassed, TasksStand, IsStartedAs, Draw, start_of, end_of, start_by, end_by, IsDrawn, HasStart, HasEnd, TicksStand, IsKept, IsValue}
-use Rattle.batcher_core.specs.GateParts.{IsAtCall, HasReceipt, is_taken_by, is_published}
+use Rattle.batcher_core.specs.Lists.{times}
+use Rattle.batcher_core.specs.Invariant.ReadyLists.{ListsFit}
+use Rattle.batcher_core.specs.Invariant.Nodes.{NodesStand}
+use Rattle.batcher_core.specs.Invariant.Tasks.{IsNamed, IsCount, IsPassed, TasksStand}
+use Rattle.batcher_core.specs.Invariant.Ticks.{IsStartedAs, Draw, start_of, end_of, start_by, end_by, IsDrawn, HasStart, HasEnd, TicksStand}
+use Rattle.batcher_core.specs.Invariant.Values.{IsKept, IsValue}
+use Rattle.batcher_core.specs.Invariant.Statuses.{IsAtCall, HasReceipt, is_taken_by}
+use Rattle.batcher_core.specs.Invariant.Hold.{is_published}
 use Rattle.batcher_core.specs.Invariant.{Parts, Invariant}
 use Rattle.batcher_core.proofs.Inductive.Nodes.{NodesKept, passed_if, LeftAlone, TasksKept}
 use Rattle.batcher_core.proofs.Inductive.Ticks.{Stamp, stamp, stamp_in_task, stamp_by, stamps, Drawn, StartOf, EndOf, StartsAt, EndsAt, TicksKept}

@@ -8,7 +8,8 @@ use Rattle.batcher_core.specs.declared.state.progress.Progress.{Progress}
 use Rattle.batcher_core.specs.declared.state.progress.Progress.TheVariants.{Waiting, Ready, Taken, Done, Ran}
 use Rattle.batcher_core.specs.declared.state.task.Task.{Task}
 use Rattle.batcher_core.specs.Operations.{IsLeaf}
-use Rattle.batcher_core.specs.Tasks.{is_done, names, TaskFits}
+use Rattle.batcher_core.specs.Tasks.{is_done, names}
+use Rattle.batcher_core.specs.Invariant.Tasks.{TaskFits}
 
 -- where a node stands against its parent and its sides
 pub record NodesKept (plan : Nodes) (node : ℕ → Progress) : Type 0 where

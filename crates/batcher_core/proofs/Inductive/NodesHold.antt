@@ -1,13 +1,15 @@
 -- What is carried of the nodes and the tasks implies what the invariant says of them.
 use Rattle.std.proofs.Common.{ℕ, ◌≡◌, ◌≢◌, ◌⊎◌, Bool, true, false, Option, Some, None, arith, refl, inl, inr}
-use Rattle.batcher_core.specs.JobParts.{NodesStand, IsNamed, IsCount, IsPassed, TasksStand}
+use Rattle.batcher_core.specs.Invariant.Nodes.{NodesStand}
+use Rattle.batcher_core.specs.Invariant.Tasks.{IsNamed, IsCount, IsPassed, TasksStand}
 use Rattle.sp_order.specs.declared.node.Kind.TheVariants.{LeafNode, SeqNode}
 use Rattle.sp_order.specs.Plans.{Nodes, IsSide, IsUnder, itself, one_below}
 use Rattle.batcher_core.specs.declared.state.progress.Progress.{Progress}
 use Rattle.batcher_core.specs.declared.state.progress.Progress.TheVariants.{Waiting, Ready, Taken}
 use Rattle.batcher_core.specs.declared.state.task.Task.{Task}
 use Rattle.batcher_core.specs.declared.state.task.Task.TheVariants.{Whole}
-use Rattle.batcher_core.specs.Tasks.{is_done, names, TaskFits}
+use Rattle.batcher_core.specs.Tasks.{is_done, names}
+use Rattle.batcher_core.specs.Invariant.Tasks.{TaskFits}
 use Rattle.batcher_core.proofs.Inductive.Nodes.{NodesKept, passed_if, LeftAlone, TasksKept}
 use Rattle.batcher_core.proofs.InvariantLemmas.TickSteps.{under_done}
 

@@ -4,7 +4,8 @@ use Rattle.sp_order.specs.declared.node.Kind.TheVariants.{LeafNode}
 use Rattle.batcher_core.specs.declared.state.task.Task.TheVariants.{Idle}
 use Rattle.batcher_core.specs.State.{CoreJob, State}
 use Rattle.batcher_core.specs.Operations.{IsCall, place_of}
-use Rattle.batcher_core.specs.GateParts.{is_taken_by, is_published, HoldStands}
+use Rattle.batcher_core.specs.Invariant.Statuses.{is_taken_by}
+use Rattle.batcher_core.specs.Invariant.Hold.{is_published, HoldStands}
 use Rattle.batcher_core.proofs.Inductive.Nodes.{NodesKept, TasksKept}
 use Rattle.batcher_core.proofs.Inductive.Ticks.{stamps, TicksKept}
 use Rattle.batcher_core.proofs.Inductive.Book.{StatusFits, BookKept, worker_at, booked_by, valued_by, value_due}

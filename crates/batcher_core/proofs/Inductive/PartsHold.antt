@@ -4,8 +4,10 @@ use Rattle.std.specs.Prelude.{Contains}
 use Rattle.std.proofs.lemmas.List.Elements.{recursion_from_All, All-contains_itself}
 use Rattle.seq_objects.specs.Objects.{value_of}
 use Rattle.seq_objects.specs.Spin.{spin_of}
-use Rattle.batcher_core.specs.JobParts.{IsKept, IsValue, ValuesStand}
-use Rattle.batcher_core.specs.GateParts.{StatusesStand, BookStands, IsBooked, MembersStand}
+use Rattle.batcher_core.specs.Invariant.Values.{IsKept, IsValue, ValuesStand}
+use Rattle.batcher_core.specs.Invariant.Statuses.{StatusesStand}
+use Rattle.batcher_core.specs.Invariant.Book.{BookStands}
+use Rattle.batcher_core.specs.Invariant.Membership.{IsBooked, MembersStand}
 use Rattle.batcher_core.specs.Invariant.{Parts}
 use Rattle.seq_objects.specs.declared.act.Act.{Act}
 use Rattle.seq_objects.specs.declared.act.Act.TheVariants.{Work, Call}
@@ -24,8 +26,10 @@ use Rattle.batcher_core.specs.declared.state.status.CallState.TheVariants.{NotCa
 use Rattle.batcher_core.specs.declared.state.status.Receipt.{Receipt}
 use Rattle.batcher_core.specs.State.{CoreJob, State}
 use Rattle.batcher_core.specs.Operations.{op_in, Place, place_of}
-use Rattle.batcher_core.specs.Tasks.{is_done, names, TaskFits}
-use Rattle.batcher_core.specs.GateParts.{IsAtCall, HasReceipt, is_taken_by, is_published}
+use Rattle.batcher_core.specs.Tasks.{is_done, names}
+use Rattle.batcher_core.specs.Invariant.Tasks.{TaskFits}
+use Rattle.batcher_core.specs.Invariant.Statuses.{IsAtCall, HasReceipt, is_taken_by}
+use Rattle.batcher_core.specs.Invariant.Hold.{is_published}
 use Rattle.batcher_core.proofs.Inductive.Nodes.{HoldersFit, TasksKept}
 use Rattle.batcher_core.proofs.Inductive.Book.{StatusFits, IsEarlier, is_booked, booked_by, worker_at, valued_by, value_due}
 use Rattle.batcher_core.proofs.Inductive.Parts.{PartsKept}

@@ -15,9 +15,11 @@ use Rattle.batcher_core.specs.declared.state.status.CallState.TheVariants.{Out}
 use Rattle.batcher_core.specs.declared.state.status.Receipt.{Receipt}
 use Rattle.batcher_core.specs.State.{CoreJob, Hold, State}
 use Rattle.batcher_core.specs.Operations.{leaf_of, op_of, Place, place_in, or_else, place_of, IsReceipt}
-use Rattle.batcher_core.specs.Tasks.{names, TaskFits}
+use Rattle.batcher_core.specs.Tasks.{names}
+use Rattle.batcher_core.specs.Invariant.Tasks.{TaskFits}
 use Rattle.batcher_core.specs.Events.{published}
-use Rattle.batcher_core.specs.GateParts.{HasReceipt, is_taken_by, HoldStands}
+use Rattle.batcher_core.specs.Invariant.Statuses.{HasReceipt, is_taken_by}
+use Rattle.batcher_core.specs.Invariant.Hold.{HoldStands}
 use Rattle.batcher_core.proofs.Inductive.Nodes.{TasksKept}
 use Rattle.batcher_core.proofs.Inductive.Ticks.{stamp, stamps}
 use Rattle.batcher_core.proofs.Inductive.Book.{StatusFits, EntryFits, IsEarlier, is_booked, booked_by, worker_at}

@@ -7,7 +7,7 @@ use Rattle.batcher_core.specs.declared.state.progress.Progress.TheVariants.{Read
 use Rattle.batcher_core.specs.declared.state.task.Task.{Task}
 use Rattle.batcher_core.specs.declared.state.task.Task.TheVariants.{Idle, Run}
 use Rattle.batcher_core.specs.State.{put}
-use Rattle.batcher_core.specs.Tasks.{TaskFits}
+use Rattle.batcher_core.specs.Invariant.Tasks.{TaskFits}
 use Rattle.batcher_core.proofs.Inductive.Nodes.{NodesKept, TasksKept}
 use Rattle.batcher_core.proofs.CodeLemmas.Puts.{put_each}
 use Rattle.batcher_core.proofs.InvariantLemmas.Holders.{take_task}

@@ -13,9 +13,10 @@ use Rattle.batcher_core.specs.declared.state.status.Status.{Status}
 use Rattle.batcher_core.specs.declared.state.status.CallState.{CallState}
 use Rattle.batcher_core.specs.declared.event.Event.TheVariants.{FinishLeaf, FinishSeq, FinishPar}
 use Rattle.batcher_core.specs.State.{put, CoreJob, State}
-use Rattle.batcher_core.specs.Tasks.{is_done, TaskFits}
+use Rattle.batcher_core.specs.Tasks.{is_done}
+use Rattle.batcher_core.specs.Invariant.Tasks.{TaskFits}
 use Rattle.batcher_core.specs.Events.{Needs, task_after}
-use Rattle.batcher_core.specs.GateParts.{is_published}
+use Rattle.batcher_core.specs.Invariant.Hold.{is_published}
 use Rattle.batcher_core.proofs.Inductive.Nodes.{HoldersFit, passed_if}
 use Rattle.batcher_core.proofs.Inductive.Ticks.{stamps}
 use Rattle.batcher_core.proofs.Inductive.Book.{booked_by, valued_by}

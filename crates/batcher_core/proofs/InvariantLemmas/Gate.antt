@@ -16,7 +16,8 @@ use Rattle.batcher_core.specs.State.{put, CoreJob, Hold, State}
 use Rattle.batcher_core.specs.Operations.{leaf_of, IsCall, place_of, IsReceipt}
 use Rattle.batcher_core.specs.Serving.{served}
 use Rattle.batcher_core.specs.Events.{Needs, is_pending, new_hold, looked, answered}
-use Rattle.batcher_core.specs.GateParts.{IsAtCall, HasReceipt, is_taken_by, is_published, HoldStands}
+use Rattle.batcher_core.specs.Invariant.Statuses.{IsAtCall, HasReceipt, is_taken_by}
+use Rattle.batcher_core.specs.Invariant.Hold.{is_published, HoldStands}
 use Rattle.batcher_core.proofs.Inductive.Book.{StatusFits, booked_by}
 use Rattle.batcher_core.proofs.Inductive.Parts.{PartsKept}
 use Rattle.batcher_core.proofs.CodeLemmas.Puts.{put_at, put_other}

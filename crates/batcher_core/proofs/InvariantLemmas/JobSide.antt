@@ -8,7 +8,8 @@ use Rattle.batcher_core.specs.declared.state.task.Task.{Task}
 use Rattle.batcher_core.specs.declared.state.status.Status.TheVariants.{Free}
 use Rattle.batcher_core.specs.State.{put, CoreJob, State}
 use Rattle.batcher_core.specs.Tasks.{is_done}
-use Rattle.batcher_core.specs.GateParts.{IsAtCall, is_published}
+use Rattle.batcher_core.specs.Invariant.Statuses.{IsAtCall}
+use Rattle.batcher_core.specs.Invariant.Hold.{is_published}
 use Rattle.batcher_core.proofs.Inductive.Nodes.{NodesKept, TasksKept}
 use Rattle.batcher_core.proofs.Inductive.Ticks.{stamps}
 use Rattle.batcher_core.proofs.Inductive.Book.{booked_by, valued_by}

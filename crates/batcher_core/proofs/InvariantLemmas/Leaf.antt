@@ -16,9 +16,10 @@ use Rattle.batcher_core.specs.declared.state.status.CallState.TheVariants.{NotCa
 use Rattle.batcher_core.specs.declared.event.Event.TheVariants.{Start, End}
 use Rattle.batcher_core.specs.State.{put, CoreJob, State}
 use Rattle.batcher_core.specs.Operations.{IsCall, Place, place_of}
-use Rattle.batcher_core.specs.Tasks.{TaskFits}
+use Rattle.batcher_core.specs.Invariant.Tasks.{TaskFits}
 use Rattle.batcher_core.specs.Events.{Needs}
-use Rattle.batcher_core.specs.GateParts.{IsAtCall, is_taken_by, is_published}
+use Rattle.batcher_core.specs.Invariant.Statuses.{IsAtCall, is_taken_by}
+use Rattle.batcher_core.specs.Invariant.Hold.{is_published}
 use Rattle.batcher_core.proofs.Inductive.Nodes.{HoldersFit}
 use Rattle.batcher_core.proofs.Inductive.Ticks.{Stamp, stamp, stamps, RanBefore, ComesBefore, TicksKept}
 use Rattle.batcher_core.proofs.Inductive.Book.{StatusFits, EntryFits, IsEarlier, BookKept, booked_by, worker_at, valued_by}

@@ -22,9 +22,11 @@ use Rattle.batcher_core.specs.declared.event.Event.TheVariants.{Publish}
 use Rattle.batcher_core.specs.State.{CoreJob, Hold, State}
 use Rattle.batcher_core.specs.Operations.{leaf_of, op_in, IsCall, op_of, Place, place_in, or_else, place_of}
 use Rattle.batcher_core.specs.Serving.{served}
-use Rattle.batcher_core.specs.Tasks.{names, TaskFits}
+use Rattle.batcher_core.specs.Tasks.{names}
+use Rattle.batcher_core.specs.Invariant.Tasks.{TaskFits}
 use Rattle.batcher_core.specs.Events.{has_taken, Needs, published, IsTakenCall, IsBatchOf}
-use Rattle.batcher_core.specs.GateParts.{is_taken_by, is_published, HoldStands}
+use Rattle.batcher_core.specs.Invariant.Statuses.{is_taken_by}
+use Rattle.batcher_core.specs.Invariant.Hold.{is_published, HoldStands}
 use Rattle.batcher_core.proofs.Inductive.Nodes.{HoldersFit}
 use Rattle.batcher_core.proofs.Inductive.Book.{StatusFits, booked_by, worker_at, valued_by, value_due}
 use Rattle.batcher_core.proofs.Inductive.Parts.{PartsKept}

@@ -1,6 +1,7 @@
 -- Each event keeps the lists of ready nodes.
 use Rattle.std.proofs.Common.{ℕ, ◌≡◌, ◌≢◌, ◌<◌, ◌+◌, ◌==◌, true, if◌then◌else◌, Option, Some, None, List, [], ◌∷◌, ◌++◌, arith, refl, subst, sym, ◌∙◌, ap}
-use Rattle.batcher_core.specs.Lists.{without, times, ready_after, ListsFit}
+use Rattle.batcher_core.specs.Lists.{without, times, ready_after}
+use Rattle.batcher_core.specs.Invariant.ReadyLists.{ListsFit}
 use Rattle.batcher_core.proofs.Inductive.Lists.{stands_in, ListsKept}
 use Rattle.batcher_core.specs.State.{opening_core}
 use Rattle.std.proofs.lemmas.Bool.Decides.{nat_tests}
@@ -13,7 +14,8 @@ use Rattle.batcher_core.specs.declared.state.task.Task.TheVariants.{Run, Half, E
 use Rattle.batcher_core.specs.declared.event.Event.{Event}
 use Rattle.batcher_core.specs.declared.event.Event.TheVariants.{Claim, Start, OpenParRight, OpenParLeft, OpenSeqLeft, OpenSeqRight, Post, Win, Take, Publish, Answer, Release, Leave, Keep, End, FinishLeaf, FinishSeq, FinishPar, ArriveFirst, ArriveSecond}
 use Rattle.batcher_core.specs.State.{put, CoreJob, State, opening_state}
-use Rattle.batcher_core.specs.Tasks.{is_done, TaskFits}
+use Rattle.batcher_core.specs.Tasks.{is_done}
+use Rattle.batcher_core.specs.Invariant.Tasks.{TaskFits}
 use Rattle.batcher_core.specs.Events.{Needs, Does}
 use Rattle.batcher_core.proofs.Inductive.Parts.{PartsKept}
 

@@ -18,9 +18,10 @@ use Rattle.batcher_core.specs.declared.state.status.Receipt.{Receipt}
 use Rattle.batcher_core.specs.declared.event.Event.TheVariants.{Keep}
 use Rattle.batcher_core.specs.State.{put, CoreJob, Hold, State}
 use Rattle.batcher_core.specs.Operations.{leaf_of, op_in, place_of}
-use Rattle.batcher_core.specs.Tasks.{TaskFits}
+use Rattle.batcher_core.specs.Invariant.Tasks.{TaskFits}
 use Rattle.batcher_core.specs.Events.{value_in, Needs}
-use Rattle.batcher_core.specs.GateParts.{is_taken_by, is_published, HoldStands}
+use Rattle.batcher_core.specs.Invariant.Statuses.{is_taken_by}
+use Rattle.batcher_core.specs.Invariant.Hold.{is_published, HoldStands}
 use Rattle.batcher_core.proofs.Inductive.Nodes.{HoldersFit}
 use Rattle.batcher_core.proofs.Inductive.Ticks.{stamps}
 use Rattle.batcher_core.proofs.Inductive.Book.{StatusFits, booked_by, valued_by, value_due}

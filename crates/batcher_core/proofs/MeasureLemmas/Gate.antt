@@ -16,11 +16,12 @@ use Rattle.batcher_core.specs.declared.state.status.Receipt.{Receipt}
 use Rattle.batcher_core.specs.declared.event.Event.TheVariants.{Post, Win, Take, Publish, Answer, Release, Leave, Keep}
 use Rattle.batcher_core.specs.State.{put, CoreJob, Hold, State}
 use Rattle.batcher_core.specs.Operations.{leaf_of, op_in}
-use Rattle.batcher_core.specs.Tasks.{TaskFits}
+use Rattle.batcher_core.specs.Invariant.Tasks.{TaskFits}
 use Rattle.batcher_core.specs.Events.{Needs, is_pending, new_hold, looked, published, answered}
-use Rattle.batcher_core.specs.GateParts.{is_taken_by, HoldStands}
+use Rattle.batcher_core.specs.Invariant.Statuses.{is_taken_by}
+use Rattle.batcher_core.specs.Invariant.Hold.{HoldStands}
 use Rattle.batcher_core.proofs.Inductive.Parts.{PartsKept}
-use Rattle.batcher_core.specs.Fuel.{total, worker_cost, task_cost, leaf_cost, status_cost, owns, hold_cost, fuel}
+use Rattle.batcher_core.specs.Measure.{total, worker_cost, task_cost, leaf_cost, status_cost, owns, hold_cost, fuel}
 use Rattle.batcher_core.proofs.CodeLemmas.Puts.{put_at, put_other}
 use Rattle.batcher_core.proofs.MeasureLemmas.Jobs.{total_change}
 use Rattle.batcher_core.proofs.InvariantLemmas.StatusRows.{taken_executing}

@@ -13,10 +13,10 @@ use Rattle.batcher_core.specs.declared.state.status.Status.TheVariants.{Free}
 use Rattle.batcher_core.specs.declared.state.status.CallState.{CallState}
 use Rattle.batcher_core.specs.declared.event.Event.TheVariants.{Claim, Start, OpenParRight, OpenParLeft, OpenSeqLeft, OpenSeqRight, End, FinishLeaf, FinishSeq, FinishPar, ArriveFirst, ArriveSecond}
 use Rattle.batcher_core.specs.State.{put, CoreJob, State}
-use Rattle.batcher_core.specs.Tasks.{TaskFits}
+use Rattle.batcher_core.specs.Invariant.Tasks.{TaskFits}
 use Rattle.batcher_core.specs.Events.{Needs, task_after}
 use Rattle.batcher_core.proofs.Inductive.Parts.{PartsKept}
-use Rattle.batcher_core.specs.Fuel.{total, node_cost, worker_cost, task_cost, run_cost, left_cost, first_cost, leaf_cost, due_cost, free_cost, owns, workers_fuel, fuel}
+use Rattle.batcher_core.specs.Measure.{total, node_cost, worker_cost, task_cost, run_cost, left_cost, first_cost, leaf_cost, due_cost, free_cost, owns, workers_fuel, fuel}
 use Rattle.batcher_core.proofs.CodeLemmas.Puts.{put_at, put_other}
 
 pub total_same : (f g : ℕ → ℕ) (n : ℕ) → ((m : ℕ) → m < n → g m ≡ f m) → total g n ≡ total f n

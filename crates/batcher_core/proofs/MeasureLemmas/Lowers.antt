@@ -19,8 +19,8 @@ use Rattle.batcher_core.specs.Serving.{served}
 use Rattle.batcher_core.specs.Events.{Needs, Does}
 use Rattle.batcher_core.proofs.Inductive.Parts.{PartsKept}
 use Rattle.batcher_core.specs.Choice.{choice_by, choice}
-use Rattle.batcher_core.specs.Lists.{ListsFit}
-use Rattle.batcher_core.specs.Fuel.{total, fuel, node_cost, worker_cost, leaf_cost, first_cost, call_cost, one_if, one_if_call, call_count}
+use Rattle.batcher_core.specs.Invariant.ReadyLists.{ListsFit}
+use Rattle.batcher_core.specs.Measure.{total, fuel, node_cost, worker_cost, leaf_cost, first_cost, call_cost, one_if, one_if_call, call_count}
 use Rattle.batcher_core.proofs.ChoiceLemmas.Ready.{not_under}
 use Rattle.batcher_core.proofs.ChoiceLemmas.Choices.{choice_needs}
 use Rattle.batcher_core.proofs.MeasureLemmas.Jobs.{claim_lowers, start_lowers, open_right_lowers, open_left_lowers, open_first_lowers, open_second_lowers, end_lowers, arrive_first_lowers, arrive_second_lowers, finish_leaf_lowers, finish_seq_lowers, finish_par_lowers}

@@ -9,7 +9,7 @@ use Rattle.batcher_core.specs.declared.state.progress.Progress.TheVariants.{Wait
 use Rattle.batcher_core.specs.declared.state.task.Task.TheVariants.{Idle}
 use Rattle.batcher_core.specs.State.{CoreJob, State}
 use Rattle.batcher_core.specs.Tasks.{is_done}
-use Rattle.batcher_core.specs.Looks.{LeafIn}
+use Rattle.batcher_core.specs.Code.Lookups.{LeafIn}
 use Rattle.batcher_core.specs.Invariant.{Parts}
 use Rattle.batcher_core.specs.Reports.{HasRun}
 use Rattle.batcher_core.proofs.ReportLemmas.RootDone.{each_done, each_idle}

@@ -12,8 +12,10 @@ use Rattle.batcher_core.specs.declared.state.status.Status.{Status}
 use Rattle.batcher_core.specs.declared.state.status.Status.TheVariants.{Free, Pending, Executing, Served}
 use Rattle.batcher_core.specs.declared.state.status.CallState.TheVariants.{Out}
 use Rattle.batcher_core.specs.State.{CoreJob, Hold, State}
-use Rattle.batcher_core.specs.Tasks.{is_done, TaskFits}
-use Rattle.batcher_core.specs.GateParts.{IsAtCall, HoldStands}
+use Rattle.batcher_core.specs.Tasks.{is_done}
+use Rattle.batcher_core.specs.Invariant.Tasks.{TaskFits}
+use Rattle.batcher_core.specs.Invariant.Statuses.{IsAtCall}
+use Rattle.batcher_core.specs.Invariant.Hold.{HoldStands}
 use Rattle.batcher_core.specs.Invariant.{Parts}
 
 -- what has a side is a node

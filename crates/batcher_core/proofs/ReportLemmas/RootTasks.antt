@@ -10,7 +10,8 @@ use Rattle.batcher_core.specs.declared.state.progress.Progress.TheVariants.{Wait
 use Rattle.batcher_core.specs.declared.state.task.Task.{Task}
 use Rattle.batcher_core.specs.declared.state.task.Task.TheVariants.{Idle}
 use Rattle.batcher_core.specs.State.{put}
-use Rattle.batcher_core.specs.Tasks.{is_done, names, TaskFits}
+use Rattle.batcher_core.specs.Tasks.{is_done, names}
+use Rattle.batcher_core.specs.Invariant.Tasks.{TaskFits}
 use Rattle.batcher_core.proofs.Inductive.Nodes.{NodesKept, passed_if, LeftAlone, TasksKept}
 use Rattle.batcher_core.proofs.CodeLemmas.Puts.{put_each}
 use Rattle.batcher_core.proofs.InvariantLemmas.Holders.{drop_task}

@@ -15,8 +15,8 @@ use Rattle.batcher_core.specs.declared.state.progress.Progress.TheVariants.{Ran}
 use Rattle.batcher_core.specs.State.{CoreJob, State}
 use Rattle.batcher_core.specs.Operations.{op_in, IsCall, Place}
 use Rattle.batcher_core.specs.Tasks.{is_done}
-use Rattle.batcher_core.specs.JobParts.{IsValue}
-use Rattle.batcher_core.specs.GateParts.{IsBooked}
+use Rattle.batcher_core.specs.Invariant.Values.{IsValue}
+use Rattle.batcher_core.specs.Invariant.Membership.{IsBooked}
 use Rattle.batcher_core.proofs.BookLemmas.EntryLists.{each_at}
 use Rattle.batcher_core.proofs.BookLemmas.Books.{found_in_book}
 use Rattle.batcher_core.proofs.ReportLemmas.EndedRuns.{IsEnded}

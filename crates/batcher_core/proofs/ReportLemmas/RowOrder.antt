@@ -7,7 +7,7 @@ use Rattle.batch_history.specs.declared.row.Row.{Row}
 use Rattle.batch_history.specs.declared.report.Report.{Report}
 use Rattle.batcher_core.specs.declared.state.progress.Progress.TheVariants.{Ran}
 use Rattle.batcher_core.specs.State.{CoreJob, State}
-use Rattle.batcher_core.specs.JobParts.{start_of, HasEnd}
+use Rattle.batcher_core.specs.Invariant.Ticks.{start_of, HasEnd}
 use Rattle.batcher_core.specs.Reports.{IsRowOf, IsReportOf}
 use Rattle.batcher_core.proofs.ReportLemmas.EndedRuns.{IsEnded}
 use Rattle.batcher_core.proofs.ReportLemmas.RowLists.{each_got, row_is}

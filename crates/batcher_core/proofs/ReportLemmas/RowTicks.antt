@@ -11,7 +11,7 @@ use Rattle.batch_history.specs.declared.row.Row.{Row}
 use Rattle.batcher_core.specs.declared.state.progress.Progress.TheVariants.{Ran}
 use Rattle.batcher_core.specs.declared.state.task.Task.TheVariants.{Idle}
 use Rattle.batcher_core.specs.State.{CoreJob, State}
-use Rattle.batcher_core.specs.JobParts.{IsStartedAs, Draw, start_of, end_of, start_by, end_by, IsDrawn}
+use Rattle.batcher_core.specs.Invariant.Ticks.{IsStartedAs, Draw, start_of, end_of, start_by, end_by, IsDrawn}
 use Rattle.batcher_core.specs.Reports.{IsRowOf}
 use Rattle.batcher_core.proofs.BookLemmas.EntryLists.{each_so, each_at}
 use Rattle.batcher_core.proofs.ReportLemmas.EndedRuns.{IsEnded}

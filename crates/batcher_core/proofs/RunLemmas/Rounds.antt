@@ -13,11 +13,11 @@ use Rattle.batcher_core.specs.declared.event.Event.{Event}
 use Rattle.batcher_core.specs.State.{CoreJob, CoreState}
 use Rattle.batcher_core.specs.Tasks.{is_done}
 use Rattle.batcher_core.proofs.Inductive.Parts.{PartsKept}
-use Rattle.batcher_core.specs.Lists.{ListsFit}
-use Rattle.batcher_core.specs.Fuel.{fuel}
+use Rattle.batcher_core.specs.Invariant.ReadyLists.{ListsFit}
+use Rattle.batcher_core.specs.Measure.{fuel}
 use Rattle.batcher_core.specs.Choice.{choice, least_below}
 use Rattle.batcher_core.specs.Runs.{IsTurnOf, IsTurn}
-use Rattle.batcher_core.specs.Cores.{Seen, job_in, state_in, is_over_in, Fits}
+use Rattle.batcher_core.specs.Code.Core.{Seen, job_in, state_in, is_over_in, Fits}
 use Rattle.batcher_core.proofs.ChoiceLemmas.Searches.{least_stays, least_in}
 use Rattle.batcher_core.proofs.ChoiceLemmas.Search.{least_is_chosen, no_least}
 use Rattle.batcher_core.proofs.ChoiceLemmas.Progress.{some_turn}

@@ -10,7 +10,7 @@ use Rattle.batcher_core.specs.State.{CoreJob, CoreState, core_job}
 use Rattle.batcher_core.specs.Tasks.{is_done}
 use Rattle.batcher_core.specs.Choice.{choice}
 use Rattle.batcher_core.specs.Runs.{IsStep, IsTurnOf, IsTurn, Drives, over, by_schedule, by_robin}
-use Rattle.batcher_core.specs.Cores.{Seen, job_in, state_in, due_in, is_over_in, moved_if, turn_due, Makes}
+use Rattle.batcher_core.specs.Code.Core.{Seen, job_in, state_in, due_in, is_over_in, moved_if, turn_due, Makes}
 use Rattle.batcher_core.proofs.RunLemmas.OneRun.{over_or}
 
 made_of : (job : CoreJob) (old new : CoreState) (w : ℕ) (chosen : Option Event) → choice job old w ≡ chosen → Makes (moved_if chosen) job old w new → IsTurnOf job old w chosen new

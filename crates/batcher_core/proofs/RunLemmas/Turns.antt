@@ -5,7 +5,7 @@ use Rattle.batcher_core.specs.declared.event.Event.{Event}
 use Rattle.batcher_core.specs.State.{CoreJob, CoreState, opening_state, opening_core}
 use Rattle.batcher_core.proofs.Inductive.Parts.{PartsKept}
 use Rattle.batcher_core.proofs.Inductive.Lists.{ListsKept}
-use Rattle.batcher_core.specs.Fuel.{fuel, call_count}
+use Rattle.batcher_core.specs.Measure.{fuel, call_count}
 use Rattle.batcher_core.specs.Runs.{IsStep, Step, TurnsLead}
 use Rattle.batcher_core.proofs.InvariantLemmas.EachEvent.{event_keeps}
 use Rattle.batcher_core.proofs.InvariantLemmas.Opening.{opening_kept}

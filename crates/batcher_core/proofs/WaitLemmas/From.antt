@@ -17,7 +17,7 @@ use Rattle.batcher_core.specs.State.{CoreJob, State}
 use Rattle.batcher_core.specs.Operations.{Place, place_in, or_else, place_of, IsReceipt}
 use Rattle.batcher_core.specs.Events.{task_after, Happens}
 use Rattle.batcher_core.specs.Tasks.{names}
-use Rattle.batcher_core.specs.GateParts.{is_published}
+use Rattle.batcher_core.specs.Invariant.Hold.{is_published}
 use Rattle.batcher_core.proofs.Inductive.Book.{booked_by}
 use Rattle.batcher_core.proofs.Inductive.Parts.{PartsKept}
 use Rattle.batcher_core.specs.Waits.{IsTrapped, started_leaf, leaf_place, task_place, StaysTrapped, at_once, by_event}

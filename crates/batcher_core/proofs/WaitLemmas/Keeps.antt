@@ -14,7 +14,7 @@ use Rattle.batcher_core.specs.State.{put, CoreJob, Hold, State}
 use Rattle.batcher_core.specs.Operations.{Place}
 use Rattle.batcher_core.specs.Serving.{served}
 use Rattle.batcher_core.specs.Events.{task_after, is_pending, new_hold, looked, published, answered, Needs, IsBatchOf, Happens}
-use Rattle.batcher_core.specs.GateParts.{HoldStands}
+use Rattle.batcher_core.specs.Invariant.Hold.{HoldStands}
 use Rattle.batcher_core.specs.Invariant.{Parts}
 use Rattle.batcher_core.proofs.Inductive.Parts.{PartsKept}
 use Rattle.batcher_core.specs.Waits.{IsTrapped, started_leaf, task_place, StatusWaits, WaitsSince}

@@ -10,8 +10,9 @@ use Rattle.batcher_core.specs.declared.state.status.CallState.TheVariants.{Out}
 use Rattle.batcher_core.specs.declared.state.status.Receipt.{Receipt}
 use Rattle.batcher_core.specs.State.{CoreJob, State}
 use Rattle.batcher_core.specs.Operations.{IsCall, Place, place_in, or_else, place_of, IsReceipt}
-use Rattle.batcher_core.specs.Tasks.{TaskFits}
-use Rattle.batcher_core.specs.GateParts.{IsAtCall, HasReceipt, is_published}
+use Rattle.batcher_core.specs.Invariant.Tasks.{TaskFits}
+use Rattle.batcher_core.specs.Invariant.Statuses.{IsAtCall, HasReceipt}
+use Rattle.batcher_core.specs.Invariant.Hold.{is_published}
 use Rattle.batcher_core.specs.Invariant.{Parts}
 use Rattle.batcher_core.specs.Waits.{IsTrapped, leaf_place, task_place, StandsBy}
 use Rattle.batcher_core.proofs.BookLemmas.Books.{place_append, place_below}

@@ -6,7 +6,7 @@ use Rattle.batcher_core.specs.declared.state.status.Receipt.{Receipt}
 use Rattle.batcher_core.specs.State.{Hold}
 use Rattle.batcher_core.specs.Operations.{Place}
 use Rattle.batcher_core.specs.Events.{new_hold, looked, published, answered}
-use Rattle.batcher_core.specs.GateParts.{is_published}
+use Rattle.batcher_core.specs.Invariant.Hold.{is_published}
 use Rattle.batcher_core.specs.Waits.{StandsBy, StatusWaits}
 
 -- now

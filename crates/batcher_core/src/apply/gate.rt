@@ -1,7 +1,7 @@
 //! What each event of the gate writes, but a publish.
 ghost use Rattle.std.specs.Prelude.{◌≡◌, ◌<◌, length, None, Some, IfSome, if◌then◌else◌};
 ghost use Rattle.batcher_core.specs.State.{put};
-ghost use Rattle.batcher_core.specs.Shown.{state_of, ready_of, SameSizes};
+ghost use Rattle.batcher_core.specs.Code.Abstraction.{state_of, ready_of, SameSizes};
 ghost use Rattle.batcher_core.specs.Events.{is_pending as status_pending, new_hold, looked as hold_looked, answered as hold_answered};
 ghost use Rattle.batcher_core.specs.declared.state.status.Status.TheVariants.{Free, Pending, Executing, Served};
 ghost use Rattle.batcher_core.specs.declared.state.status.CallState.TheVariants.{Out, Got};
@@ -32,7 +32,7 @@ fn after_look(status: Status) -> Status
 
 impl Table {
     /// The worker posts the call of the leaf that it has started.
-    #[tactic(auto, using(crate::proofs::CodeLemmas::Written::at_written), unfolding(crate::specs::Shown::state_of, crate::specs::Shown::ready_of))]
+    #[tactic(auto, using(crate::proofs::CodeLemmas::Written::at_written), unfolding(crate::specs::Code::Abstraction::state_of, crate::specs::Code::Abstraction::ready_of))]
     pub(crate) fn post(&mut self, worker: u32)
         requires status_in { worker < length self.old.statuses.items }
         requires call_in { worker < length self.old.calls.items }
@@ -45,7 +45,7 @@ impl Table {
     }
 
     /// The worker takes the flag.
-    #[tactic(auto, unfolding(crate::specs::Shown::state_of, crate::specs::Shown::ready_of))]
+    #[tactic(auto, unfolding(crate::specs::Code::Abstraction::state_of, crate::specs::Code::Abstraction::ready_of))]
     pub(crate) fn win(&mut self, worker: u32)
         ensures sizes { SameSizes self.old self.new }
         ensures event { state_of self.new ≡ record (state_of self.old) { hold = Some (new_hold worker) } }
@@ -55,7 +55,7 @@ impl Table {
     }
 
     /// The worker that has the flag looks at this one, and takes its call if that is pending.
-    #[tactic(auto, using(crate::proofs::CodeLemmas::Written::at_written), unfolding(crate::specs::Shown::state_of, crate::specs::Shown::ready_of))]
+    #[tactic(auto, using(crate::proofs::CodeLemmas::Written::at_written), unfolding(crate::specs::Code::Abstraction::state_of, crate::specs::Code::Abstraction::ready_of))]
     pub(crate) fn take(&mut self, other: u32)
         requires status_in { other < length self.old.statuses.items }
         requires other_in { other < 32 }
@@ -70,7 +70,7 @@ impl Table {
     }
 
     /// This worker is handed its receipt.
-    #[tactic(auto, using(crate::proofs::CodeLemmas::Written::at_written), unfolding(crate::specs::Shown::state_of, crate::specs::Shown::ready_of))]
+    #[tactic(auto, using(crate::proofs::CodeLemmas::Written::at_written), unfolding(crate::specs::Code::Abstraction::state_of, crate::specs::Code::Abstraction::ready_of))]
     pub(crate) fn answer(&mut self, other: u32, receipt: Receipt)
         requires status_in { other < length self.old.statuses.items }
         requires other_in { other < 32 }
@@ -83,7 +83,7 @@ impl Table {
     }
 
     /// The flag is let go.
-    #[tactic(auto, unfolding(crate::specs::Shown::state_of, crate::specs::Shown::ready_of))]
+    #[tactic(auto, unfolding(crate::specs::Code::Abstraction::state_of, crate::specs::Code::Abstraction::ready_of))]
     pub(crate) fn release(&mut self)
         ensures sizes { SameSizes self.old self.new }
         ensures event { state_of self.new ≡ record (state_of self.old) { hold = None } }
@@ -93,7 +93,7 @@ impl Table {
     }
 
     /// The worker leaves its call, with its receipt.
-    #[tactic(auto, using(crate::proofs::CodeLemmas::Written::at_written), unfolding(crate::specs::Shown::state_of, crate::specs::Shown::ready_of))]
+    #[tactic(auto, using(crate::proofs::CodeLemmas::Written::at_written), unfolding(crate::specs::Code::Abstraction::state_of, crate::specs::Code::Abstraction::ready_of))]
     pub(crate) fn leave(&mut self, worker: u32, receipt: Receipt)
         requires status_in { worker < length self.old.statuses.items }
         requires call_in { worker < length self.old.calls.items }

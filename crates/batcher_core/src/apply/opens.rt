@@ -1,7 +1,7 @@
 //! What claims and opens write.
 ghost use Rattle.std.specs.Prelude.{◌≡◌, ◌<◌, ◌++◌, ◌∷◌, [], ℕ, length, IfOk};
 ghost use Rattle.batcher_core.specs.State.{put};
-ghost use Rattle.batcher_core.specs.Shown.{state_of, ready_of, SameSizes, FilledFits, IsAtEnd};
+ghost use Rattle.batcher_core.specs.Code.Abstraction.{state_of, ready_of, SameSizes, FilledFits, IsAtEnd};
 ghost use Rattle.batcher_core.specs.Lists.{without};
 ghost use Rattle.batcher_core.specs.declared.state.progress.Progress.TheVariants.{Ready, Taken};
 ghost use Rattle.batcher_core.specs.declared.state.task.Task.TheVariants.{Run};
@@ -14,7 +14,7 @@ use std::alloc::AllocError;
 
 impl Table {
     /// The worker takes a ready node, which stands at an end of a list.
-    #[tactic(auto, using(crate::proofs::CodeLemmas::Written::at_written), unfolding(crate::specs::Shown::state_of, crate::specs::Shown::ready_of))]
+    #[tactic(auto, using(crate::proofs::CodeLemmas::Written::at_written), unfolding(crate::specs::Code::Abstraction::state_of, crate::specs::Code::Abstraction::ready_of))]
     pub(crate) fn claim(&mut self, worker: u32, node: u32)
         requires worker_in { worker < length self.old.tasks.items }
         requires node_in { node < length self.old.nodes.items }
@@ -30,7 +30,7 @@ impl Table {
     }
 
     /// The worker makes a node ready, and has this in hand then.
-    #[tactic(auto, using(crate::proofs::CodeLemmas::Written::at_written), unfolding(crate::specs::Shown::state_of, crate::specs::Shown::ready_of))]
+    #[tactic(auto, using(crate::proofs::CodeLemmas::Written::at_written), unfolding(crate::specs::Code::Abstraction::state_of, crate::specs::Code::Abstraction::ready_of))]
     pub(crate) fn open(&mut self, worker: u32, node: u32, then: Task) -> Result<(), AllocError>
         requires worker_in { worker < length self.old.tasks.items }
         requires node_in { node < length self.old.nodes.items }

@@ -3,7 +3,7 @@ ghost use Rattle.std.specs.Prelude.{◌≡◌, ◌+◌, ◌*◌, ◌^◌, ◌≤
 ghost use Rattle.seq_objects.specs.Objects.{after, reply_to};
 ghost use Rattle.batch_history.specs.Book.{IsLegalFrom};
 ghost use Rattle.batcher_core.specs.Serving.{served};
-ghost use Rattle.batcher_core.specs.Batches.{AreEntriesOf};
+ghost use Rattle.batcher_core.specs.Code.Batches.{AreEntriesOf};
 
 use batch_history::Entry;
 use seq_objects::{Call, Op, Plain, Reply};

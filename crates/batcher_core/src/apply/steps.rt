@@ -1,7 +1,7 @@
 //! What each event of a leaf or a block writes that makes no node ready.
 ghost use Rattle.std.specs.Prelude.{◌≡◌, ◌<◌, ◌+◌, ◌^◌, length, Some};
 ghost use Rattle.batcher_core.specs.State.{put};
-ghost use Rattle.batcher_core.specs.Shown.{state_of, ready_of, SameSizes};
+ghost use Rattle.batcher_core.specs.Code.Abstraction.{state_of, ready_of, SameSizes};
 ghost use Rattle.batcher_core.specs.Events.{task_after as next_task};
 ghost use Rattle.batcher_core.specs.declared.state.progress.Progress.TheVariants.{Done, Ran};
 ghost use Rattle.batcher_core.specs.declared.state.task.Task.TheVariants.{Started, Kept, Ended};
@@ -25,7 +25,7 @@ fn task_after(node: u32) -> Task
 
 impl Table {
     /// The worker starts a leaf.
-    #[tactic(auto, using(crate::proofs::CodeLemmas::Written::at_written), unfolding(crate::specs::Shown::state_of, crate::specs::Shown::ready_of))]
+    #[tactic(auto, using(crate::proofs::CodeLemmas::Written::at_written), unfolding(crate::specs::Code::Abstraction::state_of, crate::specs::Code::Abstraction::ready_of))]
     pub(crate) fn start(&mut self, worker: u32, node: u32)
         requires worker_in { worker < length self.old.tasks.items }
         requires room { self.old.tick + 1 < 2 ^ 64 }
@@ -41,7 +41,7 @@ impl Table {
     }
 
     /// The worker keeps the value of the leaf that it has started.
-    #[tactic(auto, using(crate::proofs::CodeLemmas::Written::at_written), unfolding(crate::specs::Shown::state_of, crate::specs::Shown::ready_of))]
+    #[tactic(auto, using(crate::proofs::CodeLemmas::Written::at_written), unfolding(crate::specs::Code::Abstraction::state_of, crate::specs::Code::Abstraction::ready_of))]
     pub(crate) fn keep(&mut self, worker: u32, node: u32, start: u64, value: u64)
         requires worker_in { worker < length self.old.tasks.items }
         requires call_in { worker < length self.old.calls.items }
@@ -56,7 +56,7 @@ impl Table {
     }
 
     /// The worker ends the leaf whose value it has kept.
-    #[tactic(auto, using(crate::proofs::CodeLemmas::Written::at_written), unfolding(crate::specs::Shown::state_of, crate::specs::Shown::ready_of))]
+    #[tactic(auto, using(crate::proofs::CodeLemmas::Written::at_written), unfolding(crate::specs::Code::Abstraction::state_of, crate::specs::Code::Abstraction::ready_of))]
     pub(crate) fn end(&mut self, worker: u32, node: u32, start: u64)
         requires worker_in { worker < length self.old.tasks.items }
         requires room { self.old.tick + 1 < 2 ^ 64 }
@@ -73,7 +73,7 @@ impl Table {
     }
 
     /// The leaf that the worker has ended is done.
-    #[tactic(auto, using(crate::proofs::CodeLemmas::Written::at_written), unfolding(crate::specs::Shown::state_of, crate::specs::Shown::ready_of))]
+    #[tactic(auto, using(crate::proofs::CodeLemmas::Written::at_written), unfolding(crate::specs::Code::Abstraction::state_of, crate::specs::Code::Abstraction::ready_of))]
     pub(crate) fn finish_leaf(&mut self, worker: u32, node: u32, start: u64, end: u64)
         requires worker_in { worker < length self.old.tasks.items }
         requires node_in { node < length self.old.nodes.items }
@@ -86,7 +86,7 @@ impl Table {
     }
 
     /// A block is done.
-    #[tactic(auto, using(crate::proofs::CodeLemmas::Written::at_written), unfolding(crate::specs::Shown::state_of, crate::specs::Shown::ready_of))]
+    #[tactic(auto, using(crate::proofs::CodeLemmas::Written::at_written), unfolding(crate::specs::Code::Abstraction::state_of, crate::specs::Code::Abstraction::ready_of))]
     pub(crate) fn finish_block(&mut self, worker: u32, node: u32)
         requires worker_in { worker < length self.old.tasks.items }
         requires node_in { node < length self.old.nodes.items }
@@ -99,7 +99,7 @@ impl Table {
     }
 
     /// Another side of a parallel block has arrived: so many have then, and the worker has this in hand.
-    #[tactic(auto, using(crate::proofs::CodeLemmas::Written::at_written), unfolding(crate::specs::Shown::state_of, crate::specs::Shown::ready_of))]
+    #[tactic(auto, using(crate::proofs::CodeLemmas::Written::at_written), unfolding(crate::specs::Code::Abstraction::state_of, crate::specs::Code::Abstraction::ready_of))]
     pub(crate) fn arrive(&mut self, worker: u32, node: u32, mark: u32, then: Task)
         requires worker_in { worker < length self.old.tasks.items }
         requires node_in { node < length self.old.marks.items }

@@ -7,8 +7,8 @@ ghost use Rattle.batcher_core.specs.State.{core_job};
 ghost use Rattle.batcher_core.specs.Operations.{place_of};
 ghost use Rattle.batcher_core.specs.Tasks.{names};
 ghost use Rattle.batcher_core.specs.Choice.{leaf_named as leaf_at, answer_with, choice_pending, choice_holding};
-ghost use Rattle.batcher_core.specs.Shown.{state_of, hold_of, shown_hold};
-ghost use Rattle.batcher_core.specs.Looks.{Looks, TaskIn};
+ghost use Rattle.batcher_core.specs.Code.Abstraction.{state_of, hold_of, shown_hold};
+ghost use Rattle.batcher_core.specs.Code.Lookups.{Looks, TaskIn};
 
 use crate::choose::receipt::receipt_of;
 use crate::event::Event;
@@ -42,7 +42,7 @@ fn leaf_named(plan: &Plan, task: Task) -> u32
 
 impl Table {
     /// With a call that is pending: it takes the flag, if that is free.
-    #[tactic(auto, unfolding(crate::specs::Shown::state_of))]
+    #[tactic(auto, unfolding(crate::specs::Code::Abstraction::state_of))]
     pub(crate) fn choose_pending(&self) -> Option<Event>
         ensures { result ≡ choice_pending (state_of self.now).hold }
     {
@@ -53,7 +53,7 @@ impl Table {
     }
 
     /// This worker is handed the receipt for its leaf's entry.
-    #[tactic(auto, unfolding(crate::specs::Shown::state_of))]
+    #[tactic(auto, unfolding(crate::specs::Code::Abstraction::state_of))]
     fn choose_answer(&self, plan: &Plan, acts: &[Act], workers: u32, other: u32) -> Option<Event>
         requires looks { Looks (nodes_of plan.now) acts.now workers self.now }
         requires other_in { other < workers }
@@ -71,7 +71,7 @@ impl Table {
 
     /// With the flag: it looks at the workers one after another, then publishes if it has taken some calls, then
     /// answers those workers, and then lets go of the flag.
-    #[tactic(auto, unfolding(crate::specs::Shown::state_of))]
+    #[tactic(auto, unfolding(crate::specs::Code::Abstraction::state_of))]
     pub(crate) fn choose_holding(
         &self,
         plan: &Plan,

@@ -3,7 +3,7 @@ ghost use Rattle.std.specs.Prelude.{◌≡◌, ◌<◌, ◌^◌, length, map};
 ghost use Rattle.batch_history.specs.Book.{flat};
 ghost use Rattle.seq_objects.specs.Pairs.{AreDistinct};
 ghost use Rattle.batcher_core.specs.Operations.{place_in, place_of};
-ghost use Rattle.batcher_core.specs.Batches.{receipt_at};
+ghost use Rattle.batcher_core.specs.Code.Batches.{receipt_at};
 
 use crate::state::status::Receipt;
 use batch_history::{Batch, Entry};

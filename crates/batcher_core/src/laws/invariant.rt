@@ -14,7 +14,7 @@ ghost use Rattle.batcher_core.specs.declared.state.progress.Progress.TheVariants
 ghost use Rattle.batcher_core.specs.declared.event.Event.{Event};
 ghost use Rattle.batcher_core.specs.State.{CoreJob, State, CoreState, opening_state, opening_core, core_job};
 ghost use Rattle.batcher_core.specs.Events.{EventKind, Happens, IsEvent, IsCoreEvent};
-ghost use Rattle.batcher_core.specs.JobParts.{HasStart};
+ghost use Rattle.batcher_core.specs.Invariant.Ticks.{HasStart};
 ghost use Rattle.batcher_core.specs.Invariant.{Parts, Invariant};
 ghost use Rattle.batcher_core.specs.Runs.{Step, Reaches, IsReached};
 

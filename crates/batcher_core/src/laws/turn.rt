@@ -17,7 +17,7 @@ ghost use Rattle.batcher_core.specs.Choice.{choice, LeavesAnEnd};
 ghost use Rattle.batcher_core.specs.Ranges.{IsInRange};
 ghost use Rattle.batcher_core.specs.Runs.{Step, Reaches, TurnsLead, driven, IsReached};
 ghost use Rattle.batcher_core.specs.Tasks.{is_done};
-ghost use Rattle.batcher_core.specs.Fuel.{fuel, call_count};
+ghost use Rattle.batcher_core.specs.Measure.{fuel, call_count};
 
 use sp_order::laws::plan_has_sides;
 

@@ -1,7 +1,7 @@
 //! The table of the opening state.
 ghost use Rattle.std.specs.Prelude.{◌≡◌, ◌<◌, ℕ, length, IfOk, replicate, []};
 ghost use Rattle.batcher_core.specs.State.{opening_state, opening_core};
-ghost use Rattle.batcher_core.specs.Shown.{state_of, ready_of, queues, filled_in, at, Sizes, FilledFits};
+ghost use Rattle.batcher_core.specs.Code.Abstraction.{state_of, ready_of, queues, filled_in, at, Sizes, FilledFits};
 ghost use Rattle.batcher_core.specs.declared.state.progress.Progress.TheVariants.{Waiting};
 
 use crate::state::Table;

@@ -1,8 +1,9 @@
 //! The workers' lists of ready nodes.
 ghost use Rattle.std.specs.Prelude.{◌≡◌, ◌<◌, ℕ, length, IfOk, IfErr, IsTrue, ◌↔◌, ◌++◌, ◌∷◌, []};
 ghost use Rattle.batcher_core.specs.State.{put};
-ghost use Rattle.batcher_core.specs.Lists.{without, one_if_filled as one_if_has_node};
-ghost use Rattle.batcher_core.specs.Shown.{queues, filled_in, IsNewest, IsOldest, IsAtEnd};
+ghost use Rattle.batcher_core.specs.Lists.{without};
+ghost use Rattle.batcher_core.specs.Code.Abstraction.{one_if_filled as one_if_has_node};
+ghost use Rattle.batcher_core.specs.Code.Abstraction.{queues, filled_in, IsNewest, IsOldest, IsAtEnd};
 
 use std::alloc::AllocError;
 use std::collections::VecDeque;

@@ -1,5 +1,5 @@
 use Rattle.std.proofs.Common.{◌<◌, ◌+◌, ◌%◌, length, refl, sym, ◌∙◌, arith}
-use Rattle.batcher_core.specs.Shown.{queues}
+use Rattle.batcher_core.specs.Code.Abstraction.{queues}
 use Rattle.batcher_core.proofs.CodeLemmas.Written.{queues_at}
 use Rattle.batcher_core.proofs.ChoiceLemmas.Steals.{newest_claim, found, passed, nothing, false_true}
 use Rattle.batcher_core.proofs.CodeLemmas.Filled.{none_to_claim}

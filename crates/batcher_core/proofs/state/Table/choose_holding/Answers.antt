@@ -1,6 +1,6 @@
 use Rattle.std.proofs.Common.{sym, ◌∙◌}
 use Rattle.batcher_core.specs.Choice.{is_owed}
-use Rattle.batcher_core.specs.Shown.{shown_hold}
+use Rattle.batcher_core.specs.Code.Abstraction.{shown_hold}
 use Rattle.batcher_core.proofs.ChoiceLemmas.Searches.{least_in}
 use Rattle.batcher_core.proofs.state.Table.choose_holding.Goals as goal
 

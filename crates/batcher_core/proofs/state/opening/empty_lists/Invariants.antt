@@ -1,5 +1,5 @@
 use Rattle.std.proofs.Common.{◌≡◌, [], length}
-use Rattle.batcher_core.specs.Shown.{queues}
+use Rattle.batcher_core.specs.Code.Abstraction.{queues}
 use Rattle.batcher_core.proofs.state.opening.empty_lists.Given as goal
 
 abbrev pub invariant-loop-worker : goal.invariant-loop-worker

@@ -1,6 +1,6 @@
 use Rattle.std.proofs.Common.{◌∙◌, ◌<◌, length, arith}
 use Rattle.std.proofs.lemmas.List.{length-set}
-use Rattle.batcher_core.specs.Shown.{queues}
+use Rattle.batcher_core.specs.Code.Abstraction.{queues}
 use Rattle.batcher_core.proofs.ChoiceLemmas.Ends.{dropped_before, dropped_after}
 use Rattle.batcher_core.proofs.CodeLemmas.Filled.{counted, recounted, recounted_at_most}
 use Rattle.batcher_core.proofs.state.ready.drop_ready.Goals as goal

@@ -1,6 +1,6 @@
 use Rattle.std.proofs.Common.{ℕ, ◌≡◌, ◌<◌, ◌≤◌, length}
 use Rattle.batcher_core.specs.Lists.{without}
-use Rattle.batcher_core.specs.Shown.{queues, filled_in}
+use Rattle.batcher_core.specs.Code.Abstraction.{queues, filled_in}
 use Rattle.batcher_core.proofs.state.ready.drop_ready.Given as goal
 
 abbrev pub invariant-loop-worker : goal.invariant-loop-worker

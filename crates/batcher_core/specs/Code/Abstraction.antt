@@ -1,16 +1,22 @@
 -- The state that the parts of a core show.
-use Rattle.std.specs.Prelude.{ℕ, ◌≡◌, ◌≢◌, ◌<◌, ◌≤◌, ◌⊎◌, ◌-◌, ◌*◌, ◌^◌, false, Option, None, Some, List, [], length, get_or, map}
-use Rattle.std.specs.declared.collections.VecDeque.{VecDeque}
+use Rattle.seq_objects.specs.Objects as objects
 use Rattle.batch_history.specs.Book.{flat}
-use Rattle.batcher_core.specs.declared.state.progress.Progress.TheVariants.{Waiting}
-use Rattle.batcher_core.specs.declared.state.task.Task.TheVariants.{Idle}
-use Rattle.batcher_core.specs.declared.state.status.Status.TheVariants.{Free}
-use Rattle.batcher_core.specs.declared.state.status.CallState.TheVariants.{NotCalled}
-use Rattle.batcher_core.specs.declared.state.hold.Hold.{Hold as HoldTable}
+use Rattle.batcher_core.specs.Lists.{times}
+use Rattle.batcher_core.specs.Measure.{total}
+use Rattle.batcher_core.specs.State.{CoreState, Hold, State}
 use Rattle.batcher_core.specs.declared.state.Table.{Table}
-use Rattle.batcher_core.specs.State.{Hold, State, CoreState}
-use Rattle.batcher_core.specs.Lists.{times, one_if_filled}
-use Rattle.batcher_core.specs.Fuel.{total}
+use Rattle.batcher_core.specs.declared.state.hold.Hold.{Hold as HoldTable}
+use Rattle.batcher_core.specs.declared.state.progress.Progress.TheVariants.{Waiting}
+use Rattle.batcher_core.specs.declared.state.status.CallState.TheVariants.{NotCalled}
+use Rattle.batcher_core.specs.declared.state.status.Status.TheVariants.{Free}
+use Rattle.batcher_core.specs.declared.state.task.Task.TheVariants.{Idle}
+use Rattle.std.specs.Prelude.{List, None, Option, Some, [], false, get_or, length, map, ℕ, ◌*◌, ◌-◌, ◌<◌, ◌^◌, ◌∷◌, ◌≡◌, ◌≢◌, ◌≤◌, ◌⊎◌}
+use Rattle.std.specs.declared.collections.VecDeque.{VecDeque}
+
+-- 1 for a list that has a node
+abbrev pub one_if_filled : List ℕ → ℕ
+one_if_filled [] = 0
+one_if_filled (x ∷ xs) = 1
 
 -- a list as a function of places, with a value beyond its end
 abbrev pub at : {A : Type 0} → List A → A → ℕ → A

@@ -1,22 +1,22 @@
 -- What contracts see of a core, what its table keeps to, and what its turns answer.
-use Rattle.std.specs.Prelude.{ℕ, ◌≡◌, ◌<◌, ◌≤◌, ◌&&◌, not, Bool, Option, None, Some, List, length}
-use Rattle.seq_objects.specs.declared.act.Act.{Act}
-use Rattle.sp_order.specs.Precedence.{Tree, leaves}
-use Rattle.sp_order.specs.Plans.{IsPlan}
-use Rattle.sp_order.specs.Preorder.{nodes_of}
+use Rattle.batcher_core.specs.Choice.{choice}
+use Rattle.batcher_core.specs.Code.Abstraction.{CounterFits, FilledFits, Sizes, shown, state_of}
+use Rattle.batcher_core.specs.Code.Lookups.{LeafIn, work_due}
+use Rattle.batcher_core.specs.Events.{EventKind, IsCoreEvent}
+use Rattle.batcher_core.specs.Invariant.{Invariant}
+use Rattle.batcher_core.specs.Operations.{IsCall}
+use Rattle.batcher_core.specs.Runs.{IsStep}
+use Rattle.batcher_core.specs.State.{CoreJob, CoreState, core_job}
+use Rattle.batcher_core.specs.Tasks.{is_done}
 use Rattle.batcher_core.specs.declared.event.Event.{Event}
 use Rattle.batcher_core.specs.declared.state.Table.{Table}
 use Rattle.batcher_core.specs.declared.turn.Turn.{Turn}
-use Rattle.batcher_core.specs.declared.turn.Turn.TheVariants.{Moved, Spin, Idle}
-use Rattle.batcher_core.specs.State.{CoreJob, CoreState, core_job}
-use Rattle.batcher_core.specs.Operations.{IsCall}
-use Rattle.batcher_core.specs.Tasks.{is_done}
-use Rattle.batcher_core.specs.Events.{EventKind, IsCoreEvent}
-use Rattle.batcher_core.specs.Invariant.{Invariant}
-use Rattle.batcher_core.specs.Choice.{choice}
-use Rattle.batcher_core.specs.Runs.{IsStep}
-use Rattle.batcher_core.specs.Shown.{state_of, shown, Sizes, CounterFits, FilledFits}
-use Rattle.batcher_core.specs.Looks.{LeafIn, work_due}
+use Rattle.batcher_core.specs.declared.turn.Turn.TheVariants.{Idle, Moved, Spin}
+use Rattle.seq_objects.specs.declared.act.Act.{Act}
+use Rattle.sp_order.specs.Plans.{IsPlan}
+use Rattle.sp_order.specs.Precedence.{Tree, leaves}
+use Rattle.sp_order.specs.Preorder.{nodes_of}
+use Rattle.std.specs.Prelude.{Bool, List, None, Option, Some, length, not, ℕ, ◌&&◌, ◌-◌, ◌<◌, ◌≡◌, ◌≤◌}
 
 -- what contracts see of a core
 pub record Seen : Type 0 where

@@ -1,16 +1,16 @@
 -- The calls of which a batch is made, its entries, and the receipt for an entry.
-use Rattle.std.specs.Prelude.{ℕ, ◌≡◌, ◌<◌, Bool, true, Option, None, Some, List, map, Contains}
-use Rattle.std.specs.List.{AllByRecursion}
-use Rattle.seq_objects.specs.Batches.{AreInBatchOrder}
-use Rattle.seq_objects.specs.declared.call.Call.{Call}
-use Rattle.sp_order.specs.declared.node.Kind.TheVariants.{LeafNode}
 use Rattle.batch_history.specs.declared.batch.Entry.{Entry}
-use Rattle.seq_objects.specs.Pairs.{AreDistinct}
+use Rattle.batcher_core.specs.Operations.{Place, op_in, receipt_for}
+use Rattle.batcher_core.specs.State.{CoreJob}
+use Rattle.batcher_core.specs.declared.state.status.Receipt.{Receipt}
 use Rattle.batcher_core.specs.declared.state.task.Task.{Task}
 use Rattle.batcher_core.specs.declared.state.task.Task.TheVariants.{Started}
-use Rattle.batcher_core.specs.declared.state.status.Receipt.{Receipt}
-use Rattle.batcher_core.specs.State.{CoreJob}
-use Rattle.batcher_core.specs.Operations.{op_in, Place, receipt_for}
+use Rattle.seq_objects.specs.Batches.{AreInBatchOrder}
+use Rattle.seq_objects.specs.Pairs.{AreDistinct}
+use Rattle.seq_objects.specs.declared.call.Call.{Call}
+use Rattle.sp_order.specs.declared.node.Kind.TheVariants.{LeafNode}
+use Rattle.std.specs.List.{AllByRecursion}
+use Rattle.std.specs.Prelude.{Bool, Contains, List, None, Option, Some, map, true, ℕ, ◌-◌, ◌<◌, ◌≡◌}
 
 -- the call is that of the leaf at which the task is started
 abbrev pub IsCallOf : CoreJob → Task → Call → Type 0

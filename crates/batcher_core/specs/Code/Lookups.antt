@@ -1,22 +1,24 @@
 -- What the choice of a turn looks up, and what the code of an event does.
-use Rattle.std.specs.Prelude.{ℕ, ◌≡◌, ◌<◌, ◌≤◌, ◌+◌, ◌-◌, ◌^◌, Option, None, Some, List, [], ◌∷◌, length, map, slice_index_or}
-use Rattle.seq_objects.specs.declared.act.Act.{Act}
-use Rattle.seq_objects.specs.declared.act.Act.TheVariants.{Work, Call}
-use Rattle.sp_order.specs.declared.node.Kind.{Kind}
-use Rattle.sp_order.specs.declared.node.Kind.TheVariants.{LeafNode, SeqNode, ParNode}
-use Rattle.sp_order.specs.declared.node.Move.{Move}
-use Rattle.sp_order.specs.declared.node.Move.TheVariants.{Root, OpenSecond, FinishParent, Arrive as ArriveAt}
-use Rattle.sp_order.specs.Plans.{Nodes}
-use Rattle.batcher_core.specs.declared.state.task.Task.{Task}
-use Rattle.batcher_core.specs.declared.state.task.Task.TheVariants.{Idle, Run, Half, Started, Kept, Ended, Whole, Handed}
+use Rattle.batch_history.specs.Book.{flat}
+use Rattle.batcher_core.specs.Choice.{choice_arrive, choice_parent, choice_second, choice_steal, last_of}
+use Rattle.batcher_core.specs.Code.Abstraction.{FilledFits, Sizes, state_of}
+use Rattle.batcher_core.specs.Operations.{IsLeaf}
 use Rattle.batcher_core.specs.declared.event.Event.{Event}
 use Rattle.batcher_core.specs.declared.event.Event.TheVariants.{Claim}
 use Rattle.batcher_core.specs.declared.state.Table.{Table}
+use Rattle.batcher_core.specs.declared.state.task.Task.{Task}
+use Rattle.batcher_core.specs.declared.state.task.Task.TheVariants.{Ended, Half, Handed, Idle, Kept, Run, Started, Whole}
+use Rattle.seq_objects.specs.Objects.{after}
 use Rattle.seq_objects.specs.Pairs.{AreDistinct}
-use Rattle.batch_history.specs.Book.{flat}
-use Rattle.batcher_core.specs.Operations.{IsLeaf}
-use Rattle.batcher_core.specs.Choice.{choice_steal, last_of, choice_second, choice_parent, choice_arrive}
-use Rattle.batcher_core.specs.Shown.{state_of, Sizes, FilledFits}
+use Rattle.seq_objects.specs.declared.act.Act.{Act}
+use Rattle.seq_objects.specs.declared.act.Act.TheVariants.{Call, Work}
+use Rattle.sp_order.specs.Plans.{Nodes}
+use Rattle.sp_order.specs.Precedence.{leaves}
+use Rattle.sp_order.specs.declared.node.Kind.{Kind}
+use Rattle.sp_order.specs.declared.node.Kind.TheVariants.{LeafNode, ParNode, SeqNode}
+use Rattle.sp_order.specs.declared.node.Move.{Move}
+use Rattle.sp_order.specs.declared.node.Move.TheVariants.{Arrive as ArriveAt, FinishParent, OpenSecond, Root}
+use Rattle.std.specs.Prelude.{List, None, Option, Some, [], length, map, slice_index_or, ℕ, ◌+◌, ◌-◌, ◌<◌, ◌^◌, ◌∷◌, ◌≡◌, ◌≤◌}
 
 -- the node that a task names is below this number
 abbrev pub TaskIn : ℕ → Task → Type 0

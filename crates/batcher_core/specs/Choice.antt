@@ -38,7 +38,7 @@ least_below chosen (suc bound) = first_of (least_below chosen bound) (chosen bou
 
 -- the hold has taken the call of this worker, and has not answered it
 abbrev pub is_owed : Hold → ℕ → Bool
-is_owed h u = h.took u && not (h.answered u)
+is_owed h u = h.taken u && not (h.answered u)
 
 -- the leaf at the node that a task names
 abbrev pub leaf_named : Nodes → Option ℕ → ℕ
@@ -60,7 +60,7 @@ choice_answer job s (Some u) = answer_with u (place_of s.book (leaf_named job.pl
 abbrev pub choice_holding : CoreJob → State → Hold → Option Event
 choice_holding job s h =
     if nat_lt h.looks job.workers then Some (Take h.looks)
-    else if some_below h.took job.workers && not h.published then Some Publish
+    else if some_below h.taken job.workers && not h.published then Some Publish
     else choice_answer job s (least_below (is_owed h) job.workers)
 
 -- it wins the flag, if that is free

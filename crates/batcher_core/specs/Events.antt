@@ -88,11 +88,11 @@ Needs job s w (OpenSeqRight p l r) = (s.status w ≡ Free) × (s.task w ≡ Whol
 Needs job s w (Post n t) = (s.status w ≡ Free) × (s.task w ≡ Started n t) × IsCall job (leaf_of (job.plan.kind n)) × (s.call w ≡ NotCalled)
 Needs job s w Win = (s.status w ≢ Free) × (s.call w ≡ Out) × (s.hold ≡ None)
 Needs job s w (Take u) = (h : Hold) × Holds s w h × (u ≡ h.looks) × (u < job.workers)
-Needs job s w Publish = (h : Hold) × Holds s w h × (h.looks ≡ job.workers) × ((u : ℕ) × (h.took u ≡ true)) × (h.published ≡ false)
+Needs job s w Publish = (h : Hold) × Holds s w h × (h.looks ≡ job.workers) × ((u : ℕ) × (h.taken u ≡ true)) × (h.published ≡ false)
 Needs job s w (Answer u receipt) =
-    (h : Hold) × Holds s w h × (h.published ≡ true) × (h.took u ≡ true) × (h.answered u ≡ false)
+    (h : Hold) × Holds s w h × (h.published ≡ true) × (h.taken u ≡ true) × (h.answered u ≡ false)
     × ((n : ℕ) × (leaf : ℕ) × HasStarted job s u n leaf × IsReceipt (place_of s.book leaf) receipt)
-Needs job s w Release = (h : Hold) × Holds s w h × (h.looks ≡ job.workers) × ((u : ℕ) → h.took u ≡ true → h.answered u ≡ true)
+Needs job s w Release = (h : Hold) × Holds s w h × (h.looks ≡ job.workers) × ((u : ℕ) → h.taken u ≡ true → h.answered u ≡ true)
 Needs job s w (Leave receipt) = (s.status w ≡ Served receipt) × ((h : Hold) → s.hold ≡ Some h → h.worker ≢ w)
 Needs job s w (Keep n t v) = (s.status w ≡ Free) × (s.task w ≡ Started n t) × (value_in (job.act (leaf_of (job.plan.kind n))) (s.call w) ≡ Some v)
 Needs job s w (End n t) = (s.status w ≡ Free) × (s.task w ≡ Kept n t)
@@ -114,12 +114,12 @@ is_pending (Served receipt) = false
 
 -- the hold of a worker that has just won the flag
 abbrev pub new_hold : ℕ → Hold
-new_hold w = record { worker = w; looks = 0; took = λ u. false; answered = λ u. false; published = false }
+new_hold w = record { worker = w; looks = 0; taken = λ u. false; answered = λ u. false; published = false }
 
 -- the hold after a look at worker u, whose call is taken or not
 abbrev pub looked : Option Hold → Bool → ℕ → Option Hold
 looked None takes u = None
-looked (Some h) takes u = Some (record h { looks = h.looks + 1; took = if takes then put h.took u true else h.took })
+looked (Some h) takes u = Some (record h { looks = h.looks + 1; taken = if takes then put h.taken u true else h.taken })
 
 abbrev pub published : Option Hold → Option Hold
 published None = None
@@ -132,11 +132,11 @@ answered (Some h) u = Some (record h { answered = put h.answered u true })
 -- the worker's call was taken by the hold
 abbrev pub has_taken : Option Hold → ℕ → Bool
 has_taken None w = false
-has_taken (Some h) w = h.took w
+has_taken (Some h) w = h.taken w
 
 -- the entry is for the call of a worker whose call is taken
 pub record IsTakenCall (job : CoreJob) (s : State) (entry : Entry) : Type 0 where
-  pub took : has_taken s.hold entry.worker ≡ true
+  pub taken : has_taken s.hold entry.worker ≡ true
   pub node : ℕ
   pub started : HasStarted job s entry.worker node entry.leaf
   pub operation : op_of job s.book entry.leaf ≡ Some entry.op

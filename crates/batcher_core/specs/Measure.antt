@@ -101,14 +101,14 @@ abbrev pub hold_cost : ℕ → Option Hold → ℕ
 hold_cost workers None = 0
 hold_cost workers (Some h) = (workers - h.looks) + (if h.published then 0 else 1) + 1
 
-abbrev pub nodes_fuel : CoreJob → State → ℕ
-nodes_fuel job s = total (λ n. node_cost job (job.plan.kind n) (s.node n)) job.plan.count
+abbrev pub nodes_measure : CoreJob → State → ℕ
+nodes_measure job s = total (λ n. node_cost job (job.plan.kind n) (s.node n)) job.plan.count
 
-abbrev pub workers_fuel : CoreJob → State → ℕ
-workers_fuel job s = total (λ w. worker_cost job (owns s.hold w) (s.task w) (s.status w) (s.call w)) job.workers
+abbrev pub workers_measure : CoreJob → State → ℕ
+workers_measure job s = total (λ w. worker_cost job (owns s.hold w) (s.task w) (s.status w) (s.call w)) job.workers
 
-abbrev pub fuel : CoreJob → State → ℕ
-fuel job s = nodes_fuel job s + workers_fuel job s + hold_cost job.workers s.hold
+abbrev pub measure : CoreJob → State → ℕ
+measure job s = nodes_measure job s + workers_measure job s + hold_cost job.workers s.hold
 
 abbrev pub one_if : Option Op → ℕ
 one_if None = 0

@@ -40,10 +40,10 @@ abbrev pub IsTurn : CoreJob → CoreState → ℕ → CoreState → Type 0
 IsTurn job old worker new = IsTurnOf job old worker (choice job old worker) new
 
 -- these steps, each the event of its worker's turn, take the first state to the last
-abbrev pub TurnsLead : CoreJob → CoreState → List Step → CoreState → Type 0
-TurnsLead job first [] last = last ≡ first
-TurnsLead job first (step ∷ steps) last =
-    (next : CoreState) × (choice job first step.worker ≡ Some step.event) × IsStep job first step.worker step.event next × TurnsLead job next steps last
+abbrev pub TurnsReach : CoreJob → CoreState → List Step → CoreState → Type 0
+TurnsReach job first [] last = last ≡ first
+TurnsReach job first (step ∷ steps) last =
+    (next : CoreState) × (choice job first step.worker ≡ Some step.event) × IsStep job first step.worker step.event next × TurnsReach job next steps last
 
 -- Turns go by the workers of a schedule, and then round robin from a worker on. The last state is the first one whose
 -- root is done.

@@ -36,7 +36,7 @@ core_job tree acts workers = record { plan = nodes_of tree; act = λ leaf. slice
 pub record Hold : Type 0 where
   pub worker : ℕ
   pub looks : ℕ
-  pub took : ℕ → Bool
+  pub taken : ℕ → Bool
   pub answered : ℕ → Bool
   pub published : Bool
 

@@ -7,7 +7,7 @@ ghost use Rattle.batcher_core.specs.Ranges.{IsInRange};
 ghost use Rattle.batcher_core.specs.Code.Abstraction.{state_of, ready_of, SameSizes, IsAtEnd};
 ghost use Rattle.batcher_core.specs.Lists.{ready_after};
 ghost use Rattle.batcher_core.specs.declared.event.Event.TheVariants.{Claim};
-ghost use Rattle.batcher_core.specs.Code.Core.{Fits};
+ghost use Rattle.batcher_core.specs.Code.Core.{RepInvariant};
 
 mod gate;
 pub(crate) mod gather;
@@ -17,13 +17,13 @@ pub(crate) mod serve;
 mod steps;
 
 use crate::event::Event;
-use crate::state::Table;
+use crate::state::State;
 use crate::state::task::Task;
 use seq_objects::Act;
 use sp_order::Plan;
 use std::alloc::{AllocError, Global};
 
-impl Table {
+impl State {
     /// Does an event of a worker.
     pub(crate) fn apply(
         &mut self,
@@ -34,7 +34,7 @@ impl Table {
         worker: u32,
         event: Event,
     ) -> Result<(), AllocError>
-        requires fits { Fits plan.now acts.now workers self.old }
+        requires fits { RepInvariant plan.now acts.now workers self.old }
         requires worker_in { worker < workers }
         requires in_range { IsInRange (nodes_of plan.now).count workers event }
         requires needs { Needs (core_job plan.now acts.now workers) (state_of self.old) worker event }

@@ -4,8 +4,8 @@ ghost use Rattle.sp_order.specs.Preorder.{nodes_of};
 ghost use Rattle.batcher_core.specs.State.{core_job};
 ghost use Rattle.batcher_core.specs.Operations.{leaf_of, IsLeaf};
 ghost use Rattle.batcher_core.specs.Choice.{choice, choice_by, choice_free, choice_run, choice_half, choice_started, choice_second, choice_parent, choice_arrive, choice_handed};
-ghost use Rattle.batcher_core.specs.Code.Abstraction.{state_of, queues, shown, FilledFits};
-ghost use Rattle.batcher_core.specs.Code.Lookups.{Looks, MoveIn, LeafIn, claim_choice, whole_choice, work_due, steps_of as act_steps};
+ghost use Rattle.batcher_core.specs.Code.Abstraction.{state_of, queues, core_state_of, FilledFits};
+ghost use Rattle.batcher_core.specs.Code.Lookups.{CanChoose, MoveIn, LeafIn, claim_choice, whole_choice, work_due, steps_of as act_steps};
 ghost use Rattle.seq_objects.specs.Spin.{spin_of};
 ghost use Rattle.seq_objects.specs.declared.act.Act.TheVariants.{Work};
 
@@ -13,7 +13,7 @@ mod gate;
 pub(crate) mod receipt;
 
 use crate::event::Event;
-use crate::state::Table;
+use crate::state::State;
 use crate::state::status::{CallState, Status};
 use crate::state::task::Task;
 use seq_objects::{Act, value};
@@ -166,7 +166,7 @@ fn act_at(plan: &Plan, acts: &[Act], node: u32) -> Act
     }
 }
 
-impl Table {
+impl State {
     /// With nothing in hand: the newest node of the own list, or else the oldest of the next list that has one. Where
     /// no list has a node it looks at none of them.
     pub(crate) fn choose_claim(&self, workers: u32, worker: u32) -> Option<Event>
@@ -218,7 +218,7 @@ impl Table {
         workers: u32,
         worker: u32,
     ) -> Option<u32>
-        requires looks { Looks (nodes_of plan.now) acts.now workers self.now }
+        requires looks { CanChoose (nodes_of plan.now) acts.now workers self.now }
         requires worker_in { worker < workers }
         ensures { result ≡ work_due (nodes_of plan.now) acts.now ((state_of self.now).task worker) }
     {
@@ -242,10 +242,10 @@ impl Table {
         worker: u32,
         work: u64,
     ) -> Option<Event>
-        requires looks { Looks (nodes_of plan.now) acts.now workers self.now }
+        requires looks { CanChoose (nodes_of plan.now) acts.now workers self.now }
         requires worker_in { worker < workers }
         requires work { (steps : ℕ) → work_due (nodes_of plan.now) acts.now ((state_of self.now).task worker) ≡ Some steps → work ≡ spin_of steps }
-        ensures { result ≡ choice_free (core_job plan.now acts.now workers) (shown self.now) worker ((state_of self.now).task worker) }
+        ensures { result ≡ choice_free (core_job plan.now acts.now workers) (core_state_of self.now) worker ((state_of self.now).task worker) }
     {
         match self.tasks[worker as usize] {
             Task::Idle => self.choose_claim(workers, worker),
@@ -272,10 +272,10 @@ impl Table {
         worker: u32,
         work: u64,
     ) -> Option<Event>
-        requires looks { Looks (nodes_of plan.now) acts.now workers self.now }
+        requires looks { CanChoose (nodes_of plan.now) acts.now workers self.now }
         requires worker_in { worker < workers }
         requires work { (steps : ℕ) → work_due (nodes_of plan.now) acts.now ((state_of self.now).task worker) ≡ Some steps → work ≡ spin_of steps }
-        ensures { result ≡ choice_by (core_job plan.now acts.now workers) (shown self.now) worker ((state_of self.now).status worker) }
+        ensures { result ≡ choice_by (core_job plan.now acts.now workers) (core_state_of self.now) worker ((state_of self.now).status worker) }
     {
         match self.statuses[worker as usize] {
             Status::Free => self.choose_free(plan, acts, workers, worker, work),
@@ -295,10 +295,10 @@ impl Table {
         worker: u32,
         work: u64,
     ) -> Option<Event>
-        requires looks { Looks (nodes_of plan.now) acts.now workers self.now }
+        requires looks { CanChoose (nodes_of plan.now) acts.now workers self.now }
         requires worker_in { worker < workers }
         requires work { (steps : ℕ) → work_due (nodes_of plan.now) acts.now ((state_of self.now).task worker) ≡ Some steps → work ≡ spin_of steps }
-        ensures { result ≡ choice (core_job plan.now acts.now workers) (shown self.now) worker }
+        ensures { result ≡ choice (core_job plan.now acts.now workers) (core_state_of self.now) worker }
     {
         match self.hold {
             Some(hold) if hold.worker == worker => self.choose_holding(plan, acts, workers, hold),

@@ -32,7 +32,7 @@ pub(crate) fn take_turn(core: &mut Core, worker: u32) -> Result<Turn, AllocError
 }
 
 /// Takes turns by the workers of the schedule, until it ends or the core is over.
-fn follow(core: &mut Core, schedule: &[u32]) -> Result<(), AllocError>
+fn run_schedule(core: &mut Core, schedule: &[u32]) -> Result<(), AllocError>
     requires { AllByRecursion (λ worker. worker < core.old.workers) schedule.now }
     ensures job { IfOk result (λ _. (core.new.tree ≡ core.old.tree) × (core.new.acts ≡ core.old.acts) × (core.new.workers ≡ core.old.workers)) }
     ensures drives { IfOk result (λ _. (last : CoreState) → Drives (job_in core.old) (state_in core.new) [] 0 last → Drives (job_in core.old) (state_in core.old) schedule.now 0 last) }
@@ -48,7 +48,7 @@ fn follow(core: &mut Core, schedule: &[u32]) -> Result<(), AllocError>
 }
 
 /// Takes turns by all workers round robin, from worker 0 on, until the core is over.
-fn go_round(core: &mut Core) -> Result<(), AllocError>
+fn run_round_robin(core: &mut Core) -> Result<(), AllocError>
     ensures job { IfOk result (λ _. (core.new.tree ≡ core.old.tree) × (core.new.acts ≡ core.old.acts) × (core.new.workers ≡ core.old.workers)) }
     ensures drives { IfOk result (λ _. Drives (job_in core.old) (state_in core.old) [] 0 (state_in core.new)) }
     ensures over { IfOk result (λ _. is_over_in core.new ≡ true) }
@@ -75,7 +75,7 @@ pub fn drive(alloc: Global, core: Core, schedule: &[u32]) -> Result<Report, Allo
     ensures spent { IfOk result (λ _. core.spent ≡ false) }
 {
     let mut core = core;
-    follow(&mut core, schedule)?;
-    go_round(&mut core)?;
+    run_schedule(&mut core, schedule)?;
+    run_round_robin(&mut core)?;
     core.report(alloc)
 }

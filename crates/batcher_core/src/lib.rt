@@ -21,7 +21,7 @@ pub use driver::drive;
 pub use event::Event;
 pub use scheduler::Core;
 pub use spun::Spun;
-pub use state::Table;
+pub use state::State;
 pub use state::hold::Hold;
 pub use state::progress::Progress;
 pub use state::status::{CallState, Receipt, Status};

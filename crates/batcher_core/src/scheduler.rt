@@ -8,13 +8,13 @@ ghost use Rattle.sp_order.specs.Precedence.{leaves};
 ghost use Rattle.batch_history.specs.Lawful.{Lawful};
 ghost use Rattle.batcher_core.specs.Invariant.{Invariant};
 ghost use Rattle.batcher_core.specs.Reports.{IsReportOf};
-ghost use Rattle.batcher_core.specs.Code.Core.{job_in, state_in, due_in, turn_due, is_over_in, Makes, Fits};
+ghost use Rattle.batcher_core.specs.Code.Core.{job_in, state_in, due_in, turn_answer, is_over_in, IsTurnResult, RepInvariant};
 
 use crate::event::Event;
 use crate::laws::report::{done_leaves_have_run, done_report_is_lawful};
 use crate::report::rows_of;
 use crate::spun::Spun;
-use crate::state::Table;
+use crate::state::State;
 use crate::turn::Turn;
 use batch_history::{Report, Rows};
 use seq_objects::Act;
@@ -30,7 +30,7 @@ pub struct Core {
     plan: Plan,
     acts: Vec<Act>,
     workers: u32,
-    table: Table,
+    table: State,
     spent: bool,
 }
 
@@ -38,15 +38,15 @@ impl Model for Core {
     ghost use Rattle.std.specs.Prelude.{◌≡◌, ◌<◌, false};
     ghost use Rattle.std.specs.Coded.{codes};
     ghost use Rattle.sp_order.specs.TreeEncoding.{coded_tree};
-    ghost use Rattle.batcher_core.specs.Code.Core.{Seen, Fits};
+    ghost use Rattle.batcher_core.specs.Code.Core.{CoreView, RepInvariant};
 
-    ghost Value = { Seen };
+    ghost Value = { CoreView };
 
     ghost coded = { Prim.hlevel (codes, coded_tree) };
 
     ghost view = { λ c. record { tree = c.plan; acts = c.acts.items; workers = c.workers; table = c.table; spent = c.spent } };
 
-    ghost invariant = { λ c. (0 < c.workers) × (c.spent ≡ false → Fits c.plan c.acts.items c.workers c.table) };
+    ghost invariant = { λ c. (0 < c.workers) × (c.spent ≡ false → RepInvariant c.plan c.acts.items c.workers c.table) };
 }
 
 /// The value of the work that was done, or 0 where none was.
@@ -73,7 +73,7 @@ impl Core {
         let plan = Plan::of(alloc, job)?;
         let mut acts = Vec::new(alloc);
         acts.extend_from_slice(job.acts())?;
-        let table = Table::opening(alloc, plan.nodes(), workers)?;
+        let table = State::opening(alloc, plan.nodes(), workers)?;
         Ok(Core {
             alloc,
             plan,
@@ -113,8 +113,8 @@ impl Core {
     pub fn turn(&mut self, worker: u32, spun: Option<Spun>) -> Result<Turn, AllocError>
         requires worker_in { worker < self.old.workers }
         requires work { IfSome spun (λ s. (steps : ℕ) → due_in self.old worker ≡ Some steps → s ≡ steps) }
-        ensures turn { IfOk result (λ t. t ≡ turn_due (due_in self.old worker) spun (choice (job_in self.old) (state_in self.old) worker)) }
-        ensures event { IfOk result (λ t. Makes t (job_in self.old) (state_in self.old) worker (state_in self.new)) }
+        ensures turn { IfOk result (λ t. t ≡ turn_answer (due_in self.old worker) spun (choice (job_in self.old) (state_in self.old) worker)) }
+        ensures event { IfOk result (λ t. IsTurnResult t (job_in self.old) (state_in self.old) worker (state_in self.new)) }
         ensures failed { IfErr result (λ _. self.new.spent ≡ true) }
         ensures spent { IfOk result (λ _. (self.old.spent ≡ false) × (self.new.spent ≡ false)) }
         ensures job { (self.new.tree ≡ self.old.tree) × (self.new.acts ≡ self.old.acts) × (self.new.workers ≡ self.old.workers) }
@@ -160,7 +160,7 @@ impl Core {
 
     /// What a core keeps to that is not spent.
     pub(crate) fn fits(&self)
-        ensures { self.now.spent ≡ false → Fits self.now.tree self.now.acts self.now.workers self.now.table }
+        ensures { self.now.spent ≡ false → RepInvariant self.now.tree self.now.acts self.now.workers self.now.table }
     {
         let _ = &self.spent;
     }

@@ -22,7 +22,7 @@ use std::collections::VecDeque;
 /// The parts of a core's state. Nodes, marks and values go by the numbers of nodes, and the others by those of
 /// workers.
 #[derive(Drop)]
-pub struct Table {
+pub struct State {
     /// How far each node has come.
     pub(crate) nodes: Vec<Progress>,
     /// How many sides have arrived at each parallel block.
@@ -62,7 +62,7 @@ fn is_done(progress: Progress) -> bool
     }
 }
 
-impl Table {
+impl State {
     /// Whether the root is done.
     #[tactic(auto, unfolding(crate::specs::Code::Abstraction::state_of))]
     pub(crate) fn root_done(&self) -> bool

@@ -7,13 +7,13 @@ use Rattle.batcher_core.specs.declared.event.Event.TheVariants.{Publish}
 use Rattle.batcher_core.specs.State.{CoreJob, State}
 use Rattle.batcher_core.specs.Operations.{IsCall}
 use Rattle.batcher_core.specs.Events.{Needs, IsBatchOf}
-use Rattle.batcher_core.proofs.Inductive.Parts.{PartsKept}
+use Rattle.batcher_core.proofs.Inductive.Parts.{InductiveParts}
 use Rattle.batcher_core.proofs.BookLemmas.EntryLists.{each_so, each_mapped}
 use Rattle.batcher_core.proofs.InvariantLemmas.Publish.{publish_keeps}
 use Rattle.batcher_core.proofs.BookLemmas.Room.{leaves_call}
 
 -- the book of a state is a history
-pub book_is_history : (job : CoreJob) (s : State) → PartsKept job s → job.workers ≤ 32 → ((leaf : ℕ) → IsCall job leaf → leaf < 2 ^ 32) → IsHistory s.book
+pub book_is_history : (job : CoreJob) (s : State) → InductiveParts job s → job.workers ≤ 32 → ((leaf : ℕ) → IsCall job leaf → leaf < 2 ^ 32) → IsHistory s.book
 book_is_history job s h few below = record {
   legal = h.book.legal;
   batches = h.book.batches;
@@ -24,6 +24,6 @@ book_is_history job s h few below = record {
 }
 
 -- and so it is with one more batch
-pub history_made : (job : CoreJob) (s : State) (w : ℕ) (batch : List Entry) → IsPlan job.plan → PartsKept job s → Needs job s w Publish → IsBatchOf job s batch
+pub history_made : (job : CoreJob) (s : State) (w : ℕ) (batch : List Entry) → IsPlan job.plan → InductiveParts job s → Needs job s w Publish → IsBatchOf job s batch
     → job.workers ≤ 32 → ((leaf : ℕ) → IsCall job leaf → leaf < 2 ^ 32) → IsHistory (s.book ++ batch ∷ [])
 history_made job s w batch laws h needs is few below = book_is_history job _ (publish_keeps job s w batch laws h needs is) few below

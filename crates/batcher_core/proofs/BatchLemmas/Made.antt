@@ -16,9 +16,9 @@ use Rattle.batcher_core.specs.declared.state.status.CallState.{CallState}
 use Rattle.batcher_core.specs.State.{CoreJob, Hold, State}
 use Rattle.batcher_core.specs.Events.{has_taken, IsTakenCall, IsBatchOf}
 use Rattle.batcher_core.specs.Invariant.Statuses.{IsAtCall, is_taken_by}
-use Rattle.batcher_core.specs.Invariant.Hold.{HoldStands}
+use Rattle.batcher_core.specs.Invariant.Hold.{HoldInvariant}
 use Rattle.batcher_core.proofs.Inductive.Book.{StatusFits}
-use Rattle.batcher_core.proofs.Inductive.Parts.{PartsKept}
+use Rattle.batcher_core.proofs.Inductive.Parts.{InductiveParts}
 use Rattle.batcher_core.specs.Code.Batches.{IsCallOf, AreTakenCalls, call_in, AreEntriesOf}
 use Rattle.batcher_core.proofs.BookLemmas.EntryLists.{each_so, each_mapped}
 use Rattle.batcher_core.proofs.InvariantLemmas.BatchFacts.{executing}
@@ -44,58 +44,58 @@ executing_at_call : (job : CoreJob) (book : List (List Entry)) (task : Task) (st
     → StatusFits job book task status call taken → status ≡ Executing → IsAtCall job task
 executing_at_call job book task status call taken fits is = grind arith
 
-module _ (job : CoreJob) (s : State) (hd : Hold) (h : PartsKept job s) (there : s.hold ≡ Some hd) where
-  hold_stands : HoldStands job.workers s.status s.call (Some hd)
+module _ (job : CoreJob) (s : State) (hd : Hold) (h : InductiveParts job s) (there : s.hold ≡ Some hd) where
+  hold_stands : HoldInvariant job.workers s.status s.call (Some hd)
   hold_stands = rw there at h.hold
 
   -- the workers that are taken are among those that there are
-  pub taken_below : (w : ℕ) → hd.took w ≡ true → w < job.workers
+  pub taken_below : (w : ℕ) → hd.taken w ≡ true → w < job.workers
   taken_below w took = let looked = hold_stands.2 w took in omega (arith, looked, hold_stands.1)
 
   -- a worker that is taken is at a call, until the batch is published
-  pub taken_at_call : hd.published ≡ false → (w : ℕ) → hd.took w ≡ true → IsAtCall job (s.task w)
+  pub taken_at_call : hd.published ≡ false → (w : ℕ) → hd.taken w ≡ true → IsAtCall job (s.task w)
   taken_at_call unpublished w took =
       let fits : StatusFits job s.book (s.task w) (s.status w) (s.call w) (is_taken_by (Some hd) w) = rw there at (h.statuses w) in
       executing_at_call job s.book (s.task w) (s.status w) (s.call w) (is_taken_by (Some hd) w) fits (executing job s hd w there unpublished hold_stands fits took)
 
   -- there are no more calls than workers
-  pub few_calls : (calls : List Call) → AreTakenCalls job s.task hd.took calls → length calls ≤ job.workers
+  pub few_calls : (calls : List Call) → AreTakenCalls job s.task hd.taken calls → length calls ≤ job.workers
   few_calls calls taken =
       let few = distinct_few (map (λ (call : Call). call.worker) calls) job.workers
       taken.distinct
-      (each_mapped (λ (call : Call). call.worker) (λ (call : Call). (hd.took call.worker ≡ true) × IsCallOf job (s.task call.worker) call)
+      (each_mapped (λ (call : Call). call.worker) (λ (call : Call). (hd.taken call.worker ≡ true) × IsCallOf job (s.task call.worker) call)
       (λ w. w < job.workers) (λ call is. taken_below call.worker is.0) calls taken.only) in
       rw length-map at few
 
-  module _ (entries : List Entry) (taken : AreTakenCalls job s.task hd.took (map call_in entries)) where
+  module _ (entries : List Entry) (taken : AreTakenCalls job s.task hd.taken (map call_in entries)) where
     workers_same : map (λ (call : Call). call.worker) (map call_in entries) ≡ map (λ (e : Entry). e.worker) entries
     workers_same = map-map (λ (call : Call). call.worker) call_in entries
 
-    each_taken : (w : ℕ) → hd.took w ≡ true → Contains (map (λ (e : Entry). e.worker) entries) w
+    each_taken : (w : ℕ) → hd.taken w ≡ true → Contains (map (λ (e : Entry). e.worker) entries) w
     each_taken w took = rw workers_same at (taken.each w (taken_below w took) took)
 
-    taken_call : (e : Entry) → (hd.took e.worker ≡ true) × IsCallOf job (s.task e.worker) (call_in e) → IsTakenCall job s e
+    taken_call : (e : Entry) → (hd.taken e.worker ≡ true) × IsCallOf job (s.task e.worker) (call_in e) → IsTakenCall job s e
     taken_call e is = record {
-      took = ap (λ o. has_taken o e.worker) there ∙ is.0;
+      taken = ap (λ o. has_taken o e.worker) there ∙ is.0;
       node = is.1.0;
       started = (is.1.2, is.1.1, is.1.3);
       operation = is.1.4;
     }
 
-    made : (u : ℕ) × (hd.took u ≡ true) → IsLegalFrom s.objects entries → IsBatchOf job s entries
+    made : (u : ℕ) × (hd.taken u ≡ true) → IsLegalFrom s.objects entries → IsBatchOf job s entries
     made some legal = record {
       is_batch = record {
         some = some_in (λ (e : Entry). e.worker) entries some.0 (each_taken some.0 some.1);
         order = pairs_unmapped call_in (λ (a b : Call). ComesFirst a.op a.worker b.op b.worker) entries taken.order;
         workers = rw workers_same at taken.distinct;
       };
-      only = each_so (λ (e : Entry). (hd.took e.worker ≡ true) × IsCallOf job (s.task e.worker) (call_in e)) (IsTakenCall job s) taken_call entries
-          (unmapped call_in (λ (call : Call). (hd.took call.worker ≡ true) × IsCallOf job (s.task call.worker) call) entries taken.only);
+      only = each_so (λ (e : Entry). (hd.taken e.worker ≡ true) × IsCallOf job (s.task e.worker) (call_in e)) (IsTakenCall job s) taken_call entries
+          (unmapped call_in (λ (call : Call). (hd.taken call.worker ≡ true) × IsCallOf job (s.task call.worker) call) entries taken.only);
       each = λ w took. each_taken w (rw there at took);
       replies = legal;
     }
 
   -- the entries of the calls that were taken make a batch
-  pub batch_made : (calls : List Call) (entries : List Entry) → (u : ℕ) × (hd.took u ≡ true) → AreTakenCalls job s.task hd.took calls
+  pub batch_made : (calls : List Call) (entries : List Entry) → (u : ℕ) × (hd.taken u ≡ true) → AreTakenCalls job s.task hd.taken calls
       → AreEntriesOf calls entries → IsLegalFrom s.objects entries → IsBatchOf job s entries
   batch_made calls entries some taken are legal = made entries (rw (← are) at taken) some legal

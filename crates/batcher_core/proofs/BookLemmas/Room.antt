@@ -11,7 +11,7 @@ use Rattle.seq_objects.specs.Pairs.{AreDistinct}
 use Rattle.batch_history.specs.Book.{flat, IsBatch}
 use Rattle.batcher_core.specs.State.{CoreJob, State}
 use Rattle.batcher_core.specs.Operations.{op_in, IsCall}
-use Rattle.batcher_core.proofs.Inductive.Parts.{PartsKept}
+use Rattle.batcher_core.proofs.Inductive.Parts.{InductiveParts}
 use Rattle.batcher_core.specs.Code.Batches.{call_in, AreEntriesOf}
 use Rattle.batcher_core.proofs.BookLemmas.EntryLists.{each_so, each_mapped}
 use Rattle.batcher_core.proofs.BookLemmas.Books.{flat_append}
@@ -46,7 +46,7 @@ counter_grows book calls batch old new are grown most =
     let len : length batch ≡ length calls = sym (length-map batch call_in) ∙ ap length are in
     rw (flat_append book batch) (omega (arith, grown, most, len, length-append (flat book) batch))
 
-module _ (job : CoreJob) (s : State) (h : PartsKept job s) where
+module _ (job : CoreJob) (s : State) (h : InductiveParts job s) where
   -- the leaves that are in the book call
   pub leaves_call : AllByRecursion (λ (e : Entry). IsCall job e.leaf) (flat s.book)
   leaves_call = each_so (λ (e : Entry). op_in (job.act e.leaf) ≡ Some e.op) (λ (e : Entry). IsCall job e.leaf) (λ e is none. cc) (flat s.book) h.book.operations

@@ -5,25 +5,25 @@ use Rattle.sp_order.specs.Precedence.{Tree}
 use Rattle.sp_order.specs.Preorder.{nodes_of}
 use Rattle.batcher_core.specs.declared.event.Event.{Event}
 use Rattle.batcher_core.specs.declared.event.Event.TheVariants.{Claim, Take}
-use Rattle.batcher_core.specs.declared.state.hold.Hold.{Hold as HoldTable}
-use Rattle.batcher_core.specs.declared.state.Table.{Table}
+use Rattle.batcher_core.specs.declared.state.hold.Hold.{Hold as StoredHold}
+use Rattle.batcher_core.specs.declared.state.State.{State as StoredState}
 use Rattle.batcher_core.specs.State.{Hold, core_job}
 use Rattle.batcher_core.specs.Events.{Needs}
 use Rattle.batcher_core.specs.Choice.{choice}
 use Rattle.batcher_core.specs.Ranges.{IsInRange}
-use Rattle.batcher_core.specs.Code.Abstraction.{state_of, ready_of, shown, hold_of, IsAtEnd}
-use Rattle.batcher_core.specs.Code.Core.{Fits}
+use Rattle.batcher_core.specs.Code.Abstraction.{state_of, ready_of, core_state_of, hold_of, IsAtEnd}
+use Rattle.batcher_core.specs.Code.Core.{RepInvariant}
 use Rattle.batcher_core.proofs.CodeLemmas.InRange.{event_in}
 use Rattle.batcher_core.proofs.CodeLemmas.TickRoom.{tick_most}
 use Rattle.batcher_core.proofs.ChoiceLemmas.ClaimEnds.{claim_ends}
 use Rattle.batcher_core.proofs.ChoiceLemmas.Choices.{choice_needs}
 use Rattle.batcher_core.proofs.Inductive.FromParts.{kept_parts}
 
-tick_of : (t : Table) → (state_of t).tick ≡ t.tick
+tick_of : (t : StoredState) → (state_of t).tick ≡ t.tick
 unfolding state_of
 tick_of t = refl
 
-held : (t : Table) → (state_of t).hold ≡ hold_of t.hold
+held : (t : StoredState) → (state_of t).hold ≡ hold_of t.hold
 unfolding state_of
 held t = refl
 
@@ -31,24 +31,24 @@ abbrev looks_of : Option Hold → ℕ
 looks_of None = 0
 looks_of (Some h) = h.looks
 
-look_room : (o : Option HoldTable) (hd : Hold) → hold_of o ≡ Some hd → hd.looks < 32 → IfSome o (λ (h : HoldTable). h.looks < 32)
+look_room : (o : Option StoredHold) (hd : Hold) → hold_of o ≡ Some hd → hd.looks < 32 → IfSome o (λ (h : StoredHold). h.looks < 32)
 look_room None hd is room = tt
 look_room (Some h) hd is room = let e : h.looks ≡ hd.looks = ap looks_of is in omega (arith, e, room)
 
-module _ (tree : Tree) (acts : List Act) (workers : ℕ) (t : Table) (w : ℕ) (h : Fits tree acts workers t) where
+module _ (tree : Tree) (acts : List Act) (workers : ℕ) (t : StoredState) (w : ℕ) (h : RepInvariant tree acts workers t) where
   -- the tick has room
   pub room : t.tick + 1 < 2 ^ 64
   room = let l = tick_most (core_job tree acts workers) (state_of t) h.laws (kept_parts tree acts workers t h) in let m = h.most in let e = tick_of t in omega (arith, l, m, e)
 
   -- the look has room
-  pub take_room : (u : ℕ) → Needs (core_job tree acts workers) (state_of t) w (Take u) → IfSome t.hold (λ (h : HoldTable). h.looks < 32)
+  pub take_room : (u : ℕ) → Needs (core_job tree acts workers) (state_of t) w (Take u) → IfSome t.hold (λ (h : StoredHold). h.looks < 32)
   take_room u needs =
       let few = h.few in let at = needs.2 in let below = needs.3 in
       look_room t.hold needs.0 (sym (held t) ∙ needs.1.0) (omega (arith, few, at, below))
 
-  module _ (below : w < workers) (event : Event) (chosen : choice (core_job tree acts workers) (shown t) w ≡ Some event) where
+  module _ (below : w < workers) (event : Event) (chosen : choice (core_job tree acts workers) (core_state_of t) w ≡ Some event) where
     pub chosen_needs : Needs (core_job tree acts workers) (state_of t) w event
-    chosen_needs = choice_needs (core_job tree acts workers) (shown t) w event h.laws below (kept_parts tree acts workers t h) h.inv.lists chosen
+    chosen_needs = choice_needs (core_job tree acts workers) (core_state_of t) w event h.laws below (kept_parts tree acts workers t h) h.inv.lists chosen
 
     pub chosen_in_range : IsInRange (nodes_of tree).count workers event
     chosen_in_range = event_in (core_job tree acts workers) (state_of t) h.laws (kept_parts tree acts workers t h) w event chosen_needs
@@ -57,4 +57,4 @@ module _ (tree : Tree) (acts : List Act) (workers : ℕ) (t : Table) (w : ℕ) (
     pub chosen_at_end : (n : ℕ) → event ≡ Claim n → (v : ℕ) → IsAtEnd n (ready_of t v)
     chosen_at_end n claims =
         let needs : Needs (core_job tree acts workers) (state_of t) w (Claim n) = rw claims at chosen_needs in
-        claim_ends (core_job tree acts workers) (shown t) w n (kept_parts tree acts workers t h) h.inv.lists needs.0 needs.1 (chosen ∙ ap Some claims)
+        claim_ends (core_job tree acts workers) (core_state_of t) w n (kept_parts tree acts workers t h) h.inv.lists needs.0 needs.1 (chosen ∙ ap Some claims)

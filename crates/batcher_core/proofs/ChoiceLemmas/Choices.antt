@@ -8,10 +8,10 @@ use Rattle.batcher_core.specs.declared.state.status.Status.{Status}
 use Rattle.batcher_core.specs.declared.state.status.Status.TheVariants.{Free, Pending, Executing, Served}
 use Rattle.batcher_core.specs.declared.event.Event.{Event}
 use Rattle.batcher_core.specs.State.{CoreJob, Hold, State, CoreState}
-use Rattle.batcher_core.specs.Invariant.ReadyLists.{ListsFit}
+use Rattle.batcher_core.specs.Invariant.ReadyLists.{ReadyListsInvariant}
 use Rattle.batcher_core.specs.Events.{Needs}
 use Rattle.batcher_core.specs.Invariant.Statuses.{is_taken_by}
-use Rattle.batcher_core.proofs.Inductive.Parts.{PartsKept}
+use Rattle.batcher_core.proofs.Inductive.Parts.{InductiveParts}
 use Rattle.batcher_core.specs.Choice.{choice_holding, choice_pending, choice_free, choice_by, choice_under, choice}
 use Rattle.batcher_core.proofs.ChoiceLemmas.Search.{if_both}
 use Rattle.batcher_core.proofs.ChoiceLemmas.Tasks.{Allows, gives_allows, task_gives}
@@ -22,7 +22,7 @@ use Rattle.batcher_core.proofs.InvariantLemmas.StatusRows.{call_out, executing_t
 pub is_idle : (t : Task) → (t ≡ Idle) ⊎ (t ≢ Idle)
 is_idle t = grind arith
 
-module _ (job : CoreJob) (s : State) (w : ℕ) (ready : ℕ → List ℕ) (laws : IsPlan job.plan) (among : w < job.workers) (h : PartsKept job s) (lists : ListsFit job.workers s.node ready) where
+module _ (job : CoreJob) (s : State) (w : ℕ) (ready : ℕ → List ℕ) (laws : IsPlan job.plan) (among : w < job.workers) (h : InductiveParts job s) (lists : ReadyListsInvariant job.workers s.node ready) where
   free_allows : (t : Task) → HoldsNot s w → s.status w ≡ Free → s.task w ≡ t → Allows job s w (choice_free job (record { state = s; ready = ready }) w t)
   free_allows t away free mine = elim (is_idle t) [
     | inl idle ↦ rw idle (idle_allows job s w ready lists free (mine ∙ idle) among away)
@@ -51,7 +51,7 @@ module _ (job : CoreJob) (s : State) (w : ℕ) (ready : ℕ → List ℕ) (laws 
       (λ e. status_allows (s.status w) (λ other f. grind (arith, nat_tests)) refl)
 
 -- the choice of a worker's turn has what it needs; where there is none, no event of the worker can happen
-pub choice_allows : (job : CoreJob) (s : CoreState) (w : ℕ) → IsPlan job.plan → w < job.workers → PartsKept job s.state → ListsFit job.workers s.state.node s.ready
+pub choice_allows : (job : CoreJob) (s : CoreState) (w : ℕ) → IsPlan job.plan → w < job.workers → InductiveParts job s.state → ReadyListsInvariant job.workers s.state.node s.ready
     → Allows job s.state w (choice job s w)
 choice_allows job s w laws among h lists = hold_allows job s.state w s.ready laws among h lists s.state.hold refl
 
@@ -61,10 +61,10 @@ some_needs job s w event o e allows = rw e at allows
 none_refuses : (job : CoreJob) (s : State) (w : ℕ) (o : Option Event) → o ≡ None → Allows job s w o → (event : Event) → Needs job s w event → ⊥
 none_refuses job s w o e allows = rw e at allows
 
-pub choice_needs : (job : CoreJob) (s : CoreState) (w : ℕ) (event : Event) → IsPlan job.plan → w < job.workers → PartsKept job s.state → ListsFit job.workers s.state.node s.ready
+pub choice_needs : (job : CoreJob) (s : CoreState) (w : ℕ) (event : Event) → IsPlan job.plan → w < job.workers → InductiveParts job s.state → ReadyListsInvariant job.workers s.state.node s.ready
     → choice job s w ≡ Some event → Needs job s.state w event
 choice_needs job s w event laws among h lists chosen = some_needs job s.state w event (choice job s w) chosen (choice_allows job s w laws among h lists)
 
-pub none_has_no_event : (job : CoreJob) (s : CoreState) (w : ℕ) → IsPlan job.plan → w < job.workers → PartsKept job s.state → ListsFit job.workers s.state.node s.ready
+pub none_has_no_event : (job : CoreJob) (s : CoreState) (w : ℕ) → IsPlan job.plan → w < job.workers → InductiveParts job s.state → ReadyListsInvariant job.workers s.state.node s.ready
     → choice job s w ≡ None → (event : Event) → Needs job s.state w event → ⊥
 none_has_no_event job s w laws among h lists none = none_refuses job s.state w (choice job s w) none (choice_allows job s w laws among h lists)

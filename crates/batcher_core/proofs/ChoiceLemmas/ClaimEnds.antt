@@ -8,8 +8,8 @@ use Rattle.batcher_core.specs.declared.event.Event.TheVariants.{Claim}
 use Rattle.std.proofs.Common.{Some}
 use Rattle.batcher_core.specs.State.{CoreJob, CoreState}
 use Rattle.batcher_core.specs.Lists.{times}
-use Rattle.batcher_core.specs.Invariant.ReadyLists.{ListsFit}
-use Rattle.batcher_core.proofs.Inductive.Parts.{PartsKept}
+use Rattle.batcher_core.specs.Invariant.ReadyLists.{ReadyListsInvariant}
+use Rattle.batcher_core.proofs.Inductive.Parts.{InductiveParts}
 use Rattle.batcher_core.specs.Choice.{choice, LeavesAnEnd}
 use Rattle.batcher_core.specs.Code.Abstraction.{IsOldest, IsNewest, IsAtEnd}
 use Rattle.batcher_core.proofs.ChoiceLemmas.Ends.{oldest_stands, newest_stands}
@@ -36,7 +36,7 @@ end_stands : (n : ℕ) (xs : List ℕ) → IsOldest n xs ⊎ IsNewest n xs → t
 end_stands n xs (inl h) = oldest_stands n xs h
 end_stands n xs (inr h) = newest_stands n xs h
 
-at_ends : (workers : ℕ) (node : ℕ → Progress) (ready : ℕ → List ℕ) (n : ℕ) → ListsFit workers node ready → EndsOne ready n → (u : ℕ) → IsAtEnd n (ready u)
+at_ends : (workers : ℕ) (node : ℕ → Progress) (ready : ℕ → List ℕ) (n : ℕ) → ReadyListsInvariant workers node ready → EndsOne ready n → (u : ℕ) → IsAtEnd n (ready u)
 at_ends workers node ready n h one u =
     let there = once_there workers node ready one.0 n h (end_stands n (ready one.0) one.1) in
     elim (cases_eq u one.0) [
@@ -44,7 +44,7 @@ at_ends workers node ready n h one u =
       | inr other ↦ let none = there.1 u other in record { once = omega (arith, none); end = λ some. absurd (some none) }
     ]
 
-pub claim_ends : (job : CoreJob) (s : CoreState) (w n : ℕ) → PartsKept job s.state → ListsFit job.workers s.state.node s.ready → s.state.status w ≡ Free → s.state.task w ≡ Idle
+pub claim_ends : (job : CoreJob) (s : CoreState) (w n : ℕ) → InductiveParts job s.state → ReadyListsInvariant job.workers s.state.node s.ready → s.state.status w ≡ Free → s.state.task w ≡ Idle
     → choice job s w ≡ Some (Claim n) → (u : ℕ) → IsAtEnd n (s.ready u)
 claim_ends job s w n parts h status task chosen =
     at_ends job.workers s.state.node s.ready n h

@@ -12,7 +12,7 @@ use Rattle.batcher_core.specs.declared.event.Event.{Event}
 use Rattle.batcher_core.specs.declared.event.Event.TheVariants.{Claim, Start, OpenParRight, OpenParLeft, OpenSeqLeft, OpenSeqRight, Post, Win, Take, Publish, Answer, Release, Leave, Keep, End, FinishLeaf, FinishSeq, FinishPar, ArriveFirst, ArriveSecond}
 use Rattle.batcher_core.specs.State.{CoreJob, Hold, State}
 use Rattle.batcher_core.specs.Lists.{times}
-use Rattle.batcher_core.specs.Invariant.ReadyLists.{ListsFit}
+use Rattle.batcher_core.specs.Invariant.ReadyLists.{ReadyListsInvariant}
 use Rattle.batcher_core.specs.Events.{Needs}
 use Rattle.batcher_core.specs.Choice.{oldest_or, choice_steal, last_of, choice_idle}
 use Rattle.batcher_core.proofs.ChoiceLemmas.Tasks.{Allows}
@@ -101,13 +101,13 @@ each_empty ready workers w among own rest v below = elim (cases_eq v w) [
   ]
 ]
 
-none_ready : (workers : ℕ) (node : ℕ → Progress) (ready : ℕ → List ℕ) → ListsFit workers node ready → ((v : ℕ) → v < workers → ready v ≡ []) → (n : ℕ) → node n ≢ Ready
+none_ready : (workers : ℕ) (node : ℕ → Progress) (ready : ℕ → List ℕ) → ReadyListsInvariant workers node ready → ((v : ℕ) → v < workers → ready v ≡ []) → (n : ℕ) → node n ≢ Ready
 none_ready workers node ready lists empty n is =
     let home = lists.each n is in
     let once : times n [] ≡ 1 = rw (empty home.0 home.1) at home.2 in
     absurd (omega (arith, once))
 
-module _ (job : CoreJob) (s : State) (w : ℕ) (ready : ℕ → List ℕ) (lists : ListsFit job.workers s.node ready) (free : s.status w ≡ Free) (idle : s.task w ≡ Idle) where
+module _ (job : CoreJob) (s : State) (w : ℕ) (ready : ℕ → List ℕ) (lists : ReadyListsInvariant job.workers s.node ready) (free : s.status w ≡ Free) (idle : s.task w ≡ Idle) where
   claim_allows : (v n : ℕ) → times n (ready v) ≢ 0 → Needs job s w (Claim n)
   claim_allows v n stands = (free, idle, lists.only n v stands)
 

@@ -19,14 +19,14 @@ use Rattle.batcher_core.specs.declared.state.status.Receipt.{Receipt}
 use Rattle.batcher_core.specs.declared.event.Event.{Event}
 use Rattle.batcher_core.specs.declared.event.Event.TheVariants.{Claim, Win, Leave}
 use Rattle.batcher_core.specs.State.{CoreJob, Hold, State, CoreState}
-use Rattle.batcher_core.specs.Invariant.ReadyLists.{ListsFit}
+use Rattle.batcher_core.specs.Invariant.ReadyLists.{ReadyListsInvariant}
 use Rattle.batcher_core.specs.Tasks.{is_done, names}
 use Rattle.batcher_core.specs.Events.{Needs}
 use Rattle.batcher_core.specs.Invariant.Statuses.{is_taken_by}
-use Rattle.batcher_core.specs.Invariant.Hold.{HoldStands}
-use Rattle.batcher_core.proofs.Inductive.Nodes.{passed_if, LeftAlone, TasksKept}
+use Rattle.batcher_core.specs.Invariant.Hold.{HoldInvariant}
+use Rattle.batcher_core.proofs.Inductive.Nodes.{passed_if, LeftAlone, InductiveTasks}
 use Rattle.batcher_core.proofs.Inductive.Book.{StatusFits}
-use Rattle.batcher_core.proofs.Inductive.Parts.{PartsKept}
+use Rattle.batcher_core.proofs.Inductive.Parts.{InductiveParts}
 use Rattle.batcher_core.specs.Choice.{choice_holding, choice_free, choice}
 use Rattle.batcher_core.proofs.InvariantLemmas.FinishTasks.{unnamed}
 use Rattle.batcher_core.proofs.ChoiceLemmas.Tasks.{Gives, task_gives}
@@ -44,7 +44,7 @@ both_passed : (a b : Bool) (o q : Option ℕ) → a ≡ true → b ≡ true → 
 both_passed a b o q e f g h l = grind arith
 
 -- where no task names a node, a ready node stands below each taken one
-module _ (plan : Nodes) (node : ℕ → Progress) (mark : ℕ → ℕ) (task : ℕ → Task) (holder : ℕ → Option ℕ) (h : TasksKept plan node mark task holder) (idle : (n : ℕ) → holder n ≡ None) where
+module _ (plan : Nodes) (node : ℕ → Progress) (mark : ℕ → ℕ) (task : ℕ → Task) (holder : ℕ → Option ℕ) (h : InductiveTasks plan node mark task holder) (idle : (n : ℕ) → holder n ≡ None) where
   find_ready : (a : Tree) (n u : ℕ) (m : Move) → OccursAt plan a n u m → (node n ≡ Ready) ⊎ (node n ≡ Taken) → (k : ℕ) × (node k ≡ Ready)
   find_ready a n u m st (inl ready) = (n, ready)
   find_ready leaf n u m st (inr taken) =
@@ -95,14 +95,14 @@ search P Q either (suc k) = elim (search P Q either k) [
   ]
 ]
 
-module _ (job : CoreJob) (s : State) (laws : IsPlan job.plan) (h : PartsKept job s) where
+module _ (job : CoreJob) (s : State) (laws : IsPlan job.plan) (h : InductiveParts job s) where
   busy_below : (w : ℕ) → s.task w ≢ Idle → w < job.workers
   busy_below w busy = elim (cases_lt w job.workers) [ inl below ↦ below | inr beyond ↦ absurd (busy (h.beyond w beyond)) ]
 
   -- the worker that has the flag has an event
   holder_event : (hd : Hold) → s.hold ≡ Some hd → HasEvent job s
   holder_event hd held =
-      let stands : HoldStands job.workers s.status s.call (Some hd) = rw held at h.hold in
+      let stands : HoldInvariant job.workers s.status s.call (Some hd) = rw held at h.hold in
       let busy = out_busy job s.book (s.task hd.worker) (s.status hd.worker) (s.call hd.worker) (is_taken_by s.hold hd.worker) stands.0 (h.statuses hd.worker) in
       let has = given job s hd.worker (choice_holding job s hd) (holding_gives job s hd.worker h hd (held, refl)) in
       (hd.worker, busy_below hd.worker busy, has.0, has.1)
@@ -135,14 +135,14 @@ module _ (job : CoreJob) (s : State) (laws : IsPlan job.plan) (h : PartsKept job
       let unheld = λ (n : ℕ). unnamed job.plan s.node s.mark s.task h.holder 0 laws h.nodes h.tasks n (λ v e. let f = sym (ap names (idle v)) ∙ e in cc) in
       find_ready job.plan s.node s.mark s.task h.holder h.tasks unheld tree 0 0 Root plan.stands (ready_or_taken (s.node 0) h.nodes.root going)
 
-  idle_event : (tree : Tree) (ready : ℕ → List ℕ) → IsPlanOf job.plan tree → ListsFit job.workers s.node ready → is_done (s.node 0) ≡ false → ((v : ℕ) → s.task v ≡ Idle) → HasEvent job s
+  idle_event : (tree : Tree) (ready : ℕ → List ℕ) → IsPlanOf job.plan tree → ReadyListsInvariant job.workers s.node ready → is_done (s.node 0) ≡ false → ((v : ℕ) → s.task v ≡ Idle) → HasEvent job s
   idle_event tree ready plan lists going idle =
       let found = some_ready tree plan going idle in
       let home = lists.each found.0 found.1 in
       let free = idle_free job s.book (s.task home.0) (s.status home.0) (s.call home.0) (is_taken_by s.hold home.0) (idle home.0) (h.statuses home.0) in
       (home.0, home.1, Claim found.0, (free.0, idle home.0, found.1))
 
-  some_event : (tree : Tree) (ready : ℕ → List ℕ) → IsPlanOf job.plan tree → ListsFit job.workers s.node ready → is_done (s.node 0) ≡ false → (o : Option Hold) → s.hold ≡ o → HasEvent job s
+  some_event : (tree : Tree) (ready : ℕ → List ℕ) → IsPlanOf job.plan tree → ReadyListsInvariant job.workers s.node ready → is_done (s.node 0) ≡ false → (o : Option Hold) → s.hold ≡ o → HasEvent job s
   some_event tree ready plan lists going (Some hd) held = holder_event hd held
   some_event tree ready plan lists going None none =
       elim (search (λ w. s.task w ≡ Idle) (λ w. s.task w ≢ Idle) (λ w. is_idle (s.task w)) job.workers) [
@@ -160,7 +160,7 @@ module _ (job : CoreJob) (s : State) (laws : IsPlan job.plan) (h : PartsKept job
       → ((w : ℕ) → w < job.workers → live w ≡ false → s.task w ≡ Idle) → (o : Option Hold) → s.hold ≡ o
       → (w : ℕ) × (w < job.workers) × (live w ≡ true) × (event : Event) × Needs job s w event
   live_event tree live one plan going below on idle (Some hd) held =
-      let stands : HoldStands job.workers s.status s.call (Some hd) = rw held at h.hold in
+      let stands : HoldInvariant job.workers s.status s.call (Some hd) = rw held at h.hold in
       let busy = out_busy job s.book (s.task hd.worker) (s.status hd.worker) (s.call hd.worker) (is_taken_by s.hold hd.worker) stands.0 (h.statuses hd.worker) in
       let has = given job s hd.worker (choice_holding job s hd) (holding_gives job s hd.worker h hd (held, refl)) in
       let among = busy_below hd.worker busy in
@@ -174,14 +174,14 @@ module _ (job : CoreJob) (s : State) (laws : IsPlan job.plan) (h : PartsKept job
       ]
 
 -- where the root is not done, the turn of some worker makes an event
-pub some_turn : (job : CoreJob) (tree : Tree) (s : CoreState) → IsPlan job.plan → IsPlanOf job.plan tree → PartsKept job s.state → ListsFit job.workers s.state.node s.ready
+pub some_turn : (job : CoreJob) (tree : Tree) (s : CoreState) → IsPlan job.plan → IsPlanOf job.plan tree → InductiveParts job s.state → ReadyListsInvariant job.workers s.state.node s.ready
     → is_done (s.state.node 0) ≡ false → (w : ℕ) × (w < job.workers) × (choice job s w ≢ None)
 some_turn job tree s laws plan h lists going =
     let some = some_event job s.state laws h tree s.ready plan lists going s.state.hold refl in
     (some.0, some.1, λ none. none_has_no_event job s some.0 laws some.1 h lists none some.2 some.3)
 
 -- where the root is not done, and those workers have no task that do not go on, the turn of one that does makes an event
-pub some_live_turn : (job : CoreJob) (tree : Tree) (s : CoreState) (live : ℕ → Bool) (one : ℕ) → IsPlan job.plan → IsPlanOf job.plan tree → PartsKept job s.state → ListsFit job.workers s.state.node s.ready
+pub some_live_turn : (job : CoreJob) (tree : Tree) (s : CoreState) (live : ℕ → Bool) (one : ℕ) → IsPlan job.plan → IsPlanOf job.plan tree → InductiveParts job s.state → ReadyListsInvariant job.workers s.state.node s.ready
     → is_done (s.state.node 0) ≡ false → one < job.workers → live one ≡ true → ((w : ℕ) → w < job.workers → live w ≡ false → s.state.task w ≡ Idle)
     → (w : ℕ) × (w < job.workers) × (live w ≡ true) × (choice job s w ≢ None)
 some_live_turn job tree s live one laws plan h lists going below on idle =

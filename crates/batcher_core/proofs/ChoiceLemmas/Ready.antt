@@ -11,10 +11,10 @@ use Rattle.batcher_core.specs.declared.event.Event.{Event}
 use Rattle.batcher_core.specs.declared.event.Event.TheVariants.{Claim}
 use Rattle.batcher_core.specs.State.{put, CoreJob, Hold, State, CoreState}
 use Rattle.batcher_core.specs.Lists.{without, times, ready_after}
-use Rattle.batcher_core.specs.Invariant.ReadyLists.{ListsFit}
+use Rattle.batcher_core.specs.Invariant.ReadyLists.{ReadyListsInvariant}
 use Rattle.batcher_core.specs.Invariant.Statuses.{is_taken_by}
-use Rattle.batcher_core.specs.Invariant.Hold.{HoldStands}
-use Rattle.batcher_core.proofs.Inductive.Parts.{PartsKept}
+use Rattle.batcher_core.specs.Invariant.Hold.{HoldInvariant}
+use Rattle.batcher_core.proofs.Inductive.Parts.{InductiveParts}
 use Rattle.batcher_core.specs.Choice.{oldest_or, choice_steal, last_of, choice_idle, choice_free, choice_by, choice_under, choice, LeavesAnEnd}
 use Rattle.batcher_core.proofs.ChoiceLemmas.Ends.{without_none}
 use Rattle.batcher_core.proofs.CodeLemmas.Puts.{put_at, put_other}
@@ -53,7 +53,7 @@ without_last n (x ∷ xs) once =
     keeps n x (without n (xs ++ n ∷ [])) xs both.0 (without_last n xs both.1)
 
 -- a node that stands in a list stands there once, and in no other
-pub once_there : (workers : ℕ) (node : ℕ → Progress) (ready : ℕ → List ℕ) (v n : ℕ) → ListsFit workers node ready → times n (ready v) ≢ 0
+pub once_there : (workers : ℕ) (node : ℕ → Progress) (ready : ℕ → List ℕ) (v n : ℕ) → ReadyListsInvariant workers node ready → times n (ready v) ≢ 0
     → (times n (ready v) ≡ 1) × ((u : ℕ) → u ≢ v → times n (ready u) ≡ 0)
 once_there workers node ready v n lists stands =
     let home = lists.each n (lists.only n v stands) in
@@ -72,7 +72,7 @@ claim_off ready w v n rest here there = λ i u. at u i
     ]
 
 -- the claim of the newest node of a list leaves the others
-pub claim_newest : (workers : ℕ) (node : ℕ → Progress) (ready : ℕ → List ℕ) (w v n : ℕ) (rest : List ℕ) → ListsFit workers node ready → ready v ≡ rest ++ n ∷ []
+pub claim_newest : (workers : ℕ) (node : ℕ → Progress) (ready : ℕ → List ℕ) (w v n : ℕ) (rest : List ℕ) → ReadyListsInvariant workers node ready → ready v ≡ rest ++ n ∷ []
     → ready_after w (Claim n) ready ≡ put ready v rest
 claim_newest workers node ready w v n rest lists at =
     let once = once_there workers node ready v n lists (rw at (some_last n rest)) in
@@ -80,7 +80,7 @@ claim_newest workers node ready w v n rest lists at =
     claim_off ready w v n rest (rw at (without_last n rest one)) once.1
 
 -- and so does that of the oldest
-pub claim_oldest : (workers : ℕ) (node : ℕ → Progress) (ready : ℕ → List ℕ) (w v n : ℕ) (rest : List ℕ) → ListsFit workers node ready → ready v ≡ n ∷ rest
+pub claim_oldest : (workers : ℕ) (node : ℕ → Progress) (ready : ℕ → List ℕ) (w v n : ℕ) (rest : List ℕ) → ReadyListsInvariant workers node ready → ready v ≡ n ∷ rest
     → ready_after w (Claim n) ready ≡ put ready v rest
 claim_oldest workers node ready w v n rest lists at =
     let once = once_there workers node ready v n lists (rw at (first_stands n n rest refl)) in
@@ -107,7 +107,7 @@ stolen_is ready workers from zero n e = absurd (grind arith)
 stolen_is ready workers from (suc many) n e =
     oldest_is ready (from % workers) n (ready (from % workers)) (choice_steal ready workers (from + 1) many) refl (stolen_is ready workers (from + 1) many n) e
 
-pub idle_leaves : (job : CoreJob) (node : ℕ → Progress) (ready : ℕ → List ℕ) (w n : ℕ) (ns : List ℕ) → ListsFit job.workers node ready → ready w ≡ ns
+pub idle_leaves : (job : CoreJob) (node : ℕ → Progress) (ready : ℕ → List ℕ) (w n : ℕ) (ns : List ℕ) → ReadyListsInvariant job.workers node ready → ready w ≡ ns
     → choice_idle job ready w ns ≡ Some (Claim n) → LeavesAnEnd ready w n
 idle_leaves job node ready w n (m ∷ ms) lists at e =
     let ends = ends_with m n ms (claimed_is (last_of m ms) n e) in
@@ -117,9 +117,9 @@ idle_leaves job node ready w n [] lists at e =
     inr (oldest.0, oldest.1, at, oldest.2, claim_oldest job.workers node ready w oldest.0 n oldest.1 lists oldest.2)
 
 -- a worker that is not trapped does not have the flag
-pub free_holds_not : (job : CoreJob) (s : State) (w : ℕ) → PartsKept job s → s.status w ≡ Free → HoldsNot s w
+pub free_holds_not : (job : CoreJob) (s : State) (w : ℕ) → InductiveParts job s → s.status w ≡ Free → HoldsNot s w
 free_holds_not job s w h free hd held mine =
-    let stands : HoldStands job.workers s.status s.call (Some hd) = rw held at h.hold in
+    let stands : HoldInvariant job.workers s.status s.call (Some hd) = rw held at h.hold in
     not_out job s.book (s.task w) (s.status w) (s.call w) (is_taken_by s.hold w) free (h.statuses w) (rw mine at stands.0)
 
 pub not_under : (job : CoreJob) (s : CoreState) (w : ℕ) (o : Option Hold) → ((h : Hold) → o ≡ Some h → h.worker ≢ w) → choice_under job s w o ≡ choice_by job s w (s.state.status w)
@@ -127,12 +127,12 @@ not_under job s w None away = refl
 not_under job s w (Some h) away = let other = away h refl in grind (arith, nat_tests)
 
 -- the turn of a worker that is not trapped and has nothing in hand
-pub choice_of_idle : (job : CoreJob) (s : CoreState) (w : ℕ) → PartsKept job s.state → s.state.status w ≡ Free → s.state.task w ≡ Idle → choice job s w ≡ choice_idle job s.ready w (s.ready w)
+pub choice_of_idle : (job : CoreJob) (s : CoreState) (w : ℕ) → InductiveParts job s.state → s.state.status w ≡ Free → s.state.task w ≡ Idle → choice job s w ≡ choice_idle job s.ready w (s.ready w)
 choice_of_idle job s w h free idle =
     not_under job s w s.state.hold (free_holds_not job s.state w h free) ∙ (ap (choice_by job s w) free ∙ ap (choice_free job s w) idle)
 
 -- where a turn claims a node, the node leaves the right end of its list
-pub choice_ready : (job : CoreJob) (s : CoreState) (w n : ℕ) → IsPlan job.plan → w < job.workers → PartsKept job s.state → ListsFit job.workers s.state.node s.ready
+pub choice_ready : (job : CoreJob) (s : CoreState) (w n : ℕ) → IsPlan job.plan → w < job.workers → InductiveParts job s.state → ReadyListsInvariant job.workers s.state.node s.ready
     → choice job s w ≡ Some (Claim n) → LeavesAnEnd s.ready w n
 choice_ready job s w n laws among h lists chosen =
     let needs = choice_needs job s w (Claim n) laws among h lists chosen in

@@ -23,7 +23,7 @@ use Rattle.batcher_core.specs.Invariant.Tasks.{TaskFits}
 use Rattle.batcher_core.specs.Events.{Needs}
 use Rattle.batcher_core.specs.Invariant.Statuses.{is_taken_by}
 use Rattle.batcher_core.proofs.Inductive.Nodes.{passed_if}
-use Rattle.batcher_core.proofs.Inductive.Parts.{PartsKept}
+use Rattle.batcher_core.proofs.Inductive.Parts.{InductiveParts}
 use Rattle.batcher_core.specs.Choice.{choice_run, choice_half, choice_started, choice_second, choice_parent, choice_arrive, choice_whole, choice_handed, choice_free}
 use Rattle.batcher_core.proofs.ChoiceLemmas.Search.{if_both}
 use Rattle.batcher_core.proofs.InvariantLemmas.StatusRows.{not_out}
@@ -49,7 +49,7 @@ held_at : (holder : ℕ → Option ℕ) (n l r w : ℕ) → (n ≡ l) ⊎ (n ≡
 held_at holder n l r w which e = grind arith
 
 -- a side that is to arrive is the first or the second
-pub mark_low : (job : CoreJob) (s : State) (w p l r n : ℕ) → IsPlan job.plan → PartsKept job s → s.task w ≡ Whole n → job.plan.kind p ≡ Some (ParNode l r) → IsSide job.plan p n → s.mark p < 2
+pub mark_low : (job : CoreJob) (s : State) (w p l r n : ℕ) → IsPlan job.plan → InductiveParts job s → s.task w ≡ Whole n → job.plan.kind p ≡ Some (ParNode l r) → IsSide job.plan p n → s.mark p < 2
 mark_low job s w p l r n laws h mine kind side =
     let which : (n ≡ l) ⊎ (n ≡ r) = rw kind at (laws.has_side p n side) in
     let held = held_at h.holder n l r w which (h.tasks.holders.named w n (ap names mine)) in
@@ -58,7 +58,7 @@ mark_low job s w p l r n laws h mine kind side =
       | inr some ↦ let one = low_mark (is_done (s.node l)) (is_done (s.node r)) (h.holder l) (h.holder r) (s.mark p) (h.tasks.marks p l r kind) held some in omega (arith, one)
     ]
 
-module _ (job : CoreJob) (s : State) (w : ℕ) (laws : IsPlan job.plan) (h : PartsKept job s) (free : s.status w ≡ Free) where
+module _ (job : CoreJob) (s : State) (w : ℕ) (laws : IsPlan job.plan) (h : InductiveParts job s) (free : s.status w ≡ Free) where
   run_gives : (n : ℕ) (k : Option Kind) → s.task w ≡ Run n → job.plan.kind n ≡ k → k ≢ None → Gives job s w (choice_run k n)
   run_gives n (Some (LeafNode u)) mine kind inside = (free, mine, (u, kind))
   run_gives n (Some (SeqNode l r)) mine kind inside = (free, mine, kind)

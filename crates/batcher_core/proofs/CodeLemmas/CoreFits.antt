@@ -9,14 +9,14 @@ use Rattle.sp_order.specs.declared.node.Move.TheVariants.{Root, OpenSecond, Fini
 use Rattle.batcher_core.specs.declared.state.progress.Progress.{Progress}
 use Rattle.batcher_core.specs.declared.state.task.Task.{Task}
 use Rattle.batcher_core.specs.declared.state.task.Task.TheVariants.{Idle, Run, Half, Started, Kept, Ended, Whole, Handed}
-use Rattle.batcher_core.specs.declared.state.Table.{Table}
+use Rattle.batcher_core.specs.declared.state.State.{State as StoredState}
 use Rattle.batcher_core.specs.State.{core_job}
 use Rattle.batcher_core.specs.Operations.{IsLeaf}
 use Rattle.batcher_core.specs.Tasks.{names}
 use Rattle.batcher_core.specs.Invariant.Tasks.{TaskFits}
 use Rattle.batcher_core.specs.Code.Abstraction.{state_of}
-use Rattle.batcher_core.specs.Code.Lookups.{TaskIn, MoveIn, Looks}
-use Rattle.batcher_core.specs.Code.Core.{Fits}
+use Rattle.batcher_core.specs.Code.Lookups.{TaskIn, MoveIn, CanChoose}
+use Rattle.batcher_core.specs.Code.Core.{RepInvariant}
 use Rattle.batcher_core.proofs.CodeLemmas.InRange.{parent_in, named_in}
 use Rattle.batcher_core.proofs.BookLemmas.Room.{book_room}
 use Rattle.batcher_core.proofs.Inductive.FromParts.{kept_parts}
@@ -40,11 +40,11 @@ move_in plan laws n (Arrive p) e = parent_in plan laws p n (rw e refl)
 started_leaf : (plan : Nodes) (node : ℕ → Progress) (mark : ℕ → ℕ) (task : Task) (n start : ℕ) → TaskFits plan node mark task → task ≡ Started n start → IsLeaf (plan.kind n)
 started_leaf plan node mark task n start h e = (rw e at h).0
 
-book_of : (t : Table) → (state_of t).book ≡ t.history
+book_of : (t : StoredState) → (state_of t).book ≡ t.history
 unfolding state_of
 book_of t = refl
 
-pub looks : (tree : Tree) (acts : List Act) (workers : ℕ) (t : Table) → Fits tree acts workers t → Looks (nodes_of tree) acts workers t
+pub looks : (tree : Tree) (acts : List Act) (workers : ℕ) (t : StoredState) → RepInvariant tree acts workers t → CanChoose (nodes_of tree) acts workers t
 looks tree acts workers t h =
     let room = rw (book_of t) at (book_room (core_job tree acts workers) (state_of t) (kept_parts tree acts workers t h) h.calls_in) in
     let most = h.most in

@@ -10,12 +10,12 @@ use Rattle.batcher_core.specs.declared.event.Event.{Event}
 use Rattle.batcher_core.specs.declared.event.Event.TheVariants.{Claim, Start, OpenParRight, OpenParLeft, OpenSeqLeft, OpenSeqRight, Post, Win, Take, Publish, Answer, Release, Leave, Keep, End, FinishLeaf, FinishSeq, FinishPar, ArriveFirst, ArriveSecond}
 use Rattle.batcher_core.specs.State.{CoreJob, Hold, State}
 use Rattle.batcher_core.specs.Lists.{times}
-use Rattle.batcher_core.specs.Invariant.ReadyLists.{ListsFit}
+use Rattle.batcher_core.specs.Invariant.ReadyLists.{ReadyListsInvariant}
 use Rattle.batcher_core.specs.Tasks.{names}
 use Rattle.batcher_core.specs.Invariant.Tasks.{TaskFits}
 use Rattle.batcher_core.specs.Events.{Needs}
-use Rattle.batcher_core.specs.Invariant.Hold.{HoldStands}
-use Rattle.batcher_core.proofs.Inductive.Parts.{PartsKept}
+use Rattle.batcher_core.specs.Invariant.Hold.{HoldInvariant}
+use Rattle.batcher_core.proofs.Inductive.Parts.{InductiveParts}
 use Rattle.batcher_core.specs.Ranges.{AreNodes, IsInRange}
 
 named_not_waiting : (plan : Nodes) (node : ℕ → Progress) (mark : ℕ → ℕ) (t : Task) (n : ℕ) → TaskFits plan node mark t → names t ≡ Some n → node n ≢ Waiting
@@ -38,7 +38,7 @@ module _ (plan : Nodes) (laws : IsPlan plan) where
   par_in : (p l r : ℕ) → plan.kind p ≡ Some (ParNode l r) → AreNodes plan.count p l r
   par_in p l r kind = (kind_in p (ParNode l r) kind, side_in p l (ap parent_of (laws.left_of_par p l r kind)), side_in p r (ap parent_of (laws.right_of_par p l r kind)))
 
-module _ (job : CoreJob) (s : State) (laws : IsPlan job.plan) (h : PartsKept job s) where
+module _ (job : CoreJob) (s : State) (laws : IsPlan job.plan) (h : InductiveParts job s) where
   -- what is not waiting is a node
   pub standing_in : (n : ℕ) → s.node n ≢ Waiting → n < job.plan.count
   standing_in n stands = laws.within n (λ none. stands (h.nodes.outside n none))
@@ -48,13 +48,13 @@ module _ (job : CoreJob) (s : State) (laws : IsPlan job.plan) (h : PartsKept job
   named_in w n name = standing_in n (named_not_waiting job.plan s.node s.mark (s.task w) n (h.tasks.fits w) name)
 
   -- and so is what stands in a list
-  pub ready_in : (ready : ℕ → List ℕ) → ListsFit job.workers s.node ready → (n v : ℕ) → times n (ready v) ≢ 0 → n < job.plan.count
+  pub ready_in : (ready : ℕ → List ℕ) → ReadyListsInvariant job.workers s.node ready → (n v : ℕ) → times n (ready v) ≢ 0 → n < job.plan.count
   ready_in ready lists n v stands = let is = lists.only n v stands in standing_in n (λ waits. cc)
 
   -- and so is each whose call is taken
-  pub taken_in : (hd : Hold) → s.hold ≡ Some hd → (u : ℕ) → hd.took u ≡ true → u < job.workers
+  pub taken_in : (hd : Hold) → s.hold ≡ Some hd → (u : ℕ) → hd.taken u ≡ true → u < job.workers
   taken_in hd held u took =
-      let stands : HoldStands job.workers s.status s.call (Some hd) = rw held at h.hold in
+      let stands : HoldInvariant job.workers s.status s.call (Some hd) = rw held at h.hold in
       let looked = stands.2 u took in let looks = stands.1 in omega (arith, looked, looks)
 
   pub event_in : (w : ℕ) (event : Event) → Needs job s w event → IsInRange job.plan.count job.workers event

@@ -5,10 +5,10 @@ use Rattle.sp_order.specs.Precedence.{Tree, leaf_count}
 use Rattle.sp_order.specs.Plans.{IsPlan}
 use Rattle.sp_order.specs.PlanOf.{IsPlanOf}
 use Rattle.sp_order.specs.Preorder.{nodes_of}
-use Rattle.batcher_core.specs.declared.state.Table.{Table}
+use Rattle.batcher_core.specs.declared.state.State.{State as StoredState}
 use Rattle.batcher_core.specs.State.{State, core_job, opening_state, opening_core}
-use Rattle.batcher_core.specs.Code.Abstraction.{state_of, ready_of, shown, Sizes, CounterFits, FilledFits}
-use Rattle.batcher_core.specs.Code.Core.{Fits}
+use Rattle.batcher_core.specs.Code.Abstraction.{state_of, ready_of, core_state_of, Sizes, CounterFits, FilledFits}
+use Rattle.batcher_core.specs.Code.Core.{RepInvariant}
 use Rattle.batcher_core.proofs.InvariantLemmas.Reached.{has_root}
 use Rattle.batcher_core.proofs.BookLemmas.LeavesIn.{leaves_in}
 use Rattle.batcher_core.proofs.BookLemmas.CallsIn.{calls_in}
@@ -21,20 +21,20 @@ unfolding opening_core
 core_opens = refl
 
 -- the counter starts at 0
-counter_opens : (t : Table) → state_of t ≡ opening_state → CounterFits t
+counter_opens : (t : StoredState) → state_of t ≡ opening_state → CounterFits t
 unfolding state_of opening_state
 counter_opens t e = let zero : t.objects.counter ≡ 0 = ap (λ (s : State). s.objects.counter) e in omega (arith, zero)
 
 pub root_in : (tree : Tree) → IsPlanOf (nodes_of tree) tree → IsPlan (nodes_of tree) → 0 < (nodes_of tree).count
 root_in tree stands laws = laws.within 0 (has_root (nodes_of tree) tree stands)
 
-pub shown_opening : (t : Table) → state_of t ≡ opening_state → ready_of t ≡ opening_core.ready → shown t ≡ opening_core
+pub shown_opening : (t : StoredState) → state_of t ≡ opening_state → ready_of t ≡ opening_core.ready → core_state_of t ≡ opening_core
 unfolding opening_core
 shown_opening t state ready = rw (state, ready) refl
 
-pub opening_fits : (tree : Tree) (shape : Option Tree) (acts : List Act) (workers : ℕ) (t : Table) → 0 < workers → workers ≤ 32 → IsPlanOf (nodes_of tree) tree → IsPlan (nodes_of tree)
+pub opening_fits : (tree : Tree) (shape : Option Tree) (acts : List Act) (workers : ℕ) (t : StoredState) → 0 < workers → workers ≤ 32 → IsPlanOf (nodes_of tree) tree → IsPlan (nodes_of tree)
     → (nodes_of tree).count < 40000 → Some tree ≡ shape → leaf_count shape ≡ length acts → Sizes t (nodes_of tree).count workers
-    → state_of t ≡ opening_state → ready_of t ≡ opening_core.ready → FilledFits t → Fits tree acts workers t
+    → state_of t ≡ opening_state → ready_of t ≡ opening_core.ready → FilledFits t → RepInvariant tree acts workers t
 opening_fits tree shape acts workers t some few stands laws most is leaves sizes state lists filled = record {
   some = some;
   few = few;

@@ -7,7 +7,7 @@ use Rattle.std.proofs.lemmas.Map.Steps.{length-le_from_distinct_below}
 use Rattle.sp_order.specs.Plans.{IsPlan}
 use Rattle.batcher_core.specs.State.{CoreJob, State}
 use Rattle.batcher_core.proofs.Inductive.Ticks.{Stamp, Drawn, StartOf, EndOf, StartsAt, EndsAt, stamps}
-use Rattle.batcher_core.proofs.Inductive.Parts.{PartsKept}
+use Rattle.batcher_core.proofs.Inductive.Parts.{InductiveParts}
 use Rattle.batcher_core.proofs.CodeLemmas.InRange.{standing_in}
 
 abbrev code : Drawn → ℕ
@@ -75,7 +75,7 @@ distinct_codes draw (suc k) h = (
   distinct_codes draw k (λ t u a b. h t u (omega (arith, a)) (omega (arith, b))),
 )
 
-module _ (job : CoreJob) (s : State) (laws : IsPlan job.plan) (h : PartsKept job s) where
+module _ (job : CoreJob) (s : State) (laws : IsPlan job.plan) (h : InductiveParts job s) where
   known_in : (n : ℕ) → stamps s.node s.task h.holder n ≢ None → n < job.plan.count
   known_in n known = standing_in job s laws h n (λ waits. known (rw waits refl))
 

@@ -4,20 +4,20 @@ use Rattle.seq_objects.specs.declared.act.Act.{Act}
 use Rattle.sp_order.specs.Precedence.{Tree}
 use Rattle.sp_order.specs.Preorder.{nodes_of}
 use Rattle.batcher_core.specs.declared.event.Event.{Event}
-use Rattle.batcher_core.specs.declared.state.Table.{Table}
+use Rattle.batcher_core.specs.declared.state.State.{State as StoredState}
 use Rattle.batcher_core.specs.declared.turn.Turn.TheVariants.{Moved, Idle}
 use Rattle.batcher_core.specs.State.{core_job}
 use Rattle.batcher_core.specs.Lists.{ready_after}
 use Rattle.batcher_core.specs.Events.{Does, Happens}
 use Rattle.batcher_core.specs.Choice.{choice}
-use Rattle.batcher_core.specs.Code.Abstraction.{state_of, ready_of, shown, Sizes, SameSizes}
-use Rattle.batcher_core.specs.Code.Core.{Fits, Makes}
+use Rattle.batcher_core.specs.Code.Abstraction.{state_of, ready_of, core_state_of, Sizes, SameSizes}
+use Rattle.batcher_core.specs.Code.Core.{RepInvariant, IsTurnResult}
 use Rattle.batcher_core.proofs.ChoiceLemmas.Choices.{none_has_no_event}
 use Rattle.batcher_core.proofs.ChoiceLemmas.Allowed.{chosen_needs}
 use Rattle.batcher_core.specs.Events.{kind_of}
 use Rattle.batcher_core.proofs.Inductive.FromParts.{kept_parts, event_keeps_all}
 
-sizes_kept : (old new : Table) (nodes workers : ℕ) → Sizes old nodes workers → SameSizes old new → Sizes new nodes workers
+sizes_kept : (old new : StoredState) (nodes workers : ℕ) → Sizes old nodes workers → SameSizes old new → Sizes new nodes workers
 sizes_kept old new nodes workers h same = record {
   nodes_len = same.nodes_same ∙ h.nodes_len;
   marks_len = same.marks_same ∙ h.marks_len;
@@ -28,14 +28,14 @@ sizes_kept old new nodes workers h same = record {
   ready_len = same.ready_same ∙ h.ready_len;
 }
 
-module _ (tree : Tree) (acts : List Act) (workers : ℕ) (old new : Table) (w : ℕ) (event : Event) (h : Fits tree acts workers old) (below : w < workers)
-    (chosen : choice (core_job tree acts workers) (shown old) w ≡ Some event) (does : Does (core_job tree acts workers) (state_of old) w event (state_of new))
+module _ (tree : Tree) (acts : List Act) (workers : ℕ) (old new : StoredState) (w : ℕ) (event : Event) (h : RepInvariant tree acts workers old) (below : w < workers)
+    (chosen : choice (core_job tree acts workers) (core_state_of old) w ≡ Some event) (does : Does (core_job tree acts workers) (state_of old) w event (state_of new))
     (lists : ready_of new ≡ ready_after w event (ready_of old)) where
   happens : Happens (core_job tree acts workers) (state_of old) w event (state_of new)
   happens = record { worker_in = below; needs = chosen_needs tree acts workers old w h below event chosen; does = does }
 
   -- after the chosen event the table fits
-  pub fits_after : SameSizes old new → Fits tree acts workers new
+  pub fits_after : SameSizes old new → RepInvariant tree acts workers new
   fits_after same = record {
     some = h.some;
     few = h.few;
@@ -47,17 +47,17 @@ module _ (tree : Tree) (acts : List Act) (workers : ℕ) (old new : Table) (w : 
     sizes = sizes_kept old new (nodes_of tree).count workers h.sizes same;
     counter = same.counter_same h.counter;
     filled = same.filled_same h.filled;
-    inv = event_keeps_all (core_job tree acts workers) (shown old) (shown new) w (kind_of event) h.laws h.inv
+    inv = event_keeps_all (core_job tree acts workers) (core_state_of old) (core_state_of new) w (kind_of event) h.laws h.inv
         (record { event = event; is = refl; happens = happens; lists = lists });
   }
 
   -- an event was chosen, and has happened
-  pub makes_event : Makes Moved (core_job tree acts workers) (shown old) w (shown new)
+  pub makes_event : IsTurnResult Moved (core_job tree acts workers) (core_state_of old) w (core_state_of new)
   makes_event = (event, chosen, record { happens = happens; lists = lists })
 
 -- none was chosen, and none can happen
-pub makes_none : (tree : Tree) (acts : List Act) (workers : ℕ) (old : Table) (w : ℕ)
-    → Fits tree acts workers old → w < workers → choice (core_job tree acts workers) (shown old) w ≡ None
-    → Makes Idle (core_job tree acts workers) (shown old) w (shown old)
+pub makes_none : (tree : Tree) (acts : List Act) (workers : ℕ) (old : StoredState) (w : ℕ)
+    → RepInvariant tree acts workers old → w < workers → choice (core_job tree acts workers) (core_state_of old) w ≡ None
+    → IsTurnResult Idle (core_job tree acts workers) (core_state_of old) w (core_state_of old)
 makes_none tree acts workers old w h below none =
-    (refl, λ kind next is. none_has_no_event (core_job tree acts workers) (shown old) w h.laws below (kept_parts tree acts workers old h) h.inv.lists none is.event is.happens.needs)
+    (refl, λ kind next is. none_has_no_event (core_job tree acts workers) (core_state_of old) w h.laws below (kept_parts tree acts workers old h) h.inv.lists none is.event is.happens.needs)

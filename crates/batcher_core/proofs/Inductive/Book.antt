@@ -49,7 +49,7 @@ IsEarlier None (Some later) = ⊥
 IsEarlier (Some earlier) (Some later) = earlier.batch < later.batch
 
 -- the book, and the objects after it, with the stamps of the leaves
-pub record BookKept (job : CoreJob) (book : List (List Entry)) (after : objects.Objects) (stamps : ℕ → Option Stamp) : Type 0 where
+pub record InductiveBook (job : CoreJob) (book : List (List Entry)) (after : objects.Objects) (stamps : ℕ → Option Stamp) : Type 0 where
   pub legal : IsLegal book
   pub objects_after : after ≡ served objects.opening (flat book)
   pub batches : AllByRecursion IsBatch book

@@ -20,9 +20,9 @@ use Rattle.batcher_core.specs.declared.state.status.CallState.{CallState}
 use Rattle.batcher_core.specs.declared.state.status.CallState.TheVariants.{NotCalled, Out, Got}
 use Rattle.batcher_core.specs.declared.state.status.Receipt.{Receipt}
 use Rattle.sp_order.specs.Precedence.{Tree}
-use Rattle.batcher_core.specs.declared.state.Table.{Table}
+use Rattle.batcher_core.specs.declared.state.State.{State as StoredState}
 use Rattle.batcher_core.specs.Code.Abstraction.{state_of}
-use Rattle.batcher_core.specs.Code.Core.{Fits}
+use Rattle.batcher_core.specs.Code.Core.{RepInvariant}
 use Rattle.batcher_core.specs.State.{CoreJob, State, CoreState, core_job}
 use Rattle.batcher_core.specs.Operations.{IsLeaf, op_of, Place, place_of}
 use Rattle.batcher_core.specs.Tasks.{is_done, names}
@@ -31,19 +31,19 @@ use Rattle.batcher_core.specs.Choice.{least_below}
 use Rattle.batcher_core.specs.declared.event.Event.{Event}
 use Rattle.batcher_core.specs.Events.{EventKind, Happens, IsCoreEvent}
 use Rattle.batcher_core.specs.Lists.{times}
-use Rattle.batcher_core.specs.Invariant.ReadyLists.{ListsFit}
-use Rattle.batcher_core.specs.Invariant.Nodes.{NodesStand}
-use Rattle.batcher_core.specs.Invariant.Tasks.{IsNamed, IsCount, IsPassed, TasksStand}
-use Rattle.batcher_core.specs.Invariant.Ticks.{IsStartedAs, Draw, start_of, end_of, start_by, end_by, IsDrawn, HasStart, HasEnd, TicksStand}
+use Rattle.batcher_core.specs.Invariant.ReadyLists.{ReadyListsInvariant}
+use Rattle.batcher_core.specs.Invariant.Nodes.{NodesInvariant}
+use Rattle.batcher_core.specs.Invariant.Tasks.{IsNamed, IsCount, IsPassed, TasksInvariant}
+use Rattle.batcher_core.specs.Invariant.Ticks.{IsStartedAs, Draw, start_of, end_of, start_by, end_by, IsDrawn, HasStart, HasEnd, TicksInvariant}
 use Rattle.batcher_core.specs.Invariant.Values.{IsKept, IsValue}
 use Rattle.batcher_core.specs.Invariant.Statuses.{IsAtCall, HasReceipt, is_taken_by}
 use Rattle.batcher_core.specs.Invariant.Hold.{is_published}
 use Rattle.batcher_core.specs.Invariant.{Parts, Invariant}
-use Rattle.batcher_core.proofs.Inductive.Nodes.{NodesKept, passed_if, LeftAlone, TasksKept}
-use Rattle.batcher_core.proofs.Inductive.Ticks.{Stamp, stamp, stamp_in_task, stamp_by, stamps, Drawn, StartOf, EndOf, StartsAt, EndsAt, TicksKept}
-use Rattle.batcher_core.proofs.Inductive.Book.{StatusFits, IsEarlier, BookKept, booked_by, worker_at, is_valued, valued_by, value_at, value_due}
-use Rattle.batcher_core.proofs.Inductive.Parts.{PartsKept}
-use Rattle.batcher_core.proofs.Inductive.Lists.{stands_in, ListsKept}
+use Rattle.batcher_core.proofs.Inductive.Nodes.{InductiveNodes, passed_if, LeftAlone, InductiveTasks}
+use Rattle.batcher_core.proofs.Inductive.Ticks.{Stamp, stamp, stamp_in_task, stamp_by, stamps, Drawn, StartOf, EndOf, StartsAt, EndsAt, InductiveTicks}
+use Rattle.batcher_core.proofs.Inductive.Book.{StatusFits, IsEarlier, InductiveBook, booked_by, worker_at, is_valued, valued_by, value_at, value_due}
+use Rattle.batcher_core.proofs.Inductive.Parts.{InductiveParts}
+use Rattle.batcher_core.proofs.Inductive.Lists.{stands_in, InductiveLists}
 use Rattle.batcher_core.proofs.ChoiceLemmas.Search.{least_is_chosen, no_least}
 use Rattle.batcher_core.proofs.BookLemmas.Books.{found_in_book, place_below}
 use Rattle.batcher_core.proofs.BookLemmas.EntryPlaces.{entry_there}
@@ -52,7 +52,7 @@ use Rattle.batcher_core.proofs.InvariantLemmas.EachEvent.{event_keeps}
 use Rattle.batcher_core.proofs.InvariantLemmas.ReadyLists.{lists_after, lists_fit}
 
 -- the nodes
-nodes_carried : (plan : Nodes) (node : ℕ → Progress) → NodesStand plan node → NodesKept plan node
+nodes_carried : (plan : Nodes) (node : ℕ → Progress) → NodesInvariant plan node → InductiveNodes plan node
 nodes_carried plan node h = record {
   root = h.root;
   below_waiting = λ p n side e. h.before_run p n (n, side, itself) (inl e);
@@ -150,7 +150,7 @@ not_true true h = absurd (h refl)
 not_true false h = refl
 
 module _ (plan : Nodes) (workers : ℕ) (node : ℕ → Progress) (mark : ℕ → ℕ) (tick : ℕ) (task : ℕ → Task)
-    (nodes : NodesStand plan node) (tasks : TasksStand plan node mark task) (ticks : TicksStand plan workers node tick task)
+    (nodes : NodesInvariant plan node) (tasks : TasksInvariant plan node mark task) (ticks : TicksInvariant plan workers node tick task)
     (beyond : (w : ℕ) → workers ≤ w → task w ≡ Idle) where
   -- the worker that names a node
   abbrev holder_of : ℕ → Option ℕ
@@ -199,7 +199,7 @@ module _ (plan : Nodes) (workers : ℕ) (node : ℕ → Progress) (mark : ℕ �
   counted n c false o done held (inl is) = let f = sym done ∙ is.0.0 in absurd cc
   counted n c false o done held (inr is) = is.1
 
-  tasks_carried : TasksKept plan node mark task holder_of
+  tasks_carried : InductiveTasks plan node mark task holder_of
   tasks_carried = record {
     holders = record { named = named; holds = holds };
     fits = tasks.says;
@@ -310,7 +310,7 @@ module _ (plan : Nodes) (workers : ℕ) (node : ℕ → Progress) (mark : ℕ �
   same_stamp : (w s : ℕ) (d e : Option ℕ) → Some (stamp w s d) ≡ Some (stamp w s e) → d ≡ e
   same_stamp w s d e is = (stamp_parts w w s s d e is).2
 
-  ticks_carried : TicksKept plan workers node tick stamps_of
+  ticks_carried : InductiveTicks plan workers node tick stamps_of
   ticks_carried = record {
     draw = draw_of;
     start_drawn = λ n w s e is. started_draw n w s (known n w s e is).0;
@@ -366,10 +366,10 @@ module _ (job : CoreJob) (s : State) (h : Parts job s) where
   abbrev holder : ℕ → Option ℕ
   holder = holder_of job.plan job.workers s.node s.mark s.tick s.task h.nodes h.tasks h.ticks idle_beyond
 
-  kept_tasks : TasksKept job.plan s.node s.mark s.task holder
+  kept_tasks : InductiveTasks job.plan s.node s.mark s.task holder
   kept_tasks = tasks_carried job.plan job.workers s.node s.mark s.tick s.task h.nodes h.tasks h.ticks idle_beyond
 
-  book_carried : BookKept job s.book s.objects (stamps s.node s.task holder)
+  book_carried : InductiveBook job s.book s.objects (stamps s.node s.task holder)
   book_carried = record {
     legal = h.book.legal;
     objects_after = h.book.objects_after;
@@ -412,7 +412,7 @@ module _ (job : CoreJob) (s : State) (h : Parts job s) where
       let place : place_of s.book leaf ≡ Some at.at = ap (place_of s.book) (sym is.2) ∙ at.is in
       ap Some is.3 ∙ sym (ap value_at place ∙ ap (λ (e : Entry). Some (value_of e.reply)) at.entry)
 
-  pub parts_carried : PartsKept job s
+  pub parts_carried : InductiveParts job s
   parts_carried = record {
     holder = holder;
     nodes = nodes_carried job.plan s.node h.nodes;
@@ -434,7 +434,7 @@ module _ (job : CoreJob) (s : State) (h : Parts job s) where
   }
 
 -- the lists
-module _ (workers : ℕ) (node : ℕ → Progress) (ready : ℕ → List ℕ) (h : ListsFit workers node ready) where
+module _ (workers : ℕ) (node : ℕ → Progress) (ready : ℕ → List ℕ) (h : ReadyListsInvariant workers node ready) where
   home_by : (n : ℕ) (x : Progress) → node n ≡ x → Option ℕ
   home_by n Waiting at = None
   home_by n Ready at = Some (h.each n at).0
@@ -475,7 +475,7 @@ module _ (workers : ℕ) (node : ℕ → Progress) (ready : ℕ → List ℕ) (h
   stands_so n w Done at = stands_not n w (λ e. let f = sym at ∙ e in cc)
   stands_so n w (Ran v s d) at = stands_not n w (λ e. let f = sym at ∙ e in cc)
 
-  pub lists_carried : ListsKept workers node ready
+  pub lists_carried : InductiveLists workers node ready
   lists_carried = record {
     home = λ n. home_by n (node n) refl;
     homes = λ n e. home_there n (node n) refl e;
@@ -495,10 +495,10 @@ event_keeps_all job old new w kind laws h step =
     record {
       parts = parts_stand job new.state (event_keeps job old.state new.state w step.event laws parts step.happens);
       lists = lists_fit job.workers new.state.node new.ready
-          (subst (ListsKept job.workers new.state.node) (sym step.lists)
+          (subst (InductiveLists job.workers new.state.node) (sym step.lists)
           (lists_after job old.state w old.ready laws parts step.happens.worker_in lists step.event new.state step.happens.needs step.happens.does));
     }
 
 -- what is carried of a table that fits
-pub kept_parts : (tree : Tree) (acts : List Act) (workers : ℕ) (t : Table) → Fits tree acts workers t → PartsKept (core_job tree acts workers) (state_of t)
+pub kept_parts : (tree : Tree) (acts : List Act) (workers : ℕ) (t : StoredState) → RepInvariant tree acts workers t → InductiveParts (core_job tree acts workers) (state_of t)
 kept_parts tree acts workers t h = parts_carried (core_job tree acts workers) (state_of t) h.inv.parts

@@ -14,7 +14,7 @@ stands_in Done home w = 0
 stands_in (Ran worker start end) home w = 0
 
 -- each ready node has one of the workers as its home, where it stands once, and it stands nowhere else
-pub record ListsKept (workers : ℕ) (node : ℕ → Progress) (ready : ℕ → List ℕ) : Type 0 where
+pub record InductiveLists (workers : ℕ) (node : ℕ → Progress) (ready : ℕ → List ℕ) : Type 0 where
   pub home : ℕ → Option ℕ
   pub homes : (n : ℕ) → node n ≡ Ready → home n ≢ None
   pub among : (n w : ℕ) → home n ≡ Some w → w < workers

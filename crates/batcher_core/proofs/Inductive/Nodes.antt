@@ -12,7 +12,7 @@ use Rattle.batcher_core.specs.Tasks.{is_done, names}
 use Rattle.batcher_core.specs.Invariant.Tasks.{TaskFits}
 
 -- where a node stands against its parent and its sides
-pub record NodesKept (plan : Nodes) (node : ℕ → Progress) : Type 0 where
+pub record InductiveNodes (plan : Nodes) (node : ℕ → Progress) : Type 0 where
   pub root : node 0 ≢ Waiting
   pub below_waiting : (p n : ℕ) → IsSide plan p n → node p ≡ Waiting → node n ≡ Waiting
   pub below_ready : (p n : ℕ) → IsSide plan p n → node p ≡ Ready → node n ≡ Waiting
@@ -45,7 +45,7 @@ LeftAlone (Some (SeqNode l r)) node mark holder p =
 LeftAlone (Some (ParNode l r)) node mark holder p = (node l ≢ Waiting) × (node r ≢ Waiting) × (mark p < 2)
 
 -- the tasks against the nodes
-pub record TasksKept (plan : Nodes) (node : ℕ → Progress) (mark : ℕ → ℕ) (task : ℕ → Task) (holder : ℕ → Option ℕ) : Type 0 where
+pub record InductiveTasks (plan : Nodes) (node : ℕ → Progress) (mark : ℕ → ℕ) (task : ℕ → Task) (holder : ℕ → Option ℕ) : Type 0 where
   pub holders : HoldersFit task holder
   pub fits : (w : ℕ) → TaskFits plan node mark (task w)
   pub alone : (p : ℕ) → node p ≡ Taken → holder p ≡ None → LeftAlone (plan.kind p) node mark holder p

@@ -1,7 +1,7 @@
 -- What is carried of the nodes and the tasks implies what the invariant says of them.
 use Rattle.std.proofs.Common.{ℕ, ◌≡◌, ◌≢◌, ◌⊎◌, Bool, true, false, Option, Some, None, arith, refl, inl, inr}
-use Rattle.batcher_core.specs.Invariant.Nodes.{NodesStand}
-use Rattle.batcher_core.specs.Invariant.Tasks.{IsNamed, IsCount, IsPassed, TasksStand}
+use Rattle.batcher_core.specs.Invariant.Nodes.{NodesInvariant}
+use Rattle.batcher_core.specs.Invariant.Tasks.{IsNamed, IsCount, IsPassed, TasksInvariant}
 use Rattle.sp_order.specs.declared.node.Kind.TheVariants.{LeafNode, SeqNode}
 use Rattle.sp_order.specs.Plans.{Nodes, IsSide, IsUnder, itself, one_below}
 use Rattle.batcher_core.specs.declared.state.progress.Progress.{Progress}
@@ -10,21 +10,21 @@ use Rattle.batcher_core.specs.declared.state.task.Task.{Task}
 use Rattle.batcher_core.specs.declared.state.task.Task.TheVariants.{Whole}
 use Rattle.batcher_core.specs.Tasks.{is_done, names}
 use Rattle.batcher_core.specs.Invariant.Tasks.{TaskFits}
-use Rattle.batcher_core.proofs.Inductive.Nodes.{NodesKept, passed_if, LeftAlone, TasksKept}
+use Rattle.batcher_core.proofs.Inductive.Nodes.{InductiveNodes, passed_if, LeftAlone, InductiveTasks}
 use Rattle.batcher_core.proofs.InvariantLemmas.TickSteps.{under_done}
 
 -- what is under a waiting node waits
-waiting_under : {plan : Nodes} {a n : ℕ} (node : ℕ → Progress) → NodesKept plan node → IsUnder plan a n → node a ≡ Waiting → node n ≡ Waiting
+waiting_under : {plan : Nodes} {a n : ℕ} (node : ℕ → Progress) → InductiveNodes plan node → IsUnder plan a n → node a ≡ Waiting → node n ≡ Waiting
 waiting_under node h itself e = e
 waiting_under node h (one_below {top = a} {parent = p} {node = n} u side) e = h.below_waiting p n side (waiting_under node h u e)
 
 -- the sides of a node that is waiting or ready wait
-first_waits : (plan : Nodes) (node : ℕ → Progress) (p side : ℕ) → NodesKept plan node → IsSide plan p side → (node p ≡ Waiting) ⊎ (node p ≡ Ready) → node side ≡ Waiting
+first_waits : (plan : Nodes) (node : ℕ → Progress) (p side : ℕ) → InductiveNodes plan node → IsSide plan p side → (node p ≡ Waiting) ⊎ (node p ≡ Ready) → node side ≡ Waiting
 first_waits plan node p side h is (inl e) = h.below_waiting p side is e
 first_waits plan node p side h is (inr e) = h.below_ready p side is e
 
 -- the nodes
-pub nodes_stand : (plan : Nodes) (node : ℕ → Progress) → NodesKept plan node → NodesStand plan node
+pub nodes_stand : (plan : Nodes) (node : ℕ → Progress) → InductiveNodes plan node → NodesInvariant plan node
 nodes_stand plan node h = record {
   root = h.root;
   before_run = λ p n below early. waiting_under node h below.2 (first_waits plan node p below.0 h below.1 early);
@@ -39,7 +39,7 @@ nodes_stand plan node h = record {
 whole_of : (plan : Nodes) (node : ℕ → Progress) (mark : ℕ → ℕ) (t : Task) (n : ℕ) → TaskFits plan node mark t → names t ≡ Some n → is_done (node n) ≡ true → t ≡ Whole n
 whole_of plan node mark t n fits name done = grind arith
 
-module _ (plan : Nodes) (node : ℕ → Progress) (mark : ℕ → ℕ) (task : ℕ → Task) (holder : ℕ → Option ℕ) (h : TasksKept plan node mark task holder) where
+module _ (plan : Nodes) (node : ℕ → Progress) (mark : ℕ → ℕ) (task : ℕ → Task) (holder : ℕ → Option ℕ) (h : InductiveTasks plan node mark task holder) where
   -- a node that no task names has no holder
   free_if : (n : ℕ) → (IsNamed task n → ⊥) → holder n ≡ None
   free_if n none = elim (holder n) as (λ o. holder n ≡ o → holder n ≡ None) [
@@ -79,7 +79,7 @@ module _ (plan : Nodes) (node : ℕ → Progress) (mark : ℕ → ℕ) (task : �
   counts n true (Some w) done held = inr ((λ p. p.1 (w, h.holders.holds w n held)), refl)
 
   -- the tasks
-  pub tasks_stand : TasksStand plan node mark task
+  pub tasks_stand : TasksInvariant plan node mark task
   tasks_stand = record {
     apart = λ v w n a b. let e = h.holders.named v n a in let f = h.holders.named w n b in cc;
     says = h.fits;

@@ -5,21 +5,21 @@ use Rattle.batcher_core.specs.declared.state.task.Task.TheVariants.{Idle}
 use Rattle.batcher_core.specs.State.{CoreJob, State}
 use Rattle.batcher_core.specs.Operations.{IsCall, place_of}
 use Rattle.batcher_core.specs.Invariant.Statuses.{is_taken_by}
-use Rattle.batcher_core.specs.Invariant.Hold.{is_published, HoldStands}
-use Rattle.batcher_core.proofs.Inductive.Nodes.{NodesKept, TasksKept}
-use Rattle.batcher_core.proofs.Inductive.Ticks.{stamps, TicksKept}
-use Rattle.batcher_core.proofs.Inductive.Book.{StatusFits, BookKept, worker_at, booked_by, valued_by, value_due}
+use Rattle.batcher_core.specs.Invariant.Hold.{is_published, HoldInvariant}
+use Rattle.batcher_core.proofs.Inductive.Nodes.{InductiveNodes, InductiveTasks}
+use Rattle.batcher_core.proofs.Inductive.Ticks.{stamps, InductiveTicks}
+use Rattle.batcher_core.proofs.Inductive.Book.{StatusFits, InductiveBook, worker_at, booked_by, valued_by, value_due}
 
 -- All that the proofs carry, with the worker whose task names each node.
-pub record PartsKept (job : CoreJob) (s : State) : Type 0 where
+pub record InductiveParts (job : CoreJob) (s : State) : Type 0 where
   pub holder : ℕ → Option ℕ
-  pub nodes : NodesKept job.plan s.node
-  pub tasks : TasksKept job.plan s.node s.mark s.task holder
+  pub nodes : InductiveNodes job.plan s.node
+  pub tasks : InductiveTasks job.plan s.node s.mark s.task holder
   pub beyond : (w : ℕ) → job.workers ≤ w → s.task w ≡ Idle
-  pub ticks : TicksKept job.plan job.workers s.node s.tick (stamps s.node s.task holder)
+  pub ticks : InductiveTicks job.plan job.workers s.node s.tick (stamps s.node s.task holder)
   pub statuses : (w : ℕ) → StatusFits job s.book (s.task w) (s.status w) (s.call w) (is_taken_by s.hold w)
-  pub hold : HoldStands job.workers s.status s.call s.hold
-  pub book : BookKept job s.book s.objects (stamps s.node s.task holder)
+  pub hold : HoldInvariant job.workers s.status s.call s.hold
+  pub book : InductiveBook job s.book s.objects (stamps s.node s.task holder)
   pub booked : (n leaf : ℕ) → job.plan.kind n ≡ Some (LeafNode leaf) → IsCall job leaf
       → worker_at (place_of s.book leaf) ≡ booked_by (s.node n) (holder n) s.task s.status s.call (is_published s.hold)
   pub values : (n leaf : ℕ) → job.plan.kind n ≡ Some (LeafNode leaf) → valued_by (s.node n) (holder n) s.task ≡ true

@@ -4,10 +4,10 @@ use Rattle.std.specs.Prelude.{Contains}
 use Rattle.std.proofs.lemmas.List.Elements.{recursion_from_All, All-contains_itself}
 use Rattle.seq_objects.specs.Objects.{value_of}
 use Rattle.seq_objects.specs.Spin.{spin_of}
-use Rattle.batcher_core.specs.Invariant.Values.{IsKept, IsValue, ValuesStand}
-use Rattle.batcher_core.specs.Invariant.Statuses.{StatusesStand}
-use Rattle.batcher_core.specs.Invariant.Book.{BookStands}
-use Rattle.batcher_core.specs.Invariant.Membership.{IsBooked, MembersStand}
+use Rattle.batcher_core.specs.Invariant.Values.{IsKept, IsValue, ValuesInvariant}
+use Rattle.batcher_core.specs.Invariant.Statuses.{StatusesInvariant}
+use Rattle.batcher_core.specs.Invariant.Book.{BookInvariant}
+use Rattle.batcher_core.specs.Invariant.Membership.{IsBooked, MembershipInvariant}
 use Rattle.batcher_core.specs.Invariant.{Parts}
 use Rattle.seq_objects.specs.declared.act.Act.{Act}
 use Rattle.seq_objects.specs.declared.act.Act.TheVariants.{Work, Call}
@@ -30,9 +30,9 @@ use Rattle.batcher_core.specs.Tasks.{is_done, names}
 use Rattle.batcher_core.specs.Invariant.Tasks.{TaskFits}
 use Rattle.batcher_core.specs.Invariant.Statuses.{IsAtCall, HasReceipt, is_taken_by}
 use Rattle.batcher_core.specs.Invariant.Hold.{is_published}
-use Rattle.batcher_core.proofs.Inductive.Nodes.{HoldersFit, TasksKept}
+use Rattle.batcher_core.proofs.Inductive.Nodes.{HoldersFit, InductiveTasks}
 use Rattle.batcher_core.proofs.Inductive.Book.{StatusFits, IsEarlier, is_booked, booked_by, worker_at, valued_by, value_due}
-use Rattle.batcher_core.proofs.Inductive.Parts.{PartsKept}
+use Rattle.batcher_core.proofs.Inductive.Parts.{InductiveParts}
 use Rattle.batcher_core.proofs.Inductive.TicksHold.{stamped, stamped_end, ticks_stand}
 use Rattle.batcher_core.proofs.Inductive.NodesHold.{nodes_stand, tasks_stand}
 use Rattle.batcher_core.proofs.BookLemmas.Books.{found_in_book}
@@ -81,7 +81,7 @@ got_has job book t st c b r h e = row st c e h where
   row (Served z) (Got q) e g = absurd g
 
 -- the statuses
-pub statuses_stand : (job : CoreJob) (s : State) → ((w : ℕ) → StatusFits job s.book (s.task w) (s.status w) (s.call w) (is_taken_by s.hold w)) → StatusesStand job s
+pub statuses_stand : (job : CoreJob) (s : State) → ((w : ℕ) → StatusFits job s.book (s.task w) (s.status w) (s.call w) (is_taken_by s.hold w)) → StatusesInvariant job s
 statuses_stand job s h = record {
   out = λ w. (is_out job s.book (s.task w) (s.status w) (s.call w) (is_taken_by s.hold w) (h w), λ busy. call_out job s.book (s.task w) (s.status w) (s.call w) (is_taken_by s.hold w) busy (h w));
   at_call = λ w. is_at_call job s.book (s.task w) (s.status w) (s.call w) (is_taken_by s.hold w) (h w);
@@ -97,7 +97,7 @@ earlier_place None (Some q) later h e = absurd h
 earlier_place (Some p) (Some q) later h e = let f : q ≡ later = cc in (p, refl, subst (λ (x : Place). p.batch < x.batch) f h)
 
 -- the book
-pub book_stands : (job : CoreJob) (s : State) → PartsKept job s → BookStands job s
+pub book_stands : (job : CoreJob) (s : State) → InductiveParts job s → BookInvariant job s
 book_stands job s h = record {
   legal = h.book.legal;
   objects_after = h.book.objects_after;
@@ -158,7 +158,7 @@ by_node s holder n w Taken (Some v) h at held e =
     subst (IsBooked s n) f.1 (by_task s n v (s.task v) refl (h.holds v n held) f.0)
 
 -- and back
-pub is_by : (s : State) (plan : Nodes) (holder : ℕ → Option ℕ) (n w : ℕ) → TasksKept plan s.node s.mark s.task holder → IsBooked s n w
+pub is_by : (s : State) (plan : Nodes) (holder : ℕ → Option ℕ) (n w : ℕ) → InductiveTasks plan s.node s.mark s.task holder → IsBooked s n w
     → booked_by (s.node n) (holder n) s.task s.status s.call (is_published s.hold) ≡ Some w
 is_by s plan holder n w h (inl ran) = rw ran.2 refl
 is_by s plan holder n w h (inr (inl kept)) =
@@ -184,7 +184,7 @@ has_worker None w e = cc
 has_worker (Some place) w e = (place, refl, cc)
 
 -- who is in the book
-pub members_stand : (job : CoreJob) (s : State) → PartsKept job s → MembersStand job s
+pub members_stand : (job : CoreJob) (s : State) → InductiveParts job s → MembershipInvariant job s
 members_stand job s h = record {
   only = λ n leaf kind call place at.
       by_node s h.holder n place.entry.worker (s.node n) (h.holder n) h.tasks.holders refl refl
@@ -198,7 +198,7 @@ valued_ran : (x : Progress) (o : Option ℕ) (task : ℕ → Task) → is_done x
 valued_ran x o task done leaf = grind arith
 
 -- a leaf that is to have its value has it
-is_valued_by : (job : CoreJob) (s : State) (h : PartsKept job s) (n leaf : ℕ) → job.plan.kind n ≡ Some (LeafNode leaf) → IsKept s.node s.task n → valued_by (s.node n) (h.holder n) s.task ≡ true
+is_valued_by : (job : CoreJob) (s : State) (h : InductiveParts job s) (n leaf : ℕ) → job.plan.kind n ≡ Some (LeafNode leaf) → IsKept s.node s.task n → valued_by (s.node n) (h.holder n) s.task ≡ true
 is_valued_by job s h n leaf kind (inl done) = valued_ran (s.node n) (h.holder n) s.task done (h.nodes.leaf_ran n leaf kind)
 is_valued_by job s h n leaf kind (inr (inl kept)) =
     let fits : TaskFits job.plan s.node s.mark (Kept n kept.1) = rw kept.2 at (h.tasks.fits kept.0) in
@@ -216,7 +216,7 @@ value_is book leaf (Call op) None there found = absurd (there (λ e. cc) refl)
 value_is book leaf (Call op) (Some place) there found = (value_of place.entry.reply, refl, (place.entry, (found place refl).0, (found place refl).1, refl))
 
 -- the values
-pub values_stand : (job : CoreJob) (s : State) → PartsKept job s → ValuesStand job s
+pub values_stand : (job : CoreJob) (s : State) → InductiveParts job s → ValuesInvariant job s
 values_stand job s h = record {
   values = λ n leaf kind kept.
       let valued = is_valued_by job s h n leaf kind kept in
@@ -228,7 +228,7 @@ values_stand job s h = record {
 }
 
 -- All parts.
-pub parts_stand : (job : CoreJob) (s : State) → PartsKept job s → Parts job s
+pub parts_stand : (job : CoreJob) (s : State) → InductiveParts job s → Parts job s
 parts_stand job s h = record {
   nodes = nodes_stand job.plan s.node h.nodes;
   tasks = tasks_stand job.plan s.node s.mark s.task h.holder h.tasks;

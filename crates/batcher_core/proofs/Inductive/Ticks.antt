@@ -69,7 +69,7 @@ abbrev pub ComesBefore : Nodes → ℕ → ℕ → Type 0
 ComesBefore plan n m = (leaf : ℕ) × (plan.kind n ≡ Some (LeafNode leaf)) × IsBySeries plan n m
 
 -- the ticks drawn so far are exactly the starts and the ends, each once
-pub record TicksKept (plan : Nodes) (workers : ℕ) (node : ℕ → Progress) (tick : ℕ) (stamps : ℕ → Option Stamp) : Type 0 where
+pub record InductiveTicks (plan : Nodes) (workers : ℕ) (node : ℕ → Progress) (tick : ℕ) (stamps : ℕ → Option Stamp) : Type 0 where
   pub draw : ℕ → Drawn
   pub start_drawn : (n w s : ℕ) (e : Option ℕ) → stamps n ≡ Some (stamp w s e) → (draw s ≡ StartOf n) × (s < tick)
   pub end_drawn : (n w s e : ℕ) → stamps n ≡ Some (stamp w s (Some e)) → (draw e ≡ EndOf n) × (e < tick) × (s < e)

@@ -1,6 +1,6 @@
 -- What is carried of the ticks implies what the invariant says of them.
 use Rattle.std.proofs.Common.{ℕ, ◌≡◌, ◌<◌, Option, Some, None, refl, inl, inr, sym, ◌∙◌, ap}
-use Rattle.batcher_core.specs.Invariant.Ticks.{IsStartedAs, Draw, start_of, end_of, start_by, end_by, IsDrawn, HasStart, HasEnd, TicksStand}
+use Rattle.batcher_core.specs.Invariant.Ticks.{IsStartedAs, Draw, start_of, end_of, start_by, end_by, IsDrawn, HasStart, HasEnd, TicksInvariant}
 use Rattle.sp_order.specs.Plans.{Nodes}
 use Rattle.batcher_core.specs.declared.state.progress.Progress.{Progress}
 use Rattle.batcher_core.specs.declared.state.progress.Progress.TheVariants.{Waiting, Ready, Taken, Done, Ran}
@@ -8,8 +8,8 @@ use Rattle.batcher_core.specs.declared.state.task.Task.{Task}
 use Rattle.batcher_core.specs.declared.state.task.Task.TheVariants.{Idle, Run, Half, Started, Kept, Ended, Whole, Handed}
 use Rattle.batcher_core.specs.Tasks.{names}
 use Rattle.batcher_core.specs.Invariant.Tasks.{TaskFits}
-use Rattle.batcher_core.proofs.Inductive.Nodes.{TasksKept}
-use Rattle.batcher_core.proofs.Inductive.Ticks.{stamp, stamp_in_task, stamp_by, stamps, Drawn, StartOf, EndOf, RanBefore, EndsBefore, StartsAt, EndsAt, TicksKept}
+use Rattle.batcher_core.proofs.Inductive.Nodes.{InductiveTasks}
+use Rattle.batcher_core.proofs.Inductive.Ticks.{stamp, stamp_in_task, stamp_by, stamps, Drawn, StartOf, EndOf, RanBefore, EndsBefore, StartsAt, EndsAt, InductiveTicks}
 
 -- whose start or end a tick was drawn for: the worker's, while its task names the leaf, else the leaf's own
 abbrev start_source : Progress → Option ℕ → ℕ → Draw
@@ -41,7 +41,7 @@ ran_before Taken t h = absurd h
 ran_before Done t h = absurd h
 
 module _ (plan : Nodes) (workers : ℕ) (node : ℕ → Progress) (mark : ℕ → ℕ) (tick : ℕ) (task : ℕ → Task) (holder : ℕ → Option ℕ)
-    (tasks : TasksKept plan node mark task holder) (h : TicksKept plan workers node tick (stamps node task holder)) where
+    (tasks : InductiveTasks plan node mark task holder) (h : InductiveTicks plan workers node tick (stamps node task holder)) where
   -- the leaf that a task names as started has a stamp with its worker and its start
   abbrev HasStamp : ℕ → ℕ → ℕ → Type 0
   HasStamp w n s = (holder n ≡ Some w) × (node n ≡ Taken) × (d : Option ℕ) × (stamps node task holder n ≡ Some (stamp w s d)) × ((e : ℕ) → d ≡ Some e → HasEnd node task n w s e)
@@ -164,7 +164,7 @@ module _ (plan : Nodes) (workers : ℕ) (node : ℕ → Progress) (mark : ℕ �
   ends_before n w s t (Some e) early ends = (e, ends e refl, early)
 
   -- the ticks
-  pub ticks_stand : TicksStand plan workers node tick task
+  pub ticks_stand : TicksInvariant plan workers node tick task
   ticks_stand = record {
     distinct = λ a b t i j. (drawn_is a t i).0 ∙ sym (drawn_is b t j).0;
     only = λ a t i. (drawn_is a t i).1;

@@ -16,7 +16,7 @@ use Rattle.batcher_core.specs.Invariant.Hold.{is_published}
 use Rattle.batcher_core.proofs.Inductive.Nodes.{HoldersFit}
 use Rattle.batcher_core.proofs.Inductive.Ticks.{stamps}
 use Rattle.batcher_core.proofs.Inductive.Book.{booked_by, valued_by}
-use Rattle.batcher_core.proofs.Inductive.Parts.{PartsKept}
+use Rattle.batcher_core.proofs.Inductive.Parts.{InductiveParts}
 use Rattle.batcher_core.proofs.InvariantLemmas.FinishTasks as leaves
 use Rattle.batcher_core.proofs.InvariantLemmas.JobSide.{job_keeps}
 
@@ -36,9 +36,9 @@ hand_same : (node : ℕ → Progress) (task : ℕ → Task) (status : ℕ → St
     × (valued_by (node m) (put (put holder n None) p (Some w) m) (put task w (Handed p)) ≡ valued_by (node m) (holder m) task)
 hand_same node task status call b holder w n p m h mine done free = grind (arith, nat_tests, h.holds w m)
 
-module _ (job : CoreJob) (s : State) (w : ℕ) (laws : IsPlan job.plan) (below : w < job.workers) (h : PartsKept job s) where
+module _ (job : CoreJob) (s : State) (w : ℕ) (laws : IsPlan job.plan) (below : w < job.workers) (h : InductiveParts job s) where
   -- the first arrival
-  pub arrive_first_keeps : (p l r n : ℕ) → Needs job s w (ArriveFirst p l r n) → PartsKept job (record s { mark = put s.mark p 1; task = put s.task w Idle })
+  pub arrive_first_keeps : (p l r n : ℕ) → Needs job s w (ArriveFirst p l r n) → InductiveParts job (record s { mark = put s.mark p 1; task = put s.task w Idle })
   arrive_first_keeps p l r n needs =
       let mine : s.task w ≡ Whole n = needs.1 in
       let fits : TaskFits job.plan s.node s.mark (Whole n) = rw mine at (h.tasks.fits w) in
@@ -48,7 +48,7 @@ module _ (job : CoreJob) (s : State) (w : ℕ) (laws : IsPlan job.plan) (below :
       (λ m. (same m).0) (λ m u leaf. (same m).1) (λ m. (same m).2) (λ m v a e ran. ran)
 
   -- the second one
-  pub arrive_second_keeps : (p l r n : ℕ) → Needs job s w (ArriveSecond p l r n) → PartsKept job (record s { mark = put s.mark p 2; task = put s.task w (Handed p) })
+  pub arrive_second_keeps : (p l r n : ℕ) → Needs job s w (ArriveSecond p l r n) → InductiveParts job (record s { mark = put s.mark p 2; task = put s.task w (Handed p) })
   arrive_second_keeps p l r n needs =
       let mine : s.task w ≡ Whole n = needs.1 in
       let fits : TaskFits job.plan s.node s.mark (Whole n) = rw mine at (h.tasks.fits w) in

@@ -19,8 +19,8 @@ use Rattle.batcher_core.specs.Tasks.{names}
 use Rattle.batcher_core.specs.Invariant.Tasks.{TaskFits}
 use Rattle.batcher_core.specs.Events.{published}
 use Rattle.batcher_core.specs.Invariant.Statuses.{HasReceipt, is_taken_by}
-use Rattle.batcher_core.specs.Invariant.Hold.{HoldStands}
-use Rattle.batcher_core.proofs.Inductive.Nodes.{TasksKept}
+use Rattle.batcher_core.specs.Invariant.Hold.{HoldInvariant}
+use Rattle.batcher_core.proofs.Inductive.Nodes.{InductiveTasks}
 use Rattle.batcher_core.proofs.Inductive.Ticks.{stamp, stamps}
 use Rattle.batcher_core.proofs.Inductive.Book.{StatusFits, EntryFits, IsEarlier, is_booked, booked_by, worker_at}
 use Rattle.batcher_core.proofs.BookLemmas.Books.{place_append, place_in_batch}
@@ -74,8 +74,8 @@ taken_same None w = refl
 taken_same (Some h) w = refl
 
 -- the hold, once it is published
-pub hold_kept : (job : CoreJob) (s : State) (h : Hold) → HoldStands job.workers s.status s.call (Some h) → h.looks ≡ job.workers → (u : ℕ) × (h.took u ≡ true)
-    → HoldStands job.workers s.status s.call (published (Some h))
+pub hold_kept : (job : CoreJob) (s : State) (h : Hold) → HoldInvariant job.workers s.status s.call (Some h) → h.looks ≡ job.workers → (u : ℕ) × (h.taken u ≡ true)
+    → HoldInvariant job.workers s.status s.call (published (Some h))
 hold_kept job s h fits looks some = (fits.0, fits.1, fits.2, λ e. looks, λ e. some, fits.5, λ u e. refl, fits.7)
 
 -- a place that is earlier stays so, if the batches of the new places are past it
@@ -148,20 +148,20 @@ pub started_taken : (plan : Nodes) (node : ℕ → Progress) (mark : ℕ → ℕ
 started_taken plan node mark t n h e = grind arith
 
 -- the status of a worker that was taken, before the batch is published
-pub executing : (job : CoreJob) (s : State) (h : Hold) (w : ℕ) → s.hold ≡ Some h → h.published ≡ false → HoldStands job.workers s.status s.call (Some h)
-    → StatusFits job s.book (s.task w) (s.status w) (s.call w) (is_taken_by (Some h) w) → h.took w ≡ true → s.status w ≡ Executing
+pub executing : (job : CoreJob) (s : State) (h : Hold) (w : ℕ) → s.hold ≡ Some h → h.published ≡ false → HoldInvariant job.workers s.status s.call (Some h)
+    → StatusFits job s.book (s.task w) (s.status w) (s.call w) (is_taken_by (Some h) w) → h.taken w ≡ true → s.status w ≡ Executing
 executing job s h w there un hold fits took =
     let answered : h.answered w ≡ false = grind (arith, hold.6 w) in
     grind arith
 
 -- and the other way round; and its call is out
 pub took_it : (job : CoreJob) (s : State) (h : Hold) (w : ℕ)
-    → StatusFits job s.book (s.task w) (s.status w) (s.call w) (is_taken_by (Some h) w) → s.status w ≡ Executing → (h.took w ≡ true) × (s.call w ≡ Out)
+    → StatusFits job s.book (s.task w) (s.status w) (s.call w) (is_taken_by (Some h) w) → s.status w ≡ Executing → (h.taken w ≡ true) × (s.call w ≡ Out)
 took_it job s h w fits e = grind arith
 
 -- an entry of the batch fits the longer book
-pub new_entry : (job : CoreJob) (s : State) (h : Hold) (b : List Entry) (u : ℕ) (p : Place) → HoldStands job.workers s.status s.call (Some h) → h.looks ≡ job.workers
-    → BatchFits job s h.took b → place_in (length s.book) 0 b u ≡ Some p → EntryFits job (s.book ++ b ∷ []) u p
+pub new_entry : (job : CoreJob) (s : State) (h : Hold) (b : List Entry) (u : ℕ) (p : Place) → HoldInvariant job.workers s.status s.call (Some h) → h.looks ≡ job.workers
+    → BatchFits job s h.taken b → place_in (length s.book) 0 b u ≡ Some p → EntryFits job (s.book ++ b ∷ []) u p
 new_entry job s h b u p hold looks batch e = (
   op_kept job s.book b u p.entry.op (batch.operation u p e),
   omega (arith, hold.2 p.entry.worker (batch.taken u p e), looks),
@@ -178,9 +178,9 @@ pub ended_booked : (node : ℕ → Progress) (task : ℕ → Task) (holder : ℕ
 ended_booked node task holder status call b n w s d e = grind arith
 
 -- the leaf of an entry of the batch is taken, held by the entry's worker, which has started it
-pub batch_node : (job : CoreJob) (s : State) (h : Hold) (b : List Entry) (holder : ℕ → Option ℕ) (n u : ℕ) (y : Place) → TasksKept job.plan s.node s.mark s.task holder
-    → BatchFits job s h.took b → n ≡ job.plan.node_of u → place_in (length s.book) 0 b u ≡ Some y
-    → (s.node n ≡ Taken) × (holder n ≡ Some y.entry.worker) × (h.took y.entry.worker ≡ true) × (started_at (s.task y.entry.worker) ≢ None)
+pub batch_node : (job : CoreJob) (s : State) (h : Hold) (b : List Entry) (holder : ℕ → Option ℕ) (n u : ℕ) (y : Place) → InductiveTasks job.plan s.node s.mark s.task holder
+    → BatchFits job s h.taken b → n ≡ job.plan.node_of u → place_in (length s.book) 0 b u ≡ Some y
+    → (s.node n ≡ Taken) × (holder n ≡ Some y.entry.worker) × (h.taken y.entry.worker ≡ true) × (started_at (s.task y.entry.worker) ≢ None)
 batch_node job s h b holder n u y tasks batch at e =
     let started : started_at (s.task y.entry.worker) ≡ Some n = batch.started u y e ∙ ap Some (sym at) in
     let name : names (s.task y.entry.worker) ≡ Some n = names_started (s.task y.entry.worker) n started in
@@ -188,8 +188,8 @@ batch_node job s h b holder n u y tasks batch at e =
     (started_taken job.plan s.node s.mark (s.task y.entry.worker) n fits started, tasks.holders.named y.entry.worker n name, batch.taken u y e, λ none. cc)
 
 -- a taken worker that holds a leaf has its entry in the batch
-pub batch_each : (job : CoreJob) (s : State) (h : Hold) (b : List Entry) (holder : ℕ → Option ℕ) (n u v : ℕ) → TasksKept job.plan s.node s.mark s.task holder
-    → BatchFits job s h.took b → job.plan.kind n ≡ Some (LeafNode u) → holder n ≡ Some v → h.took v ≡ true → started_at (s.task v) ≢ None
+pub batch_each : (job : CoreJob) (s : State) (h : Hold) (b : List Entry) (holder : ℕ → Option ℕ) (n u v : ℕ) → InductiveTasks job.plan s.node s.mark s.task holder
+    → BatchFits job s h.taken b → job.plan.kind n ≡ Some (LeafNode u) → holder n ≡ Some v → h.taken v ≡ true → started_at (s.task v) ≢ None
     → worker_at (place_in (length s.book) 0 b u) ≡ Some v
 batch_each job s h b holder n u v tasks batch leaf held took started =
     let at : started_at (s.task v) ≡ Some n = started_name (s.task v) n (tasks.holders.holds v n held) started in

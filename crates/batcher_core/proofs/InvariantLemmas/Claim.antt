@@ -18,8 +18,8 @@ use Rattle.batcher_core.specs.Invariant.Statuses.{IsAtCall, is_taken_by}
 use Rattle.batcher_core.specs.Invariant.Hold.{is_published}
 use Rattle.batcher_core.proofs.Inductive.Nodes.{HoldersFit}
 use Rattle.batcher_core.proofs.Inductive.Ticks.{Stamp, stamps}
-use Rattle.batcher_core.proofs.Inductive.Book.{StatusFits, BookKept, booked_by, valued_by}
-use Rattle.batcher_core.proofs.Inductive.Parts.{PartsKept}
+use Rattle.batcher_core.proofs.Inductive.Book.{StatusFits, InductiveBook, booked_by, valued_by}
+use Rattle.batcher_core.proofs.Inductive.Parts.{InductiveParts}
 use Rattle.batcher_core.proofs.CodeLemmas.Puts.{put_at, put_other}
 use Rattle.batcher_core.proofs.InvariantLemmas.NodeSteps.{claim_nodes}
 use Rattle.batcher_core.proofs.InvariantLemmas.ClaimTasks.{claim_tasks, beyond_put}
@@ -55,11 +55,11 @@ statuses_free job s w t free away h v = elim (cases_eq v w) as (λ _. StatusFits
 ]
 
 -- the book, where each stamp is as it was
-pub same_book : (job : CoreJob) (s : State) (old new : ℕ → Option Stamp) → ((n : ℕ) → new n ≡ old n) → BookKept job s.book s.objects old → BookKept job s.book s.objects new
-same_book job s old new same h = subst (BookKept job s.book s.objects) (λ i n. sym (same n) i) h
+pub same_book : (job : CoreJob) (s : State) (old new : ℕ → Option Stamp) → ((n : ℕ) → new n ≡ old n) → InductiveBook job s.book s.objects old → InductiveBook job s.book s.objects new
+same_book job s old new same h = subst (InductiveBook job s.book s.objects) (λ i n. sym (same n) i) h
 
 -- all that is carried, after a claim
-pub claim_keeps : (job : CoreJob) (s : State) (w n : ℕ) → IsPlan job.plan → w < job.workers → PartsKept job s → Needs job s w (Claim n) → PartsKept job (record s { node = put s.node n Taken; task = put s.task w (Run n) })
+pub claim_keeps : (job : CoreJob) (s : State) (w n : ℕ) → IsPlan job.plan → w < job.workers → InductiveParts job s → Needs job s w (Claim n) → InductiveParts job (record s { node = put s.node n Taken; task = put s.task w (Run n) })
 claim_keeps job s w n laws under h needs =
     let stamp_there : (m : ℕ) → stamps (put s.node n Taken) (put s.task w (Run n)) (put h.holder n (Some w)) m ≡ stamps s.node s.task h.holder m = λ m. claim_stamp s.node s.task h.holder w n m h.tasks.holders needs.1 needs.2 in
     record {

@@ -8,16 +8,16 @@ use Rattle.batcher_core.specs.declared.state.task.Task.{Task}
 use Rattle.batcher_core.specs.declared.state.task.Task.TheVariants.{Idle, Run}
 use Rattle.batcher_core.specs.State.{put}
 use Rattle.batcher_core.specs.Invariant.Tasks.{TaskFits}
-use Rattle.batcher_core.proofs.Inductive.Nodes.{NodesKept, TasksKept}
+use Rattle.batcher_core.proofs.Inductive.Nodes.{InductiveNodes, InductiveTasks}
 use Rattle.batcher_core.proofs.CodeLemmas.Puts.{put_each}
 use Rattle.batcher_core.proofs.InvariantLemmas.Holders.{take_task}
 use Rattle.batcher_core.proofs.InvariantLemmas.TaskFrames.{claim_task, unheld}
 
 -- a worker claims a ready node
 pub claim_tasks : (plan : Nodes) (node : ℕ → Progress) (mark : ℕ → ℕ) (task : ℕ → Task) (holder : ℕ → Option ℕ) (w n : ℕ)
-    → IsPlan plan → NodesKept plan node → TasksKept plan node mark task holder
+    → IsPlan plan → InductiveNodes plan node → InductiveTasks plan node mark task holder
     → task w ≡ Idle → node n ≡ Ready
-    → TasksKept plan (put node n Taken) mark (put task w (Run n)) (put holder n (Some w))
+    → InductiveTasks plan (put node n Taken) mark (put task w (Run n)) (put holder n (Some w))
 claim_tasks plan node mark task holder w n laws nodes h idle ready =
     let free : holder n ≡ None = unheld plan node mark task holder n h (grind arith) (grind arith) in
     record {

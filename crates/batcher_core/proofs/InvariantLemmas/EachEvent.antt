@@ -5,7 +5,7 @@ use Rattle.batcher_core.specs.declared.event.Event.{Event}
 use Rattle.batcher_core.specs.declared.event.Event.TheVariants.{Claim, Start, OpenParRight, OpenParLeft, OpenSeqLeft, OpenSeqRight, Post, Win, Take, Publish, Answer, Release, Leave, Keep, End, FinishLeaf, FinishSeq, FinishPar, ArriveFirst, ArriveSecond}
 use Rattle.batcher_core.specs.State.{CoreJob, State}
 use Rattle.batcher_core.specs.Events.{Happens}
-use Rattle.batcher_core.proofs.Inductive.Parts.{PartsKept}
+use Rattle.batcher_core.proofs.Inductive.Parts.{InductiveParts}
 use Rattle.batcher_core.proofs.InvariantLemmas.Claim.{claim_keeps}
 use Rattle.batcher_core.proofs.InvariantLemmas.Leaf.{start_keeps, end_keeps}
 use Rattle.batcher_core.proofs.InvariantLemmas.Value.{keep_keeps}
@@ -16,24 +16,24 @@ use Rattle.batcher_core.proofs.InvariantLemmas.Gate.{post_keeps, win_keeps, take
 use Rattle.batcher_core.proofs.InvariantLemmas.Publish.{publish_keeps}
 
 -- row by row
-pub event_keeps : (job : CoreJob) (s new : State) (w : ℕ) (event : Event) → IsPlan job.plan → PartsKept job s → Happens job s w event new → PartsKept job new
-event_keeps job s new w (Claim n) laws h go = subst (PartsKept job) (sym go.does) (claim_keeps job s w n laws go.worker_in h go.needs)
-event_keeps job s new w (Start n) laws h go = subst (PartsKept job) (sym go.does) (start_keeps job s w n laws go.worker_in h go.needs)
-event_keeps job s new w (OpenParRight p l r) laws h go = subst (PartsKept job) (sym go.does) (opens.open_right_keeps job s w laws go.worker_in h p l r go.needs)
-event_keeps job s new w (OpenParLeft p l r) laws h go = subst (PartsKept job) (sym go.does) (opens.open_left_keeps job s w laws go.worker_in h p l r go.needs)
-event_keeps job s new w (OpenSeqLeft p l r) laws h go = subst (PartsKept job) (sym go.does) (opens.open_first_keeps job s w laws go.worker_in h p l r go.needs)
-event_keeps job s new w (OpenSeqRight p l r) laws h go = subst (PartsKept job) (sym go.does) (opens.open_second_keeps job s w laws go.worker_in h p l r go.needs)
-event_keeps job s new w (Post n t) laws h go = subst (PartsKept job) (sym go.does) (post_keeps job s w n t h go.needs)
-event_keeps job s new w Win laws h go = subst (PartsKept job) (sym go.does) (win_keeps job s w h go.needs)
-event_keeps job s new w (Take u) laws h go = subst (PartsKept job) (sym go.does) (take_keeps job s w u h go.needs)
-event_keeps job s new w Publish laws h go = subst (PartsKept job) (sym go.does.2) (publish_keeps job s w go.does.0 laws h go.needs go.does.1)
-event_keeps job s new w (Answer u r) laws h go = subst (PartsKept job) (sym go.does) (answer_keeps job s w u r h go.needs)
-event_keeps job s new w Release laws h go = subst (PartsKept job) (sym go.does) (release_keeps job s w h go.needs)
-event_keeps job s new w (Leave r) laws h go = subst (PartsKept job) (sym go.does) (leave_keeps job s w r h go.needs)
-event_keeps job s new w (Keep n t v) laws h go = subst (PartsKept job) (sym go.does) (keep_keeps job s w n t v laws go.worker_in h go.needs)
-event_keeps job s new w (End n t) laws h go = subst (PartsKept job) (sym go.does) (end_keeps job s w n t laws go.worker_in h go.needs)
-event_keeps job s new w (FinishLeaf n t e) laws h go = subst (PartsKept job) (sym go.does) (finishes.leaf_keeps job s w laws go.worker_in h n t e go.needs)
-event_keeps job s new w (FinishSeq p l r) laws h go = subst (PartsKept job) (sym go.does) (finishes.seq_keeps job s w laws go.worker_in h p l r go.needs)
-event_keeps job s new w (FinishPar p l r) laws h go = subst (PartsKept job) (sym go.does) (finishes.par_keeps job s w laws go.worker_in h p l r go.needs)
-event_keeps job s new w (ArriveFirst p l r n) laws h go = subst (PartsKept job) (sym go.does) (arrivals.arrive_first_keeps job s w laws go.worker_in h p l r n go.needs)
-event_keeps job s new w (ArriveSecond p l r n) laws h go = subst (PartsKept job) (sym go.does) (arrivals.arrive_second_keeps job s w laws go.worker_in h p l r n go.needs)
+pub event_keeps : (job : CoreJob) (s new : State) (w : ℕ) (event : Event) → IsPlan job.plan → InductiveParts job s → Happens job s w event new → InductiveParts job new
+event_keeps job s new w (Claim n) laws h go = subst (InductiveParts job) (sym go.does) (claim_keeps job s w n laws go.worker_in h go.needs)
+event_keeps job s new w (Start n) laws h go = subst (InductiveParts job) (sym go.does) (start_keeps job s w n laws go.worker_in h go.needs)
+event_keeps job s new w (OpenParRight p l r) laws h go = subst (InductiveParts job) (sym go.does) (opens.open_right_keeps job s w laws go.worker_in h p l r go.needs)
+event_keeps job s new w (OpenParLeft p l r) laws h go = subst (InductiveParts job) (sym go.does) (opens.open_left_keeps job s w laws go.worker_in h p l r go.needs)
+event_keeps job s new w (OpenSeqLeft p l r) laws h go = subst (InductiveParts job) (sym go.does) (opens.open_first_keeps job s w laws go.worker_in h p l r go.needs)
+event_keeps job s new w (OpenSeqRight p l r) laws h go = subst (InductiveParts job) (sym go.does) (opens.open_second_keeps job s w laws go.worker_in h p l r go.needs)
+event_keeps job s new w (Post n t) laws h go = subst (InductiveParts job) (sym go.does) (post_keeps job s w n t h go.needs)
+event_keeps job s new w Win laws h go = subst (InductiveParts job) (sym go.does) (win_keeps job s w h go.needs)
+event_keeps job s new w (Take u) laws h go = subst (InductiveParts job) (sym go.does) (take_keeps job s w u h go.needs)
+event_keeps job s new w Publish laws h go = subst (InductiveParts job) (sym go.does.2) (publish_keeps job s w go.does.0 laws h go.needs go.does.1)
+event_keeps job s new w (Answer u r) laws h go = subst (InductiveParts job) (sym go.does) (answer_keeps job s w u r h go.needs)
+event_keeps job s new w Release laws h go = subst (InductiveParts job) (sym go.does) (release_keeps job s w h go.needs)
+event_keeps job s new w (Leave r) laws h go = subst (InductiveParts job) (sym go.does) (leave_keeps job s w r h go.needs)
+event_keeps job s new w (Keep n t v) laws h go = subst (InductiveParts job) (sym go.does) (keep_keeps job s w n t v laws go.worker_in h go.needs)
+event_keeps job s new w (End n t) laws h go = subst (InductiveParts job) (sym go.does) (end_keeps job s w n t laws go.worker_in h go.needs)
+event_keeps job s new w (FinishLeaf n t e) laws h go = subst (InductiveParts job) (sym go.does) (finishes.leaf_keeps job s w laws go.worker_in h n t e go.needs)
+event_keeps job s new w (FinishSeq p l r) laws h go = subst (InductiveParts job) (sym go.does) (finishes.seq_keeps job s w laws go.worker_in h p l r go.needs)
+event_keeps job s new w (FinishPar p l r) laws h go = subst (InductiveParts job) (sym go.does) (finishes.par_keeps job s w laws go.worker_in h p l r go.needs)
+event_keeps job s new w (ArriveFirst p l r n) laws h go = subst (InductiveParts job) (sym go.does) (arrivals.arrive_first_keeps job s w laws go.worker_in h p l r n go.needs)
+event_keeps job s new w (ArriveSecond p l r n) laws h go = subst (InductiveParts job) (sym go.does) (arrivals.arrive_second_keeps job s w laws go.worker_in h p l r n go.needs)

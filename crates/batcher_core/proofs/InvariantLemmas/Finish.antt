@@ -20,7 +20,7 @@ use Rattle.batcher_core.specs.Invariant.Hold.{is_published}
 use Rattle.batcher_core.proofs.Inductive.Nodes.{HoldersFit, passed_if}
 use Rattle.batcher_core.proofs.Inductive.Ticks.{stamps}
 use Rattle.batcher_core.proofs.Inductive.Book.{booked_by, valued_by}
-use Rattle.batcher_core.proofs.Inductive.Parts.{PartsKept}
+use Rattle.batcher_core.proofs.Inductive.Parts.{InductiveParts}
 use Rattle.batcher_core.proofs.InvariantLemmas.NodeSteps.{finish_nodes}
 use Rattle.batcher_core.proofs.InvariantLemmas.FinishTasks as leaves
 use Rattle.batcher_core.proofs.ReportLemmas.RootTasks as roots
@@ -86,7 +86,7 @@ same_parent plan q p r a b = cc
 side_unheld : (holder : ℕ → Option ℕ) (l r m v : ℕ) → (m ≡ l) ⊎ (m ≡ r) → holder l ≡ None → holder r ≡ None → holder m ≢ Some v
 side_unheld holder l r m v which a b e = grind arith
 
-module _ (job : CoreJob) (s : State) (w : ℕ) (laws : IsPlan job.plan) (below : w < job.workers) (h : PartsKept job s) where
+module _ (job : CoreJob) (s : State) (w : ℕ) (laws : IsPlan job.plan) (below : w < job.workers) (h : InductiveParts job s) where
   -- a leaf has no sides
   leaf_side : (n u m : ℕ) → job.plan.kind n ≡ Some (LeafNode u) → IsSide job.plan n m → ⊥
   leaf_side n u m leaf side = rw leaf at (laws.has_side n m side)
@@ -104,7 +104,7 @@ module _ (job : CoreJob) (s : State) (w : ℕ) (laws : IsPlan job.plan) (below :
   seq_not_leaf p l r m u seq leaf e = grind arith
 
   -- a leaf that is not the root is done
-  pub finish_leaf_keeps : (n t e : ℕ) → n ≢ 0 → Needs job s w (FinishLeaf n t e) → PartsKept job (record s { node = put s.node n (Ran w t e); task = put s.task w (Whole n) })
+  pub finish_leaf_keeps : (n t e : ℕ) → n ≢ 0 → Needs job s w (FinishLeaf n t e) → InductiveParts job (record s { node = put s.node n (Ran w t e); task = put s.task w (Whole n) })
   finish_leaf_keeps n t e inner needs =
       let mine : s.task w ≡ Ended n t e = needs.1 in
       let fits : TaskFits job.plan s.node s.mark (Ended n t e) = rw mine at (h.tasks.fits w) in
@@ -115,7 +115,7 @@ module _ (job : CoreJob) (s : State) (w : ℕ) (laws : IsPlan job.plan) (below :
       (λ m. (same m).0) (λ m u leaf. (same m).1) (λ m. (same m).2) (still_ran s.node n (Ran w t e) (rw fits.1 refl))
 
   -- a series that is not the root is done
-  pub finish_seq_keeps : (p l r : ℕ) → p ≢ 0 → Needs job s w (FinishSeq p l r) → PartsKept job (record s { node = put s.node p Done; task = put s.task w (Whole p) })
+  pub finish_seq_keeps : (p l r : ℕ) → p ≢ 0 → Needs job s w (FinishSeq p l r) → InductiveParts job (record s { node = put s.node p Done; task = put s.task w (Whole p) })
   finish_seq_keeps p l r inner needs =
       let mine : s.task w ≡ Whole r = needs.1 in
       let fits : TaskFits job.plan s.node s.mark (Whole r) = rw mine at (h.tasks.fits w) in
@@ -135,7 +135,7 @@ module _ (job : CoreJob) (s : State) (w : ℕ) (laws : IsPlan job.plan) (below :
   par_not_leaf p l r m u par leaf e = grind arith
 
   -- a parallel block that is not the root is done
-  pub finish_par_keeps : (p l r : ℕ) → p ≢ 0 → Needs job s w (FinishPar p l r) → PartsKept job (record s { node = put s.node p Done; task = put s.task w (Whole p) })
+  pub finish_par_keeps : (p l r : ℕ) → p ≢ 0 → Needs job s w (FinishPar p l r) → InductiveParts job (record s { node = put s.node p Done; task = put s.task w (Whole p) })
   finish_par_keeps p l r inner needs =
       let mine : s.task w ≡ Handed p = needs.1 in
       let fits : TaskFits job.plan s.node s.mark (Handed p) = rw mine at (h.tasks.fits w) in
@@ -148,7 +148,7 @@ module _ (job : CoreJob) (s : State) (w : ℕ) (laws : IsPlan job.plan) (below :
       (λ m. (same m).0) (λ m u leaf. (same m).1) (λ m. (same m).2) (still_ran s.node p Done (rw taken refl))
 
   -- a leaf that is the root is done
-  root_leaf_keeps : (n t e : ℕ) → job.plan.after n ≡ Root → Needs job s w (FinishLeaf n t e) → PartsKept job (record s { node = put s.node n (Ran w t e); task = put s.task w Idle })
+  root_leaf_keeps : (n t e : ℕ) → job.plan.after n ≡ Root → Needs job s w (FinishLeaf n t e) → InductiveParts job (record s { node = put s.node n (Ran w t e); task = put s.task w Idle })
   root_leaf_keeps n t e top needs =
       let mine : s.task w ≡ Ended n t e = needs.1 in
       let fits : TaskFits job.plan s.node s.mark (Ended n t e) = rw mine at (h.tasks.fits w) in
@@ -163,14 +163,14 @@ module _ (job : CoreJob) (s : State) (w : ℕ) (laws : IsPlan job.plan) (below :
       (λ m. (same m).0) (λ m u leaf. (same m).1) (λ m. (same m).2) (still_ran s.node n (Ran w t e) (rw fits.1 refl))
 
   -- a leaf is done
-  pub leaf_keeps : (n t e : ℕ) → Needs job s w (FinishLeaf n t e) → PartsKept job (record s { node = put s.node n (Ran w t e); task = put s.task w (task_after n) })
+  pub leaf_keeps : (n t e : ℕ) → Needs job s w (FinishLeaf n t e) → InductiveParts job (record s { node = put s.node n (Ran w t e); task = put s.task w (task_after n) })
   leaf_keeps n t e needs = elim (cases_eq n 0) [
     | inl z ↦ rw (idle_after n z) (root_leaf_keeps n t e (rw z laws.root) needs)
     | inr z ↦ rw (whole_after n z) (finish_leaf_keeps n t e z needs)
   ]
 
   -- a series that is the root is done
-  root_seq_keeps : (p l r : ℕ) → job.plan.after p ≡ Root → Needs job s w (FinishSeq p l r) → PartsKept job (record s { node = put s.node p Done; task = put s.task w Idle })
+  root_seq_keeps : (p l r : ℕ) → job.plan.after p ≡ Root → Needs job s w (FinishSeq p l r) → InductiveParts job (record s { node = put s.node p Done; task = put s.task w Idle })
   root_seq_keeps p l r top needs =
       let mine : s.task w ≡ Whole r = needs.1 in
       let fits : TaskFits job.plan s.node s.mark (Whole r) = rw mine at (h.tasks.fits w) in
@@ -191,7 +191,7 @@ module _ (job : CoreJob) (s : State) (w : ℕ) (laws : IsPlan job.plan) (below :
       (λ m. (same m).0) (λ m u leaf. (same m).1) (λ m. (same m).2) (still_ran s.node p Done (rw taken refl))
 
   -- a parallel block that is the root is done
-  root_par_keeps : (p l r : ℕ) → job.plan.after p ≡ Root → Needs job s w (FinishPar p l r) → PartsKept job (record s { node = put s.node p Done; task = put s.task w Idle })
+  root_par_keeps : (p l r : ℕ) → job.plan.after p ≡ Root → Needs job s w (FinishPar p l r) → InductiveParts job (record s { node = put s.node p Done; task = put s.task w Idle })
   root_par_keeps p l r top needs =
       let mine : s.task w ≡ Handed p = needs.1 in
       let fits : TaskFits job.plan s.node s.mark (Handed p) = rw mine at (h.tasks.fits w) in
@@ -211,14 +211,14 @@ module _ (job : CoreJob) (s : State) (w : ℕ) (laws : IsPlan job.plan) (below :
       (λ m. (same m).0) (λ m u leaf. (same m).1) (λ m. (same m).2) (still_ran s.node p Done (rw taken refl))
 
   -- a series is done
-  pub seq_keeps : (p l r : ℕ) → Needs job s w (FinishSeq p l r) → PartsKept job (record s { node = put s.node p Done; task = put s.task w (task_after p) })
+  pub seq_keeps : (p l r : ℕ) → Needs job s w (FinishSeq p l r) → InductiveParts job (record s { node = put s.node p Done; task = put s.task w (task_after p) })
   seq_keeps p l r needs = elim (cases_eq p 0) [
     | inl z ↦ rw (idle_after p z) (root_seq_keeps p l r (rw z laws.root) needs)
     | inr z ↦ rw (whole_after p z) (finish_seq_keeps p l r z needs)
   ]
 
   -- a parallel block is done
-  pub par_keeps : (p l r : ℕ) → Needs job s w (FinishPar p l r) → PartsKept job (record s { node = put s.node p Done; task = put s.task w (task_after p) })
+  pub par_keeps : (p l r : ℕ) → Needs job s w (FinishPar p l r) → InductiveParts job (record s { node = put s.node p Done; task = put s.task w (task_after p) })
   par_keeps p l r needs = elim (cases_eq p 0) [
     | inl z ↦ rw (idle_after p z) (root_par_keeps p l r (rw z laws.root) needs)
     | inr z ↦ rw (whole_after p z) (finish_par_keeps p l r z needs)

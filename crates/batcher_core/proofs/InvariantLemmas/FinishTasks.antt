@@ -13,7 +13,7 @@ use Rattle.batcher_core.specs.declared.state.task.Task.TheVariants.{Idle, Ended,
 use Rattle.batcher_core.specs.State.{put}
 use Rattle.batcher_core.specs.Tasks.{is_done, names}
 use Rattle.batcher_core.specs.Invariant.Tasks.{TaskFits}
-use Rattle.batcher_core.proofs.Inductive.Nodes.{NodesKept, passed_if, LeftAlone, TasksKept}
+use Rattle.batcher_core.proofs.Inductive.Nodes.{InductiveNodes, passed_if, LeftAlone, InductiveTasks}
 use Rattle.batcher_core.proofs.CodeLemmas.Puts.{put_at, put_each}
 use Rattle.batcher_core.proofs.InvariantLemmas.Holders.{keep_task, drop_task, move_task}
 use Rattle.batcher_core.proofs.InvariantLemmas.TaskFrames.{finish_task, arrive_task}
@@ -76,7 +76,7 @@ par_busy : (plan : Nodes) (node : ℕ → Progress) (mark : ℕ → ℕ) (p l r 
 par_busy plan node mark p l r par side done_l done_r taken low t fits name = grind arith
 
 module _ (plan : Nodes) (node : ℕ → Progress) (mark : ℕ → ℕ) (task : ℕ → Task) (holder : ℕ → Option ℕ) (w : ℕ)
-    (laws : IsPlan plan) (nodes : NodesKept plan node) (h : TasksKept plan node mark task holder) where
+    (laws : IsPlan plan) (nodes : InductiveNodes plan node) (h : InductiveTasks plan node mark task holder) where
   -- two workers hold no one node
   pub apart : (v n : ℕ) → names (task w) ≡ Some n → v ≢ w → names (task v) ≢ Some n
   apart v n mine other e = grind (arith, h.holders.named v n e, h.holders.named w n mine)
@@ -133,7 +133,7 @@ module _ (plan : Nodes) (node : ℕ → Progress) (mark : ℕ → ℕ) (task : �
 
   -- start, keep and end: the task goes on at its leaf
   pub go_on : (n : ℕ) (t : Task) → names (task w) ≡ Some n → names t ≡ Some n → TaskFits plan node mark t
-      → TasksKept plan node mark (put task w t) holder
+      → InductiveTasks plan node mark (put task w t) holder
   go_on n t mine name fits = record {
     holders = keep_task task holder w t h.holders (grind arith);
     fits = put_each (TaskFits plan node mark) task w t fits (λ v other. h.fits v);
@@ -143,7 +143,7 @@ module _ (plan : Nodes) (node : ℕ → Progress) (mark : ℕ → ℕ) (task : �
 
   -- a leaf that isn't the root is done
   pub finish_leaf : (n u s e : ℕ) → task w ≡ Ended n s e → plan.kind n ≡ Some (LeafNode u) → n ≢ 0
-      → TasksKept plan (put node n (Ran w s e)) mark (put task w (Whole n)) holder
+      → InductiveTasks plan (put node n (Ran w s e)) mark (put task w (Whole n)) holder
   finish_leaf n u s e mine leaf inner =
       let mine' : TaskFits plan node mark (Ended n s e) = rw mine at (h.fits w) in
       let taken : node n ≡ Taken = mine'.1 in
@@ -185,7 +185,7 @@ module _ (plan : Nodes) (node : ℕ → Progress) (mark : ℕ → ℕ) (task : �
 
   -- a Seq whose right is whole is done
   pub finish_seq : (p l r : ℕ) → task w ≡ Whole r → plan.kind p ≡ Some (SeqNode l r) → p ≢ 0
-      → TasksKept plan (put node p Done) mark (put task w (Whole p)) (put (put holder r None) p (Some w))
+      → InductiveTasks plan (put node p Done) mark (put task w (Whole p)) (put (put holder r None) p (Some w))
   finish_seq p l r mine seq inner =
       let mine' : TaskFits plan node mark (Whole r) = rw mine at (h.fits w) in
       let after_l : plan.after l ≡ OpenSecond p = laws.left_of_seq p l r seq in
@@ -210,7 +210,7 @@ module _ (plan : Nodes) (node : ℕ → Progress) (mark : ℕ → ℕ) (task : �
 
   -- a Par of which both sides have arrived is done
   pub finish_par : (p l r : ℕ) → task w ≡ Handed p → plan.kind p ≡ Some (ParNode l r) → p ≢ 0
-      → TasksKept plan (put node p Done) mark (put task w (Whole p)) holder
+      → InductiveTasks plan (put node p Done) mark (put task w (Whole p)) holder
   finish_par p l r mine par inner =
       let mine' : TaskFits plan node mark (Handed p) = rw mine at (h.fits w) in
       let after_l : plan.after l ≡ Arrive p = laws.left_of_par p l r par in
@@ -235,7 +235,7 @@ module _ (plan : Nodes) (node : ℕ → Progress) (mark : ℕ → ℕ) (task : �
 
   -- the first side of a Par arrives
   pub arrive_first : (p l r n : ℕ) → task w ≡ Whole n → plan.kind p ≡ Some (ParNode l r) → IsSide plan p n → mark p ≡ 0
-      → TasksKept plan node (put mark p 1) (put task w Idle) (put holder n None)
+      → InductiveTasks plan node (put mark p 1) (put task w Idle) (put holder n None)
   arrive_first p l r n mine par side none =
       let mine' : TaskFits plan node mark (Whole n) = rw mine at (h.fits w) in
       let which : (n ≡ l) ⊎ (n ≡ r) = par_side p l r n par side in
@@ -268,7 +268,7 @@ module _ (plan : Nodes) (node : ℕ → Progress) (mark : ℕ → ℕ) (task : �
 
   -- the second side of a Par arrives: the worker is handed the Par
   pub arrive_second : (p l r n : ℕ) → task w ≡ Whole n → plan.kind p ≡ Some (ParNode l r) → IsSide plan p n → mark p ≡ 1
-      → TasksKept plan node (put mark p 2) (put task w (Handed p)) (put (put holder n None) p (Some w))
+      → InductiveTasks plan node (put mark p 2) (put task w (Handed p)) (put (put holder n None) p (Some w))
   arrive_second p l r n mine par side one =
       let mine' : TaskFits plan node mark (Whole n) = rw mine at (h.fits w) in
       let which : (n ≡ l) ⊎ (n ≡ r) = par_side p l r n par side in

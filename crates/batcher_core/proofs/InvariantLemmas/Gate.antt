@@ -17,9 +17,9 @@ use Rattle.batcher_core.specs.Operations.{leaf_of, IsCall, place_of, IsReceipt}
 use Rattle.batcher_core.specs.Serving.{served}
 use Rattle.batcher_core.specs.Events.{Needs, is_pending, new_hold, looked, answered}
 use Rattle.batcher_core.specs.Invariant.Statuses.{IsAtCall, HasReceipt, is_taken_by}
-use Rattle.batcher_core.specs.Invariant.Hold.{is_published, HoldStands}
+use Rattle.batcher_core.specs.Invariant.Hold.{is_published, HoldInvariant}
 use Rattle.batcher_core.proofs.Inductive.Book.{StatusFits, booked_by}
-use Rattle.batcher_core.proofs.Inductive.Parts.{PartsKept}
+use Rattle.batcher_core.proofs.Inductive.Parts.{InductiveParts}
 use Rattle.batcher_core.proofs.CodeLemmas.Puts.{put_at, put_other}
 use Rattle.batcher_core.proofs.InvariantLemmas.StatusRows.{call_out, taken_executing}
 
@@ -60,12 +60,12 @@ at_call : (job : CoreJob) (book : List (List Entry)) (t : Task) (n s : ℕ) → 
 at_call job book t n s e call = rw e call
 
 -- the hold, when a worker posts
-post_hold : (workers : ℕ) (status : ℕ → Status) (call : ℕ → CallState) (w : ℕ) (o : Option Hold) → call w ≡ NotCalled → HoldStands workers status call o → HoldStands workers (put status w Pending) (put call w Out) o
+post_hold : (workers : ℕ) (status : ℕ → Status) (call : ℕ → CallState) (w : ℕ) (o : Option Hold) → call w ≡ NotCalled → HoldInvariant workers status call o → HoldInvariant workers (put status w Pending) (put call w Out) o
 post_hold workers status call w None called h = tt
 post_hold workers status call w (Some hd) called h = (grind (arith, nat_tests), h.1, h.2, h.3, h.4, h.5, h.6, grind (arith, nat_tests))
 
 -- a post
-pub post_keeps : (job : CoreJob) (s : State) (w n t : ℕ) → PartsKept job s → Needs job s w (Post n t) → PartsKept job (record s { status = put s.status w Pending; call = put s.call w Out })
+pub post_keeps : (job : CoreJob) (s : State) (w n t : ℕ) → InductiveParts job s → Needs job s w (Post n t) → InductiveParts job (record s { status = put s.status w Pending; call = put s.call w Out })
 post_keeps job s w n t h needs = record {
   holder = h.holder;
   nodes = h.nodes;
@@ -86,7 +86,7 @@ win_booked : (x : Progress) (o : Option ℕ) (task : ℕ → Task) (status : ℕ
 win_booked x o task status call h w e = grind arith
 
 -- the flag is won
-pub win_keeps : (job : CoreJob) (s : State) (w : ℕ) → PartsKept job s → Needs job s w Win → PartsKept job (record s { hold = Some (new_hold w) })
+pub win_keeps : (job : CoreJob) (s : State) (w : ℕ) → InductiveParts job s → Needs job s w Win → InductiveParts job (record s { hold = Some (new_hold w) })
 win_keeps job s w h needs = record {
   holder = h.holder;
   nodes = h.nodes;
@@ -106,8 +106,8 @@ answer_booked : (x : Progress) (o : Option ℕ) (task : ℕ → Task) (status : 
 answer_booked x o task status call b u r ex pub' = grind (arith, nat_tests)
 
 -- the hold, when a worker is answered
-answer_hold : (workers : ℕ) (status : ℕ → Status) (call : ℕ → CallState) (h : Hold) (u : ℕ) (r : Receipt) → h.published ≡ true → h.took u ≡ true
-    → HoldStands workers status call (Some h) → HoldStands workers (put status u (Served r)) call (Some (record h { answered = put h.answered u true }))
+answer_hold : (workers : ℕ) (status : ℕ → Status) (call : ℕ → CallState) (h : Hold) (u : ℕ) (r : Receipt) → h.published ≡ true → h.taken u ≡ true
+    → HoldInvariant workers status call (Some h) → HoldInvariant workers (put status u (Served r)) call (Some (record h { answered = put h.answered u true }))
 answer_hold workers status call h u r there took hf = (
   hf.0,
   hf.1,
@@ -124,11 +124,11 @@ started_receipt : (job : CoreJob) (book : List (List Entry)) (t : Task) (n s : �
 started_receipt job book t n s r e h = rw e h
 
 -- whether another worker is taken and not answered, after an answer
-other_answer : (h : Hold) (u v : ℕ) → v ≢ u → (h.took v && not (put h.answered u true v)) ≡ (h.took v && not (h.answered v))
+other_answer : (h : Hold) (u v : ℕ) → v ≢ u → (h.taken v && not (put h.answered u true v)) ≡ (h.taken v && not (h.answered v))
 other_answer h u v e = grind (arith, nat_tests)
 
 -- and after a look that takes
-other_take : (h : Hold) (u v : ℕ) → v ≢ u → (put h.took u true v && not (h.answered v)) ≡ (h.took v && not (h.answered v))
+other_take : (h : Hold) (u v : ℕ) → v ≢ u → (put h.taken u true v && not (h.answered v)) ≡ (h.taken v && not (h.answered v))
 other_take h u v e = grind (arith, nat_tests)
 
 -- the rows of all workers, where one status changes
@@ -142,17 +142,17 @@ one_row job book task status call taken taken' w st h here same v = elim (cases_
 ]
 
 -- a worker that was taken and not answered
-taken_yes : (h : Hold) (u : ℕ) → h.took u ≡ true → h.answered u ≡ false → (h.took u && not (h.answered u)) ≡ true
+taken_yes : (h : Hold) (u : ℕ) → h.taken u ≡ true → h.answered u ≡ false → (h.taken u && not (h.answered u)) ≡ true
 taken_yes h u e f = grind arith
 
 -- an answer
-pub answer_keeps : (job : CoreJob) (s : State) (w u : ℕ) (r : Receipt) → PartsKept job s → Needs job s w (Answer u r) → PartsKept job (record s { status = put s.status u (Served r); hold = answered s.hold u })
+pub answer_keeps : (job : CoreJob) (s : State) (w u : ℕ) (r : Receipt) → InductiveParts job s → Needs job s w (Answer u r) → InductiveParts job (record s { status = put s.status u (Served r); hold = answered s.hold u })
 answer_keeps job s w u r h needs =
     let hd : Hold = needs.0 in
     let there : s.hold ≡ Some hd = needs.1.0 in
-    let hold : HoldStands job.workers s.status s.call (Some hd) = rw there at h.hold in
+    let hold : HoldInvariant job.workers s.status s.call (Some hd) = rw there at h.hold in
     let rows : (v : ℕ) → StatusFits job s.book (s.task v) (s.status v) (s.call v) (is_taken_by (Some hd) v) = λ v. rw there at (h.statuses v) in
-    let ex : s.status u ≡ Executing = taken_executing job s.book (s.task u) (s.status u) (s.call u) (hd.took u && not (hd.answered u)) (taken_yes hd u needs.3 needs.4) (rows u) in
+    let ex : s.status u ≡ Executing = taken_executing job s.book (s.task u) (s.status u) (s.call u) (hd.taken u && not (hd.answered u)) (taken_yes hd u needs.3 needs.4) (rows u) in
     record {
       holder = h.holder;
       nodes = h.nodes;
@@ -160,7 +160,7 @@ answer_keeps job s w u r h needs =
       beyond = h.beyond;
       ticks = h.ticks;
       statuses = rw there (one_row job s.book s.task s.status s.call (is_taken_by (Some hd)) (is_taken_by (answered (Some hd) u)) u (Served r) rows
-          (rw (put_at hd.answered u u true refl) (answer_row job s.book (s.task u) (s.status u) (s.call u) (hd.took u) (hd.answered u) r needs.3 needs.4
+          (rw (put_at hd.answered u u true refl) (answer_row job s.book (s.task u) (s.status u) (s.call u) (hd.taken u) (hd.answered u) r needs.3 needs.4
           (started_receipt job s.book (s.task u) needs.5.0 needs.5.2.1 r needs.5.2.2 (rw needs.5.2.0 needs.5.3)) (rows u)))
           (other_answer hd u));
       hold = rw there (answer_hold job.workers s.status s.call hd u r needs.2 needs.3 hold);
@@ -179,7 +179,7 @@ take_booked x o job book task status call u taken pending row =
 
 -- the hold, after a look that takes
 take_hold : (workers : ℕ) (status : ℕ → Status) (call : ℕ → CallState) (h : Hold) (u : ℕ) → h.looks < workers → u ≡ h.looks
-    → HoldStands workers status call (Some h) → HoldStands workers (put status u Executing) call (looked (Some h) true u)
+    → HoldInvariant workers status call (Some h) → HoldInvariant workers (put status u Executing) call (looked (Some h) true u)
 take_hold workers status call h u below at hf = (
   hf.0,
   omega (arith, hf.1),
@@ -193,7 +193,7 @@ take_hold workers status call h u below at hf = (
 
 -- the hold, after a look that takes nothing
 look_hold : (workers : ℕ) (status : ℕ → Status) (call : ℕ → CallState) (h : Hold) (u : ℕ) → h.looks < workers → u ≡ h.looks → status u ≢ Pending
-    → HoldStands workers status call (Some h) → HoldStands workers status call (looked (Some h) false u)
+    → HoldInvariant workers status call (Some h) → HoldInvariant workers status call (looked (Some h) false u)
 look_hold workers status call h u below at other hf = (
   hf.0,
   omega (arith, hf.1),
@@ -206,7 +206,7 @@ look_hold workers status call h u below at other hf = (
 )
 
 -- the worker to look at next was not answered
-not_told : (workers : ℕ) (status : ℕ → Status) (call : ℕ → CallState) (h : Hold) (u : ℕ) → u ≡ h.looks → HoldStands workers status call (Some h) → h.answered u ≡ false
+not_told : (workers : ℕ) (status : ℕ → Status) (call : ℕ → CallState) (h : Hold) (u : ℕ) → u ≡ h.looks → HoldInvariant workers status call (Some h) → h.answered u ≡ false
 not_told workers status call h u at hf = grind (arith, hf.5 u, hf.2 u)
 
 -- so it is taken and not answered
@@ -215,17 +215,17 @@ told_row took told e f = grind arith
 
 -- the rows, the hold and who is in the book, after a look
 pending_row : (job : CoreJob) (s : State) (hd : Hold) (u : ℕ) (b : Bool) → is_pending (s.status u) ≡ b → hd.looks < job.workers → u ≡ hd.looks
-    → HoldStands job.workers s.status s.call (Some hd)
+    → HoldInvariant job.workers s.status s.call (Some hd)
     → ((v : ℕ) → StatusFits job s.book (s.task v) (s.status v) (s.call v) (is_taken_by (Some hd) v))
     → ((v : ℕ) → StatusFits job s.book (s.task v) ((if b then put s.status u Executing else s.status) v) (s.call v) (is_taken_by (looked (Some hd) b u) v))
-    × HoldStands job.workers (if b then put s.status u Executing else s.status) s.call (looked (Some hd) b u)
+    × HoldInvariant job.workers (if b then put s.status u Executing else s.status) s.call (looked (Some hd) b u)
     × ((x : Progress) (o : Option ℕ) → booked_by x o s.task (if b then put s.status u Executing else s.status) s.call (is_published (looked (Some hd) b u)) ≡ booked_by x o s.task s.status s.call hd.published)
 pending_row job s hd u true pending below at hold rows =
     let is : s.status u ≡ Pending = grind arith in
     let un : hd.published ≡ false = grind (arith, hold.3) in (
       one_row job s.book s.task s.status s.call (is_taken_by (Some hd)) (is_taken_by (looked (Some hd) true u)) u Executing rows
-          (subst (StatusFits job s.book (s.task u) Executing (s.call u)) (told_row (put hd.took u true u) (hd.answered u) (put_at hd.took u u true refl) (not_told job.workers s.status s.call hd u at hold))
-          (take_row job s.book (s.task u) (s.status u) (s.call u) (hd.took u && not (hd.answered u)) is (rows u)))
+          (subst (StatusFits job s.book (s.task u) Executing (s.call u)) (told_row (put hd.taken u true u) (hd.answered u) (put_at hd.taken u u true refl) (not_told job.workers s.status s.call hd u at hold))
+          (take_row job s.book (s.task u) (s.status u) (s.call u) (hd.taken u && not (hd.answered u)) is (rows u)))
           (other_take hd u),
       take_hold job.workers s.status s.call hd u below at hold,
       λ x o. rw un (take_booked x o job s.book s.task s.status s.call u (is_taken_by (Some hd) u) is (rows u)),
@@ -233,7 +233,7 @@ pending_row job s hd u true pending below at hold rows =
 pending_row job s hd u false pending below at hold rows = (rows, look_hold job.workers s.status s.call hd u below at (λ e. let f : true ≡ false = sym (ap is_pending e) ∙ pending in cc) hold, λ x o. refl)
 
 -- a look
-pub take_keeps : (job : CoreJob) (s : State) (w u : ℕ) → PartsKept job s → Needs job s w (Take u) → PartsKept job (record s { status = if is_pending (s.status u) then put s.status u Executing else s.status; hold = looked s.hold (is_pending (s.status u)) u })
+pub take_keeps : (job : CoreJob) (s : State) (w u : ℕ) → InductiveParts job s → Needs job s w (Take u) → InductiveParts job (record s { status = if is_pending (s.status u) then put s.status u Executing else s.status; hold = looked s.hold (is_pending (s.status u)) u })
 take_keeps job s w u h needs =
     let hd : Hold = needs.0 in
     let there : s.hold ≡ Some hd = needs.1.0 in
@@ -257,15 +257,15 @@ leave_booked : (x : Progress) (o : Option ℕ) (task : ℕ → Task) (status : �
 leave_booked x o task status call b w r served = grind (arith, nat_tests)
 
 -- the hold, when another worker leaves
-leave_hold : (workers : ℕ) (status : ℕ → Status) (call : ℕ → CallState) (w : ℕ) (r : Receipt) (o : Option Hold) → ((h : Hold) → o ≡ Some h → h.worker ≢ w) → HoldStands workers status call o
-    → HoldStands workers (put status w Free) (put call w (Got r)) o
+leave_hold : (workers : ℕ) (status : ℕ → Status) (call : ℕ → CallState) (w : ℕ) (r : Receipt) (o : Option Hold) → ((h : Hold) → o ≡ Some h → h.worker ≢ w) → HoldInvariant workers status call o
+    → HoldInvariant workers (put status w Free) (put call w (Got r)) o
 leave_hold workers status call w r None other h = tt
 leave_hold workers status call w r (Some hd) other h =
     let apart : hd.worker ≢ w = other hd refl in
     (grind (arith, nat_tests, h.0), h.1, h.2, h.3, h.4, h.5, h.6, grind (arith, nat_tests, h.7))
 
 -- a worker leaves its call
-pub leave_keeps : (job : CoreJob) (s : State) (w : ℕ) (r : Receipt) → PartsKept job s → Needs job s w (Leave r) → PartsKept job (record s { status = put s.status w Free; call = put s.call w (Got r) })
+pub leave_keeps : (job : CoreJob) (s : State) (w : ℕ) (r : Receipt) → InductiveParts job s → Needs job s w (Leave r) → InductiveParts job (record s { status = put s.status w Free; call = put s.call w (Got r) })
 leave_keeps job s w r h needs = record {
   holder = h.holder;
   nodes = h.nodes;
@@ -290,12 +290,12 @@ release_booked : (x : Progress) (o : Option ℕ) (task : ℕ → Task) (status :
 release_booked x o task status call b none = grind (arith)
 
 -- the flag is released
-pub release_keeps : (job : CoreJob) (s : State) (w : ℕ) → PartsKept job s → Needs job s w Release → PartsKept job (record s { hold = None })
+pub release_keeps : (job : CoreJob) (s : State) (w : ℕ) → InductiveParts job s → Needs job s w Release → InductiveParts job (record s { hold = None })
 release_keeps job s w h needs =
     let hd : Hold = needs.0 in
     let there : s.hold ≡ Some hd = needs.1.0 in
     let rows : (v : ℕ) → StatusFits job s.book (s.task v) (s.status v) (s.call v) false × (s.status v ≢ Executing) =
-    λ v. no_more job s.book (s.task v) (s.status v) (s.call v) (hd.took v) (hd.answered v) (needs.3 v) (rw there at (h.statuses v)) in
+    λ v. no_more job s.book (s.task v) (s.status v) (s.call v) (hd.taken v) (hd.answered v) (needs.3 v) (rw there at (h.statuses v)) in
     record {
       holder = h.holder;
       nodes = h.nodes;

@@ -21,9 +21,9 @@ use Rattle.batcher_core.specs.Events.{Needs}
 use Rattle.batcher_core.specs.Invariant.Statuses.{IsAtCall, is_taken_by}
 use Rattle.batcher_core.specs.Invariant.Hold.{is_published}
 use Rattle.batcher_core.proofs.Inductive.Nodes.{HoldersFit}
-use Rattle.batcher_core.proofs.Inductive.Ticks.{Stamp, stamp, stamps, RanBefore, ComesBefore, TicksKept}
-use Rattle.batcher_core.proofs.Inductive.Book.{StatusFits, EntryFits, IsEarlier, BookKept, booked_by, worker_at, valued_by}
-use Rattle.batcher_core.proofs.Inductive.Parts.{PartsKept}
+use Rattle.batcher_core.proofs.Inductive.Ticks.{Stamp, stamp, stamps, RanBefore, ComesBefore, InductiveTicks}
+use Rattle.batcher_core.proofs.Inductive.Book.{StatusFits, EntryFits, IsEarlier, InductiveBook, booked_by, worker_at, valued_by}
+use Rattle.batcher_core.proofs.Inductive.Parts.{InductiveParts}
 use Rattle.batcher_core.proofs.CodeLemmas.Puts.{put_at, put_other}
 use Rattle.batcher_core.proofs.InvariantLemmas.FinishTasks.{go_on}
 use Rattle.batcher_core.proofs.InvariantLemmas.ClaimTasks.{beyond_put}
@@ -93,13 +93,13 @@ ran_apart : (x : Progress) (t : ℕ) → RanBefore x t → x ≢ Taken
 ran_apart x t h e = grind arith
 
 -- where a leaf that is before another one is taken, the other has no stamp
-not_after_at : (plan : Nodes) (workers : ℕ) (node : ℕ → Progress) (tick : ℕ) (old : ℕ → Option Stamp) (n m : ℕ) (o : Option Stamp) → TicksKept plan workers node tick old → ComesBefore plan n m → node n ≡ Taken
+not_after_at : (plan : Nodes) (workers : ℕ) (node : ℕ → Progress) (tick : ℕ) (old : ℕ → Option Stamp) (n m : ℕ) (o : Option Stamp) → InductiveTicks plan workers node tick old → ComesBefore plan n m → node n ≡ Taken
     → old m ≡ o → o ≡ None
 not_after_at plan workers node tick old n m None h b taken e = refl
 not_after_at plan workers node tick old n m (Some x) h b taken e = absurd (ran_apart (node n) x.start (h.in_order n m x.worker x.start x.end b e) taken)
 
 -- and so, for its own stamp
-not_after : (plan : Nodes) (workers : ℕ) (node : ℕ → Progress) (tick : ℕ) (old : ℕ → Option Stamp) (n m : ℕ) → TicksKept plan workers node tick old → ComesBefore plan n m → node n ≡ Taken → old m ≡ None
+not_after : (plan : Nodes) (workers : ℕ) (node : ℕ → Progress) (tick : ℕ) (old : ℕ → Option Stamp) (n m : ℕ) → InductiveTicks plan workers node tick old → ComesBefore plan n m → node n ≡ Taken → old m ≡ None
 not_after plan workers node tick old n m h b taken = not_after_at plan workers node tick old n m (old m) h b taken refl
 
 -- a stamp with an end is not the new one
@@ -107,9 +107,9 @@ not_new : (old : ℕ → Option Stamp) (n w t k x a d : ℕ) → put old n (Some
 not_new old n w t k x a d i = grind (arith, nat_tests)
 
 -- the book, when the leaf n, which isn't in it, has started
-start_book : (job : CoreJob) (s : State) (old : ℕ → Option Stamp) (n w : ℕ) → BookKept job s.book s.objects old
+start_book : (job : CoreJob) (s : State) (old : ℕ → Option Stamp) (n w : ℕ) → InductiveBook job s.book s.objects old
     → ((u : ℕ) → job.plan.kind n ≡ Some (LeafNode u) → (o : Option Place) → IsEarlier o (place_of s.book u))
-    → BookKept job s.book s.objects (put old n (Some (stamp w s.tick None)))
+    → InductiveBook job s.book s.objects (put old n (Some (stamp w s.tick None)))
 start_book job s old n w h out = record {
   legal = h.legal;
   objects_after = h.objects_after;
@@ -133,7 +133,7 @@ out_of_book job s u entries call = elim (place_of s.book u) as (λ o. place_of s
 ] refl
 
 -- all that is carried, after a start
-pub start_keeps : (job : CoreJob) (s : State) (w n : ℕ) → IsPlan job.plan → w < job.workers → PartsKept job s → Needs job s w (Start n) → PartsKept job (record s { tick = s.tick + 1; task = put s.task w (Started n s.tick) })
+pub start_keeps : (job : CoreJob) (s : State) (w n : ℕ) → IsPlan job.plan → w < job.workers → InductiveParts job s → Needs job s w (Start n) → InductiveParts job (record s { tick = s.tick + 1; task = put s.task w (Started n s.tick) })
 start_keeps job s w n laws below h needs =
     let mine : s.task w ≡ Run n = needs.1 in
     let fits : TaskFits job.plan s.node s.mark (Run n) = rw mine at (h.tasks.fits w) in
@@ -150,7 +150,7 @@ start_keeps job s w n laws below h needs =
       nodes = h.nodes;
       tasks = go_on job.plan s.node s.mark s.task h.holder w laws h.nodes h.tasks n (Started n s.tick) (rw mine refl) refl (needs.2, taken);
       beyond = beyond_put job.workers s.task w (Started n s.tick) below h.beyond;
-      ticks = subst (TicksKept job.plan job.workers s.node (s.tick + 1)) same
+      ticks = subst (InductiveTicks job.plan job.workers s.node (s.tick + 1)) same
           (start_ticks job.plan job.workers s.node s.tick old w n h.ticks below none
           (λ m t e k. running_old s.node s.task h.holder w n m t e h.tasks.holders mine k)
           (λ m b. before_ran job.plan job.workers s.node s.tick s.task h.holder m n h.nodes h.ticks b there)
@@ -158,7 +158,7 @@ start_keeps job s w n laws below h needs =
           (λ m b e. ran_apart (s.node m) s.tick (before_ran job.plan job.workers s.node s.tick s.task h.holder m n h.nodes h.ticks b there) (rw e taken)));
       statuses = statuses_free job s w (Started n s.tick) needs.0 away h.statuses;
       hold = h.hold;
-      book = subst (BookKept job s.book s.objects) same (start_book job s old n w h.book
+      book = subst (InductiveBook job s.book s.objects) same (start_book job s old n w h.book
           (λ u leaf o. no_place (place_of s.book u) (out_of_book job s u (h.book.entries u) (λ call. h.booked n u leaf call ∙ running_not_booked s.node s.task h.holder s.status s.call (is_published s.hold) w n h.tasks.holders mine taken)) o));
       booked = λ m u leaf call. h.booked m u leaf call ∙ sym (start_booked s.node s.task s.status s.call (is_published s.hold) h.holder w n s.tick m h.tasks.holders mine needs.0 called);
       values = λ m u leaf k. h.values m u leaf (sym (start_valued s.node s.task h.holder w n s.tick m h.tasks.holders mine) ∙ k);
@@ -178,9 +178,9 @@ end_order job s old n w t m y b e p h was j l = elim (cases_eq m n) [
 ]
 
 -- the book, when the leaf n, which is in it, ends
-end_book : (job : CoreJob) (s : State) (old : ℕ → Option Stamp) (n w t : ℕ) → BookKept job s.book s.objects old
+end_book : (job : CoreJob) (s : State) (old : ℕ → Option Stamp) (n w t : ℕ) → InductiveBook job s.book s.objects old
     → ((m v b : ℕ) (e : Option ℕ) → old m ≡ Some (stamp v b e) → b < s.tick) → old n ≡ Some (stamp w t None)
-    → BookKept job s.book s.objects (put old n (Some (stamp w t (Some s.tick))))
+    → InductiveBook job s.book s.objects (put old n (Some (stamp w t (Some s.tick))))
 end_book job s old n w t h low was = record {
   legal = h.legal;
   objects_after = h.objects_after;
@@ -201,7 +201,7 @@ kept_stamp : (node : ℕ → Progress) (task : ℕ → Task) (holder : ℕ → O
 kept_stamp node task holder w n t h mine taken = grind (arith, h.named w n)
 
 -- all that is carried, after an end
-pub end_keeps : (job : CoreJob) (s : State) (w n t : ℕ) → IsPlan job.plan → w < job.workers → PartsKept job s → Needs job s w (End n t) → PartsKept job (record s { tick = s.tick + 1; task = put s.task w (Ended n t s.tick) })
+pub end_keeps : (job : CoreJob) (s : State) (w n t : ℕ) → IsPlan job.plan → w < job.workers → InductiveParts job s → Needs job s w (End n t) → InductiveParts job (record s { tick = s.tick + 1; task = put s.task w (Ended n t s.tick) })
 end_keeps job s w n t laws below h needs =
     let mine : s.task w ≡ Kept n t = needs.1 in
     let fits : TaskFits job.plan s.node s.mark (Kept n t) = rw mine at (h.tasks.fits w) in
@@ -215,10 +215,10 @@ end_keeps job s w n t laws below h needs =
       nodes = h.nodes;
       tasks = go_on job.plan s.node s.mark s.task h.holder w laws h.nodes h.tasks n (Ended n t s.tick) (rw mine refl) refl fits;
       beyond = beyond_put job.workers s.task w (Ended n t s.tick) below h.beyond;
-      ticks = subst (TicksKept job.plan job.workers s.node (s.tick + 1)) same (end_ticks job.plan job.workers s.node s.tick old w n t h.ticks was);
+      ticks = subst (InductiveTicks job.plan job.workers s.node (s.tick + 1)) same (end_ticks job.plan job.workers s.node s.tick old w n t h.ticks was);
       statuses = statuses_free job s w (Ended n t s.tick) needs.0 away h.statuses;
       hold = h.hold;
-      book = subst (BookKept job s.book s.objects) same (end_book job s old n w t h.book (λ m v b e k. (h.ticks.start_drawn m v b e k).1) was);
+      book = subst (InductiveBook job s.book s.objects) same (end_book job s old n w t h.book (λ m v b e k. (h.ticks.start_drawn m v b e k).1) was);
       booked = λ m u leaf call. h.booked m u leaf call ∙ sym (end_booked s.node s.task s.status s.call (is_published s.hold) h.holder w n t s.tick m h.tasks.holders mine);
       values = λ m u leaf k. h.values m u leaf (sym (end_valued s.node s.task h.holder w n t s.tick m h.tasks.holders mine) ∙ k);
     }

@@ -9,11 +9,11 @@ use Rattle.batcher_core.specs.declared.state.progress.Progress.TheVariants.{Wait
 use Rattle.batcher_core.specs.State.{put}
 use Rattle.batcher_core.specs.Operations.{IsLeaf}
 use Rattle.batcher_core.specs.Tasks.{is_done}
-use Rattle.batcher_core.proofs.Inductive.Nodes.{NodesKept}
+use Rattle.batcher_core.proofs.Inductive.Nodes.{InductiveNodes}
 use Rattle.batcher_core.proofs.CodeLemmas.Puts.{put_at, put_other}
 
 -- a ready node is taken
-pub claim_nodes : (plan : Nodes) (node : ℕ → Progress) (n : ℕ) → IsPlan plan → NodesKept plan node → node n ≡ Ready → NodesKept plan (put node n Taken)
+pub claim_nodes : (plan : Nodes) (node : ℕ → Progress) (n : ℕ) → IsPlan plan → InductiveNodes plan node → node n ≡ Ready → InductiveNodes plan (put node n Taken)
 claim_nodes plan node n laws h ready = record {
   root = grind (arith, nat_tests);
   below_waiting = grind (arith, nat_tests);
@@ -26,10 +26,10 @@ claim_nodes plan node n laws h ready = record {
 }
 
 -- a waiting node becomes ready, where its parent is taken and, if it is the right of a Seq, the left is done
-pub open_nodes : (plan : Nodes) (node : ℕ → Progress) (p n : ℕ) → IsPlan plan → NodesKept plan node
+pub open_nodes : (plan : Nodes) (node : ℕ → Progress) (p n : ℕ) → IsPlan plan → InductiveNodes plan node
     → IsSide plan p n → node p ≡ Taken → node n ≡ Waiting
     → ((l : ℕ) → plan.kind p ≡ Some (SeqNode l n) → is_done (node l) ≡ true)
-    → NodesKept plan (put node n Ready)
+    → InductiveNodes plan (put node n Ready)
 open_nodes plan node p n laws h side taken waits left = record {
   root = grind (arith, nat_tests);
   below_waiting = λ q m s w. grind (arith, nat_tests, h.below_waiting q m s);
@@ -42,12 +42,12 @@ open_nodes plan node p n laws h side taken waits left = record {
 }
 
 -- a taken node whose sides are done is done
-pub finish_nodes : (plan : Nodes) (node : ℕ → Progress) (n : ℕ) (x : Progress) → IsPlan plan → NodesKept plan node
+pub finish_nodes : (plan : Nodes) (node : ℕ → Progress) (n : ℕ) (x : Progress) → IsPlan plan → InductiveNodes plan node
     → node n ≡ Taken → is_done x ≡ true
     → ((m : ℕ) → IsSide plan n m → is_done (node m) ≡ true)
     → ((m u : ℕ) → plan.kind m ≡ Some (LeafNode u) → m ≡ n → x ≢ Done)
     → ((w s e : ℕ) → x ≡ Ran w s e → IsLeaf (plan.kind n))
-    → NodesKept plan (put node n x)
+    → InductiveNodes plan (put node n x)
 finish_nodes plan node n x laws h taken done sides leaf ran = record {
   root = grind (arith, nat_tests);
   below_waiting = λ q m s w. grind (arith, nat_tests, h.below_waiting q m s);

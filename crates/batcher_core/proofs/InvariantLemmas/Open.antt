@@ -18,7 +18,7 @@ use Rattle.batcher_core.specs.Invariant.Hold.{is_published}
 use Rattle.batcher_core.proofs.Inductive.Nodes.{HoldersFit}
 use Rattle.batcher_core.proofs.Inductive.Ticks.{stamps}
 use Rattle.batcher_core.proofs.Inductive.Book.{booked_by, valued_by}
-use Rattle.batcher_core.proofs.Inductive.Parts.{PartsKept}
+use Rattle.batcher_core.proofs.Inductive.Parts.{InductiveParts}
 use Rattle.batcher_core.proofs.InvariantLemmas.NodeSteps.{open_nodes}
 use Rattle.batcher_core.proofs.InvariantLemmas.OpenTasks as opens
 use Rattle.batcher_core.proofs.InvariantLemmas.JobSide.{still_ran, job_keeps}
@@ -40,9 +40,9 @@ par_not_seq plan p a b c d e f = cc
 one_left : (plan : Nodes) (p l k r : ℕ) → plan.kind p ≡ Some (SeqNode l r) → plan.kind p ≡ Some (SeqNode k r) → l ≡ k
 one_left plan p l k r e f = cc
 
-module _ (job : CoreJob) (s : State) (w : ℕ) (laws : IsPlan job.plan) (below : w < job.workers) (h : PartsKept job s) where
+module _ (job : CoreJob) (s : State) (w : ℕ) (laws : IsPlan job.plan) (below : w < job.workers) (h : InductiveParts job s) where
   -- the right side of a parallel block is made ready
-  pub open_right_keeps : (p l r : ℕ) → Needs job s w (OpenParRight p l r) → PartsKept job (record s { node = put s.node r Ready; task = put s.task w (Half p) })
+  pub open_right_keeps : (p l r : ℕ) → Needs job s w (OpenParRight p l r) → InductiveParts job (record s { node = put s.node r Ready; task = put s.task w (Half p) })
   open_right_keeps p l r needs =
       let mine : s.task w ≡ Run p = needs.1 in
       let fits : TaskFits job.plan s.node s.mark (Run p) = rw mine at (h.tasks.fits w) in
@@ -55,7 +55,7 @@ module _ (job : CoreJob) (s : State) (w : ℕ) (laws : IsPlan job.plan) (below :
       (λ m. (same m).0) (λ m u leaf. (same m).1) (λ m. (same m).2) (still_ran s.node r Ready (grind arith))
 
   -- the left side of a parallel block is made ready
-  pub open_left_keeps : (p l r : ℕ) → Needs job s w (OpenParLeft p l r) → PartsKept job (record s { node = put s.node l Ready; task = put s.task w Idle })
+  pub open_left_keeps : (p l r : ℕ) → Needs job s w (OpenParLeft p l r) → InductiveParts job (record s { node = put s.node l Ready; task = put s.task w Idle })
   open_left_keeps p l r needs =
       let mine : s.task w ≡ Half p = needs.1 in
       let fits : TaskFits job.plan s.node s.mark (Half p) = rw mine at (h.tasks.fits w) in
@@ -69,7 +69,7 @@ module _ (job : CoreJob) (s : State) (w : ℕ) (laws : IsPlan job.plan) (below :
       (λ m. (same m).0) (λ m u leaf. (same m).1) (λ m. (same m).2) (still_ran s.node l Ready (grind arith))
 
   -- the left side of a series is made ready
-  pub open_first_keeps : (p l r : ℕ) → Needs job s w (OpenSeqLeft p l r) → PartsKept job (record s { node = put s.node l Ready; task = put s.task w Idle })
+  pub open_first_keeps : (p l r : ℕ) → Needs job s w (OpenSeqLeft p l r) → InductiveParts job (record s { node = put s.node l Ready; task = put s.task w Idle })
   open_first_keeps p l r needs =
       let mine : s.task w ≡ Run p = needs.1 in
       let fits : TaskFits job.plan s.node s.mark (Run p) = rw mine at (h.tasks.fits w) in
@@ -82,7 +82,7 @@ module _ (job : CoreJob) (s : State) (w : ℕ) (laws : IsPlan job.plan) (below :
       (λ m. (same m).0) (λ m u leaf. (same m).1) (λ m. (same m).2) (still_ran s.node l Ready (grind arith))
 
   -- the right side of a series is made ready
-  pub open_second_keeps : (p l r : ℕ) → Needs job s w (OpenSeqRight p l r) → PartsKept job (record s { node = put s.node r Ready; task = put s.task w Idle })
+  pub open_second_keeps : (p l r : ℕ) → Needs job s w (OpenSeqRight p l r) → InductiveParts job (record s { node = put s.node r Ready; task = put s.task w Idle })
   open_second_keeps p l r needs =
       let mine : s.task w ≡ Whole l = needs.1 in
       let fits : TaskFits job.plan s.node s.mark (Whole l) = rw mine at (h.tasks.fits w) in

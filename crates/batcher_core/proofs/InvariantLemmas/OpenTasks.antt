@@ -13,7 +13,7 @@ use Rattle.batcher_core.specs.declared.state.task.Task.TheVariants.{Idle, Run, H
 use Rattle.batcher_core.specs.State.{put}
 use Rattle.batcher_core.specs.Tasks.{is_done, names}
 use Rattle.batcher_core.specs.Invariant.Tasks.{TaskFits}
-use Rattle.batcher_core.proofs.Inductive.Nodes.{NodesKept, passed_if, LeftAlone, TasksKept}
+use Rattle.batcher_core.proofs.Inductive.Nodes.{InductiveNodes, passed_if, LeftAlone, InductiveTasks}
 use Rattle.batcher_core.proofs.CodeLemmas.Puts.{put_each}
 use Rattle.batcher_core.proofs.InvariantLemmas.Holders.{keep_task, drop_task}
 use Rattle.batcher_core.proofs.InvariantLemmas.TaskFrames.{open_task}
@@ -32,7 +32,7 @@ passed_most : (b : Bool) (o : Option ℕ) → passed_if b o ≤ 1
 passed_most b o = grind arith
 
 module _ (plan : Nodes) (node : ℕ → Progress) (mark : ℕ → ℕ) (task : ℕ → Task) (holder : ℕ → Option ℕ) (w : ℕ)
-    (laws : IsPlan plan) (nodes : NodesKept plan node) (h : TasksKept plan node mark task holder) where
+    (laws : IsPlan plan) (nodes : InductiveNodes plan node) (h : InductiveTasks plan node mark task holder) where
   -- two workers hold no one node
   pub apart : (v n : ℕ) → names (task w) ≡ Some n → v ≢ w → names (task v) ≢ Some n
   apart v n mine other e = grind (arith, h.holders.named v n e, h.holders.named w n mine)
@@ -43,7 +43,7 @@ module _ (plan : Nodes) (node : ℕ → Progress) (mark : ℕ → ℕ) (task : �
 
   -- the right of a Par is made ready
   pub open_right : (p l r : ℕ) → task w ≡ Run p → plan.kind p ≡ Some (ParNode l r)
-      → TasksKept plan (put node r Ready) mark (put task w (Half p)) holder
+      → InductiveTasks plan (put node r Ready) mark (put task w (Half p)) holder
   open_right p l r mine par =
       let mine' : TaskFits plan node mark (Run p) = rw mine at (h.fits w) in
       let side : IsSide plan p r = grind (arith, laws.right_of_par p l r par) in
@@ -64,7 +64,7 @@ module _ (plan : Nodes) (node : ℕ → Progress) (mark : ℕ → ℕ) (task : �
 
   -- its left is made ready, and the worker is idle
   pub open_left : (p l r : ℕ) → task w ≡ Half p → plan.kind p ≡ Some (ParNode l r)
-      → TasksKept plan (put node l Ready) mark (put task w Idle) (put holder p None)
+      → InductiveTasks plan (put node l Ready) mark (put task w Idle) (put holder p None)
   open_left p l r mine par =
       let mine' : TaskFits plan node mark (Half p) = rw mine at (h.fits w) in
       let side : IsSide plan p l = grind (arith, laws.left_of_par p l r par) in
@@ -90,7 +90,7 @@ module _ (plan : Nodes) (node : ℕ → Progress) (mark : ℕ → ℕ) (task : �
 
   -- the left of a Seq is made ready, and the worker is idle
   pub open_first : (p l r : ℕ) → task w ≡ Run p → plan.kind p ≡ Some (SeqNode l r)
-      → TasksKept plan (put node l Ready) mark (put task w Idle) (put holder p None)
+      → InductiveTasks plan (put node l Ready) mark (put task w Idle) (put holder p None)
   open_first p l r mine seq =
       let mine' : TaskFits plan node mark (Run p) = rw mine at (h.fits w) in
       let after_l : plan.after l ≡ OpenSecond p = laws.left_of_seq p l r seq in
@@ -112,7 +112,7 @@ module _ (plan : Nodes) (node : ℕ → Progress) (mark : ℕ → ℕ) (task : �
 
   -- the left of a Seq is done, so its right is made ready, and the worker is idle
   pub open_second : (p l r : ℕ) → task w ≡ Whole l → plan.kind p ≡ Some (SeqNode l r)
-      → TasksKept plan (put node r Ready) mark (put task w Idle) (put holder l None)
+      → InductiveTasks plan (put node r Ready) mark (put task w Idle) (put holder l None)
   open_second p l r mine seq =
       let mine' : TaskFits plan node mark (Whole l) = rw mine at (h.fits w) in
       let after_l : plan.after l ≡ OpenSecond p = laws.left_of_seq p l r seq in

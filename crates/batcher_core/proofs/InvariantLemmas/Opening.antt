@@ -12,13 +12,13 @@ use Rattle.batcher_core.specs.declared.state.status.CallState.{CallState}
 use Rattle.batcher_core.specs.declared.state.status.CallState.TheVariants.{NotCalled}
 use Rattle.batcher_core.specs.State.{put, CoreJob, opening_state}
 use Rattle.batcher_core.specs.Operations.{place_of}
-use Rattle.batcher_core.proofs.Inductive.Nodes.{NodesKept, TasksKept}
-use Rattle.batcher_core.proofs.Inductive.Ticks.{Stamp, stamps, StartOf, TicksKept}
+use Rattle.batcher_core.proofs.Inductive.Nodes.{InductiveNodes, InductiveTasks}
+use Rattle.batcher_core.proofs.Inductive.Ticks.{Stamp, stamps, StartOf, InductiveTicks}
 use Rattle.batcher_core.proofs.Inductive.Book.{booked_by, valued_by}
-use Rattle.batcher_core.proofs.Inductive.Parts.{PartsKept}
+use Rattle.batcher_core.proofs.Inductive.Parts.{InductiveParts}
 
 -- the nodes
-opening_nodes : (plan : Nodes) → IsPlan plan → (plan.kind 0 ≢ None) → NodesKept plan (put (λ n. Waiting) 0 Ready)
+opening_nodes : (plan : Nodes) → IsPlan plan → (plan.kind 0 ≢ None) → InductiveNodes plan (put (λ n. Waiting) 0 Ready)
 opening_nodes plan laws inside = record {
   root = grind (arith, nat_tests);
   below_waiting = λ p n side w. grind (arith, nat_tests, laws.deeper p n side);
@@ -35,7 +35,7 @@ not_taken : (p : ℕ) → put (λ n. Waiting) 0 Ready p ≢ Taken
 not_taken p e = grind (arith, nat_tests)
 
 -- the tasks
-opening_tasks : (plan : Nodes) → TasksKept plan (put (λ n. Waiting) 0 Ready) (λ n. 0) (λ w. Idle) (λ n. None)
+opening_tasks : (plan : Nodes) → InductiveTasks plan (put (λ n. Waiting) 0 Ready) (λ n. 0) (λ w. Idle) (λ n. None)
 opening_tasks plan = record {
   holders = record { named = λ w n e. cc; holds = λ w n e. cc };
   fits = λ w. tt;
@@ -48,7 +48,7 @@ opening_stamp : (n : ℕ) → stamps (put (λ n. Waiting) 0 Ready) (λ w. Idle) 
 opening_stamp n = grind (arith, nat_tests)
 
 -- the ticks
-opening_ticks : (plan : Nodes) (workers : ℕ) (stamps : ℕ → Option Stamp) (node : ℕ → Progress) → ((n : ℕ) → stamps n ≡ None) → TicksKept plan workers node 0 stamps
+opening_ticks : (plan : Nodes) (workers : ℕ) (stamps : ℕ → Option Stamp) (node : ℕ → Progress) → ((n : ℕ) → stamps n ≡ None) → InductiveTicks plan workers node 0 stamps
 opening_ticks plan workers stamps node none = record {
   draw = λ t. StartOf 0;
   start_drawn = λ n w s e k. let f = none n in cc;
@@ -70,7 +70,7 @@ opening_valued : (n : ℕ) (task : ℕ → Task) → valued_by (put (λ n. Waiti
 opening_valued n task = grind (arith, nat_tests)
 
 -- all of it
-pub opening_kept : (job : CoreJob) → IsPlan job.plan → job.plan.kind 0 ≢ None → PartsKept job opening_state
+pub opening_kept : (job : CoreJob) → IsPlan job.plan → job.plan.kind 0 ≢ None → InductiveParts job opening_state
 unfolding place_of opening_state
 opening_kept job laws inside = record {
   holder = λ n. None;

@@ -26,10 +26,10 @@ use Rattle.batcher_core.specs.Tasks.{names}
 use Rattle.batcher_core.specs.Invariant.Tasks.{TaskFits}
 use Rattle.batcher_core.specs.Events.{has_taken, Needs, published, IsTakenCall, IsBatchOf}
 use Rattle.batcher_core.specs.Invariant.Statuses.{is_taken_by}
-use Rattle.batcher_core.specs.Invariant.Hold.{is_published, HoldStands}
+use Rattle.batcher_core.specs.Invariant.Hold.{is_published, HoldInvariant}
 use Rattle.batcher_core.proofs.Inductive.Nodes.{HoldersFit}
 use Rattle.batcher_core.proofs.Inductive.Book.{StatusFits, booked_by, worker_at, valued_by, value_due}
-use Rattle.batcher_core.proofs.Inductive.Parts.{PartsKept}
+use Rattle.batcher_core.proofs.Inductive.Parts.{InductiveParts}
 use Rattle.batcher_core.proofs.BookLemmas.EntryLists.{each_append, each_so, each_both, each_mapped, each_at, distinct_append, apart_by, distinct_leaves}
 use Rattle.batcher_core.proofs.BookLemmas.Books.{which_place, place_append, place_in_batch, found_entry, each_found, each_in_book, flat_append, served_append, legal_append}
 use Rattle.batcher_core.proofs.InvariantLemmas.BatchFacts.{started_at, op_kept, BatchFits, status_kept, taken_same, hold_kept, earlier_append, booked_published, entry_kept, executing, took_it, new_entry, has_place, ended_booked, batch_node, batch_each}
@@ -79,9 +79,9 @@ has_entry job s holder b w n laws holders batch took at =
     ] refl)
 
 -- the batch fits the tasks
-batch_fits : (job : CoreJob) (s : State) (hd : Hold) (holder : ℕ → Option ℕ) (b : List Entry) → IsPlan job.plan → HoldersFit s.task holder → s.hold ≡ Some hd → IsBatchOf job s b → BatchFits job s hd.took b
+batch_fits : (job : CoreJob) (s : State) (hd : Hold) (holder : ℕ → Option ℕ) (b : List Entry) → IsPlan job.plan → HoldersFit s.task holder → s.hold ≡ Some hd → IsBatchOf job s b → BatchFits job s hd.taken b
 batch_fits job s hd holder b laws holders there batch = record {
-  taken = λ u p e. rw there at ((found_entry (IsTakenCall job s) (length s.book) 0 b u p batch.only e).0.took);
+  taken = λ u p e. rw there at ((found_entry (IsTakenCall job s) (length s.book) 0 b u p batch.only e).0.taken);
   started = λ u p e.
       let found = found_entry (IsTakenCall job s) (length s.book) 0 b u p batch.only e in
       ap started_at found.0.started.2 ∙ ap Some (laws.one_node found.0.node p.entry.leaf found.0.started.0 ∙ ap job.plan.node_of found.1);
@@ -102,10 +102,10 @@ not_booked : (x : Progress) (o : Option ℕ) (task : ℕ → Task) (status : ℕ
 not_booked x o task status call w n t taken held started executing out = grind arith
 
 -- a taken call is not in the book before it is published
-not_in_book : (job : CoreJob) (s : State) (hd : Hold) (e : Entry) (h : PartsKept job s) → s.hold ≡ Some hd → hd.published ≡ false → IsTakenCall job s e → place_of s.book e.leaf ≡ None
+not_in_book : (job : CoreJob) (s : State) (hd : Hold) (e : Entry) (h : InductiveParts job s) → s.hold ≡ Some hd → hd.published ≡ false → IsTakenCall job s e → place_of s.book e.leaf ≡ None
 not_in_book job s hd e h there unpublished call =
     let rows : StatusFits job s.book (s.task e.worker) (s.status e.worker) (s.call e.worker) (is_taken_by (Some hd) e.worker) = rw there at (h.statuses e.worker) in
-    let ex : s.status e.worker ≡ Executing = executing job s hd e.worker there unpublished (rw there at h.hold) rows (rw there at call.took) in
+    let ex : s.status e.worker ≡ Executing = executing job s hd e.worker there unpublished (rw there at h.hold) rows (rw there at call.taken) in
     let fits : TaskFits job.plan s.node s.mark (Started call.node call.started.1) = rw call.started.2 at (h.tasks.fits e.worker) in
     let held : h.holder call.node ≡ Some e.worker = h.tasks.holders.named e.worker call.node (ap names call.started.2) in
     no_entry (place_of s.book e.leaf)
@@ -113,7 +113,7 @@ not_in_book job s hd e h there unpublished call =
     ∙ not_booked (s.node call.node) (h.holder call.node) s.task s.status s.call e.worker call.node call.started.1 fits.1 held call.started.2 ex (took_it job s hd e.worker rows ex).1)
 
 -- the leaves of the book stay distinct
-leaves_apart : (job : CoreJob) (s : State) (hd : Hold) (b : List Entry) (h : PartsKept job s) → IsPlan job.plan → s.hold ≡ Some hd → hd.published ≡ false → IsBatchOf job s b
+leaves_apart : (job : CoreJob) (s : State) (hd : Hold) (b : List Entry) (h : InductiveParts job s) → IsPlan job.plan → s.hold ≡ Some hd → hd.published ≡ false → IsBatchOf job s b
     → AreDistinct (map (λ (e : Entry). e.leaf) (flat (s.book ++ b ∷ [])))
 leaves_apart job s hd b h laws there unpublished batch =
     rw (flat_append s.book b, map-append)
@@ -138,15 +138,15 @@ pub there_if : (p : Option Place) (o : Option ℕ) → worker_at p ≡ o → o �
 there_if p o e there none = grind arith
 
 -- all that is carried, after a batch is published
-pub publish_keeps : (job : CoreJob) (s : State) (w : ℕ) (b : List Entry) → IsPlan job.plan → PartsKept job s → Needs job s w Publish → IsBatchOf job s b
-    → PartsKept job (record s { book = s.book ++ b ∷ []; objects = served s.objects b; hold = published s.hold })
+pub publish_keeps : (job : CoreJob) (s : State) (w : ℕ) (b : List Entry) → IsPlan job.plan → InductiveParts job s → Needs job s w Publish → IsBatchOf job s b
+    → InductiveParts job (record s { book = s.book ++ b ∷ []; objects = served s.objects b; hold = published s.hold })
 publish_keeps job s w b laws h needs batch =
     let hd : Hold = needs.0 in
     let there : s.hold ≡ Some hd = needs.1.0 in
     let unpublished : hd.published ≡ false = needs.4 in
-    let hold : HoldStands job.workers s.status s.call (Some hd) = rw there at h.hold in
+    let hold : HoldInvariant job.workers s.status s.call (Some hd) = rw there at h.hold in
     let rows : (v : ℕ) → StatusFits job s.book (s.task v) (s.status v) (s.call v) (is_taken_by (Some hd) v) = λ v. rw there at (h.statuses v) in
-    let fits : BatchFits job s hd.took b = batch_fits job s hd h.holder b laws h.tasks.holders there batch in
+    let fits : BatchFits job s hd.taken b = batch_fits job s hd h.holder b laws h.tasks.holders there batch in
     record {
       holder = h.holder;
       nodes = h.nodes;
@@ -161,7 +161,7 @@ publish_keeps job s w b laws h needs batch =
         batches = each_append IsBatch s.book (b ∷ []) h.book.batches (batch.is_batch, tt);
         leaves = leaves_apart job s hd b h laws there unpublished batch;
         among = rw (flat_append s.book b) (each_append (λ (e : Entry). e.worker < job.workers) (flat s.book) b h.book.among
-            (each_so (IsTakenCall job s) (λ (e : Entry). e.worker < job.workers) (λ e c. omega (arith, hold.2 e.worker (rw there at c.took), needs.2)) b batch.only));
+            (each_so (IsTakenCall job s) (λ (e : Entry). e.worker < job.workers) (λ e c. omega (arith, hold.2 e.worker (rw there at c.taken), needs.2)) b batch.only));
         operations = rw (flat_append s.book b) (each_append (λ (e : Entry). op_of job (s.book ++ b ∷ []) e.leaf ≡ Some e.op) (flat s.book) b
             (each_so (λ (e : Entry). op_of job s.book e.leaf ≡ Some e.op) (λ (e : Entry). op_of job (s.book ++ b ∷ []) e.leaf ≡ Some e.op) (λ e o. op_kept job s.book b e.leaf e.op o) (flat s.book) h.book.operations)
             (each_so (IsTakenCall job s) (λ (e : Entry). op_of job (s.book ++ b ∷ []) e.leaf ≡ Some e.op) (λ e c. op_kept job s.book b e.leaf e.op c.operation) b batch.only));
@@ -176,7 +176,7 @@ publish_keeps job s w b laws h needs batch =
             (λ p k. (h.book.entries u p k).2)
             (λ p k. place_in_batch (length s.book) 0 b v p k));
       };
-      booked = λ n u leaf call. rw (place_append s.book b u, there) (booked_published (s.node n) (h.holder n) (place_of s.book u) (place_in (length s.book) 0 b u) s.task s.status s.call hd.took
+      booked = λ n u leaf call. rw (place_append s.book b u, there) (booked_published (s.node n) (h.holder n) (place_of s.book u) (place_in (length s.book) 0 b u) s.task s.status s.call hd.taken
           (rw unpublished at (rw there at (h.booked n u leaf call)))
           (λ v e. (took_it job s hd v (rows v) e).0)
           (λ v e. executing job s hd v there unpublished hold (rows v) e)

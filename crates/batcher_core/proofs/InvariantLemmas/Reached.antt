@@ -7,8 +7,8 @@ use Rattle.sp_order.specs.PlanOf.{OccursAt, IsPlanOf}
 use Rattle.batcher_core.specs.State.{CoreJob, CoreState, opening_core}
 use Rattle.batcher_core.specs.Events.{EventKind, IsCoreEvent}
 use Rattle.batcher_core.specs.Invariant.{Invariant}
-use Rattle.batcher_core.proofs.Inductive.Parts.{PartsKept}
-use Rattle.batcher_core.proofs.Inductive.Lists.{ListsKept}
+use Rattle.batcher_core.proofs.Inductive.Parts.{InductiveParts}
+use Rattle.batcher_core.proofs.Inductive.Lists.{InductiveLists}
 use Rattle.batcher_core.specs.Runs.{IsReached, at_opening, by_event}
 use Rattle.batcher_core.proofs.InvariantLemmas.EachEvent.{event_keeps}
 use Rattle.batcher_core.proofs.InvariantLemmas.Opening.{opening_kept}
@@ -27,8 +27,8 @@ has_root plan tree h = has_top plan tree h.stands
 
 -- what is carried of a state and of its lists
 record Carried (job : CoreJob) (s : CoreState) : Type 0 where
-  parts : PartsKept job s.state
-  lists : ListsKept job.workers s.state.node s.ready
+  parts : InductiveParts job s.state
+  lists : InductiveLists job.workers s.state.node s.ready
 
 -- the opening state
 opening_carried : (job : CoreJob) → IsPlan job.plan → job.plan.kind 0 ≢ None → 0 < job.workers → Carried job opening_core
@@ -39,7 +39,7 @@ opening_carried job laws root some = record { parts = opening_kept job laws root
 event_carried : (job : CoreJob) (old new : CoreState) (w : ℕ) (kind : EventKind) → IsPlan job.plan → Carried job old → IsCoreEvent job old w kind new → Carried job new
 event_carried job old new w kind laws h step = record {
   parts = event_keeps job old.state new.state w step.event laws h.parts step.happens;
-  lists = subst (ListsKept job.workers new.state.node) (sym step.lists)
+  lists = subst (InductiveLists job.workers new.state.node) (sym step.lists)
       (lists_after job old.state w old.ready laws h.parts step.happens.worker_in h.lists step.event new.state step.happens.needs step.happens.does);
 }
 
@@ -49,7 +49,7 @@ reached_carried job s laws root some at_opening = opening_carried job laws root 
 reached_carried job s laws root some (by_event {old = old} {new = new} {worker = w} {kind = kind} before step) = event_carried job old new w kind laws (reached_carried job old laws root some before) step
 
 -- what is carried of its state, without the lists
-pub reached_parts : (job : CoreJob) (s : CoreState) → IsPlan job.plan → job.plan.kind 0 ≢ None → 0 < job.workers → IsReached job s → PartsKept job s.state
+pub reached_parts : (job : CoreJob) (s : CoreState) → IsPlan job.plan → job.plan.kind 0 ≢ None → 0 < job.workers → IsReached job s → InductiveParts job s.state
 reached_parts job s laws root some reached = (reached_carried job s laws root some reached).parts
 
 -- so the invariant holds

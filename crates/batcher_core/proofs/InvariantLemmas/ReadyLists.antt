@@ -1,8 +1,8 @@
 -- Each event keeps the lists of ready nodes.
 use Rattle.std.proofs.Common.{ℕ, ◌≡◌, ◌≢◌, ◌<◌, ◌+◌, ◌==◌, true, if◌then◌else◌, Option, Some, None, List, [], ◌∷◌, ◌++◌, arith, refl, subst, sym, ◌∙◌, ap}
 use Rattle.batcher_core.specs.Lists.{without, times, ready_after}
-use Rattle.batcher_core.specs.Invariant.ReadyLists.{ListsFit}
-use Rattle.batcher_core.proofs.Inductive.Lists.{stands_in, ListsKept}
+use Rattle.batcher_core.specs.Invariant.ReadyLists.{ReadyListsInvariant}
+use Rattle.batcher_core.proofs.Inductive.Lists.{stands_in, InductiveLists}
 use Rattle.batcher_core.specs.State.{opening_core}
 use Rattle.std.proofs.lemmas.Bool.Decides.{nat_tests}
 use Rattle.sp_order.specs.declared.node.Kind.TheVariants.{SeqNode, ParNode}
@@ -17,7 +17,7 @@ use Rattle.batcher_core.specs.State.{put, CoreJob, State, opening_state}
 use Rattle.batcher_core.specs.Tasks.{is_done}
 use Rattle.batcher_core.specs.Invariant.Tasks.{TaskFits}
 use Rattle.batcher_core.specs.Events.{Needs, Does}
-use Rattle.batcher_core.proofs.Inductive.Parts.{PartsKept}
+use Rattle.batcher_core.proofs.Inductive.Parts.{InductiveParts}
 
 -- how often a number stands in two lists
 times_append : (n : ℕ) (xs ys : List ℕ) → times n (xs ++ ys) ≡ times n xs + times n ys
@@ -43,7 +43,7 @@ times_without_other n m [] other = refl
 times_without_other n m (x ∷ xs) other = left_in n m x xs other (times_without_other n m xs other)
 
 -- a node that w makes ready goes to the newest end of its list
-open_lists : (workers : ℕ) (node : ℕ → Progress) (ready : ℕ → List ℕ) (w n : ℕ) → ListsKept workers node ready → w < workers → node n ≡ Waiting → ListsKept workers (put node n Ready) (put ready w (ready w ++ n ∷ []))
+open_lists : (workers : ℕ) (node : ℕ → Progress) (ready : ℕ → List ℕ) (w n : ℕ) → InductiveLists workers node ready → w < workers → node n ≡ Waiting → InductiveLists workers (put node n Ready) (put ready w (ready w ++ n ∷ []))
 open_lists workers node ready w n h below waits = record {
   home = put h.home n (Some w);
   homes = λ m e. grind (arith, nat_tests, h.homes m);
@@ -52,7 +52,7 @@ open_lists workers node ready w n h below waits = record {
 }
 
 -- a claimed node leaves the list that it stands in
-claim_lists : (workers : ℕ) (node : ℕ → Progress) (ready : ℕ → List ℕ) (n : ℕ) → ListsKept workers node ready → ListsKept workers (put node n Taken) (λ v. without n (ready v))
+claim_lists : (workers : ℕ) (node : ℕ → Progress) (ready : ℕ → List ℕ) (n : ℕ) → InductiveLists workers node ready → InductiveLists workers (put node n Taken) (λ v. without n (ready v))
 claim_lists workers node ready n h = record {
   home = h.home;
   homes = λ m e. grind (arith, nat_tests, h.homes m);
@@ -61,7 +61,7 @@ claim_lists workers node ready n h = record {
 }
 
 -- a taken node is done
-finish_lists : (workers : ℕ) (node : ℕ → Progress) (ready : ℕ → List ℕ) (n : ℕ) (x : Progress) → ListsKept workers node ready → node n ≡ Taken → is_done x ≡ true → ListsKept workers (put node n x) ready
+finish_lists : (workers : ℕ) (node : ℕ → Progress) (ready : ℕ → List ℕ) (n : ℕ) (x : Progress) → InductiveLists workers node ready → node n ≡ Taken → is_done x ≡ true → InductiveLists workers (put node n x) ready
 finish_lists workers node ready n x h taken done = record {
   home = h.home;
   homes = λ m e. grind (arith, nat_tests, h.homes m);
@@ -70,7 +70,7 @@ finish_lists workers node ready n x h taken done = record {
 }
 
 -- the opening lists
-pub opening_lists : (workers : ℕ) → 0 < workers → ListsKept workers (opening_core.state.node) (opening_core.ready)
+pub opening_lists : (workers : ℕ) → 0 < workers → InductiveLists workers (opening_core.state.node) (opening_core.ready)
 unfolding opening_core opening_state
 opening_lists workers some = record {
   home = λ n. Some 0;
@@ -79,13 +79,13 @@ opening_lists workers some = record {
   stands = λ w n. grind (arith, nat_tests);
 }
 
-module _ (job : CoreJob) (s : State) (w : ℕ) (ready : ℕ → List ℕ) (laws : IsPlan job.plan) (h : PartsKept job s) (below : w < job.workers) (lists : ListsKept job.workers s.node ready) where
+module _ (job : CoreJob) (s : State) (w : ℕ) (ready : ℕ → List ℕ) (laws : IsPlan job.plan) (h : InductiveParts job s) (below : w < job.workers) (lists : InductiveLists job.workers s.node ready) where
   -- what the worker's task says
   says : (t : Task) → s.task w ≡ t → TaskFits job.plan s.node s.mark t
   says t mine = rw mine at (h.tasks.fits w)
 
   -- the right side of a parallel block is made ready
-  open_par_right : (p l r : ℕ) → Needs job s w (OpenParRight p l r) → ListsKept job.workers (put s.node r Ready) (put ready w (ready w ++ r ∷ []))
+  open_par_right : (p l r : ℕ) → Needs job s w (OpenParRight p l r) → InductiveLists job.workers (put s.node r Ready) (put ready w (ready w ++ r ∷ []))
   open_par_right p l r needs = open_lists job.workers s.node ready w r lists below ((says (Run p) needs.1).1 r (ap parent_of (laws.right_of_par p l r needs.2)))
 
   -- the left side of a block that is half open waits
@@ -93,7 +93,7 @@ module _ (job : CoreJob) (s : State) (w : ℕ) (ready : ℕ → List ℕ) (laws 
   half_left p l r mine kind = let fits = says (Half p) mine in grind arith
 
   -- the left side of a series is made ready
-  open_seq_left : (p l r : ℕ) → Needs job s w (OpenSeqLeft p l r) → ListsKept job.workers (put s.node l Ready) (put ready w (ready w ++ l ∷ []))
+  open_seq_left : (p l r : ℕ) → Needs job s w (OpenSeqLeft p l r) → InductiveLists job.workers (put s.node l Ready) (put ready w (ready w ++ l ∷ []))
   open_seq_left p l r needs = open_lists job.workers s.node ready w l lists below ((says (Run p) needs.1).1 l (ap parent_of (laws.left_of_seq p l r needs.2)))
 
   -- the right side of a series waits while a task is whole of the left one
@@ -112,7 +112,7 @@ module _ (job : CoreJob) (s : State) (w : ℕ) (ready : ℕ → List ℕ) (laws 
 
   -- the lists after an event
   abbrev Keeps : Event → State → Type 0
-  Keeps event new = ListsKept job.workers new.node (ready_after w event ready)
+  Keeps event new = InductiveLists job.workers new.node (ready_after w event ready)
 
   -- row by row
   pub lists_after : (event : Event) (new : State) → Needs job s w event → Does job s w event new → Keeps event new
@@ -150,7 +150,7 @@ at_home : (x : Progress) (w : ℕ) → x ≡ Ready → (stands_in x (Some w) w �
 at_home x w ready = (grind (arith, nat_tests), λ v other. grind (arith, nat_tests))
 
 -- what is carried of the lists implies what the invariant says of them
-pub lists_fit : (workers : ℕ) (node : ℕ → Progress) (ready : ℕ → List ℕ) → ListsKept workers node ready → ListsFit workers node ready
+pub lists_fit : (workers : ℕ) (node : ℕ → Progress) (ready : ℕ → List ℕ) → InductiveLists workers node ready → ReadyListsInvariant workers node ready
 lists_fit workers node ready h = record {
   each = λ n e. one n e (h.home n) refl;
   only = λ n w some. is_ready (node n) (h.home n) w (λ z. some (h.stands w n ∙ z));

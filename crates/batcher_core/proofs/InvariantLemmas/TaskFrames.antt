@@ -11,7 +11,7 @@ use Rattle.batcher_core.specs.declared.state.task.Task.TheVariants.{Handed}
 use Rattle.batcher_core.specs.State.{put}
 use Rattle.batcher_core.specs.Tasks.{is_done, names}
 use Rattle.batcher_core.specs.Invariant.Tasks.{TaskFits}
-use Rattle.batcher_core.proofs.Inductive.Nodes.{TasksKept}
+use Rattle.batcher_core.proofs.Inductive.Nodes.{InductiveTasks}
 
 -- another task, when a ready node is taken
 pub claim_task : (plan : Nodes) (node : ℕ → Progress) (mark : ℕ → ℕ) (n : ℕ) → node n ≡ Ready → (t : Task) → TaskFits plan node mark t → TaskFits plan (put node n Taken) mark t
@@ -43,7 +43,7 @@ pub named_state : (plan : Nodes) (node : ℕ → Progress) (mark : ℕ → ℕ) 
 named_state plan node mark t n h name = grind (arith, nat_tests)
 
 -- nobody holds a node that is waiting or ready
-pub unheld : (plan : Nodes) (node : ℕ → Progress) (mark : ℕ → ℕ) (task : ℕ → Task) (holder : ℕ → Option ℕ) (n : ℕ) → TasksKept plan node mark task holder
+pub unheld : (plan : Nodes) (node : ℕ → Progress) (mark : ℕ → ℕ) (task : ℕ → Task) (holder : ℕ → Option ℕ) (n : ℕ) → InductiveTasks plan node mark task holder
     → node n ≢ Taken → is_done (node n) ≡ false → holder n ≡ None
 unheld plan node mark task holder n h taken done =
     elim (holder n) as (λ o. holder n ≡ o → holder n ≡ None) [

@@ -7,21 +7,21 @@ use Rattle.batcher_core.specs.declared.state.progress.Progress.TheVariants.{Wait
 use Rattle.batcher_core.specs.declared.state.task.Task.{Task}
 use Rattle.batcher_core.specs.State.{put}
 use Rattle.batcher_core.specs.Tasks.{is_done}
-use Rattle.batcher_core.proofs.Inductive.Nodes.{NodesKept}
-use Rattle.batcher_core.proofs.Inductive.Ticks.{Stamp, stamp, stamps, StartOf, EndOf, RanBefore, ComesBefore, TicksKept}
+use Rattle.batcher_core.proofs.Inductive.Nodes.{InductiveNodes}
+use Rattle.batcher_core.proofs.Inductive.Ticks.{Stamp, stamp, stamps, StartOf, EndOf, RanBefore, ComesBefore, InductiveTicks}
 
 -- what is under a done node is done
-pub under_done : {plan : Nodes} {a n : ℕ} (node : ℕ → Progress) → NodesKept plan node → IsUnder plan a n → is_done (node a) ≡ true → is_done (node n) ≡ true
+pub under_done : {plan : Nodes} {a n : ℕ} (node : ℕ → Progress) → InductiveNodes plan node → IsUnder plan a n → is_done (node a) ≡ true → is_done (node n) ≡ true
 under_done node h itself d = d
 under_done node h (one_below {top = a} {parent = p} {node = n} u side) d = h.below_done p n side (under_done node h u d)
 
 -- what is above a node that is taken or done is neither waiting nor ready
-pub above_taken : {plan : Nodes} {a n : ℕ} (node : ℕ → Progress) → NodesKept plan node → IsUnder plan a n → node n ≢ Waiting → node a ≢ Waiting
+pub above_taken : {plan : Nodes} {a n : ℕ} (node : ℕ → Progress) → InductiveNodes plan node → IsUnder plan a n → node n ≢ Waiting → node a ≢ Waiting
 above_taken node h itself d = d
 above_taken node h (one_below {top = a} {parent = p} {node = n} u side) d = above_taken node h u (λ w. d (h.below_waiting p n side w))
 
 -- a leaf that isn't waiting has all leaves before it done
-pub before_done : (plan : Nodes) (node : ℕ → Progress) (n m : ℕ) → NodesKept plan node → ComesBefore plan n m → node m ≢ Waiting → is_done (node n) ≡ true
+pub before_done : (plan : Nodes) (node : ℕ → Progress) (n m : ℕ) → InductiveNodes plan node → ComesBefore plan n m → node m ≢ Waiting → is_done (node n) ≡ true
 before_done plan node n m h b m_there =
     under_done node h b.2.under_left (grind (arith, above_taken node h b.2.under_right m_there, h.second b.2.parent b.2.left b.2.right b.2.series))
 
@@ -35,7 +35,7 @@ ran_by Done tick d n f = n refl
 
 -- a leaf before one that isn't waiting has run, and its end was drawn
 pub before_ran : (plan : Nodes) (workers : ℕ) (node : ℕ → Progress) (tick : ℕ) (task : ℕ → Task) (holder : ℕ → Option ℕ) (n m : ℕ)
-    → NodesKept plan node → TicksKept plan workers node tick (stamps node task holder) → ComesBefore plan n m → node m ≢ Waiting
+    → InductiveNodes plan node → InductiveTicks plan workers node tick (stamps node task holder) → ComesBefore plan n m → node m ≢ Waiting
     → RanBefore (node n) tick
 before_ran plan workers node tick task holder n m h ticks b there =
     let done : is_done (node n) ≡ true = before_done plan node n m h b there in
@@ -44,12 +44,12 @@ before_ran plan workers node tick task holder n m h ticks b there =
 
 -- start: the leaf n of worker w draws the tick
 pub start_ticks : (plan : Nodes) (workers : ℕ) (node : ℕ → Progress) (tick : ℕ) (old : ℕ → Option Stamp) (w n : ℕ)
-    → TicksKept plan workers node tick old → w < workers → old n ≡ None
+    → InductiveTicks plan workers node tick old → w < workers → old n ≡ None
     → ((m s : ℕ) (e : Option ℕ) → old m ≡ Some (stamp w s e) → e ≢ None)
     → ((m : ℕ) → ComesBefore plan m n → RanBefore (node m) tick)
     → ((m : ℕ) → ComesBefore plan n m → old m ≡ None)
     → ((m : ℕ) → ComesBefore plan m n → m ≢ n)
-    → TicksKept plan workers node (tick + 1) (put old n (Some (stamp w tick None)))
+    → InductiveTicks plan workers node (tick + 1) (put old n (Some (stamp w tick None)))
 start_ticks plan workers node tick old w n h fits fresh ended before after apart = record {
   draw = put h.draw tick (StartOf n);
   start_drawn = λ m v s e k. grind (arith, nat_tests, h.start_drawn m v s e);
@@ -63,8 +63,8 @@ start_ticks plan workers node tick old w n h fits fresh ended before after apart
 
 -- end: the leaf n of worker w draws the tick
 pub end_ticks : (plan : Nodes) (workers : ℕ) (node : ℕ → Progress) (tick : ℕ) (old : ℕ → Option Stamp) (w n s : ℕ)
-    → TicksKept plan workers node tick old → old n ≡ Some (stamp w s None)
-    → TicksKept plan workers node (tick + 1) (put old n (Some (stamp w s (Some tick))))
+    → InductiveTicks plan workers node tick old → old n ≡ Some (stamp w s None)
+    → InductiveTicks plan workers node (tick + 1) (put old n (Some (stamp w s (Some tick))))
 end_ticks plan workers node tick old w n s h was = record {
   draw = put h.draw tick (EndOf n);
   start_drawn = λ m v t e k. grind (arith, nat_tests, h.start_drawn m v t e, h.start_drawn n w s None was);
@@ -78,9 +78,9 @@ end_ticks plan workers node tick old w n s h was = record {
 
 -- the same stamps, where no leaf that has run is another
 pub same_ticks : (plan : Nodes) (workers : ℕ) (node newer : ℕ → Progress) (tick : ℕ) (old new : ℕ → Option Stamp)
-    → TicksKept plan workers node tick old → ((n : ℕ) → new n ≡ old n)
+    → InductiveTicks plan workers node tick old → ((n : ℕ) → new n ≡ old n)
     → ((n w s e : ℕ) → node n ≡ Ran w s e → newer n ≡ Ran w s e)
-    → TicksKept plan workers newer tick new
+    → InductiveTicks plan workers newer tick new
 same_ticks plan workers node newer tick old new h same ran = record {
   draw = h.draw;
   start_drawn = λ m v s e k. h.start_drawn m v s e (sym (same m) ∙ k);

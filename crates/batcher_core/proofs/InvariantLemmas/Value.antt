@@ -21,11 +21,11 @@ use Rattle.batcher_core.specs.Operations.{leaf_of, op_in, place_of}
 use Rattle.batcher_core.specs.Invariant.Tasks.{TaskFits}
 use Rattle.batcher_core.specs.Events.{value_in, Needs}
 use Rattle.batcher_core.specs.Invariant.Statuses.{is_taken_by}
-use Rattle.batcher_core.specs.Invariant.Hold.{is_published, HoldStands}
+use Rattle.batcher_core.specs.Invariant.Hold.{is_published, HoldInvariant}
 use Rattle.batcher_core.proofs.Inductive.Nodes.{HoldersFit}
 use Rattle.batcher_core.proofs.Inductive.Ticks.{stamps}
 use Rattle.batcher_core.proofs.Inductive.Book.{StatusFits, booked_by, valued_by, value_due}
-use Rattle.batcher_core.proofs.Inductive.Parts.{PartsKept}
+use Rattle.batcher_core.proofs.Inductive.Parts.{InductiveParts}
 use Rattle.batcher_core.proofs.CodeLemmas.Puts.{put_at, put_other}
 use Rattle.batcher_core.proofs.InvariantLemmas.FinishTasks.{go_on}
 use Rattle.batcher_core.proofs.InvariantLemmas.ClaimTasks.{beyond_put}
@@ -39,7 +39,7 @@ kept_row : (job : CoreJob) (book : List (List Entry)) (t u : Task) (st : Status)
 kept_row job book t u st c b free h = grind arith
 
 -- the hold
-kept_hold : (workers : ℕ) (status : ℕ → Status) (call : ℕ → CallState) (w : ℕ) (o : Option Hold) → call w ≢ Out → HoldStands workers status call o → HoldStands workers status (put call w NotCalled) o
+kept_hold : (workers : ℕ) (status : ℕ → Status) (call : ℕ → CallState) (w : ℕ) (o : Option Hold) → call w ≢ Out → HoldInvariant workers status call o → HoldInvariant workers status (put call w NotCalled) o
 kept_hold workers status call w None other h = tt
 kept_hold workers status call w (Some hd) other h = (grind (arith, nat_tests, h.0), h.1, h.2, h.3, h.4, h.5, h.6, h.7)
 
@@ -73,7 +73,7 @@ kept_valued : (node : ℕ → Progress) (task : ℕ → Task) (holder : ℕ → 
 kept_valued node task holder w n t m h mine other = grind (arith, nat_tests, h.holds w m)
 
 -- all that is carried, after a value is kept
-pub keep_keeps : (job : CoreJob) (s : State) (w n t v : ℕ) → IsPlan job.plan → w < job.workers → PartsKept job s → Needs job s w (Keep n t v) → PartsKept job (record s { value = put s.value n (Some v); call = put s.call w NotCalled; task = put s.task w (Kept n t) })
+pub keep_keeps : (job : CoreJob) (s : State) (w n t v : ℕ) → IsPlan job.plan → w < job.workers → InductiveParts job s → Needs job s w (Keep n t v) → InductiveParts job (record s { value = put s.value n (Some v); call = put s.call w NotCalled; task = put s.task w (Kept n t) })
 keep_keeps job s w n t v laws below h needs =
     let mine : s.task w ≡ Started n t = needs.1 in
     let fits : TaskFits job.plan s.node s.mark (Started n t) = rw mine at (h.tasks.fits w) in

@@ -19,9 +19,9 @@ use Rattle.batcher_core.specs.Operations.{leaf_of, op_in}
 use Rattle.batcher_core.specs.Invariant.Tasks.{TaskFits}
 use Rattle.batcher_core.specs.Events.{Needs, is_pending, new_hold, looked, published, answered}
 use Rattle.batcher_core.specs.Invariant.Statuses.{is_taken_by}
-use Rattle.batcher_core.specs.Invariant.Hold.{HoldStands}
-use Rattle.batcher_core.proofs.Inductive.Parts.{PartsKept}
-use Rattle.batcher_core.specs.Measure.{total, worker_cost, task_cost, leaf_cost, status_cost, owns, hold_cost, fuel}
+use Rattle.batcher_core.specs.Invariant.Hold.{HoldInvariant}
+use Rattle.batcher_core.proofs.Inductive.Parts.{InductiveParts}
+use Rattle.batcher_core.specs.Measure.{total, worker_cost, task_cost, leaf_cost, status_cost, owns, hold_cost, measure}
 use Rattle.batcher_core.proofs.CodeLemmas.Puts.{put_at, put_other}
 use Rattle.batcher_core.proofs.MeasureLemmas.Jobs.{total_change}
 use Rattle.batcher_core.proofs.InvariantLemmas.StatusRows.{taken_executing}
@@ -33,7 +33,7 @@ total_le f g (suc n) h = let a = h n (omega arith) in let b : total g n ≤ tota
 abbrev cost_of : CoreJob → State → ℕ → ℕ
 cost_of job s v = worker_cost job (owns s.hold v) (s.task v) (s.status v) (s.call v)
 
-owns_not : (workers : ℕ) (status : ℕ → Status) (call : ℕ → CallState) (w : ℕ) (o : Option Hold) → HoldStands workers status call o → call w ≡ NotCalled → owns o w ≡ false
+owns_not : (workers : ℕ) (status : ℕ → Status) (call : ℕ → CallState) (w : ℕ) (o : Option Hold) → HoldInvariant workers status call o → call w ≡ NotCalled → owns o w ≡ false
 owns_not workers status call w None h e = refl
 owns_not workers status call w (Some hd) h e = elim (cases_eq hd.worker w) [
   | inl same ↦ let f = h.0 in let g = ap call same in absurd (let k : Out ≡ NotCalled = sym f ∙ (g ∙ e) in cc)
@@ -59,14 +59,14 @@ release_le job b t st c h = grind arith
 owner_is : (a b : ℕ) → (a == b) ≡ true → b ≡ a
 owner_is a b e = grind (arith, nat_tests)
 
-module _ (job : CoreJob) (s : State) (w : ℕ) (below : w < job.workers) (h : PartsKept job s) where
-  pub keep_lowers : (n t v : ℕ) → Needs job s w (Keep n t v) → fuel job (record s { value = put s.value n (Some v); call = put s.call w NotCalled; task = put s.task w (Kept n t) }) < fuel job s
+module _ (job : CoreJob) (s : State) (w : ℕ) (below : w < job.workers) (h : InductiveParts job s) where
+  pub keep_lowers : (n t v : ℕ) → Needs job s w (Keep n t v) → measure job (record s { value = put s.value n (Some v); call = put s.call w NotCalled; task = put s.task w (Kept n t) }) < measure job s
   keep_lowers n t v needs =
       let a = total_change (cost_of job s) (cost_of job (record s { value = put s.value n (Some v); call = put s.call w NotCalled; task = put s.task w (Kept n t) })) w job.workers below (λ m other. rw (put_other s.task w m (Kept n t) other, put_other s.call w m NotCalled other) refl) in
       let b : cost_of job (record s { value = put s.value n (Some v); call = put s.call w NotCalled; task = put s.task w (Kept n t) }) w ≡ 3 = rw (put_at s.task w w (Kept n t) refl, put_at s.call w w NotCalled refl, needs.0) refl in
       let c : 4 ≤ cost_of job s w = rw (needs.0, needs.1) (omega arith) in omega arith
 
-  pub post_lowers : (n t : ℕ) → Needs job s w (Post n t) → fuel job (record s { status = put s.status w Pending; call = put s.call w Out }) < fuel job s
+  pub post_lowers : (n t : ℕ) → Needs job s w (Post n t) → measure job (record s { status = put s.status w Pending; call = put s.call w Out }) < measure job s
   post_lowers n t needs =
       let fits : TaskFits job.plan s.node s.mark (Started n t) = rw needs.1 at (h.tasks.fits w) in
       let d = call_due job (job.plan.kind n) fits.0.0 fits.0.1 needs.2 in
@@ -76,23 +76,23 @@ module _ (job : CoreJob) (s : State) (w : ℕ) (below : w < job.workers) (h : Pa
       let c : cost_of job s w ≡ 4 + leaf_cost job (job.plan.kind n) = rw (needs.0, needs.1, needs.3) refl in omega arith
 
   -- a turn wins only for a pending worker
-  pub win_lowers : s.status w ≡ Pending → Needs job s w Win → fuel job (record s { hold = Some (new_hold w) }) < fuel job s
+  pub win_lowers : s.status w ≡ Pending → Needs job s w Win → measure job (record s { hold = Some (new_hold w) }) < measure job s
   win_lowers pending needs =
       let a = total_change (cost_of job s) (cost_of job (record s { hold = Some (new_hold w) })) w job.workers below (λ m other. rw (other_eq w m other, needs.2) refl) in
       let b : cost_of job (record s { hold = Some (new_hold w) }) w ≡ task_cost job (s.task w) + 2 = rw (self_eq w, pending) refl in
       let c : cost_of job s w ≡ task_cost job (s.task w) + (job.workers + 5) = rw (needs.2, pending) refl in
       let d : hold_cost job.workers s.hold ≡ 0 = rw needs.2 refl in omega arith
 
-  pub leave_lowers : (r : Receipt) → Needs job s w (Leave r) → fuel job (record s { status = put s.status w Free; call = put s.call w (Got r) }) < fuel job s
+  pub leave_lowers : (r : Receipt) → Needs job s w (Leave r) → measure job (record s { status = put s.status w Free; call = put s.call w (Got r) }) < measure job s
   leave_lowers r needs =
       let a = total_change (cost_of job s) (cost_of job (record s { status = put s.status w Free; call = put s.call w (Got r) })) w job.workers below (λ m other. rw (put_other s.status w m Free other, put_other s.call w m (Got r) other) refl) in
       let b : cost_of job (record s { status = put s.status w Free; call = put s.call w (Got r) }) w ≡ task_cost job (s.task w) + 0 = rw (put_at s.status w w Free refl, put_at s.call w w (Got r) refl) refl in
       let c : cost_of job s w ≡ task_cost job (s.task w) + 1 = rw needs.0 refl in omega arith
 
-  pub publish_lowers : (book : List (List Entry)) (objects : Objects) → Needs job s w Publish → fuel job (record s { book = book; objects = objects; hold = published s.hold }) < fuel job s
+  pub publish_lowers : (book : List (List Entry)) (objects : Objects) → Needs job s w Publish → measure job (record s { book = book; objects = objects; hold = published s.hold }) < measure job s
   publish_lowers book objects needs = let e = needs.1.0 in let f = needs.4 in rw (e, f) (omega arith)
 
-  pub take_lowers : (u : ℕ) → Needs job s w (Take u) → fuel job (record s { status = if is_pending (s.status u) then put s.status u Executing else s.status; hold = looked s.hold (is_pending (s.status u)) u }) < fuel job s
+  pub take_lowers : (u : ℕ) → Needs job s w (Take u) → measure job (record s { status = if is_pending (s.status u) then put s.status u Executing else s.status; hold = looked s.hold (is_pending (s.status u)) u }) < measure job s
   take_lowers u needs =
       let e = needs.1.0 in let hd = needs.0 in
       let a = total_le (cost_of job s) (λ m. worker_cost job (owns s.hold m) (s.task m) ((if is_pending (s.status u) then put s.status u Executing else s.status) m) (s.call m)) job.workers
@@ -100,10 +100,10 @@ module _ (job : CoreJob) (s : State) (w : ℕ) (below : w < job.workers) (h : Pa
       let a' = rw e at a in
       rw e (omega arith)
 
-  pub answer_lowers : (u : ℕ) (r : Receipt) → Needs job s w (Answer u r) → fuel job (record s { status = put s.status u (Served r); hold = answered s.hold u }) < fuel job s
+  pub answer_lowers : (u : ℕ) (r : Receipt) → Needs job s w (Answer u r) → measure job (record s { status = put s.status u (Served r); hold = answered s.hold u }) < measure job s
   answer_lowers u r needs =
       let e = needs.1.0 in let took = needs.3 in let unanswered = needs.4 in
-      let hf : HoldStands job.workers s.status s.call (Some needs.0) = rw e at h.hold in
+      let hf : HoldInvariant job.workers s.status s.call (Some needs.0) = rw e at h.hold in
       let in' : u < job.workers = (let a = hf.2 u took in let b = hf.1 in omega arith) in
       let st : s.status u ≡ Executing = taken_executing job s.book (s.task u) (s.status u) (s.call u) (is_taken_by s.hold u) (rw (e, took, unanswered) refl) (h.statuses u) in
       let a = total_change (cost_of job s) (λ m. worker_cost job (owns s.hold m) (s.task m) (put s.status u (Served r) m) (s.call m)) u job.workers in' (λ m other. rw (put_other s.status u m (Served r) other) refl) in
@@ -111,10 +111,10 @@ module _ (job : CoreJob) (s : State) (w : ℕ) (below : w < job.workers) (h : Pa
       let a'' = rw e at a' in
       rw e (omega arith)
 
-  pub release_lowers : Needs job s w Release → fuel job (record s { hold = None }) < fuel job s
+  pub release_lowers : Needs job s w Release → measure job (record s { hold = None }) < measure job s
   release_lowers needs =
       let e = needs.1.0 in
-      let hf : HoldStands job.workers s.status s.call (Some needs.0) = rw e at h.hold in
+      let hf : HoldInvariant job.workers s.status s.call (Some needs.0) = rw e at h.hold in
       let mine = needs.1.1 in let all = needs.2 in
       let gone : s.status w ≢ Pending = (let k : needs.0.worker < needs.0.looks = omega arith in rw mine at (hf.7 k)) in
       let a = total_le (λ m. worker_cost job (owns (Some needs.0) m) (s.task m) (s.status m) (s.call m)) (cost_of job (record s { hold = None })) job.workers

@@ -15,8 +15,8 @@ use Rattle.batcher_core.specs.declared.event.Event.TheVariants.{Claim, Start, Op
 use Rattle.batcher_core.specs.State.{put, CoreJob, State}
 use Rattle.batcher_core.specs.Invariant.Tasks.{TaskFits}
 use Rattle.batcher_core.specs.Events.{Needs, task_after}
-use Rattle.batcher_core.proofs.Inductive.Parts.{PartsKept}
-use Rattle.batcher_core.specs.Measure.{total, node_cost, worker_cost, task_cost, run_cost, left_cost, first_cost, leaf_cost, due_cost, free_cost, owns, workers_fuel, fuel}
+use Rattle.batcher_core.proofs.Inductive.Parts.{InductiveParts}
+use Rattle.batcher_core.specs.Measure.{total, node_cost, worker_cost, task_cost, run_cost, left_cost, first_cost, leaf_cost, due_cost, free_cost, owns, workers_measure, measure}
 use Rattle.batcher_core.proofs.CodeLemmas.Puts.{put_at, put_other}
 
 pub total_same : (f g : ℕ → ℕ) (n : ℕ) → ((m : ℕ) → m < n → g m ≡ f m) → total g n ≡ total f n
@@ -42,7 +42,7 @@ node_change job node n x below =
 -- a task is written
 pub task_change : (job : CoreJob) (s : State) (w : ℕ) (t : Task) → w < job.workers
     → total (λ v. worker_cost job (owns s.hold v) (put s.task w t v) (s.status v) (s.call v)) job.workers + worker_cost job (owns s.hold w) (s.task w) (s.status w) (s.call w)
-    ≡ workers_fuel job s + worker_cost job (owns s.hold w) t (s.status w) (s.call w)
+    ≡ workers_measure job s + worker_cost job (owns s.hold w) t (s.status w) (s.call w)
 task_change job s w t below =
     rw (put_at s.task w w t refl) at (total_change (λ v. worker_cost job (owns s.hold v) (s.task v) (s.status v) (s.call v)) (λ v. worker_cost job (owns s.hold v) (put s.task w t v) (s.status v) (s.call v)) w job.workers below
     (λ m other. ap (λ (y : Task). worker_cost job (owns s.hold m) y (s.status m) (s.call m)) (put_other s.task w m t other)))
@@ -51,8 +51,8 @@ claim_cost : (job : CoreJob) (k : Option Kind) (n : ℕ) (c : CallState) → job
     → left_cost k + (task_cost job (Run n) + free_cost job (Run n) c) < first_cost k + leaf_cost job k
 claim_cost job k n c e inside = grind arith
 
-module _ (job : CoreJob) (s : State) (w : ℕ) (below : w < job.workers) (laws : IsPlan job.plan) (h : PartsKept job s) where
-  pub claim_lowers : (n : ℕ) → Needs job s w (Claim n) → fuel job (record s { node = put s.node n Taken; task = put s.task w (Run n) }) < fuel job s
+module _ (job : CoreJob) (s : State) (w : ℕ) (below : w < job.workers) (laws : IsPlan job.plan) (h : InductiveParts job s) where
+  pub claim_lowers : (n : ℕ) → Needs job s w (Claim n) → measure job (record s { node = put s.node n Taken; task = put s.task w (Run n) }) < measure job s
   claim_lowers n needs =
       let out : job.plan.kind n ≢ None = λ e. (let f = h.nodes.outside n e in let g = needs.2 in cc) in
       let a = node_change job s.node n Taken (laws.within n out) in
@@ -77,7 +77,7 @@ after_le job n = elim (cases_eq n 0) [ inl e ↦ rw e (omega arith, refl) | inr 
 -- a free worker's task becomes t' and costs less
 pub task_lowers : (job : CoreJob) (s : State) (w : ℕ) (t t' : Task) → w < job.workers → s.status w ≡ Free → s.task w ≡ t
     → task_cost job t' + free_cost job t' (s.call w) < task_cost job t + free_cost job t (s.call w)
-    → total (λ v. worker_cost job (owns s.hold v) (put s.task w t' v) (s.status v) (s.call v)) job.workers < workers_fuel job s
+    → total (λ v. worker_cost job (owns s.hold v) (put s.task w t' v) (s.status v) (s.call v)) job.workers < workers_measure job s
 task_lowers job s w t t' below free mine less = let a = rw (mine, free) at (task_change job s w t' below) in omega arith
 
 ready_at : (job : CoreJob) (node : ℕ → Progress) (r m : ℕ) → node r ≡ Waiting → node_cost job (job.plan.kind m) (put node r Ready m) ≡ node_cost job (job.plan.kind m) (node m)
@@ -95,14 +95,14 @@ pub done_change : (job : CoreJob) (node : ℕ → Progress) (n : ℕ) (x : Progr
     ≡ total (λ m. node_cost job (job.plan.kind m) (node m)) job.plan.count
 done_change job node n x below taken none = let a = rw taken at (node_change job node n x below) in omega arith
 
-module _ (job : CoreJob) (s : State) (w : ℕ) (below : w < job.workers) (laws : IsPlan job.plan) (h : PartsKept job s) where
-  pub start_lowers : (n : ℕ) → Needs job s w (Start n) → fuel job (record s { tick = s.tick + 1; task = put s.task w (Started n s.tick) }) < fuel job s
+module _ (job : CoreJob) (s : State) (w : ℕ) (below : w < job.workers) (laws : IsPlan job.plan) (h : InductiveParts job s) where
+  pub start_lowers : (n : ℕ) → Needs job s w (Start n) → measure job (record s { tick = s.tick + 1; task = put s.task w (Started n s.tick) }) < measure job s
   start_lowers n needs =
       let a = run_leaf (job.plan.kind n) needs.2.0 needs.2.1 in
       let b = start_same job n s.tick (s.call w) in
       let c = task_lowers job s w (Run n) (Started n s.tick) below needs.0 needs.1 (omega arith) in omega arith
 
-  pub open_right_lowers : (p l r : ℕ) → Needs job s w (OpenParRight p l r) → fuel job (record s { node = put s.node r Ready; task = put s.task w (Half p) }) < fuel job s
+  pub open_right_lowers : (p l r : ℕ) → Needs job s w (OpenParRight p l r) → measure job (record s { node = put s.node r Ready; task = put s.task w (Half p) }) < measure job s
   open_right_lowers p l r needs =
       let fits : TaskFits job.plan s.node s.mark (Run p) = rw needs.1 at (h.tasks.fits w) in
       let a = ready_same job s.node r (fits.1 r (ap parent_of (laws.right_of_par p l r needs.2))) in
@@ -110,7 +110,7 @@ module _ (job : CoreJob) (s : State) (w : ℕ) (below : w < job.workers) (laws :
       let b = free_le job (Half p) (s.call w) in
       let c = task_lowers job s w (Run p) (Half p) below needs.0 needs.1 (omega arith) in omega arith
 
-  pub open_left_lowers : (p l r : ℕ) → Needs job s w (OpenParLeft p l r) → fuel job (record s { node = put s.node l Ready; task = put s.task w Idle }) < fuel job s
+  pub open_left_lowers : (p l r : ℕ) → Needs job s w (OpenParLeft p l r) → measure job (record s { node = put s.node l Ready; task = put s.task w Idle }) < measure job s
   open_left_lowers p l r needs =
       let fits : TaskFits job.plan s.node s.mark (Half p) = rw needs.1 at (h.tasks.fits w) in
       let same : l ≡ fits.0 = (let f = fits.2 in let g = needs.2 in cc) in
@@ -118,7 +118,7 @@ module _ (job : CoreJob) (s : State) (w : ℕ) (below : w < job.workers) (laws :
       let b = free_le job Idle (s.call w) in
       let c = task_lowers job s w (Half p) Idle below needs.0 needs.1 (omega arith) in omega arith
 
-  pub open_first_lowers : (p l r : ℕ) → Needs job s w (OpenSeqLeft p l r) → fuel job (record s { node = put s.node l Ready; task = put s.task w Idle }) < fuel job s
+  pub open_first_lowers : (p l r : ℕ) → Needs job s w (OpenSeqLeft p l r) → measure job (record s { node = put s.node l Ready; task = put s.task w Idle }) < measure job s
   open_first_lowers p l r needs =
       let fits : TaskFits job.plan s.node s.mark (Run p) = rw needs.1 at (h.tasks.fits w) in
       let a = ready_same job s.node l (fits.1 l (ap parent_of (laws.left_of_seq p l r needs.2))) in
@@ -126,7 +126,7 @@ module _ (job : CoreJob) (s : State) (w : ℕ) (below : w < job.workers) (laws :
       let b = free_le job Idle (s.call w) in
       let c = task_lowers job s w (Run p) Idle below needs.0 needs.1 (omega arith) in omega arith
 
-  pub open_second_lowers : (p l r : ℕ) → Needs job s w (OpenSeqRight p l r) → fuel job (record s { node = put s.node r Ready; task = put s.task w Idle }) < fuel job s
+  pub open_second_lowers : (p l r : ℕ) → Needs job s w (OpenSeqRight p l r) → measure job (record s { node = put s.node r Ready; task = put s.task w Idle }) < measure job s
   open_second_lowers p l r needs =
       let fits : TaskFits job.plan s.node s.mark (Whole l) = rw needs.1 at (h.tasks.fits w) in
       let same : p ≡ fits.1 = (let f = fits.2 in let g = ap parent_of (laws.left_of_seq p l r needs.2) in cc) in
@@ -134,22 +134,22 @@ module _ (job : CoreJob) (s : State) (w : ℕ) (below : w < job.workers) (laws :
       let b = free_le job Idle (s.call w) in
       let c = task_lowers job s w (Whole l) Idle below needs.0 needs.1 (omega arith) in omega arith
 
-  pub end_lowers : (n t : ℕ) → Needs job s w (End n t) → fuel job (record s { tick = s.tick + 1; task = put s.task w (Ended n t s.tick) }) < fuel job s
+  pub end_lowers : (n t : ℕ) → Needs job s w (End n t) → measure job (record s { tick = s.tick + 1; task = put s.task w (Ended n t s.tick) }) < measure job s
   end_lowers n t needs =
       let b = free_le job (Ended n t s.tick) (s.call w) in
       let c = task_lowers job s w (Kept n t) (Ended n t s.tick) below needs.0 needs.1 (omega arith) in omega arith
 
-  pub arrive_first_lowers : (p l r n : ℕ) → Needs job s w (ArriveFirst p l r n) → fuel job (record s { mark = put s.mark p 1; task = put s.task w Idle }) < fuel job s
+  pub arrive_first_lowers : (p l r n : ℕ) → Needs job s w (ArriveFirst p l r n) → measure job (record s { mark = put s.mark p 1; task = put s.task w Idle }) < measure job s
   arrive_first_lowers p l r n needs =
       let b = free_le job Idle (s.call w) in
       let c = task_lowers job s w (Whole n) Idle below needs.0 needs.1 (omega arith) in omega arith
 
-  pub arrive_second_lowers : (p l r n : ℕ) → Needs job s w (ArriveSecond p l r n) → fuel job (record s { mark = put s.mark p 2; task = put s.task w (Handed p) }) < fuel job s
+  pub arrive_second_lowers : (p l r n : ℕ) → Needs job s w (ArriveSecond p l r n) → measure job (record s { mark = put s.mark p 2; task = put s.task w (Handed p) }) < measure job s
   arrive_second_lowers p l r n needs =
       let b = free_le job (Handed p) (s.call w) in
       let c = task_lowers job s w (Whole n) (Handed p) below needs.0 needs.1 (omega arith) in omega arith
 
-  pub finish_leaf_lowers : (n t e : ℕ) → Needs job s w (FinishLeaf n t e) → fuel job (record s { node = put s.node n (Ran w t e); task = put s.task w (task_after n) }) < fuel job s
+  pub finish_leaf_lowers : (n t e : ℕ) → Needs job s w (FinishLeaf n t e) → measure job (record s { node = put s.node n (Ran w t e); task = put s.task w (task_after n) }) < measure job s
   finish_leaf_lowers n t e needs =
       let fits : TaskFits job.plan s.node s.mark (Ended n t e) = rw needs.1 at (h.tasks.fits w) in
       let a = done_change job s.node n (Ran w t e) (laws.within n (λ o. let f = fits.0.1 in cc)) fits.1 refl in
@@ -157,7 +157,7 @@ module _ (job : CoreJob) (s : State) (w : ℕ) (below : w < job.workers) (laws :
       let k = after_le job n in
       let c = task_lowers job s w (Ended n t e) (task_after n) below needs.0 needs.1 (omega arith) in omega arith
 
-  pub finish_par_lowers : (p l r : ℕ) → Needs job s w (FinishPar p l r) → fuel job (record s { node = put s.node p Done; task = put s.task w (task_after p) }) < fuel job s
+  pub finish_par_lowers : (p l r : ℕ) → Needs job s w (FinishPar p l r) → measure job (record s { node = put s.node p Done; task = put s.task w (task_after p) }) < measure job s
   finish_par_lowers p l r needs =
       let fits : TaskFits job.plan s.node s.mark (Handed p) = rw needs.1 at (h.tasks.fits w) in
       let a = done_change job s.node p Done (laws.within p (λ o. let f = needs.2 in cc)) fits.3 refl in
@@ -166,7 +166,7 @@ module _ (job : CoreJob) (s : State) (w : ℕ) (below : w < job.workers) (laws :
       let d = after_le job p in
       let c = rw (needs.1, needs.0) at (task_change job s w (task_after p) below) in omega arith
 
-  pub finish_seq_lowers : (p l r : ℕ) → Needs job s w (FinishSeq p l r) → fuel job (record s { node = put s.node p Done; task = put s.task w (task_after p) }) < fuel job s
+  pub finish_seq_lowers : (p l r : ℕ) → Needs job s w (FinishSeq p l r) → measure job (record s { node = put s.node p Done; task = put s.task w (task_after p) }) < measure job s
   finish_seq_lowers p l r needs =
       let fits : TaskFits job.plan s.node s.mark (Whole r) = rw needs.1 at (h.tasks.fits w) in
       let same : p ≡ fits.1 = (let f = fits.2 in let g = ap parent_of (laws.right_of_seq p l r needs.2) in cc) in

@@ -17,18 +17,18 @@ use Rattle.batcher_core.specs.State.{put, CoreJob, State, CoreState, opening_sta
 use Rattle.batcher_core.specs.Operations.{op_in}
 use Rattle.batcher_core.specs.Serving.{served}
 use Rattle.batcher_core.specs.Events.{Needs, Does}
-use Rattle.batcher_core.proofs.Inductive.Parts.{PartsKept}
+use Rattle.batcher_core.proofs.Inductive.Parts.{InductiveParts}
 use Rattle.batcher_core.specs.Choice.{choice_by, choice}
-use Rattle.batcher_core.specs.Invariant.ReadyLists.{ListsFit}
-use Rattle.batcher_core.specs.Measure.{total, fuel, node_cost, worker_cost, leaf_cost, first_cost, call_cost, one_if, one_if_call, call_count}
+use Rattle.batcher_core.specs.Invariant.ReadyLists.{ReadyListsInvariant}
+use Rattle.batcher_core.specs.Measure.{total, measure, node_cost, worker_cost, leaf_cost, first_cost, call_cost, one_if, one_if_call, call_count}
 use Rattle.batcher_core.proofs.ChoiceLemmas.Ready.{not_under}
 use Rattle.batcher_core.proofs.ChoiceLemmas.Choices.{choice_needs}
 use Rattle.batcher_core.proofs.MeasureLemmas.Jobs.{claim_lowers, start_lowers, open_right_lowers, open_left_lowers, open_first_lowers, open_second_lowers, end_lowers, arrive_first_lowers, arrive_second_lowers, finish_leaf_lowers, finish_seq_lowers, finish_par_lowers}
 use Rattle.batcher_core.proofs.MeasureLemmas.Gate.{keep_lowers, post_lowers, win_lowers, take_lowers, publish_lowers, answer_lowers, release_lowers, leave_lowers}
 
 -- an event lowers the count; a worker that wins the flag is to be pending, since one that is served could do so for ever
-pub event_lowers : (job : CoreJob) (s : State) (w : ℕ) (event : Event) (new : State) → IsPlan job.plan → w < job.workers → PartsKept job s → Needs job s w event
-    → (event ≡ Win → s.status w ≡ Pending) → Does job s w event new → fuel job new < fuel job s
+pub event_lowers : (job : CoreJob) (s : State) (w : ℕ) (event : Event) (new : State) → IsPlan job.plan → w < job.workers → InductiveParts job s → Needs job s w event
+    → (event ≡ Win → s.status w ≡ Pending) → Does job s w event new → measure job new < measure job s
 event_lowers job s w (Claim n) new laws below h needs turns does = rw does (claim_lowers job s w below laws h n needs)
 event_lowers job s w (Start n) new laws below h needs turns does = rw does (start_lowers job s w below laws h n needs)
 event_lowers job s w (OpenParRight p l r) new laws below h needs turns does = rw does (open_right_lowers job s w below laws h p l r needs)
@@ -61,8 +61,8 @@ pub wins_pending : (job : CoreJob) (s : CoreState) (w : ℕ) → Needs job s.sta
 wins_pending job s w needs chosen =
     by_pending job s w (s.state.status w) (sym (not_under job s w s.state.hold (λ h e. (let f = sym needs.2 ∙ e in absurd cc))) ∙ chosen) needs.0
 
-pub turn_lowers : (job : CoreJob) (s : CoreState) (w : ℕ) (event : Event) (new : State) → IsPlan job.plan → w < job.workers → PartsKept job s.state → ListsFit job.workers s.state.node s.ready
-    → choice job s w ≡ Some event → Does job s.state w event new → fuel job new < fuel job s.state
+pub turn_lowers : (job : CoreJob) (s : CoreState) (w : ℕ) (event : Event) (new : State) → IsPlan job.plan → w < job.workers → InductiveParts job s.state → ReadyListsInvariant job.workers s.state.node s.ready
+    → choice job s w ≡ Some event → Does job s.state w event new → measure job new < measure job s.state
 turn_lowers job s w event new laws below h lists chosen does =
     let needs = choice_needs job s w event laws below h lists chosen in
     event_lowers job s.state w event new laws below h needs
@@ -96,7 +96,7 @@ open_cost : (job : CoreJob) (m : ℕ) → node_cost job (job.plan.kind m) (put (
 open_cost job m = rw (open_at job (job.plan.kind m) m) (start_cost job (job.plan.kind m))
 
 -- the bound
-pub opening_fuel : (job : CoreJob) → fuel job opening_state ≤ 6 * job.plan.count + call_count job * (job.workers + 6)
+pub opening_fuel : (job : CoreJob) → measure job opening_state ≤ 6 * job.plan.count + call_count job * (job.workers + 6)
 unfolding opening_state
 opening_fuel job =
     let a = total_bound (λ m. node_cost job (job.plan.kind m) (put (λ n. Waiting) 0 Ready m)) (λ m. one_if_call job (job.plan.kind m)) (job.workers + 6) job.plan.count (open_cost job) in

@@ -6,7 +6,7 @@ use Rattle.sp_order.specs.Precedence.{Tree, leaves}
 use Rattle.sp_order.specs.Preorder.{nodes_of}
 use Rattle.batch_history.specs.declared.row.Row.{Row}
 use Rattle.batcher_core.specs.declared.state.progress.Progress.TheVariants.{Waiting}
-use Rattle.batcher_core.specs.declared.state.Table.{Table}
+use Rattle.batcher_core.specs.declared.state.State.{State as StoredState}
 use Rattle.batcher_core.specs.State.{core_job}
 use Rattle.batcher_core.specs.Code.Abstraction.{at, state_of}
 use Rattle.batcher_core.specs.Reports.{TellsLeaf, IsReportOf}
@@ -17,7 +17,7 @@ over_is false done h = (refl, h)
 over_is true done h = absurd cc
 
 -- the report of the rows of all leaves
-pub reported : (tree : Tree) (acts : List Act) (workers : ℕ) (t : Table) (rows : List Row) → map (λ (row : Row). row.leaf) rows ≡ range_with_len 0 (leaves tree)
+pub reported : (tree : Tree) (acts : List Act) (workers : ℕ) (t : StoredState) (rows : List Row) → map (λ (row : Row). row.leaf) rows ≡ range_with_len 0 (leaves tree)
     → AllByRecursion (λ (row : Row). TellsLeaf (nodes_of tree).node_of (at t.nodes.items Waiting) (at t.values.items None) row) rows
     → IsReportOf (core_job tree acts workers) (leaves tree) (state_of t) (record { workers = workers; history = t.history; rows = rows })
 unfolding state_of

@@ -15,7 +15,7 @@ use Rattle.batcher_core.specs.State.{CoreJob, Hold, State}
 use Rattle.batcher_core.specs.Tasks.{is_done}
 use Rattle.batcher_core.specs.Invariant.Tasks.{TaskFits}
 use Rattle.batcher_core.specs.Invariant.Statuses.{IsAtCall}
-use Rattle.batcher_core.specs.Invariant.Hold.{HoldStands}
+use Rattle.batcher_core.specs.Invariant.Hold.{HoldInvariant}
 use Rattle.batcher_core.specs.Invariant.{Parts}
 
 -- what has a side is a node
@@ -87,4 +87,4 @@ module _ (job : CoreJob) (s : State) (laws : IsPlan job.plan) (h : Parts job s) 
   no_hold = none (s.hold) refl where
     none : (hold : Option Hold) → s.hold ≡ hold → s.hold ≡ None
     none None e = e
-    none (Some held) e = let stands : HoldStands job.workers s.status s.call (Some held) = rw e at h.hold in absurd (none_out held.worker stands.0)
+    none (Some held) e = let stands : HoldInvariant job.workers s.status s.call (Some held) = rw e at h.hold in absurd (none_out held.worker stands.0)

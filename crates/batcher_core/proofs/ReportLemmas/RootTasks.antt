@@ -12,7 +12,7 @@ use Rattle.batcher_core.specs.declared.state.task.Task.TheVariants.{Idle}
 use Rattle.batcher_core.specs.State.{put}
 use Rattle.batcher_core.specs.Tasks.{is_done, names}
 use Rattle.batcher_core.specs.Invariant.Tasks.{TaskFits}
-use Rattle.batcher_core.proofs.Inductive.Nodes.{NodesKept, passed_if, LeftAlone, TasksKept}
+use Rattle.batcher_core.proofs.Inductive.Nodes.{InductiveNodes, passed_if, LeftAlone, InductiveTasks}
 use Rattle.batcher_core.proofs.CodeLemmas.Puts.{put_each}
 use Rattle.batcher_core.proofs.InvariantLemmas.Holders.{drop_task}
 use Rattle.batcher_core.proofs.InvariantLemmas.TaskFrames.{finish_task}
@@ -38,7 +38,7 @@ root_alone node mark holder n k x (Some (SeqNode l r)) q done away h = root_alon
 root_alone node mark holder n k x (Some (ParNode l r)) q done away h = root_alone_par node mark n l r q x done h
 
 module _ (plan : Nodes) (node : ℕ → Progress) (mark : ℕ → ℕ) (task : ℕ → Task) (holder : ℕ → Option ℕ) (w : ℕ)
-    (laws : IsPlan plan) (nodes : NodesKept plan node) (h : TasksKept plan node mark task holder) where
+    (laws : IsPlan plan) (nodes : InductiveNodes plan node) (h : InductiveTasks plan node mark task holder) where
   -- a side is not the root
   pub not_top : (n q l : ℕ) → plan.after n ≡ Root → IsSide plan q l → l ≢ n
   not_top n q l top side e = grind arith
@@ -64,7 +64,7 @@ module _ (plan : Nodes) (node : ℕ → Progress) (mark : ℕ → ℕ) (task : �
       → (k ≡ n) ⊎ (is_done (node k) ≡ true) → ((q l r : ℕ) → plan.kind q ≡ Some (ParNode l r) → (l ≢ k) × (r ≢ k))
       → ((p : ℕ) → IsSide plan p k → p ≡ n)
       → ((v : ℕ) → v ≢ w → names (task v) ≢ Some n) → ((v m : ℕ) → v ≢ w → IsSide plan n m → names (task v) ≢ Some m)
-      → TasksKept plan (put node n x) mark (put task w Idle) (put holder k None)
+      → InductiveTasks plan (put node n x) mark (put task w Idle) (put holder k None)
   finish_root n k x top taken done mine held apart_par under other sides = record {
     holders = drop_task task holder w k Idle h.holders mine refl;
     fits = put_each (TaskFits plan (put node n x) mark) task w Idle tt

@@ -5,7 +5,7 @@ use Rattle.batcher_core.specs.declared.event.Event.TheVariants.{Claim}
 use Rattle.batcher_core.specs.State.{CoreJob, CoreState, opening_state, opening_core}
 use Rattle.batcher_core.specs.Tasks.{is_done}
 use Rattle.batcher_core.specs.Choice.{choice, choice_steal}
-use Rattle.batcher_core.specs.Runs.{TurnsLead, IsReached, at_opening, by_event, IsStep, Step, ReachesFrom, Reaches, IsTurnOf, IsTurn, Drives, over, by_schedule, by_robin, driven}
+use Rattle.batcher_core.specs.Runs.{TurnsReach, IsReached, at_opening, by_event, IsStep, Step, ReachesFrom, Reaches, IsTurnOf, IsTurn, Drives, over, by_schedule, by_robin, driven}
 
 step_reached : (job : CoreJob) (old new : CoreState) (w : ℕ) (event : Event) → IsReached job old → IsStep job old w event new → IsReached job new
 step_reached job old new w event before step = by_event before (record { event = event; is = refl; happens = step.happens; lists = step.lists })
@@ -55,12 +55,12 @@ opening_stolen job two = rw two refl
 
 -- the events of a turn, and those of the turns after it
 turn_leads : (job : CoreJob) (s next last : CoreState) (w : ℕ) (o : Option Event) → choice job s w ≡ o → IsTurnOf job s w o next
-    → (steps : List Step) × TurnsLead job next steps last → (steps : List Step) × TurnsLead job s steps last
-turn_leads job s next last w None chosen same rest = (rest.0, subst (λ (x : CoreState). TurnsLead job x rest.0 last) same rest.1)
+    → (steps : List Step) × TurnsReach job next steps last → (steps : List Step) × TurnsReach job s steps last
+turn_leads job s next last w None chosen same rest = (rest.0, subst (λ (x : CoreState). TurnsReach job x rest.0 last) same rest.1)
 turn_leads job s next last w (Some event) chosen step rest = (record { worker = w; event = event } ∷ rest.0, (next, chosen, step, rest.1))
 
 -- the events of the run of a schedule are those of turns
-pub drives_lead : (job : CoreJob) (s last : CoreState) (schedule : List ℕ) (robin : ℕ) → Drives job s schedule robin last → (steps : List Step) × TurnsLead job s steps last
+pub drives_lead : (job : CoreJob) (s last : CoreState) (schedule : List ℕ) (robin : ℕ) → Drives job s schedule robin last → (steps : List Step) × TurnsReach job s steps last
 drives_lead job s last schedule robin (over done) = ([], refl)
 drives_lead job s last schedule robin (by_schedule {next = next} {worker = worker} {robin = on} {schedule = rest} going turn drives) =
     turn_leads job s next last worker (choice job s worker) refl turn (drives_lead job next last rest on drives)

@@ -115,7 +115,7 @@ taken_tells job s a b p q same =
 ordered : (job : CoreJob) (s : State) (batch : List Entry) → IsBatchOf job s batch → Ordered (IsTakenCall job s) (taken_tells job s) (λ w. has_taken s.hold w ≡ true) s.objects batch
 ordered job s batch h = record {
   calls = h.only;
-  only = each_so (IsTakenCall job s) (λ (e : Entry). has_taken s.hold e.worker ≡ true) (λ e is. is.took) batch h.only;
+  only = each_so (IsTakenCall job s) (λ (e : Entry). has_taken s.hold e.worker ≡ true) (λ e is. is.taken) batch h.only;
   each = λ w took. contains_had batch w (h.each w took);
   order = h.is_batch.order;
   workers = h.is_batch.workers;

@@ -86,7 +86,7 @@ batch : IsBatchOf one_call taken (entry ∷ [])
 unfolding opening_state nodes_of
 batch = record {
   is_batch = record { some = λ e. cc; order = (tt, tt); workers = (tt, tt) };
-  only = (record { took = refl; node = 0; started = (refl, 0, refl); operation = refl }, tt);
+  only = (record { taken = refl; node = 0; started = (refl, 0, refl); operation = refl }, tt);
   each = λ w e. holds_worker w (only_worker w e);
   replies = (refl, tt);
 }

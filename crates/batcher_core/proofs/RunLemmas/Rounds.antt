@@ -12,12 +12,12 @@ use Rattle.sp_order.specs.Preorder.{nodes_of}
 use Rattle.batcher_core.specs.declared.event.Event.{Event}
 use Rattle.batcher_core.specs.State.{CoreJob, CoreState}
 use Rattle.batcher_core.specs.Tasks.{is_done}
-use Rattle.batcher_core.proofs.Inductive.Parts.{PartsKept}
-use Rattle.batcher_core.specs.Invariant.ReadyLists.{ListsFit}
-use Rattle.batcher_core.specs.Measure.{fuel}
+use Rattle.batcher_core.proofs.Inductive.Parts.{InductiveParts}
+use Rattle.batcher_core.specs.Invariant.ReadyLists.{ReadyListsInvariant}
+use Rattle.batcher_core.specs.Measure.{measure}
 use Rattle.batcher_core.specs.Choice.{choice, least_below}
 use Rattle.batcher_core.specs.Runs.{IsTurnOf, IsTurn}
-use Rattle.batcher_core.specs.Code.Core.{Seen, job_in, state_in, is_over_in, Fits}
+use Rattle.batcher_core.specs.Code.Core.{CoreView, job_in, state_in, is_over_in, RepInvariant}
 use Rattle.batcher_core.proofs.ChoiceLemmas.Searches.{least_stays, least_in}
 use Rattle.batcher_core.proofs.ChoiceLemmas.Search.{least_is_chosen, no_least}
 use Rattle.batcher_core.proofs.ChoiceLemmas.Progress.{some_turn}
@@ -38,7 +38,7 @@ abbrev pub idle_turns : CoreJob → CoreState → ℕ → ℕ
 idle_turns job s robin = or_zero (least_below (acts_after job s robin) job.workers)
 
 abbrev pub turns_left : CoreJob → CoreState → ℕ → ℕ
-turns_left job s robin = fuel job s.state * (job.workers + 1) + idle_turns job s robin
+turns_left job s robin = measure job s.state * (job.workers + 1) + idle_turns job s robin
 
 -- the least number is no more than one that is chosen
 least_most : (chosen : ℕ → Bool) (bound least n : ℕ) (o : Option ℕ) → least_below chosen bound ≡ Some least → chosen n ≡ true → n < bound → least_below chosen (suc n) ≡ o → least ≤ n
@@ -114,8 +114,8 @@ room f g k i j less few =
     let b : (f + 1) * k ≡ f * k + k = omega arith in
     omega (arith, a, b, few)
 
-module _ (job : CoreJob) (tree : Tree) (old new : CoreState) (robin : ℕ) (laws : IsPlan job.plan) (plan : IsPlanOf job.plan tree) (parts : PartsKept job old.state)
-    (lists : ListsFit job.workers old.state.node old.ready) (below : robin < job.workers) (going : is_done (old.state.node 0) ≡ false) where
+module _ (job : CoreJob) (tree : Tree) (old new : CoreState) (robin : ℕ) (laws : IsPlan job.plan) (plan : IsPlanOf job.plan tree) (parts : InductiveParts job old.state)
+    (lists : ReadyListsInvariant job.workers old.state.node old.ready) (below : robin < job.workers) (going : is_done (old.state.node 0) ≡ false) where
   fewer_by : (o : Option Event) → choice job old robin ≡ o → IsTurnOf job old robin o new → turns_left job new ((robin + 1) % job.workers) < turns_left job old robin
   fewer_by None none turn =
       let some = some_turn job tree old laws plan parts lists going in
@@ -124,14 +124,14 @@ module _ (job : CoreJob) (tree : Tree) (old new : CoreState) (robin : ℕ) (laws
   fewer_by (Some event) chosen turn =
       let less = turn_lowers job old robin event new.state laws below parts lists chosen turn.happens.does in
       let few = few_idle (acts_after job new ((robin + 1) % job.workers)) job.workers (least_below (acts_after job new ((robin + 1) % job.workers)) job.workers) refl in
-      room (fuel job new.state) (fuel job old.state) (job.workers + 1) (idle_turns job new ((robin + 1) % job.workers)) (idle_turns job old robin) less (omega (arith, few))
+      room (measure job new.state) (measure job old.state) (job.workers + 1) (idle_turns job new ((robin + 1) % job.workers)) (idle_turns job old robin) less (omega (arith, few))
 
   -- each turn lowers the count of those that are left
   pub turns_fewer : IsTurn job old robin new → turns_left job new ((robin + 1) % job.workers) < turns_left job old robin
   turns_fewer turn = fewer_by (choice job old robin) refl turn
 
 -- the same of a core in its rounds
-pub round_fewer : (first core next : Seen) (workers robin : ℕ) → SameJob first core → Fits core.tree core.acts core.workers core.table → IsPlanOf (nodes_of core.tree) core.tree
+pub round_fewer : (first core next : CoreView) (workers robin : ℕ) → SameJob first core → RepInvariant core.tree core.acts core.workers core.table → IsPlanOf (nodes_of core.tree) core.tree
     → workers ≡ first.workers → robin < workers → is_over_in core ≡ false → core.spent ≡ false → IsTurn (job_in core) (state_in core) robin (state_in next)
     → turns_left (job_in first) (state_in next) ((robin + 1) % workers) < turns_left (job_in first) (state_in core) robin
 round_fewer first core next workers robin same fits plan all below more unspent turn =

@@ -10,35 +10,35 @@ use Rattle.batcher_core.specs.State.{CoreJob, CoreState, core_job}
 use Rattle.batcher_core.specs.Tasks.{is_done}
 use Rattle.batcher_core.specs.Choice.{choice}
 use Rattle.batcher_core.specs.Runs.{IsStep, IsTurnOf, IsTurn, Drives, over, by_schedule, by_robin}
-use Rattle.batcher_core.specs.Code.Core.{Seen, job_in, state_in, due_in, is_over_in, moved_if, turn_due, Makes}
+use Rattle.batcher_core.specs.Code.Core.{CoreView, job_in, state_in, due_in, is_over_in, moved_if, turn_answer, IsTurnResult}
 use Rattle.batcher_core.proofs.RunLemmas.OneRun.{over_or}
 
-made_of : (job : CoreJob) (old new : CoreState) (w : ℕ) (chosen : Option Event) → choice job old w ≡ chosen → Makes (moved_if chosen) job old w new → IsTurnOf job old w chosen new
+made_of : (job : CoreJob) (old new : CoreState) (w : ℕ) (chosen : Option Event) → choice job old w ≡ chosen → IsTurnResult (moved_if chosen) job old w new → IsTurnOf job old w chosen new
 made_of job old new w None is makes = makes.0
 made_of job old new w (Some event) is makes =
     subst (λ (e : Event). IsStep job old w e new) (same_Some makes.0 event (sym makes.1 ∙ is)) makes.2
 
-made_due : (job : CoreJob) (old new : CoreState) (w : ℕ) (due : Option ℕ) (steps : ℕ) → Makes (turn_due due (Some steps) (choice job old w)) job old w new → IsTurn job old w new
+made_due : (job : CoreJob) (old new : CoreState) (w : ℕ) (due : Option ℕ) (steps : ℕ) → IsTurnResult (turn_answer due (Some steps) (choice job old w)) job old w new → IsTurn job old w new
 made_due job old new w None steps makes = made_of job old new w (choice job old w) refl makes
 made_due job old new w (Some n) steps makes = made_of job old new w (choice job old w) refl makes
 
-turn_made : (job : CoreJob) (old new : CoreState) (w : ℕ) (due : Option ℕ) (steps : ℕ) (t : Turn) → t ≡ turn_due due (Some steps) (choice job old w) → Makes t job old w new → IsTurn job old w new
-turn_made job old new w due steps t is makes = made_due job old new w due steps (subst (λ (u : Turn). Makes u job old w new) is makes)
+turn_made : (job : CoreJob) (old new : CoreState) (w : ℕ) (due : Option ℕ) (steps : ℕ) (t : Turn) → t ≡ turn_answer due (Some steps) (choice job old w) → IsTurnResult t job old w new → IsTurn job old w new
+turn_made job old new w due steps t is makes = made_due job old new w due steps (subst (λ (u : Turn). IsTurnResult u job old w new) is makes)
 
 -- a core shows the same job
-abbrev pub SameJob : Seen → Seen → Type 0
+abbrev pub SameJob : CoreView → CoreView → Type 0
 SameJob old new = (new.tree ≡ old.tree) × (new.acts ≡ old.acts) × (new.workers ≡ old.workers)
 
-pub job_same : (old new : Seen) → SameJob old new → job_in new ≡ job_in old
+pub job_same : (old new : CoreView) → SameJob old new → job_in new ≡ job_in old
 job_same old new same = ap (λ (tree : Tree). core_job tree new.acts new.workers) same.0 ∙ ap (λ (acts : List Act). core_job old.tree acts new.workers) same.1
     ∙ ap (λ (workers : ℕ). core_job old.tree old.acts workers) same.2
 
-pub same_since : (first old new : Seen) → SameJob first old → SameJob old new → SameJob first new
+pub same_since : (first old new : CoreView) → SameJob first old → SameJob old new → SameJob first new
 same_since first old new h g = (g.0 ∙ h.0, g.1 ∙ h.1, g.2 ∙ h.2)
 
 -- a turn that is given some work, where the turn before it has changed nothing
-pub spun_turn : {E : Type 0} (old mid new : Seen) (w steps : ℕ) (result : Result Turn E) → SameJob old mid → state_in mid ≡ state_in old
-    → IfOk result (λ t. t ≡ turn_due (due_in mid w) (Some steps) (choice (job_in mid) (state_in mid) w)) → IfOk result (λ t. Makes t (job_in mid) (state_in mid) w (state_in new))
+pub spun_turn : {E : Type 0} (old mid new : CoreView) (w steps : ℕ) (result : Result Turn E) → SameJob old mid → state_in mid ≡ state_in old
+    → IfOk result (λ t. t ≡ turn_answer (due_in mid w) (Some steps) (choice (job_in mid) (state_in mid) w)) → IfOk result (λ t. IsTurnResult t (job_in mid) (state_in mid) w (state_in new))
     → IfOk result (λ _. IsTurn (job_in old) (state_in old) w (state_in new))
 spun_turn old mid new w steps (Err e) same still is makes = tt
 spun_turn old mid new w steps (Ok t) same still is makes =
@@ -59,7 +59,7 @@ over_before job s last schedule rest robin done drives = elim (over_or job s las
 ]
 
 -- a turn of a core that goes on, before the turns that are left
-module _ (first core next : Seen) (same : SameJob first core) (more : is_over_in core ≡ false) (unspent : core.spent ≡ false) where
+module _ (first core next : CoreView) (same : SameJob first core) (more : is_over_in core ≡ false) (unspent : core.spent ≡ false) where
   first_turn : (w : ℕ) → IsTurn (job_in core) (state_in core) w (state_in next) → IsTurn (job_in first) (state_in core) w (state_in next)
   first_turn w turn = subst (λ (job : CoreJob). IsTurn job (state_in core) w (state_in next)) (job_same first core same) turn
 

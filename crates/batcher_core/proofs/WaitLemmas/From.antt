@@ -19,7 +19,7 @@ use Rattle.batcher_core.specs.Events.{task_after, Happens}
 use Rattle.batcher_core.specs.Tasks.{names}
 use Rattle.batcher_core.specs.Invariant.Hold.{is_published}
 use Rattle.batcher_core.proofs.Inductive.Book.{booked_by}
-use Rattle.batcher_core.proofs.Inductive.Parts.{PartsKept}
+use Rattle.batcher_core.proofs.Inductive.Parts.{InductiveParts}
 use Rattle.batcher_core.specs.Waits.{IsTrapped, started_leaf, leaf_place, task_place, StaysTrapped, at_once, by_event}
 use Rattle.batcher_core.proofs.BookLemmas.Books.{place_append, place_in_batch}
 use Rattle.batcher_core.proofs.InvariantLemmas.Publish.{no_entry}
@@ -44,7 +44,7 @@ pending_booked : (x : Progress) (o : Option ℕ) (task : ℕ → Task) (status :
 pending_booked x o task status call b w n a taken held started pending out = grind arith
 
 -- so its entry is not in the book
-pending_from : (job : CoreJob) (s : State) (w : ℕ) → PartsKept job s → s.status w ≡ Pending → ComesFrom job s w (length s.book)
+pending_from : (job : CoreJob) (s : State) (w : ℕ) → InductiveParts job s → s.status w ≡ Pending → ComesFrom job s w (length s.book)
 pending_from job s w h pending =
     let parts = parts_stand job s h in
     let trapped : s.status w ≢ Free = λ free. cc in
@@ -114,7 +114,7 @@ was_trapped job w first last (at_once trapped) = trapped
 was_trapped job w first last (by_event before happens trapped) = trapped
 
 -- all events
-along_from : (job : CoreJob) (w : ℕ) (first last : State) → PartsKept job first → first.status w ≡ Pending → StaysTrapped job w first last → ComesFrom job last w (length first.book)
+along_from : (job : CoreJob) (w : ℕ) (first last : State) → InductiveParts job first → first.status w ≡ Pending → StaysTrapped job w first last → ComesFrom job last w (length first.book)
 along_from job w first last h pending (at_once trapped) = pending_from job first w h pending
 along_from job w first last h pending (by_event {old = old} {new = new} {worker = worker} {event = event} before happens trapped) =
     event_from job old new w (length first.book) (along_from job w first old h pending before)
@@ -126,7 +126,7 @@ receipt_from None k r e h = absurd e
 receipt_from (Some p) k r e h = rw e h
 
 -- so a call that is pending comes into one of the next two batches
-pub one_of_two : (job : CoreJob) (w : ℕ) (first last : State) (r : Receipt) → IsPlan job.plan → PartsKept job first → first.status w ≡ Pending → StaysTrapped job w first last
+pub one_of_two : (job : CoreJob) (w : ℕ) (first last : State) (r : Receipt) → IsPlan job.plan → InductiveParts job first → first.status w ≡ Pending → StaysTrapped job w first last
     → last.status w ≡ Served r → (r.batch ≡ length first.book) ⊎ (r.batch ≡ length first.book + 1)
 one_of_two job w first last r laws h pending stays served =
     let receipt = receipt_of job last.book (last.task w) r ((parts_stand job last (along_kept job w first last laws h stays)).statuses.served_receipt w r served) in

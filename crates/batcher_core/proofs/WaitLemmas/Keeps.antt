@@ -14,9 +14,9 @@ use Rattle.batcher_core.specs.State.{put, CoreJob, Hold, State}
 use Rattle.batcher_core.specs.Operations.{Place}
 use Rattle.batcher_core.specs.Serving.{served}
 use Rattle.batcher_core.specs.Events.{task_after, is_pending, new_hold, looked, published, answered, Needs, IsBatchOf, Happens}
-use Rattle.batcher_core.specs.Invariant.Hold.{HoldStands}
+use Rattle.batcher_core.specs.Invariant.Hold.{HoldInvariant}
 use Rattle.batcher_core.specs.Invariant.{Parts}
-use Rattle.batcher_core.proofs.Inductive.Parts.{PartsKept}
+use Rattle.batcher_core.proofs.Inductive.Parts.{InductiveParts}
 use Rattle.batcher_core.specs.Waits.{IsTrapped, started_leaf, task_place, StatusWaits, WaitsSince}
 use Rattle.batcher_core.proofs.CodeLemmas.Puts.{put_at, put_other}
 use Rattle.batcher_core.proofs.InvariantLemmas.Gate.{no_more}
@@ -78,13 +78,13 @@ take_waits : (job : CoreJob) (s : State) (w u v since : ℕ) → Parts job s →
 take_waits job s w u v since h needs waits =
     let hd : Hold = needs.0 in
     let there : s.hold ≡ Some hd = needs.1.0 in
-    let hold : HoldStands job.workers s.status s.call (Some hd) = rw there at h.hold in
+    let hold : HoldInvariant job.workers s.status s.call (Some hd) = rw there at h.hold in
     let un : hd.published ≡ false = grind (arith, hold.3, needs.2, needs.3) in
     rw there
     (look_waits s.status (length s.book) hd (task_place job s.book (s.task v)) (is_pending (s.status u)) u v since refl needs.2 un (rw there at waits))
 
 -- a batch is published
-publish_waits : (job : CoreJob) (s : State) (w v since : ℕ) (b : List Entry) → IsPlan job.plan → PartsKept job s → Needs job s w Publish → IsBatchOf job s b → WaitsSince job s v since
+publish_waits : (job : CoreJob) (s : State) (w v since : ℕ) (b : List Entry) → IsPlan job.plan → InductiveParts job s → Needs job s w Publish → IsBatchOf job s b → WaitsSince job s v since
     → WaitsSince job (record s { book = s.book ++ b ∷ []; objects = served s.objects b; hold = published s.hold }) v since
 publish_waits job s w v since b laws h needs batch waits =
     let hd : Hold = needs.0 in
@@ -117,12 +117,12 @@ tell_waits job s w u v since r h needs waits =
     (answer_waits s.status (length s.book) hd (task_place job s.book (s.task v)) r u v since executing needs.2 (rw there at waits))
 
 -- the flag is released
-release_waits : (job : CoreJob) (s : State) (w v since : ℕ) → PartsKept job s → Needs job s w Release → WaitsSince job s v since
+release_waits : (job : CoreJob) (s : State) (w v since : ℕ) → InductiveParts job s → Needs job s w Release → WaitsSince job s v since
     → WaitsSince job (record s { hold = None }) v since
 release_waits job s w v since h needs waits =
     let hd : Hold = needs.0 in
     let there : s.hold ≡ Some hd = needs.1.0 in
-    let row = no_more job s.book (s.task v) (s.status v) (s.call v) (hd.took v) (hd.answered v) (needs.3 v) (rw there at (h.statuses v)) in
+    let row = no_more job s.book (s.task v) (s.status v) (s.call v) (hd.taken v) (hd.answered v) (needs.3 v) (rw there at (h.statuses v)) in
     release_row (s.status v) (length s.book) s.hold (task_place job s.book (s.task v)) v since row.1 waits
 
 -- a worker leaves
@@ -136,7 +136,7 @@ becomes : (job : CoreJob) (v since : ℕ) {new made : State} → new ≡ made �
 becomes job v since {new = new} {made = made} e waits = subst (λ (x : State). WaitsSince job x v since) (sym e) waits
 
 -- row by row
-pub waits_kept : (job : CoreJob) (s new : State) (w : ℕ) (event : Event) (v since : ℕ) → IsPlan job.plan → PartsKept job s → Happens job s w event new → IsTrapped new v
+pub waits_kept : (job : CoreJob) (s new : State) (w : ℕ) (event : Event) (v since : ℕ) → IsPlan job.plan → InductiveParts job s → Happens job s w event new → IsTrapped new v
     → WaitsSince job s v since → WaitsSince job new v since
 waits_kept job s new w (Claim n) v since laws h go trapped waits = becomes job v since go.does (task_waits job s w v since (Run n) go.needs.0 waits)
 waits_kept job s new w (Start n) v since laws h go trapped waits = becomes job v since go.does (task_waits job s w v since (Started n s.tick) go.needs.0 waits)

@@ -4,8 +4,8 @@ use Rattle.batch_history.specs.Book.{flat}
 use Rattle.batcher_core.specs.Lists.{times}
 use Rattle.batcher_core.specs.Measure.{total}
 use Rattle.batcher_core.specs.State.{CoreState, Hold, State}
-use Rattle.batcher_core.specs.declared.state.Table.{Table}
-use Rattle.batcher_core.specs.declared.state.hold.Hold.{Hold as HoldTable}
+use Rattle.batcher_core.specs.declared.state.State.{State as StoredState}
+use Rattle.batcher_core.specs.declared.state.hold.Hold.{Hold as StoredHold}
 use Rattle.batcher_core.specs.declared.state.progress.Progress.TheVariants.{Waiting}
 use Rattle.batcher_core.specs.declared.state.status.CallState.TheVariants.{NotCalled}
 use Rattle.batcher_core.specs.declared.state.status.Status.TheVariants.{Free}
@@ -31,15 +31,15 @@ abbrev pub filled_in : {Z : Type 0} → List (VecDeque ℕ Z) → ℕ
 filled_in xs = total (λ w. one_if_filled (queues xs w)) (length xs)
 
 -- the hold that the parts of one show
-abbrev pub shown_hold : HoldTable → Hold
-shown_hold h = record { worker = h.worker; looks = h.looks; took = at h.took false; answered = at h.answered false; published = h.published }
+abbrev pub hold_view : StoredHold → Hold
+hold_view h = record { worker = h.worker; looks = h.looks; taken = at h.taken false; answered = at h.answered false; published = h.published }
 
-abbrev pub hold_of : Option HoldTable → Option Hold
+abbrev pub hold_of : Option StoredHold → Option Hold
 hold_of None = None
-hold_of (Some h) = Some (shown_hold h)
+hold_of (Some h) = Some (hold_view h)
 
 -- the state that a table shows
-unfoldable pub state_of : Table → State
+unfoldable pub state_of : StoredState → State
 state_of t = record {
   node = at t.nodes.items Waiting;
   mark = at t.marks.items 0;
@@ -54,11 +54,11 @@ state_of t = record {
 }
 
 -- and the lists of ready nodes that it shows
-unfoldable pub ready_of : Table → ℕ → List ℕ
+unfoldable pub ready_of : StoredState → ℕ → List ℕ
 ready_of t = queues t.ready.items
 
-abbrev pub shown : Table → CoreState
-shown t = record { state = state_of t; ready = ready_of t }
+abbrev pub core_state_of : StoredState → CoreState
+core_state_of t = record { state = state_of t; ready = ready_of t }
 
 -- the first number of the list
 abbrev pub IsOldest : ℕ → List ℕ → Type 0
@@ -74,7 +74,7 @@ pub record IsAtEnd (n : ℕ) (xs : List ℕ) : Type 0 where
   pub end : times n xs ≢ 0 → IsOldest n xs ⊎ IsNewest n xs
 
 -- how long the lists of a table are
-pub record Sizes (t : Table) (nodes workers : ℕ) : Type 0 where
+pub record Sizes (t : StoredState) (nodes workers : ℕ) : Type 0 where
   pub nodes_len : length t.nodes.items ≡ nodes
   pub marks_len : length t.marks.items ≡ nodes
   pub values_len : length t.values.items ≡ nodes
@@ -84,15 +84,15 @@ pub record Sizes (t : Table) (nodes workers : ℕ) : Type 0 where
   pub ready_len : length t.ready.items ≡ workers
 
 -- the counter is no greater than so many calls can make it
-abbrev pub CounterFits : Table → Type 0
+abbrev pub CounterFits : StoredState → Type 0
 CounterFits t = t.objects.counter ≤ length (flat t.history) * 2 ^ 32
 
 -- as many lists have a node as are counted
-abbrev pub FilledFits : Table → Type 0
+abbrev pub FilledFits : StoredState → Type 0
 FilledFits t = t.filled ≡ filled_in t.ready.items
 
 -- the lists keep their lengths, the counter its bound, and the count of the lists that have a node stays right
-pub record SameSizes (old new : Table) : Type 0 where
+pub record SameSizes (old new : StoredState) : Type 0 where
   pub nodes_same : length new.nodes.items ≡ length old.nodes.items
   pub marks_same : length new.marks.items ≡ length old.marks.items
   pub values_same : length new.values.items ≡ length old.values.items

@@ -1,6 +1,6 @@
 -- What contracts see of a core, what its table keeps to, and what its turns answer.
 use Rattle.batcher_core.specs.Choice.{choice}
-use Rattle.batcher_core.specs.Code.Abstraction.{CounterFits, FilledFits, Sizes, shown, state_of}
+use Rattle.batcher_core.specs.Code.Abstraction.{CounterFits, FilledFits, Sizes, core_state_of, state_of}
 use Rattle.batcher_core.specs.Code.Lookups.{LeafIn, work_due}
 use Rattle.batcher_core.specs.Events.{EventKind, IsCoreEvent}
 use Rattle.batcher_core.specs.Invariant.{Invariant}
@@ -9,7 +9,7 @@ use Rattle.batcher_core.specs.Runs.{IsStep}
 use Rattle.batcher_core.specs.State.{CoreJob, CoreState, core_job}
 use Rattle.batcher_core.specs.Tasks.{is_done}
 use Rattle.batcher_core.specs.declared.event.Event.{Event}
-use Rattle.batcher_core.specs.declared.state.Table.{Table}
+use Rattle.batcher_core.specs.declared.state.State.{State as StoredState}
 use Rattle.batcher_core.specs.declared.turn.Turn.{Turn}
 use Rattle.batcher_core.specs.declared.turn.Turn.TheVariants.{Idle, Moved, Spin}
 use Rattle.seq_objects.specs.declared.act.Act.{Act}
@@ -19,30 +19,30 @@ use Rattle.sp_order.specs.Preorder.{nodes_of}
 use Rattle.std.specs.Prelude.{Bool, List, None, Option, Some, length, not, ℕ, ◌&&◌, ◌-◌, ◌<◌, ◌≡◌, ◌≤◌}
 
 -- what contracts see of a core
-pub record Seen : Type 0 where
+pub record CoreView : Type 0 where
   pub tree : Tree
   pub acts : List Act
   pub workers : ℕ
-  pub table : Table
+  pub table : StoredState
   -- memory has failed
   pub spent : Bool
 
-abbrev pub job_in : Seen → CoreJob
+abbrev pub job_in : CoreView → CoreJob
 job_in c = core_job c.tree c.acts c.workers
 
-abbrev pub state_in : Seen → CoreState
-state_in c = shown c.table
+abbrev pub state_in : CoreView → CoreState
+state_in c = core_state_of c.table
 
 -- how many steps of work are due of this worker
-abbrev pub due_in : Seen → ℕ → Option ℕ
+abbrev pub due_in : CoreView → ℕ → Option ℕ
 due_in c w = work_due (nodes_of c.tree) c.acts ((state_of c.table).task w)
 
 -- the root is done, and memory has not failed
-abbrev pub is_over_in : Seen → Bool
+abbrev pub is_over_in : CoreView → Bool
 is_over_in c = not c.spent && is_done ((state_of c.table).node 0)
 
 -- what the table of a core keeps to that is not spent
-pub record Fits (tree : Tree) (acts : List Act) (workers : ℕ) (t : Table) : Type 0 where
+pub record RepInvariant (tree : Tree) (acts : List Act) (workers : ℕ) (t : StoredState) : Type 0 where
   pub some : 0 < workers
   pub few : workers ≤ 32
   pub laws : IsPlan (nodes_of tree)
@@ -54,21 +54,21 @@ pub record Fits (tree : Tree) (acts : List Act) (workers : ℕ) (t : Table) : Ty
   pub sizes : Sizes t (nodes_of tree).count workers
   pub counter : CounterFits t
   pub filled : FilledFits t
-  pub inv : Invariant (core_job tree acts workers) (shown t)
+  pub inv : Invariant (core_job tree acts workers) (core_state_of t)
 
 abbrev pub moved_if : Option Event → Turn
 moved_if None = Idle
 moved_if (Some event) = Moved
 
 -- what a turn answers, by the work that is due, by the work that it is given, and by its choice
-abbrev pub turn_due : Option ℕ → Option ℕ → Option Event → Turn
-turn_due None spun chosen = moved_if chosen
-turn_due (Some steps) None chosen = Spin steps
-turn_due (Some steps) (Some spun) chosen = moved_if chosen
+abbrev pub turn_answer : Option ℕ → Option ℕ → Option Event → Turn
+turn_answer None spun chosen = moved_if chosen
+turn_answer (Some steps) None chosen = Spin steps
+turn_answer (Some steps) (Some spun) chosen = moved_if chosen
 
 -- What has happened in a turn that answers this: the event of the choice, or nothing. Where it is idle, no event of
 -- this worker can happen.
-abbrev pub Makes : Turn → CoreJob → CoreState → ℕ → CoreState → Type 0
-Makes Moved job old w new = (event : Event) × (choice job old w ≡ Some event) × IsStep job old w event new
-Makes (Spin steps) job old w new = new ≡ old
-Makes Idle job old w new = (new ≡ old) × ((kind : EventKind) (next : CoreState) → IsCoreEvent job old w kind next → ⊥)
+abbrev pub IsTurnResult : Turn → CoreJob → CoreState → ℕ → CoreState → Type 0
+IsTurnResult Moved job old w new = (event : Event) × (choice job old w ≡ Some event) × IsStep job old w event new
+IsTurnResult (Spin steps) job old w new = new ≡ old
+IsTurnResult Idle job old w new = (new ≡ old) × ((kind : EventKind) (next : CoreState) → IsCoreEvent job old w kind next → ⊥)

@@ -5,7 +5,7 @@ use Rattle.batcher_core.specs.Code.Abstraction.{FilledFits, Sizes, state_of}
 use Rattle.batcher_core.specs.Operations.{IsLeaf}
 use Rattle.batcher_core.specs.declared.event.Event.{Event}
 use Rattle.batcher_core.specs.declared.event.Event.TheVariants.{Claim}
-use Rattle.batcher_core.specs.declared.state.Table.{Table}
+use Rattle.batcher_core.specs.declared.state.State.{State as StoredState}
 use Rattle.batcher_core.specs.declared.state.task.Task.{Task}
 use Rattle.batcher_core.specs.declared.state.task.Task.TheVariants.{Ended, Half, Handed, Idle, Kept, Run, Started, Whole}
 use Rattle.seq_objects.specs.Objects.{after}
@@ -46,7 +46,7 @@ LeafIn leaves (Some (SeqNode l r)) = Unit {0}
 LeafIn leaves (Some (ParNode l r)) = Unit {0}
 
 -- what the choice of a turn looks up is there
-pub record Looks (plan : Nodes) (acts : List Act) (workers : ℕ) (t : Table) : Type 0 where
+pub record CanChoose (plan : Nodes) (acts : List Act) (workers : ℕ) (t : StoredState) : Type 0 where
   pub few : workers ≤ 32
   pub sizes : Sizes t plan.count workers
   pub tasks_in : (w : ℕ) → TaskIn plan.count ((state_of t).task w)

@@ -12,7 +12,7 @@ use Rattle.std.specs.List.{AllByRecursion}
 use Rattle.std.specs.Prelude.{Some, map, ℕ, ◌-◌, ◌<◌, ◌≡◌}
 
 -- The book.
-pub record BookStands (job : CoreJob) (s : State) : Type 0 where
+pub record BookInvariant (job : CoreJob) (s : State) : Type 0 where
   -- it is legal, and the objects are those after serving it
   pub legal : IsLegal s.book
   pub objects_after : s.objects ≡ served objects.opening (flat s.book)

@@ -26,7 +26,7 @@ IsBooked s n w =
     ⊎ ((s.status w ≡ Executing) × (is_published s.hold ≡ true)))))))
 
 -- Who is in the book.
-pub record MembersStand (job : CoreJob) (s : State) : Type 0 where
+pub record MembershipInvariant (job : CoreJob) (s : State) : Type 0 where
   -- a leaf that calls is in the book exactly where it is booked, and the entry's worker is the one that it is booked for
   pub only : (n leaf : ℕ) → job.plan.kind n ≡ Some (LeafNode leaf) → IsCall job leaf
       → (place : Place) → place_of s.book leaf ≡ Some place → IsBooked s n place.entry.worker

@@ -12,7 +12,7 @@ abbrev pub IsDescendant : Nodes → ℕ → ℕ → Type 0
 IsDescendant plan top n = (side : ℕ) × IsSide plan top side × IsUnder plan side n
 
 -- Nodes.
-pub record NodesStand (plan : Nodes) (node : ℕ → Progress) : Type 0 where
+pub record NodesInvariant (plan : Nodes) (node : ℕ → Progress) : Type 0 where
   -- the root is not waiting
   pub root : node 0 ≢ Waiting
   -- each descendant of a node that is waiting or ready is waiting

@@ -34,10 +34,10 @@ HasReceipt job book (Handed n) receipt = ⊥
 -- the hold has taken the worker's call, and has not answered it
 abbrev pub is_taken_by : Option Hold → ℕ → Bool
 is_taken_by None w = false
-is_taken_by (Some h) w = h.took w && not (h.answered w)
+is_taken_by (Some h) w = h.taken w && not (h.answered w)
 
 -- Statuses.
-pub record StatusesStand (job : CoreJob) (s : State) : Type 0 where
+pub record StatusesInvariant (job : CoreJob) (s : State) : Type 0 where
   -- a worker's call is out exactly where its status is not free
   pub out : (w : ℕ) → (s.call w ≡ Out) ↔ (s.status w ≢ Free)
   -- a worker whose call is out or got has the task started at a leaf that calls

@@ -40,7 +40,7 @@ TaskFits plan node mark (Whole n) =
 TaskFits plan node mark (Handed p) = (l : ℕ) × (r : ℕ) × (plan.kind p ≡ Some (ParNode l r)) × (node p ≡ Taken) × (mark p ≡ 2)
 
 -- Tasks.
-pub record TasksStand (plan : Nodes) (node : ℕ → Progress) (mark : ℕ → ℕ) (task : ℕ → Task) : Type 0 where
+pub record TasksInvariant (plan : Nodes) (node : ℕ → Progress) (mark : ℕ → ℕ) (task : ℕ → Task) : Type 0 where
   -- no two tasks name one node
   pub apart : (v w n : ℕ) → names (task v) ≡ Some n → names (task w) ≡ Some n → v ≡ w
   -- what each task says

@@ -41,7 +41,7 @@ abbrev pub HasEnd : (ℕ → Progress) → (ℕ → Task) → ℕ → ℕ → �
 HasEnd node task n w s e = (node n ≡ Ran w s e) ⊎ (task w ≡ Ended n s e)
 
 -- Ticks.
-pub record TicksStand (plan : Nodes) (workers : ℕ) (node : ℕ → Progress) (tick : ℕ) (task : ℕ → Task) : Type 0 where
+pub record TicksInvariant (plan : Nodes) (workers : ℕ) (node : ℕ → Progress) (tick : ℕ) (task : ℕ → Task) : Type 0 where
   -- The starts of tasks started, kept and ended, the ends of tasks ended, and the starts and ends of done leaves
   -- are distinct, and they are exactly the numbers below the tick.
   pub distinct : (a b : Draw) (t : ℕ) → IsDrawn node task a t → IsDrawn node task b t → a ≡ b

@@ -24,7 +24,7 @@ IsValue book leaf (Work steps) value = value ≡ spin_of steps
 IsValue book leaf (Call op) value = (entry : Entry) × Contains (flat book) entry × (entry.leaf ≡ leaf) × (value ≡ value_of entry.reply)
 
 -- Values.
-pub record ValuesStand (job : CoreJob) (s : State) : Type 0 where
+pub record ValuesInvariant (job : CoreJob) (s : State) : Type 0 where
   -- each leaf that is done, or that a task kept or ended names, has its value
   pub values : (n leaf : ℕ) → job.plan.kind n ≡ Some (LeafNode leaf) → IsKept s.node s.task n
       → (value : ℕ) × (s.value n ≡ Some value) × IsValue s.book leaf (job.act leaf) value

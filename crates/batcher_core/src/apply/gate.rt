@@ -6,7 +6,7 @@ ghost use Rattle.batcher_core.specs.Events.{is_pending as status_pending, new_ho
 ghost use Rattle.batcher_core.specs.declared.state.status.Status.TheVariants.{Free, Pending, Executing, Served};
 ghost use Rattle.batcher_core.specs.declared.state.status.CallState.TheVariants.{Out, Got};
 
-use crate::state::Table;
+use crate::state::State;
 use crate::state::hold::{Hold, answered, looked};
 use crate::state::status::{CallState, Receipt, Status};
 
@@ -30,7 +30,7 @@ fn after_look(status: Status) -> Status
     }
 }
 
-impl Table {
+impl State {
     /// The worker posts the call of the leaf that it has started.
     #[tactic(auto, using(crate::proofs::CodeLemmas::Written::at_written), unfolding(crate::specs::Code::Abstraction::state_of, crate::specs::Code::Abstraction::ready_of))]
     pub(crate) fn post(&mut self, worker: u32)

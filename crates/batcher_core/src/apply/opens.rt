@@ -6,13 +6,13 @@ ghost use Rattle.batcher_core.specs.Lists.{without};
 ghost use Rattle.batcher_core.specs.declared.state.progress.Progress.TheVariants.{Ready, Taken};
 ghost use Rattle.batcher_core.specs.declared.state.task.Task.TheVariants.{Run};
 
-use crate::state::Table;
+use crate::state::State;
 use crate::state::progress::Progress;
 use crate::state::ready::{drop_ready, push_ready};
 use crate::state::task::Task;
 use std::alloc::AllocError;
 
-impl Table {
+impl State {
     /// The worker takes a ready node, which stands at an end of a list.
     #[tactic(auto, using(crate::proofs::CodeLemmas::Written::at_written), unfolding(crate::specs::Code::Abstraction::state_of, crate::specs::Code::Abstraction::ready_of))]
     pub(crate) fn claim(&mut self, worker: u32, node: u32)

@@ -10,7 +10,7 @@ use seq_objects::{Call, Op, Plain, Reply};
 use std::alloc::{AllocError, Global};
 
 /// Serves one operation, which makes the counter greater by less than 2^32.
-fn serve_one(objects: &mut Plain, op: Op) -> Result<Reply, AllocError>
+fn serve_call(objects: &mut Plain, op: Op) -> Result<Reply, AllocError>
     requires room { objects.old.counter + 2 ^ 32 ≤ 2 ^ 64 }
     ensures reply { IfOk result (λ reply. reply ≡ reply_to objects.old op) }
     ensures after { OnOk result (objects.new ≡ after objects.old op) }
@@ -23,7 +23,7 @@ fn serve_one(objects: &mut Plain, op: Op) -> Result<Reply, AllocError>
 }
 
 /// Serves these calls one after another, and gives their entries.
-pub(crate) fn serve_all(
+pub(crate) fn serve_calls(
     alloc: Global,
     objects: &mut Plain,
     calls: &[Call],
@@ -36,7 +36,7 @@ pub(crate) fn serve_all(
 {
     let mut entries = Vec::new(alloc);
     for call in calls {
-        let reply = serve_one(objects, call.op)?;
+        let reply = serve_call(objects, call.op)?;
         entries.push(Entry {
             leaf: call.leaf,
             worker: call.worker,

@@ -7,7 +7,7 @@ ghost use Rattle.batcher_core.specs.declared.state.progress.Progress.TheVariants
 ghost use Rattle.batcher_core.specs.declared.state.task.Task.TheVariants.{Started, Kept, Ended};
 ghost use Rattle.batcher_core.specs.declared.state.status.CallState.TheVariants.{NotCalled};
 
-use crate::state::Table;
+use crate::state::State;
 use crate::state::progress::Progress;
 use crate::state::status::CallState;
 use crate::state::task::Task;
@@ -23,7 +23,7 @@ fn task_after(node: u32) -> Task
     }
 }
 
-impl Table {
+impl State {
     /// The worker starts a leaf.
     #[tactic(auto, using(crate::proofs::CodeLemmas::Written::at_written), unfolding(crate::specs::Code::Abstraction::state_of, crate::specs::Code::Abstraction::ready_of))]
     pub(crate) fn start(&mut self, worker: u32, node: u32)

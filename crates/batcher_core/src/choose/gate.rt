@@ -7,12 +7,12 @@ ghost use Rattle.batcher_core.specs.State.{core_job};
 ghost use Rattle.batcher_core.specs.Operations.{place_of};
 ghost use Rattle.batcher_core.specs.Tasks.{names};
 ghost use Rattle.batcher_core.specs.Choice.{leaf_named as leaf_at, answer_with, choice_pending, choice_holding};
-ghost use Rattle.batcher_core.specs.Code.Abstraction.{state_of, hold_of, shown_hold};
-ghost use Rattle.batcher_core.specs.Code.Lookups.{Looks, TaskIn};
+ghost use Rattle.batcher_core.specs.Code.Abstraction.{state_of, hold_of, hold_view};
+ghost use Rattle.batcher_core.specs.Code.Lookups.{CanChoose, TaskIn};
 
 use crate::choose::receipt::receipt_of;
 use crate::event::Event;
-use crate::state::Table;
+use crate::state::State;
 use crate::state::hold::Hold;
 use crate::state::task::Task;
 use seq_objects::Act;
@@ -40,7 +40,7 @@ fn leaf_named(plan: &Plan, task: Task) -> u32
     }
 }
 
-impl Table {
+impl State {
     /// With a call that is pending: it takes the flag, if that is free.
     #[tactic(auto, unfolding(crate::specs::Code::Abstraction::state_of))]
     pub(crate) fn choose_pending(&self) -> Option<Event>
@@ -55,7 +55,7 @@ impl Table {
     /// This worker is handed the receipt for its leaf's entry.
     #[tactic(auto, unfolding(crate::specs::Code::Abstraction::state_of))]
     fn choose_answer(&self, plan: &Plan, acts: &[Act], workers: u32, other: u32) -> Option<Event>
-        requires looks { Looks (nodes_of plan.now) acts.now workers self.now }
+        requires looks { CanChoose (nodes_of plan.now) acts.now workers self.now }
         requires other_in { other < workers }
         ensures { result ≡ answer_with other (place_of (state_of self.now).book (leaf_at (nodes_of plan.now) (names ((state_of self.now).task other)))) }
     {
@@ -79,8 +79,8 @@ impl Table {
         workers: u32,
         hold: Hold,
     ) -> Option<Event>
-        requires looks { Looks (nodes_of plan.now) acts.now workers self.now }
-        ensures { result ≡ choice_holding (core_job plan.now acts.now workers) (state_of self.now) (shown_hold hold) }
+        requires looks { CanChoose (nodes_of plan.now) acts.now workers self.now }
+        ensures { result ≡ choice_holding (core_job plan.now acts.now workers) (state_of self.now) (hold_view hold) }
     {
         if hold.looks < workers {
             return Some(Event::Take(hold.looks));

@@ -20,7 +20,7 @@ fn told(alloc: Global, left: Op, right: Op, schedule: &[u32]) -> Result<Vec<u8>,
 }
 
 /// The bytes of a report as a text, in which a failure can be read.
-fn shown(report: &[u8]) -> &str {
+fn core_state_of(report: &[u8]) -> &str {
     from_utf8(report).unwrap_or("not UTF-8")
 }
 
@@ -100,7 +100,7 @@ fn schedules_make_these_reports(rt: HostRuntime) -> Result<(), Fail> {
     for (case, left, right, schedule, report) in CASES {
         assert!(rt; is_of_two(schedule), "{case}");
         let told = told(rt.alloc(), left, right, schedule)?;
-        assert_eq!(rt; shown(&told), report, "{case}");
+        assert_eq!(rt; core_state_of(&told), report, "{case}");
     }
     Ok(())
 }

@@ -15,9 +15,9 @@ ghost use Rattle.batcher_core.specs.Events.{Needs, Does};
 ghost use Rattle.batcher_core.specs.Invariant.{Parts, Invariant};
 ghost use Rattle.batcher_core.specs.Choice.{choice, LeavesAnEnd};
 ghost use Rattle.batcher_core.specs.Ranges.{IsInRange};
-ghost use Rattle.batcher_core.specs.Runs.{Step, Reaches, TurnsLead, driven, IsReached};
+ghost use Rattle.batcher_core.specs.Runs.{Step, Reaches, TurnsReach, driven, IsReached};
 ghost use Rattle.batcher_core.specs.Tasks.{is_done};
-ghost use Rattle.batcher_core.specs.Measure.{fuel, call_count};
+ghost use Rattle.batcher_core.specs.Measure.{measure, call_count};
 
 use sp_order::laws::plan_has_sides;
 
@@ -90,26 +90,26 @@ pub fn some_live_turn_makes_an_event()
 }
 
 /// The event of a turn lowers the count of the events that are left.
-pub fn turns_lower_fuel()
-    ensures { (job : CoreJob) (state : CoreState) (worker : ℕ) (event : Event) (new : State) → IsPlan job.plan → worker < job.workers → Invariant job state → choice job state worker ≡ Some event → Does job state.state worker event new → fuel job new < fuel job state.state }
+pub fn turns_lower_measure()
+    ensures { (job : CoreJob) (state : CoreState) (worker : ℕ) (event : Event) (new : State) → IsPlan job.plan → worker < job.workers → Invariant job state → choice job state worker ≡ Some event → Does job state.state worker event new → measure job new < measure job state.state }
 {}
 
 /// At the opening no more events are left than six for each node, and for each leaf that calls six more and as many as
 /// there are workers.
-pub fn opening_fuel_is_bounded()
-    ensures { (job : CoreJob) → fuel job opening_state ≤ 6 * job.plan.count + call_count job * (job.workers + 6) }
+pub fn opening_measure_is_bounded()
+    ensures { (job : CoreJob) → measure job opening_state ≤ 6 * job.plan.count + call_count job * (job.workers + 6) }
 {}
 
 /// So a run by turns from the opening has no more events than that.
 pub fn runs_by_turns_are_short()
-    ensures { (job : CoreJob) (tree : Tree) (steps : List Step) (state : CoreState) → IsPlanOf job.plan tree → 0 < job.workers → TurnsLead job opening_core steps state → length steps ≤ 6 * job.plan.count + call_count job * (job.workers + 6) }
+    ensures { (job : CoreJob) (tree : Tree) (steps : List Step) (state : CoreState) → IsPlanOf job.plan tree → 0 < job.workers → TurnsReach job opening_core steps state → length steps ≤ 6 * job.plan.count + call_count job * (job.workers + 6) }
 {
     plan_has_sides();
 }
 
 /// And so has the run of each schedule.
 pub fn driven_runs_are_short()
-    ensures { (job : CoreJob) (tree : Tree) (schedule : List ℕ) (state : CoreState) → IsPlanOf job.plan tree → 0 < job.workers → driven job schedule state → (steps : List Step) × TurnsLead job opening_core steps state × (length steps ≤ 6 * job.plan.count + call_count job * (job.workers + 6)) }
+    ensures { (job : CoreJob) (tree : Tree) (schedule : List ℕ) (state : CoreState) → IsPlanOf job.plan tree → 0 < job.workers → driven job schedule state → (steps : List Step) × TurnsReach job opening_core steps state × (length steps ≤ 6 * job.plan.count + call_count job * (job.workers + 6)) }
 {
     plan_has_sides();
 }

@@ -3,7 +3,7 @@ ghost use Rattle.std.specs.Prelude.{◌≡◌, ◌<◌, ◌≤◌, Some, IfSome,
 ghost use Rattle.batcher_core.specs.State.{put};
 ghost use Rattle.batcher_core.specs.Events.{new_hold, looked as hold_looked, published as hold_published, answered as hold_answered};
 ghost use Rattle.batcher_core.specs.Choice.{some_below, least_below, is_owed};
-ghost use Rattle.batcher_core.specs.Code.Abstraction.{at, shown_hold, hold_of};
+ghost use Rattle.batcher_core.specs.Code.Abstraction.{at, hold_view, hold_of};
 
 /// What the worker that has the flag keeps: the batch that it is making. The two lists go by the workers' numbers.
 #[derive(Clone, Copy, Debug)]
@@ -13,7 +13,7 @@ pub struct Hold {
     /// How many workers it has looked at.
     pub looks: u32,
     /// Whose calls it has taken.
-    pub took: [bool; 32],
+    pub taken: [bool; 32],
     /// Whom of these it has answered.
     pub answered: [bool; 32],
     /// Whether the calls that it has taken are served.
@@ -33,12 +33,12 @@ fn with(list: [bool; 32], place: u32) -> [bool; 32]
 impl Hold {
     /// The hold of a worker that has just taken the flag.
     pub(crate) fn of(worker: u32) -> Hold
-        ensures { shown_hold result ≡ new_hold worker }
+        ensures { hold_view result ≡ new_hold worker }
     {
         Hold {
             worker,
             looks: 0,
-            took: [false; 32],
+            taken: [false; 32],
             answered: [false; 32],
             published: false,
         }
@@ -47,26 +47,26 @@ impl Hold {
     /// Whether it has taken the call of this worker, and has not answered it.
     fn is_owed(&self, worker: u32) -> bool
         requires { worker < 32 }
-        ensures { result ≡ is_owed (shown_hold self.now) worker }
+        ensures { result ≡ is_owed (hold_view self.now) worker }
     {
-        self.took[worker as usize] && !self.answered[worker as usize]
+        self.taken[worker as usize] && !self.answered[worker as usize]
     }
 
     /// Whether it has taken the call of this worker.
-    pub(crate) fn took(&self, worker: u32) -> bool
+    pub(crate) fn taken(&self, worker: u32) -> bool
         requires { worker < 32 }
-        ensures { result ≡ (shown_hold self.now).took worker }
+        ensures { result ≡ (hold_view self.now).taken worker }
     {
-        self.took[worker as usize]
+        self.taken[worker as usize]
     }
 
     /// Whether it has taken a call.
     pub(crate) fn has_taken(&self, workers: u32) -> bool
         requires { workers ≤ 32 }
-        ensures { result ≡ some_below (shown_hold self.now).took workers }
+        ensures { result ≡ some_below (hold_view self.now).taken workers }
     {
         for worker in 0..workers {
-            if self.took(worker) {
+            if self.taken(worker) {
                 return true;
             }
         }
@@ -76,7 +76,7 @@ impl Hold {
     /// The least worker whose call it has taken and that it has not answered.
     pub(crate) fn least_owed(&self, workers: u32) -> Option<u32>
         requires { workers ≤ 32 }
-        ensures { result ≡ least_below (is_owed (shown_hold self.now)) workers }
+        ensures { result ≡ least_below (is_owed (hold_view self.now)) workers }
     {
         for worker in 0..workers {
             if self.is_owed(worker) {
@@ -96,10 +96,10 @@ pub(crate) fn looked(hold: Option<Hold>, other: u32, takes: bool) -> Option<Hold
     let hold = hold?;
     let looks = hold.looks + 1;
     if takes {
-        let took = with(hold.took, other);
+        let taken = with(hold.taken, other);
         Some(Hold {
             looks,
-            took,
+            taken,
             ..hold
         })
     } else {

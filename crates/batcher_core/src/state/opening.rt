@@ -4,7 +4,7 @@ ghost use Rattle.batcher_core.specs.State.{opening_state, opening_core};
 ghost use Rattle.batcher_core.specs.Code.Abstraction.{state_of, ready_of, queues, filled_in, at, Sizes, FilledFits};
 ghost use Rattle.batcher_core.specs.declared.state.progress.Progress.TheVariants.{Waiting};
 
-use crate::state::Table;
+use crate::state::State;
 use crate::state::progress::Progress;
 use crate::state::ready::push_ready;
 use crate::state::status::{CallState, Status};
@@ -61,9 +61,9 @@ fn opening_lists(alloc: Global, workers: u32) -> Result<(Vec<VecDeque<u32>>, usi
     Ok((lists, filled))
 }
 
-impl Table {
+impl State {
     /// The table in which the root is ready, and nothing has happened.
-    pub(crate) fn opening(alloc: Global, nodes: u32, workers: u32) -> Result<Table, AllocError>
+    pub(crate) fn opening(alloc: Global, nodes: u32, workers: u32) -> Result<State, AllocError>
         requires nodes { 0 < nodes }
         requires workers { 0 < workers }
         ensures sizes { IfOk result (λ t. Sizes t nodes workers) }
@@ -72,7 +72,7 @@ impl Table {
         ensures filled { IfOk result FilledFits }
     {
         let (ready, filled) = opening_lists(alloc, workers)?;
-        Ok(Table {
+        Ok(State {
             nodes: opening_nodes(alloc, nodes)?,
             marks: copies(alloc, 0, nodes)?,
             values: copies(alloc, None, nodes)?,

@@ -4,4 +4,4 @@ use Rattle.batcher_core.specs.Code.Abstraction.{at}
 use Rattle.batcher_core.proofs.state.hold.Hold.has_taken.Given as goal
 
 abbrev pub invariant-loop-worker : goal.invariant-loop-worker
-invariant-loop-worker l = some_below (at l.self.took false) l.worker ≡ false
+invariant-loop-worker l = some_below (at l.self.taken false) l.worker ≡ false

@@ -1,6 +1,6 @@
 use Rattle.std.proofs.Common.{refl, sym, ◌∙◌}
 use Rattle.batcher_core.specs.Choice.{least_below, is_owed}
-use Rattle.batcher_core.specs.Code.Abstraction.{shown_hold}
+use Rattle.batcher_core.specs.Code.Abstraction.{hold_view}
 use Rattle.batcher_core.proofs.ChoiceLemmas.Searches.{least_here, least_passed}
 use Rattle.batcher_core.proofs.state.hold.Hold.least_owed.Goals as goal
 
@@ -11,9 +11,9 @@ loop-worker-init c = refl
 pub returns-then-is_owed : goal.returns-then-is_owed
 returns-then-is_owed c =
     let here = sym c.is_owed.ensures ∙ c.if-is_owed.true in
-    sym (least_here (is_owed (shown_hold c.args.self.now)) c.loop-worker.worker c.args.workers c.loop-worker.invariant here c.loop-worker-test.true)
+    sym (least_here (is_owed (hold_view c.args.self.now)) c.loop-worker.worker c.args.workers c.loop-worker.invariant here c.loop-worker-test.true)
 
 pub loop-worker-preserved : goal.loop-worker-preserved
 loop-worker-preserved c =
     let passed = sym c.is_owed.ensures ∙ c.if-is_owed.false in
-    least_passed (is_owed (shown_hold c.args.self.now)) c.loop-worker.worker c.loop-worker.invariant passed
+    least_passed (is_owed (hold_view c.args.self.now)) c.loop-worker.worker c.loop-worker.invariant passed

@@ -1,0 +1,19 @@
+use Rattle.std.proofs.Common.{◌≡◌, ◌<◌, false, []}
+use Rattle.batcher_core.specs.State.{CoreState}
+use Rattle.batcher_core.specs.Runs.{Drives}
+use Rattle.batcher_core.specs.Code.Core.{job_in, state_in}
+use Rattle.batcher_core.proofs.RunLemmas.Taken.{SameJob}
+use Rattle.batcher_core.proofs.RunLemmas.Rounds.{turns_left}
+use Rattle.batcher_core.proofs.driver.run_round_robin.Given as goal
+
+abbrev pub invariant-loop-core : goal.invariant-loop-core
+invariant-loop-core l = record {
+  job : SameJob l.initial.core l.core;
+  workers : l.workers ≡ l.initial.core.workers;
+  below : l.worker < l.workers;
+  drives : (last : CoreState) → Drives (job_in l.initial.core) (state_in l.core) [] l.worker last → Drives (job_in l.initial.core) (state_in l.initial.core) [] 0 last;
+  spent : l.core.spent ≡ false → l.initial.core.spent ≡ false;
+}
+
+abbrev pub decreases-loop-core : goal.decreases-loop-core
+decreases-loop-core l = turns_left (job_in l.initial.core) (state_in l.core) l.worker

@@ -1,0 +1,13 @@
+use Rattle.std.proofs.Common.{refl}
+use Rattle.batcher_core.specs.Code.Abstraction.{state_of}
+use Rattle.batcher_core.specs.declared.state.progress.Progress.TheVariants.{Waiting, Ready}
+use Rattle.batcher_core.specs.declared.state.task.Task.TheVariants.{Idle}
+use Rattle.batcher_core.proofs.CodeLemmas.Written.{at_written}
+use Rattle.batcher_core.proofs.state.State.open.Goals as goal
+
+pub returns-clause-event : goal.returns-clause-event
+unfolding state_of
+returns-clause-event c =
+    let a = at_written c.args.self.now.nodes.items c.args.node Ready Waiting c.requires.node_in in
+    let b = at_written c.args.self.now.tasks.items c.args.worker c.args.then Idle c.requires.worker_in in
+    rw (a, b) refl

@@ -1,8 +1,0 @@
-use Rattle.std.proofs.Common.{sym, ◌∙◌}
-use Rattle.batcher_core.specs.Choice.{is_owed}
-use Rattle.batcher_core.specs.Code.Abstraction.{shown_hold}
-use Rattle.batcher_core.proofs.ChoiceLemmas.Searches.{least_in}
-use Rattle.batcher_core.proofs.state.Table.choose_holding.Goals as goal
-
-pub choose_answer-requires-clause-other_in : goal.choose_answer-requires-clause-other_in
-choose_answer-requires-clause-other_in c = least_in (is_owed (shown_hold c.args.hold)) c.args.workers c.in-Some.other (sym c.least_owed.ensures ∙ c.in-Some.is)

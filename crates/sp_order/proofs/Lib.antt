@@ -1,9 +1,3 @@
-pub mod Standing
-pub mod PlanLaws
-pub mod Descents
-pub mod BySeries
-pub mod Preorders
-pub mod Listings
-pub mod Planned
-pub mod Climbs
+pub mod PlanLemmas
+pub mod BuilderLemmas
 pub mod Depths

@@ -1,4 +1,4 @@
--- How deep shapes are.
+-- The depth of a shape: the longest way from its top down to a leaf, in blocks.
 use Rattle.std.specs.Prelude.{ℕ, ◌+◌, max, Option, None, Some}
 use Rattle.sp_order.specs.Precedence.{Tree, leaf, seq, par}
 

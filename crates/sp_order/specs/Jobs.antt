@@ -1,4 +1,4 @@
--- Jobs, as contracts see them.
+-- Jobs, as contracts see them: a shape, and an act for each of its leaves.
 use Rattle.std.specs.Prelude.{◌≡◌, ◌≤◌, List, length, Option, refl}
 use Rattle.std.specs.Coded.{Coded, code_by, coded×, coded_list, coded_option}
 use Rattle.seq_objects.specs.declared.act.Act.{Act}

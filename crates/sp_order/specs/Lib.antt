@@ -6,4 +6,4 @@ pub mod Depth
 pub mod Plans
 pub mod PlanOf
 pub mod Preorder
-pub mod Listing
+pub mod Code

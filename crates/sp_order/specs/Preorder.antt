@@ -7,7 +7,6 @@ use Rattle.sp_order.specs.declared.node.Move.TheVariants.{Root, OpenSecond, Fini
 use Rattle.sp_order.specs.Precedence.{Tree, leaf, seq, par, leaves}
 use Rattle.sp_order.specs.Plans.{Nodes}
 use Rattle.sp_order.specs.PlanOf.{node_count}
-use Rattle.sp_order.specs.TreeEncoding.{top}
 
 -- what its nodes are, numbered from `node` on, with its leaves numbered from `first` on
 abbrev pub kinds_from : ℕ → ℕ → Tree → List Kind
@@ -43,20 +42,3 @@ nodes_of tree = record {
   after = λ n. slice_index_or (moves_from 0 Root tree) n Root;
   node_of = λ leaf. slice_index (leaf_nodes_from 0 tree) leaf;
 }
-
--- the first two trees as the sides of one
-abbrev pub joined : (Tree → Tree → Tree) → List Tree → List Tree
-joined join (left ∷ right ∷ more) = join left right ∷ more
-joined join (tree ∷ []) = []
-joined join [] = []
-
--- the trees whose nodes these are, one tree after another
-abbrev pub trees_told : List Kind → List Tree
-trees_told [] = []
-trees_told (LeafNode first ∷ more) = leaf ∷ trees_told more
-trees_told (SeqNode left right ∷ more) = joined seq (trees_told more)
-trees_told (ParNode left right ∷ more) = joined par (trees_told more)
-
--- the tree whose nodes these are
-abbrev pub tree_told : List Kind → Tree
-tree_told kinds = top (trees_told kinds)

@@ -1,4 +1,4 @@
-//! Jobs.
+//! A job: a shape, and what each of its leaves does.
 ghost use Rattle.std.specs.Prelude.{◌≡◌, ◌<◌, ◌≤◌, length};
 ghost use Rattle.std.specs.Option.{option_map};
 ghost use Rattle.sp_order.specs.Precedence.{tree_of, leaf_count};
@@ -33,7 +33,7 @@ impl Job {
     ghost use Rattle.sp_order.specs.Jobs.{IsJob};
     ghost use Rattle.sp_order.specs.Depth.{depth_of};
 
-    /// The job of this shape, whose leaves do these acts. It takes no memory.
+    /// The job of this shape, whose leaves do these acts. Memory: none.
     pub fn of(shape: Option<Shape>, acts: Vec<Act>) -> Job
         requires leaves { leaf_count (option_map tree_of shape) ≡ length acts.items }
         requires most { length acts.items ≤ 20000 }

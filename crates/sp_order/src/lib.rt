@@ -6,7 +6,6 @@
 
 pub mod job;
 pub mod laws;
-mod listing;
 pub mod node;
 pub mod plan;
 pub mod shape;

@@ -3,8 +3,10 @@ ghost use Rattle.std.specs.Prelude.{◌≡◌, ◌<◌, ◌≤◌, ◌↔◌, So
 ghost use Rattle.sp_order.specs.Precedence.{leaves, IsBefore};
 ghost use Rattle.sp_order.specs.Preorder.{nodes_of};
 
+mod builder;
+
+use self::builder::{Pending, PlanBuilder};
 use crate::job::Job;
-use crate::listing::{Listing, Pending};
 use crate::node::{Kind, Move};
 use std::alloc::{AllocError, Global};
 use std::marker::Model;
@@ -15,32 +17,32 @@ use std::marker::Model;
 /// function `plan_stands_for_tree` of `laws` says that they stand for it.
 #[derive(Drop)]
 pub struct Plan {
-    listing: Listing,
+    built: PlanBuilder,
 }
 
 impl Model for Plan {
     ghost use Rattle.sp_order.specs.Precedence.{Tree};
     ghost use Rattle.sp_order.specs.TreeEncoding.{coded_tree};
-    ghost use Rattle.sp_order.specs.Preorder.{tree_told};
-    ghost use Rattle.sp_order.specs.Listing.{AreListsOf, lists_in};
+    ghost use Rattle.sp_order.specs.Code.PlanBuilder.{AreListsOf, lists_in};
+    ghost use Rattle.sp_order.specs.Code.PlanView.{tree_of_kinds};
 
     ghost Value = { Tree };
 
     ghost coded = { coded_tree };
 
-    ghost view = { λ p. tree_told p.listing.kinds.items };
+    ghost view = { λ p. tree_of_kinds p.built.kinds.items };
 
-    ghost invariant = { λ p. AreListsOf (lists_in p.listing) (tree_told p.listing.kinds.items) };
+    ghost invariant = { λ p. AreListsOf (lists_in p.built) (tree_of_kinds p.built.kinds.items) };
 }
 
 impl Plan {
-    /// The plan of the job's shape. What is still to be listed stands in a list, so a deep shape takes no more of
-    /// the call stack than a flat one.
+    /// The plan of the job's shape, in time linear in its leaves. It does not recurse, so a deep shape takes no more
+    /// of the call stack than a flat one.
     pub fn of(alloc: Global, job: &Job) -> Result<Plan, AllocError>
         requires { IsSome job.now.shape }
         ensures { IfOk result (λ plan. Some plan ≡ job.now.shape) }
     {
-        let mut listing = Listing::new(alloc);
+        let mut builder = PlanBuilder::new(alloc);
         let mut stack = Vec::new(alloc);
         let shape = job.shape().unwrap();
         stack.push(Pending {
@@ -48,17 +50,17 @@ impl Plan {
             after: Move::Root,
         })?;
         while let Some(pending) = stack.pop() {
-            listing.list(pending, &mut stack)?;
+            builder.visit(pending, &mut stack)?;
         }
-        Ok(Plan { listing })
+        Ok(Plan { built: builder })
     }
 
-    /// How many nodes it has. They have the numbers below this.
+    /// The count of its nodes, whose numbers are those below it.
     pub fn nodes(&self) -> u32
         ensures nodes { result ≡ (nodes_of self.now).count }
         ensures most { result < 40000 }
     {
-        self.listing.kinds.len() as u32
+        self.built.kinds.len() as u32
     }
 
     /// What this node is.
@@ -66,7 +68,7 @@ impl Plan {
         requires { node < (nodes_of self.now).count }
         ensures { Some result ≡ (nodes_of self.now).kind node }
     {
-        self.listing.kinds[node as usize]
+        self.built.kinds[node as usize]
     }
 
     /// What is to be done once this node is done.
@@ -74,7 +76,7 @@ impl Plan {
         requires { node < (nodes_of self.now).count }
         ensures { result ≡ (nodes_of self.now).after node }
     {
-        self.listing.moves[node as usize]
+        self.built.moves[node as usize]
     }
 
     /// The node of this leaf.
@@ -82,19 +84,20 @@ impl Plan {
         requires { leaf < leaves self.now }
         ensures { result ≡ (nodes_of self.now).node_of leaf }
     {
-        self.listing.leaf_nodes[leaf as usize]
+        self.built.leaf_nodes[leaf as usize]
     }
 
-    /// Whether leaf u is before leaf v.
+    /// Whether leaf u is before leaf v: a walk from v up to the node where the two part, in time linear in the depth.
+    /// Memory: none.
     pub fn before(&self, u: u32, v: u32) -> bool
         requires u_in { u < leaves self.now }
         requires v_in { v < leaves self.now }
         ensures { IsTrue result ↔ IsBefore (Some self.now) u v }
     {
-        let first = self.listing.leaf_nodes[u as usize];
-        let mut node = self.listing.leaf_nodes[v as usize];
+        let first = self.built.leaf_nodes[u as usize];
+        let mut node = self.built.leaf_nodes[v as usize];
         while first < node {
-            let after = self.listing.moves[node as usize];
+            let after = self.built.moves[node as usize];
             let Some(parent) = after.parent() else {
                 return false;
             };

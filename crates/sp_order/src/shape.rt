@@ -1,4 +1,4 @@
-//! Series-parallel shapes.
+//! Series-parallel shapes: how the leaves of a job are composed.
 ghost use Rattle.std.specs.Prelude.{◌≡◌, ◌<◌, ◌^◌};
 
 /// How the leaves of a job are put together. Leaves are numbered from 0, from left to right.
@@ -16,7 +16,7 @@ impl Shape {
     ghost use Rattle.sp_order.specs.Precedence.{tree_of};
     ghost use Rattle.sp_order.specs.Depth.{tree_depth};
 
-    /// 0 for a leaf, else one more than the deeper side. It calls itself once for each level.
+    /// The depth: 0 for a leaf, else one more than that of the deeper side. It recurses once for each level.
     pub(crate) fn depth(&self) -> u32
         requires { tree_depth (tree_of self.now) < 2 ^ 32 }
         ensures { result ≡ tree_depth (tree_of self.now) }

@@ -1,7 +1,7 @@
 use Rattle.std.proofs.Common.{arith}
 use Rattle.sp_order.specs.declared.node.Move.TheVariants.{Root}
-use Rattle.sp_order.proofs.PlanLaws.{plan_laws}
-use Rattle.sp_order.proofs.Descents.{leaf_at}
+use Rattle.sp_order.proofs.PlanLemmas.Laws.{plan_laws}
+use Rattle.sp_order.proofs.PlanLemmas.Descents.{leaf_at}
 use Rattle.sp_order.proofs.laws.leaf_has_one_node.Goals as goal
 
 pub returns : goal.returns

@@ -1,4 +1,4 @@
-use Rattle.sp_order.proofs.Preorders.{plan_of_tree}
+use Rattle.sp_order.proofs.BuilderLemmas.Preorders.{plan_of_tree}
 use Rattle.sp_order.proofs.laws.plan_stands_for_tree.Goals as goal
 
 pub returns : goal.returns

@@ -1,5 +1,5 @@
 use Rattle.sp_order.specs.Preorder.{nodes_of}
-use Rattle.sp_order.proofs.Climbs.{Climbs}
+use Rattle.sp_order.proofs.PlanLemmas.Climbs.{Climbs}
 use Rattle.sp_order.proofs.plan.Plan.before.Given as goal
 
 abbrev pub invariant-loop-node : goal.invariant-loop-node

@@ -1,14 +1,14 @@
 use Rattle.std.proofs.Common.{arith}
-use Rattle.sp_order.specs.Listing.{lists_in}
-use Rattle.sp_order.proofs.Planned.{shown_lists, count_of_leaf_nodes, leaf_node_read}
+use Rattle.sp_order.specs.Code.PlanBuilder.{lists_in}
+use Rattle.sp_order.proofs.BuilderLemmas.Reads.{shown_lists, count_of_leaf_nodes, leaf_node_read}
 use Rattle.sp_order.proofs.plan.Plan.node_of.Goals as goal
 
 pub index-requires : goal.index-requires
 index-requires c =
-    let e = shown_lists (lists_in c.self.inside.listing) _ c.args.self.now c.self.invariant c.self.view_is in
-    omega (arith, count_of_leaf_nodes (lists_in c.self.inside.listing) c.args.self.now e, c.requires, c.self.inside.listing.leaf_nodes.ok.0)
+    let e = shown_lists (lists_in c.self.inside.built) _ c.args.self.now c.self.invariant c.self.view_is in
+    omega (arith, count_of_leaf_nodes (lists_in c.self.inside.built) c.args.self.now e, c.requires, c.self.inside.built.leaf_nodes.ok.0)
 
 pub returns : goal.returns
 returns c =
-    let e = shown_lists (lists_in c.self.inside.listing) _ c.args.self.now c.self.invariant c.self.view_is in
-    leaf_node_read (lists_in c.self.inside.listing) c.args.self.now e c.args.leaf c.index.result.now c.requires c.index.ensures
+    let e = shown_lists (lists_in c.self.inside.built) _ c.args.self.now c.self.invariant c.self.view_is in
+    leaf_node_read (lists_in c.self.inside.built) c.args.self.now e c.args.leaf c.index.result.now c.requires c.index.ensures

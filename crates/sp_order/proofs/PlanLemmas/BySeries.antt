@@ -7,9 +7,9 @@ use Rattle.sp_order.specs.declared.node.Move.TheVariants.{Root, OpenSecond, Fini
 use Rattle.sp_order.specs.Precedence.{Tree, leaf, seq, par, leaves, IsLeafOf, IsBeforeFrom}
 use Rattle.sp_order.specs.Plans.{Nodes, IsUnder, IsPlan, IsBySeries}
 use Rattle.sp_order.specs.PlanOf.{OccursAt, IsPlanOf, node_count}
-use Rattle.sp_order.proofs.Standing.{node_cases, StandsAt, stands_at}
-use Rattle.sp_order.proofs.PlanLaws.{plan_laws, below_count}
-use Rattle.sp_order.proofs.Descents.{covers, stays, leaf_at}
+use Rattle.sp_order.proofs.PlanLemmas.Occurrences.{node_cases, StandsAt, stands_at}
+use Rattle.sp_order.proofs.PlanLemmas.Laws.{plan_laws, below_count}
+use Rattle.sp_order.proofs.PlanLemmas.Descents.{covers, stays, leaf_at}
 
 -- a series node p with the sides l and r, whose nodes end at `most`
 pub record SeriesAt (plan : Nodes) (p l r most : ℕ) : Type 0 where

@@ -1,4 +1,4 @@
--- Each step of the listing lists what is left to be listed.
+-- Each step of the builder leaves the same to come: what is in the lists, and then what is on the stack.
 use Rattle.std.proofs.Common.{◌≡◌, ℕ, ◌+◌, ◌≤◌, List, [], ◌∷◌, ◌++◌, length, refl, ap, ◌∙◌, arith, Result, Ok, Err, IfOk, length-append, append_assoc, slice_set}
 use Rattle.std.specs.List.{All}
 use Rattle.std.proofs.lemmas.List.{set_at, length_push, length-set}
@@ -7,12 +7,12 @@ use Rattle.sp_order.specs.declared.node.Kind.{Kind}
 use Rattle.sp_order.specs.declared.node.Kind.TheVariants.{SeqNode, ParNode}
 use Rattle.sp_order.specs.declared.node.Move.{Move}
 use Rattle.sp_order.specs.declared.node.Move.TheVariants.{Root, OpenSecond, FinishParent, Arrive}
-use Rattle.sp_order.specs.declared.listing.Pending.{Pending}
+use Rattle.sp_order.specs.declared.plan.builder.Pending.{Pending}
 use Rattle.sp_order.specs.Precedence.{Tree, tree_of, seq, par, leaves}
 use Rattle.sp_order.specs.PlanOf.{node_count}
 use Rattle.sp_order.specs.Preorder.{kinds_from, moves_from, leaf_nodes_from}
-use Rattle.sp_order.specs.Listing.{Lists, linked, HasParentBelow, with_tree, with_pending, with_all}
-use Rattle.sp_order.proofs.Preorders.{length-kinds_from, length-leaf_nodes_from}
+use Rattle.sp_order.specs.Code.PlanBuilder.{Lists, with_side, HasParentBelow, with_tree, with_pending, with_all}
+use Rattle.sp_order.proofs.BuilderLemmas.Preorders.{length-kinds_from, length-leaf_nodes_from}
 
 pub with_all-push : (stack : List Pending) (pending : Pending) (lists : Lists) → with_all (stack ++ pending ∷ []) lists ≡ with_all stack (with_pending pending lists)
 with_all-push [] pending lists = refl
@@ -29,7 +29,7 @@ filled before n old new xs ys size =
 moved : {A : Type 0} (before : List A) (x : A) (xs ys : List A) → ((before ++ x ∷ []) ++ xs) ++ ys ≡ before ++ x ∷ (xs ++ ys)
 moved before x xs ys = append_assoc (before ++ x ∷ []) xs ys ∙ append_assoc before (x ∷ []) (xs ++ ys)
 
--- listing a series is listing its node, its left side and its right side
+-- the lists of a series are those of its node, its left side and its right side
 pub with_seq : (kinds : List Kind) (moves : List Move) (leaf_nodes : List ℕ) (n : ℕ) (after : Move) (a b : Tree) → length kinds ≡ n
     → (let node_listed : Lists = record { kinds = kinds ++ SeqNode (n + 1) (n + 1) ∷ []; moves = moves ++ after ∷ []; leaf_nodes = leaf_nodes } in
     let all_listed : Lists = record { kinds = kinds ++ kinds_from n (length leaf_nodes) (seq a b); moves = moves ++ moves_from n after (seq a b); leaf_nodes = leaf_nodes ++ leaf_nodes_from n (seq a b) } in
@@ -62,11 +62,11 @@ with_par kinds moves leaf_nodes n after a b size =
     (filled kinds n (ParNode (n + 1) (n + 1)) (ParNode (n + 1) (n + 1 + node_count a)) (kinds_from (n + 1) (length leaf_nodes) a) (kinds_from (n + 1 + node_count a) (length leaf_nodes + leaves a) b) size)
     (moved moves after _ _) (append_assoc leaf_nodes _ _))
 
-length-linked : (kinds : List Kind) (after : Move) (node : ℕ) → length (linked kinds after node) ≡ length kinds
-length-linked kinds Root node = refl
-length-linked kinds (OpenSecond p) node = refl
-length-linked kinds (FinishParent p) node = length-set kinds p (SeqNode (p + 1) node)
-length-linked kinds (Arrive p) node = length-set kinds p (ParNode (p + 1) node)
+length-with_side : (kinds : List Kind) (after : Move) (node : ℕ) → length (with_side kinds after node) ≡ length kinds
+length-with_side kinds Root node = refl
+length-with_side kinds (OpenSecond p) node = refl
+length-with_side kinds (FinishParent p) node = length-set kinds p (SeqNode (p + 1) node)
+length-with_side kinds (Arrive p) node = length-set kinds p (ParNode (p + 1) node)
 
 below_more : (low high : ℕ) (after : Move) → low ≤ high → HasParentBelow low after → HasParentBelow high after
 below_more low high Root le below = tt
@@ -74,10 +74,10 @@ below_more low high (OpenSecond p) le below = omega arith
 below_more low high (FinishParent p) le below = omega arith
 below_more low high (Arrive p) le below = omega arith
 
--- the parents of all that is on the stack are listed, with two sides of the node listed last
-linked_more : (stack : List Pending) (left right : Pending) (low high : ℕ) → low ≤ high → All (λ p. HasParentBelow low p.after) stack → HasParentBelow high left.after → HasParentBelow high right.after
+-- the parents of all sides on the stack are in the lists, with the two sides of the last node
+parents_more : (stack : List Pending) (left right : Pending) (low high : ℕ) → low ≤ high → All (λ p. HasParentBelow low p.after) stack → HasParentBelow high left.after → HasParentBelow high right.after
     → All (λ p. HasParentBelow high p.after) ((stack ++ right ∷ []) ++ left ∷ [])
-linked_more stack left right low high le below of_left of_right =
+parents_more stack left right low high le below of_left of_right =
     All-push (λ p. HasParentBelow high p.after) (stack ++ right ∷ []) left
     (All-push (λ p. HasParentBelow high p.after) stack right
     (All-weaker (λ p. HasParentBelow low p.after) (λ p. HasParentBelow high p.after) (λ p b. below_more low high p.after le b) stack below)
@@ -86,18 +86,18 @@ linked_more stack left right low high le below of_left of_right =
 
 -- what a step leaves on the stack and in the lists, where it lists the node of a block
 pub record ListsBlock (pending left right : Pending) (node : Kind) (stack new_stack : List Pending) (lists new_lists : Lists) : Type 0 where
-  pub kinds_are : new_lists.kinds ≡ linked lists.kinds pending.after (length lists.kinds) ++ node ∷ []
+  pub kinds_are : new_lists.kinds ≡ with_side lists.kinds pending.after (length lists.kinds) ++ node ∷ []
   pub moves_are : new_lists.moves ≡ lists.moves ++ pending.after ∷ []
   pub leaf_nodes_are : new_lists.leaf_nodes ≡ lists.leaf_nodes
   pub stack_is : new_stack ≡ (stack ++ right ∷ []) ++ left ∷ []
 
-pub more_linked : (pending left right : Pending) (node : Kind) (stack new_stack : List Pending) (lists new_lists : Lists) → ListsBlock pending left right node stack new_stack lists new_lists
+pub more_parents : (pending left right : Pending) (node : Kind) (stack new_stack : List Pending) (lists new_lists : Lists) → ListsBlock pending left right node stack new_stack lists new_lists
     → All (λ p. HasParentBelow (length lists.kinds) p.after) stack → HasParentBelow (length lists.kinds + 1) left.after → HasParentBelow (length lists.kinds + 1) right.after
     → All (λ p. HasParentBelow (length new_lists.kinds) p.after) new_stack
-more_linked pending left right node stack new_stack lists new_lists h below of_left of_right =
+more_parents pending left right node stack new_stack lists new_lists h below of_left of_right =
     let size : length new_lists.kinds ≡ length lists.kinds + 1 =
-    ap length h.kinds_are ∙ length_push (linked lists.kinds pending.after (length lists.kinds)) node ∙ ap (λ k. k + 1) (length-linked lists.kinds pending.after (length lists.kinds)) in
-    rw (h.stack_is, size) (linked_more stack left right (length lists.kinds) (length lists.kinds + 1) (omega arith) below of_left of_right)
+    ap length h.kinds_are ∙ length_push (with_side lists.kinds pending.after (length lists.kinds)) node ∙ ap (λ k. k + 1) (length-with_side lists.kinds pending.after (length lists.kinds)) in
+    rw (h.stack_is, size) (parents_more stack left right (length lists.kinds) (length lists.kinds + 1) (omega arith) below of_left of_right)
 
 pub seq_listed : (pending left right : Pending) (stack new_stack : List Pending) (lists new_lists : Lists) (a b : Tree)
     → ListsBlock pending left right (SeqNode (length lists.kinds + 1) (length lists.kinds + 1)) stack new_stack lists new_lists
@@ -105,14 +105,14 @@ pub seq_listed : (pending left right : Pending) (stack new_stack : List Pending)
     → with_all new_stack new_lists ≡ with_all stack (with_pending pending lists)
 seq_listed pending left right stack new_stack lists new_lists a b h whole of_left of_right after_left after_right =
     let node_listed : Lists = record {
-      kinds = linked lists.kinds pending.after (length lists.kinds) ++ SeqNode (length lists.kinds + 1) (length lists.kinds + 1) ∷ [];
+      kinds = with_side lists.kinds pending.after (length lists.kinds) ++ SeqNode (length lists.kinds + 1) (length lists.kinds + 1) ∷ [];
       moves = lists.moves ++ pending.after ∷ [];
       leaf_nodes = lists.leaf_nodes;
     } in
     let new_is : new_lists ≡ node_listed = same_lists _ _ _ _ _ _ h.kinds_are h.moves_are h.leaf_nodes_are in
     let core : with_pending right (with_pending left node_listed) ≡ with_pending pending lists =
     rw (whole, of_left, of_right, after_left, after_right)
-    (with_seq (linked lists.kinds pending.after (length lists.kinds)) lists.moves lists.leaf_nodes (length lists.kinds) pending.after a b (length-linked lists.kinds pending.after (length lists.kinds))) in
+    (with_seq (with_side lists.kinds pending.after (length lists.kinds)) lists.moves lists.leaf_nodes (length lists.kinds) pending.after a b (length-with_side lists.kinds pending.after (length lists.kinds))) in
     rw (new_is, h.stack_is) (with_all-push (stack ++ right ∷ []) left node_listed ∙ with_all-push stack right (with_pending left node_listed) ∙ ap (with_all stack) core)
 
 pub par_listed : (pending left right : Pending) (stack new_stack : List Pending) (lists new_lists : Lists) (a b : Tree)
@@ -121,14 +121,14 @@ pub par_listed : (pending left right : Pending) (stack new_stack : List Pending)
     → with_all new_stack new_lists ≡ with_all stack (with_pending pending lists)
 par_listed pending left right stack new_stack lists new_lists a b h whole of_left of_right after_left after_right =
     let node_listed : Lists = record {
-      kinds = linked lists.kinds pending.after (length lists.kinds) ++ ParNode (length lists.kinds + 1) (length lists.kinds + 1) ∷ [];
+      kinds = with_side lists.kinds pending.after (length lists.kinds) ++ ParNode (length lists.kinds + 1) (length lists.kinds + 1) ∷ [];
       moves = lists.moves ++ pending.after ∷ [];
       leaf_nodes = lists.leaf_nodes;
     } in
     let new_is : new_lists ≡ node_listed = same_lists _ _ _ _ _ _ h.kinds_are h.moves_are h.leaf_nodes_are in
     let core : with_pending right (with_pending left node_listed) ≡ with_pending pending lists =
     rw (whole, of_left, of_right, after_left, after_right)
-    (with_par (linked lists.kinds pending.after (length lists.kinds)) lists.moves lists.leaf_nodes (length lists.kinds) pending.after a b (length-linked lists.kinds pending.after (length lists.kinds))) in
+    (with_par (with_side lists.kinds pending.after (length lists.kinds)) lists.moves lists.leaf_nodes (length lists.kinds) pending.after a b (length-with_side lists.kinds pending.after (length lists.kinds))) in
     rw (new_is, h.stack_is) (with_all-push (stack ++ right ∷ []) left node_listed ∙ with_all-push stack right (with_pending left node_listed) ∙ ap (with_all stack) core)
 
 -- what holds after a step that succeeded, from what its parts say of success
@@ -136,12 +136,12 @@ pub if_both : {X E : Type 0} (r : Result X E) (P Q R : Type 0) → IfOk r (λ _.
 if_both (Ok x) P Q R p q then = then p q
 if_both (Err e) P Q R p q then = tt
 
--- listing more makes the lists longer
+-- a further side makes the lists longer
 pub kinds_no_shorter : (stack : List Pending) (lists : Lists) → length lists.kinds ≤ length (with_all stack lists).kinds
 kinds_no_shorter [] lists = omega arith
 kinds_no_shorter (p ∷ stack) lists =
     let so_far : Lists = with_all stack lists in
-    omega (arith, kinds_no_shorter stack lists, length-append (linked so_far.kinds p.after (length so_far.kinds)) (kinds_from (length so_far.kinds) (length so_far.leaf_nodes) (tree_of p.shape.now)), length-linked so_far.kinds p.after (length so_far.kinds))
+    omega (arith, kinds_no_shorter stack lists, length-append (with_side so_far.kinds p.after (length so_far.kinds)) (kinds_from (length so_far.kinds) (length so_far.leaf_nodes) (tree_of p.shape.now)), length-with_side so_far.kinds p.after (length so_far.kinds))
 
 pub leaf_nodes_no_shorter : (stack : List Pending) (lists : Lists) → length lists.leaf_nodes ≤ length (with_all stack lists).leaf_nodes
 leaf_nodes_no_shorter [] lists = omega arith

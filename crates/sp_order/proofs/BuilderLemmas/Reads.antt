@@ -8,19 +8,20 @@ use Rattle.sp_order.specs.declared.node.Move.{Move}
 use Rattle.sp_order.specs.declared.node.Move.TheVariants.{Root}
 use Rattle.sp_order.specs.Precedence.{Tree, leaf, seq, par, leaves}
 use Rattle.sp_order.specs.PlanOf.{node_count}
-use Rattle.sp_order.specs.Preorder.{nodes_of, tree_told}
-use Rattle.sp_order.specs.declared.listing.Pending.{Pending}
-use Rattle.sp_order.specs.Listing.{Lists, lists_of, with_all, AreListsOf}
-use Rattle.sp_order.proofs.Listings.{kinds_no_shorter, leaf_nodes_no_shorter}
-use Rattle.sp_order.proofs.Preorders.{length-kinds_from, length-moves_from, length-leaf_nodes_from, tree_told-kinds_from}
+use Rattle.sp_order.specs.Preorder.{nodes_of}
+use Rattle.sp_order.specs.Code.PlanView.{tree_of_kinds}
+use Rattle.sp_order.specs.declared.plan.builder.Pending.{Pending}
+use Rattle.sp_order.specs.Code.PlanBuilder.{Lists, lists_of, with_all, AreListsOf}
+use Rattle.sp_order.proofs.BuilderLemmas.Steps.{kinds_no_shorter, leaf_nodes_no_shorter}
+use Rattle.sp_order.proofs.BuilderLemmas.Preorders.{length-kinds_from, length-moves_from, length-leaf_nodes_from, tree_of_kinds-kinds_from}
 
 pub node_count_by_leaves : (tree : Tree) → node_count tree + 1 ≡ leaves tree + leaves tree
 node_count_by_leaves leaf = refl
 node_count_by_leaves (seq a b) = omega (arith, node_count_by_leaves a, node_count_by_leaves b)
 node_count_by_leaves (par a b) = omega (arith, node_count_by_leaves a, node_count_by_leaves b)
 
-pub shown_lists : (lists : Lists) (told tree : Tree) → AreListsOf lists told → told ≡ tree → lists ≡ lists_of tree
-shown_lists lists told tree h e = h.lists_are ∙ ap lists_of e
+pub shown_lists : (lists : Lists) (read tree : Tree) → AreListsOf lists read → read ≡ tree → lists ≡ lists_of tree
+shown_lists lists read tree h e = h.lists_are ∙ ap lists_of e
 
 pub count_of_kinds : (lists : Lists) (tree : Tree) → lists ≡ lists_of tree → length lists.kinds ≡ (nodes_of tree).count
 unfolding nodes_of
@@ -47,11 +48,11 @@ unfolding nodes_of
 leaf_node_read lists tree h u node low read = rw h at (get_or_read lists.leaf_nodes u node (omega (arith, count_of_leaf_nodes lists tree h)) read 0)
 
 -- the kinds that are listed tell the tree that they are of
-pub lists_tell : (lists : Lists) (tree : Tree) → lists ≡ lists_of tree → tree_told lists.kinds ≡ tree
-lists_tell lists tree h = ap (λ (l : Lists). tree_told l.kinds) h ∙ tree_told-kinds_from tree
+pub lists_tell : (lists : Lists) (tree : Tree) → lists ≡ lists_of tree → tree_of_kinds lists.kinds ≡ tree
+lists_tell lists tree h = ap (λ (l : Lists). tree_of_kinds l.kinds) h ∙ tree_of_kinds-kinds_from tree
 
-pub told_lists : (lists : Lists) (tree : Tree) → lists ≡ lists_of tree → leaves tree ≤ 20000 → AreListsOf lists (tree_told lists.kinds)
-told_lists lists tree h most =
+pub lists_of_kinds : (lists : Lists) (tree : Tree) → lists ≡ lists_of tree → leaves tree ≤ 20000 → AreListsOf lists (tree_of_kinds lists.kinds)
+lists_of_kinds lists tree h most =
     let e = lists_tell lists tree h in
     record { lists_are = h ∙ ap lists_of (sym e); most = rw e most }
 

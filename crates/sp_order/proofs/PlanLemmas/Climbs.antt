@@ -6,9 +6,9 @@ use Rattle.sp_order.specs.declared.node.Move.TheVariants.{Root, OpenSecond, Fini
 use Rattle.sp_order.specs.Precedence.{Tree, leaves, IsBeforeFrom}
 use Rattle.sp_order.specs.Plans.{Nodes, parent_of, IsSide, HasSide, IsUnder, itself, one_below, IsPlan, IsBySeries}
 use Rattle.sp_order.specs.PlanOf.{IsPlanOf, node_count}
-use Rattle.sp_order.proofs.PlanLaws.{plan_laws, below_count}
-use Rattle.sp_order.proofs.Descents.{under_trans, under_le, leaf_at}
-use Rattle.sp_order.proofs.BySeries.{SeriesAt, series_at, left_within, left_covers, before_by_series}
+use Rattle.sp_order.proofs.PlanLemmas.Laws.{plan_laws, below_count}
+use Rattle.sp_order.proofs.PlanLemmas.Descents.{under_trans, under_le, leaf_at}
+use Rattle.sp_order.proofs.PlanLemmas.BySeries.{SeriesAt, series_at, left_within, left_covers, before_by_series}
 
 -- The node is above the last leaf's. If a series has the first leaf's node under its left side and the last
 -- one's under its right side, the node is still under that right side.

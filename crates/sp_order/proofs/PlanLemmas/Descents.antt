@@ -7,7 +7,7 @@ use Rattle.sp_order.specs.declared.node.Move.TheVariants.{OpenSecond, FinishPare
 use Rattle.sp_order.specs.Precedence.{Tree, leaf, seq, par, leaves}
 use Rattle.sp_order.specs.Plans.{Nodes, parent_of, HasSide, IsUnder, itself, one_below, IsPlan}
 use Rattle.sp_order.specs.PlanOf.{OccursAt, node_count}
-use Rattle.sp_order.proofs.Standing.{node_count_above_0, top_after, node_cases, StandsAt, stands_at}
+use Rattle.sp_order.proofs.PlanLemmas.Occurrences.{node_count_above_0, top_after, node_cases, StandsAt, stands_at}
 
 pub under_trans : {plan : Nodes} {a b c : ℕ} → IsUnder plan a b → IsUnder plan b c → IsUnder plan a c
 under_trans u itself = u

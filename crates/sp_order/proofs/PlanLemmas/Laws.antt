@@ -8,7 +8,7 @@ use Rattle.sp_order.specs.declared.node.Move.TheVariants.{Root, OpenSecond, Fini
 use Rattle.sp_order.specs.Precedence.{Tree, leaf, seq, par, leaves}
 use Rattle.sp_order.specs.Plans.{Nodes, parent_of, IsSide, HasSide, IsPlan}
 use Rattle.sp_order.specs.PlanOf.{OccursAt, IsPlanOf, node_count}
-use Rattle.sp_order.proofs.Standing.{node_count_above_0, top_after, StandsAt, stands_at, HasParent, has_parent}
+use Rattle.sp_order.proofs.PlanLemmas.Occurrences.{node_count_above_0, top_after, StandsAt, stands_at, HasParent, has_parent}
 
 -- what a node's kind says of its sides, or of its leaf
 abbrev FitsKind : Nodes → Option Kind → ℕ → Type 0

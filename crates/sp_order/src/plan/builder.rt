@@ -1,41 +1,43 @@
-//! How the nodes of a plan are listed, in preorder and with no recursion.
+//! The builder of a plan: a walk over a shape in preorder, with a stack of its own in place of recursion.
 ghost use Rattle.std.specs.Prelude.{◌≡◌, ◌+◌, ◌^◌, ◌<◌, [], ◌∷◌, ◌++◌, length, IfOk};
-ghost use Rattle.sp_order.specs.Listing.{lists_in, linked, HasParentBelow, with_pending, with_all, AreLinked};
+ghost use Rattle.sp_order.specs.Code.PlanBuilder.{lists_in, with_side, HasParentBelow, with_pending, with_all, HaveParents};
 
 use crate::node::{Kind, Move};
 use crate::shape::Shape;
 use std::alloc::{AllocError, Global};
 
-/// What is listed of the nodes so far.
+/// The nodes that were visited so far: `kinds` and `moves` have an item for each node, and `leaf_nodes` the node
+/// of each leaf.
 #[derive(Drop)]
-pub(crate) struct Listing {
+pub(crate) struct PlanBuilder {
     pub(crate) kinds: Vec<Kind>,
     pub(crate) moves: Vec<Move>,
     pub(crate) leaf_nodes: Vec<u32>,
 }
 
-/// A side that is still to be listed.
+/// A side that is not visited yet, and what is to be done once it is done.
 #[derive(Clone, Copy)]
 pub(crate) struct Pending<'a> {
     pub(crate) shape: &'a Shape,
     pub(crate) after: Move,
 }
 
-impl Listing {
-    pub(crate) fn new(alloc: Global) -> Listing
+impl PlanBuilder {
+    /// A builder that has visited nothing. Memory: none.
+    pub(crate) fn new(alloc: Global) -> PlanBuilder
         ensures kinds { result.kinds.items ≡ [] }
         ensures moves { result.moves.items ≡ [] }
         ensures leaf_nodes { result.leaf_nodes.items ≡ [] }
     {
-        Listing {
+        PlanBuilder {
             kinds: Vec::new(alloc),
             moves: Vec::new(alloc),
             leaf_nodes: Vec::new(alloc),
         }
     }
 
-    /// Lists the node of this side, and puts its own sides on the stack.
-    pub(crate) fn list<'a>(
+    /// Visits the top node of this side, and puts its own two sides on the stack.
+    pub(crate) fn visit<'a>(
         &mut self,
         pending: Pending<'a>,
         stack: &mut Vec<Pending<'a>>,
@@ -43,16 +45,16 @@ impl Listing {
         requires room { length self.old.kinds.items + 1 < 2 ^ 32 }
         requires leaf_room { length self.old.leaf_nodes.items < 2 ^ 32 }
         requires parent { HasParentBelow (length self.old.kinds.items) pending.after }
-        requires linked { AreLinked stack.old.items (lists_in self.old) }
+        requires parents { HaveParents stack.old.items (lists_in self.old) }
         ensures more { IfOk result (λ _. length self.new.kinds.items ≡ length self.old.kinds.items + 1) }
-        ensures linked { IfOk result (λ _. AreLinked stack.new.items (lists_in self.new)) }
+        ensures parents { IfOk result (λ _. HaveParents stack.new.items (lists_in self.new)) }
         ensures listed { IfOk result (λ _. with_all stack.new.items (lists_in self.new) ≡ with_all stack.old.items (with_pending pending.entry (lists_in self.old))) }
     {
         let node = self.kinds.len() as u32;
-        self.link(pending.after, node);
+        self.set_side(pending.after, node);
         self.moves.push(pending.after)?;
         match pending.shape {
-            Shape::Leaf => self.list_leaf(node),
+            Shape::Leaf => self.add_leaf(node),
             Shape::Seq(left, right) => {
                 let left = Pending {
                     shape: left,
@@ -62,7 +64,7 @@ impl Listing {
                     shape: right,
                     after: Move::FinishParent(node),
                 };
-                self.list_block(Kind::SeqNode(node + 1, node + 1), left, right, stack)
+                self.add_block(Kind::SeqNode(node + 1, node + 1), left, right, stack)
             }
             Shape::Par(left, right) => {
                 let left = Pending {
@@ -73,16 +75,17 @@ impl Listing {
                     shape: right,
                     after: Move::Arrive(node),
                 };
-                self.list_block(Kind::ParNode(node + 1, node + 1), left, right, stack)
+                self.add_block(Kind::ParNode(node + 1, node + 1), left, right, stack)
             }
         }
     }
 
-    /// Notes in the node's parent that this is its right side, or for now its left one.
-    fn link(&mut self, after: Move, node: u32)
+    /// Sets the right side of the node's parent to this node. The left side of a parallel block stands there too,
+    /// until the right one is visited. Memory: none.
+    fn set_side(&mut self, after: Move, node: u32)
         requires parent { HasParentBelow node after }
         requires node { node ≡ length self.old.kinds.items }
-        ensures kinds { self.new.kinds.items ≡ linked self.old.kinds.items after node }
+        ensures kinds { self.new.kinds.items ≡ with_side self.old.kinds.items after node }
         ensures moves { self.new.moves.items ≡ self.old.moves.items }
         ensures leaf_nodes { self.new.leaf_nodes.items ≡ self.old.leaf_nodes.items }
     {
@@ -97,8 +100,8 @@ impl Listing {
         }
     }
 
-    /// Lists a leaf.
-    fn list_leaf(&mut self, node: u32) -> Result<(), AllocError>
+    /// Adds a leaf, with the next leaf number.
+    fn add_leaf(&mut self, node: u32) -> Result<(), AllocError>
         requires { length self.old.leaf_nodes.items < 2 ^ 32 }
         ensures kinds { IfOk result (λ _. self.new.kinds.items ≡ self.old.kinds.items ++ Kind.LeafNode (length self.old.leaf_nodes.items) ∷ []) }
         ensures moves { self.new.moves.items ≡ self.old.moves.items }
@@ -110,8 +113,8 @@ impl Listing {
         Ok(())
     }
 
-    /// Lists a block of this kind, and puts its sides on the stack, the left one on top.
-    fn list_block<'a>(
+    /// Adds a block of this kind, and puts its sides on the stack, the left one on top.
+    fn add_block<'a>(
         &mut self,
         kind: Kind,
         left: Pending<'a>,

@@ -11,7 +11,8 @@ use Rattle.sp_order.specs.Precedence.{Tree, leaf, seq, par, leaves}
 use Rattle.sp_order.specs.TreeEncoding.{top}
 use Rattle.sp_order.specs.Plans.{Nodes}
 use Rattle.sp_order.specs.PlanOf.{OccursAt, IsPlanOf, node_count}
-use Rattle.sp_order.specs.Preorder.{kinds_from, moves_from, leaf_nodes_from, nodes_of, joined, trees_told, tree_told}
+use Rattle.sp_order.specs.Preorder.{kinds_from, moves_from, leaf_nodes_from, nodes_of}
+use Rattle.sp_order.specs.Code.PlanView.{with_block, trees_of_kinds, tree_of_kinds}
 
 pub length-kinds_from : (tree : Tree) (n u : ℕ) → length (kinds_from n u tree) ≡ node_count tree
 length-kinds_from leaf n u = refl
@@ -113,15 +114,15 @@ plan_of_tree tree = record {
 }
 
 -- the nodes of a tree tell that tree
-trees_told-kinds_from : (tree : Tree) (n u : ℕ) (more : List Kind) → trees_told (kinds_from n u tree ++ more) ≡ tree ∷ trees_told more
-trees_told-kinds_from leaf n u more = refl
-trees_told-kinds_from (seq a b) n u more =
-    ap (λ (ks : List Kind). joined seq (trees_told ks)) (append_assoc (kinds_from (n + 1) u a) (kinds_from (n + 1 + node_count a) (u + leaves a) b) more)
-    ∙ ap (joined seq) (trees_told-kinds_from a (n + 1) u (kinds_from (n + 1 + node_count a) (u + leaves a) b ++ more) ∙ ap (λ ts. a ∷ ts) (trees_told-kinds_from b (n + 1 + node_count a) (u + leaves a) more))
-trees_told-kinds_from (par a b) n u more =
-    ap (λ (ks : List Kind). joined par (trees_told ks)) (append_assoc (kinds_from (n + 1) u a) (kinds_from (n + 1 + node_count a) (u + leaves a) b) more)
-    ∙ ap (joined par) (trees_told-kinds_from a (n + 1) u (kinds_from (n + 1 + node_count a) (u + leaves a) b ++ more) ∙ ap (λ ts. a ∷ ts) (trees_told-kinds_from b (n + 1 + node_count a) (u + leaves a) more))
+trees_of_kinds-kinds_from : (tree : Tree) (n u : ℕ) (more : List Kind) → trees_of_kinds (kinds_from n u tree ++ more) ≡ tree ∷ trees_of_kinds more
+trees_of_kinds-kinds_from leaf n u more = refl
+trees_of_kinds-kinds_from (seq a b) n u more =
+    ap (λ (ks : List Kind). with_block seq (trees_of_kinds ks)) (append_assoc (kinds_from (n + 1) u a) (kinds_from (n + 1 + node_count a) (u + leaves a) b) more)
+    ∙ ap (with_block seq) (trees_of_kinds-kinds_from a (n + 1) u (kinds_from (n + 1 + node_count a) (u + leaves a) b ++ more) ∙ ap (λ ts. a ∷ ts) (trees_of_kinds-kinds_from b (n + 1 + node_count a) (u + leaves a) more))
+trees_of_kinds-kinds_from (par a b) n u more =
+    ap (λ (ks : List Kind). with_block par (trees_of_kinds ks)) (append_assoc (kinds_from (n + 1) u a) (kinds_from (n + 1 + node_count a) (u + leaves a) b) more)
+    ∙ ap (with_block par) (trees_of_kinds-kinds_from a (n + 1) u (kinds_from (n + 1 + node_count a) (u + leaves a) b ++ more) ∙ ap (λ ts. a ∷ ts) (trees_of_kinds-kinds_from b (n + 1 + node_count a) (u + leaves a) more))
 
-pub tree_told-kinds_from : (tree : Tree) → tree_told (kinds_from 0 0 tree) ≡ tree
-tree_told-kinds_from tree =
-    ap (λ (ks : List Kind). top (trees_told ks)) (sym (append-nil (kinds_from 0 0 tree))) ∙ ap top (trees_told-kinds_from tree 0 0 [])
+pub tree_of_kinds-kinds_from : (tree : Tree) → tree_of_kinds (kinds_from 0 0 tree) ≡ tree
+tree_of_kinds-kinds_from tree =
+    ap (λ (ks : List Kind). top (trees_of_kinds ks)) (sym (append-nil (kinds_from 0 0 tree))) ∙ ap top (trees_of_kinds-kinds_from tree 0 0 [])

@@ -1,0 +1,3 @@
+pub mod Preorders
+pub mod Steps
+pub mod Reads

@@ -1,11 +1,11 @@
-//! Batches of calls that were served together.
+//! Batches: the calls that were served together, with their replies.
 ghost use Rattle.std.specs.Prelude.{◌≡◌};
 
 use seq_objects::{Op, Reply};
 use std::marker::Model;
 
 /// A call that was served: the leaf that made it, the worker that ran this leaf, the operation and its reply.
-#[derive(Clone, Copy, Debug, PartialEq, Eq)]
+#[derive(Clone, Copy)]
 pub struct Entry {
     pub leaf: u32,
     pub worker: u32,
@@ -29,7 +29,7 @@ impl Model for Batch {
 }
 
 impl Batch {
-    /// The batch of these entries, in their order. It takes no memory.
+    /// The batch of these entries, in their order. Memory: none.
     pub fn of(entries: Vec<Entry>) -> Batch
         ensures { result ≡ entries.items }
     {

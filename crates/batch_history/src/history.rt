@@ -27,7 +27,7 @@ impl Model for History {
 impl History {
     ghost use Rattle.batch_history.specs.Book.{IsHistory};
 
-    /// The history of no batches. It takes no memory.
+    /// The history of no batches. Memory: none.
     pub fn new(alloc: Global) -> History
         ensures { result ≡ [] }
     {
@@ -44,7 +44,7 @@ impl History {
         self.batches.as_slice()
     }
 
-    /// Puts one more batch behind the others.
+    /// Puts one more batch behind the others. Where memory runs out the history stays as it was.
     pub fn append(&mut self, batch: Batch) -> Result<(), AllocError>
         requires { IsHistory (self.old ++ batch ∷ []) }
         ensures ok { OnOk result (self.new ≡ self.old ++ batch ∷ []) }

@@ -7,12 +7,12 @@
 
 pub mod batch;
 pub mod history;
-pub mod lines;
 pub mod report;
+pub mod report_text;
 pub mod row;
 
 pub use batch::{Batch, Entry};
 pub use history::History;
-pub use lines::text;
 pub use report::Report;
+pub use report_text::text;
 pub use row::{Row, Rows};

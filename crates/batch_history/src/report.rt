@@ -1,9 +1,9 @@
-//! Reports of a run.
+//! The report of a run: its batches, and a row for each of its leaves.
 
 use crate::history::History;
 use crate::row::Rows;
 
-/// What a run with so many workers did. `Lawful` says when it is right for a job.
+/// What a run with `workers` workers did. `Lawful` says when it is right for a job.
 #[derive(Drop)]
 pub struct Report {
     pub workers: u32,

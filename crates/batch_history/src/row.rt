@@ -1,11 +1,11 @@
-//! What each leaf of a run did.
+//! Rows of a report: who ran each leaf of a run, when, and what its value is.
 ghost use Rattle.std.specs.Prelude.{◌≡◌};
 
 use std::marker::Model;
 
-/// What one leaf did: the worker that ran it, the ticks at which it started and ended, and its value. The
-/// ticks of a run are drawn from one counter, which starts at 0.
-#[derive(Clone, Copy, Debug, PartialEq, Eq)]
+/// What one leaf did: the worker that ran it, the ticks at which it started and ended, and its value. A tick is
+/// a draw from one counter of the run, which starts at 0; it is no measure of time.
+#[derive(Clone, Copy)]
 pub struct Row {
     pub leaf: u32,
     pub worker: u32,
@@ -30,7 +30,7 @@ impl Model for Rows {
 }
 
 impl Rows {
-    /// These rows, in their order. It takes no memory.
+    /// These rows, in their order. Memory: none.
     pub fn of(rows: Vec<Row>) -> Rows
         ensures { result ≡ rows.items }
     {

@@ -1,4 +1,4 @@
-//! The text of a report.
+//! The text of a report, line by line: the head, the calls in the order of the batches, and the leaves.
 ghost use Rattle.std.specs.Prelude.{◌≡◌, ◌++◌, ◌+◌, ◌<◌, ◌^◌, length, IfOk, OnOk, string_bytes};
 ghost use Rattle.std.specs.List.{flat_map};
 ghost use Rattle.sp_order.specs.Precedence.{leaf_count};
@@ -12,7 +12,7 @@ use sp_order::Job;
 use std::alloc::{AllocError, Global};
 use std::fmt::Write;
 
-/// How many entries the batches have.
+/// The count of entries in all batches.
 fn count_calls(book: &[Batch]) -> usize
     requires { length (flat book.now) < 2 ^ 64 }
     ensures { result ≡ length (flat book.now) }
@@ -103,7 +103,7 @@ fn push_rows(text: &mut String, rows: &[Row]) -> Result<(), AllocError>
 }
 
 /// The text of a report of the job: a head line, a line for each call in the order of the batches, and a line
-/// for each leaf, each ended by a line feed.
+/// for each leaf, each ended by a line feed. Time and memory: linear in the length of the text.
 pub fn text(alloc: Global, job: &Job, report: &Report) -> Result<Vec<u8>, AllocError>
     requires { length report.now.rows ≡ leaf_count job.now.shape }
     ensures { IfOk result (λ bytes. bytes.items ≡ report_text report.now) }

@@ -6,7 +6,8 @@ use Rattle.std.specs.Str.{bytes_eq}
 use Rattle.std.specs.declared.vec.Vec.{Vec}
 use Rattle.std.specs.declared.string.String.{String}
 use Rattle.std.specs.declared.alloc.Global.{Global}
-use Rattle.bt_io.specs.Memory.{file_named, files_in, bytes_at}
+use Rattle.bt_io.specs.Memory.{file_named, files_in}
+use Rattle.bt_io.specs.Code.Kept.{bytes_at}
 
 -- what a read gives is the front of what was left, and it gives none only at the end
 pub read_front : (file buf : List ℕ) (at count cut : ℕ) → take count buf ≡ take count (drop at file) → count ≡ min (min cut (length buf)) (length (drop at file)) → 0 < cut

@@ -1,5 +1,5 @@
 -- What a reading to the end and a whole writing say of bytes, where these are told.
-use Rattle.std.specs.Prelude.{◌≡◌, ℕ, List, ◌++◌, length, ⊤, Option, None, Some}
+use Rattle.std.specs.Prelude.{◌≡◌, ◌≤◌, ℕ, List, ◌++◌, length, ⊤, Option, None, Some}
 use Rattle.std.specs.Io.KnownBytes.{Consumes, Appends}
 
 -- what is told of the chosen file is what was told under its name
@@ -12,13 +12,13 @@ abbrev pub IsWhole : Option (List ℕ) → List ℕ → Type 0
 IsWhole None bytes = ⊤
 IsWhole (Some told) bytes = bytes ≡ told
 
--- some front of the bytes that were left is gone
-abbrev pub ConsumesSome : Option (List ℕ) → Option (List ℕ) → Type 0
-ConsumesSome old new = (front : List ℕ) × Consumes old new front
-
--- the front of so many bytes is gone
+-- a front of this many bytes is gone
 abbrev pub ConsumesCount : Option (List ℕ) → Option (List ℕ) → ℕ → Type 0
 ConsumesCount old new count = (front : List ℕ) × Consumes old new front × (length front ≡ count)
+
+-- a front of at most this many bytes is gone
+abbrev pub ConsumesAtMost : Option (List ℕ) → Option (List ℕ) → ℕ → Type 0
+ConsumesAtMost old new most = (front : List ℕ) × Consumes old new front × (length front ≤ most)
 
 -- some front of these bytes was taken
 abbrev pub AppendsFront : Option (List ℕ) → Option (List ℕ) → List ℕ → Type 0

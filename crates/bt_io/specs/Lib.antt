@@ -1,4 +1,4 @@
 pub mod Bytes
 pub mod Causes
 pub mod Memory
-pub mod Opened
+pub mod Code

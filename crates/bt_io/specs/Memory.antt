@@ -1,11 +1,11 @@
 -- The shelf and the sink in memory, as contracts see them.
-use Rattle.std.specs.Prelude.{ℕ, ◌-◌, ◌<◌, ◌≤◌, List, [], ◌∷◌, ◌++◌, ◌==◌, length, take, drop, map, slice_get, Option, None, Some, Result, Ok, Err, is_ok, if◌then◌else◌, string_bytes, vec_len, vec_capacity}
-use Rattle.std.specs.Option.{option_map, option_map_or}
+use Rattle.std.specs.Prelude.{ℕ, ◌-◌, List, [], ◌∷◌, ◌++◌, ◌==◌, length, take, drop, map, Option, None, Some, Result, Ok, Err, is_ok, if◌then◌else◌, string_bytes}
+use Rattle.std.specs.Option.{option_map}
 use Rattle.std.specs.Str.{bytes_eq}
 use Rattle.std.specs.declared.vec.Vec.{Vec}
 use Rattle.std.specs.declared.string.String.{String}
 use Rattle.std.specs.declared.alloc.Global.{Global}
-use Rattle.bt_io.specs.Causes.{counted}
+use Rattle.bt_io.specs.Causes.{saturating_succ}
 
 -- a file: its name and its bytes
 pub record File : Type 0 where
@@ -16,14 +16,6 @@ pub record File : Type 0 where
 abbrev pub file_named : List File → List ℕ → Option (List ℕ)
 file_named [] name = None
 file_named (file ∷ files) name = if bytes_eq file.name name then Some file.bytes else file_named files name
-
--- the bytes of the file at that place
-abbrev pub bytes_at : List File → ℕ → List ℕ
-bytes_at files place = option_map_or (λ file. file.bytes) (slice_get files place) []
-
--- the bytes of the chosen file from one place on
-abbrev pub left_of : List File → Option ℕ → ℕ → Option (List ℕ)
-left_of files chosen at = option_map (λ place. drop at (bytes_at files place)) chosen
 
 -- the files that code holds as pairs
 abbrev pub files_in : List (String Global × Vec ℕ Global) → List File
@@ -55,20 +47,14 @@ pub record MemorySink : Type 0 where
   pub faults : ℕ
 
 -- how many bytes a sink takes without a fault: what is left of its room, where no write is told to fail
-abbrev pub sure_of : MemorySink → ℕ
-sure_of sink = if length sink.fails == 0 then sink.room - length sink.taken else 0
+abbrev pub room_left_of : MemorySink → ℕ
+room_left_of sink = if length sink.fails == 0 then sink.room - length sink.taken else 0
 
 -- what a sink has taken after a write
 abbrev pub taken_after : {E : Type 0} → List ℕ → List ℕ → Result ℕ E → List ℕ
 taken_after taken piece (Ok count) = taken ++ take count piece
 taken_after taken piece (Err e) = taken
 
--- the bytes are within a room for which memory is there, and a write may take some
-pub record HasRoom (bytes : Vec ℕ Global) (room cut : ℕ) : Type 0 where
-  pub some : 0 < cut
-  pub within : vec_len bytes ≤ room
-  pub reserved : room ≤ vec_capacity bytes
-
 -- the count of faults after a call
 abbrev pub faults_after : {T E : Type 0} → ℕ → Result T E → ℕ
-faults_after faults result = if is_ok result then faults else counted faults
+faults_after faults result = if is_ok result then faults else saturating_succ faults

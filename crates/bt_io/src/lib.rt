@@ -5,16 +5,14 @@
 //! stands on nothing but std.
 #![tactic(auto)]
 
+mod fault_plan;
 pub mod mem_shelf;
 pub mod mem_sink;
 pub mod pause;
-mod script;
 pub mod shelf;
 pub mod sink;
 pub mod std_shelf;
 pub mod std_sink;
-#[cfg(test)]
-mod tests;
 
 pub use mem_shelf::MemShelf;
 pub use mem_sink::MemSink;
@@ -25,5 +23,5 @@ pub use std_shelf::StdShelf;
 pub use std_sink::StdSink;
 
 /// A choice, a read or a write that failed.
-#[derive(Clone, Copy, Debug, PartialEq, Eq)]
+#[derive(Clone, Copy)]
 pub struct Failed;

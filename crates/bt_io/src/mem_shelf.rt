@@ -1,12 +1,13 @@
-//! A shelf in memory, whose calls fail where they are told to.
+//! A shelf in memory, with a plan of the calls that fail.
 ghost use Rattle.std.specs.Prelude.{◌≡◌, ℕ, ◌+◌, ◌^◌, ◌<◌, ◌↔◌, ◌⊎◌, ◌==◌, [], length, min, take, drop, Some, None, IsTrue, IsOk, IsErr, IsSome, IsNone, IfOk, OnOk, Contains, is_ok, is_some, true, unwrap_or, if◌then◌else◌};
 ghost use Rattle.std.specs.Io.{ReadsAtMost};
 ghost use Rattle.std.specs.Io.KnownBytes.{ReadConsumes};
-ghost use Rattle.bt_io.specs.Causes.{HasCause, counted};
+ghost use Rattle.bt_io.specs.Causes.{HasCause, saturating_succ};
 ghost use Rattle.bt_io.specs.Bytes.{IsTold};
-ghost use Rattle.bt_io.specs.Memory.{file_named, files_in, bytes_at, left_of, left_after, faults_after};
+ghost use Rattle.bt_io.specs.Memory.{file_named, files_in, left_after, faults_after};
+ghost use Rattle.bt_io.specs.Code.Kept.{bytes_at, left_of};
 
-use crate::script::Script;
+use crate::fault_plan::FaultPlan;
 use crate::{Failed, Shelf};
 use std::marker::Model;
 
@@ -17,30 +18,31 @@ use std::marker::Model;
 pub struct MemShelf {
     files: Vec<(String, Vec<u8>)>,
     cut: usize,
-    script: Script,
+    plan: FaultPlan,
     chosen: Option<usize>,
     at: usize,
 }
 
 impl Model for MemShelf {
     ghost use Rattle.std.specs.Prelude.{◌<◌};
-    ghost use Rattle.bt_io.specs.Memory.{MemoryShelf, files_in, left_of};
+    ghost use Rattle.bt_io.specs.Memory.{MemoryShelf, files_in};
+    ghost use Rattle.bt_io.specs.Code.Kept.{left_of};
 
     ghost Value = { MemoryShelf };
 
     ghost view = { λ s. record {
       files = files_in s.files.items;
       cut = s.cut;
-      fails = s.script.fails.items;
-      calls = s.script.calls;
+      fails = s.plan.fails.items;
+      calls = s.plan.calls;
       left = left_of (files_in s.files.items) s.chosen s.at;
-      faults = s.script.faults;
+      faults = s.plan.faults;
     } };
 
     ghost invariant = { λ s. 0 < s.cut };
 }
 
-/// The place of the first file of that name.
+/// The index of the first file of that name.
 fn place_of(files: &[(String, Vec<u8>)], name: &str) -> Option<usize>
     ensures place { left_of (files_in files.now) result 0 ≡ file_named (files_in files.now) name.now }
     ensures found { is_some result ≡ is_some (file_named (files_in files.now) name.now) }
@@ -53,7 +55,7 @@ fn place_of(files: &[(String, Vec<u8>)], name: &str) -> Option<usize>
     None
 }
 
-/// What is left of the file at that place, from the byte `at` on.
+/// The bytes of the file at index `place`, from the byte `at` on.
 fn rest_of(files: &[(String, Vec<u8>)], place: usize, at: usize) -> &[u8]
     ensures rest { result.now ≡ drop at (bytes_at (files_in files.now) place) }
     ensures fits { at + length result.now < 2 ^ 64 }
@@ -93,7 +95,7 @@ impl MemShelf {
         MemShelf {
             files,
             cut,
-            script: Script {
+            plan: FaultPlan {
                 fails,
                 calls: 0,
                 faults: 0,
@@ -130,17 +132,17 @@ impl Shelf for MemShelf {
         ensures fails { IsErr result ↔
             (Contains self.old.fails self.old.calls ⊎ IsNone (file_named self.old.files name.now)) }
         ensures after { self.new ≡ record self.old {
-          calls = counted self.old.calls;
+          calls = saturating_succ self.old.calls;
           left = (if is_ok result then file_named self.old.files name.now else None);
           faults = faults_after self.old.faults result;
         } }
     {
         self.chosen = None;
         self.at = 0;
-        self.script.call()?;
+        self.plan.call()?;
         self.chosen = place_of(self.files.as_slice(), name);
         if self.chosen.is_none() {
-            return Err(self.script.fail());
+            return Err(self.plan.fail());
         }
         Ok(())
     }
@@ -160,12 +162,12 @@ impl Shelf for MemShelf {
         ensures count { IfOk result (λ count.
             count ≡ min (min self.old.cut (length buf.old)) (length (unwrap_or self.old.left []))) }
         ensures after { self.new ≡ record self.old {
-          calls = counted self.old.calls;
+          calls = saturating_succ self.old.calls;
           left = left_after self.old.left result;
           faults = faults_after self.old.faults result;
         } }
     {
-        self.script.call()?;
+        self.plan.call()?;
         let Some(place) = self.chosen else {
             unreachable!();
         };

@@ -1,16 +1,16 @@
-//! A sink in memory, whose writes fail where they are told to.
+//! A sink in memory, with a plan of the writes that fail.
 ghost use Rattle.std.specs.Prelude.{◌≡◌, ℕ, ◌+◌, ◌-◌, ◌<◌, ◌≤◌, ◌↔◌, ◌⊎◌, ◌++◌, ◌==◌, [], length, min, take, Some, IsOk, IsErr, IfOk, Contains, if◌then◌else◌};
 ghost use Rattle.std.specs.Io.{WritesAtMost};
 ghost use Rattle.std.specs.Io.KnownBytes.{WriteAppends};
-ghost use Rattle.bt_io.specs.Causes.{HasCause, counted};
-ghost use Rattle.bt_io.specs.Memory.{sure_of, taken_after, faults_after};
+ghost use Rattle.bt_io.specs.Causes.{HasCause, saturating_succ};
+ghost use Rattle.bt_io.specs.Memory.{room_left_of, taken_after, faults_after};
 
-use crate::script::Script;
+use crate::fault_plan::FaultPlan;
 use crate::{Failed, Sink};
 use std::alloc::{AllocError, Global};
 use std::marker::Model;
 
-/// What takes bytes into memory, with room for so many in all. Contracts see it as a `MemorySink`.
+/// Takes bytes into memory, `room` of them in all. Contracts see it as a `MemorySink`.
 ///
 /// It fails at the writes that it was told to fail, counted from 0, and at a piece that has bytes once its
 /// room is used up.
@@ -19,11 +19,12 @@ pub struct MemSink {
     bytes: Vec<u8>,
     room: usize,
     cut: usize,
-    script: Script,
+    plan: FaultPlan,
 }
 
 impl Model for MemSink {
-    ghost use Rattle.bt_io.specs.Memory.{MemorySink, HasRoom};
+    ghost use Rattle.bt_io.specs.Memory.{MemorySink};
+    ghost use Rattle.bt_io.specs.Code.Kept.{HasRoom};
 
     ghost Value = { MemorySink };
 
@@ -31,9 +32,9 @@ impl Model for MemSink {
       taken = s.bytes.items;
       room = s.room;
       cut = s.cut;
-      fails = s.script.fails.items;
-      calls = s.script.calls;
-      faults = s.script.faults;
+      fails = s.plan.fails.items;
+      calls = s.plan.calls;
+      faults = s.plan.faults;
     } };
 
     ghost invariant = { λ s. HasRoom s.bytes s.room s.cut };
@@ -62,7 +63,7 @@ impl MemSink {
             bytes: Vec::with_capacity(alloc, room)?,
             room,
             cut,
-            script: Script {
+            plan: FaultPlan {
                 fails,
                 calls: 0,
                 faults: 0,
@@ -84,15 +85,15 @@ impl Sink for MemSink {
 
     ghost faults = { λ s. s.faults };
 
-    ghost sure = { sure_of };
+    ghost room_left = { room_left_of };
 
     fn write(&mut self, piece: &[u8]) -> Result<usize, Failed>
         ensures bound { WritesAtMost result piece.now }
         ensures progress { 0 < length piece.now → IfOk result (λ count. 0 < count) }
         ensures bytes { WriteAppends (Some self.old.taken) (Some self.new.taken) result piece.now }
         ensures cause { HasCause self.old.faults self.new.faults result }
-        ensures succeeds { 0 < length piece.now → length piece.now ≤ sure_of self.old → IsOk result }
-        ensures sure { IfOk result (λ count. sure_of self.old ≤ sure_of self.new + count) }
+        ensures succeeds { 0 < length piece.now → length piece.now ≤ room_left_of self.old → IsOk result }
+        ensures room_left { IfOk result (λ count. room_left_of self.old ≤ room_left_of self.new + count) }
 
         // When it fails, how many bytes it takes else, and the whole sink after it.
         ensures fails { IsErr result ↔ (Contains self.old.fails self.old.calls
@@ -101,14 +102,14 @@ impl Sink for MemSink {
             count ≡ min (min self.old.cut (length piece.now)) (self.old.room - length self.old.taken)) }
         ensures after { self.new ≡ record self.old {
           taken = taken_after self.old.taken piece.now result;
-          calls = counted self.old.calls;
+          calls = saturating_succ self.old.calls;
           faults = faults_after self.old.faults result;
         } }
     {
-        self.script.call()?;
+        self.plan.call()?;
         let left = self.room - self.bytes.len();
         if left == 0 && !piece.is_empty() {
-            return Err(self.script.fail());
+            return Err(self.plan.fail());
         }
         let count = self.cut.min(piece.len()).min(left);
         if self.bytes.extend_from_slice(&piece[..count]).is_err() {

@@ -1,7 +1,7 @@
 //! The points at which a run may be held, for tests that steer the workers.
 
 /// Where a worker stands.
-#[derive(Clone, Copy, Debug, PartialEq, Eq)]
+#[derive(Clone, Copy)]
 pub enum Point {
     /// It has drawn the start of this leaf.
     LeafStart(u32),

@@ -3,7 +3,7 @@ ghost use Rattle.std.specs.Prelude.{◌≡◌, ℕ, ◌+◌, ◌^◌, ◌<◌, �
 ghost use Rattle.std.specs.Io.{ReadsAtMost};
 ghost use Rattle.std.specs.Io.KnownBytes.{IsAtEnd, ReadConsumes};
 ghost use Rattle.bt_io.specs.Causes.{HasCause, Rose};
-ghost use Rattle.bt_io.specs.Bytes.{IsTold, IsWhole, ConsumesSome, ConsumesCount};
+ghost use Rattle.bt_io.specs.Bytes.{IsTold, IsWhole, ConsumesCount, ConsumesAtMost};
 
 use crate::Failed;
 use std::alloc::Global;
@@ -57,7 +57,7 @@ pub trait Shelf {
 }
 
 /// Why a file was not read to its end.
-#[derive(Clone, Copy, Debug, PartialEq, Eq)]
+#[derive(Clone, Copy)]
 pub enum ReadErr {
     /// A read failed.
     Failed,
@@ -69,8 +69,8 @@ pub enum ReadErr {
 
 /// All that is left of the chosen file, where that is at most `limit` bytes.
 ///
-/// Each turn takes at least one byte or is the last. At `TooLong` it has taken one byte more than `limit`;
-/// at the other errors it has taken some of the bytes that were left.
+/// Each turn takes at least one byte or is the last. It is too long exactly where more than `limit` bytes were
+/// given, of which the last is the first byte past the limit. Time and memory: linear in `limit` at most.
 pub fn read_up_to<S: Shelf>(alloc: Global, shelf: &mut S, limit: usize) -> Result<Vec<u8>, ReadErr>
     requires ready { IsTrue (S.ready shelf.old) }
     requires limit { limit < 2 ^ 32 }
@@ -78,7 +78,7 @@ pub fn read_up_to<S: Shelf>(alloc: Global, shelf: &mut S, limit: usize) -> Resul
     ensures whole { IfOk result (λ bytes. IsWhole (S.left shelf.old) bytes.items × IsAtEnd (S.left shelf.new)) }
     ensures short { IfOk result (λ bytes. vec_len bytes ≤ limit) }
     ensures too_long { IsErrOf result ReadErr.TooLong → ConsumesCount (S.left shelf.old) (S.left shelf.new) (limit + 1) }
-    ensures front { ConsumesSome (S.left shelf.old) (S.left shelf.new) }
+    ensures within { ¬ IsErrOf result ReadErr.TooLong → ConsumesAtMost (S.left shelf.old) (S.left shelf.new) limit }
 
     // A failed read is answered only where the shelf's count of faults rose.
     ensures later { S.faults shelf.old ≤ S.faults shelf.new }
@@ -98,11 +98,11 @@ pub fn read_up_to<S: Shelf>(alloc: Global, shelf: &mut S, limit: usize) -> Resul
             Err(Failed) => return Err(ReadErr::Failed),
             Ok(0) => return Ok(bytes),
             Ok(count) => {
+                if bytes.len() + count > limit {
+                    return Err(ReadErr::TooLong);
+                }
                 if bytes.extend_from_slice(&buf[..count]).is_err() {
                     return Err(ReadErr::Memory);
-                }
-                if bytes.len() > limit {
-                    return Err(ReadErr::TooLong);
                 }
             }
         }

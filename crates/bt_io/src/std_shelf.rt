@@ -38,7 +38,7 @@ impl<'a, R: Files + Input> StdShelf<'a, R> {
 }
 
 impl<'a, R: Files + Input> Shelf for StdShelf<'a, R> {
-    ghost use Rattle.bt_io.specs.Opened.{left_in};
+    ghost use Rattle.bt_io.specs.Code.Opened.{left_in};
 
     ghost may = { λ _ _. true };
 

@@ -27,7 +27,7 @@ impl<W: Write> Sink for StdSink<W> {
 
     ghost faults = { λ s. s.faults };
 
-    ghost sure = { λ _. 0 };
+    ghost room_left = { λ _. 0 };
 
     fn write(&mut self, piece: &[u8]) -> Result<usize, Failed> {
         match self.inner.write(piece) {

@@ -21,5 +21,5 @@ loop-at-preserved g c =
       within = omega (arith, c.in_ok-at.ensures.bound);
       told = let joined : take (at + count) bytes ≡ take at bytes ++ take count (drop at bytes) = take-add at count bytes in rw joined (Appends-trans _ _ _ _ _ c.loop-at.invariant.told (rw (take_rest bytes at) at c.in_ok-at.ensures.bytes));
       later = omega (arith, c.write.ensures.cause.later);
-      sure = omega (arith, c.in_ok-at.ensures.sure);
+      room_left = omega (arith, c.in_ok-at.ensures.room_left);
     }

@@ -9,7 +9,7 @@ invariant-loop-at g l =
       within : l.at ≤ length l.bytes;
       told : Appends (sink.taken l.fn.sink) (sink.taken l.sink) (take l.at l.bytes);
       later : sink.faults l.fn.sink ≤ sink.faults l.sink;
-      sure : sink.sure l.fn.sink ≤ sink.sure l.sink + l.at;
+      room_left : sink.room_left l.fn.sink ≤ sink.room_left l.sink + l.at;
     }
 
 abbrev pub decreases-loop-at : goal.decreases-loop-at

@@ -1,5 +1,6 @@
 use Rattle.std.proofs.Common.{◌≡◌, length, min, take, drop}
-use Rattle.bt_io.specs.Memory.{files_in, bytes_at}
+use Rattle.bt_io.specs.Memory.{files_in}
+use Rattle.bt_io.specs.Code.Kept.{bytes_at}
 use Rattle.bt_io.proofs.Files.{read_front}
 use Rattle.bt_io.proofs.mem_shelf.MemShelfShelf.read.Goals as goal
 

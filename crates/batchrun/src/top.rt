@@ -58,7 +58,7 @@ fn step<I: Shelf, O: Sink>(
     ensures driven { IfSome result.report (HasDriven (I.held shelf.old file.now) workers (workers_named schedule.now)) }
     ensures cause { HasCause result.status (I.held shelf.old file.now) (Rose (I.faults shelf.old) (I.faults shelf.new)) (Rose (O.faults out.old) (O.faults out.new)) }
     ensures reads { IsTrue (I.never_fails shelf.old) → IsSome (I.held shelf.old file.now) → result.status ≡ Status.ReadFault → ⊥ }
-    ensures writes { FailsPast result.status result.report (O.sure out.old) }
+    ensures writes { FailsPast result.status result.report (O.room_left out.old) }
 {
     let Ok(turns) = schedule_of(alloc, schedule, workers) else {
         return Outcome::stopped(Status::Memory);
@@ -111,7 +111,7 @@ pub fn run_step<I: Shelf, O: Sink, E: Sink>(
     ensures completes { ForSome (command_of (spelled words.now)) (λ c. Completes result.status (I.held shelf.old (file_of c))
         (Rose (I.faults shelf.old) (I.faults shelf.new)) (Rose (O.faults out.old) (O.faults out.new))) }
     ensures assured { ForSome (command_of (spelled words.now)) (λ c. IsAssured result.status (I.held shelf.old (file_of c)) (workers_of c)
-        (I.never_fails shelf.old) (O.sure out.old)) }
+        (I.never_fails shelf.old) (O.room_left out.old)) }
     ensures tells { Tells (fault_line result.status) (E.taken err.old) (E.taken err.new) (Rose (E.faults err.old) (E.faults err.new)) }
 {
     texts_have_one_job_or_fault();
@@ -153,7 +153,7 @@ pub fn batchrun<R: Threads + Wait + Sync, I: Shelf, O: Sink, E: Sink, G: Pause +
     ensures completes { ForSome (command_of (spelled words.now)) (λ c. Completes result.status (I.held shelf.old (file_of c))
         (Rose (I.faults shelf.old) (I.faults shelf.new)) (Rose (O.faults out.old) (O.faults out.new))) }
     ensures assured { ForSome (command_of (spelled words.now)) (λ c. IsAssured result.status (I.held shelf.old (file_of c)) (workers_of c)
-        (I.never_fails shelf.old) (O.sure out.old)) }
+        (I.never_fails shelf.old) (O.room_left out.old)) }
     ensures tells { Tells (fault_line result.status) (E.taken err.old) (E.taken err.new) (Rose (E.faults err.old) (E.faults err.new)) }
 {
     match step_of(words) {

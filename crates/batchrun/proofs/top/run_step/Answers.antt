@@ -18,6 +18,6 @@ pub returns-clause-assured : goal.returns-clause-assured
 returns-clause-assured g c command is =
     let same : step c.in-Some.command.file.now c.in-Some.command.workers (workers_named c.in-Some.command.schedule.now) ≡ command = search rules in
     let laws = c.texts_have_one_job_or_fault.ensures in
-    subst (λ (d : Command). IsAssured c.step-outcome.result.status (g.I.Shelf.held c.args.shelf.now (file_of d)) (workers_of d) (g.I.Shelf.never_fails c.args.shelf.now) (g.O.Sink.sure c.args.out.now)) same
-    (is_assured laws.one_job laws.not_both c.step-outcome.result.status c.step-outcome.result.report (g.I.Shelf.held c.args.shelf.now c.in-Some.command.file.now) c.in-Some.command.workers _ _ _ _ (g.I.Shelf.never_fails c.args.shelf.now) (g.O.Sink.sure c.args.out.now)
+    subst (λ (d : Command). IsAssured c.step-outcome.result.status (g.I.Shelf.held c.args.shelf.now (file_of d)) (workers_of d) (g.I.Shelf.never_fails c.args.shelf.now) (g.O.Sink.room_left c.args.out.now)) same
+    (is_assured laws.one_job laws.not_both c.step-outcome.result.status c.step-outcome.result.report (g.I.Shelf.held c.args.shelf.now c.in-Some.command.file.now) c.in-Some.command.workers _ _ _ _ (g.I.Shelf.never_fails c.args.shelf.now) (g.O.Sink.room_left c.args.out.now)
     c.step-outcome.ensures.cause c.step-outcome.ensures.headline (λ never told held. c.step-outcome.ensures.reads never (search rules)) c.step-outcome.ensures.writes)

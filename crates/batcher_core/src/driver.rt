@@ -8,9 +8,6 @@ ghost use Rattle.batcher_core.specs.Runs.{IsTurn, Drives};
 ghost use Rattle.batcher_core.specs.Code.Core.{job_in, state_in, is_over_in};
 ghost use Rattle.batcher_core.specs.Reports.{IsDrivenFrom};
 
-#[cfg(test)]
-mod tests;
-
 use crate::scheduler::Core;
 use crate::spun::Spun;
 use crate::turn::Turn;

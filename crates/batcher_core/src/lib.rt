@@ -27,6 +27,3 @@ pub use state::progress::Progress;
 pub use state::status::{CallState, Receipt, Status};
 pub use state::task::Task;
 pub use turn::Turn;
-
-#[cfg(test)]
-mod tests;

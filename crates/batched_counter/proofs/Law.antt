@@ -7,15 +7,15 @@ use Rattle.seq_objects.specs.declared.call.Call.{Call}
 use Rattle.seq_objects.specs.declared.op.Op.{Op}
 use Rattle.seq_objects.specs.declared.op.Op.TheVariants.{CounterAdd, Push, Pop, TreeInsert, TreeRemove, TreeFind, TreeNext, PqInsert, PqTake}
 use Rattle.seq_objects.specs.declared.reply.Reply.TheVariants.{Number}
-use Rattle.seq_objects.specs.Batches.{IsOfCounter, AreOf}
+use Rattle.seq_objects.specs.Batches.{object_of, Counter, AreOf}
 use Rattle.seq_objects.specs.Serial.{after_all, replies_to_all, of_counter}
-use Rattle.seq_objects.specs.Pieces.{AllMeet, Opening}
+use Rattle.seq_objects.specs.Pieces.{AllMeet, BatchContext}
 use Rattle.batched_counter.specs.declared.chunk.Chunk.{Chunk}
 use Rattle.batched_counter.specs.declared.chunk.Sums.{Sums}
 use Rattle.batched_counter.specs.declared.counter.Before.{Before}
 use Rattle.batched_counter.specs.Sums.{total, sums_from}
 use Rattle.batched_counter.specs.Adds.{addends}
-use Rattle.batched_counter.specs.Pieces.{addends_in, IsChunks, Meets, Remembers}
+use Rattle.batched_counter.specs.Pieces.{addends_in, IsChunks, Meets, IsContextOf}
 use Rattle.batched_counter.specs.Joined.{CanJoin, joined, number_replies, number_after}
 
 -- the lists, one after another
@@ -67,43 +67,43 @@ end_is base (chunk ∷ ins) (out ∷ outs) m =
     rw m.0.total (omega (arith, end_is (base + total chunk.addends.items) ins outs m.1, total_append chunk.addends.items (flat (addends_in ins))))
 
 -- additions, one after another
-serial_step : (n : ℕ) (op : Op) (worker leaf : ℕ) (calls : List Call) → IsOfCounter op → ((m : ℕ) → replies_to_all (of_counter m) calls ≡ number_replies 0 (sums_from m (addends calls))) → replies_to_all (of_counter n) (record { worker = worker; leaf = leaf; op = op } ∷ calls) ≡ number_replies 0 (sums_from n (addends (record { worker = worker; leaf = leaf; op = op } ∷ calls)))
+serial_step : (n : ℕ) (op : Op) (worker leaf : ℕ) (calls : List Call) → object_of op ≡ Counter → ((m : ℕ) → replies_to_all (of_counter m) calls ≡ number_replies 0 (sums_from m (addends calls))) → replies_to_all (of_counter n) (record { worker = worker; leaf = leaf; op = op } ∷ calls) ≡ number_replies 0 (sums_from n (addends (record { worker = worker; leaf = leaf; op = op } ∷ calls)))
 serial_step n (CounterAdd a) worker leaf calls is ih = let e : n + a ≡ 0 + (n + a) = omega arith in rw (ih (n + a)) (ap (λ k. Number k ∷ number_replies 0 (sums_from (n + a) (addends calls))) e)
-serial_step n (Push a) worker leaf calls is ih = absurd is
-serial_step n Pop worker leaf calls is ih = absurd is
-serial_step n (TreeInsert a) worker leaf calls is ih = absurd is
-serial_step n (TreeRemove a) worker leaf calls is ih = absurd is
-serial_step n (TreeFind a) worker leaf calls is ih = absurd is
-serial_step n (TreeNext a) worker leaf calls is ih = absurd is
-serial_step n (PqInsert a) worker leaf calls is ih = absurd is
-serial_step n PqTake worker leaf calls is ih = absurd is
+serial_step n (Push a) worker leaf calls is ih = absurd cc
+serial_step n Pop worker leaf calls is ih = absurd cc
+serial_step n (TreeInsert a) worker leaf calls is ih = absurd cc
+serial_step n (TreeRemove a) worker leaf calls is ih = absurd cc
+serial_step n (TreeFind a) worker leaf calls is ih = absurd cc
+serial_step n (TreeNext a) worker leaf calls is ih = absurd cc
+serial_step n (PqInsert a) worker leaf calls is ih = absurd cc
+serial_step n PqTake worker leaf calls is ih = absurd cc
 
-pub serial_replies : (n : ℕ) (calls : List Call) → AreOf IsOfCounter calls → replies_to_all (of_counter n) calls ≡ number_replies 0 (sums_from n (addends calls))
+pub serial_replies : (n : ℕ) (calls : List Call) → AreOf Counter calls → replies_to_all (of_counter n) calls ≡ number_replies 0 (sums_from n (addends calls))
 serial_replies n [] all = refl
 serial_replies n (call ∷ calls) all = serial_step n call.op call.worker call.leaf calls all.0 (λ m. serial_replies m calls all.1)
 
-after_step : (n : ℕ) (op : Op) (worker leaf : ℕ) (calls : List Call) → IsOfCounter op → ((m : ℕ) → after_all (of_counter m) calls ≡ of_counter (m + total (addends calls))) → after_all (of_counter n) (record { worker = worker; leaf = leaf; op = op } ∷ calls) ≡ of_counter (n + total (addends (record { worker = worker; leaf = leaf; op = op } ∷ calls)))
+after_step : (n : ℕ) (op : Op) (worker leaf : ℕ) (calls : List Call) → object_of op ≡ Counter → ((m : ℕ) → after_all (of_counter m) calls ≡ of_counter (m + total (addends calls))) → after_all (of_counter n) (record { worker = worker; leaf = leaf; op = op } ∷ calls) ≡ of_counter (n + total (addends (record { worker = worker; leaf = leaf; op = op } ∷ calls)))
 after_step n (CounterAdd a) worker leaf calls is ih = let e : n + a + total (addends calls) ≡ n + (a + total (addends calls)) = omega arith in rw (ih (n + a)) (ap of_counter e)
-after_step n (Push a) worker leaf calls is ih = absurd is
-after_step n Pop worker leaf calls is ih = absurd is
-after_step n (TreeInsert a) worker leaf calls is ih = absurd is
-after_step n (TreeRemove a) worker leaf calls is ih = absurd is
-after_step n (TreeFind a) worker leaf calls is ih = absurd is
-after_step n (TreeNext a) worker leaf calls is ih = absurd is
-after_step n (PqInsert a) worker leaf calls is ih = absurd is
-after_step n PqTake worker leaf calls is ih = absurd is
+after_step n (Push a) worker leaf calls is ih = absurd cc
+after_step n Pop worker leaf calls is ih = absurd cc
+after_step n (TreeInsert a) worker leaf calls is ih = absurd cc
+after_step n (TreeRemove a) worker leaf calls is ih = absurd cc
+after_step n (TreeFind a) worker leaf calls is ih = absurd cc
+after_step n (TreeNext a) worker leaf calls is ih = absurd cc
+after_step n (PqInsert a) worker leaf calls is ih = absurd cc
+after_step n PqTake worker leaf calls is ih = absurd cc
 
-pub serial_after : (n : ℕ) (calls : List Call) → AreOf IsOfCounter calls → after_all (of_counter n) calls ≡ of_counter (n + total (addends calls))
+pub serial_after : (n : ℕ) (calls : List Call) → AreOf Counter calls → after_all (of_counter n) calls ≡ of_counter (n + total (addends calls))
 serial_after n [] all = let e : n ≡ n + 0 = omega arith in ap of_counter e
 serial_after n (call ∷ calls) all = after_step n call.op call.worker call.leaf calls all.0 (λ m. serial_after m calls all.1)
 
 -- the law, for the replies and for the number
-pub law_replies : (rest : Before) (o : Opening ℕ Chunk) (outs : List Sums) → Remembers rest o → AllMeet Meets o.ins outs → joined rest.number outs ≡ replies_to_all (of_counter o.before) o.calls
+pub law_replies : (rest : Before) (o : BatchContext ℕ Chunk) (outs : List Sums) → IsContextOf rest o → AllMeet Meets o.ins outs → joined rest.number outs ≡ replies_to_all (of_counter o.before) o.calls
 law_replies rest o outs r m =
     let f : flat (addends_in o.ins) ≡ addends o.calls = chunks_flat _ _ _ r.cut in
     rw (r.number, serial_replies rest.number o.calls r.may.adds, joined_is rest.number o.ins outs m, f)
 
-pub law_content : (rest : Before) (o : Opening ℕ Chunk) (outs : List Sums) → Remembers rest o → AllMeet Meets o.ins outs → of_counter (number_after rest.number outs) ≡ after_all (of_counter o.before) o.calls
+pub law_content : (rest : Before) (o : BatchContext ℕ Chunk) (outs : List Sums) → IsContextOf rest o → AllMeet Meets o.ins outs → of_counter (number_after rest.number outs) ≡ after_all (of_counter o.before) o.calls
 law_content rest o outs r m =
     let f : flat (addends_in o.ins) ≡ addends o.calls = chunks_flat _ _ _ r.cut in
     rw (r.number, serial_after rest.number o.calls r.may.adds, end_is rest.number o.ins outs m, f)
@@ -121,7 +121,7 @@ bounded_all base (chunk ∷ ins) (out ∷ outs) m h =
     let t = total_append chunk.addends.items (flat (addends_in ins)) in
     rw (m.0.prefixes, m.0.total) (sums_bounded base 0 (2 ^ 64) chunk.addends.items (omega arith), omega arith, bounded_all (base + total chunk.addends.items) ins outs m.1 (omega arith))
 
-pub bounded : (rest : Before) (o : Opening ℕ Chunk) (outs : List Sums) → Remembers rest o → AllMeet Meets o.ins outs → CanJoin rest.number outs
+pub bounded : (rest : Before) (o : BatchContext ℕ Chunk) (outs : List Sums) → IsContextOf rest o → AllMeet Meets o.ins outs → CanJoin rest.number outs
 bounded rest o outs r m =
     let f : flat (addends_in o.ins) ≡ addends o.calls = chunks_flat _ _ _ r.cut in
     let fits = rw r.number at r.may.fits in

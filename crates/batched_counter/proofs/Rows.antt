@@ -4,7 +4,7 @@ use Rattle.std.specs.List.{AllByRecursion}
 use Rattle.seq_objects.specs.declared.op.Op.TheVariants.{CounterAdd}
 use Rattle.seq_objects.specs.declared.call.Call.{Call}
 use Rattle.seq_objects.specs.BatchOrder.{ComesFirst, class_of, key_of}
-use Rattle.seq_objects.specs.Batches.{AreOneBatch, AreInBatchOrder, AreOf, IsOfCounter}
+use Rattle.seq_objects.specs.Batches.{AreOneBatch, AreInBatchOrder, AreOf, object_of, Counter}
 use Rattle.seq_objects.specs.Pairs.{EachPair, AreDistinct}
 use Rattle.batched_counter.specs.Adds.{addends}
 use Rattle.batched_counter.specs.Sums.{total}
@@ -19,7 +19,7 @@ pair_more R (x ∷ xs) y pairs each = (all_more (λ z. R x z) xs y pairs.0 each.
 
 -- what is known of each call: it adds, and its worker is below the number
 pub record IsBelow (n : ℕ) (call : Call) : Type 0 where
-  pub adds : IsOfCounter call.op
+  pub adds : object_of call.op ≡ Counter
   pub class : class_of call.op ≡ 0
   pub key : key_of call.op ≡ 0
   pub worker : call.worker < n
@@ -63,7 +63,7 @@ pub row_more : (calls : List Call) (n a : ℕ) → IsRow calls n → a < 2 ^ 32 
 row_more calls n a row less = record {
   order = pair_more (λ first second. ComesFirst first.op first.worker second.op second.worker) calls (add n a) row.order (first_of_all calls n a row.each);
   workers = rw (workers_more calls (add n a)) (pair_more (λ m k. m ≢ k) (map (λ c. c.worker) calls) n row.workers (other_than_all calls n row.each));
-  each = all_more (IsBelow (n + 1)) calls (add n a) (each_below calls n row.each) (record { adds = tt; class = refl; key = refl; worker = omega arith });
+  each = all_more (IsBelow (n + 1)) calls (add n a) (each_below calls n row.each) (record { adds = refl; class = refl; key = refl; worker = omega arith });
   small = rw (total_more calls n a) (omega (arith, row.small, less));
   long = rw (length_more calls (add n a)) (omega (arith, row.long));
 }
@@ -72,7 +72,7 @@ below_all : (calls : List Call) (n : ℕ) → n ≤ 32 → AllByRecursion (IsBel
 below_all [] n few each = tt
 below_all (call ∷ calls) n few each = (omega (arith, few, each.0.worker), below_all calls n few each.1)
 
-pub row_adds : (calls : List Call) (n : ℕ) → AllByRecursion (IsBelow n) calls → AreOf IsOfCounter calls
+pub row_adds : (calls : List Call) (n : ℕ) → AllByRecursion (IsBelow n) calls → AreOf Counter calls
 row_adds [] n each = tt
 row_adds (call ∷ calls) n each = (each.0.adds, row_adds calls n each.1)
 

@@ -4,7 +4,7 @@ use Rattle.seq_objects.specs.declared.op.Op.{Op}
 use Rattle.seq_objects.specs.declared.op.Op.TheVariants.{CounterAdd, Push, Pop, TreeInsert, TreeRemove, TreeFind, TreeNext, PqInsert, PqTake}
 use Rattle.seq_objects.specs.declared.call.Call.{Call}
 use Rattle.seq_objects.specs.Objects.{Objects}
-use Rattle.seq_objects.specs.Batches.{AreOf, IsOfCounter}
+use Rattle.seq_objects.specs.Batches.{AreOf, Counter}
 use Rattle.batched_counter.specs.Sums.{total}
 
 -- what an operation adds to the counter
@@ -25,5 +25,5 @@ addends calls = map (λ call. addend_of call.op) calls
 
 -- all calls are additions, and the number stays below 2^64
 pub record MayServe (objects : Objects) (calls : List Call) : Type 0 where
-  pub adds : AreOf IsOfCounter calls
+  pub adds : AreOf Counter calls
   pub fits : objects.counter + total (addends calls) < 2 ^ 64

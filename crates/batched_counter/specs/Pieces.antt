@@ -3,7 +3,7 @@ use Rattle.std.specs.Prelude.{◌≡◌, ℕ, ◌+◌, ◌<◌, ◌/◌, List, [
 use Rattle.seq_objects.specs.declared.call.Call.{Call}
 use Rattle.seq_objects.specs.Objects.{Objects}
 use Rattle.seq_objects.specs.Serial.{of_counter}
-use Rattle.seq_objects.specs.Pieces.{Opening}
+use Rattle.seq_objects.specs.Pieces.{BatchContext}
 use Rattle.batched_counter.specs.declared.chunk.Chunk.{Chunk}
 use Rattle.batched_counter.specs.declared.chunk.Sums.{Sums}
 use Rattle.batched_counter.specs.declared.counter.Before.{Before}
@@ -29,7 +29,7 @@ pub record Meets (chunk : Chunk) (out : Sums) : Type 0 where
   pub total : out.total ≡ total chunk.addends.items
 
 -- what is kept is the number before the batch, which could be served and was cut so
-pub record Remembers (rest : Before) (o : Opening ℕ Chunk) : Type 0 where
+pub record IsContextOf (rest : Before) (o : BatchContext ℕ Chunk) : Type 0 where
   pub number : o.before ≡ rest.number
   pub may : MayServe (of_counter o.before) o.calls
   pub cut : Cut (of_counter o.before) o.calls o.ins

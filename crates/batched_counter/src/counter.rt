@@ -1,10 +1,10 @@
 //! The counter.
 ghost use Rattle.std.specs.Prelude.{◌≡◌, ℕ, IfOk, IsOk};
 ghost use Rattle.seq_objects.specs.Serial.{replies_to_all, after_all, of_counter};
-ghost use Rattle.seq_objects.specs.Pieces.{AllMeet, Opening};
+ghost use Rattle.seq_objects.specs.Pieces.{AllMeet, BatchContext};
 ghost use Rattle.batched_counter.specs.declared.chunk.Chunk.{Chunk as ChunkOf};
 ghost use Rattle.batched_counter.specs.Adds.{MayServe};
-ghost use Rattle.batched_counter.specs.Pieces.{Meets, Cut, Remembers};
+ghost use Rattle.batched_counter.specs.Pieces.{Meets, Cut, IsContextOf};
 
 use crate::chunk::{Chunk, Sums};
 use crate::sums::{chunks_of, join, sums_of};
@@ -61,7 +61,7 @@ impl Batched for Counter {
 
     ghost meets = { Meets };
 
-    ghost remembers = { Remembers };
+    ghost is_context_of = { IsContextOf };
 
     fn begin(self, alloc: Global, calls: &[Call]) -> Result<(Before, Vec<Chunk>), AllocError> {
         let chunks = chunks_of(alloc, calls)?;
@@ -80,9 +80,9 @@ impl Batched for Counter {
         rest: Before,
         outs: Vec<Sums>,
     ) -> Result<(Counter, Vec<Reply>), AllocError>
-        requires { (o : Opening ℕ ChunkOf) × Remembers rest o × AllMeet Meets o.ins outs.items }
-        ensures replies { IfOk result (λ p. (o : Opening ℕ ChunkOf) → Remembers rest o → AllMeet Meets o.ins outs.items → p.1.items ≡ replies_to_all (of_counter o.before) o.calls) }
-        ensures content { IfOk result (λ p. (o : Opening ℕ ChunkOf) → Remembers rest o → AllMeet Meets o.ins outs.items → of_counter p.0 ≡ after_all (of_counter o.before) o.calls) }
+        requires { (o : BatchContext ℕ ChunkOf) × IsContextOf rest o × AllMeet Meets o.ins outs.items }
+        ensures replies { IfOk result (λ p. (o : BatchContext ℕ ChunkOf) → IsContextOf rest o → AllMeet Meets o.ins outs.items → p.1.items ≡ replies_to_all (of_counter o.before) o.calls) }
+        ensures content { IfOk result (λ p. (o : BatchContext ℕ ChunkOf) → IsContextOf rest o → AllMeet Meets o.ins outs.items → of_counter p.0 ≡ after_all (of_counter o.before) o.calls) }
     {
         let (number, replies) = join(alloc, rest.number, &outs)?;
         Ok((Counter { number }, replies))

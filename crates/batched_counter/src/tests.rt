@@ -1,6 +1,6 @@
 //! Batches of additions, side by side with one thread.
 ghost use Rattle.std.specs.Prelude.{◌≡◌, ◌<◌, ◌≤◌, ◌*◌, ◌+◌, ◌^◌, length, IfOk};
-ghost use Rattle.seq_objects.specs.Batches.{AreOneBatch, AreOf, IsOfCounter};
+ghost use Rattle.seq_objects.specs.Batches.{AreOneBatch, AreOf, Counter};
 ghost use Rattle.batched_counter.specs.Adds.{addends};
 ghost use Rattle.batched_counter.specs.Sums.{total};
 
@@ -14,7 +14,7 @@ fn calls_of(alloc: Global, numbers: &[u32]) -> Result<Vec<Call>, AllocError>
     requires some { 0 < length numbers.now }
     requires few { length numbers.now ≤ 32 }
     ensures batch { IfOk result (λ v. AreOneBatch v.items) }
-    ensures adds { IfOk result (λ v. AreOf IsOfCounter v.items) }
+    ensures adds { IfOk result (λ v. AreOf Counter v.items) }
     ensures small { IfOk result (λ v. total (addends v.items) ≤ 2 ^ 37) }
 {
     let mut calls = Vec::new(alloc);

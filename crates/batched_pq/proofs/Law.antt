@@ -2,7 +2,7 @@
 -- many items as there are takes.
 use Rattle.std.proofs.Common.{◌≡◌, ℕ, ◌+◌, List, [], ◌∷◌, ◌++◌, length, refl, ap, sym, subst, arith}
 use Rattle.seq_objects.specs.Orders.{Ascends, copies}
-use Rattle.seq_objects.specs.Pieces.{AllMeet, Opening}
+use Rattle.seq_objects.specs.Pieces.{AllMeet, BatchContext}
 use Rattle.seq_objects.specs.Serial.{of_bag, after_all, replies_to_all}
 use Rattle.batched_pq.specs.declared.share.Share.{Share}
 use Rattle.batched_pq.specs.declared.share.Counts.{Counts}
@@ -10,7 +10,7 @@ use Rattle.batched_pq.specs.Bags.{with_items}
 use Rattle.batched_pq.specs.Shards.{Parts, all_of, items_of, bag_of, CanGive, AllCanGive}
 use Rattle.batched_pq.specs.Calls.{inserts_of, takes_of}
 use Rattle.batched_pq.specs.Choice.{take_replies, after_takes, insert_replies}
-use Rattle.batched_pq.specs.Pieces.{AreShares, shards_in, Meets, Remembers}
+use Rattle.batched_pq.specs.Pieces.{AreShares, shards_in, Meets, IsContextOf}
 use Rattle.seq_objects.proofs.Bags.{same_bag}
 use Rattle.batched_pq.proofs.Bags.{copies_append, copies_in_order, copies_with_items, ascends_in_order, ascends_with_items}
 use Rattle.batched_pq.proofs.Dealing.{inserts_in, copies_dealt, shares_count}
@@ -30,7 +30,7 @@ able_met shard inserts takes (share ∷ ins) [] dealt met = absurd met
 able_met shard inserts takes (share ∷ ins) (out ∷ outs) dealt met =
     (record { ascends = met.0.ascends; least = met.0.least; enough = rw dealt.1 at met.0.enough }, able_met (shard + 1) inserts takes ins outs dealt.2 met.1)
 
-pub able : (rest : Counts) (o : Opening (List ℕ) Share) (outs : List Parts) → Remembers rest o → AllMeet Meets o.ins outs → AllCanGive rest.takes outs
+pub able : (rest : Counts) (o : BatchContext (List ℕ) Share) (outs : List Parts) → IsContextOf rest o → AllMeet Meets o.ins outs → AllCanGive rest.takes outs
 able rest o outs kept met = rw kept.takes (able_met 0 (inserts_of o.calls) (takes_of o.calls) o.ins outs kept.cut.shares met)
 
 same_length : (ins : List Share) (outs : List Parts) → AllMeet Meets ins outs → length outs ≡ length ins
@@ -39,21 +39,21 @@ same_length [] (out ∷ outs) met = absurd met
 same_length (share ∷ ins) [] met = absurd met
 same_length (share ∷ ins) (out ∷ outs) met = omega (arith, same_length ins outs met.1)
 
-pub eight : (rest : Counts) (o : Opening (List ℕ) Share) (outs : List Parts) → Remembers rest o → AllMeet Meets o.ins outs → length outs ≡ 8
+pub eight : (rest : Counts) (o : BatchContext (List ℕ) Share) (outs : List Parts) → IsContextOf rest o → AllMeet Meets o.ins outs → length outs ≡ 8
 eight rest o outs kept met = omega (arith, same_length o.ins outs met, shares_count 0 (inserts_of o.calls) (takes_of o.calls) o.ins kept.cut.shares)
 
 -- the shards after the pieces are the bag with all inserts
-pub whole : (rest : Counts) (o : Opening (List ℕ) Share) (outs : List Parts) → Remembers rest o → AllMeet Meets o.ins outs → bag_of outs ≡ with_items (inserts_of o.calls) o.before
+pub whole : (rest : Counts) (o : BatchContext (List ℕ) Share) (outs : List Parts) → IsContextOf rest o → AllMeet Meets o.ins outs → bag_of outs ≡ with_items (inserts_of o.calls) o.before
 whole rest o outs kept met =
     same_bag (bag_of outs) (with_items (inserts_of o.calls) o.before) (ascends_in_order (items_of outs))
     (ascends_with_items (inserts_of o.calls) o.before (subst (λ (bag : List ℕ). Ascends bag) kept.cut.bag (ascends_in_order (items_of (shards_in o.ins)))))
     (λ n. omega (arith, copies_in_order n (items_of outs), copies_met n o.ins outs met, copies_dealt n (inserts_of o.calls) (takes_of o.calls) o.ins kept.cut.shares, copies_with_items n (inserts_of o.calls) o.before, copies_in_order n (items_of (shards_in o.ins)), ap (λ (bag : List ℕ). copies n bag) kept.cut.bag))
 
-pub law_replies : (rest : Counts) (o : Opening (List ℕ) Share) (outs : List Parts) → Remembers rest o → AllMeet Meets o.ins outs → insert_replies rest.inserts ++ take_replies rest.takes (bag_of outs) ≡ replies_to_all (of_bag o.before) o.calls
+pub law_replies : (rest : Counts) (o : BatchContext (List ℕ) Share) (outs : List Parts) → IsContextOf rest o → AllMeet Meets o.ins outs → insert_replies rest.inserts ++ take_replies rest.takes (bag_of outs) ≡ replies_to_all (of_bag o.before) o.calls
 law_replies rest o outs kept met =
     rw (kept.inserts, kept.takes, whole rest o outs kept met) (sym (serial_replies o.before o.calls kept.may kept.batch.order))
 
-pub law_content : (rest : Counts) (o : Opening (List ℕ) Share) (outs : List Parts) → Remembers rest o → AllMeet Meets o.ins outs → of_bag (after_takes rest.takes (bag_of outs)) ≡ after_all (of_bag o.before) o.calls
+pub law_content : (rest : Counts) (o : BatchContext (List ℕ) Share) (outs : List Parts) → IsContextOf rest o → AllMeet Meets o.ins outs → of_bag (after_takes rest.takes (bag_of outs)) ≡ after_all (of_bag o.before) o.calls
 law_content rest o outs kept met =
     rw (kept.takes, whole rest o outs kept met) (sym (serial_after o.before o.calls kept.may kept.batch.order))
 

@@ -6,7 +6,7 @@ use Rattle.std.proofs.lemmas.Bool.Decides.{nat_tests}
 use Rattle.seq_objects.specs.declared.op.Op.{Op}
 use Rattle.seq_objects.specs.declared.call.Call.{Call}
 use Rattle.seq_objects.specs.BatchOrder.{ComesFirst, class_of, key_of}
-use Rattle.seq_objects.specs.Batches.{AreOneBatch, AreInBatchOrder, AreOf, IsOfQueue}
+use Rattle.seq_objects.specs.Batches.{AreOneBatch, AreInBatchOrder, AreOf, object_of, Queue}
 use Rattle.seq_objects.specs.Pairs.{EachPair, AreDistinct}
 use Rattle.batched_pq.proofs.Choosing.{all_push}
 
@@ -16,7 +16,7 @@ pair_push R (x ∷ xs) y pairs each = (all_push (λ z. R x z) xs y pairs.0 each.
 
 -- what is known of each call: it is of the queue, its class is no higher, and its worker is below the number
 pub record IsBelow (highest n : ℕ) (call : Call) : Type 0 where
-  pub queue : IsOfQueue call.op
+  pub queue : object_of call.op ≡ Queue
   pub class : class_of call.op ≤ highest
   pub key : key_of call.op ≡ 0
   pub worker : call.worker < n
@@ -62,7 +62,7 @@ pub no_row : IsRow 5 0 []
 no_row = record { order = tt; workers = tt; each = tt; long = refl }
 
 -- one more call, of the next worker
-pub row_push : (class n : ℕ) (op : Op) (calls : List Call) → IsOfQueue op → class_of op ≡ class → key_of op ≡ 0 → IsRow class n calls → IsRow class (n + 1) (calls ++ record { worker = n; leaf = 0; op = op } ∷ [])
+pub row_push : (class n : ℕ) (op : Op) (calls : List Call) → object_of op ≡ Queue → class_of op ≡ class → key_of op ≡ 0 → IsRow class n calls → IsRow class (n + 1) (calls ++ record { worker = n; leaf = 0; op = op } ∷ [])
 row_push class n op calls queue is key row = record {
   order = pair_push (λ first second. ComesFirst first.op first.worker second.op second.worker) calls (next n op) row.order (all_first class n op calls is key row.each);
   workers = rw (workers_push calls (next n op)) (pair_push (λ m k. m ≢ k) (map (λ c. c.worker) calls) n row.workers (all_others class n calls row.each));
@@ -78,11 +78,11 @@ below_all : (class n : ℕ) (calls : List Call) → n ≤ 32 → AllByRecursion 
 below_all class n [] few each = tt
 below_all class n (call ∷ calls) few each = (omega (arith, few, each.0.worker), below_all class n calls few each.1)
 
-all_queue : (class n : ℕ) (calls : List Call) → AllByRecursion (IsBelow class n) calls → AreOf IsOfQueue calls
+all_queue : (class n : ℕ) (calls : List Call) → AllByRecursion (IsBelow class n) calls → AreOf Queue calls
 all_queue class n [] each = tt
 all_queue class n (call ∷ calls) each = (each.0.queue, all_queue class n calls each.1)
 
-pub row_queue : (class n : ℕ) (calls : List Call) → IsRow class n calls → AreOf IsOfQueue calls
+pub row_queue : (class n : ℕ) (calls : List Call) → IsRow class n calls → AreOf Queue calls
 row_queue class n calls row = all_queue class n calls row.each
 
 pub row_batch : (class n : ℕ) (calls : List Call) → 0 < n → n ≤ 32 → IsRow class n calls → AreOneBatch calls

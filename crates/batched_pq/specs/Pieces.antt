@@ -4,8 +4,8 @@ use Rattle.seq_objects.specs.declared.call.Call.{Call}
 use Rattle.seq_objects.specs.Objects.{Objects}
 use Rattle.seq_objects.specs.Orders.{Ascends, copies}
 use Rattle.seq_objects.specs.Serial.{of_bag}
-use Rattle.seq_objects.specs.Batches.{AreOneBatch, AreOf, IsOfQueue}
-use Rattle.seq_objects.specs.Pieces.{Opening}
+use Rattle.seq_objects.specs.Batches.{AreOneBatch, AreOf, Queue}
+use Rattle.seq_objects.specs.Pieces.{BatchContext}
 use Rattle.batched_pq.specs.declared.share.Share.{Share}
 use Rattle.batched_pq.specs.declared.share.Counts.{Counts}
 use Rattle.batched_pq.specs.Shards.{Parts, all_of, bag_of, NoneExceeds}
@@ -13,7 +13,7 @@ use Rattle.batched_pq.specs.Calls.{inserts_of, takes_of, inserts_for}
 
 -- all calls are of the queue
 abbrev pub MayServe : Objects → List Call → Type 0
-MayServe objects calls = AreOf IsOfQueue calls
+MayServe objects calls = AreOf Queue calls
 
 -- the shards in the pieces
 abbrev pub shards_in : List Share → List Parts
@@ -39,7 +39,7 @@ pub record Meets (share : Share) (out : Parts) : Type 0 where
   pub enough : (share.takes ≤ length out.front) ⊎ (out.rest ≡ [])
 
 -- what is kept are the numbers of inserts and of takes of the batch, which was cut so
-pub record Remembers (rest : Counts) (o : Opening (List ℕ) Share) : Type 0 where
+pub record IsContextOf (rest : Counts) (o : BatchContext (List ℕ) Share) : Type 0 where
   pub batch : AreOneBatch o.calls
   pub may : MayServe (of_bag o.before) o.calls
   pub inserts : rest.inserts ≡ length (inserts_of o.calls)

@@ -1,9 +1,9 @@
 //! The queue.
 ghost use Rattle.std.specs.Prelude.{◌≡◌, ℕ, List, [], IfOk};
 ghost use Rattle.seq_objects.specs.Serial.{replies_to_all, after_all, of_bag};
-ghost use Rattle.seq_objects.specs.Pieces.{AllMeet, Opening};
+ghost use Rattle.seq_objects.specs.Pieces.{AllMeet, BatchContext};
 ghost use Rattle.batched_pq.specs.declared.share.Share.{Share as ShareOf};
-ghost use Rattle.batched_pq.specs.Pieces.{MayServe, Cut, Meets, Remembers};
+ghost use Rattle.batched_pq.specs.Pieces.{MayServe, Cut, Meets, IsContextOf};
 
 use crate::choice::replies_of;
 use crate::cut::{inserts_of, shares_of, takes_of};
@@ -63,7 +63,7 @@ impl Batched for Queue {
 
     ghost meets = { Meets };
 
-    ghost remembers = { Remembers };
+    ghost is_context_of = { IsContextOf };
 
     fn begin(self, alloc: Global, calls: &[Call]) -> Result<(Counts, Vec<Share>), AllocError> {
         let Queue { shards } = self;
@@ -88,9 +88,9 @@ impl Batched for Queue {
     }
 
     fn end(alloc: Global, rest: Counts, outs: Vec<Shard>) -> Result<(Queue, Vec<Reply>), AllocError>
-        requires { (o : Opening (List ℕ) ShareOf) × Remembers rest o × AllMeet Meets o.ins outs.items }
-        ensures replies { IfOk result (λ p. (o : Opening (List ℕ) ShareOf) → Remembers rest o → AllMeet Meets o.ins outs.items → p.1.items ≡ replies_to_all (of_bag o.before) o.calls) }
-        ensures content { IfOk result (λ p. (o : Opening (List ℕ) ShareOf) → Remembers rest o → AllMeet Meets o.ins outs.items → of_bag p.0 ≡ after_all (of_bag o.before) o.calls) }
+        requires { (o : BatchContext (List ℕ) ShareOf) × IsContextOf rest o × AllMeet Meets o.ins outs.items }
+        ensures replies { IfOk result (λ p. (o : BatchContext (List ℕ) ShareOf) → IsContextOf rest o → AllMeet Meets o.ins outs.items → p.1.items ≡ replies_to_all (of_bag o.before) o.calls) }
+        ensures content { IfOk result (λ p. (o : BatchContext (List ℕ) ShareOf) → IsContextOf rest o → AllMeet Meets o.ins outs.items → of_bag p.0 ≡ after_all (of_bag o.before) o.calls) }
     {
         let mut shards = outs;
         let replies = replies_of(alloc, rest.inserts, rest.takes, &mut shards)?;

@@ -1,6 +1,6 @@
 //! Batches of inserts and takes, with the replies that are wanted, and side by side with one thread.
 ghost use Rattle.std.specs.Prelude.{◌≡◌, ◌<◌, ◌≤◌, ◌+◌, length, IfOk};
-ghost use Rattle.seq_objects.specs.Batches.{AreOneBatch, AreOf, IsOfQueue};
+ghost use Rattle.seq_objects.specs.Batches.{AreOneBatch, AreOf, Queue};
 
 use crate::{Heap, Queue};
 use seq_objects::{Batched, Call, Op, Plain, Reply, serve_batch};
@@ -12,7 +12,7 @@ fn calls_of(alloc: Global, items: &[u32], takes: u32) -> Result<Vec<Call>, Alloc
     requires some { 0 < length items.now + takes }
     requires few { length items.now + takes ≤ 32 }
     ensures batch { IfOk result (λ v. AreOneBatch v.items) }
-    ensures queue { IfOk result (λ v. AreOf IsOfQueue v.items) }
+    ensures queue { IfOk result (λ v. AreOf Queue v.items) }
 {
     let mut calls = Vec::with_capacity(alloc, 32)?;
     let mut worker = 0;

@@ -4,14 +4,14 @@ use Rattle.std.specs.List.{AllByRecursion, range_with_len}
 use Rattle.std.proofs.lemmas.Bool.{eqb-true, eqb-false, ltb-false}
 use Rattle.std.proofs.lemmas.List.{get_or-set_other, get_or-set_same}
 use Rattle.seq_objects.specs.Objects.{has}
-use Rattle.seq_objects.specs.Pieces.{AllMeet, Opening}
+use Rattle.seq_objects.specs.Pieces.{AllMeet, BatchContext}
 use Rattle.batched_stack.specs.declared.piece.Piece.{Piece}
 use Rattle.batched_stack.specs.declared.piece.Served.{Served}
 use Rattle.batched_stack.specs.declared.stack.Rest.{Rest}
 use Rattle.batched_stack.specs.Calls.{pushed, pop_count}
 use Rattle.batched_stack.specs.Stripes.{StackView, stripe, stripe_length}
 use Rattle.batched_stack.specs.Rooms.{NeedsRoom, IsNext}
-use Rattle.batched_stack.specs.Pieces.{pushes_to, pops_from, is_called, or_first, numbers_in, IsPieceOf, Meets, Remembers}
+use Rattle.batched_stack.specs.Pieces.{pushes_to, pops_from, is_called, or_first, numbers_in, IsPieceOf, Meets, IsContextOf}
 use Rattle.batched_stack.specs.Joined.{placed}
 use Rattle.batched_stack.proofs.Numbers.{not_passed}
 use Rattle.batched_stack.proofs.Parts.{pops_from_is, pushes_to_is}
@@ -40,40 +40,40 @@ next_stays room len new (inl (out, fresh)) (inl short) = absurd (omega (arith, f
 next_stays room len new (inl (out, fresh)) (inr (big, small)) = elim fresh.least [ inl is ↦ absurd (omega (arith, is, big)) | inr less ↦ absurd (omega (arith, less, small)) ]
 
 -- the items with the pushed ones, and how many are left after the pops
-abbrev pub all_items : Opening StackView Piece → List ℕ
+abbrev pub all_items : BatchContext StackView Piece → List ℕ
 all_items o = o.before.items ++ pushed o.calls
 
-abbrev pub left_of : Opening StackView Piece → ℕ
+abbrev pub left_of : BatchContext StackView Piece → ℕ
 left_of o = length (all_items o) - pop_count o.calls
 
 -- what stripe j has
-pub record HasLeft (o : Opening StackView Piece) (j : ℕ) (list : List ℕ) : Type 0 where
+pub record HasLeft (o : BatchContext StackView Piece) (j : ℕ) (list : List ℕ) : Type 0 where
   pub is : list ≡ take (stripe_length j (left_of o)) (stripe j (all_items o))
 
-abbrev pub HasTaken : Opening StackView Piece → ℕ → List ℕ → Type 0
+abbrev pub HasTaken : BatchContext StackView Piece → ℕ → List ℕ → Type 0
 HasTaken o j list = list ≡ reverse (drop (stripe_length j (left_of o)) (stripe j (all_items o)))
 
-abbrev pub HasRoom : Opening StackView Piece → ℕ → ℕ → Type 0
+abbrev pub HasRoom : BatchContext StackView Piece → ℕ → ℕ → Type 0
 HasRoom o j room = IsNext (get_or o.before.rooms j 0) (stripe_length j (left_of o)) room
 
-pub record IsOutcome (o : Opening StackView Piece) (out : Served) : Type 0 where
+pub record IsOutcome (o : BatchContext StackView Piece) (out : Served) : Type 0 where
   pub left : HasLeft o out.number out.stripe.items.items
   pub taken : HasTaken o out.number out.popped.items
   pub room : HasRoom o out.number out.stripe.room
 
-pushed_onto : (o : Opening StackView Piece) (j : ℕ) → j < 16 → stripe j (all_items o) ≡ stripe j o.before.items ++ pushes_to j (length o.before.items) (pushed o.calls)
+pushed_onto : (o : BatchContext StackView Piece) (j : ℕ) → j < 16 → stripe j (all_items o) ≡ stripe j o.before.items ++ pushes_to j (length o.before.items) (pushed o.calls)
 pushed_onto o j low = stripe_append j o.before.items (pushed o.calls) low ∙ ap (λ xs. stripe j o.before.items ++ xs) (sym (pushes_to_is j (length o.before.items) (pushed o.calls) low))
 
 fewer : (j n k : ℕ) → stripe_length j n - (stripe_length j n - stripe_length j (n - k)) ≡ stripe_length j (n - k)
 fewer j n k = omega arith
 
-left_in : (o : Opening StackView Piece) (j : ℕ) → j < 16 → length (stripe j (all_items o)) - pops_from j (length o.before.items + length (pushed o.calls)) (pop_count o.calls) ≡ stripe_length j (left_of o)
+left_in : (o : BatchContext StackView Piece) (j : ℕ) → j < 16 → length (stripe j (all_items o)) - pops_from j (length o.before.items + length (pushed o.calls)) (pop_count o.calls) ≡ stripe_length j (left_of o)
 left_in o j low =
     let long = length_stripe j (all_items o) in
     let all = length-append o.before.items (pushed o.calls) in
     rw (long, pops_from_is j (length o.before.items + length (pushed o.calls)) (pop_count o.calls) low, all) (fewer j (length o.before.items + length (pushed o.calls)) (pop_count o.calls))
 
-outcome : (o : Opening StackView Piece) (piece : Piece) (out : Served) → IsPieceOf o.before.items (pushed o.calls) (pop_count o.calls) piece → piece.stripe.room ≡ get_or o.before.rooms piece.number 0 → Meets piece out → IsOutcome o out
+outcome : (o : BatchContext StackView Piece) (piece : Piece) (out : Served) → IsPieceOf o.before.items (pushed o.calls) (pop_count o.calls) piece → piece.stripe.room ≡ get_or o.before.rooms piece.number 0 → Meets piece out → IsOutcome o out
 outcome o piece out of room meets =
     let j = out.number in
     let low = out.low in
@@ -89,7 +89,7 @@ outcome o piece out of room meets =
       room = subst (λ (n : ℕ). IsNext (get_or o.before.rooms j 0) n out.stripe.room) long (subst (λ (r : ℕ). IsNext r (length out.stripe.items.items) out.stripe.room) (room ∙ ap (λ k. get_or o.before.rooms k 0) (sym meets.number)) meets.room);
     }
 
-pub outcomes : (o : Opening StackView Piece) (ins : List Piece) (outs : List Served) → AllByRecursion (IsPieceOf o.before.items (pushed o.calls) (pop_count o.calls)) ins → AllByRecursion (λ piece. piece.stripe.room ≡ get_or o.before.rooms piece.number 0) ins → AllMeet Meets ins outs → AllByRecursion (IsOutcome o) outs × (map (λ out. out.number) outs ≡ numbers_in ins)
+pub outcomes : (o : BatchContext StackView Piece) (ins : List Piece) (outs : List Served) → AllByRecursion (IsPieceOf o.before.items (pushed o.calls) (pop_count o.calls)) ins → AllByRecursion (λ piece. piece.stripe.room ≡ get_or o.before.rooms piece.number 0) ins → AllMeet Meets ins outs → AllByRecursion (IsOutcome o) outs × (map (λ out. out.number) outs ≡ numbers_in ins)
 outcomes o [] [] each rooms meet = (tt, refl)
 outcomes o [] (out ∷ outs) each rooms meet = absurd meet
 outcomes o (piece ∷ ins) [] each rooms meet = absurd meet
@@ -106,7 +106,7 @@ nothing_in [] n none = let no = ltb-false 0 (0 + n) none in (refl, omega (arith,
 nothing_in (x ∷ xs) n none = let no = ltb-false 0 (length (x ∷ xs) + n) none in absurd (omega (arith, no))
 
 -- a stripe without calls has what it had
-pub idle : (rest : Rest) (o : Opening StackView Piece) → Remembers rest o → (j : ℕ) → j < 16 → has j (numbers_in o.ins) ≡ false → (stripe j (all_items o) ≡ stripe j o.before.items) × (stripe_length j (left_of o) ≡ length (stripe j (all_items o))) × (stripe_length j (left_of o) ≡ stripe_length j (length o.before.items))
+pub idle : (rest : Rest) (o : BatchContext StackView Piece) → IsContextOf rest o → (j : ℕ) → j < 16 → has j (numbers_in o.ins) ≡ false → (stripe j (all_items o) ≡ stripe j o.before.items) × (stripe_length j (left_of o) ≡ length (stripe j (all_items o))) × (stripe_length j (left_of o) ≡ stripe_length j (length o.before.items))
 idle rest o r j low none =
     let n = length o.before.items in
     let puts = pushed o.calls in

@@ -4,7 +4,7 @@ use Rattle.std.specs.List.{AllByRecursion}
 use Rattle.std.proofs.lemmas.List.{get_or-replicate, length-map, length-drop, length-reverse}
 use Rattle.seq_objects.specs.declared.reply.Reply.TheVariants as reply
 use Rattle.seq_objects.specs.Objects.{has}
-use Rattle.seq_objects.specs.Pieces.{AllMeet, Opening}
+use Rattle.seq_objects.specs.Pieces.{AllMeet, BatchContext}
 use Rattle.seq_objects.specs.Serial.{replies_to_all, after_all, of_stack}
 use Rattle.batched_stack.specs.declared.stripe.Stripe.{Stripe}
 use Rattle.batched_stack.specs.declared.piece.Piece.{Piece}
@@ -14,7 +14,7 @@ use Rattle.batched_stack.specs.Calls.{pushed, pop_count}
 use Rattle.batched_stack.specs.Stripes.{StackView, stripe, stripe_length, items_of}
 use Rattle.batched_stack.specs.Lists.{lists, rooms_in}
 use Rattle.batched_stack.specs.Rooms.{NeedsRoom, IsNext, AreNext}
-use Rattle.batched_stack.specs.Pieces.{numbers_in, Meets, Remembers}
+use Rattle.batched_stack.specs.Pieces.{numbers_in, Meets, IsContextOf}
 use Rattle.batched_stack.specs.Joined.{placed, HavePopped, number_replies, stack_replies}
 use Rattle.batched_stack.specs.Kept.{IsWhole}
 use Rattle.batched_stack.proofs.Final.{placed_at, next_stays, all_items, left_of, HasLeft, HasTaken, HasRoom, IsOutcome, outcomes, idle}
@@ -24,19 +24,19 @@ use Rattle.batched_stack.proofs.Tops.{pop_replies_are, back, back_is}
 use Rattle.batched_stack.proofs.Whole.{items_from}
 use Rattle.batched_stack.proofs.Basics.{whole_take, whole_drop}
 
-each_left : (o : Opening StackView Piece) (outs : List Served) (j : ℕ) → AllByRecursion (IsOutcome o) outs → AllByRecursion (λ out. out.number ≡ j → HasLeft o j out.stripe.items.items) outs
+each_left : (o : BatchContext StackView Piece) (outs : List Served) (j : ℕ) → AllByRecursion (IsOutcome o) outs → AllByRecursion (λ out. out.number ≡ j → HasLeft o j out.stripe.items.items) outs
 each_left o [] j all = tt
 each_left o (out ∷ outs) j all = (λ is. subst (λ (k : ℕ). HasLeft o k out.stripe.items.items) is all.0.left, each_left o outs j all.1)
 
-each_taken : (o : Opening StackView Piece) (outs : List Served) (j : ℕ) → AllByRecursion (IsOutcome o) outs → AllByRecursion (λ out. out.number ≡ j → HasTaken o j out.popped.items) outs
+each_taken : (o : BatchContext StackView Piece) (outs : List Served) (j : ℕ) → AllByRecursion (IsOutcome o) outs → AllByRecursion (λ out. out.number ≡ j → HasTaken o j out.popped.items) outs
 each_taken o [] j all = tt
 each_taken o (out ∷ outs) j all = (λ is. subst (λ (k : ℕ). HasTaken o k out.popped.items) is all.0.taken, each_taken o outs j all.1)
 
-each_room : (o : Opening StackView Piece) (outs : List Served) (j : ℕ) → AllByRecursion (IsOutcome o) outs → AllByRecursion (λ out. out.number ≡ j → HasRoom o j out.stripe.room) outs
+each_room : (o : BatchContext StackView Piece) (outs : List Served) (j : ℕ) → AllByRecursion (IsOutcome o) outs → AllByRecursion (λ out. out.number ≡ j → HasRoom o j out.stripe.room) outs
 each_room o [] j all = tt
 each_room o (out ∷ outs) j all = (λ is. subst (λ (k : ℕ). HasRoom o k out.stripe.room) is all.0.room, each_room o outs j all.1)
 
-module _ (rest : Rest) (o : Opening StackView Piece) (outs : List Served) (r : Remembers rest o) (m : AllMeet Meets o.ins outs) where
+module _ (rest : Rest) (o : BatchContext StackView Piece) (outs : List Served) (r : IsContextOf rest o) (m : AllMeet Meets o.ins outs) where
   all_outcomes : AllByRecursion (IsOutcome o) outs × (map (λ out. out.number) outs ≡ numbers_in o.ins)
   all_outcomes = outcomes o o.ins outs r.each r.rooms m
 

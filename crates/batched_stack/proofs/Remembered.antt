@@ -4,7 +4,7 @@ use Rattle.std.proofs.lemmas.List.{length-map}
 use Rattle.std.specs.List.{AllByRecursion, range_with_len}
 use Rattle.seq_objects.specs.declared.call.Call.{Call}
 use Rattle.seq_objects.specs.Objects.{has}
-use Rattle.seq_objects.specs.Batches.{AreOneBatch, AreOf, IsOfStack}
+use Rattle.seq_objects.specs.Batches.{AreOneBatch, AreOf, Stack}
 use Rattle.batched_stack.specs.declared.stripe.Stripe.{Stripe}
 use Rattle.batched_stack.specs.declared.piece.Piece.{Piece}
 use Rattle.batched_stack.specs.declared.stack.Rest.{Rest}
@@ -12,7 +12,7 @@ use Rattle.batched_stack.specs.Calls.{pushed, pop_count}
 use Rattle.batched_stack.specs.Stripes.{stripe_length, items_of}
 use Rattle.batched_stack.specs.Lists.{lists, rooms_in}
 use Rattle.batched_stack.specs.Rooms.{NeedsRoom}
-use Rattle.batched_stack.specs.Pieces.{pushes_to, pops_from, is_called, or_first, piece_numbers, numbers_in, IsPieceOf, Remembers}
+use Rattle.batched_stack.specs.Pieces.{pushes_to, pops_from, is_called, or_first, piece_numbers, numbers_in, IsPieceOf, IsContextOf}
 use Rattle.batched_stack.specs.Cuts.{AreStripes, IsCutOf, IsSame}
 use Rattle.batched_stack.specs.Kept.{IsWhole}
 use Rattle.batched_stack.proofs.Whole.{length_items_of, stripe_of_items}
@@ -54,7 +54,7 @@ rooms_seen : (stripes : List Stripe) (rooms : List ℕ) (n : ℕ) (puts : List �
 rooms_seen stripes rooms n puts takes [] are each = tt
 rooms_seen stripes rooms n puts takes (piece ∷ pieces) are each = (each.0.room ∙ ap (λ rs. get_or rs piece.number 0) (sym are), rooms_seen stripes rooms n puts takes pieces are each.1)
 
-pub remembered : (stripes : List Stripe) (rooms : List ℕ) (rest : Rest) (calls : List Call) (pieces : List Piece) → IsWhole stripes rooms rest.count → AreOneBatch calls → AreOf IsOfStack calls → numbers_in pieces ≡ piece_numbers rest.count (pushed calls) (pop_count calls) → AllByRecursion (IsCutOf stripes rest.count (pushed calls) (pop_count calls)) pieces → rest.pushes ≡ length (pushed calls) → rest.pops ≡ pop_count calls → rest.count + rest.pushes < 2 ^ 63 → length rest.stripes.items ≡ 16 → ((j : ℕ) → j < 16 → has j (numbers_in pieces) ≡ false → IsSame stripes rest.stripes.items j) → Remembers rest (record { before = record { items = items_of (lists stripes) rest.count; rooms = rooms }; calls = calls; ins = pieces })
+pub remembered : (stripes : List Stripe) (rooms : List ℕ) (rest : Rest) (calls : List Call) (pieces : List Piece) → IsWhole stripes rooms rest.count → AreOneBatch calls → AreOf Stack calls → numbers_in pieces ≡ piece_numbers rest.count (pushed calls) (pop_count calls) → AllByRecursion (IsCutOf stripes rest.count (pushed calls) (pop_count calls)) pieces → rest.pushes ≡ length (pushed calls) → rest.pops ≡ pop_count calls → rest.count + rest.pushes < 2 ^ 63 → length rest.stripes.items ≡ 16 → ((j : ℕ) → j < 16 → has j (numbers_in pieces) ≡ false → IsSame stripes rest.stripes.items j) → IsContextOf rest (record { before = record { items = items_of (lists stripes) rest.count; rooms = rooms }; calls = calls; ins = pieces })
 remembered stripes rooms rest calls pieces whole batch of numbers each pushes pops fits sixteen kept =
     let long = length_items_of (lists stripes) rest.count in
     record {

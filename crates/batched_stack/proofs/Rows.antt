@@ -4,7 +4,7 @@ use Rattle.std.specs.List.{AllByRecursion}
 use Rattle.seq_objects.specs.declared.op.Op.TheVariants.{Push, Pop}
 use Rattle.seq_objects.specs.declared.call.Call.{Call}
 use Rattle.seq_objects.specs.BatchOrder.{ComesFirst, class_of, key_of}
-use Rattle.seq_objects.specs.Batches.{AreOneBatch, AreInBatchOrder, AreOf, IsOfStack}
+use Rattle.seq_objects.specs.Batches.{AreOneBatch, AreInBatchOrder, AreOf, object_of, Stack}
 use Rattle.seq_objects.specs.Pairs.{EachPair, AreDistinct}
 use Rattle.batched_stack.proofs.Basics.{all_more}
 
@@ -14,7 +14,7 @@ pair_more R (x ∷ xs) y pairs each = (all_more (λ z. R x z) xs y pairs.0 each.
 
 -- what is known of each call: it is a push of a worker from `low` on and below `high`, or a pop of one below n
 pub record IsOne (low high n : ℕ) (call : Call) : Type 0 where
-  pub of : IsOfStack call.op
+  pub of : object_of call.op ≡ Stack
   pub key : key_of call.op ≡ 0
   pub one : ((class_of call.op ≡ 1) × (low ≤ call.worker) × (call.worker < high)) ⊎ ((class_of call.op ≡ 2) × (call.worker < n))
 
@@ -54,7 +54,7 @@ row_push : (calls : List Call) (low high item : ℕ) → low ≤ high → IsRow 
 row_push calls low high item from row = record {
   order = pair_more (λ first second. ComesFirst first.op first.worker second.op second.worker) calls (push high item) row.order (before_push calls low high item row.each);
   workers = rw (workers_more calls (push high item)) (pair_more (λ m k. m ≢ k) (map (λ c. c.worker) calls) high row.workers (other_pushes calls low high row.each));
-  each = all_more (IsOne low (high + 1) 0) calls (push high item) (higher calls low high row.each) (record { of = tt; key = refl; one = inl (refl, from, omega arith) });
+  each = all_more (IsOne low (high + 1) 0) calls (push high item) (higher calls low high row.each) (record { of = refl; key = refl; one = inl (refl, from, omega arith) });
   long = rw (length_more calls (push high item)) (omega (arith, row.long));
 }
 
@@ -77,7 +77,7 @@ pub row_pop : (calls : List Call) (low high n : ℕ) → n < low → IsRow calls
 row_pop calls low high n less row = record {
   order = pair_more (λ first second. ComesFirst first.op first.worker second.op second.worker) calls (pop n) row.order (before_pop calls low high n row.each);
   workers = rw (workers_more calls (pop n)) (pair_more (λ m k. m ≢ k) (map (λ c. c.worker) calls) n row.workers (other_pops calls low high n less row.each));
-  each = all_more (IsOne low high (n + 1)) calls (pop n) (more_pops calls low high n row.each) (record { of = tt; key = refl; one = inr (refl, omega arith) });
+  each = all_more (IsOne low high (n + 1)) calls (pop n) (more_pops calls low high n row.each) (record { of = refl; key = refl; one = inr (refl, omega arith) });
   long = rw (length_more calls (pop n)) (omega (arith, row.long));
 }
 
@@ -85,7 +85,7 @@ below_all : (calls : List Call) (low high n : ℕ) → high ≤ 32 → n ≤ 32 
 below_all [] low high n few less each = tt
 below_all (call ∷ calls) low high n few less each = (elim each.0.one [ inl push ↦ omega (arith, push.2, few) | inr pop ↦ omega (arith, pop.1, less) ], below_all calls low high n few less each.1)
 
-pub row_calls : (calls : List Call) (low high n : ℕ) → AllByRecursion (IsOne low high n) calls → AreOf IsOfStack calls
+pub row_calls : (calls : List Call) (low high n : ℕ) → AllByRecursion (IsOne low high n) calls → AreOf Stack calls
 row_calls [] low high n each = tt
 row_calls (call ∷ calls) low high n each = (each.0.of, row_calls calls low high n each.1)
 

@@ -4,7 +4,7 @@ use Rattle.seq_objects.specs.declared.op.Op.{Op}
 use Rattle.seq_objects.specs.declared.op.Op.TheVariants.{CounterAdd, Push, Pop, TreeInsert, TreeRemove, TreeFind, TreeNext, PqInsert, PqTake}
 use Rattle.seq_objects.specs.declared.call.Call.{Call}
 use Rattle.seq_objects.specs.Objects.{Objects}
-use Rattle.seq_objects.specs.Batches.{AreOf, IsOfStack}
+use Rattle.seq_objects.specs.Batches.{AreOf, Stack}
 
 -- what an operation pushes
 abbrev pub pushed_by : Op → List ℕ
@@ -42,4 +42,4 @@ pop_count (call ∷ calls) = pops_by call.op + pop_count calls
 
 -- a batch of any pushes and pops can be served
 abbrev pub MayServe : Objects → List Call → Type 0
-MayServe objects calls = AreOf IsOfStack calls
+MayServe objects calls = AreOf Stack calls

@@ -3,8 +3,8 @@ use Rattle.std.specs.Prelude.{◌≡◌, ℕ, zero, suc, ◌+◌, ◌-◌, ◌%�
 use Rattle.std.specs.List.{AllByRecursion, range_with_len}
 use Rattle.seq_objects.specs.declared.call.Call.{Call}
 use Rattle.seq_objects.specs.Objects.{Objects, has}
-use Rattle.seq_objects.specs.Batches.{AreOneBatch, AreOf, IsOfStack}
-use Rattle.seq_objects.specs.Pieces.{Opening}
+use Rattle.seq_objects.specs.Batches.{AreOneBatch, AreOf, Stack}
+use Rattle.seq_objects.specs.Pieces.{BatchContext}
 use Rattle.batched_stack.specs.declared.piece.Piece.{Piece}
 use Rattle.batched_stack.specs.declared.piece.Served.{Served}
 use Rattle.batched_stack.specs.declared.stack.Rest.{Rest}
@@ -47,7 +47,7 @@ pub record IsPieceOf (stack puts : List ℕ) (takes : ℕ) (piece : Piece) : Typ
   pub pops : piece.pops ≡ pops_from piece.number (length stack + length puts) takes
 
 -- The pieces of a batch, one for each stripe that gets one. That each has its stripe's present room, which the
--- items don't tell, is said by `Remembers`.
+-- items don't tell, is said by `IsContextOf`.
 pub record Cut (objects : Objects) (calls : List Call) (pieces : List Piece) : Type 0 where
   pub numbers : numbers_in pieces ≡ piece_numbers (length objects.stack) (pushed calls) (pop_count calls)
   pub each : AllByRecursion (IsPieceOf objects.stack (pushed calls) (pop_count calls)) pieces
@@ -66,9 +66,9 @@ pub record IsKept (before : StackView) (stripes : List (List ℕ)) (rooms : List
 
 -- What is kept is of the stack before the batch: the numbers of items, pushes and pops, and each stripe that
 -- no piece has. The batch was cut so, each piece has its stripe's present room, and no stripe needed another.
-pub record Remembers (rest : Rest) (o : Opening StackView Piece) : Type 0 where
+pub record IsContextOf (rest : Rest) (o : BatchContext StackView Piece) : Type 0 where
   pub batch : AreOneBatch o.calls
-  pub calls : AreOf IsOfStack o.calls
+  pub calls : AreOf Stack o.calls
   pub numbers : numbers_in o.ins ≡ piece_numbers (length o.before.items) (pushed o.calls) (pop_count o.calls)
   pub each : AllByRecursion (IsPieceOf o.before.items (pushed o.calls) (pop_count o.calls)) o.ins
   pub rooms : AllByRecursion (λ piece. piece.stripe.room ≡ slice_index o.before.rooms piece.number) o.ins

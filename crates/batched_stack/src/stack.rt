@@ -1,14 +1,14 @@
 //! The stack.
 ghost use Rattle.std.specs.Prelude.{◌≡◌, [], length, IfOk, OnOk};
 ghost use Rattle.seq_objects.specs.Serial.{replies_to_all, after_all, of_stack};
-ghost use Rattle.seq_objects.specs.Pieces.{AllMeet, Opening};
+ghost use Rattle.seq_objects.specs.Pieces.{AllMeet, BatchContext};
 ghost use Rattle.batched_stack.specs.declared.piece.Piece.{Piece as PieceOf};
 ghost use Rattle.batched_stack.specs.Stripes.{StackView};
 ghost use Rattle.batched_stack.specs.Rooms.{AreNext};
 ghost use Rattle.batched_stack.specs.Moves.{first_rooms};
 ghost use Rattle.batched_stack.specs.Kept.{AreEmpty};
 ghost use Rattle.batched_stack.specs.Calls.{MayServe};
-ghost use Rattle.batched_stack.specs.Pieces.{Cut, Meets, Remembers};
+ghost use Rattle.batched_stack.specs.Pieces.{Cut, Meets, IsContextOf};
 
 use crate::cut::{cut, pops_of, pushes_of};
 use crate::join::{put_back, replies_of, rooms_of};
@@ -107,7 +107,7 @@ impl Batched for Stack {
 
     ghost meets = { Meets };
 
-    ghost remembers = { Remembers };
+    ghost is_context_of = { IsContextOf };
 
     fn begin(self, alloc: Global, calls: &[Call]) -> Result<(Rest, Vec<Piece>), AllocError> {
         let items = pushes_of(alloc, calls)?;
@@ -135,11 +135,11 @@ impl Batched for Stack {
     }
 
     fn end(alloc: Global, rest: Rest, outs: Vec<Served>) -> Result<(Stack, Vec<Reply>), AllocError>
-        requires { (o : Opening StackView PieceOf) × Remembers rest o × AllMeet Meets o.ins outs.items }
-        ensures replies { IfOk result (λ p. (o : Opening StackView PieceOf) → Remembers rest o → AllMeet Meets o.ins outs.items → p.1.items ≡ replies_to_all (of_stack o.before.items) o.calls) }
-        ensures content { IfOk result (λ p. (o : Opening StackView PieceOf) → Remembers rest o → AllMeet Meets o.ins outs.items → of_stack p.0.items ≡ after_all (of_stack o.before.items) o.calls) }
+        requires { (o : BatchContext StackView PieceOf) × IsContextOf rest o × AllMeet Meets o.ins outs.items }
+        ensures replies { IfOk result (λ p. (o : BatchContext StackView PieceOf) → IsContextOf rest o → AllMeet Meets o.ins outs.items → p.1.items ≡ replies_to_all (of_stack o.before.items) o.calls) }
+        ensures content { IfOk result (λ p. (o : BatchContext StackView PieceOf) → IsContextOf rest o → AllMeet Meets o.ins outs.items → of_stack p.0.items ≡ after_all (of_stack o.before.items) o.calls) }
         // Each stripe's room is the one that the rule gives.
-        ensures rooms { IfOk result (λ p. (o : Opening StackView PieceOf) → Remembers rest o → AllMeet Meets o.ins outs.items → AreNext o.before.rooms (length p.0.items) p.0.rooms) }
+        ensures rooms { IfOk result (λ p. (o : BatchContext StackView PieceOf) → IsContextOf rest o → AllMeet Meets o.ins outs.items → AreNext o.before.rooms (length p.0.items) p.0.rooms) }
     {
         let Rest {
             stripes,

@@ -1,6 +1,6 @@
 //! Batches of pushes and pops, side by side with one thread, and the rooms.
 ghost use Rattle.std.specs.Prelude.{◌≡◌, ◌<◌, ◌≤◌, ◌+◌, length, IfOk};
-ghost use Rattle.seq_objects.specs.Batches.{AreOneBatch, AreOf, IsOfStack};
+ghost use Rattle.seq_objects.specs.Batches.{AreOneBatch, AreOf, Stack};
 
 use crate::Stack;
 use seq_objects::{Batched, Call, Op, Plain, Reply, serve_batch};
@@ -12,7 +12,7 @@ fn calls_of(alloc: Global, items: &[u32], pops: usize) -> Result<Vec<Call>, Allo
     requires some { 0 < length items.now + pops }
     requires few { length items.now + pops ≤ 32 }
     ensures batch { IfOk result (λ v. AreOneBatch v.items) }
-    ensures calls { IfOk result (λ v. AreOf IsOfStack v.items) }
+    ensures calls { IfOk result (λ v. AreOf Stack v.items) }
 {
     let mut calls = Vec::new(alloc);
     for at in 0..items.len() {

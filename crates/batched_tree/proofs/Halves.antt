@@ -11,7 +11,7 @@ use Rattle.seq_objects.specs.declared.reply.Reply.{Reply}
 use Rattle.seq_objects.specs.declared.reply.Reply.TheVariants.{Empty}
 use Rattle.seq_objects.specs.Objects.{Objects, after, reply_to, argument_of, with_key, without_key, yes_or_no, number_or_empty}
 use Rattle.seq_objects.specs.BatchOrder.{ComesFirst, class_of}
-use Rattle.seq_objects.specs.Batches.{AreInBatchOrder, AreOf, IsOfTree}
+use Rattle.seq_objects.specs.Batches.{AreInBatchOrder, AreOf, object_of, Tree}
 use Rattle.seq_objects.specs.Serial.{of_set, after_all, replies_to_all}
 use Rattle.batched_tree.specs.Keys.{key_of, calls_below, calls_from}
 use Rattle.batched_tree.specs.Replies.{reply_within, replies_within}
@@ -34,16 +34,16 @@ changed (TreeNext key) set = set
 changed (PqInsert item) set = set
 changed PqTake set = set
 
-pub changes : (op : Op) (set : List ℕ) → IsOfTree op → after (of_set set) op ≡ of_set (changed op set)
-changes (CounterAdd addend) set is = absurd is
-changes (Push item) set is = absurd is
-changes Pop set is = absurd is
+pub changes : (op : Op) (set : List ℕ) → object_of op ≡ Tree → after (of_set set) op ≡ of_set (changed op set)
+changes (CounterAdd addend) set is = absurd cc
+changes (Push item) set is = absurd cc
+changes Pop set is = absurd cc
 changes (TreeInsert key) set is = refl
 changes (TreeRemove key) set is = refl
 changes (TreeFind key) set is = refl
 changes (TreeNext key) set is = refl
-changes (PqInsert item) set is = absurd is
-changes PqTake set is = absurd is
+changes (PqInsert item) set is = absurd cc
+changes PqTake set is = absurd cc
 
 keeps : (P : ℕ → Type 0) (op : Op) (set : List ℕ) → P (argument_of op) → AllByRecursion P set → AllByRecursion P (changed op set)
 keeps P (CounterAdd addend) set here each = each
@@ -69,46 +69,46 @@ low_next : (beyond : Option ℕ) (key b : ℕ) (low high : List ℕ) → key < b
 low_next beyond key b low high less up (inl is) = rw is (next_low key b low high less up)
 low_next beyond key b low high less up (inr update) = absurd (omega arith)
 
-low_step : (beyond : Option ℕ) (b : ℕ) (low high : List ℕ) (op : Op) → IsOfTree op → argument_of op < b → AllByRecursion (λ k. b ≤ k) high → IsBeyond beyond high op
+low_step : (beyond : Option ℕ) (b : ℕ) (low high : List ℕ) (op : Op) → object_of op ≡ Tree → argument_of op < b → AllByRecursion (λ k. b ≤ k) high → IsBeyond beyond high op
     → IsLow beyond low high op (changed op low)
-low_step beyond b low high (CounterAdd addend) is less up known = absurd is
-low_step beyond b low high (Push item) is less up known = absurd is
-low_step beyond b low high Pop is less up known = absurd is
+low_step beyond b low high (CounterAdd addend) is less up known = absurd cc
+low_step beyond b low high (Push item) is less up known = absurd cc
+low_step beyond b low high Pop is less up known = absurd cc
 low_step beyond b low high (TreeInsert key) is less up known = record { reply = ap (λ t. yes_or_no (not t)) (has_low key b low high less up); whole = ap of_set (with_low key b low high less up) }
 low_step beyond b low high (TreeRemove key) is less up known = record { reply = ap yes_or_no (has_low key b low high less up); whole = ap of_set (without_low key b low high less up) }
 low_step beyond b low high (TreeFind key) is less up known = record { reply = ap yes_or_no (has_low key b low high less up); whole = refl }
 low_step beyond b low high (TreeNext key) is less up known = record { reply = low_next beyond key b low high less up known; whole = refl }
-low_step beyond b low high (PqInsert item) is less up known = absurd is
-low_step beyond b low high PqTake is less up known = absurd is
+low_step beyond b low high (PqInsert item) is less up known = absurd cc
+low_step beyond b low high PqTake is less up known = absurd cc
 
 -- an operation whose key is on the upper side
 pub record IsHigh (low high : List ℕ) (op : Op) (new : List ℕ) : Type 0 where
   pub reply : reply_to (of_set (low ++ high)) op ≡ reply_to (of_set high) op
   pub whole : after (of_set (low ++ high)) op ≡ of_set (low ++ new)
 
-high_step : (b : ℕ) (low high : List ℕ) (op : Op) → IsOfTree op → b ≤ argument_of op → AllByRecursion (λ k. k < b) low
+high_step : (b : ℕ) (low high : List ℕ) (op : Op) → object_of op ≡ Tree → b ≤ argument_of op → AllByRecursion (λ k. k < b) low
     → IsHigh low high op (changed op high)
-high_step b low high (CounterAdd addend) is le down = absurd is
-high_step b low high (Push item) is le down = absurd is
-high_step b low high Pop is le down = absurd is
+high_step b low high (CounterAdd addend) is le down = absurd cc
+high_step b low high (Push item) is le down = absurd cc
+high_step b low high Pop is le down = absurd cc
 high_step b low high (TreeInsert key) is le down = record { reply = ap (λ t. yes_or_no (not t)) (has_high key b low high le down); whole = ap of_set (with_high key b low high le down) }
 high_step b low high (TreeRemove key) is le down = record { reply = ap yes_or_no (has_high key b low high le down); whole = ap of_set (without_high key b low high le down) }
 high_step b low high (TreeFind key) is le down = record { reply = ap yes_or_no (has_high key b low high le down); whole = refl }
 high_step b low high (TreeNext key) is le down = record { reply = ap number_or_empty (next_high key b low high le down); whole = refl }
-high_step b low high (PqInsert item) is le down = absurd is
-high_step b low high PqTake is le down = absurd is
+high_step b low high (PqInsert item) is le down = absurd cc
+high_step b low high PqTake is le down = absurd cc
 
 -- a query leaves the set as it is
-query_or_update : (op : Op) (set : List ℕ) → IsOfTree op → (changed op set ≡ set) ⊎ (4 ≤ class_of op)
-query_or_update (CounterAdd addend) set is = absurd is
-query_or_update (Push item) set is = absurd is
-query_or_update Pop set is = absurd is
+query_or_update : (op : Op) (set : List ℕ) → object_of op ≡ Tree → (changed op set ≡ set) ⊎ (4 ≤ class_of op)
+query_or_update (CounterAdd addend) set is = absurd cc
+query_or_update (Push item) set is = absurd cc
+query_or_update Pop set is = absurd cc
 query_or_update (TreeInsert key) set is = inr (omega arith)
 query_or_update (TreeRemove key) set is = inr (omega arith)
 query_or_update (TreeFind key) set is = inl refl
 query_or_update (TreeNext key) set is = inl refl
-query_or_update (PqInsert item) set is = absurd is
-query_or_update PqTake set is = absurd is
+query_or_update (PqInsert item) set is = absurd cc
+query_or_update PqTake set is = absurd cc
 
 abbrev pub AreUpdates : List Call → Type 0
 AreUpdates calls = AllByRecursion (λ call. 4 ≤ class_of call.op) calls
@@ -145,7 +145,7 @@ less_or_not m n = elim (cases_order m n) [
   | inr (inr more) ↦ inr (omega arith)
 ]
 
-pub halves_replies : (b : ℕ) (calls : List Call) (low high : List ℕ) (beyond : Option ℕ) → AreOf IsOfTree calls → AreInBatchOrder calls
+pub halves_replies : (b : ℕ) (calls : List Call) (low high : List ℕ) (beyond : Option ℕ) → AreOf Tree calls → AreInBatchOrder calls
     → AllByRecursion (λ k. k < b) low → AllByRecursion (λ k. b ≤ k) high → Knows beyond high calls
     → replies_to_all (of_set (low ++ high)) calls ≡ shared b calls (replies_within beyond (of_set low) (calls_below b calls)) (replies_to_all (of_set high) (calls_from b calls))
 halves_replies b [] low high beyond tree order down up known = refl
@@ -167,19 +167,19 @@ halves_replies b (call ∷ calls) low high beyond tree order down up known = eli
 ]
 
 -- the set after calls, said of sets alone
-pub set_after : (set : List ℕ) (calls : List Call) → AreOf IsOfTree calls → after_all (of_set set) calls ≡ of_set (after_all (of_set set) calls).set
+pub set_after : (set : List ℕ) (calls : List Call) → AreOf Tree calls → after_all (of_set set) calls ≡ of_set (after_all (of_set set) calls).set
 set_after set [] tree = refl
 set_after set (call ∷ calls) tree =
     let first : after_all (of_set set) (call ∷ calls) ≡ after_all (of_set (changed call.op set)) calls = ap (λ (objects : Objects). after_all objects calls) (changes call.op set tree.0) in
     first ∙ set_after (changed call.op set) calls tree.1 ∙ ap (λ (objects : Objects). of_set objects.set) (sym first)
 
-pub kept : (P : ℕ → Type 0) (set : List ℕ) (calls : List Call) → AreOf IsOfTree calls → AllByRecursion (λ call. P (key_of call)) calls → AllByRecursion P set → AllByRecursion P (after_all (of_set set) calls).set
+pub kept : (P : ℕ → Type 0) (set : List ℕ) (calls : List Call) → AreOf Tree calls → AllByRecursion (λ call. P (key_of call)) calls → AllByRecursion P set → AllByRecursion P (after_all (of_set set) calls).set
 kept P set [] tree keys each = each
 kept P set (call ∷ calls) tree keys each =
     let rest = kept P (changed call.op set) calls tree.1 keys.1 (keeps P call.op set keys.0 each) in
     subst (λ (objects : Objects). AllByRecursion P (after_all objects calls).set) (sym (changes call.op set tree.0)) rest
 
-pub halves_after : (b : ℕ) (calls : List Call) (low high : List ℕ) → AreOf IsOfTree calls → AllByRecursion (λ k. k < b) low → AllByRecursion (λ k. b ≤ k) high
+pub halves_after : (b : ℕ) (calls : List Call) (low high : List ℕ) → AreOf Tree calls → AllByRecursion (λ k. k < b) low → AllByRecursion (λ k. b ≤ k) high
     → after_all (of_set (low ++ high)) calls ≡ of_set ((after_all (of_set low) (calls_below b calls)).set ++ (after_all (of_set high) (calls_from b calls)).set)
 halves_after b [] low high tree down up = refl
 halves_after b (call ∷ calls) low high tree down up = elim (less_or_not (key_of call) b) [

@@ -13,9 +13,9 @@ use Rattle.seq_objects.specs.Objects.{Objects, after, reply_to, argument_of}
 use Rattle.seq_objects.specs.Orders.{StrictlyAscends}
 use Rattle.seq_objects.specs.BatchOrder.{ComesFirst}
 use Rattle.seq_objects.specs.Pairs.{EachPair}
-use Rattle.seq_objects.specs.Batches.{AreInBatchOrder, AreOf, IsOfTree}
+use Rattle.seq_objects.specs.Batches.{AreInBatchOrder, AreOf, object_of, Tree}
 use Rattle.seq_objects.specs.Serial.{of_set, after_all, replies_to_all}
-use Rattle.seq_objects.specs.Pieces.{AllMeet, Opening}
+use Rattle.seq_objects.specs.Pieces.{AllMeet, BatchContext}
 use Rattle.tree23.specs.Keys.{AllBelow}
 use Rattle.batched_tree.specs.declared.part.Part.{Part}
 use Rattle.batched_tree.specs.declared.part.Served.{Served}
@@ -23,7 +23,7 @@ use Rattle.batched_tree.specs.declared.part.Groups.{Groups}
 use Rattle.batched_tree.specs.Keys.{key_of, below, from, calls_below, calls_from}
 use Rattle.batched_tree.specs.Groups.{starts_of, group_of}
 use Rattle.batched_tree.specs.Replies.{or_beyond, reply_within, replies_within}
-use Rattle.batched_tree.specs.Pieces.{Meets, Remembers}
+use Rattle.batched_tree.specs.Pieces.{Meets, IsContextOf}
 use Rattle.batched_tree.specs.Cuts.{IsPiece, ArePieces}
 use Rattle.batched_tree.specs.Joined.{merged, replies_of, joined, CanJoin}
 use Rattle.batched_tree.proofs.Sides.{all_filter, all_passed, is_less, is_not_less, all_below, all_from, both_sides, ascends_from}
@@ -85,11 +85,11 @@ pairs_filter R test (call ∷ calls) each = step (test call) (pairs_filter R tes
 order_from : (b : ℕ) (calls : List Call) → AreInBatchOrder calls → AreInBatchOrder (calls_from b calls)
 order_from b calls order = pairs_filter (λ first second. ComesFirst first.op first.worker second.op second.worker) (λ call. not (nat_lt (key_of call) b)) calls order
 
-tree_below : (b : ℕ) (calls : List Call) → AreOf IsOfTree calls → AreOf IsOfTree (calls_below b calls)
-tree_below b calls tree = all_filter (λ call. IsOfTree call.op) (λ call. nat_lt (key_of call) b) calls tree
+tree_below : (b : ℕ) (calls : List Call) → AreOf Tree calls → AreOf Tree (calls_below b calls)
+tree_below b calls tree = all_filter (λ call. object_of call.op ≡ Tree) (λ call. nat_lt (key_of call) b) calls tree
 
-tree_from : (b : ℕ) (calls : List Call) → AreOf IsOfTree calls → AreOf IsOfTree (calls_from b calls)
-tree_from b calls tree = all_filter (λ call. IsOfTree call.op) (λ call. not (nat_lt (key_of call) b)) calls tree
+tree_from : (b : ℕ) (calls : List Call) → AreOf Tree calls → AreOf Tree (calls_from b calls)
+tree_from b calls tree = all_filter (λ call. object_of call.op ≡ Tree) (λ call. not (nat_lt (key_of call) b)) calls tree
 
 -- what a piece owes, said of the set and the calls of which it is a part
 no_more : (ins : List Part) (outs : List Served) → ins ≡ [] → AllMeet Meets ins outs → outs ≡ []
@@ -103,7 +103,7 @@ owed_replies set calls beyond part out is meet = rw (is.keys_are, is.calls_are, 
 owed_keys : (set : List ℕ) (calls : List Call) (beyond : Option ℕ) (part : Part) (out : Served) → IsPiece set calls beyond part → Meets part out → out.row ≡ (after_all (of_set set) calls).set
 owed_keys set calls beyond part out is meet = rw (is.keys_are, is.calls_are) at meet.keys
 
-pieces_replies : (starts set : List ℕ) (calls : List Call) (ins : List Part) (outs : List Served) → StrictlyAscends set → AreOf IsOfTree calls → AreInBatchOrder calls
+pieces_replies : (starts set : List ℕ) (calls : List Call) (ins : List Part) (outs : List Served) → StrictlyAscends set → AreOf Tree calls → AreInBatchOrder calls
     → ArePieces set calls starts ins → AllMeet Meets ins outs → merged (map (λ call. group_of (key_of call) starts) calls) (replies_of outs) ≡ replies_to_all (of_set set) calls
 pieces_replies [] set calls [] outs up tree order parts meet = absurd parts
 pieces_replies (b ∷ starts) set calls [] outs up tree order parts meet = absurd parts
@@ -124,7 +124,7 @@ pieces_replies (b ∷ starts) set calls (part ∷ ins) (out ∷ outs) up tree or
     let joined_law : shared b calls out.replies.items (merged (map (λ call. group_of (key_of call) starts) (calls_from b calls)) (replies_of outs)) ≡ replies_to_all (of_set (low ++ high)) calls = rw (own, rest) (sym law) in
     split ∙ joined_law ∙ sym both
 
-pieces_after : (starts set : List ℕ) (calls : List Call) (ins : List Part) (outs : List Served) → StrictlyAscends set → AreOf IsOfTree calls
+pieces_after : (starts set : List ℕ) (calls : List Call) (ins : List Part) (outs : List Served) → StrictlyAscends set → AreOf Tree calls
     → ArePieces set calls starts ins → AllMeet Meets ins outs → after_all (of_set set) calls ≡ of_set (joined outs)
 pieces_after [] set calls [] outs up tree parts meet = absurd parts
 pieces_after (b ∷ starts) set calls [] outs up tree parts meet = absurd parts
@@ -165,7 +165,7 @@ above_both [] [] b k above down le = tt
 above_both [] (x ∷ t) b k above down le = (omega (arith, down.0, le), above_both [] t b k above down.1 le)
 above_both (x ∷ low) t b k above down le = (above.0, above_both low t b k above.1 down le)
 
-can_join : (starts set low : List ℕ) (calls : List Call) (ins : List Part) (outs : List Served) → AreOf IsOfTree calls → AllByRecursion (IsAbove low) set → AllByRecursion (λ call. IsAbove low (key_of call)) calls
+can_join : (starts set low : List ℕ) (calls : List Call) (ins : List Part) (outs : List Served) → AreOf Tree calls → AllByRecursion (IsAbove low) set → AllByRecursion (λ call. IsAbove low (key_of call)) calls
     → ArePieces set calls starts ins → AllMeet Meets ins outs → CanJoin low outs
 can_join [] set low calls [] outs tree above keys parts meet = absurd parts
 can_join (b ∷ starts) set low calls [] outs tree above keys parts meet = absurd parts
@@ -201,13 +201,13 @@ length_outs (part ∷ ins) [] meet = absurd meet
 length_outs (part ∷ ins) (out ∷ outs) meet = omega (arith, length_outs ins outs meet.1)
 
 -- what the end stands on
-pieces_of : (rest : Groups) (o : Opening (List ℕ) Part) (r : Remembers rest o) → ArePieces o.before o.calls (starts_of r.cut.groups) o.ins
+pieces_of : (rest : Groups) (o : BatchContext (List ℕ) Part) (r : IsContextOf rest o) → ArePieces o.before o.calls (starts_of r.cut.groups) o.ins
 pieces_of rest o r = cut_pieces (of_set o.before) o.calls o.ins (some_key o.calls r.batch.some) r.cut
 
-pub law_replies : (rest : Groups) (o : Opening (List ℕ) Part) (outs : List Served) → Remembers rest o → AllMeet Meets o.ins outs → merged rest.groups.items (replies_of outs) ≡ replies_to_all (of_set o.before) o.calls
+pub law_replies : (rest : Groups) (o : BatchContext (List ℕ) Part) (outs : List Served) → IsContextOf rest o → AllMeet Meets o.ins outs → merged rest.groups.items (replies_of outs) ≡ replies_to_all (of_set o.before) o.calls
 law_replies rest o outs r meet = rw r.groups (pieces_replies (starts_of r.cut.groups) o.before o.calls o.ins outs r.ascends r.may r.batch.order (pieces_of rest o r) meet)
 
-pub law_content : (rest : Groups) (o : Opening (List ℕ) Part) (outs : List Served) → Remembers rest o → AllMeet Meets o.ins outs → of_set (joined outs) ≡ after_all (of_set o.before) o.calls
+pub law_content : (rest : Groups) (o : BatchContext (List ℕ) Part) (outs : List Served) → IsContextOf rest o → AllMeet Meets o.ins outs → of_set (joined outs) ≡ after_all (of_set o.before) o.calls
 law_content rest o outs r meet = sym (pieces_after (starts_of r.cut.groups) o.before o.calls o.ins outs r.ascends r.may (pieces_of rest o r) meet)
 
 above_none : (set : List ℕ) → AllByRecursion (IsAbove []) set
@@ -218,10 +218,10 @@ keys_above_none : (calls : List Call) → AllByRecursion (λ call. IsAbove [] (k
 keys_above_none [] = tt
 keys_above_none (call ∷ calls) = (tt, keys_above_none calls)
 
-pub law_can_join : (rest : Groups) (o : Opening (List ℕ) Part) (outs : List Served) → Remembers rest o → AllMeet Meets o.ins outs → CanJoin [] outs
+pub law_can_join : (rest : Groups) (o : BatchContext (List ℕ) Part) (outs : List Served) → IsContextOf rest o → AllMeet Meets o.ins outs → CanJoin [] outs
 law_can_join rest o outs r meet = can_join (starts_of r.cut.groups) o.before [] o.calls o.ins outs r.may (above_none o.before) (keys_above_none o.calls) (pieces_of rest o r) meet
 
-pub law_groups : (rest : Groups) (o : Opening (List ℕ) Part) (outs : List Served) → Remembers rest o → AllMeet Meets o.ins outs → AllByRecursion (λ group. group < length (replies_of outs)) rest.groups.items
+pub law_groups : (rest : Groups) (o : BatchContext (List ℕ) Part) (outs : List Served) → IsContextOf rest o → AllMeet Meets o.ins outs → AllByRecursion (λ group. group < length (replies_of outs)) rest.groups.items
 law_groups rest o outs r meet =
     let starts = starts_of r.cut.groups in
     let less : length starts < length (replies_of outs) = omega (arith, length_parts starts o.before o.calls o.ins (pieces_of rest o r), length_outs o.ins outs meet) in

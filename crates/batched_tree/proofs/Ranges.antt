@@ -10,12 +10,12 @@ use Rattle.seq_objects.specs.Objects.{Objects, has}
 use Rattle.seq_objects.specs.Orders.{StrictlyAscends}
 use Rattle.batched_tree.specs.declared.part.Part.{Part}
 use Rattle.batched_tree.specs.Keys.{key_of, distinct_keys, below, from, calls_below, calls_from}
-use Rattle.seq_objects.specs.Batches.{AreOneBatch, AreOf, IsOfTree}
+use Rattle.seq_objects.specs.Batches.{AreOneBatch, AreOf, Tree}
 use Rattle.seq_objects.specs.Serial.{of_set}
 use Rattle.batched_tree.specs.declared.part.Groups.{Groups}
 use Rattle.batched_tree.proofs.Cuts.{some_key}
 use Rattle.batched_tree.specs.Groups.{group_of, AreGroups, least_of, starts_of, is_in, least_beyond, AreStarts}
-use Rattle.batched_tree.specs.Pieces.{IsPart, AreParts, Cut, Remembers}
+use Rattle.batched_tree.specs.Pieces.{IsPart, AreParts, Cut, IsContextOf}
 use Rattle.batched_tree.specs.Cuts.{IsPiece, ArePieces}
 use Rattle.batched_tree.proofs.Sides.{absent, has_low, has_high, above_too}
 use Rattle.batched_tree.proofs.Halves.{less_or_not}
@@ -359,9 +359,9 @@ starts_ascend calls keys starts some is are =
     starts_up ((length (distinct_keys calls) + 15) / 16) (distinct_keys calls) starts (omega arith) (keys_ascend [] calls tt) are'
 
 -- how a batch was opened, by what the code tells of it
-pub remembered : (set : List ℕ) (calls : List Call) (keys starts : List ℕ) (parts : List Part) (rest : Groups) → StrictlyAscends set → AreOneBatch calls → AreOf IsOfTree calls → keys ≡ distinct_keys calls
+pub remembered : (set : List ℕ) (calls : List Call) (keys starts : List ℕ) (parts : List Part) (rest : Groups) → StrictlyAscends set → AreOneBatch calls → AreOf Tree calls → keys ≡ distinct_keys calls
     → AreStarts ((length keys + 15) / 16) keys starts → ArePieces set calls starts parts → rest.groups.items ≡ map (λ call. group_of (key_of call) starts) calls
-    → Remembers rest (record { before = set; calls = calls; ins = parts })
+    → IsContextOf rest (record { before = set; calls = calls; ins = parts })
 remembered set calls keys starts parts rest up batch tree is are pieces groups =
     let are' = rw is at are in
     let cut = pieces_cut (of_set set) calls starts parts (some_key calls batch.some) are' pieces in

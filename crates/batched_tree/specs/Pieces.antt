@@ -5,9 +5,9 @@ use Rattle.std.specs.Option.{unwrap_or}
 use Rattle.seq_objects.specs.declared.call.Call.{Call}
 use Rattle.seq_objects.specs.Objects.{Objects, has}
 use Rattle.seq_objects.specs.Orders.{StrictlyAscends}
-use Rattle.seq_objects.specs.Batches.{AreOneBatch, AreOf, IsOfTree}
+use Rattle.seq_objects.specs.Batches.{AreOneBatch, AreOf, Tree}
 use Rattle.seq_objects.specs.Serial.{of_set, after_all}
-use Rattle.seq_objects.specs.Pieces.{Opening}
+use Rattle.seq_objects.specs.Pieces.{BatchContext}
 use Rattle.batched_tree.specs.declared.part.Part.{Part}
 use Rattle.batched_tree.specs.declared.part.Served.{Served}
 use Rattle.batched_tree.specs.declared.part.Groups.{Groups}
@@ -42,10 +42,10 @@ pub record Meets (part : Part) (served : Served) : Type 0 where
 
 -- all calls are of the tree
 abbrev pub MayServe : Objects → List Call → Type 0
-MayServe objects calls = AreOf IsOfTree calls
+MayServe objects calls = AreOf Tree calls
 
 -- what is kept is the number of the group of each call of the batch, which could be served and was cut so
-pub record Remembers (rest : Groups) (o : Opening (List ℕ) Part) : Type 0 where
+pub record IsContextOf (rest : Groups) (o : BatchContext (List ℕ) Part) : Type 0 where
   pub ascends : StrictlyAscends o.before
   pub batch : AreOneBatch o.calls
   pub may : MayServe (of_set o.before) o.calls

@@ -1,6 +1,6 @@
 //! What a piece does: it serves its calls on its row, one after another.
 ghost use Rattle.std.specs.Prelude.{◌≡◌, true, IfOk, OnOk};
-ghost use Rattle.seq_objects.specs.Objects.{after, reply_to, number_or_empty, yes_or_no};
+ghost use Rattle.seq_objects.specs.Objects.{after, reply_to};
 ghost use Rattle.seq_objects.specs.Serial.{of_set};
 ghost use Rattle.batched_tree.specs.Keys.{is_of_tree};
 ghost use Rattle.batched_tree.specs.Replies.{reply_within};
@@ -11,21 +11,6 @@ use seq_objects::{Op, Reply};
 use std::alloc::AllocError;
 use tree23::Row;
 
-fn number_or_empty(number: Option<u32>) -> Reply
-    ensures { result ≡ number_or_empty number }
-{
-    match number {
-        Some(number) => Reply::Number(u64::from(number)),
-        None => Reply::Empty,
-    }
-}
-
-fn yes_or_no(yes: bool) -> Reply
-    ensures { result ≡ yes_or_no yes }
-{
-    if yes { Reply::Yes } else { Reply::No }
-}
-
 /// Serves one operation on a row, where a key of the whole set is the least beyond its range.
 fn serve_one(row: &mut Row, beyond: Option<u32>, op: Op) -> Result<Reply, AllocError>
     requires { is_of_tree op ≡ true }
@@ -33,10 +18,10 @@ fn serve_one(row: &mut Row, beyond: Option<u32>, op: Op) -> Result<Reply, AllocE
     ensures after { OnOk result (of_set row.new ≡ after (of_set row.old) op) }
 {
     let reply = match op {
-        Op::TreeInsert(key) => yes_or_no(row.insert(key)?),
-        Op::TreeRemove(key) => yes_or_no(row.remove(key)),
-        Op::TreeFind(key) => yes_or_no(row.find(key)),
-        Op::TreeNext(key) => number_or_empty(row.next(key).or(beyond)),
+        Op::TreeInsert(key) => Reply::yes_or_no(row.insert(key)?),
+        Op::TreeRemove(key) => Reply::yes_or_no(row.remove(key)),
+        Op::TreeFind(key) => Reply::yes_or_no(row.find(key)),
+        Op::TreeNext(key) => Reply::number_or_empty(row.next(key).or(beyond)),
         _ => unreachable!(),
     };
     Ok(reply)

@@ -2,9 +2,9 @@
 ghost use Rattle.std.specs.Prelude.{◌≡◌, ℕ, [], List, IfOk, IsOk};
 ghost use Rattle.seq_objects.specs.Orders.{StrictlyAscends};
 ghost use Rattle.seq_objects.specs.Serial.{replies_to_all, after_all, of_set};
-ghost use Rattle.seq_objects.specs.Pieces.{AllMeet, Opening};
+ghost use Rattle.seq_objects.specs.Pieces.{AllMeet, BatchContext};
 ghost use Rattle.batched_tree.specs.declared.part.Part.{Part as PartOf};
-ghost use Rattle.batched_tree.specs.Pieces.{MayServe, Meets, Cut, Remembers};
+ghost use Rattle.batched_tree.specs.Pieces.{MayServe, Meets, Cut, IsContextOf};
 
 use crate::cut::parts_of;
 use crate::groups::{groups_of, keys_of, starts_of};
@@ -71,7 +71,7 @@ impl Batched for TreeSet {
 
     ghost meets = { Meets };
 
-    ghost remembers = { Remembers };
+    ghost is_context_of = { IsContextOf };
 
     fn begin(self, alloc: Global, calls: &[Call]) -> Result<(Groups, Vec<Part>), AllocError> {
         self.row.keys_ascend();
@@ -92,9 +92,9 @@ impl Batched for TreeSet {
         rest: Groups,
         outs: Vec<Served>,
     ) -> Result<(TreeSet, Vec<Reply>), AllocError>
-        requires { (o : Opening (List ℕ) PartOf) × Remembers rest o × AllMeet Meets o.ins outs.items }
-        ensures replies { IfOk result (λ p. (o : Opening (List ℕ) PartOf) → Remembers rest o → AllMeet Meets o.ins outs.items → p.1.items ≡ replies_to_all (of_set o.before) o.calls) }
-        ensures content { IfOk result (λ p. (o : Opening (List ℕ) PartOf) → Remembers rest o → AllMeet Meets o.ins outs.items → of_set p.0 ≡ after_all (of_set o.before) o.calls) }
+        requires { (o : BatchContext (List ℕ) PartOf) × IsContextOf rest o × AllMeet Meets o.ins outs.items }
+        ensures replies { IfOk result (λ p. (o : BatchContext (List ℕ) PartOf) → IsContextOf rest o → AllMeet Meets o.ins outs.items → p.1.items ≡ replies_to_all (of_set o.before) o.calls) }
+        ensures content { IfOk result (λ p. (o : BatchContext (List ℕ) PartOf) → IsContextOf rest o → AllMeet Meets o.ins outs.items → of_set p.0 ≡ after_all (of_set o.before) o.calls) }
     {
         let mut reserve = rest.reserve;
         let (row, pieces) = joined(alloc, outs, &mut reserve)?;

@@ -1,5 +1,5 @@
--- The calls of one batch, and of which object they are.
-use Rattle.std.specs.Prelude.{◌<◌, List, length, map, ⊤}
+-- The calls of one batch, and the object that an operation is of.
+use Rattle.std.specs.Prelude.{◌≡◌, ◌<◌, List, length, map}
 use Rattle.std.specs.List.{AllByRecursion}
 use Rattle.seq_objects.specs.declared.op.Op.{Op}
 use Rattle.seq_objects.specs.declared.op.Op.TheVariants.{CounterAdd, Push, Pop, TreeInsert, TreeRemove, TreeFind, TreeNext, PqInsert, PqTake}
@@ -18,54 +18,25 @@ pub record AreOneBatch (calls : List Call) : Type 0 where
   pub workers : AreDistinct (map (λ call. call.worker) calls)
   pub below : AllByRecursion (λ call. call.worker < 32) calls
 
--- the operations of the counter
-abbrev pub IsOfCounter : Op → Type 0
-IsOfCounter (CounterAdd addend) = ⊤
-IsOfCounter (Push item) = ⊥
-IsOfCounter Pop = ⊥
-IsOfCounter (TreeInsert key) = ⊥
-IsOfCounter (TreeRemove key) = ⊥
-IsOfCounter (TreeFind key) = ⊥
-IsOfCounter (TreeNext key) = ⊥
-IsOfCounter (PqInsert item) = ⊥
-IsOfCounter PqTake = ⊥
+-- one of the four shared objects
+pub data Object : Type 0 where
+  Counter : Object
+  Stack : Object
+  Tree : Object
+  Queue : Object
 
--- the operations of the stack
-abbrev pub IsOfStack : Op → Type 0
-IsOfStack (CounterAdd addend) = ⊥
-IsOfStack (Push item) = ⊤
-IsOfStack Pop = ⊤
-IsOfStack (TreeInsert key) = ⊥
-IsOfStack (TreeRemove key) = ⊥
-IsOfStack (TreeFind key) = ⊥
-IsOfStack (TreeNext key) = ⊥
-IsOfStack (PqInsert item) = ⊥
-IsOfStack PqTake = ⊥
-
--- the operations of the tree
-abbrev pub IsOfTree : Op → Type 0
-IsOfTree (CounterAdd addend) = ⊥
-IsOfTree (Push item) = ⊥
-IsOfTree Pop = ⊥
-IsOfTree (TreeInsert key) = ⊤
-IsOfTree (TreeRemove key) = ⊤
-IsOfTree (TreeFind key) = ⊤
-IsOfTree (TreeNext key) = ⊤
-IsOfTree (PqInsert item) = ⊥
-IsOfTree PqTake = ⊥
-
--- the operations of the queue
-abbrev pub IsOfQueue : Op → Type 0
-IsOfQueue (CounterAdd addend) = ⊥
-IsOfQueue (Push item) = ⊥
-IsOfQueue Pop = ⊥
-IsOfQueue (TreeInsert key) = ⊥
-IsOfQueue (TreeRemove key) = ⊥
-IsOfQueue (TreeFind key) = ⊥
-IsOfQueue (TreeNext key) = ⊥
-IsOfQueue (PqInsert item) = ⊤
-IsOfQueue PqTake = ⊤
+-- the object that an operation is of
+abbrev pub object_of : Op → Object
+object_of (CounterAdd addend) = Counter
+object_of (Push item) = Stack
+object_of Pop = Stack
+object_of (TreeInsert key) = Tree
+object_of (TreeRemove key) = Tree
+object_of (TreeFind key) = Tree
+object_of (TreeNext key) = Tree
+object_of (PqInsert item) = Queue
+object_of PqTake = Queue
 
 -- all calls are of one object
-abbrev pub AreOf : (Op → Type 0) → List Call → Type 0
-AreOf IsOfObject calls = AllByRecursion (λ call. IsOfObject call.op) calls
+abbrev pub AreOf : Object → List Call → Type 0
+AreOf object calls = AllByRecursion (λ call. object_of call.op ≡ object) calls

@@ -1,7 +1,7 @@
 pub mod Objects
 pub mod BatchOrder
 pub mod Batches
-pub mod Heaps
+pub mod Code
 pub mod Orders
 pub mod Pairs
 pub mod Pieces

@@ -57,10 +57,12 @@ least bag = slice_get bag 0
 abbrev pub without_least : List ℕ → List ℕ
 without_least bag = drop 1 bag
 
+-- the reply whether something is so
 abbrev pub yes_or_no : Bool → Reply
 yes_or_no true = reply.Yes
 yes_or_no false = reply.No
 
+-- the reply that is a number, if there is one
 abbrev pub number_or_empty : Option ℕ → Reply
 number_or_empty (Some number) = reply.Number number
 number_or_empty None = reply.Empty
@@ -77,35 +79,25 @@ serve objects (TreeNext key) = (objects, number_or_empty (least_above key object
 serve objects (PqInsert item) = (record objects { bag = with_item item objects.bag }, reply.Unit)
 serve objects PqTake = (record objects { bag = without_least objects.bag }, number_or_empty (least objects.bag))
 
+-- the objects after an operation
 abbrev pub after : Objects → Op → Objects
 after objects op = (serve objects op).0
 
+-- the reply to an operation
 abbrev pub reply_to : Objects → Op → Reply
 reply_to objects op = (serve objects op).1
 
 -- the number in the reply to a counter add fits 64 bits; all other operations can be served always
 abbrev pub CanServe : Objects → Op → Type 0
 CanServe objects (CounterAdd addend) = objects.counter + addend < 2 ^ 64
-CanServe objects (Push item) = ⊤
-CanServe objects Pop = ⊤
-CanServe objects (TreeInsert key) = ⊤
-CanServe objects (TreeRemove key) = ⊤
-CanServe objects (TreeFind key) = ⊤
-CanServe objects (TreeNext key) = ⊤
-CanServe objects (PqInsert item) = ⊤
-CanServe objects PqTake = ⊤
+CanServe objects _ = ⊤
 
 -- the operations that are served without new memory: all but those that put something in
 abbrev pub TakesNoMemory : Op → Type 0
-TakesNoMemory (CounterAdd addend) = ⊤
 TakesNoMemory (Push item) = ⊥
-TakesNoMemory Pop = ⊤
 TakesNoMemory (TreeInsert key) = ⊥
-TakesNoMemory (TreeRemove key) = ⊤
-TakesNoMemory (TreeFind key) = ⊤
-TakesNoMemory (TreeNext key) = ⊤
 TakesNoMemory (PqInsert item) = ⊥
-TakesNoMemory PqTake = ⊤
+TakesNoMemory _ = ⊤
 
 -- the number that an operation carries; 0 where it carries none
 abbrev pub argument_of : Op → ℕ

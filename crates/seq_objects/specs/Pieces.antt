@@ -9,8 +9,8 @@ AllMeet meets [] (out ∷ outs) = ⊥
 AllMeet meets (input ∷ ins) [] = ⊥
 AllMeet meets (input ∷ ins) (out ∷ outs) = meets input out × AllMeet meets ins outs
 
--- how a batch was opened: the structure before it, its calls, and the pieces into which it was cut
-pub record Opening (Structure In : Type 0) : Type 0 where
+-- the context of a batch: the structure before it, its calls, and the pieces into which it was cut
+pub record BatchContext (Structure In : Type 0) : Type 0 where
   pub before : Structure
   pub calls : List Call
   pub ins : List In

@@ -1,11 +1,11 @@
-//! What the leaves of a job do.
+//! What a leaf of a job does: work of its own, or a call of a shared object.
 
 use crate::op::Op;
 
 /// What a leaf of a job does.
 #[derive(Clone, Copy, Debug, PartialEq, Eq)]
 pub enum Act {
-    /// So many steps of work, without a call.
+    /// Work of this number of steps, without a call.
     Work(u32),
     /// One call of a shared object.
     Call(Op),

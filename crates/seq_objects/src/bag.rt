@@ -17,7 +17,7 @@ impl Model for Bag {
     ghost use Rattle.std.specs.Prelude.{ℕ, List};
     ghost use Rattle.std.specs.BinaryHeap.{heap_items, IsHeap};
     ghost use Rattle.std.specs.Ordering.{nat_cmp};
-    ghost use Rattle.seq_objects.specs.Heaps.{ascending};
+    ghost use Rattle.seq_objects.specs.Code.Heaps.{ascending};
 
     ghost Value = { List ℕ };
 

@@ -3,7 +3,7 @@ ghost use Rattle.std.specs.Prelude.{◌≡◌, ℕ, ◌≤◌, List, IfOk, lengt
 ghost use Rattle.seq_objects.specs.Objects.{Objects};
 ghost use Rattle.seq_objects.specs.Batches.{AreOneBatch};
 ghost use Rattle.seq_objects.specs.Serial.{after_all, replies_to_all};
-ghost use Rattle.seq_objects.specs.Pieces.{AllMeet, Opening};
+ghost use Rattle.seq_objects.specs.Pieces.{AllMeet, BatchContext};
 ghost use Rattle.seq_objects.specs.declared.call.Call.{Call as CallOf};
 
 use crate::call::Call;
@@ -25,7 +25,7 @@ pub trait Batched: Sized + Drop {
     /// How many pieces a batch has at most.
     const MOST: u32;
 
-    /// The same number, for contracts.
+    /// `MOST`, for contracts.
     ghost MOST: { ℕ };
 
     /// What the structure contains, as serial objects of which the others are as at the opening.
@@ -40,8 +40,8 @@ pub trait Batched: Sized + Drop {
     /// What a piece owes: its out as the in determines it.
     ghost meets: { Self.In → Self.Out → Type 0 };
 
-    /// What is kept belongs to a batch that was opened so.
-    ghost remembers: { Self.Rest → Opening Self Self.In → Type 0 };
+    /// What is kept belongs to a batch of this context.
+    ghost is_context_of: { Self.Rest → BatchContext Self Self.In → Type 0 };
 
     /// Cuts a batch into pieces, of which there is at least one.
     fn begin(self, alloc: Global, calls: &[Call]) -> Result<(Self::Rest, Vec<Self::In>), AllocError>
@@ -49,7 +49,7 @@ pub trait Batched: Sized + Drop {
         requires may { may_serve (content self) calls.now }
         ensures count { IfOk result (λ p. (1 ≤ length p.1.items) × (length p.1.items ≤ MOST)) }
         ensures cut { IfOk result (λ p. cut (content self) calls.now p.1.items) }
-        ensures remembers { IfOk result (λ p. remembers p.0 (record { before = self; calls = calls.now; ins = p.1.items })) };
+        ensures remembers { IfOk result (λ p. is_context_of p.0 (record { before = self; calls = calls.now; ins = p.1.items })) };
 
     /// Works on one piece.
     fn piece(alloc: Global, input: Self::In) -> Result<Self::Out, AllocError>
@@ -64,9 +64,9 @@ pub trait Batched: Sized + Drop {
         rest: Self::Rest,
         outs: Vec<Self::Out>,
     ) -> Result<(Self, Vec<Reply>), AllocError>
-        requires { (o : Opening Self Self.In) × remembers rest o × AllMeet meets o.ins outs.items }
-        ensures replies { IfOk result (λ p. (o : Opening Self Self.In) → remembers rest o → AllMeet meets o.ins outs.items → p.1.items ≡ replies_to_all (content o.before) o.calls) }
-        ensures content { IfOk result (λ p. (o : Opening Self Self.In) → remembers rest o → AllMeet meets o.ins outs.items → content p.0 ≡ after_all (content o.before) o.calls) };
+        requires { (o : BatchContext Self Self.In) × is_context_of rest o × AllMeet meets o.ins outs.items }
+        ensures replies { IfOk result (λ p. (o : BatchContext Self Self.In) → is_context_of rest o → AllMeet meets o.ins outs.items → p.1.items ≡ replies_to_all (content o.before) o.calls) }
+        ensures content { IfOk result (λ p. (o : BatchContext Self Self.In) → is_context_of rest o → AllMeet meets o.ins outs.items → content p.0 ≡ after_all (content o.before) o.calls) };
 }
 
 /// Serves a batch by its pieces, one piece after another. The structure is given up when memory runs out.

@@ -10,6 +10,7 @@
 
 pub mod act;
 mod bag;
+pub mod batch_order;
 pub mod batched;
 pub mod call;
 pub mod laws;
@@ -19,12 +20,10 @@ pub mod reply;
 pub mod work;
 
 pub use act::Act;
+pub use batch_order::{comes_first, place_in_batch_order};
 pub use batched::{Batched, serve_batch};
-pub use call::{Call, comes_first};
+pub use call::Call;
 pub use op::Op;
 pub use plain::Plain;
 pub use reply::{Reply, value};
 pub use work::spin;
-
-#[cfg(test)]
-mod tests;

@@ -1,6 +1,6 @@
 //! The shared objects as one thread has them.
 ghost use Rattle.std.specs.Prelude.{◌≡◌, IfOk, OnOk, OnErr, IsOk};
-ghost use Rattle.seq_objects.specs.Objects.{opening, after, reply_to, CanServe, TakesNoMemory, number_or_empty, yes_or_no, least_above};
+ghost use Rattle.seq_objects.specs.Objects.{opening, after, reply_to, CanServe, TakesNoMemory, least_above};
 
 use crate::bag::Bag;
 use crate::op::Op;
@@ -28,7 +28,9 @@ impl Model for Plain {
 }
 
 impl Plain {
-    /// The opening objects. It takes no memory.
+    /// The objects at the opening.
+    ///
+    /// Memory: none.
     pub fn new(alloc: Global) -> Plain
         ensures { result ≡ opening }
     {
@@ -40,7 +42,9 @@ impl Plain {
         }
     }
 
-    /// Serves one operation. Those that put nothing in take no memory.
+    /// Serves one operation.
+    ///
+    /// Memory: none for the operations that put nothing in.
     #[tactic(auto, using(crate::proofs::Keys::same_has, crate::proofs::Keys::same_with_key, crate::proofs::Keys::same_without_key))]
     pub fn serve(&mut self, op: Op) -> Result<Reply, AllocError>
         requires { CanServe self.old op }
@@ -58,37 +62,22 @@ impl Plain {
                 self.stack.push(item)?;
                 Reply::Unit
             }
-            Op::Pop => number_or_empty(self.stack.pop()),
-            Op::TreeInsert(key) => yes_or_no(self.tree.insert(key)?),
-            Op::TreeRemove(key) => yes_or_no(self.tree.remove(&key)),
-            Op::TreeFind(key) => yes_or_no(self.tree.contains(&key)),
-            Op::TreeNext(key) => number_or_empty(next_key(&self.tree, key)),
+            Op::Pop => Reply::number_or_empty(self.stack.pop()),
+            Op::TreeInsert(key) => Reply::yes_or_no(self.tree.insert(key)?),
+            Op::TreeRemove(key) => Reply::yes_or_no(self.tree.remove(&key)),
+            Op::TreeFind(key) => Reply::yes_or_no(self.tree.contains(&key)),
+            Op::TreeNext(key) => Reply::number_or_empty(next_key(&self.tree, key)),
             Op::PqInsert(item) => {
                 self.queue.insert(item)?;
                 Reply::Unit
             }
-            Op::PqTake => number_or_empty(self.queue.take_least()),
+            Op::PqTake => Reply::number_or_empty(self.queue.take_least()),
         };
         Ok(reply)
     }
 }
 
-fn number_or_empty(number: Option<u32>) -> Reply
-    ensures { result ≡ number_or_empty number }
-{
-    match number {
-        Some(number) => Reply::Number(u64::from(number)),
-        None => Reply::Empty,
-    }
-}
-
-fn yes_or_no(yes: bool) -> Reply
-    ensures { result ≡ yes_or_no yes }
-{
-    if yes { Reply::Yes } else { Reply::No }
-}
-
-/// The least of the keys that are greater.
+/// The least of the keys that are greater than `key`.
 #[tactic(auto, using(crate::proofs::Keys::first_above))]
 fn next_key(keys: &BTreeSet<u32>, key: u32) -> Option<u32>
     ensures { result ≡ least_above key keys.now.keys }

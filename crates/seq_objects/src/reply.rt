@@ -1,6 +1,6 @@
 //! What the operations reply.
 ghost use Rattle.std.specs.Prelude.{◌≡◌};
-ghost use Rattle.seq_objects.specs.Objects.{value_of};
+ghost use Rattle.seq_objects.specs.Objects.{number_or_empty, yes_or_no, value_of};
 
 use std::fmt;
 
@@ -36,7 +36,28 @@ impl fmt::Display for Reply {
     }
 }
 
-/// The number that a reply stands for, which becomes the value of its leaf. It takes no memory.
+impl Reply {
+    /// The reply that is a number, if there is one.
+    pub fn number_or_empty(number: Option<u32>) -> Reply
+        ensures { result ≡ number_or_empty number }
+    {
+        match number {
+            Some(number) => Reply::Number(u64::from(number)),
+            None => Reply::Empty,
+        }
+    }
+
+    /// The reply whether something is so.
+    pub fn yes_or_no(yes: bool) -> Reply
+        ensures { result ≡ yes_or_no yes }
+    {
+        if yes { Reply::Yes } else { Reply::No }
+    }
+}
+
+/// The number that a reply stands for, which becomes the value of its leaf.
+///
+/// Memory: none.
 pub fn value(reply: Reply) -> u64
     ensures { result ≡ value_of reply }
 {

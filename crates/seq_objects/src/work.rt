@@ -2,8 +2,9 @@
 ghost use Rattle.std.specs.Prelude.{◌≡◌};
 ghost use Rattle.seq_objects.specs.Spin.{spin_of};
 
-/// The value of `n` steps of work: from `n` on, `n` times five times the number and one more, modulo 2^32.
-/// It takes no memory, and as many steps as it says.
+/// The value of `n` steps of work: `x` begins as `n`, and each step makes it `5 * x + 1` modulo 2^32.
+///
+/// Memory: none. Time: `n` steps.
 pub fn spin(n: u32) -> u32
     ensures { result ≡ spin_of n }
 {

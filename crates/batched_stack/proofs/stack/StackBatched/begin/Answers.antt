@@ -5,7 +5,7 @@ use Rattle.batched_stack.specs.Stripes.{StackView}
 use Rattle.batched_stack.specs.Lists.{lists}
 use Rattle.batched_stack.specs.declared.stack.Rest.{Rest}
 use Rattle.batched_stack.specs.Calls.{pushed, pop_count}
-use Rattle.batched_stack.specs.Pieces.{Cut, Remembers, piece_numbers, numbers_in}
+use Rattle.batched_stack.specs.Pieces.{Cut, IsContextOf, piece_numbers, numbers_in}
 use Rattle.batched_stack.specs.Cuts.{IsCutOf}
 use Rattle.batched_stack.proofs.Remembered.{piece_count, numbers_seen, pieces_seen, remembered}
 use Rattle.batched_stack.proofs.stack.StackBatched.begin.Goals as goal
@@ -41,5 +41,5 @@ returns-clause-remembers c =
     let pushes : c.len-2.result ≡ length c.in_ok-items.items.items = search rules in
     let rest : Rest = record { stripes = c.in_ok-stripes.stripes; count = count; pushes = c.len-2.result; pops = c.pops_of-pops.result } in
     let fits : count + c.len-2.result < 2 ^ 63 = search rules in
-    subst (λ (v : StackView). Remembers rest (record { before = v; calls = calls; ins = pieces })) c.self.view_is
+    subst (λ (v : StackView). IsContextOf rest (record { before = v; calls = calls; ins = pieces })) c.self.view_is
     (remembered stripes c.self.inside.rooms.items rest calls pieces c.self.invariant c.requires.batch c.requires.may numbers each (pushes ∙ ap length c.in_ok-items.ensures) takes fits c.in_ok-stripes.ensures.sixteen c.in_ok-stripes.ensures.kept)

@@ -1,5 +1,5 @@
 use Rattle.std.proofs.Common.{◌≡◌, ◌∷◌, sym, ◌∙◌, refl}
-use Rattle.seq_objects.specs.Heaps.{ascending}
+use Rattle.seq_objects.specs.Code.Heaps.{ascending}
 use Rattle.seq_objects.proofs.Bags.{same_numbers, least_first}
 use Rattle.seq_objects.proofs.bag.Bag.take_least.Goals as goal
 

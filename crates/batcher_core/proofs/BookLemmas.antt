@@ -4,4 +4,5 @@ pub mod Search
 pub mod CallsIn
 pub mod LeavesIn
 pub mod Room
+pub mod EntryCount
 pub mod EntryPlaces

@@ -9,7 +9,7 @@ use Rattle.batcher_core.specs.State.{core_job}
 use Rattle.batcher_core.specs.Operations.{op_in, IsCall}
 
 -- what is past the acts does not call
-call_within : (acts : List Act) (u : ℕ) → op_in (get_or acts u (Work 0)) ≢ None → u < length acts
+pub call_within : (acts : List Act) (u : ℕ) → op_in (get_or acts u (Work 0)) ≢ None → u < length acts
 call_within [] u call = absurd (call refl)
 call_within (act ∷ acts) zero call = omega arith
 call_within (act ∷ acts) (suc u) call = let h = call_within acts u call in omega (arith, h)

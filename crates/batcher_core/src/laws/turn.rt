@@ -1,9 +1,12 @@
 //! The laws of a worker's turn, each as the contract of a function that does nothing.
 ghost use Rattle.std.specs.Prelude.{◌≡◌, ◌≢◌, ℕ, ◌<◌, ◌≤◌, ◌+◌, ◌*◌, Bool, true, false, None, Some, List, [], ◌∷◌, length};
 ghost use Rattle.seq_objects.specs.Spin.{spin_of};
+ghost use Rattle.seq_objects.specs.declared.act.Act.{Act};
 ghost use Rattle.seq_objects.specs.declared.act.Act.TheVariants.{Work};
-ghost use Rattle.sp_order.specs.Precedence.{Tree, leaf};
-ghost use Rattle.sp_order.specs.declared.node.Kind.TheVariants.{ParNode};
+ghost use Rattle.batch_history.specs.Book.{flat};
+ghost use Rattle.batcher_core.specs.Operations.{IsCall};
+ghost use Rattle.sp_order.specs.Precedence.{Tree, leaf, leaves};
+ghost use Rattle.sp_order.specs.declared.node.Kind.TheVariants.{LeafNode, ParNode};
 ghost use Rattle.sp_order.specs.Plans.{IsPlan, IsSide};
 ghost use Rattle.batcher_core.specs.declared.state.task.Task.TheVariants.{Idle, Whole};
 ghost use Rattle.sp_order.specs.PlanOf.{IsPlanOf};
@@ -19,7 +22,7 @@ ghost use Rattle.batcher_core.specs.Runs.{Step, Reaches, TurnsReach, driven, IsR
 ghost use Rattle.batcher_core.specs.Tasks.{is_done};
 ghost use Rattle.batcher_core.specs.Measure.{measure, call_count};
 
-use sp_order::laws::plan_has_sides;
+use sp_order::laws::{leaf_has_one_node, plan_has_sides, plan_stands_for_tree};
 
 /// The event that a worker's turn makes has what it needs.
 pub fn choice_has_its_needs()
@@ -118,6 +121,22 @@ pub fn driven_runs_are_short()
 pub fn ticks_are_few()
     ensures { (job : CoreJob) (state : State) → IsPlan job.plan → Parts job state → state.tick ≤ 2 * job.plan.count }
 {}
+
+/// The book has no more entries than the job has leaves that call. Of a plan each such leaf is to have a node, as in the
+/// plan of a tree that has as many leaves as there are acts.
+pub fn entries_are_few()
+    ensures plan { (job : CoreJob) (state : State) → IsPlan job.plan
+        → ((leaf : ℕ) → IsCall job leaf → (n : ℕ) × (job.plan.kind n ≡ Some (LeafNode leaf)))
+        → Parts job state
+        → length (flat state.book) ≤ call_count job }
+    ensures tree { (tree : Tree) (acts : List Act) (workers : ℕ) (state : State) → length acts ≡ leaves tree
+        → Parts (core_job tree acts workers) state
+        → length (flat state.book) ≤ call_count (core_job tree acts workers) }
+{
+    plan_stands_for_tree();
+    plan_has_sides();
+    leaf_has_one_node();
+}
 
 /// A side that is to arrive at a parallel block is the first or the second.
 pub fn sides_are_two()

@@ -4,3 +4,4 @@ pub mod ServedCalls
 pub mod Made
 pub mod History
 pub mod Publishing
+pub mod Existence

@@ -6,3 +6,4 @@ pub mod OneRun
 pub mod OneWork
 pub mod Taken
 pub mod Rounds
+pub mod Existence

@@ -5,7 +5,7 @@ use Rattle.batcher_core.specs.Lists.{ready_after}
 use Rattle.batcher_core.specs.State.{CoreJob, CoreState, opening_core}
 use Rattle.batcher_core.specs.Tasks.{is_done}
 use Rattle.batcher_core.specs.declared.event.Event.{Event}
-use Rattle.std.specs.Prelude.{List, None, Option, Some, [], false, true, ℕ, ◌%◌, ◌+◌, ◌-◌, ◌∷◌, ◌≡◌}
+use Rattle.std.specs.Prelude.{List, None, Option, Some, [], false, true, ℕ, ◌%◌, ◌++◌, ◌+◌, ◌∷◌, ◌≡◌}
 
 -- the opening state, and each that an event takes a reached state to
 pub data IsReached (job : CoreJob) : CoreState → Type 0 where
@@ -53,6 +53,19 @@ pub data Drives (job : CoreJob) : CoreState → List ℕ → ℕ → CoreState �
       → IsTurn job s worker next → Drives job next schedule robin last → Drives job s (worker ∷ schedule) robin last
   by_robin : {s next last : CoreState} {robin : ℕ} → is_done (s.state.node 0) ≡ false
       → IsTurn job s robin next → Drives job next [] ((robin + 1) % job.workers) last → Drives job s [] robin last
+
+-- the step of a worker's turn: none where the turn makes no event
+abbrev pub step_of : ℕ → Option Event → List Step
+step_of worker None = []
+step_of worker (Some event) = record { worker = worker; event = event } ∷ []
+
+-- the steps of such turns, in order
+abbrev pub steps_of : (job : CoreJob) (first last : CoreState) (schedule : List ℕ) (robin : ℕ) → Drives job first schedule robin last → List Step
+steps_of job first last schedule robin (over done) = []
+steps_of job first last schedule robin (by_schedule {next = next} {worker = worker} {robin = on} {schedule = rest} going turn drives) =
+    step_of worker (choice job first worker) ++ steps_of job next last rest on drives
+steps_of job first last schedule robin (by_robin {next = next} going turn drives) =
+    step_of robin (choice job first robin) ++ steps_of job next last [] ((robin + 1) % job.workers) drives
 
 -- the schedule, and then all workers round robin from worker 0 on, drive the job from its opening state to this one
 abbrev pub driven : CoreJob → List ℕ → CoreState → Type 0

@@ -1,11 +1,11 @@
 -- What runs and schedules reach.
-use Rattle.std.proofs.Common.{ℕ, ◌≡◌, ◌+◌, ◌%◌, true, Option, Some, None, List, [], ◌∷◌, refl, subst, sym}
+use Rattle.std.proofs.Common.{ℕ, ◌≡◌, ◌+◌, ◌%◌, true, Option, Some, None, List, [], ◌∷◌, ◌++◌, refl, subst, sym}
 use Rattle.batcher_core.specs.declared.event.Event.{Event}
 use Rattle.batcher_core.specs.declared.event.Event.TheVariants.{Claim}
 use Rattle.batcher_core.specs.State.{CoreJob, CoreState, opening_state, opening_core}
 use Rattle.batcher_core.specs.Tasks.{is_done}
 use Rattle.batcher_core.specs.Choice.{choice, choice_steal}
-use Rattle.batcher_core.specs.Runs.{TurnsReach, IsReached, at_opening, by_event, IsStep, Step, ReachesFrom, Reaches, IsTurnOf, IsTurn, Drives, over, by_schedule, by_robin, driven}
+use Rattle.batcher_core.specs.Runs.{TurnsReach, IsReached, at_opening, by_event, IsStep, Step, ReachesFrom, Reaches, IsTurnOf, IsTurn, Drives, over, by_schedule, by_robin, step_of, steps_of, driven}
 
 step_reached : (job : CoreJob) (old new : CoreState) (w : ℕ) (event : Event) → IsReached job old → IsStep job old w event new → IsReached job new
 step_reached job old new w event before step = by_event before (record { event = event; is = refl; happens = step.happens; lists = step.lists })
@@ -53,16 +53,18 @@ pub opening_stolen : (job : CoreJob) → job.workers ≡ 2 → choice job openin
 unfolding opening_core opening_state choice_steal
 opening_stolen job two = rw two refl
 
--- the events of a turn, and those of the turns after it
-turn_leads : (job : CoreJob) (s next last : CoreState) (w : ℕ) (o : Option Event) → choice job s w ≡ o → IsTurnOf job s w o next
-    → (steps : List Step) × TurnsReach job next steps last → (steps : List Step) × TurnsReach job s steps last
-turn_leads job s next last w None chosen same rest = (rest.0, subst (λ (x : CoreState). TurnsReach job x rest.0 last) same rest.1)
-turn_leads job s next last w (Some event) chosen step rest = (record { worker = w; event = event } ∷ rest.0, (next, chosen, step, rest.1))
+-- the step of a turn, and those of the turns after it
+turn_leads : (job : CoreJob) (s next last : CoreState) (w : ℕ) (o : Option Event) (steps : List Step) → choice job s w ≡ o → IsTurnOf job s w o next
+    → TurnsReach job next steps last → TurnsReach job s (step_of w o ++ steps) last
+turn_leads job s next last w None steps chosen same rest = subst (λ (x : CoreState). TurnsReach job x steps last) same rest
+turn_leads job s next last w (Some event) steps chosen step rest = (next, chosen, step, rest)
 
--- the events of the run of a schedule are those of turns
-pub drives_lead : (job : CoreJob) (s last : CoreState) (schedule : List ℕ) (robin : ℕ) → Drives job s schedule robin last → (steps : List Step) × TurnsReach job s steps last
-drives_lead job s last schedule robin (over done) = ([], refl)
+-- the steps of the run of a schedule are those of turns
+pub drives_lead : (job : CoreJob) (s last : CoreState) (schedule : List ℕ) (robin : ℕ) (drives : Drives job s schedule robin last)
+    → TurnsReach job s (steps_of job s last schedule robin drives) last
+drives_lead job s last schedule robin (over done) = refl
 drives_lead job s last schedule robin (by_schedule {next = next} {worker = worker} {robin = on} {schedule = rest} going turn drives) =
-    turn_leads job s next last worker (choice job s worker) refl turn (drives_lead job next last rest on drives)
+    turn_leads job s next last worker (choice job s worker) (steps_of job next last rest on drives) refl turn (drives_lead job next last rest on drives)
 drives_lead job s last schedule robin (by_robin {next = next} going turn drives) =
-    turn_leads job s next last robin (choice job s robin) refl turn (drives_lead job next last [] ((robin + 1) % job.workers) drives)
+    turn_leads job s next last robin (choice job s robin) (steps_of job next last [] ((robin + 1) % job.workers) drives) refl turn
+    (drives_lead job next last [] ((robin + 1) % job.workers) drives)

@@ -1,5 +1,6 @@
 //! The laws of a worker's turn, each as the contract of a function that does nothing.
 ghost use Rattle.std.specs.Prelude.{◌≡◌, ◌≢◌, ℕ, ◌<◌, ◌≤◌, ◌+◌, ◌*◌, Bool, true, false, None, Some, List, [], ◌∷◌, length};
+ghost use Rattle.std.specs.List.{AllByRecursion};
 ghost use Rattle.seq_objects.specs.Spin.{spin_of};
 ghost use Rattle.seq_objects.specs.declared.act.Act.{Act};
 ghost use Rattle.seq_objects.specs.declared.act.Act.TheVariants.{Work};
@@ -14,11 +15,11 @@ ghost use Rattle.batcher_core.specs.declared.state.progress.Progress.TheVariants
 ghost use Rattle.batcher_core.specs.declared.event.Event.{Event};
 ghost use Rattle.batcher_core.specs.declared.event.Event.TheVariants.{Claim};
 ghost use Rattle.batcher_core.specs.State.{CoreJob, State, CoreState, opening_state, opening_core, core_job};
-ghost use Rattle.batcher_core.specs.Events.{Needs, Does};
+ghost use Rattle.batcher_core.specs.Events.{Needs, Does, Happens};
 ghost use Rattle.batcher_core.specs.Invariant.{Parts, Invariant};
 ghost use Rattle.batcher_core.specs.Choice.{choice, LeavesAnEnd};
 ghost use Rattle.batcher_core.specs.Ranges.{IsInRange};
-ghost use Rattle.batcher_core.specs.Runs.{Step, Reaches, TurnsReach, driven, IsReached};
+ghost use Rattle.batcher_core.specs.Runs.{Step, Reaches, TurnsReach, driven, IsReached, IsStep, steps_of};
 ghost use Rattle.batcher_core.specs.Tasks.{is_done};
 ghost use Rattle.batcher_core.specs.Measure.{measure, call_count};
 
@@ -73,21 +74,50 @@ pub fn event_makes_one_state()
     ensures { (job : CoreJob) (state a b : State) (worker : ℕ) (event : Event) → Does job state worker event a → Does job state worker event b → a ≡ b }
 {}
 
+/// An event whose needs are met happens: there is a state that it makes.
+pub fn event_with_needs_happens()
+    ensures { (job : CoreJob) (state : State) (worker : ℕ) (event : Event) → Parts job state → worker < job.workers
+        → Needs job state worker event
+        → (new : State) × Happens job state worker event new }
+{}
+
+/// Each schedule of the workers drives the job of a tree to a state.
+pub fn schedule_drives_to_a_state()
+    ensures { (job : CoreJob) (tree : Tree) (schedule : List ℕ) → IsPlanOf job.plan tree → 0 < job.workers
+        → AllByRecursion (λ worker. worker < job.workers) schedule
+        → (state : CoreState) × driven job schedule state }
+{
+    plan_has_sides();
+}
+
 /// A schedule drives the job to one state only.
 pub fn schedule_drives_to_one_state()
     ensures { (job : CoreJob) (schedule : List ℕ) (a b : CoreState) → driven job schedule a → driven job schedule b → a ≡ b }
 {}
 
-/// Where the root is not done, the turn of some worker makes an event.
+/// Where the root is not done, the turn of some worker makes an event: that is chosen, and there is a state that it
+/// leads to.
 pub fn some_turn_makes_an_event()
-    ensures { (job : CoreJob) (tree : Tree) (state : CoreState) → IsPlanOf job.plan tree → Invariant job state → is_done (state.state.node 0) ≡ false → (worker : ℕ) × (worker < job.workers) × (choice job state worker ≢ None) }
+    ensures { (job : CoreJob) (tree : Tree) (state : CoreState) → IsPlanOf job.plan tree → Invariant job state
+        → is_done (state.state.node 0) ≡ false
+        → (worker : ℕ) × (worker < job.workers)
+        × (event : Event) × (choice job state worker ≡ Some event)
+        × (new : CoreState) × IsStep job state worker event new }
 {
     plan_has_sides();
 }
 
-/// Where the root is not done, and those workers have no task that do not go on, the turn of one that goes on makes an event.
+/// Where some workers have stopped, each without a task, and the root is not done, the turn of one that goes on makes
+/// an event.
 pub fn some_live_turn_makes_an_event()
-    ensures { (job : CoreJob) (tree : Tree) (state : CoreState) (live : ℕ → Bool) (one : ℕ) → IsPlanOf job.plan tree → Invariant job state → is_done (state.state.node 0) ≡ false → one < job.workers → live one ≡ true → ((w : ℕ) → w < job.workers → live w ≡ false → state.state.task w ≡ Idle) → (worker : ℕ) × (worker < job.workers) × (live worker ≡ true) × (choice job state worker ≢ None) }
+    ensures { (job : CoreJob) (tree : Tree) (state : CoreState) (live : ℕ → Bool) (one : ℕ) → IsPlanOf job.plan tree
+        → Invariant job state
+        → is_done (state.state.node 0) ≡ false
+        → one < job.workers → live one ≡ true
+        → ((w : ℕ) → w < job.workers → live w ≡ false → state.state.task w ≡ Idle)
+        → (worker : ℕ) × (worker < job.workers) × (live worker ≡ true)
+        × (event : Event) × (choice job state worker ≡ Some event)
+        × (new : CoreState) × IsStep job state worker event new }
 {
     plan_has_sides();
 }
@@ -110,9 +140,12 @@ pub fn runs_by_turns_are_short()
     plan_has_sides();
 }
 
-/// And so has the run of each schedule.
+/// The run of a schedule is such a run: its events are those of its turns, and they are no more than that.
 pub fn driven_runs_are_short()
-    ensures { (job : CoreJob) (tree : Tree) (schedule : List ℕ) (state : CoreState) → IsPlanOf job.plan tree → 0 < job.workers → driven job schedule state → (steps : List Step) × TurnsReach job opening_core steps state × (length steps ≤ 6 * job.plan.count + call_count job * (job.workers + 6)) }
+    ensures { (job : CoreJob) (tree : Tree) (schedule : List ℕ) (state : CoreState) → IsPlanOf job.plan tree → 0 < job.workers
+        → (drives : driven job schedule state)
+        → TurnsReach job opening_core (steps_of job opening_core state schedule 0 drives) state
+        × (length (steps_of job opening_core state schedule 0 drives) ≤ 6 * job.plan.count + call_count job * (job.workers + 6)) }
 {
     plan_has_sides();
 }

@@ -1,4 +1,5 @@
 use Rattle.batcher_core.specs.State.{opening_core}
+use Rattle.batcher_core.specs.Runs.{steps_of}
 use Rattle.batcher_core.proofs.InvariantLemmas.Reached.{has_root}
 use Rattle.batcher_core.proofs.RunLemmas.Facts.{drives_lead}
 use Rattle.batcher_core.proofs.RunLemmas.Turns.{run_is_short}
@@ -7,4 +8,4 @@ use Rattle.batcher_core.proofs.laws.turn.driven_runs_are_short.Goals as goal
 pub returns : goal.returns
 returns c job tree schedule state plan some drives =
     let run = drives_lead job opening_core state schedule 0 drives in
-    (run.0, run.1, run_is_short job run.0 state (c.plan_has_sides.ensures job.plan tree plan) (has_root job.plan tree plan) some run.1)
+    (run, run_is_short job (steps_of job opening_core state schedule 0 drives) state (c.plan_has_sides.ensures job.plan tree plan) (has_root job.plan tree plan) some run)

@@ -1,6 +1,13 @@
-use Rattle.batcher_core.proofs.ChoiceLemmas.Progress.{some_turn}
+use Rattle.std.proofs.Common.{refl}
+use Rattle.batcher_core.specs.Choice.{choice}
 use Rattle.batcher_core.proofs.Inductive.FromParts.{parts_carried}
+use Rattle.batcher_core.proofs.ChoiceLemmas.Progress.{some_turn}
+use Rattle.batcher_core.proofs.RunLemmas.Existence.{chosen_step}
 use Rattle.batcher_core.proofs.laws.turn.some_turn_makes_an_event.Goals as goal
 
 pub returns : goal.returns
-returns c job tree state plan inv going = some_turn job tree state (c.plan_has_sides.ensures job.plan tree plan) plan (parts_carried job state.state inv.parts) inv.lists going
+returns c job tree state plan inv going =
+    let laws = c.plan_has_sides.ensures job.plan tree plan in
+    let some = some_turn job tree state laws plan (parts_carried job state.state inv.parts) inv.lists going in
+    let step = chosen_step job laws state some.0 (choice job state some.0) some.1 inv refl some.2 in
+    (some.0, some.1, step.0, step.1, step.2, step.3)

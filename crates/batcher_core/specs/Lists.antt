@@ -2,7 +2,7 @@
 use Rattle.batcher_core.specs.State.{put}
 use Rattle.batcher_core.specs.declared.event.Event.{Event}
 use Rattle.batcher_core.specs.declared.event.Event.TheVariants.{Claim, OpenParLeft, OpenParRight, OpenSeqLeft, OpenSeqRight}
-use Rattle.std.specs.Prelude.{List, [], if◌then◌else◌, ℕ, ◌++◌, ◌+◌, ◌-◌, ◌==◌, ◌∷◌}
+use Rattle.std.specs.Prelude.{List, [], if◌then◌else◌, ℕ, ◌++◌, ◌+◌, ◌==◌, ◌∷◌}
 
 -- the list without this number
 abbrev pub without : ℕ → List ℕ → List ℕ

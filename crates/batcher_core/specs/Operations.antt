@@ -7,7 +7,7 @@ use Rattle.seq_objects.specs.declared.act.Act.TheVariants.{Call, Work}
 use Rattle.seq_objects.specs.declared.op.Op.{Op}
 use Rattle.sp_order.specs.declared.node.Kind.{Kind}
 use Rattle.sp_order.specs.declared.node.Kind.TheVariants.{LeafNode, ParNode, SeqNode}
-use Rattle.std.specs.Prelude.{List, None, Option, Some, [], if◌then◌else◌, ℕ, ◌+◌, ◌-◌, ◌==◌, ◌∷◌, ◌≡◌, ◌≢◌}
+use Rattle.std.specs.Prelude.{List, None, Option, Some, [], if◌then◌else◌, ℕ, ◌+◌, ◌==◌, ◌∷◌, ◌≡◌, ◌≢◌}
 
 -- the leaf that a node is
 abbrev pub leaf_of : Option Kind → ℕ

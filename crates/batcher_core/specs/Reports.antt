@@ -9,7 +9,7 @@ use Rattle.seq_objects.specs.declared.act.Act.{Act}
 use Rattle.sp_order.specs.Jobs.{JobValue}
 use Rattle.sp_order.specs.Precedence.{Tree, leaves}
 use Rattle.std.specs.List.{AllByRecursion, range_with_len}
-use Rattle.std.specs.Prelude.{List, None, Option, Some, [], map, ℕ, ◌-◌, ◌≡◌}
+use Rattle.std.specs.Prelude.{List, None, Option, Some, [], map, ℕ, ◌≡◌}
 
 -- a leaf has run that has come so far
 abbrev pub HasRun : Progress → Type 0

@@ -15,7 +15,7 @@ use Rattle.seq_objects.specs.declared.act.Act.TheVariants.{Work}
 use Rattle.sp_order.specs.Plans.{Nodes}
 use Rattle.sp_order.specs.Precedence.{Tree}
 use Rattle.sp_order.specs.Preorder.{nodes_of}
-use Rattle.std.specs.Prelude.{Bool, List, None, Option, [], if◌then◌else◌, slice_index_or, ℕ, ◌-◌, ◌==◌, ◌∷◌}
+use Rattle.std.specs.Prelude.{Bool, List, None, Option, [], if◌then◌else◌, slice_index_or, ℕ, ◌==◌, ◌∷◌}
 
 -- f with the value x at n
 abbrev pub put : {A : Type 0} → (ℕ → A) → ℕ → A → ℕ → A

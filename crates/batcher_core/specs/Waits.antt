@@ -14,7 +14,7 @@ use Rattle.batcher_core.specs.declared.state.status.Status.{Status}
 use Rattle.batcher_core.specs.declared.state.status.Status.TheVariants.{Executing, Free, Pending, Served}
 use Rattle.batcher_core.specs.declared.state.task.Task.{Task}
 use Rattle.batcher_core.specs.declared.state.task.Task.TheVariants.{Ended, Half, Handed, Idle, Kept, Run, Started, Whole}
-use Rattle.std.specs.Prelude.{List, None, Option, Some, false, length, true, ℕ, ◌+◌, ◌-◌, ◌≡◌, ◌≢◌, ◌≤◌, ◌⊎◌}
+use Rattle.std.specs.Prelude.{List, None, Option, Some, false, length, true, ℕ, ◌+◌, ◌≡◌, ◌≢◌, ◌≤◌, ◌⊎◌}
 
 -- the worker is trapped
 abbrev pub IsTrapped : State → ℕ → Type 0

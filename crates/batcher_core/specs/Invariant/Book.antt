@@ -6,10 +6,9 @@ use Rattle.batcher_core.specs.Operations.{IsCall, Place, op_of, place_of}
 use Rattle.batcher_core.specs.Serving.{served}
 use Rattle.batcher_core.specs.State.{CoreJob, State}
 use Rattle.seq_objects.specs.Pairs.{AreDistinct}
-use Rattle.sp_order.specs.Precedence.{leaves}
 use Rattle.sp_order.specs.declared.node.Kind.TheVariants.{LeafNode}
 use Rattle.std.specs.List.{AllByRecursion}
-use Rattle.std.specs.Prelude.{Some, map, ℕ, ◌-◌, ◌<◌, ◌≡◌}
+use Rattle.std.specs.Prelude.{Some, map, ℕ, ◌<◌, ◌≡◌}
 
 -- The book.
 pub record BookInvariant (job : CoreJob) (s : State) : Type 0 where

@@ -4,7 +4,7 @@ use Rattle.batcher_core.specs.declared.state.status.CallState.{CallState}
 use Rattle.batcher_core.specs.declared.state.status.CallState.TheVariants.{Out}
 use Rattle.batcher_core.specs.declared.state.status.Status.{Status}
 use Rattle.batcher_core.specs.declared.state.status.Status.TheVariants.{Pending}
-use Rattle.std.specs.Prelude.{Bool, None, Option, Some, false, true, ℕ, ◌-◌, ◌<◌, ◌≡◌, ◌≢◌, ◌≤◌}
+use Rattle.std.specs.Prelude.{Bool, None, Option, Some, false, true, ℕ, ◌<◌, ◌≡◌, ◌≢◌, ◌≤◌}
 
 abbrev pub is_published : Option Hold → Bool
 is_published None = false

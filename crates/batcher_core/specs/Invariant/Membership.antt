@@ -8,7 +8,7 @@ use Rattle.batcher_core.specs.declared.state.status.Receipt.{Receipt}
 use Rattle.batcher_core.specs.declared.state.status.Status.TheVariants.{Executing, Served}
 use Rattle.batcher_core.specs.declared.state.task.Task.TheVariants.{Ended, Kept, Started}
 use Rattle.sp_order.specs.declared.node.Kind.TheVariants.{LeafNode}
-use Rattle.std.specs.Prelude.{Some, true, ℕ, ◌-◌, ◌≡◌, ◌⊎◌}
+use Rattle.std.specs.Prelude.{Some, true, ℕ, ◌≡◌, ◌⊎◌}
 
 -- the call of the leaf at this node is in the book, if it has one, as the call of this worker
 abbrev pub IsBooked : State → ℕ → ℕ → Type 0

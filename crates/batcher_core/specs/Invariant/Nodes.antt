@@ -5,7 +5,7 @@ use Rattle.batcher_core.specs.declared.state.progress.Progress.{Progress}
 use Rattle.batcher_core.specs.declared.state.progress.Progress.TheVariants.{Done, Ran, Ready, Waiting}
 use Rattle.sp_order.specs.Plans.{IsSide, IsUnder, Nodes}
 use Rattle.sp_order.specs.declared.node.Kind.TheVariants.{SeqNode}
-use Rattle.std.specs.Prelude.{None, Some, true, ℕ, ◌-◌, ◌≡◌, ◌≢◌, ◌⊎◌}
+use Rattle.std.specs.Prelude.{None, Some, true, ℕ, ◌≡◌, ◌≢◌, ◌⊎◌}
 
 -- the node is under a side of the other one
 abbrev pub IsDescendant : Nodes → ℕ → ℕ → Type 0

@@ -2,7 +2,7 @@
 use Rattle.batcher_core.specs.Lists.{times}
 use Rattle.batcher_core.specs.declared.state.progress.Progress.{Progress}
 use Rattle.batcher_core.specs.declared.state.progress.Progress.TheVariants.{Ready}
-use Rattle.std.specs.Prelude.{List, ℕ, ◌-◌, ◌<◌, ◌≡◌, ◌≢◌}
+use Rattle.std.specs.Prelude.{List, ℕ, ◌<◌, ◌≡◌, ◌≢◌}
 
 -- each ready node stands in the list of one of the workers, once, and in no other; and lists hold ready nodes only
 pub record ReadyListsInvariant (workers : ℕ) (node : ℕ → Progress) (ready : ℕ → List ℕ) : Type 0 where

@@ -7,7 +7,7 @@ use Rattle.batcher_core.specs.declared.state.status.Receipt.{Receipt}
 use Rattle.batcher_core.specs.declared.state.status.Status.TheVariants.{Executing, Free, Served}
 use Rattle.batcher_core.specs.declared.state.task.Task.{Task}
 use Rattle.batcher_core.specs.declared.state.task.Task.TheVariants.{Ended, Half, Handed, Idle, Kept, Run, Started, Whole}
-use Rattle.std.specs.Prelude.{Bool, List, None, Option, Some, false, not, true, ℕ, ◌&&◌, ◌-◌, ◌↔◌, ◌≡◌, ◌≢◌}
+use Rattle.std.specs.Prelude.{Bool, List, None, Option, Some, false, not, true, ℕ, ◌&&◌, ◌↔◌, ◌≡◌, ◌≢◌}
 
 -- the task is started at a leaf that calls
 abbrev pub IsAtCall : CoreJob → Task → Type 0

@@ -7,7 +7,7 @@ use Rattle.batcher_core.specs.declared.state.task.Task.{Task}
 use Rattle.batcher_core.specs.declared.state.task.Task.TheVariants.{Ended, Half, Handed, Idle, Kept, Run, Started, Whole}
 use Rattle.sp_order.specs.Plans.{IsSide, Nodes}
 use Rattle.sp_order.specs.declared.node.Kind.TheVariants.{ParNode, SeqNode}
-use Rattle.std.specs.Prelude.{Some, true, ℕ, ◌+◌, ◌-◌, ◌<◌, ◌≡◌, ◌≢◌, ◌⊎◌}
+use Rattle.std.specs.Prelude.{Some, true, ℕ, ◌+◌, ◌<◌, ◌≡◌, ◌≢◌, ◌⊎◌}
 
 -- some task names the node
 abbrev pub IsNamed : (ℕ → Task) → ℕ → Type 0

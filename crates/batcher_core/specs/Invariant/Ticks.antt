@@ -5,7 +5,7 @@ use Rattle.batcher_core.specs.declared.state.progress.Progress.TheVariants.{Ran}
 use Rattle.batcher_core.specs.declared.state.task.Task.{Task}
 use Rattle.batcher_core.specs.declared.state.task.Task.TheVariants.{Ended, Half, Handed, Idle, Kept, Run, Started, Whole}
 use Rattle.sp_order.specs.Plans.{IsBySeries, Nodes}
-use Rattle.std.specs.Prelude.{ℕ, ◌-◌, ◌<◌, ◌≡◌, ◌⊎◌}
+use Rattle.std.specs.Prelude.{ℕ, ◌<◌, ◌≡◌, ◌⊎◌}
 
 -- the task names the node as started, kept or ended, with this start
 abbrev pub IsStartedAs : Task → ℕ → ℕ → Type 0

@@ -11,7 +11,7 @@ use Rattle.seq_objects.specs.Spin.{spin_of}
 use Rattle.seq_objects.specs.declared.act.Act.{Act}
 use Rattle.seq_objects.specs.declared.act.Act.TheVariants.{Call, Work}
 use Rattle.sp_order.specs.declared.node.Kind.TheVariants.{LeafNode}
-use Rattle.std.specs.Prelude.{Contains, List, Some, true, ℕ, ◌-◌, ◌≡◌, ◌⊎◌}
+use Rattle.std.specs.Prelude.{Contains, List, Some, true, ℕ, ◌≡◌, ◌⊎◌}
 
 -- the leaf is done, or a task kept or ended names it
 abbrev pub IsKept : (ℕ → Progress) → (ℕ → Task) → ℕ → Type 0

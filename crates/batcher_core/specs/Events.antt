@@ -1,10 +1,9 @@
 -- The events: what each needs of the state, and what it does to it.
 use Rattle.batch_history.specs.Book.{IsBatch, IsLegalFrom}
 use Rattle.batch_history.specs.declared.batch.Entry.{Entry}
-use Rattle.batcher_core.specs.Lists.{ready_after}
 use Rattle.batcher_core.specs.Operations.{IsCall, IsLeaf, IsReceipt, leaf_of, op_of, place_of}
 use Rattle.batcher_core.specs.Serving.{served}
-use Rattle.batcher_core.specs.State.{CoreJob, CoreState, Hold, State, put}
+use Rattle.batcher_core.specs.State.{CoreJob, Hold, State, put}
 use Rattle.batcher_core.specs.declared.event.Event.{Event}
 use Rattle.batcher_core.specs.declared.event.Event.TheVariants.{Answer, ArriveFirst, ArriveSecond, Claim, End, FinishLeaf, FinishPar, FinishSeq, Keep, Leave, OpenParLeft, OpenParRight, OpenSeqLeft, OpenSeqRight, Post, Publish, Release, Start, Take, Win}
 use Rattle.batcher_core.specs.declared.state.progress.Progress.TheVariants.{Done, Ran, Ready, Taken}
@@ -190,10 +189,3 @@ pub record IsEvent (job : CoreJob) (old : State) (worker : ℕ) (kind : EventKin
   pub event : Event
   pub is : kind_of event ≡ kind
   pub happens : Happens job old worker event new
-
--- and the same of a state with its lists
-pub record IsCoreEvent (job : CoreJob) (old : CoreState) (worker : ℕ) (kind : EventKind) (new : CoreState) : Type 0 where
-  pub event : Event
-  pub is : kind_of event ≡ kind
-  pub happens : Happens job old.state worker event new.state
-  pub lists : new.ready ≡ ready_after worker event old.ready

@@ -1,16 +1,11 @@
 -- The states that a core can reach, the runs that reach them, and the run of a schedule.
 use Rattle.batcher_core.specs.Choice.{choice}
-use Rattle.batcher_core.specs.Events.{EventKind, Happens, IsCoreEvent}
+use Rattle.batcher_core.specs.Events.{Happens}
 use Rattle.batcher_core.specs.Lists.{ready_after}
 use Rattle.batcher_core.specs.State.{CoreJob, CoreState, opening_core}
 use Rattle.batcher_core.specs.Tasks.{is_done}
 use Rattle.batcher_core.specs.declared.event.Event.{Event}
 use Rattle.std.specs.Prelude.{List, None, Option, Some, [], false, true, ℕ, ◌%◌, ◌++◌, ◌+◌, ◌∷◌, ◌≡◌}
-
--- the opening state, and each that an event takes a reached state to
-pub data IsReached (job : CoreJob) : CoreState → Type 0 where
-  at_opening : IsReached job opening_core
-  by_event : {old new : CoreState} {worker : ℕ} {kind : EventKind} → IsReached job old → IsCoreEvent job old worker kind new → IsReached job new
 
 -- this event of a worker takes the old state to the new one, with its lists
 pub record IsStep (job : CoreJob) (old : CoreState) (worker : ℕ) (event : Event) (new : CoreState) : Type 0 where
@@ -30,6 +25,10 @@ ReachesFrom job first (step ∷ steps) last = (next : CoreState) × IsStep job f
 -- these steps lead from the opening state to this one
 abbrev pub Reaches : CoreJob → List Step → CoreState → Type 0
 Reaches job steps s = ReachesFrom job opening_core steps s
+
+-- some steps lead to this state
+abbrev pub IsReached : CoreJob → CoreState → Type 0
+IsReached job s = (steps : List Step) × Reaches job steps s
 
 -- what a turn of this worker does with this choice: the event happens; where there is none nothing changes
 abbrev pub IsTurnOf : CoreJob → CoreState → ℕ → Option Event → CoreState → Type 0

@@ -2,5 +2,6 @@
 
 pub mod invariant;
 pub mod report;
+pub mod run;
 pub mod turn;
 pub mod wait;

@@ -13,8 +13,7 @@ use Rattle.batcher_core.proofs.InvariantLemmas.Reached.{has_root}
 use Rattle.batcher_core.proofs.BookLemmas.LeavesIn.{leaves_in}
 use Rattle.batcher_core.proofs.BookLemmas.CallsIn.{calls_in}
 use Rattle.batcher_core.specs.Invariant.{Invariant}
-use Rattle.batcher_core.specs.Runs.{at_opening}
-use Rattle.batcher_core.proofs.InvariantLemmas.Reached.{reached_invariant}
+use Rattle.batcher_core.proofs.InvariantLemmas.Reached.{opening_invariant}
 
 core_opens : opening_core.state ≡ opening_state
 unfolding opening_core
@@ -47,5 +46,5 @@ opening_fits tree shape acts workers t some few stands laws most is leaves sizes
   counter = counter_opens t state;
   filled = filled;
   inv = subst (Invariant (core_job tree acts workers)) (sym (shown_opening t state lists))
-      (reached_invariant (core_job tree acts workers) opening_core laws (has_root (nodes_of tree) tree stands) some at_opening);
+      (opening_invariant (core_job tree acts workers) laws (has_root (nodes_of tree) tree stands) some);
 }

@@ -14,7 +14,6 @@ use Rattle.batcher_core.specs.Code.Abstraction.{state_of, ready_of, core_state_o
 use Rattle.batcher_core.specs.Code.Core.{RepInvariant, IsTurnResult}
 use Rattle.batcher_core.proofs.ChoiceLemmas.Choices.{none_has_no_event}
 use Rattle.batcher_core.proofs.ChoiceLemmas.Allowed.{chosen_needs}
-use Rattle.batcher_core.specs.Events.{kind_of}
 use Rattle.batcher_core.proofs.Inductive.FromParts.{kept_parts, event_keeps_all}
 
 sizes_kept : (old new : StoredState) (nodes workers : ℕ) → Sizes old nodes workers → SameSizes old new → Sizes new nodes workers
@@ -47,8 +46,8 @@ module _ (tree : Tree) (acts : List Act) (workers : ℕ) (old new : StoredState)
     sizes = sizes_kept old new (nodes_of tree).count workers h.sizes same;
     counter = same.counter_same h.counter;
     filled = same.filled_same h.filled;
-    inv = event_keeps_all (core_job tree acts workers) (core_state_of old) (core_state_of new) w (kind_of event) h.laws h.inv
-        (record { event = event; is = refl; happens = happens; lists = lists });
+    inv = event_keeps_all (core_job tree acts workers) (core_state_of old) (core_state_of new) w event h.laws h.inv
+        (record { happens = happens; lists = lists });
   }
 
   -- an event was chosen, and has happened
@@ -60,4 +59,4 @@ pub makes_none : (tree : Tree) (acts : List Act) (workers : ℕ) (old : StoredSt
     → RepInvariant tree acts workers old → w < workers → choice (core_job tree acts workers) (core_state_of old) w ≡ None
     → IsTurnResult Idle (core_job tree acts workers) (core_state_of old) w (core_state_of old)
 makes_none tree acts workers old w h below none =
-    (refl, λ kind next is. none_has_no_event (core_job tree acts workers) (core_state_of old) w h.laws below (kept_parts tree acts workers old h) h.inv.lists none is.event is.happens.needs)
+    (refl, λ event next is. none_has_no_event (core_job tree acts workers) (core_state_of old) w h.laws below (kept_parts tree acts workers old h) h.inv.lists none event is.happens.needs)

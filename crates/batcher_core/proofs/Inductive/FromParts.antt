@@ -29,7 +29,8 @@ use Rattle.batcher_core.specs.Tasks.{is_done, names}
 use Rattle.batcher_core.specs.Invariant.Tasks.{TaskFits}
 use Rattle.batcher_core.specs.Choice.{least_below}
 use Rattle.batcher_core.specs.declared.event.Event.{Event}
-use Rattle.batcher_core.specs.Events.{EventKind, Happens, IsCoreEvent}
+use Rattle.batcher_core.specs.Events.{Happens}
+use Rattle.batcher_core.specs.Runs.{IsStep}
 use Rattle.batcher_core.specs.Lists.{times}
 use Rattle.batcher_core.specs.Invariant.ReadyLists.{ReadyListsInvariant}
 use Rattle.batcher_core.specs.Invariant.Nodes.{NodesInvariant}
@@ -488,15 +489,15 @@ pub event_keeps_parts : (job : CoreJob) (s new : State) (w : ℕ) (event : Event
 event_keeps_parts job s new w event laws h go = parts_stand job new (event_keeps job s new w event laws (parts_carried job s h) go)
 
 -- and the invariant
-pub event_keeps_all : (job : CoreJob) (old new : CoreState) (w : ℕ) (kind : EventKind) → IsPlan job.plan → Invariant job old → IsCoreEvent job old w kind new → Invariant job new
-event_keeps_all job old new w kind laws h step =
+pub event_keeps_all : (job : CoreJob) (old new : CoreState) (w : ℕ) (event : Event) → IsPlan job.plan → Invariant job old → IsStep job old w event new → Invariant job new
+event_keeps_all job old new w event laws h step =
     let parts = parts_carried job old.state h.parts in
     let lists = lists_carried job.workers old.state.node old.ready h.lists in
     record {
-      parts = parts_stand job new.state (event_keeps job old.state new.state w step.event laws parts step.happens);
+      parts = parts_stand job new.state (event_keeps job old.state new.state w event laws parts step.happens);
       lists = lists_fit job.workers new.state.node new.ready
           (subst (InductiveLists job.workers new.state.node) (sym step.lists)
-          (lists_after job old.state w old.ready laws parts step.happens.worker_in lists step.event new.state step.happens.needs step.happens.does));
+          (lists_after job old.state w old.ready laws parts step.happens.worker_in lists event new.state step.happens.needs step.happens.does));
     }
 
 -- what is carried of a table that fits

@@ -1,15 +1,15 @@
 -- Each state that can be reached has the invariant.
-use Rattle.std.proofs.Common.{◌≢◌, ◌<◌, ℕ, None, sym, subst}
+use Rattle.std.proofs.Common.{◌≢◌, ◌<◌, ℕ, None, List, [], ◌∷◌, sym, subst}
 use Rattle.sp_order.specs.declared.node.Move.TheVariants.{Root}
 use Rattle.sp_order.specs.Precedence.{Tree, leaf, seq, par}
 use Rattle.sp_order.specs.Plans.{Nodes, IsPlan}
 use Rattle.sp_order.specs.PlanOf.{OccursAt, IsPlanOf}
 use Rattle.batcher_core.specs.State.{CoreJob, CoreState, opening_core}
-use Rattle.batcher_core.specs.Events.{EventKind, IsCoreEvent}
+use Rattle.batcher_core.specs.declared.event.Event.{Event}
 use Rattle.batcher_core.specs.Invariant.{Invariant}
 use Rattle.batcher_core.proofs.Inductive.Parts.{InductiveParts}
 use Rattle.batcher_core.proofs.Inductive.Lists.{InductiveLists}
-use Rattle.batcher_core.specs.Runs.{IsReached, at_opening, by_event}
+use Rattle.batcher_core.specs.Runs.{IsStep, Step, ReachesFrom, IsReached}
 use Rattle.batcher_core.proofs.InvariantLemmas.EachEvent.{event_keeps}
 use Rattle.batcher_core.proofs.InvariantLemmas.Opening.{opening_kept}
 use Rattle.batcher_core.proofs.Inductive.PartsHold.{parts_stand}
@@ -36,24 +36,33 @@ unfolding opening_core
 opening_carried job laws root some = record { parts = opening_kept job laws root; lists = opening_lists job.workers some }
 
 -- an event
-event_carried : (job : CoreJob) (old new : CoreState) (w : ℕ) (kind : EventKind) → IsPlan job.plan → Carried job old → IsCoreEvent job old w kind new → Carried job new
-event_carried job old new w kind laws h step = record {
-  parts = event_keeps job old.state new.state w step.event laws h.parts step.happens;
+event_carried : (job : CoreJob) (old new : CoreState) (w : ℕ) (event : Event) → IsPlan job.plan → Carried job old → IsStep job old w event new → Carried job new
+event_carried job old new w event laws h step = record {
+  parts = event_keeps job old.state new.state w event laws h.parts step.happens;
   lists = subst (InductiveLists job.workers new.state.node) (sym step.lists)
-      (lists_after job old.state w old.ready laws h.parts step.happens.worker_in h.lists step.event new.state step.happens.needs step.happens.does);
+      (lists_after job old.state w old.ready laws h.parts step.happens.worker_in h.lists event new.state step.happens.needs step.happens.does);
 }
 
--- all events so far
-reached_carried : (job : CoreJob) (s : CoreState) → IsPlan job.plan → job.plan.kind 0 ≢ None → 0 < job.workers → IsReached job s → Carried job s
-reached_carried job s laws root some at_opening = opening_carried job laws root some
-reached_carried job s laws root some (by_event {old = old} {new = new} {worker = w} {kind = kind} before step) = event_carried job old new w kind laws (reached_carried job old laws root some before) step
+-- a run
+run_carried : (job : CoreJob) (first last : CoreState) (steps : List Step) → IsPlan job.plan → Carried job first → ReachesFrom job first steps last → Carried job last
+run_carried job first last [] laws h same = subst (Carried job) (sym same) h
+run_carried job first last (step ∷ steps) laws h run =
+    run_carried job run.0 last steps laws (event_carried job first run.0 step.worker step.event laws h run.1) run.2
 
--- what is carried of its state, without the lists
-pub reached_parts : (job : CoreJob) (s : CoreState) → IsPlan job.plan → job.plan.kind 0 ≢ None → 0 < job.workers → IsReached job s → InductiveParts job s.state
-reached_parts job s laws root some reached = (reached_carried job s laws root some reached).parts
+carried_holds : (job : CoreJob) (s : CoreState) → Carried job s → Invariant job s
+carried_holds job s h = record { parts = parts_stand job s.state h.parts; lists = lists_fit job.workers s.state.node s.ready h.lists }
 
--- so the invariant holds
-pub reached_invariant : (job : CoreJob) (s : CoreState) → IsPlan job.plan → job.plan.kind 0 ≢ None → 0 < job.workers → IsReached job s → Invariant job s
-reached_invariant job s laws root some reached =
-    let h : Carried job s = reached_carried job s laws root some reached in
-    record { parts = parts_stand job s.state h.parts; lists = lists_fit job.workers s.state.node s.ready h.lists }
+module _ (job : CoreJob) (laws : IsPlan job.plan) (root : job.plan.kind 0 ≢ None) (some : 0 < job.workers) where
+  reached_carried : (s : CoreState) → IsReached job s → Carried job s
+  reached_carried s reached = run_carried job opening_core s reached.0 laws (opening_carried job laws root some) reached.1
+
+  pub opening_invariant : Invariant job opening_core
+  opening_invariant = carried_holds job opening_core (opening_carried job laws root some)
+
+  -- what is carried of its state, without the lists
+  pub reached_parts : (s : CoreState) → IsReached job s → InductiveParts job s.state
+  reached_parts s reached = (reached_carried s reached).parts
+
+  -- so the invariant holds
+  pub reached_invariant : (s : CoreState) → IsReached job s → Invariant job s
+  reached_invariant s reached = carried_holds job s (reached_carried s reached)

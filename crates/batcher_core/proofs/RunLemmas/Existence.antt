@@ -9,7 +9,7 @@ use Rattle.sp_order.specs.PlanOf.{IsPlanOf}
 use Rattle.batcher_core.specs.declared.event.Event.{Event}
 use Rattle.batcher_core.specs.declared.event.Event.TheVariants.{Claim, Start, OpenParRight, OpenParLeft, OpenSeqLeft, OpenSeqRight, Post, Win, Take, Publish, Answer, Release, Leave, Keep, End, FinishLeaf, FinishSeq, FinishPar, ArriveFirst, ArriveSecond}
 use Rattle.batcher_core.specs.Choice.{choice}
-use Rattle.batcher_core.specs.Events.{Needs, Does, Happens, kind_of, made, published}
+use Rattle.batcher_core.specs.Events.{Needs, Does, Happens, made, published}
 use Rattle.batcher_core.specs.Invariant.{Invariant}
 use Rattle.batcher_core.specs.Lists.{ready_after}
 use Rattle.batcher_core.specs.Runs.{IsStep, IsTurnOf, IsTurn, Drives, over, by_schedule, by_robin}
@@ -75,7 +75,7 @@ module _ (job : CoreJob) (laws : IsPlan job.plan) where
   turn_of_some s w None among inv none = (s, refl, inv)
   turn_of_some s w (Some event) among inv chosen =
       let new = step_some s w event among inv chosen in
-      (new.0, new.1, event_keeps_all job s new.0 w (kind_of event) laws inv (record { event = event; is = refl; happens = new.1.happens; lists = new.1.lists }))
+      (new.0, new.1, event_keeps_all job s new.0 w event laws inv new.1)
 
   -- so each turn makes a state, which has the invariant
   turn_some : (s : CoreState) (w : ℕ) → w < job.workers → Invariant job s → (new : CoreState) × IsTurn job s w new × Invariant job new

@@ -2,7 +2,6 @@
 use Rattle.batcher_core.specs.Choice.{choice}
 use Rattle.batcher_core.specs.Code.Abstraction.{CounterFits, FilledFits, Sizes, core_state_of, state_of}
 use Rattle.batcher_core.specs.Code.Lookups.{LeafIn, work_due}
-use Rattle.batcher_core.specs.Events.{EventKind, IsCoreEvent}
 use Rattle.batcher_core.specs.Invariant.{Invariant}
 use Rattle.batcher_core.specs.Operations.{IsCall}
 use Rattle.batcher_core.specs.Runs.{IsStep}
@@ -71,4 +70,4 @@ turn_answer (Some steps) (Some spun) chosen = moved_if chosen
 abbrev pub IsTurnResult : Turn → CoreJob → CoreState → ℕ → CoreState → Type 0
 IsTurnResult Moved job old w new = (event : Event) × (choice job old w ≡ Some event) × IsStep job old w event new
 IsTurnResult (Spin steps) job old w new = new ≡ old
-IsTurnResult Idle job old w new = (new ≡ old) × ((kind : EventKind) (next : CoreState) → IsCoreEvent job old w kind next → ⊥)
+IsTurnResult Idle job old w new = (new ≡ old) × ((event : Event) (next : CoreState) → IsStep job old w event next → ⊥)

@@ -16,16 +16,26 @@ use sp_order::laws::{
     before_is_by_series, leaf_has_one_node, plan_has_sides, plan_stands_for_tree,
 };
 
-/// Where the root is done, so is each node, each worker is idle and its status is free, and nobody has the flag.
+/// Where the root is done, each node is done, each worker is idle with its status free, and nobody has the flag.
 pub fn done_root_ends_all()
-    ensures { (job : CoreJob) (tree : Tree) (state : State) → IsPlanOf job.plan tree → Parts job state → is_done (state.node 0) ≡ true → ((n : ℕ) → job.plan.kind n ≢ None → is_done (state.node n) ≡ true) × ((w : ℕ) → state.task w ≡ Idle) × ((w : ℕ) → state.status w ≡ Free) × (state.hold ≡ None) }
+    ensures { (job : CoreJob) (tree : Tree) (state : State) → IsPlanOf job.plan tree
+        → Parts job state
+        → is_done (state.node 0) ≡ true
+        → ((n : ℕ) → job.plan.kind n ≢ None → is_done (state.node n) ≡ true)
+        × ((w : ℕ) → state.task w ≡ Idle)
+        × ((w : ℕ) → state.status w ≡ Free)
+        × (state.hold ≡ None) }
 {
     plan_has_sides();
 }
 
-/// And each leaf has run, and has a value.
+/// Where the root is done, each leaf has run and has a value.
 pub fn done_leaves_have_run()
-    ensures { (job : CoreJob) (tree : Tree) (state : State) → IsPlanOf job.plan tree → Parts job state → is_done (state.node 0) ≡ true → (leaf : ℕ) → leaf < leaves tree → HasRun (state.node (job.plan.node_of leaf)) × (state.value (job.plan.node_of leaf) ≢ None) }
+    ensures { (job : CoreJob) (tree : Tree) (state : State) → IsPlanOf job.plan tree
+        → Parts job state
+        → is_done (state.node 0) ≡ true
+        → (leaf : ℕ) → leaf < leaves tree
+        → HasRun (state.node (job.plan.node_of leaf)) × (state.value (job.plan.node_of leaf) ≢ None) }
 {
     plan_has_sides();
     leaf_has_one_node();
@@ -33,7 +43,11 @@ pub fn done_leaves_have_run()
 
 /// The report of a state whose root is done is lawful.
 pub fn done_report_is_lawful()
-    ensures { (tree : Tree) (acts : List Act) (workers : ℕ) (state : State) (report : Report) → length acts ≡ leaves tree → Parts (core_job tree acts workers) state → is_done (state.node 0) ≡ true → IsReportOf (core_job tree acts workers) (leaves tree) state report → Lawful (record { shape = Some tree; acts = acts }) workers report }
+    ensures { (tree : Tree) (acts : List Act) (workers : ℕ) (state : State) (report : Report) → length acts ≡ leaves tree
+        → Parts (core_job tree acts workers) state
+        → is_done (state.node 0) ≡ true
+        → IsReportOf (core_job tree acts workers) (leaves tree) state report
+        → Lawful (record { shape = Some tree; acts = acts }) workers report }
 {
     plan_stands_for_tree();
     plan_has_sides();
@@ -43,5 +57,7 @@ pub fn done_report_is_lawful()
 
 /// A state has one report at most.
 pub fn report_is_one()
-    ensures { (job : CoreJob) (leaf_total : ℕ) (state : State) (a b : Report) → IsReportOf job leaf_total state a → IsReportOf job leaf_total state b → a ≡ b }
+    ensures { (job : CoreJob) (leaf_total : ℕ) (state : State) (a b : Report) → IsReportOf job leaf_total state a
+        → IsReportOf job leaf_total state b
+        → a ≡ b }
 {}

@@ -9,4 +9,4 @@ returns c tree acts workers worker first last receipt some reached pending stays
     let stands = c.plan_stands_for_tree.ensures tree in
     let laws = c.plan_has_sides.ensures (nodes_of tree) tree stands in
     let job = core_job tree acts workers in
-    one_of_two job worker first.state last receipt laws (reached_parts job first laws (has_root (nodes_of tree) tree stands) some reached) pending stays served
+    one_of_two job worker first.state last receipt laws (reached_parts job laws (has_root (nodes_of tree) tree stands) some first reached) pending stays served

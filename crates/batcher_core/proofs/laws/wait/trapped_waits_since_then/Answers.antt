@@ -13,4 +13,4 @@ returns-clause-reached c tree acts workers worker first last some reached stays 
     let stands = c.plan_stands_for_tree.ensures tree in
     let laws = c.plan_has_sides.ensures (nodes_of tree) tree stands in
     let job = core_job tree acts workers in
-    along_waits job worker first.state last laws (reached_parts job first laws (has_root (nodes_of tree) tree stands) some reached) stays
+    along_waits job worker first.state last laws (reached_parts job laws (has_root (nodes_of tree) tree stands) some first reached) stays

@@ -3,7 +3,7 @@ use Rattle.batcher_core.specs.Runs.{steps_of}
 use Rattle.batcher_core.proofs.InvariantLemmas.Reached.{has_root}
 use Rattle.batcher_core.proofs.RunLemmas.Facts.{drives_lead}
 use Rattle.batcher_core.proofs.RunLemmas.Turns.{run_is_short}
-use Rattle.batcher_core.proofs.laws.turn.driven_runs_are_short.Goals as goal
+use Rattle.batcher_core.proofs.laws.run.driven_runs_are_short.Goals as goal
 
 pub returns : goal.returns
 returns c job tree schedule state plan some drives =

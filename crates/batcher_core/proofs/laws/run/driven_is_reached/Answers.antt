@@ -1,5 +1,5 @@
 use Rattle.batcher_core.proofs.RunLemmas.Facts.{driven_reached, driven_done}
-use Rattle.batcher_core.proofs.laws.turn.driven_is_reached.Goals as goal
+use Rattle.batcher_core.proofs.laws.run.driven_is_reached.Goals as goal
 
 pub returns-clause-reached : goal.returns-clause-reached
 returns-clause-reached c job schedule state drives = driven_reached job schedule state drives

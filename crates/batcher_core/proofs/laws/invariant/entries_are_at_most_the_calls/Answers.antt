@@ -3,7 +3,7 @@ use Rattle.sp_order.specs.Preorder.{nodes_of}
 use Rattle.batcher_core.specs.State.{core_job}
 use Rattle.batcher_core.proofs.BookLemmas.EntryCount.{entries_few}
 use Rattle.batcher_core.proofs.BookLemmas.CallsIn.{call_within}
-use Rattle.batcher_core.proofs.laws.turn.entries_are_few.Goals as goal
+use Rattle.batcher_core.proofs.laws.invariant.entries_are_at_most_the_calls.Goals as goal
 
 pub returns-clause-plan : goal.returns-clause-plan
 returns-clause-plan c job state laws there parts = entries_few job laws there state parts

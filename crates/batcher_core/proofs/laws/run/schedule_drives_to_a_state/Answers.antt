@@ -1,0 +1,9 @@
+use Rattle.batcher_core.specs.State.{opening_core}
+use Rattle.batcher_core.proofs.InvariantLemmas.Reached.{has_root, opening_invariant}
+use Rattle.batcher_core.proofs.RunLemmas.Existence.{schedule_drives}
+use Rattle.batcher_core.proofs.laws.run.schedule_drives_to_a_state.Goals as goal
+
+pub returns : goal.returns
+returns c job tree schedule plan some among =
+    let laws = c.plan_has_sides.ensures job.plan tree plan in
+    schedule_drives job laws tree plan schedule opening_core some among (opening_invariant job laws (has_root job.plan tree plan) some)

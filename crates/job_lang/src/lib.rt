@@ -23,20 +23,12 @@ mod limits;
 mod reader;
 mod scanner;
 mod spelling;
-#[cfg(test)]
-mod tests;
 mod text;
-#[cfg(test)]
-mod text_tests;
 mod tokens;
-#[cfg(test)]
-mod tokens_tests;
 mod trim;
 mod width;
 mod word;
 mod writer;
-#[cfg(test)]
-mod writer_tests;
 
 pub use error::JobErr;
 pub use fault::JobFault;

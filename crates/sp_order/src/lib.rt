@@ -9,8 +9,6 @@ pub mod laws;
 pub mod node;
 pub mod plan;
 pub mod shape;
-#[cfg(test)]
-mod tests;
 
 pub use job::Job;
 pub use node::{Kind, Move};

@@ -1,0 +1,79 @@
+//! A small job, with its plan written out by hand.
+ghost use Rattle.std.specs.Prelude.{◌≡◌, Some, IfOk};
+ghost use Rattle.sp_order.specs.Precedence.{leaf, seq, par};
+
+use seq_objects::Act;
+use sp_order::{Job, Kind, Move, Plan, Shape};
+use std::alloc::{AllocError, Global};
+use std::fmt::Write;
+use std::test::Fail;
+
+/// The nodes of the small job's plan, each with what it is and what follows it.
+const NODES: &str = "0 series 1 2, the root
+1 leaf 0, opens the second side of 0
+2 parallel 3 4, finishes 0
+3 leaf 1, arrives at 2
+4 leaf 2, arrives at 2
+";
+
+/// Two leaves of the small job, and whether the first is before the second.
+const BEFORE: [(u32, u32, bool); 6] = [
+    (0, 1, true),
+    (0, 2, true),
+    (0, 0, false),
+    (1, 0, false),
+    (1, 2, false),
+    (2, 1, false),
+];
+
+/// `work 1 par { work 2 work 3 }`
+fn small_job(alloc: Global) -> Result<Job, AllocError>
+    ensures { IfOk result (λ job. job.shape ≡ Some (seq leaf (par leaf leaf))) }
+{
+    let pair = Shape::Par(Box::new(alloc, Shape::Leaf)?, Box::new(alloc, Shape::Leaf)?);
+    let shape = Shape::Seq(Box::new(alloc, Shape::Leaf)?, Box::new(alloc, pair)?);
+    let acts = vec![in alloc; Act::Work(1), Act::Work(2), Act::Work(3)]?;
+    Ok(Job::of(Some(shape), acts))
+}
+
+/// A line for each node of a plan.
+fn listed(alloc: Global, plan: &Plan) -> Result<String, AllocError> {
+    let mut lines = String::new(alloc);
+    for node in 0..plan.nodes() {
+        match plan.kind(node) {
+            Kind::LeafNode(leaf) => write!(lines, "{node} leaf {leaf}, ")?,
+            Kind::SeqNode(left, right) => write!(lines, "{node} series {left} {right}, ")?,
+            Kind::ParNode(left, right) => write!(lines, "{node} parallel {left} {right}, ")?,
+        }
+        match plan.after(node) {
+            Move::Root => writeln!(lines, "the root")?,
+            Move::OpenSecond(parent) => writeln!(lines, "opens the second side of {parent}")?,
+            Move::FinishParent(parent) => writeln!(lines, "finishes {parent}")?,
+            Move::Arrive(parent) => writeln!(lines, "arrives at {parent}")?,
+        }
+    }
+    Ok(lines)
+}
+
+#[test]
+fn nodes_are_numbered_in_preorder(rt: HostRuntime) -> Result<(), Fail> {
+    let job = small_job(rt.alloc())?;
+    assert_eq!(rt; job.depth(), 2);
+    let plan = Plan::of(rt.alloc(), &job)?;
+    assert_eq!(rt; listed(rt.alloc(), &plan)?.as_str(), NODES);
+    for (leaf, node) in [(0, 1), (1, 3), (2, 4)] {
+        assert!(rt; leaf < 3);
+        assert_eq!(rt; plan.node_of(leaf), node, "at leaf {leaf}");
+    }
+    Ok(())
+}
+
+#[test]
+fn leaves_are_ordered_by_series(rt: HostRuntime) -> Result<(), Fail> {
+    let plan = Plan::of(rt.alloc(), &small_job(rt.alloc())?)?;
+    for (u, v, expected) in BEFORE {
+        assert!(rt; u < 3 && v < 3);
+        assert_eq!(rt; plan.before(u, v), expected, "leaf {u} and leaf {v}");
+    }
+    Ok(())
+}

@@ -1,7 +1,7 @@
 -- How many leaves items make, and how deep their blocks nest. Counts have no bound.
 use Rattle.std.specs.Prelude.{ℕ, ◌+◌, ◌*◌, max, Some}
-use Rattle.job_lang.specs.declared.word.Word.{Word}
-use Rattle.job_lang.specs.declared.word.Word.TheVariants.{Number}
+use Rattle.job_lang.specs.declared.lexer.word.Word.{Word}
+use Rattle.job_lang.specs.declared.lexer.word.Word.TheVariants.{Number}
 use Rattle.job_lang.specs.Grammar.{Items, nothing, leaf_then, block_then, Head, seq_block, par_block, for_loop, pfor_loop}
 
 -- the number that a word says

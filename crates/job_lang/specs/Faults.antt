@@ -1,9 +1,9 @@
 -- The faults that a reader meets from left to right: the first token that faults decides, and behind them all the end of
 -- the text.
 use Rattle.std.specs.Prelude.{◌≡◌, ℕ, ◌+◌, ◌-◌, ◌<◌, ◌≤◌, List, [], ◌∷◌, ◌++◌, map, Bool, true, false, ◌⊎◌, None, IsTrue}
-use Rattle.job_lang.specs.declared.word.Word.{Word}
-use Rattle.job_lang.specs.declared.word.Word.TheVariants.{Open, Close, Number, Copies}
-use Rattle.job_lang.specs.declared.word.PlacedWord.{PlacedWord}
+use Rattle.job_lang.specs.declared.lexer.word.Word.{Word}
+use Rattle.job_lang.specs.declared.lexer.word.Word.TheVariants.{Open, Close, Number, Copies}
+use Rattle.job_lang.specs.declared.lexer.word.PlacedWord.{PlacedWord}
 use Rattle.job_lang.specs.declared.fault.JobFault.{JobFault}
 use Rattle.job_lang.specs.declared.fault.JobFault.TheVariants as fault
 use Rattle.job_lang.specs.Grammar.{Items, Derives, CanGoOn}

@@ -12,8 +12,8 @@
 --            | "for" number "{" items "}" | "pfor" number "{" items "}"
 --   argument = number, or inside a loop a number that depends on the copy
 use Rattle.std.specs.Prelude.{◌≡◌, ℕ, List, [], ◌∷◌, ◌++◌, map, Bool, true, false, ◌||◌, IsTrue}
-use Rattle.job_lang.specs.declared.word.Word.{Word}
-use Rattle.job_lang.specs.declared.word.Word.TheVariants.{Open, Close, Work, Counter, Stack, Tree, Queue, Add, Push, Pop, Insert, Remove, Find, Next, Take, Seq, Par, For, Pfor, Number, Copies}
+use Rattle.job_lang.specs.declared.lexer.word.Word.{Word}
+use Rattle.job_lang.specs.declared.lexer.word.Word.TheVariants.{Open, Close, Work, Counter, Stack, Tree, Queue, Add, Push, Pop, Insert, Remove, Find, Next, Take, Seq, Par, For, Pfor, Number, Copies}
 use Rattle.job_lang.specs.Words.{word_of}
 
 -- what has an argument

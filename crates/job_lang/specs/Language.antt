@@ -2,7 +2,7 @@
 use Rattle.std.specs.Prelude.{◌≡◌, ℕ, ◌≤◌, List, None, Some, IsTrue}
 use Rattle.std.specs.List.{AllByRecursion}
 use Rattle.sp_order.specs.Jobs.{JobValue}
-use Rattle.job_lang.specs.declared.word.PlacedWord.{PlacedWord}
+use Rattle.job_lang.specs.declared.lexer.word.PlacedWord.{PlacedWord}
 use Rattle.job_lang.specs.declared.fault.JobFault.{JobFault}
 use Rattle.job_lang.specs.declared.fault.JobFault.TheVariants as fault
 use Rattle.job_lang.specs.Text.{forbidden_line, last_line}

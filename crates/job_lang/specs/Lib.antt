@@ -10,16 +10,4 @@ pub mod Language
 pub mod Canonical
 pub mod Lines
 pub mod ActNumbers
-pub mod Calls
-pub mod Cursors
-pub mod Fronts
-pub mod Machine
-pub mod OpenBlocks
-pub mod Orders
-pub mod Ranges
-pub mod Scanners
-pub mod Searches
-pub mod Sides
-pub mod Trims
-pub mod Turns
-pub mod Views
+pub mod Code

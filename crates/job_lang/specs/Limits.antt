@@ -1,9 +1,9 @@
 -- Where a text whose tokens have no fault goes past a limit: it has too many leaves, or an argument of some copy does not
 -- fit 32 bits.
 use Rattle.std.specs.Prelude.{◌≡◌, ℕ, ◌+◌, ◌-◌, ◌*◌, ◌<◌, ◌≤◌, ◌^◌, List, [], ◌∷◌, ◌++◌, filter, Bool, true, false, ◌&&◌, Option, Some, None, nat_le}
-use Rattle.job_lang.specs.declared.word.Word.{Word}
-use Rattle.job_lang.specs.declared.word.Word.TheVariants.{Copies}
-use Rattle.job_lang.specs.declared.word.PlacedWord.{PlacedWord}
+use Rattle.job_lang.specs.declared.lexer.word.Word.{Word}
+use Rattle.job_lang.specs.declared.lexer.word.Word.TheVariants.{Copies}
+use Rattle.job_lang.specs.declared.lexer.word.PlacedWord.{PlacedWord}
 use Rattle.job_lang.specs.Grammar.{Items, nothing, leaf_then, block_then, Head, seq_block, par_block, for_loop, pfor_loop, Leaf, with_argument, items_words, ◌then◌}
 use Rattle.job_lang.specs.Faults.{words_of}
 use Rattle.job_lang.specs.Counts.{said, count, count_first}

@@ -5,8 +5,8 @@ use Rattle.seq_objects.specs.declared.act.Act.TheVariants.{Work, Call}
 use Rattle.seq_objects.specs.declared.op.Op.TheVariants.{CounterAdd, Push, Pop, TreeInsert, TreeRemove, TreeFind, TreeNext, PqInsert, PqTake}
 use Rattle.sp_order.specs.Precedence.{Tree, leaf, seq, par}
 use Rattle.sp_order.specs.Jobs.{JobValue}
-use Rattle.job_lang.specs.declared.word.Word.{Word}
-use Rattle.job_lang.specs.declared.word.Word.TheVariants.{Number, Copies}
+use Rattle.job_lang.specs.declared.lexer.word.Word.{Word}
+use Rattle.job_lang.specs.declared.lexer.word.Word.TheVariants.{Number, Copies}
 use Rattle.job_lang.specs.Grammar.{Items, nothing, leaf_then, block_then, seq_block, par_block, for_loop, pfor_loop, Leaf, with_argument, stack_pop, queue_take, Verb, work, counter_add, stack_push, tree_insert, tree_remove, tree_find, tree_next, queue_insert}
 use Rattle.job_lang.specs.Counts.{said}
 use Rattle.job_lang.specs.Joins.{joined}

@@ -3,9 +3,9 @@ use Rattle.std.specs.Prelude.{ℕ, ◌+◌, ◌-◌, ◌*◌, ◌^◌, List, [],
 use Rattle.std.specs.Str.{bytes_eq}
 use Rattle.std.specs.List.{list_all}
 use Rattle.job_lang.specs.Text.{Token, tokens}
-use Rattle.job_lang.specs.declared.word.Word.{Word}
-use Rattle.job_lang.specs.declared.word.Word.TheVariants.{Open, Close, Work, Counter, Stack, Tree, Queue, Add, Push, Pop, Insert, Remove, Find, Next, Take, Seq, Par, For, Pfor, Number, Copies, Other}
-use Rattle.job_lang.specs.declared.word.PlacedWord.{PlacedWord}
+use Rattle.job_lang.specs.declared.lexer.word.Word.{Word}
+use Rattle.job_lang.specs.declared.lexer.word.Word.TheVariants.{Open, Close, Work, Counter, Stack, Tree, Queue, Add, Push, Pop, Insert, Remove, Find, Next, Take, Seq, Par, For, Pfor, Number, Copies, Other}
+use Rattle.job_lang.specs.declared.lexer.word.PlacedWord.{PlacedWord}
 
 -- `0` to `9`
 abbrev pub is_digit : ℕ → Bool

@@ -5,12 +5,15 @@ ghost use Rattle.sp_order.specs.Precedence.{tree_of, seq};
 ghost use Rattle.job_lang.specs.Counts.{count};
 ghost use Rattle.job_lang.specs.Grammar.{block_then, nothing};
 ghost use Rattle.job_lang.specs.Meaning.{number_in, act_with, act_of, each_copy, merged, acts_in, shapes_in, job_of};
-ghost use Rattle.job_lang.specs.Ranges.{FitsArgument, FitsLeaf, Fits};
-ghost use Rattle.job_lang.specs.Views.{argument_word, verb_of, leaf_of, head_of, item_of, items_of};
+ghost use Rattle.job_lang.specs.Code.Ranges.{FitsArgument, FitsLeaf, Fits};
+ghost use Rattle.job_lang.specs.Code.Views.{argument_word, verb_of, leaf_of, head_of, item_of, items_of};
 
+mod join;
+mod prune;
+
+use crate::expand::join::{Order, join};
+use crate::expand::prune::without_empty;
 use crate::item::{Argument, Head, Item, Leaf, Verb};
-use crate::join::{Order, join};
-use crate::trim::without_empty;
 use seq_objects::{Act, Op};
 use sp_order::{Job, Shape};
 use std::alloc::{AllocError, Global};
@@ -56,7 +59,7 @@ fn act_in(copy: u32, leaf: Leaf) -> Act
 
 /// The shapes of the items in the copy of this number. What their leaves do goes to the end of the acts.
 #[cycle(expanding)]
-#[tactic(auto, using(crate::proofs::Copies::fits_item, crate::proofs::Weights::weight_item))]
+#[tactic(auto, using(crate::proofs::ExpandLemmas::Copies::fits_item, crate::proofs::ParserLemmas::Weights::weight_item))]
 fn shapes_in(
     alloc: Global,
     copy: u32,
@@ -78,7 +81,7 @@ fn shapes_in(
 
 /// The shape of the item in the copy of this number, if it has leaves there.
 #[cycle(expanding)]
-#[tactic(auto, using(crate::proofs::Copies::block_shapes, crate::proofs::Copies::block_acts, crate::proofs::Copies::block_fits, crate::proofs::Weights::weight_block))]
+#[tactic(auto, using(crate::proofs::ExpandLemmas::Copies::block_shapes, crate::proofs::ExpandLemmas::Copies::block_acts, crate::proofs::ExpandLemmas::Copies::block_fits, crate::proofs::ParserLemmas::Weights::weight_block))]
 fn shape_in(
     alloc: Global,
     copy: u32,
@@ -162,7 +165,7 @@ fn shapes_of_copies(
 
 /// The job of items that stand in no loop. Items that make no leaf are taken out first, so that each visit of an item
 /// in a copy makes a leaf.
-#[tactic(auto, using(crate::proofs::Leaves::job_leaves, crate::proofs::Leaves::acts_count, crate::proofs::Vanishing::same_shapes, crate::proofs::Vanishing::same_acts, crate::proofs::Vanishing::kept_fits))]
+#[tactic(auto, using(crate::proofs::ExpandLemmas::Leaves::job_leaves, crate::proofs::ExpandLemmas::Leaves::acts_count, crate::proofs::ExpandLemmas::Vanishing::same_shapes, crate::proofs::ExpandLemmas::Vanishing::same_acts, crate::proofs::ExpandLemmas::Vanishing::kept_fits))]
 pub(crate) fn expand(alloc: Global, items: &[Item]) -> Result<Job, AllocError>
     requires few { count (items_of items.now) ≤ 20000 }
     requires fits { Fits 0 (items_of items.now) }

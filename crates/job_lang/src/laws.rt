@@ -18,7 +18,7 @@ pub fn texts_have_one_job_or_fault()
 {}
 
 /// The words of an operation, as a report has them, are the text of the job that makes this one call.
-#[tactic(auto, using(crate::proofs::CanonicalJobs::words_are_a_job))]
+#[tactic(auto, using(crate::proofs::WriterLemmas::Jobs::words_are_a_job))]
 pub fn reported_words_are_a_job()
     ensures { (op : Op) → IsSmall (op_number op) → IsJobOf (op_words op) (record { shape = Some leaf; acts = Call op ∷ [] }) }
 {}

@@ -7,27 +7,15 @@
 //! for how faults are displayed, of which no clause speaks.
 #![tactic(auto)]
 
-mod blocks;
-mod call;
-mod count;
-mod cursor;
 pub mod error;
-mod excess;
 mod expand;
 pub mod fault;
 mod item;
-mod items;
-mod join;
 pub mod laws;
+mod lexer;
 mod limits;
+mod parser;
 mod reader;
-mod scanner;
-mod spelling;
-mod text;
-mod tokens;
-mod trim;
-mod width;
-mod word;
 mod writer;
 
 pub use error::JobErr;

@@ -4,13 +4,17 @@ ghost use Rattle.job_lang.specs.Counts.{count};
 ghost use Rattle.job_lang.specs.Faults.{words_of};
 ghost use Rattle.job_lang.specs.Grammar.{items_words};
 ghost use Rattle.job_lang.specs.Limits.{IsLeavesLine, argument_line};
-ghost use Rattle.job_lang.specs.Views.{items_of};
+ghost use Rattle.job_lang.specs.Code.Views.{items_of};
 
-use crate::count::count_item;
-use crate::excess::{Words, excess_in_items};
+mod argument_range;
+pub(crate) mod leaf_count;
+mod word_count;
+
 use crate::item::Item;
-use crate::width::item_width;
-use crate::word::PlacedWord;
+use crate::lexer::word::PlacedWord;
+use crate::limits::argument_range::{Words, excess_in_items};
+use crate::limits::leaf_count::count_item;
+use crate::limits::word_count::item_width;
 
 /// A job has at most so many leaves.
 const MOST_LEAVES: u64 = 20_000;
@@ -35,7 +39,7 @@ pub(crate) fn leaves_line(words: &[PlacedWord], items: &[Item]) -> Option<u32>
 }
 
 /// The line of the first argument that is too large in some copy.
-#[tactic(auto, using(crate::proofs::Excesses::found_line))]
+#[tactic(auto, using(crate::proofs::LimitLemmas::Excesses::found_line))]
 pub(crate) fn argument_line(words: &[PlacedWord], items: &[Item]) -> Option<u32>
     ensures { result ≡ argument_line words.now (items_of items.now) }
 {

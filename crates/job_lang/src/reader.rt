@@ -8,15 +8,15 @@ ghost use Rattle.job_lang.specs.declared.error.JobErr.TheVariants.{Bad, Memory};
 use crate::error::JobErr;
 use crate::expand::expand;
 use crate::fault::JobFault;
-use crate::items::read_items;
+use crate::lexer::text::{forbidden_line, last_line};
+use crate::lexer::words_in;
 use crate::limits::{argument_line, leaves_line};
-use crate::text::{forbidden_line, last_line};
-use crate::tokens::words_in;
+use crate::parser::read_items;
 use sp_order::Job;
 use std::alloc::Global;
 
 /// Reads a text, and answers its job or its fault.
-#[tactic(auto, using(crate::proofs::ReadingFaults::reading_fault, crate::proofs::Arguments::numbers_fit))]
+#[tactic(auto, using(crate::proofs::ParserLemmas::ReadingFaults::reading_fault, crate::proofs::LimitLemmas::Arguments::numbers_fit))]
 fn read(alloc: Global, text: &[u8]) -> Result<Job, JobErr>
     requires { length text.now ≤ 1048576 }
     ensures job { IfOk result (λ job. IsJobOf text.now job) }

@@ -6,7 +6,7 @@ ghost use Rattle.sp_order.specs.Jobs.{IsJob};
 ghost use Rattle.job_lang.specs.ActNumbers.{act_number, IsSmall, AreSmall};
 ghost use Rattle.job_lang.specs.Language.{IsJobOf};
 ghost use Rattle.job_lang.specs.Canonical.{act_text, first_act_text, tree_text, canonical_text};
-ghost use Rattle.job_lang.specs.Sides.{sides_text};
+ghost use Rattle.job_lang.specs.Code.Sides.{sides_text};
 
 use seq_objects::Act;
 use sp_order::{Job, Shape};

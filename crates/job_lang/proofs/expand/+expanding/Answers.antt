@@ -3,7 +3,7 @@ use Rattle.std.specs.Prelude.{option_to_list}
 use Rattle.std.specs.Option.{option_map}
 use Rattle.std.proofs.lemmas.List.{map-append}
 use Rattle.sp_order.specs.Precedence.{tree_of}
-use Rattle.job_lang.proofs.Copies.{shapes_turn, acts_turn}
+use Rattle.job_lang.proofs.ExpandLemmas.Copies.{shapes_turn, acts_turn}
 use Rattle.job_lang.proofs.expand.+expanding.Goals as goal
 use Rattle.job_lang.proofs.expand.+expanding.Goals.{shapes_in-in-Some+in_ok-push, shapes_in-in_default}
 

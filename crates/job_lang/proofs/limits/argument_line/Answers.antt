@@ -1,5 +1,5 @@
-use Rattle.job_lang.specs.Views.{items_of}
-use Rattle.job_lang.proofs.Excesses.{found_line}
+use Rattle.job_lang.specs.Code.Views.{items_of}
+use Rattle.job_lang.proofs.LimitLemmas.Excesses.{found_line}
 use Rattle.job_lang.proofs.limits.argument_line.Goals as goal
 
 pub returns : goal.returns

@@ -1,8 +1,8 @@
 use Rattle.std.proofs.Common.{arith, refl}
-use Rattle.job_lang.specs.declared.word.Word.TheVariants.{Open}
-use Rattle.job_lang.proofs.Cuts.{count_more}
-use Rattle.job_lang.proofs.Widths.{width_more}
-use Rattle.job_lang.proofs.LeavesLines.{first_word, last_word, leaves_line_of}
+use Rattle.job_lang.specs.declared.lexer.word.Word.TheVariants.{Open}
+use Rattle.job_lang.proofs.LimitLemmas.Cuts.{count_more}
+use Rattle.job_lang.proofs.LimitLemmas.Widths.{width_more}
+use Rattle.job_lang.proofs.LimitLemmas.LeavesLines.{first_word, last_word, leaves_line_of}
 use Rattle.job_lang.proofs.limits.leaves_line.Goals as goal
 
 pub bounds-words-place : goal.bounds-words-place

@@ -1,7 +1,7 @@
 use Rattle.std.proofs.Common.{rules, ◌≡◌, ◌≤◌, length, sym, subst}
 use Rattle.job_lang.specs.Language.{IsJobOf}
 use Rattle.job_lang.specs.Canonical.{canonical_text}
-use Rattle.job_lang.proofs.CanonicalJobs.{canonical_is_job, canonical_is_short}
+use Rattle.job_lang.proofs.WriterLemmas.Jobs.{canonical_is_job, canonical_is_short}
 use Rattle.job_lang.proofs.writer.write_job.Goals as goal
 
 pub returns-clause-short : goal.returns-clause-short

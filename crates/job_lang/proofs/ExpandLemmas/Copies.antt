@@ -1,0 +1,68 @@
+-- What items stand for, one after another and copy by copy.
+use Rattle.std.proofs.Common.{◌≡◌, ℕ, zero, suc, ◌+◌, ◌<◌, List, [], ◌∷◌, ◌++◌, length, take, get_or, Vec, Global, refl, sym, ap, ◌∙◌, arith, append_assoc, subst}
+use Rattle.seq_objects.specs.declared.act.Act.{Act}
+use Rattle.sp_order.specs.Precedence.{Tree}
+use Rattle.job_lang.specs.declared.item.Item.{Item, Block}
+use Rattle.job_lang.specs.declared.item.Head.{Head as CodeHead}
+use Rattle.job_lang.specs.Grammar.{Items, nothing, leaf_then, block_then, seq_block, par_block, for_loop, pfor_loop, ◌then◌}
+use Rattle.job_lang.specs.Meaning.{shapes_in, acts_in}
+use Rattle.job_lang.specs.Code.Ranges.{Fits}
+use Rattle.job_lang.specs.Code.Views.{items_of, item_of, head_of}
+use Rattle.job_lang.proofs.ParserLemmas.Levels.{items_of_more, item_of_block}
+
+pub shapes_then : (c : ℕ) (a b : Items) → shapes_in c (a then b) ≡ shapes_in c a ++ shapes_in c b
+shapes_then c nothing b = refl
+shapes_then c (leaf_then l a) b = simp (shapes_then c a b) refl
+shapes_then c (block_then seq_block x a) b = simp (shapes_then c a b, append_assoc) refl
+shapes_then c (block_then par_block x a) b = simp (shapes_then c a b, append_assoc) refl
+shapes_then c (block_then (for_loop n) x a) b = simp (shapes_then c a b, append_assoc) refl
+shapes_then c (block_then (pfor_loop n) x a) b = simp (shapes_then c a b, append_assoc) refl
+
+pub acts_then : (c : ℕ) (a b : Items) → acts_in c (a then b) ≡ acts_in c a ++ acts_in c b
+acts_then c nothing b = refl
+acts_then c (leaf_then l a) b = simp (acts_then c a b) refl
+acts_then c (block_then seq_block x a) b = simp (acts_then c a b, append_assoc) refl
+acts_then c (block_then par_block x a) b = simp (acts_then c a b, append_assoc) refl
+acts_then c (block_then (for_loop n) x a) b = simp (acts_then c a b, append_assoc) refl
+acts_then c (block_then (pfor_loop n) x a) b = simp (acts_then c a b, append_assoc) refl
+
+fits_then : (c : ℕ) (a b : Items) → Fits c (a then b) → Fits c a × Fits c b
+fits_then c nothing b h = (tt, h)
+fits_then c (leaf_then l a) b h = let k = fits_then c a b h.1 in ((h.0, k.0), k.1)
+fits_then c (block_then seq_block x a) b h = let k = fits_then c a b h.1 in ((h.0, k.0), k.1)
+fits_then c (block_then par_block x a) b h = let k = fits_then c a b h.1 in ((h.0, k.0), k.1)
+fits_then c (block_then (for_loop n) x a) b h = let k = fits_then c a b h.1 in ((h.0, k.0), k.1)
+fits_then c (block_then (pfor_loop n) x a) b h = let k = fits_then c a b h.1 in ((h.0, k.0), k.1)
+
+fits_at : (c : ℕ) (xs : List Item) (i : ℕ) (d : Item) → Fits c (items_of xs) → i < length xs → Fits c (item_of (get_or xs i d))
+fits_at c [] i d h k = absurd (omega (arith, k))
+fits_at c (x ∷ xs) zero d h k = (fits_then c (item_of x) (items_of xs) h).0
+fits_at c (x ∷ xs) (suc i) d h k = fits_at c xs i d (fits_then c (item_of x) (items_of xs) h).1 (omega (arith, k))
+
+pub fits_item : (c : ℕ) (x : Item) (xs : List Item) (i : ℕ) → Fits c (items_of xs) → i < length xs → x ≡ get_or xs i x → Fits c (item_of x)
+fits_item c x xs i h k e = subst (λ x. Fits c (item_of x)) (sym e) (fits_at c xs i x h k)
+
+-- one more item
+shapes_more : (c : ℕ) (xs : List Item) (i : ℕ) (x : Item) → i < length xs → x ≡ get_or xs i x → shapes_in c (items_of (take (i + 1) xs)) ≡ shapes_in c (items_of (take i xs)) ++ shapes_in c (item_of x)
+shapes_more c xs i x h e = ap (shapes_in c) (items_of_more xs i x h e) ∙ shapes_then c (items_of (take i xs)) (item_of x)
+
+acts_more : (c : ℕ) (xs : List Item) (i : ℕ) (x : Item) → i < length xs → x ≡ get_or xs i x → acts_in c (items_of (take (i + 1) xs)) ≡ acts_in c (items_of (take i xs)) ++ acts_in c (item_of x)
+acts_more c xs i x h e = ap (acts_in c) (items_of_more xs i x h e) ∙ acts_then c (items_of (take i xs)) (item_of x)
+
+pub shapes_turn : (c : ℕ) (xs : List Item) (i : ℕ) (x : Item) (made new more : List Tree) → made ≡ shapes_in c (items_of (take i xs)) → x ≡ get_or xs i x → i < length xs → more ≡ shapes_in c (item_of x) → new ≡ made ++ more → new ≡ shapes_in c (items_of (take (i + 1) xs))
+shapes_turn c xs i x made new more e f h z n = n ∙ ap (λ y. made ++ y) z ∙ ap (λ y. y ++ shapes_in c (item_of x)) e ∙ sym (shapes_more c xs i x h f)
+
+pub acts_turn : (c : ℕ) (xs : List Item) (i : ℕ) (x : Item) (old now new : List Act) → now ≡ old ++ acts_in c (items_of (take i xs)) → x ≡ get_or xs i x → i < length xs → new ≡ now ++ acts_in c (item_of x) → new ≡ old ++ acts_in c (items_of (take (i + 1) xs))
+acts_turn c xs i x old now new e f h n =
+    n ∙ ap (λ y. y ++ acts_in c (item_of x)) e ∙ append_assoc old (acts_in c (items_of (take i xs))) (acts_in c (item_of x))
+    ∙ ap (λ y. old ++ y) (sym (acts_more c xs i x h f))
+
+-- one level
+pub block_shapes : (c : ℕ) (head : CodeHead) (inside : Vec Item Global) → shapes_in c (item_of (Block head inside)) ≡ shapes_in c (block_then (head_of head) (items_of inside.items) nothing)
+block_shapes c head inside = ap (shapes_in c) (item_of_block head inside)
+
+pub block_acts : (c : ℕ) (head : CodeHead) (inside : Vec Item Global) → acts_in c (item_of (Block head inside)) ≡ acts_in c (block_then (head_of head) (items_of inside.items) nothing)
+block_acts c head inside = ap (acts_in c) (item_of_block head inside)
+
+pub block_fits : (c : ℕ) (head : CodeHead) (inside : Vec Item Global) → Fits c (item_of (Block head inside)) → Fits c (block_then (head_of head) (items_of inside.items) nothing)
+block_fits c head inside h = subst (Fits c) (item_of_block head inside) h

@@ -1,0 +1,14 @@
+pub mod Answering
+pub mod Completions
+pub mod Derivations
+pub mod EachOf
+pub mod Levels
+pub mod MachineAnswers
+pub mod Nestings
+pub mod OneFault
+pub mod OpenStacks
+pub mod Reached
+pub mod ReadingFaults
+pub mod ReadingLaws
+pub mod Runs
+pub mod Weights

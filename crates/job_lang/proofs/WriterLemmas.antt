@@ -1,0 +1,5 @@
+pub mod Bytes
+pub mod Fronts
+pub mod Items
+pub mod Jobs
+pub mod Words

@@ -1,0 +1,14 @@
+-- What only the code and its proofs cite: no public contract speaks of it.
+pub mod Calls
+pub mod Cursors
+pub mod Fronts
+pub mod Machine
+pub mod OpenBlocks
+pub mod Orders
+pub mod Ranges
+pub mod Scanners
+pub mod Searches
+pub mod Sides
+pub mod Trims
+pub mod Turns
+pub mod Views

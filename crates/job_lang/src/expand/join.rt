@@ -1,0 +1,67 @@
+//! Lists of shapes, joined to one.
+ghost use Rattle.std.specs.Prelude.{◌≡◌, ◌<◌, ◌≤◌, ◌-◌, Some, IfOk, length, map, take, drop};
+ghost use Rattle.std.specs.Option.{option_map};
+ghost use Rattle.sp_order.specs.Precedence.{tree_of};
+ghost use Rattle.job_lang.specs.Joins.{joined};
+ghost use Rattle.job_lang.specs.Code.Orders.{kind_of};
+
+use sp_order::Shape;
+use std::alloc::{AllocError, Global};
+
+/// How shapes stand to one another.
+#[derive(Clone, Copy, Debug, PartialEq, Eq)]
+pub(crate) enum Order {
+    Series,
+    Parallel,
+}
+
+/// Two shapes as one.
+fn both(alloc: Global, order: Order, left: Shape, right: Shape) -> Result<Shape, AllocError>
+    ensures { IfOk result (λ shape. tree_of shape ≡ kind_of order (tree_of left) (tree_of right)) }
+{
+    let left = Box::new(alloc, left)?;
+    let right = Box::new(alloc, right)?;
+    match order {
+        Order::Series => Ok(Shape::Seq(left, right)),
+        Order::Parallel => Ok(Shape::Par(left, right)),
+    }
+}
+
+/// Takes this many of the last shapes, as one: the one shape itself, and of more both halves, each joined in this way.
+fn join_last(
+    alloc: Global,
+    order: Order,
+    shapes: &mut Vec<Shape>,
+    count: usize,
+) -> Result<Shape, AllocError>
+    requires some { 0 < count }
+    requires enough { count ≤ length shapes.old.items }
+    ensures joins { IfOk result (λ shape. Some (tree_of shape) ≡ joined (kind_of order) (map tree_of (drop (length shapes.old.items - count) shapes.old.items))) }
+    ensures leaves { IfOk result (λ _. shapes.new.items ≡ take (length shapes.old.items - count) shapes.old.items) }
+{
+    if count < 2 {
+        let Some(shape) = shapes.pop() else {
+            unreachable!();
+        };
+        return Ok(shape);
+    }
+    let right = join_last(alloc, order, shapes, count / 2)?;
+    let left = join_last(alloc, order, shapes, count - count / 2)?;
+    both(alloc, order, left, right)
+}
+
+/// No shape for none, and else all of them joined.
+pub(crate) fn join(
+    alloc: Global,
+    order: Order,
+    mut shapes: Vec<Shape>,
+) -> Result<Option<Shape>, AllocError>
+    ensures { IfOk result (λ shape. option_map tree_of shape ≡ joined (kind_of order) (map tree_of shapes.items)) }
+{
+    let count = shapes.len();
+    if count == 0 {
+        return Ok(None);
+    }
+    let shape = join_last(alloc, order, &mut shapes, count)?;
+    Ok(Some(shape))
+}

@@ -1,0 +1,120 @@
+//! The words that are left to read.
+ghost use Rattle.std.specs.Prelude.{◌≡◌, ◌≤◌, [], ◌∷◌, Ok, Err, MatchOption, MatchResult, length};
+
+use crate::fault::JobFault;
+use crate::item::Argument;
+use crate::lexer::word::{PlacedWord, Word};
+use crate::parser::call::{Call, Object, call_behind};
+use std::marker::Model;
+
+/// How many blocks may be open at once.
+const MAX_OPEN_BLOCKS: usize = 32;
+
+/// The words that are left to read. A call takes what has to come next, or answers the fault that is there; at the end
+/// of the words this is one of the last line.
+#[derive(Drop)]
+pub(crate) struct Cursor<'a> {
+    rest: &'a [PlacedWord],
+}
+
+impl<'a> Model for Cursor<'a> {
+    ghost use Rattle.job_lang.specs.declared.lexer.word.PlacedWord.{PlacedWord};
+    ghost use Rattle.std.specs.Prelude.{List};
+
+    ghost Value = { List PlacedWord };
+
+    ghost view = { λ cursor. cursor.rest.now };
+}
+
+impl<'a> Cursor<'a> {
+    pub(crate) fn new(words: &'a [PlacedWord]) -> Cursor<'a>
+        ensures { result ≡ words.now }
+    {
+        Cursor { rest: words }
+    }
+
+    /// The next word, if one is left.
+    pub(crate) fn next(&mut self) -> Option<PlacedWord>
+        ensures { MatchOption result ((self.old ≡ []) × (self.new ≡ [])) (λ token. self.old ≡ token ∷ self.new) }
+    {
+        match self.rest {
+            [] => None,
+            [first, rest @ ..] => {
+                let token = *first;
+                self.rest = rest;
+                Some(token)
+            }
+        }
+    }
+}
+
+impl<'a> Cursor<'a> {
+    ghost use Rattle.job_lang.specs.Grammar.{is_argument, is_number};
+    ghost use Rattle.job_lang.specs.Code.Calls.{call_view};
+    ghost use Rattle.job_lang.specs.Code.Cursors.{word_at, brace_at, call_at};
+    ghost use Rattle.job_lang.specs.Code.Views.{argument_word};
+    ghost use Rattle.job_lang.specs.declared.lexer.word.Word.TheVariants.{Number};
+
+    /// An argument, inside a loop or outside every loop.
+    pub(crate) fn argument(&mut self, last: u32, looped: bool) -> Result<Argument, JobFault>
+        ensures gives { MatchResult result (λ argument. word_at last (is_argument looped) self.old ≡ Ok (argument_word argument, self.new)) (λ found. word_at last (is_argument looped) self.old ≡ Err found) }
+        ensures shorter { length self.new ≤ length self.old }
+    {
+        let Some(token) = self.next() else {
+            return Err(JobFault::Grammar { line: last });
+        };
+        match token.word {
+            Word::Number(Some(number)) => Ok(Argument::Number(number)),
+            Word::Number(None) => Err(JobFault::Number { line: token.line }),
+            Word::Copies(Some((factor, addend))) if looped => Ok(Argument::Copies(factor, addend)),
+            Word::Copies(None) if looped => Err(JobFault::Number { line: token.line }),
+            _ => Err(JobFault::Grammar { line: token.line }),
+        }
+    }
+
+    /// A number.
+    pub(crate) fn number(&mut self, last: u32) -> Result<u32, JobFault>
+        ensures gives { MatchResult result (λ number. word_at last is_number self.old ≡ Ok (Number (Some number), self.new)) (λ found. word_at last is_number self.old ≡ Err found) }
+        ensures shorter { length self.new ≤ length self.old }
+    {
+        let Some(token) = self.next() else {
+            return Err(JobFault::Grammar { line: last });
+        };
+        match token.word {
+            Word::Number(Some(number)) => Ok(number),
+            Word::Number(None) => Err(JobFault::Number { line: token.line }),
+            _ => Err(JobFault::Grammar { line: token.line }),
+        }
+    }
+
+    /// A `{`, behind so many open blocks.
+    pub(crate) fn brace(&mut self, last: u32, open_now: usize) -> Result<(), JobFault>
+        ensures gives { MatchResult result (λ _. brace_at last open_now self.old ≡ Ok self.new) (λ found. brace_at last open_now self.old ≡ Err found) }
+        ensures shorter { length self.new ≤ length self.old }
+    {
+        let Some(token) = self.next() else {
+            return Err(JobFault::Grammar { line: last });
+        };
+        match token.word {
+            Word::Open if open_now >= MAX_OPEN_BLOCKS => Err(JobFault::Nesting {
+                line: token.line,
+            }),
+            Word::Open => Ok(()),
+            _ => Err(JobFault::Grammar { line: token.line }),
+        }
+    }
+
+    /// What an object is asked for.
+    pub(crate) fn call(&mut self, last: u32, object: Object) -> Result<Call, JobFault>
+        ensures gives { MatchResult result (λ call. call_at last object self.old ≡ Ok (call_view call, self.new)) (λ found. call_at last object self.old ≡ Err found) }
+        ensures shorter { length self.new ≤ length self.old }
+    {
+        let Some(token) = self.next() else {
+            return Err(JobFault::Grammar { line: last });
+        };
+        match call_behind(object, token.word) {
+            Some(call) => Ok(call),
+            None => Err(JobFault::Grammar { line: token.line }),
+        }
+    }
+}

@@ -1,5 +1,5 @@
 pub mod Copies
 pub mod Joining
 pub mod Leaves
-pub mod Trimming
+pub mod Pruning
 pub mod Vanishing

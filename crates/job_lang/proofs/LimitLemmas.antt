@@ -1,6 +1,6 @@
+pub mod ArgumentRanges
 pub mod Arguments
 pub mod Cuts
-pub mod Excesses
 pub mod LeavesLines
 pub mod TooManyLeaves
-pub mod Widths
+pub mod WordCounts

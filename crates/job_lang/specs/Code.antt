@@ -5,10 +5,10 @@ pub mod Fronts
 pub mod Machine
 pub mod OpenBlocks
 pub mod Orders
+pub mod Pruning
 pub mod Ranges
 pub mod Scanners
 pub mod Searches
 pub mod Sides
-pub mod Trims
-pub mod Turns
+pub mod Steps
 pub mod Views

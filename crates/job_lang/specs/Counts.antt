@@ -2,34 +2,34 @@
 use Rattle.std.specs.Prelude.{ℕ, ◌+◌, ◌*◌, max, Some}
 use Rattle.job_lang.specs.declared.lexer.word.Word.{Word}
 use Rattle.job_lang.specs.declared.lexer.word.Word.TheVariants.{Number}
-use Rattle.job_lang.specs.Grammar.{Items, nothing, leaf_then, block_then, Head, seq_block, par_block, for_loop, pfor_loop}
+use Rattle.job_lang.specs.Grammar.{Items, nothing, leaf_then, block_then, BlockKind, seq_block, par_block, for_loop, pfor_loop}
 
 -- the number that a word says
-abbrev pub said : Word → ℕ
-said (Number (Some number)) = number
-said _ = 0
+abbrev pub word_number : Word → ℕ
+word_number (Number (Some number)) = number
+word_number _ = 0
 
 -- how often a block runs its items
-abbrev pub copies_of : Head → ℕ
+abbrev pub copies_of : BlockKind → ℕ
 copies_of seq_block = 1
 copies_of par_block = 1
-copies_of (for_loop copies) = said copies
-copies_of (pfor_loop copies) = said copies
+copies_of (for_loop copies) = word_number copies
+copies_of (pfor_loop copies) = word_number copies
 
 -- a leaf counts once, and a block as often as it has copies
 abbrev pub count : Items → ℕ
 count nothing = 0
 count (leaf_then leaf more) = 1 + count more
-count (block_then head body more) = copies_of head * count body + count more
+count (block_then kind body more) = copies_of kind * count body + count more
 
 -- the count of the first item
 abbrev pub count_first : Items → ℕ
 count_first nothing = 0
 count_first (leaf_then leaf more) = 1
-count_first (block_then head body more) = copies_of head * count body
+count_first (block_then kind body more) = copies_of kind * count body
 
 -- how many blocks are open where most are
 abbrev pub nesting : Items → ℕ
 nesting nothing = 0
 nesting (leaf_then leaf more) = nesting more
-nesting (block_then head body more) = max (nesting body + 1) (nesting more)
+nesting (block_then kind body more) = max (nesting body + 1) (nesting more)

@@ -20,5 +20,5 @@ join_within kind (suc bound) (first ∷ second ∷ more) =
     let shapes = first ∷ second ∷ more in
     both kind (join_within kind bound (take (half (length shapes)) shapes)) (join_within kind bound (drop (half (length shapes)) shapes))
 
-abbrev pub joined : (Tree → Tree → Tree) → List Tree → Option Tree
-joined kind shapes = join_within kind (length shapes) shapes
+abbrev pub join_of : (Tree → Tree → Tree) → List Tree → Option Tree
+join_of kind shapes = join_within kind (length shapes) shapes

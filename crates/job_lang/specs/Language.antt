@@ -2,11 +2,11 @@
 use Rattle.std.specs.Prelude.{◌≡◌, ℕ, ◌≤◌, List, None, Some, IsTrue}
 use Rattle.std.specs.List.{AllByRecursion}
 use Rattle.sp_order.specs.Jobs.{JobValue}
-use Rattle.job_lang.specs.declared.lexer.word.PlacedWord.{PlacedWord}
+use Rattle.job_lang.specs.declared.lexer.word.WordOnLine.{WordOnLine}
 use Rattle.job_lang.specs.declared.fault.JobFault.{JobFault}
 use Rattle.job_lang.specs.declared.fault.JobFault.TheVariants as fault
 use Rattle.job_lang.specs.Text.{forbidden_line, last_line}
-use Rattle.job_lang.specs.Words.{placed_words}
+use Rattle.job_lang.specs.Words.{words_on_lines}
 use Rattle.job_lang.specs.Grammar.{Items, Derives}
 use Rattle.job_lang.specs.Faults.{words_of, has_good_numbers, IsReadingFault}
 use Rattle.job_lang.specs.Counts.{count, nesting}
@@ -15,19 +15,19 @@ use Rattle.job_lang.specs.Limits.{IsLeavesLine, argument_line}
 
 -- The grammar gives the tokens these items: the loose grammar derives them, each number is spelled well and fits 32 bits,
 -- and at most 32 blocks are open at once.
-pub record AreItemsOf (tokens : List PlacedWord) (items : Items) : Type 0 where
+pub record AreItemsOf (tokens : List WordOnLine) (items : Items) : Type 0 where
   pub derives : Derives (words_of tokens) items
   pub numbers : AllByRecursion (λ token. IsTrue (has_good_numbers token.word)) tokens
   pub nests : nesting items ≤ 32
 
 -- The text is a job's: no byte outside comments is forbidden, the grammar gives it items, these have at most 20,000 leaves,
--- no argument of a copy is too large, and the job is that of the items.
+-- no argument is out of range in a copy, and the job is that of the items.
 pub record IsJobOf (text : List ℕ) (job : JobValue) : Type 0 where
   pub allowed : forbidden_line text ≡ None
   pub items : Items
-  pub read : AreItemsOf (placed_words text) items
+  pub read : AreItemsOf (words_on_lines text) items
   pub few : count items ≤ 20000
-  pub small : argument_line (placed_words text) items ≡ None
+  pub small : argument_line (words_on_lines text) items ≡ None
   pub means : job ≡ job_of items
 
 -- the grammar accepts the text
@@ -38,21 +38,21 @@ Accepts text = (job : JobValue) × IsJobOf text job
 pub record HasTooManyLeaves (text : List ℕ) (line : ℕ) : Type 0 where
   pub allowed : forbidden_line text ≡ None
   pub items : Items
-  pub read : AreItemsOf (placed_words text) items
-  pub where_it_is : IsLeavesLine (placed_words text) items line
+  pub read : AreItemsOf (words_on_lines text) items
+  pub where_it_is : IsLeavesLine (words_on_lines text) items line
 
--- The grammar gives the text these items, and the leaves are few enough, but an argument is too large in some copy.
-pub record HasTooLargeArgument (text : List ℕ) (line : ℕ) : Type 0 where
+-- The grammar gives the text these items, and the leaves are few enough, but an argument is out of range in some copy.
+pub record HasArgumentOutOfRange (text : List ℕ) (line : ℕ) : Type 0 where
   pub allowed : forbidden_line text ≡ None
   pub items : Items
-  pub read : AreItemsOf (placed_words text) items
+  pub read : AreItemsOf (words_on_lines text) items
   pub few : count items ≤ 20000
-  pub where_it_is : argument_line (placed_words text) items ≡ Some line
+  pub where_it_is : argument_line (words_on_lines text) items ≡ Some line
 
 -- The text has this fault, the first in this order: a forbidden byte; a token, or the end of the text, that can't stand, has
--- a wrong number or nests too deep; too many leaves; an argument that is too large.
+-- a wrong number or nests too deep; too many leaves; an argument out of range.
 abbrev pub IsFaultOf : List ℕ → JobFault → Type 0
 IsFaultOf text (fault.Byte line) = forbidden_line text ≡ Some line
 IsFaultOf text (fault.Leaves line) = HasTooManyLeaves text line
-IsFaultOf text (fault.Argument line) = HasTooLargeArgument text line
-IsFaultOf text found = (forbidden_line text ≡ None) × IsReadingFault (last_line text) (placed_words text) found
+IsFaultOf text (fault.Argument line) = HasArgumentOutOfRange text line
+IsFaultOf text found = (forbidden_line text ≡ None) × IsReadingFault (last_line text) (words_on_lines text) found

@@ -1,59 +1,59 @@
--- Where a text whose tokens have no fault goes past a limit: it has too many leaves, or an argument of some copy does not
--- fit 32 bits.
+-- The limits of a text whose tokens have no fault: it has too many leaves, or an argument is out of range, since it does
+-- not fit 32 bits in some copy.
 use Rattle.std.specs.Prelude.{◌≡◌, ℕ, ◌+◌, ◌-◌, ◌*◌, ◌<◌, ◌≤◌, ◌^◌, List, [], ◌∷◌, ◌++◌, filter, Bool, true, false, ◌&&◌, Option, Some, None, nat_le}
 use Rattle.job_lang.specs.declared.lexer.word.Word.{Word}
 use Rattle.job_lang.specs.declared.lexer.word.Word.TheVariants.{Copies}
-use Rattle.job_lang.specs.declared.lexer.word.PlacedWord.{PlacedWord}
-use Rattle.job_lang.specs.Grammar.{Items, nothing, leaf_then, block_then, Head, seq_block, par_block, for_loop, pfor_loop, Leaf, with_argument, items_words, ◌then◌}
+use Rattle.job_lang.specs.declared.lexer.word.WordOnLine.{WordOnLine}
+use Rattle.job_lang.specs.Grammar.{Items, nothing, leaf_then, block_then, BlockKind, seq_block, par_block, for_loop, pfor_loop, Leaf, with_argument, items_words, ◌then◌}
 use Rattle.job_lang.specs.Faults.{words_of}
-use Rattle.job_lang.specs.Counts.{said, count, count_first}
+use Rattle.job_lang.specs.Counts.{word_number, count, count_first}
 
 -- The line of the first token of the first item of the job with which the leaves are more than 20,000.
-pub record IsLeavesLine (tokens : List PlacedWord) (items : Items) (line : ℕ) : Type 0 where
+pub record IsLeavesLine (tokens : List WordOnLine) (items : Items) (line : ℕ) : Type 0 where
   pub before : Items
   pub from_item : Items
   pub parts : before then from_item ≡ items
   pub few : count before ≤ 20000
   pub many : 20000 < count before + count_first from_item
-  pub front : List PlacedWord
-  pub first : PlacedWord
-  pub behind : List PlacedWord
+  pub front : List WordOnLine
+  pub first : WordOnLine
+  pub behind : List WordOnLine
   pub stands : front ++ first ∷ behind ≡ tokens
   pub place : items_words before ≡ words_of front
   pub line_is : line ≡ first.line
 
 -- how many copies the innermost loop has, inside a block
-abbrev pub copies_inside : ℕ → Head → ℕ
+abbrev pub copies_inside : ℕ → BlockKind → ℕ
 copies_inside copies seq_block = copies
 copies_inside copies par_block = copies
-copies_inside copies (for_loop number) = said number
-copies_inside copies (pfor_loop number) = said number
+copies_inside copies (for_loop number) = word_number number
+copies_inside copies (pfor_loop number) = word_number number
 
 -- a factor and an addend make a number past 32 bits in the last of the copies, if there is one
-abbrev pub is_too_large : ℕ → ℕ × ℕ → Bool
-is_too_large copies by = nat_le 1 copies && nat_le (2 ^ 32) (by.0 * (copies - 1) + by.1)
+abbrev pub is_out_of_range : ℕ → ℕ × ℕ → Bool
+is_out_of_range copies by = nat_le 1 copies && nat_le (2 ^ 32) (by.0 * (copies - 1) + by.1)
 
--- for each argument that depends on the copy, in the order of the text, whether it is too large; the number says how many
--- copies the innermost loop has
-abbrev pub leaf_excesses : ℕ → Leaf → List Bool
-leaf_excesses copies (with_argument verb (Copies (Some by))) = is_too_large copies by ∷ []
-leaf_excesses copies _ = []
+-- for each argument that depends on the copy, in the order of the text, whether it is out of range; the number says how
+-- many copies the innermost loop has
+abbrev pub leaf_range_flags : ℕ → Leaf → List Bool
+leaf_range_flags copies (with_argument op (Copies (Some by))) = is_out_of_range copies by ∷ []
+leaf_range_flags copies _ = []
 
-abbrev pub excesses : ℕ → Items → List Bool
-excesses copies nothing = []
-excesses copies (leaf_then leaf more) = leaf_excesses copies leaf ++ excesses copies more
-excesses copies (block_then head body more) = excesses (copies_inside copies head) body ++ excesses copies more
+abbrev pub range_flags : ℕ → Items → List Bool
+range_flags copies nothing = []
+range_flags copies (leaf_then leaf more) = leaf_range_flags copies leaf ++ range_flags copies more
+range_flags copies (block_then kind body more) = range_flags (copies_inside copies kind) body ++ range_flags copies more
 
 abbrev pub depends_on_copy : Word → Bool
 depends_on_copy (Copies by) = true
 depends_on_copy _ = false
 
--- the line of the first token that is so
-abbrev pub first_line : List Bool → List PlacedWord → Option ℕ
+-- the line of the first token whose flag is set
+abbrev pub first_line : List Bool → List WordOnLine → Option ℕ
 first_line (true ∷ flags) (token ∷ tokens) = Some token.line
 first_line (false ∷ flags) (token ∷ tokens) = first_line flags tokens
 first_line _ _ = None
 
--- the line of the first argument that is too large in some copy, if there is one
-abbrev pub argument_line : List PlacedWord → Items → Option ℕ
-argument_line tokens items = first_line (excesses 0 items) (filter (λ token. depends_on_copy token.word) tokens)
+-- the line of the first argument that is out of range in some copy, if there is one
+abbrev pub argument_line : List WordOnLine → Items → Option ℕ
+argument_line tokens items = first_line (range_flags 0 items) (filter (λ token. depends_on_copy token.word) tokens)

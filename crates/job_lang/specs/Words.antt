@@ -5,7 +5,7 @@ use Rattle.std.specs.List.{list_all}
 use Rattle.job_lang.specs.Text.{Token, tokens}
 use Rattle.job_lang.specs.declared.lexer.word.Word.{Word}
 use Rattle.job_lang.specs.declared.lexer.word.Word.TheVariants.{Open, Close, Work, Counter, Stack, Tree, Queue, Add, Push, Pop, Insert, Remove, Find, Next, Take, Seq, Par, For, Pfor, Number, Copies, Other}
-use Rattle.job_lang.specs.declared.lexer.word.PlacedWord.{PlacedWord}
+use Rattle.job_lang.specs.declared.lexer.word.WordOnLine.{WordOnLine}
 
 -- `0` to `9`
 abbrev pub is_digit : ℕ → Bool
@@ -82,8 +82,8 @@ word_of text =
     else argument_word text
 
 -- the words of a text, each with its line
-abbrev pub placed : Token → PlacedWord
-placed token = record { word = word_of token.text; line = token.line }
+abbrev pub word_on_line : Token → WordOnLine
+word_on_line token = record { word = word_of token.text; line = token.line }
 
-abbrev pub placed_words : List ℕ → List PlacedWord
-placed_words text = map placed (tokens text)
+abbrev pub words_on_lines : List ℕ → List WordOnLine
+words_on_lines text = map word_on_line (tokens text)

@@ -21,7 +21,7 @@ pub enum JobFault {
     /// More leaves than a job may have.
     #[error("line {line}: too many leaves")]
     Leaves { line: u32 },
-    /// An argument that is too large in some copy.
+    /// An argument that is out of range in some copy.
     #[error("line {line}: argument out of range")]
     Argument { line: u32 },
 }

@@ -1,16 +1,16 @@
-//! The items of a text, before their copies are made.
+//! The items of a text, before the copies of its loops are made.
 
-/// What stands in the place of a number.
-#[derive(Clone, Copy, Debug, PartialEq, Eq)]
+/// The argument of a leaf.
+#[derive(Clone, Copy)]
 pub(crate) enum Argument {
     Number(u32),
     /// The number of the copy times a factor, plus an addend.
     Copies(u32, u32),
 }
 
-/// What has an argument.
-#[derive(Clone, Copy, Debug, PartialEq, Eq)]
-pub(crate) enum Verb {
+/// An operation with an argument.
+#[derive(Clone, Copy)]
+pub(crate) enum UnaryOp {
     Work,
     CounterAdd,
     StackPush,
@@ -21,25 +21,50 @@ pub(crate) enum Verb {
     QueueInsert,
 }
 
-#[derive(Clone, Copy, Debug, PartialEq, Eq)]
+/// An operation, and its argument if it has one.
+#[derive(Clone, Copy)]
 pub(crate) enum Leaf {
-    WithArgument(Verb, Argument),
+    WithArgument(UnaryOp, Argument),
     StackPop,
     QueueTake,
 }
 
-/// What opens a block.
-#[derive(Clone, Copy, Debug, PartialEq, Eq)]
-pub(crate) enum Head {
+/// What opens a block: its word, and for a loop the number of copies.
+#[derive(Clone, Copy)]
+pub(crate) enum BlockKind {
     Seq,
     Par,
     For(u32),
     Pfor(u32),
 }
 
+impl BlockKind {
+    ghost use Rattle.std.specs.Prelude.{◌≡◌};
+    ghost use Rattle.job_lang.specs.Counts.{copies_of};
+    ghost use Rattle.job_lang.specs.Grammar.{is_loop};
+    ghost use Rattle.job_lang.specs.Code.Views.{block_kind_of};
+
+    /// How often the block runs its items.
+    pub(crate) fn copies(self) -> u32
+        ensures { result ≡ copies_of (block_kind_of self) }
+    {
+        match self {
+            BlockKind::Seq | BlockKind::Par => 1,
+            BlockKind::For(copies) | BlockKind::Pfor(copies) => copies,
+        }
+    }
+
+    /// Whether the block is a loop.
+    pub(crate) fn is_loop(self) -> bool
+        ensures { result ≡ is_loop (block_kind_of self) }
+    {
+        matches!(self, BlockKind::For(_) | BlockKind::Pfor(_))
+    }
+}
+
 /// A leaf, or a block and its items. Blocks nest at most 32 deep.
 #[derive(Drop)]
 pub(crate) enum Item {
     Leaf(Leaf),
-    Block(Head, Vec<Item>),
+    Block(BlockKind, Vec<Item>),
 }

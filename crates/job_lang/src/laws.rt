@@ -11,14 +11,18 @@ ghost use Rattle.job_lang.specs.declared.fault.JobFault.{JobFault};
 
 /// Each text has one job or one fault, and not both.
 pub fn texts_have_one_job_or_fault()
-    ensures one_job { (text : List ℕ) (job job' : JobValue) → IsJobOf text job → IsJobOf text job' → job ≡ job' }
-    ensures one_fault { (text : List ℕ) (fault fault' : JobFault) → IsFaultOf text fault → IsFaultOf text fault' → fault ≡ fault' }
-    ensures not_both { (text : List ℕ) (job : JobValue) (fault : JobFault) → IsJobOf text job → IsFaultOf text fault → ⊥ }
+    ensures one_job { (text : List ℕ) (job job' : JobValue)
+        → IsJobOf text job → IsJobOf text job' → job ≡ job' }
+    ensures one_fault { (text : List ℕ) (fault fault' : JobFault)
+        → IsFaultOf text fault → IsFaultOf text fault' → fault ≡ fault' }
+    ensures not_both { (text : List ℕ) (job : JobValue) (fault : JobFault)
+        → IsJobOf text job → IsFaultOf text fault → ⊥ }
     ensures either { (text : List ℕ) → Accepts text ⊎ ((fault : JobFault) × IsFaultOf text fault) }
 {}
 
 /// The words of an operation, as a report has them, are the text of the job that makes this one call.
 #[tactic(auto, using(crate::proofs::WriterLemmas::Jobs::words_are_a_job))]
 pub fn reported_words_are_a_job()
-    ensures { (op : Op) → IsSmall (op_number op) → IsJobOf (op_words op) (record { shape = Some leaf; acts = Call op ∷ [] }) }
+    ensures { (op : Op) → IsSmall (op_number op)
+        → IsJobOf (op_words op) (record { shape = Some leaf; acts = Call op ∷ [] }) }
 {}

@@ -1,26 +1,26 @@
-//! The tokens of a text.
+//! The words of a text, each with the line of its token.
 ghost use Rattle.std.specs.Prelude.{◌≡◌, ◌≤◌, IfOk, length};
-ghost use Rattle.job_lang.specs.Words.{placed_words};
+ghost use Rattle.job_lang.specs.Words.{words_on_lines};
 
 mod scanner;
-mod spelling;
 pub(crate) mod text;
 pub(crate) mod word;
+mod word_of;
 
 use crate::lexer::scanner::Scanner;
-use crate::lexer::spelling::word_of;
-use crate::lexer::word::PlacedWord;
+use crate::lexer::word::WordOnLine;
+use crate::lexer::word_of::word_of;
 use std::alloc::{AllocError, Global};
 
-/// What the tokens of a text say, each with its line.
-pub(crate) fn words_in(alloc: Global, text: &[u8]) -> Result<Vec<PlacedWord>, AllocError>
+/// The words that the tokens of a text say, each with its line.
+pub(crate) fn words_in(alloc: Global, text: &[u8]) -> Result<Vec<WordOnLine>, AllocError>
     requires { length text.now ≤ 1048576 }
-    ensures { IfOk result (λ words. words.items ≡ placed_words text.now) }
+    ensures { IfOk result (λ words. words.items ≡ words_on_lines text.now) }
 {
     let mut scanner = Scanner::new(text);
     let mut words = Vec::new(alloc);
     while let Some(token) = scanner.next_token() {
-        words.push(PlacedWord {
+        words.push(WordOnLine {
             word: word_of(token.text),
             line: token.line,
         })?;

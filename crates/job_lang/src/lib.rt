@@ -1,10 +1,13 @@
 //! The job language: which texts are jobs, the reader and the writer.
 //!
-//! The reader is the grammar: `read_job` gives a job exactly where the grammar accepts the text, and this job, and else
-//! exactly the text's one fault, with its line. It reads the tokens of the text once, with a stack of open blocks, and then
-//! makes the copies of the loops. `write_job` writes a job's canonical text, which is a text of this job. `laws` says that
-//! each text has one job or one fault, and not both. The crate stands on `sp_order` and `seq_objects`, and on `thiserror`
-//! for how faults are displayed, of which no clause speaks.
+//! `read_job` gives a job exactly where the grammar accepts the text, and this job, and else exactly the text's one fault,
+//! with its line. The text goes through four rooms: `lexer` makes words of its bytes; `parser` makes items of the words,
+//! once from left to right, with a stack of open blocks; `limits` counts the leaves and checks the range of arguments; and
+//! `expand` makes the copies of the loops and joins their shapes. `write_job` writes a job's canonical text, which is a
+//! text of this job. `laws` says that each text has one job or one fault, and not both.
+//!
+//! In `specs/` the rules stand at the top, and what only the code and its proofs cite in `Code/`. The crate stands on
+//! `sp_order` and `seq_objects`, and on `thiserror` for how faults are displayed, of which no clause speaks.
 #![tactic(auto)]
 
 pub mod error;

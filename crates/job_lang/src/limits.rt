@@ -1,4 +1,4 @@
-//! Where a text whose tokens have no fault goes past a limit.
+//! The limits of a job whose words have no fault: its leaves, and the range of its arguments.
 ghost use Rattle.std.specs.Prelude.{◌≡◌, ◌<◌, ◌≤◌, ◌^◌, IfSome, IfNone, length};
 ghost use Rattle.job_lang.specs.Counts.{count};
 ghost use Rattle.job_lang.specs.Faults.{words_of};
@@ -7,20 +7,21 @@ ghost use Rattle.job_lang.specs.Limits.{IsLeavesLine, argument_line};
 ghost use Rattle.job_lang.specs.Code.Views.{items_of};
 
 mod argument_range;
-pub(crate) mod leaf_count;
+mod leaf_count;
 mod word_count;
 
 use crate::item::Item;
-use crate::lexer::word::PlacedWord;
-use crate::limits::argument_range::{Words, excess_in_items};
+use crate::lexer::word::WordOnLine;
+use crate::limits::argument_range::out_of_range_in_items;
 use crate::limits::leaf_count::count_item;
-use crate::limits::word_count::item_width;
+use crate::limits::word_count::item_word_count;
+use crate::parser::cursor::Cursor;
 
-/// A job has at most so many leaves.
+/// The most leaves of a job.
 const MOST_LEAVES: u64 = 20_000;
 
 /// The line of the first word of the first item with which the leaves are too many.
-pub(crate) fn leaves_line(words: &[PlacedWord], items: &[Item]) -> Option<u32>
+pub(crate) fn leaves_line(words: &[WordOnLine], items: &[Item]) -> Option<u32>
     requires writes { items_words (items_of items.now) ≡ words_of words.now }
     requires short { length words.now < 2 ^ 59 }
     ensures some { IfSome result (λ line. IsLeavesLine words.now (items_of items.now) line) }
@@ -33,16 +34,16 @@ pub(crate) fn leaves_line(words: &[PlacedWord], items: &[Item]) -> Option<u32>
         if leaves > MOST_LEAVES {
             return Some(words[place].line);
         }
-        place += item_width(item);
+        place += item_word_count(item);
     }
     None
 }
 
-/// The line of the first argument that is too large in some copy.
-#[tactic(auto, using(crate::proofs::LimitLemmas::Excesses::found_line))]
-pub(crate) fn argument_line(words: &[PlacedWord], items: &[Item]) -> Option<u32>
+/// The line of the first argument that is out of range in some copy.
+#[tactic(auto, using(crate::proofs::LimitLemmas::ArgumentRanges::found_line))]
+pub(crate) fn argument_line(words: &[WordOnLine], items: &[Item]) -> Option<u32>
     ensures { result ≡ argument_line words.now (items_of items.now) }
 {
-    let mut words = Words { rest: words };
-    excess_in_items(0, items, &mut words)
+    let mut words = Cursor::new(words);
+    out_of_range_in_items(0, items, &mut words)
 }

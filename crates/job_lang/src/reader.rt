@@ -1,4 +1,4 @@
-//! The reader of jobs.
+//! Reads a job from its text.
 ghost use Rattle.std.specs.Prelude.{◌≡◌, ◌≤◌, ◌⊎◌, Ok, Err, IfOk, length};
 ghost use Rattle.sp_order.specs.Jobs.{JobValue};
 ghost use Rattle.job_lang.specs.Language.{IsJobOf, IsFaultOf};
@@ -43,7 +43,8 @@ pub fn read_job(alloc: Global, text: &[u8]) -> Result<Job, JobErr>
     ensures job { IfOk result (λ job. IsJobOf text.now job) }
     ensures fault { (fault : JobFault) → result ≡ Err (Bad fault) → IsFaultOf text.now fault }
     ensures accepts { (job : JobValue) → IsJobOf text.now job → (result ≡ Ok job) ⊎ (result ≡ Err Memory) }
-    ensures refuses { (fault : JobFault) → IsFaultOf text.now fault → (result ≡ Err (Bad fault)) ⊎ (result ≡ Err Memory) }
+    ensures refuses { (fault : JobFault) → IsFaultOf text.now fault
+        → (result ≡ Err (Bad fault)) ⊎ (result ≡ Err Memory) }
 {
     read(alloc, text)
 }

@@ -1,4 +1,4 @@
-//! The writer of jobs.
+//! Writes the canonical text of a job.
 ghost use Rattle.std.specs.Prelude.{◌≡◌, ◌≤◌, ◌+◌, ◌++◌, IfOk, OnOk, length, take, drop, string_bytes};
 ghost use Rattle.sp_order.specs.Precedence.{tree_of, leaves};
 ghost use Rattle.sp_order.specs.Depth.{depth_of};
@@ -23,7 +23,7 @@ fn push_act(text: &mut String, act: Act) -> Result<(), AllocError>
     }
 }
 
-/// Writes the first of the acts, and gives those behind it.
+/// Writes the first of the acts, and answers those behind it.
 fn push_leaf<'a>(text: &mut String, acts: &'a [Act]) -> Result<&'a [Act], AllocError>
     ensures text { OnOk result (string_bytes text.new ≡ string_bytes text.old ++ first_act_text acts.now) }
     ensures rest { IfOk result (λ rest. rest.now ≡ drop 1 acts.now) }
@@ -38,15 +38,16 @@ fn push_leaf<'a>(text: &mut String, acts: &'a [Act]) -> Result<&'a [Act], AllocE
     }
 }
 
-/// Writes the shape whose leaves do the first of the acts, and gives the acts behind these. It calls itself once for each
-/// level.
+/// Writes the shape whose leaves do the first of the acts, and answers the acts behind these. The recursion is as deep as
+/// the shape.
 #[cycle(shapes)]
 fn push_shape<'a>(
     text: &mut String,
     shape: &Shape,
     acts: &'a [Act],
 ) -> Result<&'a [Act], AllocError>
-    ensures text { OnOk result (string_bytes text.new ≡ string_bytes text.old ++ tree_text (tree_of shape.now) acts.now) }
+    ensures text { OnOk result
+        (string_bytes text.new ≡ string_bytes text.old ++ tree_text (tree_of shape.now) acts.now) }
     ensures rest { IfOk result (λ rest. rest.now ≡ drop (leaves (tree_of shape.now)) acts.now) }
     ensures small { OnOk result (AreSmall (take (leaves (tree_of shape.now)) acts.now)) }
 {
@@ -63,7 +64,7 @@ fn push_shape<'a>(
     }
 }
 
-/// Writes two shapes in braces, and gives the acts behind theirs.
+/// Writes two shapes in braces, and answers the acts behind theirs.
 #[cycle(shapes)]
 fn push_sides<'a>(
     text: &mut String,
@@ -71,9 +72,13 @@ fn push_sides<'a>(
     right: &Shape,
     acts: &'a [Act],
 ) -> Result<&'a [Act], AllocError>
-    ensures text { OnOk result (string_bytes text.new ≡ string_bytes text.old ++ sides_text (tree_of left.now) (tree_of right.now) acts.now) }
-    ensures rest { IfOk result (λ rest. rest.now ≡ drop (leaves (tree_of left.now) + leaves (tree_of right.now)) acts.now) }
-    ensures small { OnOk result (AreSmall (take (leaves (tree_of left.now) + leaves (tree_of right.now)) acts.now)) }
+    ensures text { OnOk result
+        (string_bytes text.new
+        ≡ string_bytes text.old ++ sides_text (tree_of left.now) (tree_of right.now) acts.now) }
+    ensures rest { IfOk result (λ rest.
+        rest.now ≡ drop (leaves (tree_of left.now) + leaves (tree_of right.now)) acts.now) }
+    ensures small { OnOk result
+        (AreSmall (take (leaves (tree_of left.now) + leaves (tree_of right.now)) acts.now)) }
 {
     write!(text, "{{ ")?;
     let rest = push_shape(text, left, acts)?;

@@ -3,11 +3,11 @@ use Rattle.std.proofs.Common.{◌≡◌, ℕ, zero, suc, ◌+◌, ◌<◌, List,
 use Rattle.seq_objects.specs.declared.act.Act.{Act}
 use Rattle.sp_order.specs.Precedence.{Tree}
 use Rattle.job_lang.specs.declared.item.Item.{Item, Block}
-use Rattle.job_lang.specs.declared.item.Head.{Head as CodeHead}
+use Rattle.job_lang.specs.declared.item.BlockKind.{BlockKind as CodeBlockKind}
 use Rattle.job_lang.specs.Grammar.{Items, nothing, leaf_then, block_then, seq_block, par_block, for_loop, pfor_loop, ◌then◌}
 use Rattle.job_lang.specs.Meaning.{shapes_in, acts_in}
 use Rattle.job_lang.specs.Code.Ranges.{Fits}
-use Rattle.job_lang.specs.Code.Views.{items_of, item_of, head_of}
+use Rattle.job_lang.specs.Code.Views.{items_of, item_of, block_kind_of}
 use Rattle.job_lang.proofs.ParserLemmas.Levels.{items_of_more, item_of_block}
 
 pub shapes_then : (c : ℕ) (a b : Items) → shapes_in c (a then b) ≡ shapes_in c a ++ shapes_in c b
@@ -49,20 +49,20 @@ shapes_more c xs i x h e = ap (shapes_in c) (items_of_more xs i x h e) ∙ shape
 acts_more : (c : ℕ) (xs : List Item) (i : ℕ) (x : Item) → i < length xs → x ≡ get_or xs i x → acts_in c (items_of (take (i + 1) xs)) ≡ acts_in c (items_of (take i xs)) ++ acts_in c (item_of x)
 acts_more c xs i x h e = ap (acts_in c) (items_of_more xs i x h e) ∙ acts_then c (items_of (take i xs)) (item_of x)
 
-pub shapes_turn : (c : ℕ) (xs : List Item) (i : ℕ) (x : Item) (made new more : List Tree) → made ≡ shapes_in c (items_of (take i xs)) → x ≡ get_or xs i x → i < length xs → more ≡ shapes_in c (item_of x) → new ≡ made ++ more → new ≡ shapes_in c (items_of (take (i + 1) xs))
-shapes_turn c xs i x made new more e f h z n = n ∙ ap (λ y. made ++ y) z ∙ ap (λ y. y ++ shapes_in c (item_of x)) e ∙ sym (shapes_more c xs i x h f)
+pub shapes_step : (c : ℕ) (xs : List Item) (i : ℕ) (x : Item) (made new more : List Tree) → made ≡ shapes_in c (items_of (take i xs)) → x ≡ get_or xs i x → i < length xs → more ≡ shapes_in c (item_of x) → new ≡ made ++ more → new ≡ shapes_in c (items_of (take (i + 1) xs))
+shapes_step c xs i x made new more e f h z n = n ∙ ap (λ y. made ++ y) z ∙ ap (λ y. y ++ shapes_in c (item_of x)) e ∙ sym (shapes_more c xs i x h f)
 
-pub acts_turn : (c : ℕ) (xs : List Item) (i : ℕ) (x : Item) (old now new : List Act) → now ≡ old ++ acts_in c (items_of (take i xs)) → x ≡ get_or xs i x → i < length xs → new ≡ now ++ acts_in c (item_of x) → new ≡ old ++ acts_in c (items_of (take (i + 1) xs))
-acts_turn c xs i x old now new e f h n =
+pub acts_step : (c : ℕ) (xs : List Item) (i : ℕ) (x : Item) (old now new : List Act) → now ≡ old ++ acts_in c (items_of (take i xs)) → x ≡ get_or xs i x → i < length xs → new ≡ now ++ acts_in c (item_of x) → new ≡ old ++ acts_in c (items_of (take (i + 1) xs))
+acts_step c xs i x old now new e f h n =
     n ∙ ap (λ y. y ++ acts_in c (item_of x)) e ∙ append_assoc old (acts_in c (items_of (take i xs))) (acts_in c (item_of x))
     ∙ ap (λ y. old ++ y) (sym (acts_more c xs i x h f))
 
 -- one level
-pub block_shapes : (c : ℕ) (head : CodeHead) (inside : Vec Item Global) → shapes_in c (item_of (Block head inside)) ≡ shapes_in c (block_then (head_of head) (items_of inside.items) nothing)
-block_shapes c head inside = ap (shapes_in c) (item_of_block head inside)
+pub block_shapes : (c : ℕ) (kind : CodeBlockKind) (inside : Vec Item Global) → shapes_in c (item_of (Block kind inside)) ≡ shapes_in c (block_then (block_kind_of kind) (items_of inside.items) nothing)
+block_shapes c kind inside = ap (shapes_in c) (item_of_block kind inside)
 
-pub block_acts : (c : ℕ) (head : CodeHead) (inside : Vec Item Global) → acts_in c (item_of (Block head inside)) ≡ acts_in c (block_then (head_of head) (items_of inside.items) nothing)
-block_acts c head inside = ap (acts_in c) (item_of_block head inside)
+pub block_acts : (c : ℕ) (kind : CodeBlockKind) (inside : Vec Item Global) → acts_in c (item_of (Block kind inside)) ≡ acts_in c (block_then (block_kind_of kind) (items_of inside.items) nothing)
+block_acts c kind inside = ap (acts_in c) (item_of_block kind inside)
 
-pub block_fits : (c : ℕ) (head : CodeHead) (inside : Vec Item Global) → Fits c (item_of (Block head inside)) → Fits c (block_then (head_of head) (items_of inside.items) nothing)
-block_fits c head inside h = subst (Fits c) (item_of_block head inside) h
+pub block_fits : (c : ℕ) (kind : CodeBlockKind) (inside : Vec Item Global) → Fits c (item_of (Block kind inside)) → Fits c (block_then (block_kind_of kind) (items_of inside.items) nothing)
+block_fits c kind inside h = subst (Fits c) (item_of_block kind inside) h

@@ -4,7 +4,7 @@ use Rattle.std.specs.Option.{option_map}
 use Rattle.std.proofs.lemmas.List.{take-map, drop-map, length-map, drop-take, drop-drop}
 use Rattle.sp_order.specs.declared.shape.Shape.{Shape}
 use Rattle.sp_order.specs.Precedence.{Tree, tree_of}
-use Rattle.job_lang.specs.Joins.{join_within, joined, both, half}
+use Rattle.job_lang.specs.Joins.{join_within, join_of, both, half}
 
 -- any bound that suffices
 enough : (kind : Tree → Tree → Tree) (n m : ℕ) (xs : List Tree) → length xs ≤ n → length xs ≤ m → join_within kind n xs ≡ join_within kind m xs
@@ -21,33 +21,33 @@ enough kind (suc n) (suc m) (x ∷ y ∷ zs) h k =
     ap (λ a. both kind a (join_within kind n (drop at xs))) (enough kind n m (take at xs) (simp length-take (omega (arith, h))) (simp length-take (omega (arith, k))))
     ∙ ap (λ b. both kind (join_within kind m (take at xs)) b) (enough kind n m (drop at xs) (simp length-drop (omega (arith, h))) (simp length-drop (omega (arith, k))))
 
-joined_halves : (kind : Tree → Tree → Tree) (xs : List Tree) → 2 ≤ length xs → joined kind xs ≡ both kind (joined kind (take (half (length xs)) xs)) (joined kind (drop (half (length xs)) xs))
-joined_halves kind [] h = absurd (omega (arith, h))
-joined_halves kind (x ∷ []) h = absurd (omega (arith, h))
-joined_halves kind (x ∷ y ∷ zs) h =
+join_of_halves : (kind : Tree → Tree → Tree) (xs : List Tree) → 2 ≤ length xs → join_of kind xs ≡ both kind (join_of kind (take (half (length xs)) xs)) (join_of kind (drop (half (length xs)) xs))
+join_of_halves kind [] h = absurd (omega (arith, h))
+join_of_halves kind (x ∷ []) h = absurd (omega (arith, h))
+join_of_halves kind (x ∷ y ∷ zs) h =
     let xs : List Tree = x ∷ y ∷ zs in
     let at : ℕ = half (length xs) in
     let n : ℕ = suc (length zs) in
     ap (λ a. both kind a (join_within kind n (drop at xs))) (enough kind n (length (take at xs)) (take at xs) (simp length-take (omega arith)) (omega arith))
-    ∙ ap (λ b. both kind (joined kind (take at xs)) b) (enough kind n (length (drop at xs)) (drop at xs) (simp length-drop (omega arith)) (omega arith))
+    ∙ ap (λ b. both kind (join_of kind (take at xs)) b) (enough kind n (length (drop at xs)) (drop at xs) (simp length-drop (omega arith)) (omega arith))
 
 -- the joined halves of a list are the joined list
 join_halves : (kind : Tree → Tree → Tree) (xs front back : List Shape) (left right : Option Shape) → 2 ≤ length xs → front ≡ take (half (length xs)) xs → back ≡ drop (half (length xs)) xs
-    → option_map tree_of left ≡ joined kind (map tree_of front) → option_map tree_of right ≡ joined kind (map tree_of back)
-    → both kind (option_map tree_of left) (option_map tree_of right) ≡ joined kind (map tree_of xs)
+    → option_map tree_of left ≡ join_of kind (map tree_of front) → option_map tree_of right ≡ join_of kind (map tree_of back)
+    → both kind (option_map tree_of left) (option_map tree_of right) ≡ join_of kind (map tree_of xs)
 join_halves kind xs front back left right many is is' l r =
     let ts : List Tree = map tree_of xs in
     let same : length ts ≡ length xs = length-map xs tree_of in
-    let p : option_map tree_of left ≡ joined kind (take (half (length ts)) ts) = l ∙ ap (λ f. joined kind (map tree_of f)) is ∙ ap (joined kind) (sym (take-map tree_of (half (length xs)) xs)) ∙ ap (λ m. joined kind (take (half m) ts)) (sym same) in
-    let q : option_map tree_of right ≡ joined kind (drop (half (length ts)) ts) = r ∙ ap (λ f. joined kind (map tree_of f)) is' ∙ ap (joined kind) (sym (drop-map tree_of (half (length xs)) xs)) ∙ ap (λ m. joined kind (drop (half m) ts)) (sym same) in
-    ap (λ a. both kind a (option_map tree_of right)) p ∙ ap (both kind (joined kind (take (half (length ts)) ts))) q ∙ sym (joined_halves kind ts (omega (arith, same, many)))
+    let p : option_map tree_of left ≡ join_of kind (take (half (length ts)) ts) = l ∙ ap (λ f. join_of kind (map tree_of f)) is ∙ ap (join_of kind) (sym (take-map tree_of (half (length xs)) xs)) ∙ ap (λ m. join_of kind (take (half m) ts)) (sym same) in
+    let q : option_map tree_of right ≡ join_of kind (drop (half (length ts)) ts) = r ∙ ap (λ f. join_of kind (map tree_of f)) is' ∙ ap (join_of kind) (sym (drop-map tree_of (half (length xs)) xs)) ∙ ap (λ m. join_of kind (drop (half m) ts)) (sym same) in
+    ap (λ a. both kind a (option_map tree_of right)) p ∙ ap (both kind (join_of kind (take (half (length ts)) ts))) q ∙ sym (join_of_halves kind ts (omega (arith, same, many)))
 
 -- the last shapes of a list, joined from the last ones of it and from the last ones of what is then left
 pub join_last_halves : (kind : Tree → Tree → Tree) (old mid : List Shape) (count : ℕ) (left right : Shape) → 2 ≤ count → count ≤ length old
     → mid ≡ take (length old - count / 2) old
-    → Some (tree_of right) ≡ joined kind (map tree_of (drop (length old - count / 2) old))
-    → Some (tree_of left) ≡ joined kind (map tree_of (drop (length mid - (count - count / 2)) mid))
-    → Some (kind (tree_of left) (tree_of right)) ≡ joined kind (map tree_of (drop (length old - count) old))
+    → Some (tree_of right) ≡ join_of kind (map tree_of (drop (length old - count / 2) old))
+    → Some (tree_of left) ≡ join_of kind (map tree_of (drop (length mid - (count - count / 2)) mid))
+    → Some (kind (tree_of left) (tree_of right)) ≡ join_of kind (map tree_of (drop (length old - count) old))
 join_last_halves kind old mid count left right many enough is r l =
     let rest : ℕ = length old - count in
     let few : ℕ = count - count / 2 in

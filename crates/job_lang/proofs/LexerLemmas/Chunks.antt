@@ -46,7 +46,7 @@ run_on byte text chunk = rw chunk (one-add (run text))
 run_off : (byte : ℕ) (text : List ℕ) → is_in_chunk byte ≡ false → run (byte ∷ text) ≡ 0
 run_off byte text other = rw other refl
 
--- a token of so many bytes, before those of the rest
+-- the first token, by its length, before those of the rest
 abbrev first_of : ℕ → ℕ → List ℕ → List Token
 first_of line len text = record { text = take len text; line = line } ∷ tokens_from line (bare false (drop len text))
 

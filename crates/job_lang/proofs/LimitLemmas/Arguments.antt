@@ -1,4 +1,4 @@
--- Where no argument is too large in the last copy, each number of each copy fits 32 bits.
+-- Where no argument is out of range in the last copy, each number of each copy fits 32 bits.
 use Rattle.std.proofs.Common.{◌≡◌, ℕ, suc, ◌+◌, ◌-◌, ◌*◌, ◌^◌, ◌<◌, ◌≤◌, List, [], ◌∷◌, ◌++◌, length, filter, Bool, true, false, Some, None, refl, ap, ◌∙◌, arith, length-append}
 use Rattle.std.specs.Prelude.{◌&&◌, nat_le, if◌then◌else◌}
 use Rattle.std.proofs.Math.Nat.{mul-le-mul_left}
@@ -6,50 +6,50 @@ use Rattle.std.proofs.lemmas.Bool.{le-leb, leb-false}
 use Rattle.std.proofs.lemmas.List.Elements.{filter-append}
 use Rattle.job_lang.specs.declared.lexer.word.Word.{Word}
 use Rattle.job_lang.specs.declared.lexer.word.Word.TheVariants.{Open, Close, Copies}
-use Rattle.job_lang.specs.declared.lexer.word.PlacedWord.{PlacedWord}
-use Rattle.job_lang.specs.Grammar.{Items, nothing, leaf_then, block_then, seq_block, par_block, for_loop, pfor_loop, Leaf, with_argument, stack_pop, queue_take, verb_words, leaf_words, head_words, items_words, IsLeaf, AreItems, Derives}
+use Rattle.job_lang.specs.declared.lexer.word.WordOnLine.{WordOnLine}
+use Rattle.job_lang.specs.Grammar.{Items, nothing, leaf_then, block_then, seq_block, par_block, for_loop, pfor_loop, Leaf, with_argument, stack_pop, queue_take, unary_op_words, leaf_words, kind_words, items_words, IsLeaf, AreItems, Derives}
 use Rattle.job_lang.specs.Faults.{words_of}
-use Rattle.job_lang.specs.Counts.{said}
-use Rattle.job_lang.specs.Limits.{copies_inside, is_too_large, leaf_excesses, excesses, depends_on_copy, first_line, argument_line}
+use Rattle.job_lang.specs.Counts.{word_number}
+use Rattle.job_lang.specs.Limits.{copies_inside, is_out_of_range, leaf_range_flags, range_flags, depends_on_copy, first_line, argument_line}
 use Rattle.job_lang.specs.Code.Ranges.{FitsLeaf, Fits}
 use Rattle.job_lang.specs.Code.Searches.{dependents}
 
 -- there are as many words that depend on the copy as arguments that do
 
-count_kept : (flag : Bool) (token : PlacedWord) (tokens : List PlacedWord) (words : List Word) → length tokens ≡ length words → length (if flag then token ∷ tokens else tokens) ≡ length (if flag then token.word ∷ words else words)
+count_kept : (flag : Bool) (token : WordOnLine) (tokens : List WordOnLine) (words : List Word) → length tokens ≡ length words → length (if flag then token ∷ tokens else tokens) ≡ length (if flag then token.word ∷ words else words)
 count_kept true token tokens words same = ap suc same
 count_kept false token tokens words same = same
 
-dependents_length : (tokens : List PlacedWord) → length (dependents tokens) ≡ length (filter depends_on_copy (words_of tokens))
+dependents_length : (tokens : List WordOnLine) → length (dependents tokens) ≡ length (filter depends_on_copy (words_of tokens))
 dependents_length [] = refl
 dependents_length (token ∷ tokens) = count_kept (depends_on_copy token.word) token (dependents tokens) (filter depends_on_copy (words_of tokens)) (dependents_length tokens)
 
 filter_length : (a b : List Word) → length (filter depends_on_copy (a ++ b)) ≡ length (filter depends_on_copy a) + length (filter depends_on_copy b)
 filter_length a b = ap length (filter-append depends_on_copy a b) ∙ length-append (filter depends_on_copy a) (filter depends_on_copy b)
 
-leaf_few : (c : ℕ) (leaf : Leaf) → length (leaf_excesses c leaf) ≤ length (filter depends_on_copy (leaf_words leaf))
-leaf_few c (with_argument verb (Copies (Some by))) = let h = filter_length (verb_words verb) (Copies (Some by) ∷ []) in omega (arith, h)
+leaf_few : (c : ℕ) (leaf : Leaf) → length (leaf_range_flags c leaf) ≤ length (filter depends_on_copy (leaf_words leaf))
+leaf_few c (with_argument op (Copies (Some by))) = let h = filter_length (unary_op_words op) (Copies (Some by) ∷ []) in omega (arith, h)
 leaf_few c _ = omega arith
 
-excesses_few : (items : Items) (c : ℕ) → length (excesses c items) ≤ length (filter depends_on_copy (items_words items))
-excesses_few nothing c = omega arith
-excesses_few (leaf_then leaf more) c =
-    omega (arith, leaf_few c leaf, excesses_few more c, filter_length (leaf_words leaf) (items_words more), length-append (leaf_excesses c leaf) (excesses c more))
-excesses_few (block_then head body more) c =
+range_flags_few : (items : Items) (c : ℕ) → length (range_flags c items) ≤ length (filter depends_on_copy (items_words items))
+range_flags_few nothing c = omega arith
+range_flags_few (leaf_then leaf more) c =
+    omega (arith, leaf_few c leaf, range_flags_few more c, filter_length (leaf_words leaf) (items_words more), length-append (leaf_range_flags c leaf) (range_flags c more))
+range_flags_few (block_then kind body more) c =
     omega (
       arith,
-      excesses_few body (copies_inside c head),
-      excesses_few more c,
-      filter_length (head_words head) (Open ∷ (items_words body ++ Close ∷ items_words more)),
+      range_flags_few body (copies_inside c kind),
+      range_flags_few more c,
+      filter_length (kind_words kind) (Open ∷ (items_words body ++ Close ∷ items_words more)),
       filter_length (items_words body) (Close ∷ items_words more),
-      length-append (excesses (copies_inside c head) body) (excesses c more),
+      length-append (range_flags (copies_inside c kind) body) (range_flags c more),
     )
 
 abbrev AreAllFalse : List Bool → Type 0
 AreAllFalse [] = Unit {0}
 AreAllFalse (flag ∷ flags) = (flag ≡ false) × AreAllFalse flags
 
-all_false : (flags : List Bool) (words : List PlacedWord) → length flags ≤ length words → first_line flags words ≡ None → AreAllFalse flags
+all_false : (flags : List Bool) (words : List WordOnLine) → length flags ≤ length words → first_line flags words ≡ None → AreAllFalse flags
 all_false [] words few none = tt
 all_false (true ∷ flags) [] few none = absurd (omega (arith, few))
 all_false (true ∷ flags) (word ∷ words) few none = absurd (cc none)
@@ -65,53 +65,53 @@ not_both true b first whole = whole
 not_both false b first whole = absurd (cc first)
 
 -- what fits in the last copy fits in each
-number_fits : (by : ℕ × ℕ) (c k : ℕ) → k < c → is_too_large c by ≡ false → by.0 * k + by.1 < 2 ^ 32
+number_fits : (by : ℕ × ℕ) (c k : ℕ) → k < c → is_out_of_range c by ≡ false → by.0 * k + by.1 < 2 ^ 32
 number_fits by c k below small =
     let last : by.0 * (c - 1) + by.1 < 2 ^ 32 = leb-false (2 ^ 32) (by.0 * (c - 1) + by.1) (not_both (nat_le 1 c) (nat_le (2 ^ 32) (by.0 * (c - 1) + by.1)) (le-leb 1 c (omega (arith, below))) small) in
     let less : by.0 * k ≤ by.0 * (c - 1) = mul-le-mul_left by.0 (omega (arith, below)) in
     omega (arith, last, less)
 
-leaf_fits : (leaf : Leaf) (c k : ℕ) → k < c → AreAllFalse (leaf_excesses c leaf) → FitsLeaf k leaf
-leaf_fits (with_argument verb (Copies (Some by))) c k below small = number_fits by c k below small.0
-leaf_fits (with_argument verb _) c k below small = tt
+leaf_fits : (leaf : Leaf) (c k : ℕ) → k < c → AreAllFalse (leaf_range_flags c leaf) → FitsLeaf k leaf
+leaf_fits (with_argument op (Copies (Some by))) c k below small = number_fits by c k below small.0
+leaf_fits (with_argument op _) c k below small = tt
 leaf_fits stack_pop c k below small = tt
 leaf_fits queue_take c k below small = tt
 
-fits_inside : (items : Items) (c k : ℕ) → k < c → AreAllFalse (excesses c items) → Fits k items
+fits_inside : (items : Items) (c k : ℕ) → k < c → AreAllFalse (range_flags c items) → Fits k items
 fits_inside nothing c k below small = tt
 fits_inside (leaf_then leaf more) c k below small =
-    let parts = parts_false (leaf_excesses c leaf) (excesses c more) small in (leaf_fits leaf c k below parts.0, fits_inside more c k below parts.1)
+    let parts = parts_false (leaf_range_flags c leaf) (range_flags c more) small in (leaf_fits leaf c k below parts.0, fits_inside more c k below parts.1)
 fits_inside (block_then seq_block body more) c k below small =
-    let parts = parts_false (excesses c body) (excesses c more) small in (fits_inside body c k below parts.0, fits_inside more c k below parts.1)
+    let parts = parts_false (range_flags c body) (range_flags c more) small in (fits_inside body c k below parts.0, fits_inside more c k below parts.1)
 fits_inside (block_then par_block body more) c k below small =
-    let parts = parts_false (excesses c body) (excesses c more) small in (fits_inside body c k below parts.0, fits_inside more c k below parts.1)
+    let parts = parts_false (range_flags c body) (range_flags c more) small in (fits_inside body c k below parts.0, fits_inside more c k below parts.1)
 fits_inside (block_then (for_loop n) body more) c k below small =
-    let parts = parts_false (excesses (said n) body) (excesses c more) small in ((λ i within. fits_inside body (said n) i within parts.0), fits_inside more c k below parts.1)
+    let parts = parts_false (range_flags (word_number n) body) (range_flags c more) small in ((λ i within. fits_inside body (word_number n) i within parts.0), fits_inside more c k below parts.1)
 fits_inside (block_then (pfor_loop n) body more) c k below small =
-    let parts = parts_false (excesses (said n) body) (excesses c more) small in ((λ i within. fits_inside body (said n) i within parts.0), fits_inside more c k below parts.1)
+    let parts = parts_false (range_flags (word_number n) body) (range_flags c more) small in ((λ i within. fits_inside body (word_number n) i within parts.0), fits_inside more c k below parts.1)
 
 leaf_fits_outside : (leaf : Leaf) → IsLeaf false leaf → FitsLeaf 0 leaf
-leaf_fits_outside (with_argument verb (Copies by)) fits = absurd (cc fits)
-leaf_fits_outside (with_argument verb _) fits = tt
+leaf_fits_outside (with_argument op (Copies by)) fits = absurd (cc fits)
+leaf_fits_outside (with_argument op _) fits = tt
 leaf_fits_outside stack_pop fits = tt
 leaf_fits_outside queue_take fits = tt
 
-fits_outside : (items : Items) → AreItems false items → AreAllFalse (excesses 0 items) → Fits 0 items
+fits_outside : (items : Items) → AreItems false items → AreAllFalse (range_flags 0 items) → Fits 0 items
 fits_outside nothing fits small = tt
 fits_outside (leaf_then leaf more) fits small =
-    let parts = parts_false (leaf_excesses 0 leaf) (excesses 0 more) small in (leaf_fits_outside leaf fits.0, fits_outside more fits.1 parts.1)
+    let parts = parts_false (leaf_range_flags 0 leaf) (range_flags 0 more) small in (leaf_fits_outside leaf fits.0, fits_outside more fits.1 parts.1)
 fits_outside (block_then seq_block body more) fits small =
-    let parts = parts_false (excesses 0 body) (excesses 0 more) small in (fits_outside body fits.1 parts.0, fits_outside more fits.2 parts.1)
+    let parts = parts_false (range_flags 0 body) (range_flags 0 more) small in (fits_outside body fits.1 parts.0, fits_outside more fits.2 parts.1)
 fits_outside (block_then par_block body more) fits small =
-    let parts = parts_false (excesses 0 body) (excesses 0 more) small in (fits_outside body fits.1 parts.0, fits_outside more fits.2 parts.1)
+    let parts = parts_false (range_flags 0 body) (range_flags 0 more) small in (fits_outside body fits.1 parts.0, fits_outside more fits.2 parts.1)
 fits_outside (block_then (for_loop n) body more) fits small =
-    let parts = parts_false (excesses (said n) body) (excesses 0 more) small in ((λ i within. fits_inside body (said n) i within parts.0), fits_outside more fits.2 parts.1)
+    let parts = parts_false (range_flags (word_number n) body) (range_flags 0 more) small in ((λ i within. fits_inside body (word_number n) i within parts.0), fits_outside more fits.2 parts.1)
 fits_outside (block_then (pfor_loop n) body more) fits small =
-    let parts = parts_false (excesses (said n) body) (excesses 0 more) small in ((λ i within. fits_inside body (said n) i within parts.0), fits_outside more fits.2 parts.1)
+    let parts = parts_false (range_flags (word_number n) body) (range_flags 0 more) small in ((λ i within. fits_inside body (word_number n) i within parts.0), fits_outside more fits.2 parts.1)
 
--- where the text has no argument that is too large
-pub numbers_fit : (words : List PlacedWord) (items : Items) → Derives (words_of words) items → argument_line words items ≡ None → Fits 0 items
+-- where the text has no argument out of range
+pub numbers_fit : (words : List WordOnLine) (items : Items) → Derives (words_of words) items → argument_line words items ≡ None → Fits 0 items
 numbers_fit words items derives none =
-    let few = excesses_few items 0 in
+    let few = range_flags_few items 0 in
     let same = ap (λ ws. length (filter depends_on_copy ws)) derives.writes in
-    fits_outside items derives.fits (all_false (excesses 0 items) (dependents words) (omega (arith, few, same, dependents_length words)) none)
+    fits_outside items derives.fits (all_false (range_flags 0 items) (dependents words) (omega (arith, few, same, dependents_length words)) none)

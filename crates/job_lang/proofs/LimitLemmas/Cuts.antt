@@ -4,16 +4,16 @@ use Rattle.std.proofs.Math.Nat.{mul-le-mul_left}
 use Rattle.std.proofs.lemmas.Bool.{cases_lt}
 use Rattle.job_lang.specs.declared.item.Item.{Item, Leaf as ItemLeaf, Block}
 use Rattle.job_lang.specs.declared.item.Leaf.{Leaf as CodeLeaf}
-use Rattle.job_lang.specs.declared.item.Head.{Head as CodeHead}
+use Rattle.job_lang.specs.declared.item.BlockKind.{BlockKind as CodeBlockKind}
 use Rattle.job_lang.specs.Grammar.{Items, nothing, leaf_then, block_then, ◌then◌}
 use Rattle.job_lang.specs.Counts.{count, copies_of}
-use Rattle.job_lang.specs.Code.Views.{items_of, item_of, head_of}
+use Rattle.job_lang.specs.Code.Views.{items_of, item_of, block_kind_of}
 use Rattle.job_lang.proofs.ParserLemmas.Levels.{items_of_more, item_of_leaf, item_of_block}
 
 pub count_then : (a b : Items) → count (a then b) ≡ count a + count b
 count_then nothing b = omega arith
 count_then (leaf_then leaf a) b = let h = count_then a b in omega (arith, h)
-count_then (block_then head body a) b = let h = count_then a b in omega (arith, h)
+count_then (block_then kind body a) b = let h = count_then a b in omega (arith, h)
 
 cut_add : (k a b : ℕ) → min k (min k a + min k b) ≡ min k (a + b)
 cut_add k a b = omega arith
@@ -36,16 +36,16 @@ cut_mul k (suc n) c = elim (cases_lt c k) [
 pub count_more : (xs : List Item) (i : ℕ) (x : Item) → i < length xs → x ≡ get_or xs i x → count (items_of (take (i + 1) xs)) ≡ count (items_of (take i xs)) + count (item_of x)
 count_more xs i x h e = ap count (items_of_more xs i x h e) ∙ count_then (items_of (take i xs)) (item_of x)
 
-pub count_turn : (xs : List Item) (i : ℕ) (x : Item) (leaves c r : ℕ) → leaves ≡ min 20001 (count (items_of (take i xs))) → c ≡ min 20001 (count (item_of x)) → x ≡ get_or xs i x → i < length xs → r ≡ min 20001 (leaves + c) → r ≡ min 20001 (count (items_of (take (i + 1) xs)))
-count_turn xs i x leaves c r a d e h b =
+pub count_step : (xs : List Item) (i : ℕ) (x : Item) (leaves c r : ℕ) → leaves ≡ min 20001 (count (items_of (take i xs))) → c ≡ min 20001 (count (item_of x)) → x ≡ get_or xs i x → i < length xs → r ≡ min 20001 (leaves + c) → r ≡ min 20001 (count (items_of (take (i + 1) xs)))
+count_step xs i x leaves c r a d e h b =
     b ∙ ap (λ s. min 20001 (s + c)) a ∙ ap (λ y. min 20001 (min 20001 (count (items_of (take i xs))) + y)) d
     ∙ cut_add 20001 (count (items_of (take i xs))) (count (item_of x)) ∙ ap (min 20001) (sym (count_more xs i x h e))
 
-pub count_block : (h : CodeHead) (v : Vec Item Global) → count (item_of (Block h v)) ≡ copies_of (head_of h) * count (items_of v.items)
+pub count_block : (h : CodeBlockKind) (v : Vec Item Global) → count (item_of (Block h v)) ≡ copies_of (block_kind_of h) * count (items_of v.items)
 count_block h v = ap count (item_of_block h v) ∙ omega arith
 
 pub count_leaf : (l : CodeLeaf) → count (item_of (ItemLeaf l)) ≡ 1
 count_leaf l = ap count (item_of_leaf l) ∙ omega arith
 
-pub block_cut : (h : CodeHead) (v : Vec Item Global) → min 20001 (copies_of (head_of h) * min 20001 (count (items_of v.items))) ≡ min 20001 (count (item_of (Block h v)))
-block_cut h v = cut_mul 20001 (copies_of (head_of h)) (count (items_of v.items)) ∙ ap (min 20001) (sym (count_block h v))
+pub block_cut : (h : CodeBlockKind) (v : Vec Item Global) → min 20001 (copies_of (block_kind_of h) * min 20001 (count (items_of v.items))) ≡ min 20001 (count (item_of (Block h v)))
+block_cut h v = cut_mul 20001 (copies_of (block_kind_of h)) (count (items_of v.items)) ∙ ap (min 20001) (sym (count_block h v))

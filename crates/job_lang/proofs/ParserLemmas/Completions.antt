@@ -6,7 +6,7 @@ use Rattle.job_lang.specs.declared.lexer.word.Word.TheVariants.{Add, Pop, Find, 
 use Rattle.job_lang.specs.declared.parser.call.Object.{Object}
 use Rattle.job_lang.specs.declared.parser.call.Object.TheVariants as object
 use Rattle.job_lang.specs.Words.{word_of}
-use Rattle.job_lang.specs.Grammar.{Items, nothing, block_then, ◌then◌, Head, for_loop, pfor_loop, with_argument, stack_pop, queue_take, Verb, counter_add, tree_find, AreItems, Derives, CanGoOn, items_words}
+use Rattle.job_lang.specs.Grammar.{Items, nothing, block_then, ◌then◌, BlockKind, for_loop, pfor_loop, with_argument, stack_pop, queue_take, UnaryOp, counter_add, tree_find, AreItems, Derives, CanGoOn, items_words}
 use Rattle.job_lang.specs.Code.Machine.{OpenBlock, Place, an_item, an_argument, a_call, for_copies, pfor_copies, a_brace, State, at, start, are_looped, step, run}
 use Rattle.job_lang.proofs.ParserLemmas.Derivations.{words_then}
 use Rattle.job_lang.proofs.ParserLemmas.Runs.{run-none, run-append, run_derived}
@@ -15,7 +15,7 @@ use Rattle.job_lang.proofs.ParserLemmas.Reached.{opening_words, AreBlocks, IsRea
 -- the items, once each open block is closed
 abbrev completed : List OpenBlock → Items → Items
 completed [] items = items
-completed (block ∷ blocks) items = completed blocks (block.before then block_then block.head items nothing)
+completed (block ∷ blocks) items = completed blocks (block.before then block_then block.kind items nothing)
 
 abbrev closing_braces : List OpenBlock → List (List ℕ)
 closing_braces [] = []
@@ -24,12 +24,12 @@ closing_braces (block ∷ blocks) = codes "}" ∷ closing_braces blocks
 words-completed : (blocks : List OpenBlock) (items : Items) → items_words (completed blocks items) ≡ opening_words blocks ++ (items_words items ++ map word_of (closing_braces blocks))
 words-completed [] items = sym (append-nil (items_words items))
 words-completed (block ∷ blocks) items =
-    words-completed blocks (block.before then block_then block.head items nothing) ∙ simp (words_then, append_assoc) refl
+    words-completed blocks (block.before then block_then block.kind items nothing) ∙ simp (words_then, append_assoc) refl
 
 fits-completed : (blocks : List OpenBlock) (items : Items) → AreBlocks blocks → AreItems (are_looped blocks) items → AreItems false (completed blocks items)
 fits-completed [] items outer fits = fits
 fits-completed (block ∷ blocks) items outer fits =
-    fits-completed blocks _ outer.2 (fits-then (are_looped blocks) block.before (block_then block.head items nothing) outer.0 (outer.1, fits, tt))
+    fits-completed blocks _ outer.2 (fits-then (are_looped blocks) block.before (block_then block.kind items nothing) outer.0 (outer.1, fits, tt))
 
 -- where one more token can stand
 goes_on_by : (words : List Word) (text : List ℕ) → CanGoOn (words ++ word_of text ∷ []) → CanGoOn words
@@ -52,12 +52,12 @@ goes_on_item {words} {blocks} {items} reached = record {
   };
 }
 
-goes_on_brace : {words : List Word} {blocks : List OpenBlock} {items : Items} (head : Head) → IsReached words (at blocks items (a_brace head)) → CanGoOn words
-goes_on_brace {words} head reached = goes_on_by words (codes "{") (goes_on_item (reach_brace head reached))
+goes_on_brace : {words : List Word} {blocks : List OpenBlock} {items : Items} (kind : BlockKind) → IsReached words (at blocks items (a_brace kind)) → CanGoOn words
+goes_on_brace {words} kind reached = goes_on_by words (codes "{") (goes_on_item (reach_brace kind reached))
 
-goes_on_argument : {words : List Word} {blocks : List OpenBlock} {items : Items} (verb : Verb) → IsReached words (at blocks items (an_argument verb)) → CanGoOn words
-goes_on_argument {words} verb reached =
-    goes_on_by words (codes "0") (goes_on_item (added (with_argument verb (Number (Some 0))) (Number (Some 0)) reached refl refl))
+goes_on_argument : {words : List Word} {blocks : List OpenBlock} {items : Items} (op : UnaryOp) → IsReached words (at blocks items (an_argument op)) → CanGoOn words
+goes_on_argument {words} op reached =
+    goes_on_by words (codes "0") (goes_on_item (added (with_argument op (Number (Some 0))) (Number (Some 0)) reached refl refl))
 
 goes_on_call : {words : List Word} {blocks : List OpenBlock} {items : Items} (of : Object) → IsReached words (at blocks items (a_call of)) → CanGoOn words
 goes_on_call {words} object.Counter reached = goes_on_by words (codes "add") (goes_on_argument counter_add (moved (an_argument counter_add) Add reached refl tt))
@@ -67,7 +67,7 @@ goes_on_call {words} object.Queue reached = goes_on_by words (codes "take") (goe
 
 pub goes_on : (words : List Word) (blocks : List OpenBlock) (items : Items) (place : Place) → IsReached words (at blocks items place) → CanGoOn words
 goes_on words blocks items an_item reached = goes_on_item reached
-goes_on words blocks items (an_argument verb) reached = goes_on_argument verb reached
+goes_on words blocks items (an_argument op) reached = goes_on_argument op reached
 goes_on words blocks items (a_call of) reached = goes_on_call of reached
 goes_on words blocks items for_copies reached =
     let zero = Number (Some 0) in
@@ -75,7 +75,7 @@ goes_on words blocks items for_copies reached =
 goes_on words blocks items pfor_copies reached =
     let zero = Number (Some 0) in
     goes_on_by words (codes "0") (goes_on_brace (pfor_loop zero) (moved (a_brace (pfor_loop zero)) zero reached refl refl))
-goes_on words blocks items (a_brace head) reached = goes_on_brace head reached
+goes_on words blocks items (a_brace kind) reached = goes_on_brace kind reached
 
 -- many more words
 reach_all : (more words : List Word) (from : Option State) → IfSome from (IsReached words) → IfSome (run from more) (IsReached (words ++ more))

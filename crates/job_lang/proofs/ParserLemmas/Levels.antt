@@ -3,12 +3,12 @@ use Rattle.std.proofs.Common.{rules, Vec, Global, ◌≡◌, ℕ, ◌+◌, ◌<�
 use Rattle.std.proofs.lemmas.List.{take_more, take-append-drop}
 use Rattle.job_lang.specs.declared.item.Item.{Item, Leaf as ItemLeaf, Block, the_lemmas}
 use Rattle.job_lang.specs.declared.item.Leaf.{Leaf as CodeLeaf}
-use Rattle.job_lang.specs.declared.item.Head.{Head as CodeHead}
+use Rattle.job_lang.specs.declared.item.BlockKind.{BlockKind as CodeBlockKind}
 use Rattle.job_lang.specs.Grammar.{Items, nothing, leaf_then, block_then, ◌then◌}
 use Rattle.job_lang.specs.declared.item.Item.{out-Item, map-Item, fold_out-Item}
 use Rattle.job_lang.specs.declared.item.Item.TheOpen.{Item-F}
 use Rattle.job_lang.proofs.ParserLemmas.Derivations.{then_assoc, then_nothing}
-use Rattle.job_lang.specs.Code.Views.{items_of, item_of, item_step, head_of, leaf_of}
+use Rattle.job_lang.specs.Code.Views.{items_of, item_of, item_step, block_kind_of, leaf_of}
 
 pub items_of_append : (xs ys : List Item) → items_of (xs ++ ys) ≡ items_of xs then items_of ys
 items_of_append [] ys = refl
@@ -20,7 +20,7 @@ items_of_push xs x = items_of_append xs (x ∷ []) ∙ ap (λ z. items_of xs the
 pub item_of_leaf : (l : CodeLeaf) → item_of (ItemLeaf l) ≡ leaf_then (leaf_of l) nothing
 item_of_leaf l = search (rules, the_lemmas)
 
-pub item_of_block : (h : CodeHead) (v : Vec Item Global) → item_of (Block h v) ≡ block_then (head_of h) (items_of v.items) nothing
+pub item_of_block : (h : CodeBlockKind) (v : Vec Item Global) → item_of (Block h v) ≡ block_then (block_kind_of h) (items_of v.items) nothing
 item_of_block h v = search (rules, the_lemmas)
 
 -- the first items, and one more

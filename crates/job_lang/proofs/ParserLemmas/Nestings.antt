@@ -5,21 +5,21 @@ use Rattle.std.specs.List.{AllByRecursion}
 use Rattle.std.proofs.lemmas.List.{map-append}
 use Rattle.job_lang.specs.declared.lexer.word.Word.{Word}
 use Rattle.job_lang.specs.declared.lexer.word.Word.TheVariants.{Open, Close, Number, Copies}
-use Rattle.job_lang.specs.declared.lexer.word.PlacedWord.{PlacedWord}
-use Rattle.job_lang.specs.Grammar.{Items, nothing, leaf_then, block_then, Head, seq_block, par_block, for_loop, pfor_loop, Leaf, with_argument, stack_pop, queue_take, work, counter_add, stack_push, tree_insert, tree_remove, tree_find, tree_next, queue_insert, is_number, is_argument, is_loop, IsLeaf, IsHead, AreItems, Derives, items_words, leaf_words, head_words}
+use Rattle.job_lang.specs.declared.lexer.word.WordOnLine.{WordOnLine}
+use Rattle.job_lang.specs.Grammar.{Items, nothing, leaf_then, block_then, BlockKind, seq_block, par_block, for_loop, pfor_loop, Leaf, with_argument, stack_pop, queue_take, work, counter_add, stack_push, tree_insert, tree_remove, tree_find, tree_next, queue_insert, is_number, is_argument, is_loop, IsLeaf, IsBlockKind, AreItems, Derives, items_words, leaf_words, kind_words}
 use Rattle.job_lang.specs.Faults.{words_of, has_good_numbers, open_behind, AreClean}
 use Rattle.job_lang.specs.Counts.{nesting}
 use Rattle.job_lang.proofs.ParserLemmas.MachineAnswers.{open_behind-push}
 use Rattle.job_lang.proofs.ParserLemmas.Completions.{front_goes_on}
 
--- each `{` finds fewer than 32 open blocks, where so many are open at the front
+-- each `{` finds fewer than 32 open blocks, where the number says how many are open at the front
 abbrev pub AreNested : ℕ → List Word → Type 0
 AreNested n [] = Unit {0}
 AreNested n (Open ∷ words) = (n < 32) × AreNested (n + 1) words
 AreNested n (Close ∷ words) = AreNested (n - 1) words
 AreNested n (_ ∷ words) = AreNested n words
 
--- no brace stands in a leaf, nor in a head
+-- no brace stands in a leaf, nor in the words that open a block
 skip_argument : (looped : Bool) (n : ℕ) (argument : Word) (words : List Word) → IsTrue (is_argument looped argument) → AreNested n (argument ∷ words) ↔ AreNested n words
 skip_argument looped n (Number number) words fits = ((λ h. h), (λ h. h))
 skip_argument looped n (Copies by) words fits = ((λ h. h), (λ h. h))
@@ -41,86 +41,86 @@ skip_number : (n : ℕ) (number : Word) (words : List Word) → IsTrue (is_numbe
 skip_number n (Number number) words fits = ((λ h. h), (λ h. h))
 skip_number n _ words fits = absurd (cc fits)
 
-skip_head : (n : ℕ) (head : Head) (words : List Word) → IsHead head → AreNested n (head_words head ++ Open ∷ words) ↔ AreNested n (Open ∷ words)
-skip_head n seq_block words fits = ((λ h. h), (λ h. h))
-skip_head n par_block words fits = ((λ h. h), (λ h. h))
-skip_head n (for_loop copies) words fits = skip_number n copies (Open ∷ words) fits
-skip_head n (pfor_loop copies) words fits = skip_number n copies (Open ∷ words) fits
+skip_kind : (n : ℕ) (kind : BlockKind) (words : List Word) → IsBlockKind kind → AreNested n (kind_words kind ++ Open ∷ words) ↔ AreNested n (Open ∷ words)
+skip_kind n seq_block words fits = ((λ h. h), (λ h. h))
+skip_kind n par_block words fits = ((λ h. h), (λ h. h))
+skip_kind n (for_loop copies) words fits = skip_number n copies (Open ∷ words) fits
+skip_kind n (pfor_loop copies) words fits = skip_number n copies (Open ∷ words) fits
 
 leaf_front : (leaf : Leaf) (more : Items) (words : List Word) → items_words (leaf_then leaf more) ++ words ≡ leaf_words leaf ++ (items_words more ++ words)
 leaf_front leaf more words = append_assoc (leaf_words leaf) (items_words more) words
 
-block_front : (head : Head) (body more : Items) (words : List Word) →
-    items_words (block_then head body more) ++ words ≡ head_words head ++ Open ∷ (items_words body ++ Close ∷ (items_words more ++ words))
-block_front head body more words =
-    append_assoc (head_words head) (Open ∷ (items_words body ++ Close ∷ items_words more)) words
-    ∙ ap (λ behind. head_words head ++ Open ∷ behind) (append_assoc (items_words body) (Close ∷ items_words more) words)
+block_front : (kind : BlockKind) (body more : Items) (words : List Word) →
+    items_words (block_then kind body more) ++ words ≡ kind_words kind ++ Open ∷ (items_words body ++ Close ∷ (items_words more ++ words))
+block_front kind body more words =
+    append_assoc (kind_words kind) (Open ∷ (items_words body ++ Close ∷ items_words more)) words
+    ∙ ap (λ behind. kind_words kind ++ Open ∷ behind) (append_assoc (items_words body) (Close ∷ items_words more) words)
 
-closed_again : (n : ℕ) → n + 1 - 1 ≡ n
-closed_again n = omega arith
+after_close_again : (n : ℕ) → n + 1 - 1 ≡ n
+after_close_again n = omega arith
 
 -- from the braces to the items
 pub nesting_within : (looped : Bool) (n : ℕ) (items : Items) (words : List Word) → AreItems looped items → n ≤ 32 →
     AreNested n (items_words items ++ words) → (n + nesting items ≤ 32) × AreNested n words
-nesting_within looped n nothing words fits room nested = (omega (arith, room), nested)
-nesting_within looped n (leaf_then leaf more) words fits room nested =
+nesting_within looped n nothing words fits room within_nesting = (omega (arith, room), within_nesting)
+nesting_within looped n (leaf_then leaf more) words fits room within_nesting =
     nesting_within looped n more words fits.1 room
-    ((skip_leaf looped n leaf (items_words more ++ words) fits.0).0 (subst (AreNested n) (leaf_front leaf more words) nested))
-nesting_within looped n (block_then head body more) words fits room nested =
+    ((skip_leaf looped n leaf (items_words more ++ words) fits.0).0 (subst (AreNested n) (leaf_front leaf more words) within_nesting))
+nesting_within looped n (block_then kind body more) words fits room within_nesting =
     let behind = items_words body ++ Close ∷ (items_words more ++ words) in
-    let inside : AreNested n (Open ∷ behind) = (skip_head n head behind fits.0).0 (subst (AreNested n) (block_front head body more words) nested) in
-    let first = nesting_within (looped || is_loop head) (n + 1) body (Close ∷ (items_words more ++ words)) fits.1 (omega (arith, inside.0)) inside.1 in
-    let rest = nesting_within looped n more words fits.2 room (subst (λ m. AreNested m (items_words more ++ words)) (closed_again n) first.1) in
+    let inside : AreNested n (Open ∷ behind) = (skip_kind n kind behind fits.0).0 (subst (AreNested n) (block_front kind body more words) within_nesting) in
+    let first = nesting_within (looped || is_loop kind) (n + 1) body (Close ∷ (items_words more ++ words)) fits.1 (omega (arith, inside.0)) inside.1 in
+    let rest = nesting_within looped n more words fits.2 room (subst (λ m. AreNested m (items_words more ++ words)) (after_close_again n) first.1) in
     (omega (arith, first.0, rest.0), rest.1)
 
 -- from the items to the braces
 pub nested_within : (looped : Bool) (n : ℕ) (items : Items) (words : List Word) → AreItems looped items → n + nesting items ≤ 32 →
     AreNested n words → AreNested n (items_words items ++ words)
-nested_within looped n nothing words fits room nested = nested
-nested_within looped n (leaf_then leaf more) words fits room nested =
+nested_within looped n nothing words fits room within_nesting = within_nesting
+nested_within looped n (leaf_then leaf more) words fits room within_nesting =
     subst (AreNested n) (sym (leaf_front leaf more words))
-    ((skip_leaf looped n leaf (items_words more ++ words) fits.0).1 (nested_within looped n more words fits.1 room nested))
-nested_within looped n (block_then head body more) words fits room nested =
-    let rest = nested_within looped n more words fits.2 (omega (arith, room)) nested in
-    let first = nested_within (looped || is_loop head) (n + 1) body (Close ∷ (items_words more ++ words)) fits.1 (omega (arith, room))
-    (subst (λ m. AreNested m (items_words more ++ words)) (sym (closed_again n)) rest) in
-    subst (AreNested n) (sym (block_front head body more words))
-    ((skip_head n head (items_words body ++ Close ∷ (items_words more ++ words)) fits.0).1 (omega (arith, room), first))
+    ((skip_leaf looped n leaf (items_words more ++ words) fits.0).1 (nested_within looped n more words fits.1 room within_nesting))
+nested_within looped n (block_then kind body more) words fits room within_nesting =
+    let rest = nested_within looped n more words fits.2 (omega (arith, room)) within_nesting in
+    let first = nested_within (looped || is_loop kind) (n + 1) body (Close ∷ (items_words more ++ words)) fits.1 (omega (arith, room))
+    (subst (λ m. AreNested m (items_words more ++ words)) (sym (after_close_again n)) rest) in
+    subst (AreNested n) (sym (block_front kind body more words))
+    ((skip_kind n kind (items_words body ++ Close ∷ (items_words more ++ words)) fits.0).1 (omega (arith, room), first))
 
 -- one word
 nested_first : (n : ℕ) (word : Word) (words : List Word) → (word ≡ Open → n < 32) → AreNested (open_behind n (word ∷ [])) words → AreNested n (word ∷ words)
-nested_first n Open words room nested = (room refl, nested)
-nested_first n Close words room nested = nested
-nested_first n _ words room nested = nested
+nested_first n Open words room within_nesting = (room refl, within_nesting)
+nested_first n Close words room within_nesting = within_nesting
+nested_first n _ words room within_nesting = within_nesting
 
 first_nests : (n : ℕ) (word : Word) (words : List Word) → AreNested n (word ∷ words) → (word ≡ Open → n < 32) × AreNested (open_behind n (word ∷ [])) words
-first_nests n Open words nested = ((λ e. nested.0), nested.1)
-first_nests n Close words nested = ((λ e. absurd (cc e)), nested)
-first_nests n _ words nested = ((λ e. absurd (cc e)), nested)
+first_nests n Open words within_nesting = ((λ e. within_nesting.0), within_nesting.1)
+first_nests n Close words within_nesting = ((λ e. absurd (cc e)), within_nesting)
+first_nests n _ words within_nesting = ((λ e. absurd (cc e)), within_nesting)
 
 -- clean tokens have good numbers and nest
-pub good_when_clean : (tokens before : List PlacedWord) → AreClean before tokens → AllByRecursion (λ token. IsTrue (has_good_numbers token.word)) tokens
+pub good_when_clean : (tokens before : List WordOnLine) → AreClean before tokens → AllByRecursion (λ token. IsTrue (has_good_numbers token.word)) tokens
 good_when_clean [] before clean = tt
 good_when_clean (token ∷ tokens) before clean = (clean.0.numbers, good_when_clean tokens (before ++ token ∷ []) clean.1)
 
-pub nested_when_clean : (tokens before : List PlacedWord) → AreClean before tokens → AreNested (open_behind 0 (words_of before)) (words_of tokens)
+pub nested_when_clean : (tokens before : List WordOnLine) → AreClean before tokens → AreNested (open_behind 0 (words_of before)) (words_of tokens)
 nested_when_clean [] before clean = tt
 nested_when_clean (token ∷ tokens) before clean =
     nested_first (open_behind 0 (words_of before)) token.word (words_of tokens) clean.0.nests
     (subst (λ n. AreNested n (words_of tokens)) (open_behind-push before token) (nested_when_clean tokens (before ++ token ∷ []) clean.1))
 
-front_derived : (before : List PlacedWord) (token : PlacedWord) (tokens : List PlacedWord) (items : Items) → Derives (words_of (before ++ token ∷ tokens)) items →
+front_derived : (before : List WordOnLine) (token : WordOnLine) (tokens : List WordOnLine) (items : Items) → Derives (words_of (before ++ token ∷ tokens)) items →
     Derives (words_of ((before ++ token ∷ []) ++ tokens)) items
 front_derived before token tokens items derives = subst (λ all. Derives (words_of all) items) (sym (append_assoc before (token ∷ []) tokens)) derives
 
 -- derived tokens with good numbers that nest are clean
-pub clean_when_nested : (tokens before : List PlacedWord) (items : Items) → Derives (words_of (before ++ tokens)) items →
+pub clean_when_nested : (tokens before : List WordOnLine) (items : Items) → Derives (words_of (before ++ tokens)) items →
     AllByRecursion (λ token. IsTrue (has_good_numbers token.word)) tokens → AreNested (open_behind 0 (words_of before)) (words_of tokens) → AreClean before tokens
-clean_when_nested [] before items derives good nested = tt
-clean_when_nested (token ∷ tokens) before items derives good nested =
-    let first = first_nests (open_behind 0 (words_of before)) token.word (words_of tokens) nested in
+clean_when_nested [] before items derives good within_nesting = tt
+clean_when_nested (token ∷ tokens) before items derives good within_nesting =
+    let first = first_nests (open_behind 0 (words_of before)) token.word (words_of tokens) within_nesting in
     let all = front_derived before token tokens items derives in
-    let split = map-append (λ (token : PlacedWord). token.word) (before ++ token ∷ []) tokens in (
+    let split = map-append (λ (token : WordOnLine). token.word) (before ++ token ∷ []) tokens in (
       record {
         stands = front_goes_on (words_of (before ++ token ∷ [])) (words_of tokens) items (subst (λ words. Derives words items) split all);
         numbers = good.0;

@@ -6,9 +6,9 @@ use Rattle.job_lang.specs.declared.item.Item.{Item, Leaf as LeafItem, Block}
 use Rattle.job_lang.specs.declared.item.Leaf.{Leaf}
 use Rattle.job_lang.specs.declared.parser.blocks.OpenBlock.{OpenBlock}
 use Rattle.job_lang.specs.Grammar.{nothing, leaf_then, ◌then◌, is_loop}
-use Rattle.job_lang.specs.Code.Machine.{are_looped, closed, at, an_item}
+use Rattle.job_lang.specs.Code.Machine.{are_looped, after_close, at, an_item}
 use Rattle.job_lang.specs.Code.Machine as machine
-use Rattle.job_lang.specs.Code.Views.{items_of, head_of, leaf_of}
+use Rattle.job_lang.specs.Code.Views.{items_of, block_kind_of, leaf_of}
 use Rattle.job_lang.specs.Code.OpenBlocks.{block_view, blocks_on}
 use Rattle.job_lang.proofs.ParserLemmas.Levels.{items_of_push, item_of_leaf, item_of_block}
 
@@ -28,13 +28,13 @@ or_false : (a : Bool) → a ≡ (a || false)
 or_false true = refl
 or_false false = refl
 
-looped-blocks_on : (under : List machine.OpenBlock) (blocks : List OpenBlock) → are_looped (blocks_on under blocks) ≡ (are_looped under || list_any (λ block. is_loop (head_of block.head)) blocks)
+looped-blocks_on : (under : List machine.OpenBlock) (blocks : List OpenBlock) → are_looped (blocks_on under blocks) ≡ (are_looped under || list_any (λ block. is_loop (block_kind_of block.kind)) blocks)
 looped-blocks_on under [] = or_false (are_looped under)
 looped-blocks_on under (first ∷ blocks) =
     looped-blocks_on (block_view first ∷ under) blocks
-    ∙ or_assoc (are_looped under) (is_loop (head_of first.head)) (list_any (λ block. is_loop (head_of block.head)) blocks)
+    ∙ or_assoc (are_looped under) (is_loop (block_kind_of first.kind)) (list_any (λ block. is_loop (block_kind_of block.kind)) blocks)
 
-pub are_looped_now : (blocks : List OpenBlock) → are_looped (blocks_on [] blocks) ≡ list_any (λ block. is_loop (head_of block.head)) blocks
+pub are_looped_now : (blocks : List OpenBlock) → are_looped (blocks_on [] blocks) ≡ list_any (λ block. is_loop (block_kind_of block.kind)) blocks
 are_looped_now blocks = looped-blocks_on [] blocks
 
 pub depth_now : (blocks : List OpenBlock) → length (blocks_on [] blocks) ≡ length blocks
@@ -62,13 +62,13 @@ outside_now blocks empty e = (
 )
 
 -- the innermost block is closed
-pub closing : (old rest : List OpenBlock) (block : OpenBlock) (body : Vec Item Global) (new : List Item) → old ≡ rest ++ block ∷ [] → new ≡ block.before.items ++ Block block.head body ∷ [] → closed (blocks_on [] old) (items_of body.items) ≡ Some (at (blocks_on [] rest) (items_of new) an_item)
+pub closing : (old rest : List OpenBlock) (block : OpenBlock) (body : Vec Item Global) (new : List Item) → old ≡ rest ++ block ∷ [] → new ≡ block.before.items ++ Block block.kind body ∷ [] → after_close (blocks_on [] old) (items_of body.items) ≡ Some (at (blocks_on [] rest) (items_of new) an_item)
 closing old rest block body new e f =
-    ap (λ blocks. closed (blocks_on [] blocks) (items_of body.items)) e
-    ∙ ap (λ blocks. closed blocks (items_of body.items)) (blocks_on_push [] rest block)
+    ap (λ blocks. after_close (blocks_on [] blocks) (items_of body.items)) e
+    ∙ ap (λ blocks. after_close blocks (items_of body.items)) (blocks_on_push [] rest block)
     ∙ ap (λ items. Some (at (blocks_on [] rest) items an_item))
-    (ap (λ item. items_of block.before.items then item) (sym (item_of_block block.head body))
-    ∙ sym (items_of_push block.before.items (Block block.head body))
+    (ap (λ item. items_of block.before.items then item) (sym (item_of_block block.kind body))
+    ∙ sym (items_of_push block.before.items (Block block.kind body))
     ∙ ap items_of (sym f))
 
 pub leaf_added : (items : List Item) (leaf : Leaf) → items_of (items ++ LeafItem leaf ∷ []) ≡ items_of items then leaf_then (leaf_of leaf) nothing

@@ -4,9 +4,9 @@ use Rattle.std.specs.Prelude.{option_and_then, map}
 use Rattle.job_lang.specs.declared.lexer.word.Word.{Word}
 use Rattle.job_lang.specs.declared.lexer.word.Word.TheVariants.{Open, Close}
 use Rattle.job_lang.specs.Words.{word_of}
-use Rattle.job_lang.specs.Grammar.{Items, nothing, leaf_then, block_then, ◌then◌, Head, seq_block, par_block, for_loop, pfor_loop, Leaf, with_argument, stack_pop, queue_take, work, counter_add, stack_push, tree_insert, tree_remove, tree_find, tree_next, queue_insert, IsLeaf, IsHead, AreItems, Derives, CanGoOn, items_words, leaf_words, head_words}
+use Rattle.job_lang.specs.Grammar.{Items, nothing, leaf_then, block_then, ◌then◌, BlockKind, seq_block, par_block, for_loop, pfor_loop, Leaf, with_argument, stack_pop, queue_take, work, counter_add, stack_push, tree_insert, tree_remove, tree_find, tree_next, queue_insert, IsLeaf, IsBlockKind, AreItems, Derives, CanGoOn, items_words, leaf_words, kind_words}
 use Rattle.job_lang.proofs.ParserLemmas.Derivations.{then_assoc, then_nothing}
-use Rattle.job_lang.specs.Code.Machine.{OpenBlock, an_item, State, at, start, are_looped, with_leaf, opened, step, run}
+use Rattle.job_lang.specs.Code.Machine.{OpenBlock, an_item, State, at, start, are_looped, with_leaf, after_open, step, run}
 
 -- a run over two lists is two runs
 pub run-append : (state : Option State) (a b : List Word) → run state (a ++ b) ≡ run (run state a) b
@@ -32,13 +32,13 @@ run_leaf blocks items (with_argument queue_insert argument) words fits = rw fits
 run_leaf blocks items stack_pop words fits = refl
 run_leaf blocks items queue_take words fits = refl
 
--- the words of a head lead into its block
-run_head : (blocks : List OpenBlock) (items : Items) (head : Head) (words : List Word) → IsHead head →
-    run (Some (at blocks items an_item)) (head_words head ++ Open ∷ words) ≡ run (Some (opened blocks items head)) words
-run_head blocks items seq_block words fits = refl
-run_head blocks items par_block words fits = refl
-run_head blocks items (for_loop copies) words fits = rw fits refl
-run_head blocks items (pfor_loop copies) words fits = rw fits refl
+-- the words that open a block lead into it
+run_kind : (blocks : List OpenBlock) (items : Items) (kind : BlockKind) (words : List Word) → IsBlockKind kind →
+    run (Some (at blocks items an_item)) (kind_words kind ++ Open ∷ words) ≡ run (Some (after_open blocks items kind)) words
+run_kind blocks items seq_block words fits = refl
+run_kind blocks items par_block words fits = refl
+run_kind blocks items (for_loop copies) words fits = rw fits refl
+run_kind blocks items (pfor_loop copies) words fits = rw fits refl
 
 -- the words of items lead past them
 run_items : (blocks : List OpenBlock) (before items : Items) (words : List Word) → AreItems (are_looped blocks) items →
@@ -49,13 +49,13 @@ run_items blocks before (leaf_then leaf more) words fits =
     ∙ run_leaf blocks before leaf (items_words more ++ words) fits.0
     ∙ run_items blocks (before then leaf_then leaf nothing) more words fits.1
     ∙ ap (λ items. run (Some (at blocks items an_item)) words) (then_assoc before (leaf_then leaf nothing) more)
-run_items blocks before (block_then head body more) words fits =
-    ap (run (Some (at blocks before an_item))) (append_assoc (head_words head) (Open ∷ (items_words body ++ Close ∷ items_words more)) words)
-    ∙ run_head blocks before head ((items_words body ++ Close ∷ items_words more) ++ words) fits.0
-    ∙ ap (run (Some (opened blocks before head))) (append_assoc (items_words body) (Close ∷ items_words more) words)
-    ∙ run_items (record { before = before; head = head } ∷ blocks) nothing body (Close ∷ (items_words more ++ words)) fits.1
-    ∙ run_items blocks (before then block_then head body nothing) more words fits.2
-    ∙ ap (λ items. run (Some (at blocks items an_item)) words) (then_assoc before (block_then head body nothing) more)
+run_items blocks before (block_then kind body more) words fits =
+    ap (run (Some (at blocks before an_item))) (append_assoc (kind_words kind) (Open ∷ (items_words body ++ Close ∷ items_words more)) words)
+    ∙ run_kind blocks before kind ((items_words body ++ Close ∷ items_words more) ++ words) fits.0
+    ∙ ap (run (Some (after_open blocks before kind))) (append_assoc (items_words body) (Close ∷ items_words more) words)
+    ∙ run_items (record { before = before; kind = kind } ∷ blocks) nothing body (Close ∷ (items_words more ++ words)) fits.1
+    ∙ run_items blocks (before then block_then kind body nothing) more words fits.2
+    ∙ ap (λ items. run (Some (at blocks items an_item)) words) (then_assoc before (block_then kind body nothing) more)
 
 -- what is derived leads to its items, with no block open
 pub run_derived : {words : List Word} {items : Items} → Derives words items → run (Some start) words ≡ Some (at [] items an_item)

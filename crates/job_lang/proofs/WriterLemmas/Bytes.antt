@@ -73,10 +73,10 @@ first_small n acts small = each_of_first (λ act. IsSmall (act_number act)) n ac
 pub last_small : (n : ℕ) (acts : List Act) → AreSmall acts → AreSmall (drop n acts)
 last_small n acts small = each_of_rest (λ act. IsSmall (act_number act)) n acts small
 
-plain_block : (head left right : List ℕ) → ArePlain head → ArePlain left → ArePlain right → ArePlain (head ++ left ++ codes " " ++ right ++ codes " }")
-plain_block head left right first second third =
-    plain_append (head ++ left ++ codes " " ++ right) (codes " }")
-    (plain_append (head ++ left ++ codes " ") right (plain_append (head ++ left) (codes " ") (plain_append head left first second) refl) third)
+plain_block : (kind left right : List ℕ) → ArePlain kind → ArePlain left → ArePlain right → ArePlain (kind ++ left ++ codes " " ++ right ++ codes " }")
+plain_block kind left right first second third =
+    plain_append (kind ++ left ++ codes " " ++ right) (codes " }")
+    (plain_append (kind ++ left ++ codes " ") right (plain_append (kind ++ left) (codes " ") (plain_append kind left first second) refl) third)
     refl
 
 pub plain_tree : (tree : Tree) (acts : List Act) → AreSmall acts → ArePlain (tree_text tree acts)
@@ -109,8 +109,8 @@ short_act : (act : Act) → IsSmall (act_number act) → length (act_text act) �
 short_act (Work steps) small = short_number (codes "work ") steps (omega arith) small
 short_act (Call op) small = short_op op small
 
-block_length : (head left right : List ℕ) → length (head ++ left ++ codes " " ++ right ++ codes " }") ≡ length head + length left + length right + 3
-block_length head left right = simp length-append (omega arith)
+block_length : (kind left right : List ℕ) → length (kind ++ left ++ codes " " ++ right ++ codes " }") ≡ length kind + length left + length right + 3
+block_length kind left right = simp length-append (omega arith)
 
 pub short_tree : (tree : Tree) (acts : List Act) → AreSmall acts → length (tree_text tree acts) + 9 ≤ 32 * leaves tree
 short_tree leaf [] small = omega arith

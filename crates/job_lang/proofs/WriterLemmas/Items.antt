@@ -15,9 +15,9 @@ use Rattle.job_lang.specs.declared.lexer.word.Word.TheVariants.{Close, Number}
 use Rattle.job_lang.specs.Grammar.{Items, nothing, leaf_then, block_then, seq_block, par_block, Leaf, with_argument, stack_pop, queue_take, work, counter_add, stack_push, tree_insert, tree_remove, tree_find, tree_next, queue_insert, items_words, AreItems}
 use Rattle.job_lang.specs.Faults.{has_good_numbers}
 use Rattle.job_lang.specs.Counts.{count, nesting}
-use Rattle.job_lang.specs.Joins.{joined}
+use Rattle.job_lang.specs.Joins.{join_of}
 use Rattle.job_lang.specs.Meaning.{act_of, acts_in, shapes_in, job_of}
-use Rattle.job_lang.specs.Limits.{leaf_excesses, excesses}
+use Rattle.job_lang.specs.Limits.{leaf_range_flags, range_flags}
 use Rattle.job_lang.proofs.ParserLemmas.EachOf.{each_append}
 
 -- the leaf that writes an act
@@ -65,11 +65,11 @@ tree_shapes leaf (act ∷ next ∷ acts) more same = absurd (omega (arith, same)
 tree_shapes (seq left right) acts more same =
     let back = tree_shapes right (drop (leaves left) acts) nothing (right_length left right acts same) in
     let front = tree_shapes left (take (leaves left) acts) (tree_items right (drop (leaves left) acts) nothing) (left_length left right acts same) in
-    ap (λ shapes. option_to_list (joined seq shapes) ++ shapes_in 0 more) (front ∙ ap (λ shapes. left ∷ shapes) back)
+    ap (λ shapes. option_to_list (join_of seq shapes) ++ shapes_in 0 more) (front ∙ ap (λ shapes. left ∷ shapes) back)
 tree_shapes (par left right) acts more same =
     let back = tree_shapes right (drop (leaves left) acts) nothing (right_length left right acts same) in
     let front = tree_shapes left (take (leaves left) acts) (tree_items right (drop (leaves left) acts) nothing) (left_length left right acts same) in
-    ap (λ shapes. option_to_list (joined par shapes) ++ shapes_in 0 more) (front ∙ ap (λ shapes. left ∷ shapes) back)
+    ap (λ shapes. option_to_list (join_of par shapes) ++ shapes_in 0 more) (front ∙ ap (λ shapes. left ∷ shapes) back)
 
 act_again : (act : Act) → act_of 0 (leaf_of_act act) ≡ act
 act_again (Work steps) = refl
@@ -107,7 +107,7 @@ pub job_again : (tree : Tree) (acts : List Act) → length acts ≡ leaves tree 
 job_again tree acts same =
     let shapes = tree_shapes tree acts nothing same in
     let again = tree_acts tree acts nothing same ∙ append-nil acts in
-    sym (ap (λ x. job_with (joined seq x) (acts_in 0 (tree_items tree acts nothing))) shapes ∙ ap (λ x. job_with (Some tree) x) again)
+    sym (ap (λ x. job_with (join_of seq x) (acts_in 0 (tree_items tree acts nothing))) shapes ∙ ap (λ x. job_with (Some tree) x) again)
 
 -- they keep the limits
 
@@ -137,29 +137,29 @@ tree_nesting (par left right) acts more =
     omega (arith, front, back)
 
 -- no argument depends on the copy
-no_excess : (copies : ℕ) (act : Act) → leaf_excesses copies (leaf_of_act act) ≡ []
-no_excess copies (Work steps) = refl
-no_excess copies (Call (CounterAdd addend)) = refl
-no_excess copies (Call (Push item)) = refl
-no_excess copies (Call Pop) = refl
-no_excess copies (Call (TreeInsert key)) = refl
-no_excess copies (Call (TreeRemove key)) = refl
-no_excess copies (Call (TreeFind key)) = refl
-no_excess copies (Call (TreeNext key)) = refl
-no_excess copies (Call (PqInsert item)) = refl
-no_excess copies (Call PqTake) = refl
+none_out_of_range : (copies : ℕ) (act : Act) → leaf_range_flags copies (leaf_of_act act) ≡ []
+none_out_of_range copies (Work steps) = refl
+none_out_of_range copies (Call (CounterAdd addend)) = refl
+none_out_of_range copies (Call (Push item)) = refl
+none_out_of_range copies (Call Pop) = refl
+none_out_of_range copies (Call (TreeInsert key)) = refl
+none_out_of_range copies (Call (TreeRemove key)) = refl
+none_out_of_range copies (Call (TreeFind key)) = refl
+none_out_of_range copies (Call (TreeNext key)) = refl
+none_out_of_range copies (Call (PqInsert item)) = refl
+none_out_of_range copies (Call PqTake) = refl
 
-pub tree_excesses : (copies : ℕ) (tree : Tree) (acts : List Act) (more : Items) → excesses copies (tree_items tree acts more) ≡ excesses copies more
-tree_excesses copies leaf [] more = refl
-tree_excesses copies leaf (act ∷ acts) more = ap (λ x. x ++ excesses copies more) (no_excess copies act)
-tree_excesses copies (seq left right) acts more =
-    let back = tree_excesses copies right (drop (leaves left) acts) nothing in
-    let front = tree_excesses copies left (take (leaves left) acts) (tree_items right (drop (leaves left) acts) nothing) in
-    ap (λ x. x ++ excesses copies more) (front ∙ back)
-tree_excesses copies (par left right) acts more =
-    let back = tree_excesses copies right (drop (leaves left) acts) nothing in
-    let front = tree_excesses copies left (take (leaves left) acts) (tree_items right (drop (leaves left) acts) nothing) in
-    ap (λ x. x ++ excesses copies more) (front ∙ back)
+pub tree_range_flags : (copies : ℕ) (tree : Tree) (acts : List Act) (more : Items) → range_flags copies (tree_items tree acts more) ≡ range_flags copies more
+tree_range_flags copies leaf [] more = refl
+tree_range_flags copies leaf (act ∷ acts) more = ap (λ x. x ++ range_flags copies more) (none_out_of_range copies act)
+tree_range_flags copies (seq left right) acts more =
+    let back = tree_range_flags copies right (drop (leaves left) acts) nothing in
+    let front = tree_range_flags copies left (take (leaves left) acts) (tree_items right (drop (leaves left) acts) nothing) in
+    ap (λ x. x ++ range_flags copies more) (front ∙ back)
+tree_range_flags copies (par left right) acts more =
+    let back = tree_range_flags copies right (drop (leaves left) acts) nothing in
+    let front = tree_range_flags copies left (take (leaves left) acts) (tree_items right (drop (leaves left) acts) nothing) in
+    ap (λ x. x ++ range_flags copies more) (front ∙ back)
 
 -- each word stands in its place
 

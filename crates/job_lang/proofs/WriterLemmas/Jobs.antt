@@ -8,17 +8,17 @@ use Rattle.seq_objects.specs.declared.op.Op.{Op}
 use Rattle.sp_order.specs.Precedence.{Tree, leaf, leaves, leaf_count}
 use Rattle.sp_order.specs.Depth.{tree_depth, depth_of}
 use Rattle.sp_order.specs.Jobs.{JobValue, IsJob}
-use Rattle.job_lang.specs.declared.lexer.word.PlacedWord.{PlacedWord}
+use Rattle.job_lang.specs.declared.lexer.word.WordOnLine.{WordOnLine}
 use Rattle.job_lang.specs.ActNumbers.{op_number, IsSmall, AreSmall}
 use Rattle.job_lang.specs.Text.{begins_in_chunk, forbidden_line_from}
-use Rattle.job_lang.specs.Words.{placed_words}
+use Rattle.job_lang.specs.Words.{words_on_lines}
 use Rattle.job_lang.specs.Grammar.{nothing}
 use Rattle.job_lang.specs.Faults.{has_good_numbers}
 use Rattle.job_lang.specs.Limits.{first_line, depends_on_copy}
 use Rattle.job_lang.specs.Language.{IsJobOf}
 use Rattle.job_lang.specs.Canonical.{tree_text, shape_text, canonical_text}
 use Rattle.job_lang.proofs.ParserLemmas.EachOf.{each_before_map}
-use Rattle.job_lang.proofs.WriterLemmas.Items.{AreGood, tree_items, job_again, tree_count, tree_nesting, tree_excesses, tree_fits, tree_good}
+use Rattle.job_lang.proofs.WriterLemmas.Items.{AreGood, tree_items, job_again, tree_count, tree_nesting, tree_range_flags, tree_fits, tree_good}
 use Rattle.job_lang.proofs.WriterLemmas.Bytes.{ArePlain, bare_same, none_forbidden, plain_append, plain_tree, short_tree}
 use Rattle.job_lang.proofs.WriterLemmas.Words.{said_from, tree_said}
 
@@ -29,17 +29,17 @@ tree_is_job tree acts blanks same few deep small plain ends silent =
     let items = tree_items tree acts nothing in
     let all_plain : ArePlain text = plain_append (tree_text tree acts) blanks (plain_tree tree acts small) plain in
     let bare = bare_same text all_plain in
-    let said = ap (said_from 1) bare ∙ tree_said tree acts 1 blanks nothing [] small same ends silent ∙ append-nil _ in
+    let word_number = ap (said_from 1) bare ∙ tree_said tree acts 1 blanks nothing [] small same ends silent ∙ append-nil _ in
     record {
       allowed = ap (λ t. forbidden_line_from 1 t) bare ∙ none_forbidden 1 text all_plain;
       items = items;
       read = record {
-        derives = record { writes = sym said; fits = tree_fits tree acts nothing tt };
-        numbers = each_before_map (λ word. IsTrue (has_good_numbers word)) (λ (token : PlacedWord). token.word) (placed_words text) (subst AreGood (sym said) (tree_good tree acts nothing tt));
+        derives = record { writes = sym word_number; fits = tree_fits tree acts nothing tt };
+        numbers = each_before_map (λ word. IsTrue (has_good_numbers word)) (λ (token : WordOnLine). token.word) (words_on_lines text) (subst AreGood (sym word_number) (tree_good tree acts nothing tt));
         nests = omega (arith, tree_nesting tree acts nothing, deep);
       };
       few = omega (arith, tree_count tree acts nothing same, same, few);
-      small = ap (λ flags. first_line flags (filter (λ token. depends_on_copy token.word) (placed_words text))) (tree_excesses 0 tree acts nothing);
+      small = ap (λ flags. first_line flags (filter (λ token. depends_on_copy token.word) (words_on_lines text))) (tree_range_flags 0 tree acts nothing);
       means = job_again tree acts same;
     }
 

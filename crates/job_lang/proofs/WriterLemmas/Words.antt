@@ -11,7 +11,7 @@ use Rattle.job_lang.specs.declared.lexer.word.Word.{Word}
 use Rattle.job_lang.specs.declared.lexer.word.Word.TheVariants as word
 use Rattle.job_lang.specs.ActNumbers.{op_number, act_number, IsSmall, AreSmall}
 use Rattle.job_lang.specs.Text.{tokens_from, begins_in_chunk}
-use Rattle.job_lang.specs.Words.{placed}
+use Rattle.job_lang.specs.Words.{word_on_line}
 use Rattle.job_lang.specs.Grammar.{Items, nothing, items_words, leaf_words}
 use Rattle.job_lang.specs.Faults.{words_of}
 use Rattle.job_lang.specs.Canonical.{act_text, tree_text}
@@ -21,53 +21,53 @@ use Rattle.job_lang.proofs.WriterLemmas.Items.{leaf_of_op, leaf_of_act, tree_ite
 
 -- what the tokens of a text say
 abbrev pub said_from : ℕ → List ℕ → List Word
-said_from line text = words_of (map placed (tokens_from line text))
+said_from line text = words_of (map word_on_line (tokens_from line text))
 
 number_said : (line n : ℕ) (rest : List ℕ) → n < 2 ^ 32 → begins_in_chunk rest ≡ false → said_from line (decimal n ++ rest) ≡ word.Number (Some n) ∷ said_from line rest
 number_said line n rest small ends =
-    ap (λ tokens. words_of (map placed tokens)) (decimal_token line n rest small ends) ∙ ap (λ w. w ∷ said_from line rest) (decimal_word n small)
+    ap (λ tokens. words_of (map word_on_line tokens)) (decimal_token line n rest small ends) ∙ ap (λ w. w ∷ said_from line rest) (decimal_word n small)
 
 op_said : (op : Op) (line : ℕ) (rest : List ℕ) → IsSmall (op_number op) → begins_in_chunk rest ≡ false → said_from line (op_words op ++ rest) ≡ leaf_words (leaf_of_op op) ++ said_from line rest
 op_said (CounterAdd addend) line rest small ends = ap (λ words. word.Counter ∷ word.Add ∷ words) (number_said line addend rest small ends)
 op_said (Push item) line rest small ends = ap (λ words. word.Stack ∷ word.Push ∷ words) (number_said line item rest small ends)
-op_said Pop line rest small ends = ap (λ tokens. word.Stack ∷ words_of (map placed tokens)) (chunk_token line (codes "pop") rest (omega arith) refl ends)
+op_said Pop line rest small ends = ap (λ tokens. word.Stack ∷ words_of (map word_on_line tokens)) (chunk_token line (codes "pop") rest (omega arith) refl ends)
 op_said (TreeInsert key) line rest small ends = ap (λ words. word.Tree ∷ word.Insert ∷ words) (number_said line key rest small ends)
 op_said (TreeRemove key) line rest small ends = ap (λ words. word.Tree ∷ word.Remove ∷ words) (number_said line key rest small ends)
 op_said (TreeFind key) line rest small ends = ap (λ words. word.Tree ∷ word.Find ∷ words) (number_said line key rest small ends)
 op_said (TreeNext key) line rest small ends = ap (λ words. word.Tree ∷ word.Next ∷ words) (number_said line key rest small ends)
 op_said (PqInsert item) line rest small ends = ap (λ words. word.Queue ∷ word.Insert ∷ words) (number_said line item rest small ends)
-op_said PqTake line rest small ends = ap (λ tokens. word.Queue ∷ words_of (map placed tokens)) (chunk_token line (codes "take") rest (omega arith) refl ends)
+op_said PqTake line rest small ends = ap (λ tokens. word.Queue ∷ words_of (map word_on_line tokens)) (chunk_token line (codes "take") rest (omega arith) refl ends)
 
 act_said : (act : Act) (line : ℕ) (rest : List ℕ) → IsSmall (act_number act) → begins_in_chunk rest ≡ false → said_from line (act_text act ++ rest) ≡ leaf_words (leaf_of_act act) ++ said_from line rest
 act_said (Work steps) line rest small ends = ap (λ words. word.Work ∷ words) (number_said line steps rest small ends)
 act_said (Call op) line rest small ends = op_said op line rest small ends
 
 -- a block's text before more text
-in_front : (head left gap right end rest : List ℕ) → (head ++ left ++ gap ++ right ++ end) ++ rest ≡ head ++ (left ++ (gap ++ (right ++ (end ++ rest))))
-in_front head left gap right end rest = simp append_assoc
+in_front : (kind left gap right end rest : List ℕ) → (kind ++ left ++ gap ++ right ++ end) ++ rest ≡ kind ++ (left ++ (gap ++ (right ++ (end ++ rest))))
+in_front kind left gap right end rest = simp append_assoc
 
 pub tree_said : (tree : Tree) (acts : List Act) (line : ℕ) (rest : List ℕ) (more : Items) (behind : List Word) → AreSmall acts → length acts ≡ leaves tree → begins_in_chunk rest ≡ false → said_from line rest ≡ items_words more ++ behind → said_from line (tree_text tree acts ++ rest) ≡ items_words (tree_items tree acts more) ++ behind
-tree_said leaf [] line rest more behind small same ends said = absurd (omega (arith, same))
-tree_said leaf (act ∷ []) line rest more behind small same ends said =
-    act_said act line rest small.0 ends ∙ ap (λ words. leaf_words (leaf_of_act act) ++ words) said ∙ sym (append_assoc (leaf_words (leaf_of_act act)) (items_words more) behind)
-tree_said leaf (act ∷ next ∷ acts) line rest more behind small same ends said = absurd (omega (arith, same))
-tree_said (seq left right) acts line rest more behind small same ends said =
+tree_said leaf [] line rest more behind small same ends word_number = absurd (omega (arith, same))
+tree_said leaf (act ∷ []) line rest more behind small same ends word_number =
+    act_said act line rest small.0 ends ∙ ap (λ words. leaf_words (leaf_of_act act) ++ words) word_number ∙ sym (append_assoc (leaf_words (leaf_of_act act)) (items_words more) behind)
+tree_said leaf (act ∷ next ∷ acts) line rest more behind small same ends word_number = absurd (omega (arith, same))
+tree_said (seq left right) acts line rest more behind small same ends word_number =
     let front_acts = take (leaves left) acts in
     let back_acts = drop (leaves left) acts in
     let after = codes " }" ++ rest in
     let back = tree_said right back_acts line after nothing (word.Close ∷ (items_words more ++ behind)) (last_small (leaves left) acts small) (right_length left right acts same) refl
-    (ap (λ words. word.Close ∷ words) said) in
+    (ap (λ words. word.Close ∷ words) word_number) in
     let front = tree_said left front_acts line (codes " " ++ (tree_text right back_acts ++ after)) (tree_items right back_acts nothing) (word.Close ∷ (items_words more ++ behind))
     (first_small (leaves left) acts small) (left_length left right acts same) refl back in
     ap (said_from line) (in_front (codes "seq { ") (tree_text left front_acts) (codes " ") (tree_text right back_acts) (codes " }") rest)
     ∙ ap (λ words. word.Seq ∷ word.Open ∷ words) front
     ∙ ap (λ words. word.Seq ∷ word.Open ∷ words) (sym (append_assoc (items_words (tree_items left front_acts (tree_items right back_acts nothing))) (word.Close ∷ items_words more) behind))
-tree_said (par left right) acts line rest more behind small same ends said =
+tree_said (par left right) acts line rest more behind small same ends word_number =
     let front_acts = take (leaves left) acts in
     let back_acts = drop (leaves left) acts in
     let after = codes " }" ++ rest in
     let back = tree_said right back_acts line after nothing (word.Close ∷ (items_words more ++ behind)) (last_small (leaves left) acts small) (right_length left right acts same) refl
-    (ap (λ words. word.Close ∷ words) said) in
+    (ap (λ words. word.Close ∷ words) word_number) in
     let front = tree_said left front_acts line (codes " " ++ (tree_text right back_acts ++ after)) (tree_items right back_acts nothing) (word.Close ∷ (items_words more ++ behind))
     (first_small (leaves left) acts small) (left_length left right acts same) refl back in
     ap (said_from line) (in_front (codes "par { ") (tree_text left front_acts) (codes " ") (tree_text right back_acts) (codes " }") rest)

@@ -1,4 +1,4 @@
--- The front of a text, where no comment is open. Private: no public contract cites it.
+-- The front of a text, where no comment is open.
 use Rattle.std.specs.Prelude.{ℕ, List, [], ◌∷◌, Bool, true, ◌&&◌, not, if◌then◌else◌}
 use Rattle.std.specs.List.{prefix_len}
 use Rattle.job_lang.specs.Text.{is_blank, is_brace, is_hash, is_in_chunk}

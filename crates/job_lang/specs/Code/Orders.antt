@@ -1,4 +1,4 @@
--- How the code's joins stand for those of trees. Private: no public contract cites it.
+-- The ways to join shapes in the code, as those of trees.
 use Rattle.job_lang.specs.declared.expand.join.Order.{Order}
 use Rattle.job_lang.specs.declared.expand.join.Order.TheVariants.{Series, Parallel}
 use Rattle.sp_order.specs.Precedence.{Tree, seq, par}

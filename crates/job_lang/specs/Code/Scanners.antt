@@ -1,4 +1,4 @@
--- The tokens that a scanner has still to give. Private: no public contract cites it.
+-- The tokens that are left to a scanner.
 use Rattle.std.specs.Prelude.{List, false}
 use Rattle.job_lang.specs.declared.lexer.scanner.Scanner.{Scanner}
 use Rattle.job_lang.specs.Text.{Token, tokens_from, bare}

@@ -1,4 +1,4 @@
--- What the two sides of a block add to its text. Private: no public contract cites it.
+-- The text of the two sides of a block, with its braces.
 use Rattle.std.specs.Prelude.{ℕ, List, ◌++◌, drop, codes}
 use Rattle.seq_objects.specs.declared.act.Act.{Act}
 use Rattle.sp_order.specs.Precedence.{Tree, leaves}

@@ -1,15 +1,15 @@
-//! Lists of shapes, joined to one.
+//! Joins a list of shapes to one, by halves.
 ghost use Rattle.std.specs.Prelude.{◌≡◌, ◌<◌, ◌≤◌, ◌-◌, Some, IfOk, length, map, take, drop};
 ghost use Rattle.std.specs.Option.{option_map};
 ghost use Rattle.sp_order.specs.Precedence.{tree_of};
-ghost use Rattle.job_lang.specs.Joins.{joined};
+ghost use Rattle.job_lang.specs.Joins.{join_of};
 ghost use Rattle.job_lang.specs.Code.Orders.{kind_of};
 
 use sp_order::Shape;
 use std::alloc::{AllocError, Global};
 
-/// How shapes stand to one another.
-#[derive(Clone, Copy, Debug, PartialEq, Eq)]
+/// How shapes are joined.
+#[derive(Clone, Copy)]
 pub(crate) enum Order {
     Series,
     Parallel,
@@ -27,7 +27,7 @@ fn both(alloc: Global, order: Order, left: Shape, right: Shape) -> Result<Shape,
     }
 }
 
-/// Takes this many of the last shapes, as one: the one shape itself, and of more both halves, each joined in this way.
+/// Takes the last `count` shapes and joins them: one is itself, and of more both halves are joined in this way.
 fn join_last(
     alloc: Global,
     order: Order,
@@ -36,8 +36,11 @@ fn join_last(
 ) -> Result<Shape, AllocError>
     requires some { 0 < count }
     requires enough { count ≤ length shapes.old.items }
-    ensures joins { IfOk result (λ shape. Some (tree_of shape) ≡ joined (kind_of order) (map tree_of (drop (length shapes.old.items - count) shapes.old.items))) }
-    ensures leaves { IfOk result (λ _. shapes.new.items ≡ take (length shapes.old.items - count) shapes.old.items) }
+    ensures joins { IfOk result (λ shape.
+        Some (tree_of shape)
+        ≡ join_of (kind_of order) (map tree_of (drop (length shapes.old.items - count) shapes.old.items))) }
+    ensures leaves { IfOk result (λ _.
+        shapes.new.items ≡ take (length shapes.old.items - count) shapes.old.items) }
 {
     if count < 2 {
         let Some(shape) = shapes.pop() else {
@@ -50,13 +53,14 @@ fn join_last(
     both(alloc, order, left, right)
 }
 
-/// No shape for none, and else all of them joined.
+/// All the shapes as one, if there are any.
 pub(crate) fn join(
     alloc: Global,
     order: Order,
     mut shapes: Vec<Shape>,
 ) -> Result<Option<Shape>, AllocError>
-    ensures { IfOk result (λ shape. option_map tree_of shape ≡ joined (kind_of order) (map tree_of shapes.items)) }
+    ensures { IfOk result (λ shape.
+        option_map tree_of shape ≡ join_of (kind_of order) (map tree_of shapes.items)) }
 {
     let count = shapes.len();
     if count == 0 {

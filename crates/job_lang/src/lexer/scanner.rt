@@ -11,7 +11,7 @@ pub(crate) struct Token<'a> {
     pub(crate) line: u32,
 }
 
-/// The text that is still to be read, and the line at its front.
+/// The text that is left to scan, and the line at its front.
 #[derive(Drop)]
 pub(crate) struct Scanner<'a> {
     text: &'a [u8],
@@ -33,7 +33,7 @@ fn is_in_chunk(byte: u8) -> bool
     !matches!(byte, b'\t' | b'\n' | b'\r' | b' ' | b'{' | b'}' | b'#')
 }
 
-/// How many bytes of a chunk stand at the front.
+/// The number of bytes of a chunk at the front.
 fn chunk_len(text: &[u8]) -> usize
     ensures { result ≡ prefix_len (λ byte. is_in_chunk byte) text.now }
 {
@@ -45,7 +45,7 @@ fn chunk_len(text: &[u8]) -> usize
     text.len()
 }
 
-/// How many bytes the token at the front has.
+/// The number of bytes of the token at the front.
 fn token_len(text: &[u8]) -> usize
     ensures { result ≡ token_len text.now }
 {
@@ -66,7 +66,7 @@ impl<'a> Scanner<'a> {
         Scanner { text, line: 1 }
     }
 
-    /// Passes the blanks and the comments at the front.
+    /// Skips the blanks and the comments at the front.
     #[tactic(auto, using(crate::proofs::LexerLemmas::Skips::passes))]
     fn skip(&mut self)
         ensures left { tokens_left self.new ≡ tokens_left self.old }
@@ -91,7 +91,10 @@ impl<'a> Scanner<'a> {
     /// The next token.
     #[tactic(auto, using(crate::proofs::LexerLemmas::Chunks::first_token, crate::proofs::LexerLemmas::Chunks::token_len_within))]
     pub(crate) fn next_token(&mut self) -> Option<Token<'a>>
-        ensures { MatchOption result ((tokens_left self.old ≡ []) × (tokens_left self.new ≡ [])) (λ token. tokens_left self.old ≡ record { text = token.text.now; line = token.line } ∷ tokens_left self.new) }
+        ensures { MatchOption result ((tokens_left self.old ≡ []) × (tokens_left self.new ≡ []))
+            (λ token.
+            tokens_left self.old
+            ≡ record { text = token.text.now; line = token.line } ∷ tokens_left self.new) }
     {
         self.skip();
         if self.text.is_empty() {

@@ -30,7 +30,7 @@ pub(crate) fn forbidden_line(text: &[u8]) -> Option<u32>
     None
 }
 
-/// The last line of a text.
+/// The number of the last line of a text.
 pub(crate) fn last_line(text: &[u8]) -> u32
     requires { length text.now ≤ 1048576 }
     ensures { result ≡ last_line text.now }

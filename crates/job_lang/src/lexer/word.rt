@@ -2,7 +2,7 @@
 
 /// What a token says. The number of a `Number`, and the factor and the addend of a `Copies`, are missing where one of
 /// them has a leading zero or does not fit 32 bits.
-#[derive(Clone, Copy, Debug, PartialEq, Eq)]
+#[derive(Clone, Copy)]
 pub enum Word {
     Open,
     Close,
@@ -32,8 +32,8 @@ pub enum Word {
 }
 
 /// A word, and the line on which its token begins.
-#[derive(Clone, Copy, Debug, PartialEq, Eq)]
-pub struct PlacedWord {
+#[derive(Clone, Copy)]
+pub struct WordOnLine {
     pub word: Word,
     pub line: u32,
 }

@@ -1,47 +1,39 @@
-//! Looks for the first argument that does not fit 32 bits in some copy.
+//! The first argument that does not fit 32 bits in some copy.
 ghost use Rattle.std.specs.Prelude.{◌≡◌, [], ◌∷◌, IfSome, IfNone};
-ghost use Rattle.job_lang.specs.Limits.{copies_inside, is_too_large, leaf_excesses, excesses};
+ghost use Rattle.job_lang.specs.Limits.{copies_inside, is_out_of_range, leaf_range_flags, range_flags};
 ghost use Rattle.job_lang.specs.Code.Searches.{dependents, Finds};
-ghost use Rattle.job_lang.specs.Code.Views.{argument_word, leaf_of, head_of, item_of, items_of};
+ghost use Rattle.job_lang.specs.Code.Views.{argument_word, leaf_of, block_kind_of, item_of, items_of};
 
-use crate::item::{Argument, Head, Item, Leaf};
-use crate::lexer::word::{PlacedWord, Word};
+use crate::item::{Argument, BlockKind, Item, Leaf};
+use crate::lexer::word::{Word, WordOnLine};
+use crate::parser::cursor::Cursor;
 
-/// The words of a text that are still to be looked at.
-#[derive(Drop)]
-pub(crate) struct Words<'a> {
-    pub(crate) rest: &'a [PlacedWord],
-}
-
-impl Words<'_> {
-    /// Goes to the next word that depends on the copy, and past it.
-    fn next_dependent(&mut self) -> Option<PlacedWord>
-        ensures some { IfSome result (λ word. dependents self.old.rest.now ≡ word ∷ dependents self.new.rest.now) }
-        ensures none { IfNone result ((dependents self.old.rest.now ≡ []) × (dependents self.new.rest.now ≡ [])) }
-    {
-        while let Some((word, rest)) = self.rest.split_first() {
-            self.rest = rest;
-            if matches!(word.word, Word::Copies(_)) {
-                return Some(*word);
-            }
-        }
-        None
-    }
-}
-
-/// How many copies the innermost loop has, inside a block.
-fn copies_inside(copies: u32, head: Head) -> u32
-    ensures { result ≡ copies_inside copies (head_of head) }
+/// Takes the words up to the next that depends on the copy, and answers that one.
+fn next_dependent(words: &mut Cursor) -> Option<WordOnLine>
+    ensures some { IfSome result (λ word. dependents words.old ≡ word ∷ dependents words.new) }
+    ensures none { IfNone result ((dependents words.old ≡ []) × (dependents words.new ≡ [])) }
 {
-    match head {
-        Head::Seq | Head::Par => copies,
-        Head::For(number) | Head::Pfor(number) => number,
+    while let Some(token) = words.next() {
+        if matches!(token.word, Word::Copies(_)) {
+            return Some(token);
+        }
+    }
+    None
+}
+
+/// The number of copies of the innermost loop inside a block, where it is `copies` outside.
+fn copies_inside(copies: u32, kind: BlockKind) -> u32
+    ensures { result ≡ copies_inside copies (block_kind_of kind) }
+{
+    match kind {
+        BlockKind::Seq | BlockKind::Par => copies,
+        BlockKind::For(number) | BlockKind::Pfor(number) => number,
     }
 }
 
-/// Whether a number is past 32 bits in the last of the copies.
-fn is_too_large(copies: u32, factor: u32, addend: u32) -> bool
-    ensures { result ≡ is_too_large copies (factor, addend) }
+/// Whether the factor times the number of the copy, plus the addend, does not fit 32 bits in the last of the copies.
+fn is_out_of_range(copies: u32, factor: u32, addend: u32) -> bool
+    ensures { result ≡ is_out_of_range copies (factor, addend) }
 {
     if copies == 0 {
         return false;
@@ -50,45 +42,49 @@ fn is_too_large(copies: u32, factor: u32, addend: u32) -> bool
     u64::from(factor) * last + u64::from(addend) > u64::from(u32::MAX)
 }
 
-/// The line of the leaf's argument, if it is too large in some copy.
-#[tactic(auto, using(crate::proofs::LimitLemmas::Excesses::ran_out))]
-fn excess_in_leaf(copies: u32, leaf: Leaf, words: &mut Words) -> Option<u32>
-    ensures { Finds (leaf_excesses copies (leaf_of leaf)) words.old.rest.now result words.new.rest.now }
+/// The line of the leaf's argument, if it is out of range in some copy.
+#[tactic(auto, using(crate::proofs::LimitLemmas::ArgumentRanges::ran_out))]
+fn out_of_range_in_leaf(copies: u32, leaf: Leaf, words: &mut Cursor) -> Option<u32>
+    ensures { Finds (leaf_range_flags copies (leaf_of leaf)) words.old result words.new }
 {
     let Leaf::WithArgument(_, Argument::Copies(factor, addend)) = leaf else {
         return None;
     };
-    let Some(word) = words.next_dependent() else {
+    let Some(token) = next_dependent(words) else {
         return None;
     };
-    if is_too_large(copies, factor, addend) {
-        Some(word.line)
+    if is_out_of_range(copies, factor, addend) {
+        Some(token.line)
     } else {
         None
     }
 }
 
-/// The line of the first argument among the items that is too large in some copy.
-#[cycle(looking)]
-pub(crate) fn excess_in_items(copies: u32, items: &[Item], words: &mut Words) -> Option<u32>
-    ensures { Finds (excesses copies (items_of items.now)) words.old.rest.now result words.new.rest.now }
+/// The line of the first argument among the items that is out of range in some copy.
+#[cycle(scanning)]
+pub(crate) fn out_of_range_in_items(copies: u32, items: &[Item], words: &mut Cursor) -> Option<u32>
+    ensures { Finds (range_flags copies (items_of items.now)) words.old result words.new }
 {
     for item in items {
-        if let Some(line) = excess_in_item(copies, item, words) {
+        if let Some(line) = out_of_range_in_item(copies, item, words) {
             return Some(line);
         }
     }
     None
 }
 
-/// The line of the first argument in the item that is too large in some copy.
-#[cycle(looking)]
-#[tactic(auto, using(crate::proofs::LimitLemmas::Excesses::excesses_of_leaf, crate::proofs::LimitLemmas::Excesses::excesses_of_block))]
-fn excess_in_item(copies: u32, item: &Item, words: &mut Words) -> Option<u32>
-    ensures { Finds (excesses copies (item_of item.now)) words.old.rest.now result words.new.rest.now }
+/// The line of the first argument in the item that is out of range in some copy.
+#[cycle(scanning)]
+#[tactic(auto, using(crate::proofs::LimitLemmas::ArgumentRanges::range_flags_of_leaf, crate::proofs::LimitLemmas::ArgumentRanges::range_flags_of_block))]
+fn out_of_range_in_item(copies: u32, item: &Item, words: &mut Cursor) -> Option<u32>
+    ensures { Finds (range_flags copies (item_of item.now)) words.old result words.new }
 {
     match item {
-        Item::Leaf(leaf) => excess_in_leaf(copies, *leaf, words),
-        Item::Block(head, inside) => excess_in_items(copies_inside(copies, *head), inside, words),
+        Item::Leaf(leaf) => out_of_range_in_leaf(copies, *leaf, words),
+        Item::Block(kind, inside) => out_of_range_in_items(
+            copies_inside(copies, *kind),
+            inside,
+            words,
+        ),
     }
 }

@@ -1,67 +1,67 @@
-//! How many words items write.
+//! The number of words that items write.
 ghost use Rattle.std.specs.Prelude.{◌≡◌, ◌<◌, ◌^◌, length};
-ghost use Rattle.job_lang.specs.Grammar.{verb_words, leaf_words, head_words, items_words};
-ghost use Rattle.job_lang.specs.Code.Views.{verb_of, leaf_of, head_of, item_of, items_of};
+ghost use Rattle.job_lang.specs.Grammar.{unary_op_words, leaf_words, kind_words, items_words};
+ghost use Rattle.job_lang.specs.Code.Views.{unary_op_of, leaf_of, block_kind_of, item_of, items_of};
 
-use crate::item::{Head, Item, Leaf, Verb};
+use crate::item::{BlockKind, Item, Leaf, UnaryOp};
 
-fn verb_width(verb: Verb) -> usize
-    ensures { result ≡ length (verb_words (verb_of verb)) }
+fn unary_op_word_count(op: UnaryOp) -> usize
+    ensures { result ≡ length (unary_op_words (unary_op_of op)) }
 {
-    match verb {
-        Verb::Work => 1,
-        Verb::CounterAdd
-        | Verb::StackPush
-        | Verb::TreeInsert
-        | Verb::TreeRemove
-        | Verb::TreeFind
-        | Verb::TreeNext
-        | Verb::QueueInsert => 2,
+    match op {
+        UnaryOp::Work => 1,
+        UnaryOp::CounterAdd
+        | UnaryOp::StackPush
+        | UnaryOp::TreeInsert
+        | UnaryOp::TreeRemove
+        | UnaryOp::TreeFind
+        | UnaryOp::TreeNext
+        | UnaryOp::QueueInsert => 2,
     }
 }
 
-fn leaf_width(leaf: Leaf) -> usize
+fn leaf_word_count(leaf: Leaf) -> usize
     ensures { result ≡ length (leaf_words (leaf_of leaf)) }
 {
     match leaf {
-        Leaf::WithArgument(verb, _) => verb_width(verb) + 1,
+        Leaf::WithArgument(op, _) => unary_op_word_count(op) + 1,
         Leaf::StackPop | Leaf::QueueTake => 2,
     }
 }
 
-/// The head of a block, without its brace.
-fn head_width(head: Head) -> usize
-    ensures { result ≡ length (head_words (head_of head)) }
+/// The words that open a block, without its brace.
+fn kind_word_count(kind: BlockKind) -> usize
+    ensures { result ≡ length (kind_words (block_kind_of kind)) }
 {
-    match head {
-        Head::Seq | Head::Par => 1,
-        Head::For(_) | Head::Pfor(_) => 2,
+    match kind {
+        BlockKind::Seq | BlockKind::Par => 1,
+        BlockKind::For(_) | BlockKind::Pfor(_) => 2,
     }
 }
 
-/// How many words the items write.
-#[cycle(measuring)]
-#[tactic(auto, using(crate::proofs::LimitLemmas::Widths::width_item, crate::proofs::ParserLemmas::Weights::weight_item))]
-fn items_width(items: &[Item]) -> usize
+/// The number of words that the items write.
+#[cycle(counting_words)]
+#[tactic(auto, using(crate::proofs::LimitLemmas::WordCounts::word_count_item, crate::proofs::ParserLemmas::Weights::weight_item))]
+fn items_word_count(items: &[Item]) -> usize
     requires { length (items_words (items_of items.now)) < 2 ^ 63 }
     ensures { result ≡ length (items_words (items_of items.now)) }
 {
-    let mut width = 0;
+    let mut word_count = 0;
     for item in items {
-        width += item_width(item);
+        word_count += item_word_count(item);
     }
-    width
+    word_count
 }
 
-/// How many words the item writes.
-#[cycle(measuring)]
-#[tactic(auto, using(crate::proofs::LimitLemmas::Widths::leaf_item_width, crate::proofs::LimitLemmas::Widths::block_item_width, crate::proofs::ParserLemmas::Weights::weight_block))]
-pub(crate) fn item_width(item: &Item) -> usize
+/// The number of words that the item writes.
+#[cycle(counting_words)]
+#[tactic(auto, using(crate::proofs::LimitLemmas::WordCounts::leaf_item_word_count, crate::proofs::LimitLemmas::WordCounts::block_item_word_count, crate::proofs::ParserLemmas::Weights::weight_block))]
+pub(crate) fn item_word_count(item: &Item) -> usize
     requires { length (items_words (item_of item.now)) < 2 ^ 63 }
     ensures { result ≡ length (items_words (item_of item.now)) }
 {
     match item {
-        Item::Leaf(leaf) => leaf_width(*leaf),
-        Item::Block(head, inside) => head_width(*head) + items_width(inside) + 2,
+        Item::Leaf(leaf) => leaf_word_count(*leaf),
+        Item::Block(kind, inside) => kind_word_count(*kind) + items_word_count(inside) + 2,
     }
 }

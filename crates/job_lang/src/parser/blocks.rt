@@ -1,49 +1,43 @@
-//! The blocks that are open, and the items that were read.
+//! The stack of open blocks, with the items read so far.
 ghost use Rattle.std.specs.Prelude.{◌≡◌, ◌≢◌, ◌↔◌, [], ◌∷◌, Some, OnOk, IsTrue, length};
 ghost use Rattle.std.specs.List.{list_any};
 ghost use Rattle.job_lang.specs.Grammar.{is_loop};
-ghost use Rattle.job_lang.specs.Code.Views.{head_of};
-ghost use Rattle.job_lang.specs.Code.Machine.{start, are_looped, with_leaf, opened, closed};
+ghost use Rattle.job_lang.specs.Code.Views.{block_kind_of};
+ghost use Rattle.job_lang.specs.Code.Machine.{start, are_looped, with_leaf, after_open, after_close};
 
-use crate::item::{Head, Item, Leaf};
+use crate::item::{BlockKind, Item, Leaf};
 use std::alloc::{AllocError, Global};
 use std::mem;
 
-/// A block that is open: the items before it, and its head.
+/// An open block: the items before it, and what opened it.
 #[derive(Drop)]
 pub(crate) struct OpenBlock {
     pub(crate) before: Vec<Item>,
-    pub(crate) head: Head,
+    pub(crate) kind: BlockKind,
 }
 
 /// The open blocks, the innermost last, and the items so far in the innermost.
 #[derive(Drop)]
-pub(crate) struct OpenItems {
+pub(crate) struct BlockStack {
     alloc: Global,
     blocks: Vec<OpenBlock>,
     items: Vec<Item>,
 }
 
-fn is_loop(head: Head) -> bool
-    ensures { result ≡ is_loop (head_of head) }
-{
-    matches!(head, Head::For(_) | Head::Pfor(_))
-}
-
 fn any_loop(blocks: &[OpenBlock]) -> bool
-    ensures { result ≡ list_any (λ block. is_loop (head_of block.head)) blocks.now }
+    ensures { result ≡ list_any (λ block. is_loop (block_kind_of block.kind)) blocks.now }
 {
-    blocks.iter().any(|block| is_loop(block.head))
+    blocks.iter().any(|block| block.kind.is_loop())
 }
 
-impl OpenItems {
+impl BlockStack {
     ghost use Rattle.job_lang.specs.Code.Views.{items_of, leaf_of};
     ghost use Rattle.job_lang.specs.Code.OpenBlocks.{view};
 
-    pub(crate) fn new(alloc: Global) -> OpenItems
+    pub(crate) fn new(alloc: Global) -> BlockStack
         ensures { view result ≡ start }
     {
-        OpenItems {
+        BlockStack {
             alloc,
             blocks: Vec::new(alloc),
             items: Vec::new(alloc),
@@ -76,7 +70,8 @@ impl OpenItems {
     /// Adds a leaf to the innermost block.
     #[tactic(auto, using(crate::proofs::ParserLemmas::OpenStacks::leaf_added))]
     pub(crate) fn add(&mut self, leaf: Leaf) -> Result<(), AllocError>
-        ensures { OnOk result (view self.new ≡ with_leaf (view self.old).blocks (view self.old).items (leaf_of leaf)) }
+        ensures { OnOk result
+            (view self.new ≡ with_leaf (view self.old).blocks (view self.old).items (leaf_of leaf)) }
     {
         self.items.push(Item::Leaf(leaf))?;
         Ok(())
@@ -84,22 +79,24 @@ impl OpenItems {
 
     /// Opens a block.
     #[tactic(auto, using(crate::proofs::ParserLemmas::OpenStacks::blocks_on_push))]
-    pub(crate) fn open(&mut self, head: Head) -> Result<(), AllocError>
-        ensures { OnOk result (view self.new ≡ opened (view self.old).blocks (view self.old).items (head_of head)) }
+    pub(crate) fn open(&mut self, kind: BlockKind) -> Result<(), AllocError>
+        ensures { OnOk result
+            (view self.new ≡ after_open (view self.old).blocks (view self.old).items (block_kind_of kind)) }
     {
         let before = mem::replace(&mut self.items, Vec::new(self.alloc));
-        self.blocks.push(OpenBlock { before, head })?;
+        self.blocks.push(OpenBlock { before, kind })?;
         Ok(())
     }
 
     /// Closes the innermost block.
     pub(crate) fn close(&mut self) -> Result<(), AllocError>
         requires { (view self.old).blocks ≢ [] }
-        ensures { OnOk result (closed (view self.old).blocks (view self.old).items ≡ Some (view self.new)) }
+        ensures { OnOk result
+            (after_close (view self.old).blocks (view self.old).items ≡ Some (view self.new)) }
     {
-        if let Some(OpenBlock { before, head }) = self.blocks.pop() {
+        if let Some(OpenBlock { before, kind }) = self.blocks.pop() {
             let body = mem::replace(&mut self.items, before);
-            self.items.push(Item::Block(head, body))?;
+            self.items.push(Item::Block(kind, body))?;
         }
         Ok(())
     }
@@ -108,7 +105,7 @@ impl OpenItems {
     pub(crate) fn into_items(self) -> Vec<Item>
         ensures { items_of result.items ≡ (view self).items }
     {
-        let OpenItems { items, .. } = self;
+        let BlockStack { items, .. } = self;
         items
     }
 }

@@ -3,10 +3,10 @@ ghost use Rattle.std.specs.Prelude.{◌≡◌};
 ghost use Rattle.job_lang.specs.Code.Machine.{call_behind};
 ghost use Rattle.job_lang.specs.Code.Calls.{found_view};
 
-use crate::item::{Leaf, Verb};
+use crate::item::{Leaf, UnaryOp};
 use crate::lexer::word::Word;
 
-/// An object whose name has been read.
+/// An object, as the first word of a call names it.
 #[derive(Clone, Copy)]
 pub(crate) enum Object {
     Counter,
@@ -15,15 +15,15 @@ pub(crate) enum Object {
     Queue,
 }
 
-/// A call, up to its argument if it has one.
+/// A call without its argument, if it has one.
 #[derive(Clone, Copy)]
-pub(crate) enum Call {
-    WithArgument(Verb),
+pub(crate) enum ParsedCall {
+    WithArgument(UnaryOp),
     Whole(Leaf),
 }
 
-/// The call that a word behind the name of an object says, if it says one.
-pub(crate) fn call_behind(object: Object, word: Word) -> Option<Call>
+/// The call that the word behind the name of an object says, if it says one.
+pub(crate) fn call_behind(object: Object, word: Word) -> Option<ParsedCall>
     ensures { found_view result ≡ call_behind object word }
 {
     match object {
@@ -34,43 +34,43 @@ pub(crate) fn call_behind(object: Object, word: Word) -> Option<Call>
     }
 }
 
-fn counter_call(word: Word) -> Option<Call>
+fn counter_call(word: Word) -> Option<ParsedCall>
     ensures { found_view result ≡ call_behind Object.Counter word }
 {
     match word {
-        Word::Add => Some(Call::WithArgument(Verb::CounterAdd)),
+        Word::Add => Some(ParsedCall::WithArgument(UnaryOp::CounterAdd)),
         _ => None,
     }
 }
 
-fn stack_call(word: Word) -> Option<Call>
+fn stack_call(word: Word) -> Option<ParsedCall>
     ensures { found_view result ≡ call_behind Object.Stack word }
 {
     match word {
-        Word::Push => Some(Call::WithArgument(Verb::StackPush)),
-        Word::Pop => Some(Call::Whole(Leaf::StackPop)),
+        Word::Push => Some(ParsedCall::WithArgument(UnaryOp::StackPush)),
+        Word::Pop => Some(ParsedCall::Whole(Leaf::StackPop)),
         _ => None,
     }
 }
 
-fn tree_call(word: Word) -> Option<Call>
+fn tree_call(word: Word) -> Option<ParsedCall>
     ensures { found_view result ≡ call_behind Object.Tree word }
 {
     match word {
-        Word::Insert => Some(Call::WithArgument(Verb::TreeInsert)),
-        Word::Remove => Some(Call::WithArgument(Verb::TreeRemove)),
-        Word::Find => Some(Call::WithArgument(Verb::TreeFind)),
-        Word::Next => Some(Call::WithArgument(Verb::TreeNext)),
+        Word::Insert => Some(ParsedCall::WithArgument(UnaryOp::TreeInsert)),
+        Word::Remove => Some(ParsedCall::WithArgument(UnaryOp::TreeRemove)),
+        Word::Find => Some(ParsedCall::WithArgument(UnaryOp::TreeFind)),
+        Word::Next => Some(ParsedCall::WithArgument(UnaryOp::TreeNext)),
         _ => None,
     }
 }
 
-fn queue_call(word: Word) -> Option<Call>
+fn queue_call(word: Word) -> Option<ParsedCall>
     ensures { found_view result ≡ call_behind Object.Queue word }
 {
     match word {
-        Word::Insert => Some(Call::WithArgument(Verb::QueueInsert)),
-        Word::Take => Some(Call::Whole(Leaf::QueueTake)),
+        Word::Insert => Some(ParsedCall::WithArgument(UnaryOp::QueueInsert)),
+        Word::Take => Some(ParsedCall::Whole(Leaf::QueueTake)),
         _ => None,
     }
 }

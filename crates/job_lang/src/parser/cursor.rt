@@ -3,39 +3,40 @@ ghost use Rattle.std.specs.Prelude.{◌≡◌, ◌≤◌, [], ◌∷◌, Ok, Err
 
 use crate::fault::JobFault;
 use crate::item::Argument;
-use crate::lexer::word::{PlacedWord, Word};
-use crate::parser::call::{Call, Object, call_behind};
+use crate::lexer::word::{Word, WordOnLine};
+use crate::parser::call::{Object, ParsedCall, call_behind};
 use std::marker::Model;
 
-/// How many blocks may be open at once.
+/// The most blocks that are open at once.
 const MAX_OPEN_BLOCKS: usize = 32;
 
-/// The words that are left to read. A call takes what has to come next, or answers the fault that is there; at the end
-/// of the words this is one of the last line.
+/// The words that are left to read. A call takes what has to come next, or answers the fault that it finds: at the end of
+/// the words one on the last line.
 #[derive(Drop)]
 pub(crate) struct Cursor<'a> {
-    rest: &'a [PlacedWord],
+    rest: &'a [WordOnLine],
 }
 
 impl<'a> Model for Cursor<'a> {
-    ghost use Rattle.job_lang.specs.declared.lexer.word.PlacedWord.{PlacedWord};
+    ghost use Rattle.job_lang.specs.declared.lexer.word.WordOnLine.{WordOnLine};
     ghost use Rattle.std.specs.Prelude.{List};
 
-    ghost Value = { List PlacedWord };
+    ghost Value = { List WordOnLine };
 
     ghost view = { λ cursor. cursor.rest.now };
 }
 
 impl<'a> Cursor<'a> {
-    pub(crate) fn new(words: &'a [PlacedWord]) -> Cursor<'a>
+    pub(crate) fn new(words: &'a [WordOnLine]) -> Cursor<'a>
         ensures { result ≡ words.now }
     {
         Cursor { rest: words }
     }
 
     /// The next word, if one is left.
-    pub(crate) fn next(&mut self) -> Option<PlacedWord>
-        ensures { MatchOption result ((self.old ≡ []) × (self.new ≡ [])) (λ token. self.old ≡ token ∷ self.new) }
+    pub(crate) fn next(&mut self) -> Option<WordOnLine>
+        ensures { MatchOption result ((self.old ≡ []) × (self.new ≡ []))
+            (λ token. self.old ≡ token ∷ self.new) }
     {
         match self.rest {
             [] => None,
@@ -57,7 +58,9 @@ impl<'a> Cursor<'a> {
 
     /// An argument, inside a loop or outside every loop.
     pub(crate) fn argument(&mut self, last: u32, looped: bool) -> Result<Argument, JobFault>
-        ensures gives { MatchResult result (λ argument. word_at last (is_argument looped) self.old ≡ Ok (argument_word argument, self.new)) (λ found. word_at last (is_argument looped) self.old ≡ Err found) }
+        ensures gives { MatchResult result
+            (λ argument. word_at last (is_argument looped) self.old ≡ Ok (argument_word argument, self.new))
+            (λ found. word_at last (is_argument looped) self.old ≡ Err found) }
         ensures shorter { length self.new ≤ length self.old }
     {
         let Some(token) = self.next() else {
@@ -74,7 +77,9 @@ impl<'a> Cursor<'a> {
 
     /// A number.
     pub(crate) fn number(&mut self, last: u32) -> Result<u32, JobFault>
-        ensures gives { MatchResult result (λ number. word_at last is_number self.old ≡ Ok (Number (Some number), self.new)) (λ found. word_at last is_number self.old ≡ Err found) }
+        ensures gives { MatchResult result
+            (λ number. word_at last is_number self.old ≡ Ok (Number (Some number), self.new))
+            (λ found. word_at last is_number self.old ≡ Err found) }
         ensures shorter { length self.new ≤ length self.old }
     {
         let Some(token) = self.next() else {
@@ -87,9 +92,11 @@ impl<'a> Cursor<'a> {
         }
     }
 
-    /// A `{`, behind so many open blocks.
+    /// A `{`, where `open_now` blocks are open.
     pub(crate) fn brace(&mut self, last: u32, open_now: usize) -> Result<(), JobFault>
-        ensures gives { MatchResult result (λ _. brace_at last open_now self.old ≡ Ok self.new) (λ found. brace_at last open_now self.old ≡ Err found) }
+        ensures gives { MatchResult result
+            (λ _. brace_at last open_now self.old ≡ Ok self.new)
+            (λ found. brace_at last open_now self.old ≡ Err found) }
         ensures shorter { length self.new ≤ length self.old }
     {
         let Some(token) = self.next() else {
@@ -104,9 +111,11 @@ impl<'a> Cursor<'a> {
         }
     }
 
-    /// What an object is asked for.
-    pub(crate) fn call(&mut self, last: u32, object: Object) -> Result<Call, JobFault>
-        ensures gives { MatchResult result (λ call. call_at last object self.old ≡ Ok (call_view call, self.new)) (λ found. call_at last object self.old ≡ Err found) }
+    /// The call of an object whose name was read.
+    pub(crate) fn call(&mut self, last: u32, object: Object) -> Result<ParsedCall, JobFault>
+        ensures gives { MatchResult result
+            (λ call. call_at last object self.old ≡ Ok (call_view call, self.new))
+            (λ found. call_at last object self.old ≡ Err found) }
         ensures shorter { length self.new ≤ length self.old }
     {
         let Some(token) = self.next() else {

@@ -1,13 +1,13 @@
 use Rattle.std.proofs.Common.{◌≡◌, ◌++◌, ◌+◌, map, take}
 use Rattle.sp_order.specs.Precedence.{tree_of, seq}
-use Rattle.job_lang.specs.Meaning.{shapes_in, acts_in, each_copy, merged}
+use Rattle.job_lang.specs.Meaning.{shapes_in, acts_in, each_copy, join_list}
 use Rattle.job_lang.specs.Code.Views.{items_of, item_of}
 use Rattle.job_lang.proofs.ParserLemmas.Weights.{weight}
 use Rattle.job_lang.proofs.expand.+expanding.Given as goal
 
 abbrev pub invariant-shapes_of_copies-loop-copy : goal.invariant-shapes_of_copies-loop-copy
 invariant-shapes_of_copies-loop-copy l = record {
-  made : map tree_of l.shapes.items ≡ each_copy l.copy (λ k. merged seq (shapes_in k (items_of l.inside)));
+  made : map tree_of l.shapes.items ≡ each_copy l.copy (λ k. join_list seq (shapes_in k (items_of l.inside)));
   done : l.acts.items ≡ l.initial.acts.items ++ each_copy l.copy (λ k. acts_in k (items_of l.inside));
 }
 

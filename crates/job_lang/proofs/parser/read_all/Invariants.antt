@@ -4,7 +4,7 @@ use Rattle.job_lang.specs.Code.OpenBlocks.{view}
 use Rattle.job_lang.proofs.parser.read_all.Given as goal
 
 abbrev pub invariant-loop-token : goal.invariant-loop-token
-invariant-loop-token l = read_from l.last (view l.here) l.words ≡ read_from l.last start l.fn.words
+invariant-loop-token l = read_from l.last (view l.stack) l.words ≡ read_from l.last start l.fn.words
 
 abbrev pub decreases-loop-token : goal.decreases-loop-token
 decreases-loop-token l = length l.words

@@ -1,0 +1,17 @@
+-- Items without those that make no leaf, at every level.
+use Rattle.std.specs.Prelude.{Bool, true, false, ◌||◌, if◌then◌else◌, ◌==◌}
+use Rattle.job_lang.specs.Grammar.{Items, nothing, leaf_then, block_then, BlockKind}
+use Rattle.job_lang.specs.Counts.{copies_of}
+
+abbrev pub is_nothing : Items → Bool
+is_nothing nothing = true
+is_nothing _ = false
+
+-- a block, where it has a copy and its items are not empty, before more items
+abbrev pub full_block_then : BlockKind → Items → Items → Items
+full_block_then kind body more = if is_nothing body || copies_of kind == 0 then more else block_then kind body more
+
+abbrev pub without_empty : Items → Items
+without_empty nothing = nothing
+without_empty (leaf_then leaf more) = leaf_then leaf (without_empty more)
+without_empty (block_then kind body more) = full_block_then kind (without_empty body) (without_empty more)

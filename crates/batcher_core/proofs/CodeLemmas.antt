@@ -1,6 +1,6 @@
 pub mod Puts
 pub mod Written
-pub mod Filled
+pub mod NonEmpty
 pub mod CoreFits
 pub mod Copies
 pub mod TickRoom

@@ -4,7 +4,7 @@ ghost use Rattle.sp_order.specs.Preorder.{nodes_of};
 ghost use Rattle.batcher_core.specs.State.{core_job};
 ghost use Rattle.batcher_core.specs.Operations.{leaf_of, IsLeaf};
 ghost use Rattle.batcher_core.specs.Choice.{choice, choice_by, choice_free, choice_run, choice_half, choice_started, choice_second, choice_parent, choice_arrive, choice_handed};
-ghost use Rattle.batcher_core.specs.Code.Abstraction.{state_of, queues, core_state_of, FilledFits};
+ghost use Rattle.batcher_core.specs.Code.Abstraction.{state_of, ready_of, core_state_of};
 ghost use Rattle.batcher_core.specs.Code.Lookups.{CanChoose, MoveIn, LeafIn, claim_choice, whole_choice, work_due, steps_of as act_steps};
 ghost use Rattle.seq_objects.specs.Spin.{spin_of};
 ghost use Rattle.seq_objects.specs.declared.act.Act.TheVariants.{Work};
@@ -169,22 +169,21 @@ fn act_at(plan: &Plan, acts: &[Act], node: u32) -> Act
 impl State {
     /// With nothing in hand: the newest node of the own list, or else the oldest of the next list that has one. Where
     /// no list has a node it looks at none of them.
+    #[tactic(auto, unfolding(crate::specs::Code::Abstraction::ready_of))]
     pub(crate) fn choose_claim(&self, workers: u32, worker: u32) -> Option<Event>
         requires worker_in { worker < workers }
-        requires ready_in { length self.now.ready.items ≡ workers }
-        requires filled { FilledFits self.now }
         requires few { workers ≤ 32 }
-        ensures { result ≡ claim_choice workers (queues self.now.ready.items) worker (queues self.now.ready.items worker) }
+        ensures { result ≡ claim_choice workers (ready_of self.now) worker (ready_of self.now worker) }
     {
-        if self.filled == 0 {
+        if self.ready.are_empty() {
             return None;
         }
-        if let Some(node) = self.ready[worker as usize].back() {
+        if let Some(node) = self.ready.of(worker).last() {
             return Some(Event::Claim(*node));
         }
         for k in 1..workers {
             let other = (worker + k) % workers;
-            if let Some(node) = self.ready[other as usize].front() {
+            if let Some(node) = self.ready.of(other).first() {
                 return Some(Event::Claim(*node));
             }
         }

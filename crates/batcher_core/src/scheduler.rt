@@ -143,6 +143,14 @@ impl Core {
         }
     }
 
+    /// The ready nodes of this worker, the oldest first; beyond the workers there are none. Memory: none.
+    #[tactic(auto, unfolding(crate::specs::Code::Abstraction::ready_of))]
+    pub fn ready(&self, worker: u32) -> &[u32]
+        ensures { result.now ≡ (state_in self.now).ready worker }
+    {
+        self.table.ready.of(worker)
+    }
+
     /// How many workers it has.
     pub fn workers(&self) -> u32
         ensures workers { result ≡ self.now.workers }

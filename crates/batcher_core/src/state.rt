@@ -7,17 +7,17 @@ ghost use Rattle.batcher_core.specs.Tasks.{is_done as node_done};
 pub mod hold;
 mod opening;
 pub mod progress;
-pub(crate) mod ready;
+pub mod ready;
 pub mod status;
 pub mod task;
 
 use crate::state::hold::Hold;
 use crate::state::progress::Progress;
+use crate::state::ready::ReadyLists;
 use crate::state::status::{CallState, Status};
 use crate::state::task::Task;
 use batch_history::History;
 use seq_objects::Plain;
-use std::collections::VecDeque;
 
 /// The parts of a core's state. Nodes, marks and values go by the numbers of nodes, and the others by those of
 /// workers.
@@ -36,9 +36,7 @@ pub struct State {
     /// What each worker knows of the call of the leaf that it has started.
     pub(crate) calls: Vec<CallState>,
     /// The ready nodes of each worker, the oldest first.
-    pub(crate) ready: Vec<VecDeque<u32>>,
-    /// How many of these lists have a node.
-    pub(crate) filled: usize,
+    pub(crate) ready: ReadyLists,
     /// What the worker that has the flag keeps, if one has it.
     pub(crate) hold: Option<Hold>,
     /// The tick that the next start or end of a leaf draws.

@@ -12,7 +12,8 @@ use Rattle.batcher_core.specs.State.{Hold, core_job}
 use Rattle.batcher_core.specs.Events.{Needs, IsBatchOf}
 use Rattle.batcher_core.specs.Invariant.Statuses.{IsAtCall}
 use Rattle.batcher_core.specs.Code.Batches.{AreTakenCalls, AreEntriesOf}
-use Rattle.batcher_core.specs.Code.Abstraction.{at, hold_view, hold_of, state_of, CounterFits}
+use Rattle.batcher_core.specs.Code.Places.{at}
+use Rattle.batcher_core.specs.Code.Abstraction.{hold_view, hold_of, state_of, CounterFits}
 use Rattle.batcher_core.specs.Code.Core.{RepInvariant}
 use Rattle.batcher_core.proofs.BookLemmas.Room.{counter_room}
 use Rattle.batcher_core.proofs.BatchLemmas.Made.{taken_at_call, few_calls, batch_made}

@@ -11,7 +11,8 @@ use Rattle.batcher_core.specs.State.{Hold, core_job}
 use Rattle.batcher_core.specs.Events.{Needs}
 use Rattle.batcher_core.specs.Choice.{choice}
 use Rattle.batcher_core.specs.Ranges.{IsInRange}
-use Rattle.batcher_core.specs.Code.Abstraction.{state_of, ready_of, core_state_of, hold_of, IsAtEnd}
+use Rattle.batcher_core.specs.Code.Places.{IsAtEnd}
+use Rattle.batcher_core.specs.Code.Abstraction.{state_of, ready_of, core_state_of, hold_of}
 use Rattle.batcher_core.specs.Code.Core.{RepInvariant}
 use Rattle.batcher_core.proofs.CodeLemmas.InRange.{event_in}
 use Rattle.batcher_core.proofs.CodeLemmas.TickRoom.{tick_most}

@@ -1,11 +1,11 @@
 -- Taking away a number that stands once in a list, at one of its ends.
 use Rattle.std.proofs.Common.{ℕ, zero, suc, ◌≡◌, ◌≢◌, ◌<◌, ◌≤◌, ◌+◌, ◌-◌, ◌⊎◌, List, [], ◌∷◌, length, get_or, arith, refl, inl, inr, sym, ◌∙◌, ap, slice_set, Bool, true, false, take, drop}
 use Rattle.std.proofs.lemmas.Grind.{common_steps}
+use Rattle.std.proofs.lemmas.Bool.{cases_lt}
 use Rattle.std.proofs.lemmas.Bool.Decides.{nat_tests}
 use Rattle.batcher_core.specs.Lists.{without, times}
-use Rattle.std.specs.declared.collections.VecDeque.{VecDeque}
-use Rattle.batcher_core.specs.Code.Abstraction.{queues, IsOldest, IsNewest, IsAtEnd}
-use Rattle.batcher_core.proofs.CodeLemmas.Written.{queues_set, queues_at}
+use Rattle.batcher_core.specs.Code.Places.{at, IsOldest, IsNewest, IsAtEnd}
+use Rattle.batcher_core.proofs.CodeLemmas.Written.{at_beyond, at_place, at_written}
 
 pub without_none : (n : ℕ) (xs : List ℕ) → times n xs ≡ 0 → without n xs ≡ xs
 without_none n [] h = refl
@@ -50,22 +50,33 @@ pub none_taken : (n : ℕ) (xs : List ℕ) → IsAtEnd n xs → (newest oldest :
     → newest ≡ false → oldest ≡ false → xs ≡ without n xs
 none_taken n xs h newest oldest is_new is_old e f = sym (without_none n xs (not_newest n (times n xs) xs h.end (λ p. let z = is_old p in cc) (λ p. let z = is_new p in cc)))
 
-pub dropped_before : (Z : Type 0) (old : ℕ → List ℕ) (xs : List (VecDeque ℕ Z)) (w n : ℕ) (o q : VecDeque ℕ Z)
-    → w < length xs → o ≡ get_or xs w o → q.items ≡ without n o.items
-    → ((v : ℕ) → v < w → queues xs v ≡ without n (old v)) → ((v : ℕ) → w ≤ v → queues xs v ≡ old v)
-    → (v : ℕ) → v < w + 1 → queues (slice_set xs w q) v ≡ without n (old v)
-dropped_before Z old xs w n o q below is drop before after v less =
-    let e = ap (λ (f : ℕ → List ℕ). f v) (queues_set Z xs w q below) in
-    let there = queues_at Z xs w o below is in
+pub dropped_before : (old : ℕ → List ℕ) (xs : List (List ℕ)) (w n : ℕ) (o q : List ℕ)
+    → w < length xs → o ≡ get_or xs w o → q ≡ without n o
+    → ((v : ℕ) → v < w → at xs [] v ≡ without n (old v)) → ((v : ℕ) → w ≤ v → at xs [] v ≡ old v)
+    → (v : ℕ) → v < w + 1 → at (slice_set xs w q) [] v ≡ without n (old v)
+dropped_before old xs w n o q below is drop before after v less =
+    let e = ap (λ (f : ℕ → List ℕ). f v) (at_written xs w q [] below) in
+    let there = at_place xs w o [] below is in
     let b = before v in
     let a = after v in rw e (grind (arith, nat_tests, drop, there, b, a))
 
-pub dropped_after : (Z : Type 0) (old : ℕ → List ℕ) (xs : List (VecDeque ℕ Z)) (w : ℕ) (q : VecDeque ℕ Z)
-    → w < length xs → ((v : ℕ) → w ≤ v → queues xs v ≡ old v)
-    → (v : ℕ) → w + 1 ≤ v → queues (slice_set xs w q) v ≡ old v
-dropped_after Z old xs w q below after v more =
-    let e = ap (λ (f : ℕ → List ℕ). f v) (queues_set Z xs w q below) in
+pub dropped_after : (old : ℕ → List ℕ) (xs : List (List ℕ)) (w : ℕ) (q : List ℕ)
+    → w < length xs → ((v : ℕ) → w ≤ v → at xs [] v ≡ old v)
+    → (v : ℕ) → w + 1 ≤ v → at (slice_set xs w q) [] v ≡ old v
+dropped_after old xs w q below after v more =
+    let e = ap (λ (f : ℕ → List ℕ). f v) (at_written xs w q [] below) in
     let a = after v in rw e (grind (arith, nat_tests, a))
+
+-- each list is without the number, where those beyond the lists are empty
+pub dropped_all : (old : ℕ → List ℕ) (xs : List (List ℕ)) (n : ℕ) → ((v : ℕ) → v < length xs → at xs [] v ≡ without n (old v))
+    → ((v : ℕ) → length xs ≤ v → at xs [] v ≡ old v) → at xs [] ≡ (λ v. without n (old v))
+dropped_all old xs n before after = λ i v. dropped v i
+  where
+    dropped : (v : ℕ) → at xs [] v ≡ without n (old v)
+    dropped v = elim (cases_lt v (length xs)) [
+      | inl below ↦ before v below
+      | inr past ↦ let e = at_beyond xs v [] past in sym (without_none n (at xs [] v) (rw e refl)) ∙ ap (without n) (after v past)
+    ]
 
 pub oldest_stands : (n : ℕ) (xs : List ℕ) → IsOldest n xs → times n xs ≢ 0
 oldest_stands n [] h none = absurd (omega (arith, h.0))

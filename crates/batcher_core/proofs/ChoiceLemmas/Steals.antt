@@ -1,26 +1,31 @@
 -- The search for a node to claim, list by list.
-use Rattle.std.proofs.Common.{ℕ, zero, suc, ◌≡◌, ◌<◌, ◌≤◌, ◌+◌, ◌-◌, ◌%◌, Option, Some, None, List, [], ◌∷◌, length, get_or, arith, refl, sym, ◌∙◌, true, false}
+use Rattle.std.proofs.Common.{ℕ, suc, ◌≡◌, ◌<◌, ◌≤◌, ◌+◌, ◌-◌, ◌%◌, Option, Some, None, List, [], ◌∷◌, length, arith, refl, sym, ◌∙◌, ap}
+use Rattle.std.specs.List.{slice_get}
 use Rattle.batcher_core.specs.Choice.{choice_steal, oldest_or, last_of}
 use Rattle.batcher_core.specs.Code.Lookups.{claim_choice}
 use Rattle.batcher_core.specs.declared.event.Event.{Event}
 use Rattle.batcher_core.specs.declared.event.Event.TheVariants.{Claim}
 
-pub last_at : (k n x : ℕ) (xs : List ℕ) → length xs ≡ k → n ≡ get_or (x ∷ xs) k n → last_of x xs ≡ n
-last_at zero n x [] len is = sym is
-last_at zero n x (y ∷ xs) len is = absurd (omega arith)
-last_at (suc k) n x [] len is = absurd (omega arith)
-last_at (suc k) n x (y ∷ xs) len is = last_at k n y xs (omega arith) is
+abbrev claim_of : Option ℕ → Option Event
+claim_of None = None
+claim_of (Some n) = Some (Claim n)
 
-newest_of : (p : ℕ) (ready : ℕ → List ℕ) (w n k : ℕ) (own : List ℕ) → length own ≡ k → n ≡ get_or own (k - 1) n → 0 < k → Some (Claim n) ≡ claim_choice p ready w own
-newest_of p ready w n k [] len is some = absurd (omega arith)
-newest_of p ready w n zero (x ∷ xs) len is some = absurd (omega arith)
-newest_of p ready w n (suc k) (x ∷ xs) len is some =
-    let e : suc k - 1 ≡ k = omega arith in
-    let l = last_at k n x xs (omega arith) (rw e at is) in rw l refl
+last_get : (x : ℕ) (xs : List ℕ) → slice_get (x ∷ xs) (length xs) ≡ Some (last_of x xs)
+last_get x [] = refl
+last_get x (y ∷ ys) = last_get y ys
 
-pub newest_claim : (p : ℕ) (ready : ℕ → List ℕ) (w n k : ℕ) (own items : List ℕ) → own ≡ items → k ≡ length items → n ≡ get_or items (k - 1) n → 0 < k
-    → Some (Claim n) ≡ claim_choice p ready w own
-newest_claim p ready w n k own items e len is some = rw e (newest_of p ready w n k items (sym len) is some)
+-- the last number of the own list is claimed
+pub newest_claim : (p : ℕ) (ready : ℕ → List ℕ) (w n : ℕ) (own : List ℕ) → slice_get own (length own - 1) ≡ Some n → Some (Claim n) ≡ claim_choice p ready w own
+newest_claim p ready w n [] e = absurd (cc)
+newest_claim p ready w n (x ∷ xs) e =
+    let k : length (x ∷ xs) - 1 ≡ length xs = omega arith in ap (λ o. claim_of o) (sym (rw k at e) ∙ last_get x xs)
+
+-- a list with no last number is empty
+pub no_newest : (own : List ℕ) → slice_get own (length own - 1) ≡ None → own ≡ []
+no_newest [] e = refl
+no_newest (x ∷ xs) e =
+    let k : length (x ∷ xs) - 1 ≡ length xs = omega arith in
+    let some : None ≡ Some (last_of x xs) = sym (rw k at e) ∙ last_get x xs in absurd (cc)
 
 pub steal_suc : (q : ℕ → List ℕ) (p from many : ℕ) → choice_steal q p from (suc many) ≡ oldest_or (q (from % p)) (choice_steal q p (from + 1) many)
 unfolding choice_steal
@@ -32,20 +37,20 @@ steal_step q w p k below =
     let f : w + (k + 1) ≡ w + k + 1 = omega arith in
     rw (e, f) (steal_suc q p (w + k) (p - (k + 1)))
 
-first_of : (xs : List ℕ) (n : ℕ) (other : Option Event) → 0 < length xs → n ≡ get_or xs 0 n → oldest_or xs other ≡ Some (Claim n)
-first_of [] n other some e = absurd (omega arith)
-first_of (x ∷ xs) n other some e = rw (sym e) refl
+first_of : (xs : List ℕ) (n : ℕ) (other : Option Event) → slice_get xs 0 ≡ Some n → oldest_or xs other ≡ Some (Claim n)
+first_of [] n other e = absurd (cc)
+first_of (x ∷ xs) n other e = ap (λ o. claim_of o) e
 
-none_of : (xs : List ℕ) → (0 < length xs → ⊥) → xs ≡ []
+none_of : (xs : List ℕ) → slice_get xs 0 ≡ None → xs ≡ []
 none_of [] h = refl
-none_of (x ∷ xs) h = absurd (h (omega arith))
+none_of (x ∷ xs) h = absurd (cc)
 
 pub found : (q : ℕ → List ℕ) (w p k n : ℕ) → q w ≡ [] → choice_steal q p (w + k) (p - k) ≡ choice_steal q p (w + 1) (p - 1) → k < p
-    → 0 < length (q ((w + k) % p)) → n ≡ get_or (q ((w + k) % p)) 0 n → Some (Claim n) ≡ claim_choice p q w (q w)
-found q w p k n own so_far below some e = rw own (sym (first_of (q ((w + k) % p)) n (choice_steal q p (w + (k + 1)) (p - (k + 1))) some e) ∙ (sym (steal_step q w p k below) ∙ so_far))
+    → slice_get (q ((w + k) % p)) 0 ≡ Some n → Some (Claim n) ≡ claim_choice p q w (q w)
+found q w p k n own so_far below e = rw own (sym (first_of (q ((w + k) % p)) n (choice_steal q p (w + (k + 1)) (p - (k + 1))) e) ∙ (sym (steal_step q w p k below) ∙ so_far))
 
 pub passed : (q : ℕ → List ℕ) (w p k : ℕ) → choice_steal q p (w + k) (p - k) ≡ choice_steal q p (w + 1) (p - 1) → k < p
-    → (0 < length (q ((w + k) % p)) → ⊥) → choice_steal q p (w + (k + 1)) (p - (k + 1)) ≡ choice_steal q p (w + 1) (p - 1)
+    → slice_get (q ((w + k) % p)) 0 ≡ None → choice_steal q p (w + (k + 1)) (p - (k + 1)) ≡ choice_steal q p (w + 1) (p - 1)
 passed q w p k so_far below none =
     let e : q ((w + k) % p) ≡ [] = none_of (q ((w + k) % p)) none in
     let f = steal_step q w p k below in let g = rw e at f in sym g ∙ so_far
@@ -56,6 +61,3 @@ steal_zero q p from = refl
 
 pub nothing : (q : ℕ → List ℕ) (w p k : ℕ) → q w ≡ [] → choice_steal q p (w + k) (p - k) ≡ choice_steal q p (w + 1) (p - 1) → p ≤ k → None ≡ claim_choice p q w (q w)
 nothing q w p k own so_far past = let e : p - k ≡ 0 = omega arith in rw own (sym (steal_zero q p (w + k)) ∙ (rw e at so_far))
-
-pub false_true : false ≡ true → ⊥
-false_true e = cc

@@ -58,5 +58,4 @@ looks tree acts workers t h =
       leaves = rw (book_of t) at (kept_parts tree acts workers t h).book.leaves;
       few_batches = omega (arith, room.0, room.1, most);
       few_entries = omega (arith, room.0, most);
-      filled = h.filled;
     }

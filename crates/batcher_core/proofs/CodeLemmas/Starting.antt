@@ -7,7 +7,7 @@ use Rattle.sp_order.specs.PlanOf.{IsPlanOf}
 use Rattle.sp_order.specs.Preorder.{nodes_of}
 use Rattle.batcher_core.specs.declared.state.State.{State as StoredState}
 use Rattle.batcher_core.specs.State.{State, core_job, opening_state, opening_core}
-use Rattle.batcher_core.specs.Code.Abstraction.{state_of, ready_of, core_state_of, Sizes, CounterFits, FilledFits}
+use Rattle.batcher_core.specs.Code.Abstraction.{state_of, ready_of, core_state_of, Sizes, CounterFits}
 use Rattle.batcher_core.specs.Code.Core.{RepInvariant}
 use Rattle.batcher_core.proofs.InvariantLemmas.Reached.{has_root}
 use Rattle.batcher_core.proofs.BookLemmas.LeavesIn.{leaves_in}
@@ -33,8 +33,8 @@ shown_opening t state ready = rw (state, ready) refl
 
 pub opening_fits : (tree : Tree) (shape : Option Tree) (acts : List Act) (workers : ℕ) (t : StoredState) → 0 < workers → workers ≤ 32 → IsPlanOf (nodes_of tree) tree → IsPlan (nodes_of tree)
     → (nodes_of tree).count < 40000 → Some tree ≡ shape → leaf_count shape ≡ length acts → Sizes t (nodes_of tree).count workers
-    → state_of t ≡ opening_state → ready_of t ≡ opening_core.ready → FilledFits t → RepInvariant tree acts workers t
-opening_fits tree shape acts workers t some few stands laws most is leaves sizes state lists filled = record {
+    → state_of t ≡ opening_state → ready_of t ≡ opening_core.ready → RepInvariant tree acts workers t
+opening_fits tree shape acts workers t some few stands laws most is leaves sizes state lists = record {
   some = some;
   few = few;
   laws = laws;
@@ -44,7 +44,6 @@ opening_fits tree shape acts workers t some few stands laws most is leaves sizes
   calls_in = calls_in tree acts workers stands (sym (rw (sym is) at leaves));
   sizes = sizes;
   counter = counter_opens t state;
-  filled = filled;
   inv = subst (Invariant (core_job tree acts workers)) (sym (shown_opening t state lists))
       (opening_invariant (core_job tree acts workers) laws (has_root (nodes_of tree) tree stands) some);
 }

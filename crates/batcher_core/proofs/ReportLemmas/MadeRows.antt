@@ -5,7 +5,7 @@ use Rattle.std.proofs.lemmas.Bool.{cases_lt}
 use Rattle.batch_history.specs.declared.row.Row.{Row}
 use Rattle.batcher_core.specs.declared.state.progress.Progress.{Progress}
 use Rattle.batcher_core.specs.declared.state.progress.Progress.TheVariants.{Waiting}
-use Rattle.batcher_core.specs.Code.Abstraction.{at}
+use Rattle.batcher_core.specs.Code.Places.{at}
 use Rattle.batcher_core.specs.Reports.{HasRun, IsRowFor, TellsLeaf}
 use Rattle.batcher_core.proofs.ReportLemmas.RowLists.{AreRowsOf}
 

@@ -8,7 +8,8 @@ use Rattle.batch_history.specs.declared.row.Row.{Row}
 use Rattle.batcher_core.specs.declared.state.progress.Progress.TheVariants.{Waiting}
 use Rattle.batcher_core.specs.declared.state.State.{State as StoredState}
 use Rattle.batcher_core.specs.State.{core_job}
-use Rattle.batcher_core.specs.Code.Abstraction.{at, state_of}
+use Rattle.batcher_core.specs.Code.Places.{at}
+use Rattle.batcher_core.specs.Code.Abstraction.{state_of}
 use Rattle.batcher_core.specs.Reports.{TellsLeaf, IsReportOf}
 
 -- a core that is over is not spent, and its root is done

@@ -1,8 +1,6 @@
 -- The state that the parts of a core show.
-use Rattle.seq_objects.specs.Objects as objects
 use Rattle.batch_history.specs.Book.{flat}
-use Rattle.batcher_core.specs.Lists.{times}
-use Rattle.batcher_core.specs.Measure.{total}
+use Rattle.batcher_core.specs.Code.Places.{at}
 use Rattle.batcher_core.specs.State.{CoreState, Hold, State}
 use Rattle.batcher_core.specs.declared.state.State.{State as StoredState}
 use Rattle.batcher_core.specs.declared.state.hold.Hold.{Hold as StoredHold}
@@ -10,25 +8,7 @@ use Rattle.batcher_core.specs.declared.state.progress.Progress.TheVariants.{Wait
 use Rattle.batcher_core.specs.declared.state.status.CallState.TheVariants.{NotCalled}
 use Rattle.batcher_core.specs.declared.state.status.Status.TheVariants.{Free}
 use Rattle.batcher_core.specs.declared.state.task.Task.TheVariants.{Idle}
-use Rattle.std.specs.Prelude.{List, None, Option, Some, [], false, get_or, length, map, ℕ, ◌*◌, ◌-◌, ◌<◌, ◌^◌, ◌∷◌, ◌≡◌, ◌≢◌, ◌≤◌, ◌⊎◌}
-use Rattle.std.specs.declared.collections.VecDeque.{VecDeque}
-
--- 1 for a list that has a node
-abbrev pub one_if_filled : List ℕ → ℕ
-one_if_filled [] = 0
-one_if_filled (x ∷ xs) = 1
-
--- a list as a function of places, with a value beyond its end
-abbrev pub at : {A : Type 0} → List A → A → ℕ → A
-at xs d n = get_or xs n d
-
--- the lists of ready nodes, by worker
-abbrev pub queues : {Z : Type 0} → List (VecDeque ℕ Z) → ℕ → List ℕ
-queues xs = at (map (λ q. q.items) xs) []
-
--- how many of the lists have a node
-abbrev pub filled_in : {Z : Type 0} → List (VecDeque ℕ Z) → ℕ
-filled_in xs = total (λ w. one_if_filled (queues xs w)) (length xs)
+use Rattle.std.specs.Prelude.{List, None, Option, Some, [], false, length, ℕ, ◌*◌, ◌^◌, ◌≡◌, ◌≤◌}
 
 -- the hold that the parts of one show
 abbrev pub hold_view : StoredHold → Hold
@@ -55,23 +35,10 @@ state_of t = record {
 
 -- and the lists of ready nodes that it shows
 unfoldable pub ready_of : StoredState → ℕ → List ℕ
-ready_of t = queues t.ready.items
+ready_of t = at t.ready []
 
 abbrev pub core_state_of : StoredState → CoreState
 core_state_of t = record { state = state_of t; ready = ready_of t }
-
--- the first number of the list
-abbrev pub IsOldest : ℕ → List ℕ → Type 0
-IsOldest n xs = (0 < length xs) × (get_or xs 0 n ≡ n)
-
--- the last number of the list
-abbrev pub IsNewest : ℕ → List ℕ → Type 0
-IsNewest n xs = (0 < length xs) × (get_or xs (length xs - 1) n ≡ n)
-
--- the number stands once in the list, at one of its ends, or not at all
-pub record IsAtEnd (n : ℕ) (xs : List ℕ) : Type 0 where
-  pub once : times n xs ≤ 1
-  pub end : times n xs ≢ 0 → IsOldest n xs ⊎ IsNewest n xs
 
 -- how long the lists of a table are
 pub record Sizes (t : StoredState) (nodes workers : ℕ) : Type 0 where
@@ -81,17 +48,13 @@ pub record Sizes (t : StoredState) (nodes workers : ℕ) : Type 0 where
   pub tasks_len : length t.tasks.items ≡ workers
   pub statuses_len : length t.statuses.items ≡ workers
   pub calls_len : length t.calls.items ≡ workers
-  pub ready_len : length t.ready.items ≡ workers
+  pub ready_len : length t.ready ≡ workers
 
 -- the counter is no greater than so many calls can make it
 abbrev pub CounterFits : StoredState → Type 0
 CounterFits t = t.objects.counter ≤ length (flat t.history) * 2 ^ 32
 
--- as many lists have a node as are counted
-abbrev pub FilledFits : StoredState → Type 0
-FilledFits t = t.filled ≡ filled_in t.ready.items
-
--- the lists keep their lengths, the counter its bound, and the count of the lists that have a node stays right
+-- the lists keep their lengths, and the counter its bound
 pub record SameSizes (old new : StoredState) : Type 0 where
   pub nodes_same : length new.nodes.items ≡ length old.nodes.items
   pub marks_same : length new.marks.items ≡ length old.marks.items
@@ -99,6 +62,5 @@ pub record SameSizes (old new : StoredState) : Type 0 where
   pub tasks_same : length new.tasks.items ≡ length old.tasks.items
   pub statuses_same : length new.statuses.items ≡ length old.statuses.items
   pub calls_same : length new.calls.items ≡ length old.calls.items
-  pub ready_same : length new.ready.items ≡ length old.ready.items
+  pub ready_same : length new.ready ≡ length old.ready
   pub counter_same : CounterFits old → CounterFits new
-  pub filled_same : FilledFits old → FilledFits new

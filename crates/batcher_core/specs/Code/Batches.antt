@@ -10,7 +10,7 @@ use Rattle.seq_objects.specs.Pairs.{AreDistinct}
 use Rattle.seq_objects.specs.declared.call.Call.{Call}
 use Rattle.sp_order.specs.declared.node.Kind.TheVariants.{LeafNode}
 use Rattle.std.specs.List.{AllByRecursion}
-use Rattle.std.specs.Prelude.{Bool, Contains, List, None, Option, Some, map, true, ℕ, ◌-◌, ◌<◌, ◌≡◌}
+use Rattle.std.specs.Prelude.{Bool, Contains, List, None, Option, Some, map, true, ℕ, ◌<◌, ◌≡◌}
 
 -- the call is that of the leaf at which the task is started
 abbrev pub IsCallOf : CoreJob → Task → Call → Type 0

@@ -1,6 +1,6 @@
 -- What contracts see of a core, what its table keeps to, and what its turns answer.
 use Rattle.batcher_core.specs.Choice.{choice}
-use Rattle.batcher_core.specs.Code.Abstraction.{CounterFits, FilledFits, Sizes, core_state_of, state_of}
+use Rattle.batcher_core.specs.Code.Abstraction.{CounterFits, Sizes, core_state_of, state_of}
 use Rattle.batcher_core.specs.Code.Lookups.{LeafIn, work_due}
 use Rattle.batcher_core.specs.Invariant.{Invariant}
 use Rattle.batcher_core.specs.Operations.{IsCall}
@@ -15,7 +15,7 @@ use Rattle.seq_objects.specs.declared.act.Act.{Act}
 use Rattle.sp_order.specs.Plans.{IsPlan}
 use Rattle.sp_order.specs.Precedence.{Tree, leaves}
 use Rattle.sp_order.specs.Preorder.{nodes_of}
-use Rattle.std.specs.Prelude.{Bool, List, None, Option, Some, length, not, ℕ, ◌&&◌, ◌-◌, ◌<◌, ◌≡◌, ◌≤◌}
+use Rattle.std.specs.Prelude.{Bool, List, None, Option, Some, length, not, ℕ, ◌&&◌, ◌<◌, ◌≡◌, ◌≤◌}
 
 -- what contracts see of a core
 pub record CoreView : Type 0 where
@@ -52,7 +52,6 @@ pub record RepInvariant (tree : Tree) (acts : List Act) (workers : ℕ) (t : Sto
   pub calls_in : (leaf : ℕ) → IsCall (core_job tree acts workers) leaf → leaf < (nodes_of tree).count
   pub sizes : Sizes t (nodes_of tree).count workers
   pub counter : CounterFits t
-  pub filled : FilledFits t
   pub inv : Invariant (core_job tree acts workers) (core_state_of t)
 
 abbrev pub moved_if : Option Event → Turn

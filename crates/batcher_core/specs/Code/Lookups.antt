@@ -1,14 +1,13 @@
 -- What the choice of a turn looks up, and what the code of an event does.
 use Rattle.batch_history.specs.Book.{flat}
 use Rattle.batcher_core.specs.Choice.{choice_arrive, choice_parent, choice_second, choice_steal, last_of}
-use Rattle.batcher_core.specs.Code.Abstraction.{FilledFits, Sizes, state_of}
+use Rattle.batcher_core.specs.Code.Abstraction.{Sizes, state_of}
 use Rattle.batcher_core.specs.Operations.{IsLeaf}
 use Rattle.batcher_core.specs.declared.event.Event.{Event}
 use Rattle.batcher_core.specs.declared.event.Event.TheVariants.{Claim}
 use Rattle.batcher_core.specs.declared.state.State.{State as StoredState}
 use Rattle.batcher_core.specs.declared.state.task.Task.{Task}
 use Rattle.batcher_core.specs.declared.state.task.Task.TheVariants.{Ended, Half, Handed, Idle, Kept, Run, Started, Whole}
-use Rattle.seq_objects.specs.Objects.{after}
 use Rattle.seq_objects.specs.Pairs.{AreDistinct}
 use Rattle.seq_objects.specs.declared.act.Act.{Act}
 use Rattle.seq_objects.specs.declared.act.Act.TheVariants.{Call, Work}
@@ -57,7 +56,6 @@ pub record CanChoose (plan : Nodes) (acts : List Act) (workers : ℕ) (t : Store
   pub leaves : AreDistinct (map (λ entry. entry.leaf) (flat t.history))
   pub few_batches : length t.history < 2 ^ 32
   pub few_entries : length (flat t.history) < 2 ^ 32
-  pub filled : FilledFits t
 
 -- the choice of a worker that has nothing in hand, by its own list
 abbrev pub claim_choice : ℕ → (ℕ → List ℕ) → ℕ → List ℕ → Option Event

@@ -1,14 +1,14 @@
 //! What claims and opens write.
 ghost use Rattle.std.specs.Prelude.{◌≡◌, ◌<◌, ◌++◌, ◌∷◌, [], ℕ, length, IfOk};
 ghost use Rattle.batcher_core.specs.State.{put};
-ghost use Rattle.batcher_core.specs.Code.Abstraction.{state_of, ready_of, SameSizes, FilledFits, IsAtEnd};
+ghost use Rattle.batcher_core.specs.Code.Places.{IsAtEnd};
+ghost use Rattle.batcher_core.specs.Code.Abstraction.{state_of, ready_of, SameSizes};
 ghost use Rattle.batcher_core.specs.Lists.{without};
 ghost use Rattle.batcher_core.specs.declared.state.progress.Progress.TheVariants.{Ready, Taken};
 ghost use Rattle.batcher_core.specs.declared.state.task.Task.TheVariants.{Run};
 
 use crate::state::State;
 use crate::state::progress::Progress;
-use crate::state::ready::{drop_ready, push_ready};
 use crate::state::task::Task;
 use std::alloc::AllocError;
 
@@ -19,12 +19,11 @@ impl State {
         requires worker_in { worker < length self.old.tasks.items }
         requires node_in { node < length self.old.nodes.items }
         requires at_ends { (v : ℕ) → IsAtEnd node (ready_of self.old v) }
-        requires filled { FilledFits self.old }
         ensures sizes { SameSizes self.old self.new }
         ensures event { state_of self.new ≡ record (state_of self.old) { node = put (state_of self.old).node node Taken; task = put (state_of self.old).task worker (Run node) } }
         ensures lists { ready_of self.new ≡ λ v. without node (ready_of self.old v) }
     {
-        drop_ready(&mut self.ready, &mut self.filled, node);
+        self.ready.remove(node);
         self.nodes[node as usize] = Progress::Taken;
         self.tasks[worker as usize] = Task::Run(node);
     }
@@ -34,13 +33,12 @@ impl State {
     pub(crate) fn open(&mut self, worker: u32, node: u32, then: Task) -> Result<(), AllocError>
         requires worker_in { worker < length self.old.tasks.items }
         requires node_in { node < length self.old.nodes.items }
-        requires ready_in { worker < length self.old.ready.items }
-        requires filled { FilledFits self.old }
+        requires ready_in { worker < length self.old.ready }
         ensures sizes { IfOk result (λ _. SameSizes self.old self.new) }
         ensures event { IfOk result (λ _. state_of self.new ≡ record (state_of self.old) { node = put (state_of self.old).node node Ready; task = put (state_of self.old).task worker then }) }
         ensures lists { IfOk result (λ _. ready_of self.new ≡ put (ready_of self.old) worker (ready_of self.old worker ++ node ∷ [])) }
     {
-        push_ready(&mut self.ready, &mut self.filled, worker, node)?;
+        self.ready.push(worker, node)?;
         self.nodes[node as usize] = Progress::Ready;
         self.tasks[worker as usize] = then;
         Ok(())

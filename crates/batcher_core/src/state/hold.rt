@@ -3,7 +3,8 @@ ghost use Rattle.std.specs.Prelude.{◌≡◌, ◌<◌, ◌≤◌, Some, IfSome,
 ghost use Rattle.batcher_core.specs.State.{put};
 ghost use Rattle.batcher_core.specs.Events.{new_hold, looked as hold_looked, published as hold_published, answered as hold_answered};
 ghost use Rattle.batcher_core.specs.Choice.{some_below, least_below, is_owed};
-ghost use Rattle.batcher_core.specs.Code.Abstraction.{at, hold_view, hold_of};
+ghost use Rattle.batcher_core.specs.Code.Places.{at};
+ghost use Rattle.batcher_core.specs.Code.Abstraction.{hold_view, hold_of};
 
 /// What the worker that has the flag keeps: the batch that it is making. The two lists go by the workers' numbers.
 #[derive(Clone, Copy, Debug)]

@@ -1,18 +1,18 @@
 //! The table of the opening state.
-ghost use Rattle.std.specs.Prelude.{◌≡◌, ◌<◌, ℕ, length, IfOk, replicate, []};
+ghost use Rattle.std.specs.Prelude.{◌≡◌, ◌<◌, ℕ, length, IfOk, replicate};
 ghost use Rattle.batcher_core.specs.State.{opening_state, opening_core};
-ghost use Rattle.batcher_core.specs.Code.Abstraction.{state_of, ready_of, queues, filled_in, at, Sizes, FilledFits};
+ghost use Rattle.batcher_core.specs.Code.Places.{at};
+ghost use Rattle.batcher_core.specs.Code.Abstraction.{state_of, ready_of, Sizes};
 ghost use Rattle.batcher_core.specs.declared.state.progress.Progress.TheVariants.{Waiting};
 
 use crate::state::State;
 use crate::state::progress::Progress;
-use crate::state::ready::push_ready;
+use crate::state::ready::ReadyLists;
 use crate::state::status::{CallState, Status};
 use crate::state::task::Task;
 use batch_history::History;
 use seq_objects::Plain;
 use std::alloc::{AllocError, Global};
-use std::collections::VecDeque;
 
 /// So many copies of an item.
 fn copies<T: Copy>(alloc: Global, item: T, count: u32) -> Result<Vec<T>, AllocError>
@@ -36,31 +36,6 @@ fn opening_nodes(alloc: Global, nodes: u32) -> Result<Vec<Progress>, AllocError>
     Ok(progress)
 }
 
-/// So many lists with nothing in them.
-fn empty_lists(alloc: Global, workers: u32) -> Result<Vec<VecDeque<u32>>, AllocError>
-    ensures len { IfOk result (λ v. length v.items ≡ workers) }
-    ensures items { IfOk result (λ v. queues v.items ≡ λ w. []) }
-{
-    let mut lists = Vec::new(alloc);
-    for worker in 0..workers {
-        lists.push(VecDeque::new(alloc))?;
-    }
-    Ok(lists)
-}
-
-/// The lists, of which that of worker 0 has the root, and how many have a node.
-fn opening_lists(alloc: Global, workers: u32) -> Result<(Vec<VecDeque<u32>>, usize), AllocError>
-    requires { 0 < workers }
-    ensures len { IfOk result (λ v. length v.0.items ≡ workers) }
-    ensures items { IfOk result (λ v. queues v.0.items ≡ opening_core.ready) }
-    ensures filled { IfOk result (λ v. v.1 ≡ filled_in v.0.items) }
-{
-    let mut lists = empty_lists(alloc, workers)?;
-    let mut filled = 0;
-    push_ready(&mut lists, &mut filled, 0, 0)?;
-    Ok((lists, filled))
-}
-
 impl State {
     /// The table in which the root is ready, and nothing has happened.
     pub(crate) fn opening(alloc: Global, nodes: u32, workers: u32) -> Result<State, AllocError>
@@ -69,9 +44,7 @@ impl State {
         ensures sizes { IfOk result (λ t. Sizes t nodes workers) }
         ensures state { IfOk result (λ t. state_of t ≡ opening_state) }
         ensures lists { IfOk result (λ t. ready_of t ≡ opening_core.ready) }
-        ensures filled { IfOk result FilledFits }
     {
-        let (ready, filled) = opening_lists(alloc, workers)?;
         Ok(State {
             nodes: opening_nodes(alloc, nodes)?,
             marks: copies(alloc, 0, nodes)?,
@@ -79,8 +52,7 @@ impl State {
             tasks: copies(alloc, Task::Idle, workers)?,
             statuses: copies(alloc, Status::Free, workers)?,
             calls: copies(alloc, CallState::NotCalled, workers)?,
-            ready,
-            filled,
+            ready: ReadyLists::opening(alloc, workers)?,
             hold: None,
             tick: 0,
             history: History::new(alloc),

@@ -1,86 +1,216 @@
 //! The workers' lists of ready nodes.
-ghost use Rattle.std.specs.Prelude.{◌≡◌, ◌<◌, ℕ, length, IfOk, IfErr, IsTrue, ◌↔◌, ◌++◌, ◌∷◌, []};
-ghost use Rattle.batcher_core.specs.State.{put};
+ghost use Rattle.std.specs.Prelude.{◌≡◌, ◌<◌, ◌≤◌, ◌-◌, ℕ, [], ◌∷◌, ◌++◌, length, take, drop, replicate, IfOk, IfErr, OnOk, OnErr, IsTrue, ◌↔◌};
+ghost use Rattle.batcher_core.specs.State.{put, opening_core};
 ghost use Rattle.batcher_core.specs.Lists.{without};
-ghost use Rattle.batcher_core.specs.Code.Abstraction.{one_if_filled as one_if_has_node};
-ghost use Rattle.batcher_core.specs.Code.Abstraction.{queues, filled_in, IsNewest, IsOldest, IsAtEnd};
+ghost use Rattle.batcher_core.specs.Code.Places.{at, one_if_non_empty as count_of, IsNewest, IsOldest, IsAtEnd};
 
-use std::alloc::AllocError;
-use std::collections::VecDeque;
+use std::alloc::{AllocError, Global};
+use std::marker::Model;
 
-/// 1 for a list that has a node.
-fn one_if_filled(list: &VecDeque<u32>) -> usize
-    ensures { result ≡ one_if_has_node list.now.items }
-{
-    if list.is_empty() { 0 } else { 1 }
+/// The ready nodes of one worker, the oldest first. The oldest is claimed by a step of `first`, and a list with no
+/// node left begins anew, so neither end costs more where the list is long.
+#[derive(Drop)]
+pub struct ReadyList {
+    items: Vec<u32>,
+    /// The place of the oldest node.
+    first: usize,
 }
 
-/// Puts a node at the newest end of a worker's list, and keeps count of the lists that have a node.
-pub(crate) fn push_ready(
-    ready: &mut Vec<VecDeque<u32>>,
-    filled: &mut usize,
-    worker: u32,
-    node: u32,
-) -> Result<(), AllocError>
-    requires worker_in { worker < length ready.old.items }
-    requires filled { filled.old ≡ filled_in ready.old.items }
-    ensures len { length ready.new.items ≡ length ready.old.items }
-    ensures done { IfOk result (λ _. queues ready.new.items ≡ put (queues ready.old.items) worker (queues ready.old.items worker ++ node ∷ [])) }
-    ensures filled { IfOk result (λ _. filled.new ≡ filled_in ready.new.items) }
-    ensures unchanged { IfErr result (λ _. queues ready.new.items ≡ queues ready.old.items) }
-{
-    let list = &mut ready[worker as usize];
-    let before = one_if_filled(list);
-    list.push_back(node)?;
-    *filled = *filled - before + one_if_filled(list);
-    Ok(())
+impl Model for ReadyList {
+    ghost use Rattle.std.specs.Prelude.{ℕ, List, ◌≤◌, length, drop};
+
+    ghost Value = { List ℕ };
+
+    ghost view = { λ l. drop l.first l.items.items };
+
+    ghost invariant = { λ l. l.first ≤ length l.items.items };
 }
 
-/// Whether the node is the newest of the list.
-fn is_newest(list: &VecDeque<u32>, node: u32) -> bool
-    ensures { IsTrue result ↔ IsNewest node list.now.items }
+/// Empties a list of which all nodes are claimed, and gives the place of its oldest node.
+fn begin_anew(items: &mut Vec<u32>, first: usize) -> usize
+    requires { first ≤ length items.old.items }
+    ensures within { result ≤ length items.new.items }
+    ensures nodes { drop result items.new.items ≡ drop first items.old.items }
 {
-    match list.back() {
-        None => false,
-        Some(newest) => *newest == node,
+    if first < items.len() {
+        return first;
+    }
+    items.clear();
+    0
+}
+
+impl ReadyList {
+    /// The list with no nodes. Memory: none.
+    fn new(alloc: Global) -> ReadyList
+        ensures { result ≡ [] }
+    {
+        ReadyList {
+            items: Vec::new(alloc),
+            first: 0,
+        }
+    }
+
+    /// Its nodes, the oldest first.
+    fn as_slice(&self) -> &[u32]
+        ensures { result.now ≡ self.now }
+    {
+        &self.items[self.first..]
+    }
+
+    /// 1 where it has a node, and 0 where it has none.
+    fn one_if_non_empty(&self) -> usize
+        ensures { result ≡ count_of self.now }
+    {
+        if self.as_slice().is_empty() { 0 } else { 1 }
+    }
+
+    /// Puts a node at the newest end.
+    fn push(&mut self, node: u32) -> Result<(), AllocError>
+        ensures done { OnOk result (self.new ≡ self.old ++ node ∷ []) }
+        ensures unchanged { OnErr result (self.new ≡ self.old) }
+    {
+        self.items.push(node)?;
+        Ok(())
+    }
+
+    /// Whether the node is the newest.
+    fn is_newest(&self, node: u32) -> bool
+        ensures { IsTrue result ↔ IsNewest node self.now }
+    {
+        match self.as_slice().last() {
+            None => false,
+            Some(newest) => *newest == node,
+        }
+    }
+
+    /// Whether the node is the oldest.
+    fn is_oldest(&self, node: u32) -> bool
+        ensures { IsTrue result ↔ IsOldest node self.now }
+    {
+        match self.as_slice().first() {
+            None => false,
+            Some(oldest) => *oldest == node,
+        }
+    }
+
+    /// Takes the newest node away.
+    fn drop_newest(&mut self)
+        requires { 0 < length self.old }
+        ensures { self.new ≡ take (length self.old - 1) self.old }
+    {
+        let _ = self.items.pop();
+        self.first = begin_anew(&mut self.items, self.first);
+    }
+
+    /// Takes the oldest node away.
+    fn drop_oldest(&mut self)
+        requires { 0 < length self.old }
+        ensures { self.new ≡ drop 1 self.old }
+    {
+        self.first = begin_anew(&mut self.items, self.first + 1);
+    }
+
+    /// Takes a node away that stands once in the list, at one of its ends, or not at all.
+    fn remove(&mut self, node: u32)
+        requires { IsAtEnd node self.old }
+        ensures { self.new ≡ without node self.old }
+    {
+        if self.is_newest(node) {
+            self.drop_newest();
+        } else if self.is_oldest(node) {
+            self.drop_oldest();
+        }
     }
 }
 
-/// Whether the node is the oldest of the list.
-fn is_oldest(list: &VecDeque<u32>, node: u32) -> bool
-    ensures { IsTrue result ↔ IsOldest node list.now.items }
-{
-    match list.front() {
-        None => false,
-        Some(oldest) => *oldest == node,
-    }
+/// A list of ready nodes for each worker. It keeps count of those that have a node, so that a worker with nothing to
+/// do sees at once that there is nothing to claim.
+#[derive(Drop)]
+pub struct ReadyLists {
+    lists: Vec<ReadyList>,
+    /// How many of the lists have a node.
+    non_empty: usize,
 }
 
-/// Takes a node away that stands once in a list, at one of its ends, or not at all.
-fn drop_node(list: &mut VecDeque<u32>, node: u32)
-    requires at_end { IsAtEnd node list.old.items }
-    ensures items { list.new.items ≡ without node list.old.items }
-{
-    if is_newest(list, node) {
-        let _ = list.pop_back();
-    } else if is_oldest(list, node) {
-        let _ = list.pop_front();
-    }
+impl Model for ReadyLists {
+    ghost use Rattle.std.specs.Prelude.{ℕ, List, ◌≡◌};
+    ghost use Rattle.batcher_core.specs.Code.Places.{non_empty_in};
+
+    ghost Value = { List (List ℕ) };
+
+    ghost view = { λ r. r.lists.items };
+
+    ghost invariant = { λ r. r.non_empty ≡ non_empty_in r.lists.items };
 }
 
-/// Takes a node out of the lists, where it stands at an end of one of them, and keeps count of the lists that have
-/// a node.
-pub(crate) fn drop_ready(ready: &mut Vec<VecDeque<u32>>, filled: &mut usize, node: u32)
-    requires at_ends { (v : ℕ) → IsAtEnd node (queues ready.old.items v) }
-    requires filled { filled.old ≡ filled_in ready.old.items }
-    ensures len { length ready.new.items ≡ length ready.old.items }
-    ensures lists { queues ready.new.items ≡ λ v. without node (queues ready.old.items v) }
-    ensures filled { filled.new ≡ filled_in ready.new.items }
-{
-    for worker in 0..ready.len() {
-        let list = &mut ready[worker];
-        let before = one_if_filled(list);
-        drop_node(list, node);
-        *filled = *filled - before + one_if_filled(list);
+impl ReadyLists {
+    /// The lists of this number of workers, which have no nodes.
+    fn empty(alloc: Global, workers: u32) -> Result<ReadyLists, AllocError>
+        ensures { IfOk result (λ lists. lists ≡ replicate workers []) }
+    {
+        let mut lists = Vec::new(alloc);
+        for worker in 0..workers {
+            lists.push(ReadyList::new(alloc))?;
+        }
+        Ok(ReadyLists {
+            lists,
+            non_empty: 0,
+        })
+    }
+
+    /// The lists of this number of workers, of which that of worker 0 has the root.
+    pub(crate) fn opening(alloc: Global, workers: u32) -> Result<ReadyLists, AllocError>
+        requires { 0 < workers }
+        ensures len { IfOk result (λ lists. length lists ≡ workers) }
+        ensures lists { IfOk result (λ lists. at lists [] ≡ opening_core.ready) }
+    {
+        let mut lists = ReadyLists::empty(alloc, workers)?;
+        lists.push(0, 0)?;
+        Ok(lists)
+    }
+
+    /// The nodes of a worker, the oldest first. Beyond the workers there are none. Memory: none.
+    pub(crate) fn of(&self, worker: u32) -> &[u32]
+        ensures { result.now ≡ at self.now [] worker }
+    {
+        match self.lists.get(worker as usize) {
+            Some(list) => list.as_slice(),
+            None => &[],
+        }
+    }
+
+    /// Whether no list has a node.
+    pub(crate) fn are_empty(&self) -> bool
+        ensures { IsTrue result → (worker : ℕ) → at self.now [] worker ≡ [] }
+    {
+        self.non_empty == 0
+    }
+
+    /// Puts a node at the newest end of a worker's list.
+    pub(crate) fn push(&mut self, worker: u32, node: u32) -> Result<(), AllocError>
+        requires { worker < length self.old }
+        ensures len { length self.new ≡ length self.old }
+        ensures lists { IfOk result (λ _. at self.new [] ≡ put (at self.old []) worker (at self.old [] worker ++ node ∷ [])) }
+        ensures unchanged { IfErr result (λ _. at self.new [] ≡ at self.old []) }
+    {
+        let list = &mut self.lists[worker as usize];
+        let before = list.one_if_non_empty();
+        list.push(node)?;
+        self.non_empty = self.non_empty - before + list.one_if_non_empty();
+        Ok(())
+    }
+
+    /// Takes a node out of the lists, where it stands once, at an end of one of them.
+    pub(crate) fn remove(&mut self, node: u32)
+        requires { (v : ℕ) → IsAtEnd node (at self.old [] v) }
+        ensures len { length self.new ≡ length self.old }
+        ensures lists { at self.new [] ≡ λ v. without node (at self.old [] v) }
+    {
+        for worker in 0..self.lists.len() {
+            let list = &mut self.lists[worker];
+            let before = list.one_if_non_empty();
+            list.remove(node);
+            self.non_empty = self.non_empty - before + list.one_if_non_empty();
+        }
     }
 }

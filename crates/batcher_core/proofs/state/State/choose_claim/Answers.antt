@@ -1,37 +1,42 @@
-use Rattle.std.proofs.Common.{◌<◌, ◌+◌, ◌%◌, length, refl, sym, ◌∙◌, arith}
-use Rattle.batcher_core.specs.Code.Abstraction.{queues}
-use Rattle.batcher_core.proofs.CodeLemmas.Written.{queues_at}
-use Rattle.batcher_core.proofs.ChoiceLemmas.Steals.{newest_claim, found, passed, nothing, false_true}
-use Rattle.batcher_core.proofs.CodeLemmas.Filled.{none_to_claim}
+use Rattle.std.proofs.Common.{refl, sym, ◌∙◌, ap, arith}
+use Rattle.std.specs.Option.{option_copied}
+use Rattle.batcher_core.specs.Code.Abstraction.{ready_of}
+use Rattle.batcher_core.proofs.ChoiceLemmas.Steals.{newest_claim, no_newest, found, passed, nothing}
+use Rattle.batcher_core.proofs.CodeLemmas.NonEmpty.{none_to_claim}
 use Rattle.batcher_core.proofs.state.State.choose_claim.Goals as goal
 
-pub returns-then-self-eq0 : goal.returns-then-self-eq0
-returns-then-self-eq0 c = none_to_claim _ c.args.self.now.ready.items c.args.workers c.args.worker (sym c.requires.filled ∙ c.if-self-eq0.true)
+pub returns-then-are_empty : goal.returns-then-are_empty
+unfolding ready_of
+returns-then-are_empty c = none_to_claim (ready_of c.args.self.now) c.args.workers c.args.worker (c.are_empty.ensures c.if-are_empty.true)
 
 pub returns-in-Some : goal.returns-in-Some
+unfolding ready_of
 returns-in-Some c =
-    let at : c.args.worker < length c.args.self.now.ready.items = omega (arith, c.requires.ready_in) in
-    let e = queues_at _ c.args.self.now.ready.items c.args.worker c.index.result.now at c.index.ensures in
-    newest_claim c.args.workers (queues c.args.self.now.ready.items) c.args.worker c.in-Some.node.now _ (queues c.args.self.now.ready.items c.args.worker) c.index.result.now.items e c.index.result.now.ok.0 c.in-Some.ensures.lookup (c.in-Some.ensures.variant.0 refl)
+    let last = sym c.last.ensures.value ∙ ap option_copied c.in-Some.is in
+    newest_claim c.args.workers (ready_of c.args.self.now) c.args.worker c.in-Some.node.now (ready_of c.args.self.now c.args.worker) (rw c.of.ensures at last)
 
-pub returns-in-Some-front : goal.returns-in-Some-front
-returns-in-Some-front c =
-    let at : (c.args.worker + c.loop-k.k) % c.args.workers < length c.args.self.now.ready.items = omega (arith, c.requires.ready_in) in
-    let e = queues_at _ c.args.self.now.ready.items ((c.args.worker + c.loop-k.k) % c.args.workers) c.index-in-loop-k.result.now at c.index-in-loop-k.ensures in
-    let len = c.index-in-loop-k.result.now.ok.0 in
-    let some = c.in-Some-front.ensures.variant.0 refl in
-    found (queues c.args.self.now.ready.items) c.args.worker c.args.workers c.loop-k.k c.in-Some-front.node.now c.loop-k.invariant.own c.loop-k.invariant.so_far c.loop-k-test.true (rw e (omega arith)) (rw e c.in-Some-front.ensures.lookup)
+pub loop-k-init : goal.loop-k-init
+unfolding ready_of
+loop-k-init c =
+    let last = sym c.last.ensures.value ∙ ap option_copied c.in_default.is in record {
+      so_far = refl;
+      own = no_newest (ready_of c.args.self.now c.args.worker) (rw c.of.ensures at last);
+    }
+
+pub returns-in-Some-first : goal.returns-in-Some-first
+unfolding ready_of
+returns-in-Some-first c =
+    let first = sym c.first.ensures.value ∙ ap option_copied c.in-Some-first.is in
+    found (ready_of c.args.self.now) c.args.worker c.args.workers c.loop-k.k c.in-Some-first.node.now c.loop-k.invariant.own c.loop-k.invariant.so_far c.loop-k-test.true
+    (rw c.of-in-loop-k.ensures at first)
 
 pub loop-k-preserved : goal.loop-k-preserved
+unfolding ready_of
 loop-k-preserved c =
-    let at : (c.args.worker + c.loop-k.k) % c.args.workers < length c.args.self.now.ready.items = omega (arith, c.requires.ready_in) in
-    let e = queues_at _ c.args.self.now.ready.items ((c.args.worker + c.loop-k.k) % c.args.workers) c.index-in-loop-k.result.now at c.index-in-loop-k.ensures in
-    let len = c.index-in-loop-k.result.now.ok.0 in
-    let variant = c.front.ensures.variant in
-    let is = c.in_default-front.is in record {
-      so_far = passed (queues c.args.self.now.ready.items) c.args.worker c.args.workers c.loop-k.k c.loop-k.invariant.so_far c.loop-k-test.true (rw e (λ l. let z = rw is at (variant.1 (rw (← len) at l)) in absurd (false_true z)));
+    let first = sym c.first.ensures.value ∙ ap option_copied c.in_default-first.is in record {
+      so_far = passed (ready_of c.args.self.now) c.args.worker c.args.workers c.loop-k.k c.loop-k.invariant.so_far c.loop-k-test.true (rw c.of-in-loop-k.ensures at first);
       own = c.loop-k.invariant.own;
     }
 
 pub returns : goal.returns
-returns c = nothing (queues c.args.self.now.ready.items) c.args.worker c.args.workers c.loop-k.k c.loop-k.invariant.own c.loop-k.invariant.so_far (omega arith)
+returns c = nothing (ready_of c.args.self.now) c.args.worker c.args.workers c.loop-k.k c.loop-k.invariant.own c.loop-k.invariant.so_far (omega arith)

@@ -16,4 +16,4 @@ returns-clause-state c =
 
 pub returns-clause-lists : goal.returns-clause-lists
 unfolding ready_of
-returns-clause-lists c = c.in_ok-ready.ensures.items
+returns-clause-lists c = c.in_ok-opening.ensures.lists

@@ -48,7 +48,6 @@ returns-clause-sizes c =
       ready_same = refl;
       counter_same = λ most. rw (c.in_ok-append.ensures.ok, c.of.ensures)
           (counter_grows c.args.self.now.history c.in_ok-calls.calls.items c.in_ok-entries.entries.items c.args.self.now.objects c.serve_calls.new.objects are grown most);
-      filled_same = λ filled. filled;
     }
 
 pub returns-clause-event : goal.returns-clause-event

@@ -1,0 +1,30 @@
+-- Lists as functions of their places, and the ends of the lists of ready nodes.
+use Rattle.batcher_core.specs.Lists.{times}
+use Rattle.batcher_core.specs.Measure.{total}
+use Rattle.std.specs.Prelude.{List, [], get_or, length, ℕ, ◌-◌, ◌<◌, ◌∷◌, ◌≡◌, ◌≢◌, ◌≤◌, ◌⊎◌}
+
+-- a list as a function of places, with a value beyond its end
+abbrev pub at : {A : Type 0} → List A → A → ℕ → A
+at xs d n = get_or xs n d
+
+-- 1 for a list that has a number, and 0 for the empty one
+abbrev pub one_if_non_empty : List ℕ → ℕ
+one_if_non_empty [] = 0
+one_if_non_empty (x ∷ xs) = 1
+
+-- how many of the lists are not empty
+abbrev pub non_empty_in : List (List ℕ) → ℕ
+non_empty_in xs = total (λ w. one_if_non_empty (at xs [] w)) (length xs)
+
+-- the first number of the list
+abbrev pub IsOldest : ℕ → List ℕ → Type 0
+IsOldest n xs = (0 < length xs) × (get_or xs 0 n ≡ n)
+
+-- the last number of the list
+abbrev pub IsNewest : ℕ → List ℕ → Type 0
+IsNewest n xs = (0 < length xs) × (get_or xs (length xs - 1) n ≡ n)
+
+-- the number stands once in the list, at one of its ends, or not at all
+pub record IsAtEnd (n : ℕ) (xs : List ℕ) : Type 0 where
+  pub once : times n xs ≤ 1
+  pub end : times n xs ≢ 0 → IsOldest n xs ⊎ IsNewest n xs

@@ -5,6 +5,7 @@ ghost use Rattle.sp_order.specs.Precedence.{tree_of, seq};
 ghost use Rattle.job_lang.specs.Counts.{count};
 ghost use Rattle.job_lang.specs.Grammar.{block_then, nothing};
 ghost use Rattle.job_lang.specs.Meaning.{number_in, act_with, act_of, each_copy, join_list, acts_in, shapes_in, job_of};
+ghost use Rattle.job_lang.specs.Code.Orders.{join_by, join_in};
 ghost use Rattle.job_lang.specs.Code.Ranges.{FitsArgument, FitsLeaf, Fits};
 ghost use Rattle.job_lang.specs.Code.Views.{argument_word, unary_op_of, leaf_of, block_kind_of, item_of, items_of};
 
@@ -57,6 +58,16 @@ fn act_in(copy: u32, leaf: Leaf) -> Act
     }
 }
 
+/// How a block joins its shapes.
+fn order_in(kind: BlockKind) -> Order
+    ensures { join_by result ≡ join_in (block_kind_of kind) }
+{
+    match kind {
+        BlockKind::Seq | BlockKind::For(_) => Order::Series,
+        BlockKind::Par | BlockKind::Pfor(_) => Order::Parallel,
+    }
+}
+
 /// The shapes of the items in copy `copy`. What their leaves do goes to the end of `acts`.
 #[cycle(expanding)]
 #[tactic(auto, using(crate::proofs::ExpandLemmas::Copies::fits_item, crate::proofs::ParserLemmas::Weights::weight_item))]
@@ -99,50 +110,34 @@ fn shape_in(
             Ok(Some(Shape::Leaf))
         }
         Item::Block(kind, inside) => {
-            let shape = block_in(alloc, copy, *kind, inside, acts)?;
+            let shapes = block_shapes(alloc, copy, *kind, inside, acts)?;
+            let shape = join(alloc, order_in(*kind), shapes)?;
             Ok(shape)
         }
     }
 }
 
-/// The shape of a block in copy `copy`, if it has leaves there.
+/// The shapes that a block joins in copy `copy`.
 #[cycle(expanding)]
-fn block_in(
+fn block_shapes(
     alloc: Global,
     copy: u32,
     kind: BlockKind,
     inside: &[Item],
     acts: &mut Vec<Act>,
-) -> Result<Option<Shape>, AllocError>
+) -> Result<Vec<Shape>, AllocError>
     requires fits { Fits copy (block_then (block_kind_of kind) (items_of inside.now) nothing) }
-    ensures shapes { IfOk result (λ shape.
-        option_to_list (option_map tree_of shape)
+    ensures shapes { IfOk result (λ shapes.
+        join_list (join_in (block_kind_of kind)) (map tree_of shapes.items)
         ≡ shapes_in copy (block_then (block_kind_of kind) (items_of inside.now) nothing)) }
     ensures acts { IfOk result (λ _.
         acts.new.items
         ≡ acts.old.items ++ acts_in copy (block_then (block_kind_of kind) (items_of inside.now) nothing)) }
 {
     match kind {
-        BlockKind::Seq => {
-            let shapes = shapes_in(alloc, copy, inside, acts)?;
-            let shape = join(alloc, Order::Series, shapes)?;
-            Ok(shape)
-        }
-        BlockKind::Par => {
-            let shapes = shapes_in(alloc, copy, inside, acts)?;
-            let shape = join(alloc, Order::Parallel, shapes)?;
-            Ok(shape)
-        }
-        BlockKind::For(copies) => {
-            let shapes = shapes_of_copies(alloc, copies, inside, acts)?;
-            let shape = join(alloc, Order::Series, shapes)?;
-            Ok(shape)
-        }
-        BlockKind::Pfor(copies) => {
-            let shapes = shapes_of_copies(alloc, copies, inside, acts)?;
-            let shape = join(alloc, Order::Parallel, shapes)?;
-            Ok(shape)
-        }
+        BlockKind::Seq | BlockKind::Par => shapes_in(alloc, copy, inside, acts),
+        BlockKind::For(copies) => shapes_of_copies(alloc, copies, inside, acts),
+        BlockKind::Pfor(copies) => shapes_of_copies(alloc, copies, inside, acts),
     }
 }
 

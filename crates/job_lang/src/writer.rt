@@ -54,11 +54,11 @@ fn push_shape<'a>(
     match shape {
         Shape::Leaf => push_leaf(text, acts),
         Shape::Seq(left, right) => {
-            write!(text, "seq ")?;
+            text.push_str("seq ")?;
             push_sides(text, left, right, acts)
         }
         Shape::Par(left, right) => {
-            write!(text, "par ")?;
+            text.push_str("par ")?;
             push_sides(text, left, right, acts)
         }
     }
@@ -80,11 +80,11 @@ fn push_sides<'a>(
     ensures small { OnOk result
         (AreSmall (take (leaves (tree_of left.now) + leaves (tree_of right.now)) acts.now)) }
 {
-    write!(text, "{{ ")?;
+    text.push_str("{ ")?;
     let rest = push_shape(text, left, acts)?;
-    write!(text, " ")?;
+    text.push_str(" ")?;
     let rest = push_shape(text, right, rest)?;
-    write!(text, " }}")?;
+    text.push_str(" }")?;
     Ok(rest)
 }
 
@@ -98,7 +98,7 @@ fn push_job(text: &mut String, job: &Job) -> Result<(), AllocError>
         None => Ok(()),
         Some(shape) => {
             push_shape(text, shape, acts)?;
-            write!(text, "\n")
+            text.push_str("\n")
         }
     }
 }

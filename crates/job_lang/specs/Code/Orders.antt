@@ -1,8 +1,16 @@
 -- The ways to join shapes in the code, as those of trees.
 use Rattle.job_lang.specs.declared.expand.join.Order.{Order}
 use Rattle.job_lang.specs.declared.expand.join.Order.TheVariants.{Series, Parallel}
+use Rattle.job_lang.specs.Grammar.{BlockKind, seq_block, par_block, for_loop, pfor_loop}
 use Rattle.sp_order.specs.Precedence.{Tree, seq, par}
 
-abbrev pub kind_of : Order → Tree → Tree → Tree
-kind_of Series = seq
-kind_of Parallel = par
+abbrev pub join_by : Order → Tree → Tree → Tree
+join_by Series = seq
+join_by Parallel = par
+
+-- how a block joins its shapes
+abbrev pub join_in : BlockKind → Tree → Tree → Tree
+join_in seq_block = seq
+join_in par_block = par
+join_in (for_loop copies) = seq
+join_in (pfor_loop copies) = par

@@ -3,7 +3,7 @@ ghost use Rattle.std.specs.Prelude.{◌≡◌, ◌<◌, ◌≤◌, ◌-◌, Some
 ghost use Rattle.std.specs.Option.{option_map};
 ghost use Rattle.sp_order.specs.Precedence.{tree_of};
 ghost use Rattle.job_lang.specs.Joins.{join_of};
-ghost use Rattle.job_lang.specs.Code.Orders.{kind_of};
+ghost use Rattle.job_lang.specs.Code.Orders.{join_by};
 
 use sp_order::Shape;
 use std::alloc::{AllocError, Global};
@@ -17,7 +17,7 @@ pub(crate) enum Order {
 
 /// Two shapes as one.
 fn both(alloc: Global, order: Order, left: Shape, right: Shape) -> Result<Shape, AllocError>
-    ensures { IfOk result (λ shape. tree_of shape ≡ kind_of order (tree_of left) (tree_of right)) }
+    ensures { IfOk result (λ shape. tree_of shape ≡ join_by order (tree_of left) (tree_of right)) }
 {
     let left = Box::new(alloc, left)?;
     let right = Box::new(alloc, right)?;
@@ -38,7 +38,7 @@ fn join_last(
     requires enough { count ≤ length shapes.old.items }
     ensures joins { IfOk result (λ shape.
         Some (tree_of shape)
-        ≡ join_of (kind_of order) (map tree_of (drop (length shapes.old.items - count) shapes.old.items))) }
+        ≡ join_of (join_by order) (map tree_of (drop (length shapes.old.items - count) shapes.old.items))) }
     ensures leaves { IfOk result (λ _.
         shapes.new.items ≡ take (length shapes.old.items - count) shapes.old.items) }
 {
@@ -60,7 +60,7 @@ pub(crate) fn join(
     mut shapes: Vec<Shape>,
 ) -> Result<Option<Shape>, AllocError>
     ensures { IfOk result (λ shape.
-        option_map tree_of shape ≡ join_of (kind_of order) (map tree_of shapes.items)) }
+        option_map tree_of shape ≡ join_of (join_by order) (map tree_of shapes.items)) }
 {
     let count = shapes.len();
     if count == 0 {

@@ -23,8 +23,8 @@ decreases-shapes_in l = weight (items_of l.items.now) + 1
 abbrev pub decreases-shape_in : goal.decreases-shape_in
 decreases-shape_in l = weight (item_of l.item.now)
 
-abbrev pub decreases-block_in : goal.decreases-block_in
-decreases-block_in l = weight (items_of l.inside.now) + 3
+abbrev pub decreases-block_shapes : goal.decreases-block_shapes
+decreases-block_shapes l = weight (items_of l.inside.now) + 3
 
 abbrev pub decreases-shapes_of_copies : goal.decreases-shapes_of_copies
 decreases-shapes_of_copies l = weight (items_of l.inside.now) + 2

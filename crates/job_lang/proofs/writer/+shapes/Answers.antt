@@ -6,16 +6,16 @@ use Rattle.job_lang.proofs.WriterLemmas.Fronts.{seq_text, par_text}
 use Rattle.job_lang.proofs.ParserLemmas.EachOf.{each_of_both}
 use Rattle.job_lang.proofs.writer.+shapes.Goals as goal
 
-pub push_shape-returns-in_ok-write-in-Seq-clause-text : goal.push_shape-returns-in_ok-write-in-Seq-clause-text
-push_shape-returns-in_ok-write-in-Seq-clause-text t c =
+pub push_shape-returns-in_ok-push_str-in-Seq-clause-text : goal.push_shape-returns-in_ok-push_str-in-Seq-clause-text
+push_shape-returns-in_ok-push_str-in-Seq-clause-text t c =
     on_ok_weaker c.push_sides.result
-    (λ sides. seq_text c.args.acts.now (string_bytes c.args.text.now) (ap tree_of c.in-Seq.is) (ap tree_of c.deref.ensures) (ap tree_of c.deref-in-Seq.ensures) c.in_ok-write-in-Seq.ensures.bytes sides)
+    (λ sides. seq_text c.args.acts.now (string_bytes c.args.text.now) (ap tree_of c.in-Seq.is) (ap tree_of c.deref.ensures) (ap tree_of c.deref-in-Seq.ensures) c.in_ok-push_str-in-Seq.ensures.bytes sides)
     c.push_sides.ensures.text
 
-pub push_shape-returns-in_ok-write-in-Par-clause-text : goal.push_shape-returns-in_ok-write-in-Par-clause-text
-push_shape-returns-in_ok-write-in-Par-clause-text t c =
+pub push_shape-returns-in_ok-push_str-in-Par-clause-text : goal.push_shape-returns-in_ok-push_str-in-Par-clause-text
+push_shape-returns-in_ok-push_str-in-Par-clause-text t c =
     on_ok_weaker c.push_sides-in-Par.result
-    (λ sides. par_text c.args.acts.now (string_bytes c.args.text.now) (ap tree_of c.in-Par.is) (ap tree_of c.deref-in-Par.ensures) (ap tree_of c.deref-in-Par-2.ensures) c.in_ok-write-in-Par.ensures.bytes sides)
+    (λ sides. par_text c.args.acts.now (string_bytes c.args.text.now) (ap tree_of c.in-Par.is) (ap tree_of c.deref-in-Par.ensures) (ap tree_of c.deref-in-Par-2.ensures) c.in_ok-push_str-in-Par.ensures.bytes sides)
     c.push_sides-in-Par.ensures.text
 
 pub push_sides-returns-clause-small : goal.push_sides-returns-clause-small

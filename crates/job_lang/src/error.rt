@@ -1,4 +1,4 @@
-//! Why a text gave no job.
+//! The errors of reading a job: a fault of the text, or want of memory.
 use crate::fault::JobFault;
 use std::alloc::{AllocError, AllocFailed};
 use thiserror::Error;

@@ -1,4 +1,4 @@
-//! Why a text is no job.
+//! The faults of a text that is no job.
 ghost use Rattle.std.specs.Prelude.{◌≡◌};
 
 use thiserror::Error;

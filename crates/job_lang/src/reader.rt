@@ -1,4 +1,4 @@
-//! Reads a job from its text.
+//! Reads a job from its text, room by room: bytes, words, items, limits, copies.
 ghost use Rattle.std.specs.Prelude.{◌≡◌, ◌≤◌, ◌⊎◌, Ok, Err, IfOk, length};
 ghost use Rattle.sp_order.specs.Jobs.{JobValue};
 ghost use Rattle.job_lang.specs.Language.{IsJobOf, IsFaultOf};

@@ -36,12 +36,12 @@ one_place (leaf_then leaf a) (leaf_then leaf' b) from from' most same few many f
     cc (first, more)
 one_place (leaf_then leaf a) (block_then kind body b) from from' most same few many few' many' = absurd (cc same)
 one_place (block_then kind body a) (leaf_then leaf b) from from' most same few many few' many' = absurd (cc same)
-one_place (block_then kind body a) (block_then head' body' b) from from' most same few many few' many' =
+one_place (block_then kind body a) (block_then kind' body' b) from from' most same few many few' many' =
     let rest : a then from ≡ b then from' = cc same in
-    let first : kind ≡ head' = cc same in
+    let first : kind ≡ kind' = cc same in
     let inside : body ≡ body' = cc same in
     let size : ℕ = copies_of kind * count body in
-    let size' : size ≡ copies_of head' * count body' = ap (λ h. copies_of h * count body) first ∙ ap (λ x. copies_of head' * count x) inside in
+    let size' : size ≡ copies_of kind' * count body' = ap (λ h. copies_of h * count body) first ∙ ap (λ x. copies_of kind' * count x) inside in
     let more = one_place a b from from' (most - size) rest (omega (arith, few)) (omega (arith, few, many)) (omega (arith, few', size')) (omega (arith, few', many', size')) in
     cc (first, inside, more)
 

@@ -1,4 +1,4 @@
-//! The bytes and the lines of a text.
+//! The lines of a text, and its first byte that is not allowed.
 ghost use Rattle.std.specs.Prelude.{◌≡◌, ◌≤◌, length};
 ghost use Rattle.job_lang.specs.Text.{is_allowed, forbidden_line, last_line};
 

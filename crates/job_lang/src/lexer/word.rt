@@ -1,7 +1,7 @@
-//! The words of the language.
+//! The words of the language, and the line that each stands on.
 
-/// What a token says. The number of a `Number`, and the factor and the addend of a `Copies`, are missing where one of
-/// them has a leading zero or does not fit 32 bits.
+/// What a token says. A `Number` has no number, and a `Copies` no factor and addend, where one of these has a leading
+/// zero or does not fit 32 bits.
 #[derive(Clone, Copy)]
 pub enum Word {
     Open,

@@ -1,4 +1,4 @@
-//! The word that a token says.
+//! The word that a token says: a quoted word of the grammar, a number, or one that depends on the copy.
 ghost use Rattle.std.specs.Prelude.{◌≡◌, ◌+◌, ◌<◌, [], IfSome, IfNone, IsTrue, not, length, take, drop};
 ghost use Rattle.job_lang.specs.Words.{are_digits, begins_well, number_of, before_plus, behind_plus, copies_word, argument_word, word_of};
 

@@ -1,4 +1,4 @@
-//! The first argument that does not fit 32 bits in some copy.
+//! The first argument that is out of range: that does not fit 32 bits in some copy.
 ghost use Rattle.std.specs.Prelude.{◌≡◌, [], ◌∷◌, IfSome, IfNone};
 ghost use Rattle.job_lang.specs.Limits.{copies_inside, is_out_of_range, leaf_range_flags, range_flags};
 ghost use Rattle.job_lang.specs.Code.Searches.{dependents, Finds};

@@ -1,4 +1,4 @@
-//! The number of leaves that items make.
+//! The number of leaves that items make, up to one more than a job may have.
 ghost use Rattle.std.specs.Prelude.{◌≡◌, min};
 ghost use Rattle.job_lang.specs.Counts.{count};
 ghost use Rattle.job_lang.specs.Code.Views.{items_of, item_of};

@@ -1,4 +1,4 @@
-//! The number of words that items write.
+//! The number of words that items write, which tells where among the words an item begins.
 ghost use Rattle.std.specs.Prelude.{◌≡◌, ◌<◌, ◌^◌, length};
 ghost use Rattle.job_lang.specs.Grammar.{unary_op_words, leaf_words, kind_words, items_words};
 ghost use Rattle.job_lang.specs.Code.Views.{unary_op_of, leaf_of, block_kind_of, item_of, items_of};

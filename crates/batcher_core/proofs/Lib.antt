@@ -1,3 +1,4 @@
+pub mod Words
 pub mod Inductive
 pub mod InvariantLemmas
 pub mod ChoiceLemmas

@@ -5,14 +5,8 @@ use Rattle.std.proofs.lemmas.Bool.{cases_eq, cases_Bool}
 use Rattle.seq_objects.specs.Objects.{Objects, after, reply_to}
 use Rattle.seq_objects.specs.Batches.{AreInBatchOrder}
 use Rattle.seq_objects.specs.declared.call.Call.{Call}
-use Rattle.seq_objects.specs.declared.op.Op.{Op}
-use Rattle.sp_order.specs.declared.node.Kind.{Kind}
-use Rattle.batch_history.specs.declared.batch.Entry.{Entry}
+use Rattle.batcher_core.proofs.Words.{Op, Kind, Entry, Publish, Task, Started, CoreJob, State}
 use Rattle.batch_history.specs.Book.{IsLegalFrom}
-use Rattle.batcher_core.specs.declared.event.Event.TheVariants.{Publish}
-use Rattle.batcher_core.specs.declared.state.task.Task.{Task}
-use Rattle.batcher_core.specs.declared.state.task.Task.TheVariants.{Started}
-use Rattle.batcher_core.specs.State.{CoreJob, State}
 use Rattle.batcher_core.specs.Operations.{IsCall, IsLeaf, leaf_of, op_in}
 use Rattle.batcher_core.specs.Events.{Needs, IsBatchOf}
 use Rattle.batcher_core.specs.Invariant.Statuses.{IsAtCall}

@@ -1,10 +1,7 @@
 -- The book is a history, and so it is after a batch is published.
 use Rattle.std.proofs.Common.{ℕ, ◌<◌, ◌≤◌, ◌^◌, List, [], ◌∷◌, ◌++◌, arith}
-use Rattle.sp_order.specs.Plans.{IsPlan}
-use Rattle.batch_history.specs.declared.batch.Entry.{Entry}
+use Rattle.batcher_core.proofs.Words.{IsPlan, Entry, Publish, CoreJob, State}
 use Rattle.batch_history.specs.Book.{flat, IsHistory}
-use Rattle.batcher_core.specs.declared.event.Event.TheVariants.{Publish}
-use Rattle.batcher_core.specs.State.{CoreJob, State}
 use Rattle.batcher_core.specs.Operations.{IsCall}
 use Rattle.batcher_core.specs.Events.{Needs, IsBatchOf}
 use Rattle.batcher_core.proofs.Inductive.Parts.{InductiveParts}

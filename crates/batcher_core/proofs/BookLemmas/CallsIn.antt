@@ -1,11 +1,7 @@
 -- The leaves of a job that call have numbers below that of its nodes.
 use Rattle.std.proofs.Common.{ℕ, zero, suc, ◌≡◌, ◌≢◌, ◌<◌, ◌≤◌, None, List, [], ◌∷◌, length, get_or, arith, refl}
-use Rattle.seq_objects.specs.declared.act.Act.{Act}
-use Rattle.seq_objects.specs.declared.act.Act.TheVariants.{Work}
-use Rattle.sp_order.specs.Precedence.{Tree, leaf, seq, par, leaves}
+use Rattle.batcher_core.proofs.Words.{Act, Work, Tree, leaf, seq, par, leaves, node_count, IsPlanOf, core_job}
 use Rattle.sp_order.specs.Preorder.{nodes_of}
-use Rattle.sp_order.specs.PlanOf.{node_count, IsPlanOf}
-use Rattle.batcher_core.specs.State.{core_job}
 use Rattle.batcher_core.specs.Operations.{op_in, IsCall}
 
 -- what is past the acts does not call

@@ -2,13 +2,9 @@
 use Rattle.std.proofs.Common.{ℕ, ◌≡◌, ◌≢◌, ◌<◌, ◌≤◌, Option, Some, None, List, [], ◌∷◌, length, map, arith, refl, sym}
 use Rattle.std.proofs.lemmas.List.{length-map}
 use Rattle.std.specs.List.{AllByRecursion}
-use Rattle.seq_objects.specs.declared.op.Op.{Op}
+use Rattle.batcher_core.proofs.Words.{Op, LeafNode, IsPlan, Entry, CoreJob, State, put}
 use Rattle.seq_objects.specs.Pairs.{AreDistinct}
-use Rattle.sp_order.specs.declared.node.Kind.TheVariants.{LeafNode}
-use Rattle.sp_order.specs.Plans.{IsPlan}
-use Rattle.batch_history.specs.declared.batch.Entry.{Entry}
 use Rattle.batch_history.specs.Book.{flat}
-use Rattle.batcher_core.specs.State.{CoreJob, State, put}
 use Rattle.batcher_core.specs.Operations.{op_in, IsCall}
 use Rattle.batcher_core.specs.Invariant.{Parts}
 use Rattle.batcher_core.specs.Measure.{total, one_if, one_if_call, call_count}

@@ -1,13 +1,7 @@
 -- The leaves of a plan have the numbers below the number of leaves.
 use Rattle.std.proofs.Common.{ℕ, ◌≡◌, ◌≢◌, ◌<◌, ◌≤◌, ◌+◌, Option, Some, None, arith, refl, inl, inr, sym, ◌∙◌}
 use Rattle.std.proofs.lemmas.Bool.{cases_eq, cases_lt}
-use Rattle.sp_order.specs.declared.node.Kind.{Kind}
-use Rattle.sp_order.specs.declared.node.Kind.TheVariants.{LeafNode, SeqNode, ParNode}
-use Rattle.sp_order.specs.declared.node.Move.{Move}
-use Rattle.sp_order.specs.declared.node.Move.TheVariants.{Root, OpenSecond, FinishParent, Arrive}
-use Rattle.sp_order.specs.Precedence.{Tree, leaf, seq, par, leaves}
-use Rattle.sp_order.specs.Plans.{Nodes}
-use Rattle.sp_order.specs.PlanOf.{node_count, OccursAt, IsPlanOf}
+use Rattle.batcher_core.proofs.Words.{Kind, LeafNode, SeqNode, ParNode, Move, Root, OpenSecond, FinishParent, Arrive, Tree, leaf, seq, par, leaves, Nodes, node_count, OccursAt, IsPlanOf}
 use Rattle.batcher_core.specs.Code.Lookups.{LeafIn}
 
 -- the nodes of a tree that stands at a node hold leaves below a number

@@ -5,10 +5,9 @@ use Rattle.std.proofs.lemmas.List.{take_more, length-take-le}
 use Rattle.std.proofs.Math.ListN.{drop_of_length-le}
 use Rattle.std.proofs.lemmas.Bool.Decides.{nat_tests}
 use Rattle.std.specs.List.{AllByRecursion}
-use Rattle.batch_history.specs.declared.batch.Entry.{Entry}
+use Rattle.batcher_core.proofs.Words.{Entry, Receipt}
 use Rattle.seq_objects.specs.Pairs.{AreDistinct}
 use Rattle.batch_history.specs.Book.{flat}
-use Rattle.batcher_core.specs.declared.state.status.Receipt.{Receipt}
 use Rattle.batcher_core.specs.Operations.{Place, place_in, or_else, place_of}
 use Rattle.batcher_core.specs.Code.Batches.{receipt_at}
 use Rattle.batcher_core.proofs.BookLemmas.Books.{or_else_none, place_append, found_entry, found_in_book, flat_append}

@@ -1,13 +1,7 @@
 -- The choice of a turn is an event whose needs are met, and there is none exactly where no event can happen.
 use Rattle.std.proofs.Common.{ℕ, ◌≡◌, ◌≢◌, ◌<◌, ◌==◌, ◌⊎◌, Option, Some, None, List, arith, refl, inl, inr, ◌∙◌, eqb-true}
 use Rattle.std.proofs.lemmas.Bool.Decides.{nat_tests}
-use Rattle.sp_order.specs.Plans.{IsPlan}
-use Rattle.batcher_core.specs.declared.state.task.Task.{Task}
-use Rattle.batcher_core.specs.declared.state.task.Task.TheVariants.{Idle}
-use Rattle.batcher_core.specs.declared.state.status.Status.{Status}
-use Rattle.batcher_core.specs.declared.state.status.Status.TheVariants.{Free, Pending, Executing, Served}
-use Rattle.batcher_core.specs.declared.event.Event.{Event}
-use Rattle.batcher_core.specs.State.{CoreJob, Hold, State, CoreState}
+use Rattle.batcher_core.proofs.Words.{IsPlan, Task, Idle, Status, Free, Pending, Executing, Served, Event, CoreJob, Hold, State, CoreState}
 use Rattle.batcher_core.specs.Invariant.ReadyLists.{ReadyListsInvariant}
 use Rattle.batcher_core.specs.Events.{Needs}
 use Rattle.batcher_core.specs.Invariant.Statuses.{is_taken_by}

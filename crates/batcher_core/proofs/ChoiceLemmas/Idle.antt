@@ -3,14 +3,7 @@ use Rattle.std.proofs.Common.{ℕ, zero, suc, ◌≡◌, ◌≢◌, ◌<◌, ◌
 use Rattle.std.proofs.lemmas.Bool.Decides.{nat_tests}
 use Rattle.std.proofs.lemmas.Bool.{cases_eq, cases_lt}
 use Rattle.std.proofs.Math.Nat.{add-mod_right, mod-eq_of_lt}
-use Rattle.batcher_core.specs.declared.state.progress.Progress.{Progress}
-use Rattle.batcher_core.specs.declared.state.progress.Progress.TheVariants.{Ready}
-use Rattle.batcher_core.specs.declared.state.task.Task.TheVariants.{Idle}
-use Rattle.batcher_core.specs.declared.state.status.Status.TheVariants.{Free, Served}
-use Rattle.batcher_core.specs.declared.state.status.Receipt.{Receipt}
-use Rattle.batcher_core.specs.declared.event.Event.{Event}
-use Rattle.batcher_core.specs.declared.event.Event.TheVariants.{Claim, Start, OpenParRight, OpenParLeft, OpenSeqLeft, OpenSeqRight, Post, Win, Take, Publish, Answer, Release, Leave, Keep, End, FinishLeaf, FinishSeq, FinishPar, ArriveFirst, ArriveSecond}
-use Rattle.batcher_core.specs.State.{CoreJob, Hold, State}
+use Rattle.batcher_core.proofs.Words.{Progress, Ready, Idle, Free, Served, Receipt, Event, Claim, Start, OpenParRight, OpenParLeft, OpenSeqLeft, OpenSeqRight, Post, Win, Take, Publish, Answer, Release, Leave, Keep, End, FinishLeaf, FinishSeq, FinishPar, ArriveFirst, ArriveSecond, CoreJob, Hold, State}
 use Rattle.batcher_core.specs.Lists.{times}
 use Rattle.batcher_core.specs.Invariant.ReadyLists.{ReadyListsInvariant}
 use Rattle.batcher_core.specs.Events.{Needs}

@@ -1,26 +1,8 @@
 -- Where the root is not done, some worker's turn makes an event.
 use Rattle.std.proofs.Common.{ℕ, zero, suc, ◌≡◌, ◌≢◌, ◌<◌, ◌+◌, ◌⊎◌, Bool, true, false, Option, Some, None, List, [], arith, refl, inl, inr, sym, ◌∙◌, ap}
 use Rattle.std.proofs.lemmas.Bool.{cases_eq, cases_lt}
-use Rattle.sp_order.specs.declared.node.Kind.TheVariants.{LeafNode, SeqNode, ParNode}
-use Rattle.sp_order.specs.declared.node.Move.{Move}
-use Rattle.sp_order.specs.declared.node.Move.TheVariants.{Root, OpenSecond, FinishParent, Arrive as ArriveAt}
-use Rattle.sp_order.specs.Precedence.{Tree, leaf, seq, par, leaves}
-use Rattle.sp_order.specs.Plans.{Nodes, IsPlan}
-use Rattle.sp_order.specs.PlanOf.{node_count, OccursAt, IsPlanOf}
-use Rattle.batch_history.specs.declared.batch.Entry.{Entry}
-use Rattle.batcher_core.specs.declared.state.progress.Progress.{Progress}
-use Rattle.batcher_core.specs.declared.state.progress.Progress.TheVariants.{Waiting, Ready, Taken}
-use Rattle.batcher_core.specs.declared.state.task.Task.{Task}
-use Rattle.batcher_core.specs.declared.state.task.Task.TheVariants.{Idle}
-use Rattle.batcher_core.specs.declared.state.status.Status.{Status}
-use Rattle.batcher_core.specs.declared.state.status.Status.TheVariants.{Free, Pending, Executing, Served}
-use Rattle.batcher_core.specs.declared.state.status.CallState.{CallState}
-use Rattle.batcher_core.specs.declared.state.status.Receipt.{Receipt}
-use Rattle.batcher_core.specs.declared.event.Event.{Event}
-use Rattle.batcher_core.specs.declared.event.Event.TheVariants.{Claim, Win, Leave}
-use Rattle.batcher_core.specs.State.{CoreJob, Hold, State, CoreState}
+use Rattle.batcher_core.proofs.Words.{LeafNode, SeqNode, ParNode, Move, Root, OpenSecond, FinishParent, Arrive as ArriveAt, Tree, leaf, seq, par, leaves, Nodes, IsPlan, node_count, OccursAt, IsPlanOf, Entry, Progress, Waiting, Ready, Taken, Task, Idle, Status, Free, Pending, Executing, Served, CallState, Receipt, Event, Claim, Win, Leave, CoreJob, Hold, State, CoreState, is_done, names}
 use Rattle.batcher_core.specs.Invariant.ReadyLists.{ReadyListsInvariant}
-use Rattle.batcher_core.specs.Tasks.{is_done, names}
 use Rattle.batcher_core.specs.Events.{Needs}
 use Rattle.batcher_core.specs.Invariant.Statuses.{is_taken_by}
 use Rattle.batcher_core.specs.Invariant.Hold.{HoldInvariant}

@@ -3,13 +3,7 @@
 use Rattle.std.proofs.Common.{ℕ, zero, suc, ◌≡◌, ◌≢◌, ◌<◌, ◌+◌, ◌-◌, ◌%◌, ◌==◌, if◌then◌else◌, Option, Some, None, List, [], ◌∷◌, ◌++◌, arith, refl, inl, inr, sym, ◌∙◌, ap}
 use Rattle.std.proofs.lemmas.Bool.Decides.{nat_tests}
 use Rattle.std.proofs.lemmas.Bool.{cases_eq}
-use Rattle.sp_order.specs.Plans.{IsPlan}
-use Rattle.batcher_core.specs.declared.state.progress.Progress.{Progress}
-use Rattle.batcher_core.specs.declared.state.task.Task.TheVariants.{Idle}
-use Rattle.batcher_core.specs.declared.state.status.Status.TheVariants.{Free}
-use Rattle.batcher_core.specs.declared.event.Event.{Event}
-use Rattle.batcher_core.specs.declared.event.Event.TheVariants.{Claim}
-use Rattle.batcher_core.specs.State.{put, CoreJob, Hold, State, CoreState}
+use Rattle.batcher_core.proofs.Words.{IsPlan, Progress, Idle, Free, Event, Claim, put, CoreJob, Hold, State, CoreState}
 use Rattle.batcher_core.specs.Lists.{without, times, ready_after}
 use Rattle.batcher_core.specs.Invariant.ReadyLists.{ReadyListsInvariant}
 use Rattle.batcher_core.specs.Invariant.Statuses.{is_taken_by}

@@ -2,23 +2,8 @@
 use Rattle.std.proofs.Common.{ℕ, ◌≡◌, ◌≢◌, ◌<◌, ◌+◌, ◌==◌, ◌⊎◌, Bool, Option, Some, None, List, arith, refl, inl, inr, ap, eqb-true}
 use Rattle.std.proofs.lemmas.Bool.{cases_eq}
 use Rattle.std.proofs.lemmas.Bool.Decides.{nat_tests}
-use Rattle.seq_objects.specs.declared.act.Act.{Act}
-use Rattle.seq_objects.specs.declared.act.Act.TheVariants.{Work, Call}
-use Rattle.sp_order.specs.declared.node.Kind.{Kind}
-use Rattle.sp_order.specs.declared.node.Kind.TheVariants.{LeafNode, SeqNode, ParNode}
-use Rattle.sp_order.specs.declared.node.Move.{Move}
-use Rattle.sp_order.specs.declared.node.Move.TheVariants.{Root, OpenSecond, FinishParent, Arrive as ArriveAt}
-use Rattle.sp_order.specs.Plans.{IsPlan, IsSide, HasSide, parent_of}
-use Rattle.batcher_core.specs.declared.state.task.Task.{Task}
-use Rattle.batcher_core.specs.declared.state.task.Task.TheVariants.{Idle, Run, Half, Started, Kept, Ended, Whole, Handed}
-use Rattle.batcher_core.specs.declared.state.status.Status.TheVariants.{Free}
-use Rattle.batcher_core.specs.declared.state.status.CallState.{CallState}
-use Rattle.batcher_core.specs.declared.state.status.CallState.TheVariants.{NotCalled, Out, Got}
-use Rattle.batcher_core.specs.declared.event.Event.{Event}
-use Rattle.batcher_core.specs.declared.event.Event.TheVariants.{ArriveFirst, ArriveSecond}
-use Rattle.batcher_core.specs.State.{CoreJob, State}
+use Rattle.batcher_core.proofs.Words.{Act, Work, Call, Kind, LeafNode, SeqNode, ParNode, Move, Root, OpenSecond, FinishParent, Arrive as ArriveAt, IsPlan, IsSide, HasSide, parent_of, Task, Idle, Run, Half, Started, Kept, Ended, Whole, Handed, Free, CallState, NotCalled, Out, Got, Event, ArriveFirst, ArriveSecond, CoreJob, State, is_done, names}
 use Rattle.batcher_core.specs.Operations.{leaf_of, op_in}
-use Rattle.batcher_core.specs.Tasks.{is_done, names}
 use Rattle.batcher_core.specs.Invariant.Tasks.{TaskFits}
 use Rattle.batcher_core.specs.Events.{Needs}
 use Rattle.batcher_core.specs.Invariant.Statuses.{is_taken_by}

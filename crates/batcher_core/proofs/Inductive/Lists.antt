@@ -1,7 +1,6 @@
 -- What the proofs carry of the lists of ready nodes: the worker in whose list each stands.
 use Rattle.std.specs.Prelude.{ℕ, ◌≡◌, ◌≢◌, ◌<◌, ◌==◌, if◌then◌else◌, Option, None, Some, List}
-use Rattle.batcher_core.specs.declared.state.progress.Progress.{Progress}
-use Rattle.batcher_core.specs.declared.state.progress.Progress.TheVariants.{Waiting, Ready, Taken, Done, Ran}
+use Rattle.batcher_core.proofs.Words.{Progress, Waiting, Ready, Taken, Done, Ran}
 use Rattle.batcher_core.specs.Lists.{times}
 
 -- how often a node with this progress, whose home is this worker's list, is to stand in the list of w

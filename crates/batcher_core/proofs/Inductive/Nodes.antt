@@ -1,14 +1,8 @@
 -- What the proofs carry of the nodes and the tasks: each node against its sides, and each node with the worker
 -- whose task names it.
 use Rattle.std.specs.Prelude.{ℕ, ◌≡◌, ◌≢◌, ◌<◌, ◌+◌, ◌⊎◌, Bool, true, false, Option, None, Some}
-use Rattle.sp_order.specs.declared.node.Kind.{Kind}
-use Rattle.sp_order.specs.declared.node.Kind.TheVariants.{LeafNode, SeqNode, ParNode}
-use Rattle.sp_order.specs.Plans.{Nodes, IsSide}
-use Rattle.batcher_core.specs.declared.state.progress.Progress.{Progress}
-use Rattle.batcher_core.specs.declared.state.progress.Progress.TheVariants.{Waiting, Ready, Taken, Done, Ran}
-use Rattle.batcher_core.specs.declared.state.task.Task.{Task}
+use Rattle.batcher_core.proofs.Words.{Kind, LeafNode, SeqNode, ParNode, Nodes, IsSide, Progress, Waiting, Ready, Taken, Done, Ran, Task, is_done, names}
 use Rattle.batcher_core.specs.Operations.{IsLeaf}
-use Rattle.batcher_core.specs.Tasks.{is_done, names}
 use Rattle.batcher_core.specs.Invariant.Tasks.{TaskFits}
 
 -- where a node stands against its parent and its sides

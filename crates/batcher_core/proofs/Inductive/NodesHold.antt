@@ -2,13 +2,8 @@
 use Rattle.std.proofs.Common.{ℕ, ◌≡◌, ◌≢◌, ◌⊎◌, Bool, true, false, Option, Some, None, arith, refl, inl, inr}
 use Rattle.batcher_core.specs.Invariant.Nodes.{NodesInvariant}
 use Rattle.batcher_core.specs.Invariant.Tasks.{IsNamed, IsCount, IsPassed, TasksInvariant}
-use Rattle.sp_order.specs.declared.node.Kind.TheVariants.{LeafNode, SeqNode}
-use Rattle.sp_order.specs.Plans.{Nodes, IsSide, IsUnder, itself, one_below}
-use Rattle.batcher_core.specs.declared.state.progress.Progress.{Progress}
-use Rattle.batcher_core.specs.declared.state.progress.Progress.TheVariants.{Waiting, Ready, Taken}
-use Rattle.batcher_core.specs.declared.state.task.Task.{Task}
-use Rattle.batcher_core.specs.declared.state.task.Task.TheVariants.{Whole}
-use Rattle.batcher_core.specs.Tasks.{is_done, names}
+use Rattle.batcher_core.proofs.Words.{LeafNode, SeqNode, Nodes, IsSide, IsUnder, Progress, Waiting, Ready, Taken, Task, Whole, is_done, names}
+use Rattle.sp_order.specs.Plans.{itself, one_below}
 use Rattle.batcher_core.specs.Invariant.Tasks.{TaskFits}
 use Rattle.batcher_core.proofs.Inductive.Nodes.{InductiveNodes, passed_if, LeftAlone, InductiveTasks}
 use Rattle.batcher_core.proofs.InvariantLemmas.TickSteps.{under_done}

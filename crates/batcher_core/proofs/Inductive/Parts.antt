@@ -1,8 +1,6 @@
 -- What the proofs carry of a state. It implies the invariant's parts.
 use Rattle.std.specs.Prelude.{ℕ, ◌≡◌, ◌≤◌, true, Option, Some}
-use Rattle.sp_order.specs.declared.node.Kind.TheVariants.{LeafNode}
-use Rattle.batcher_core.specs.declared.state.task.Task.TheVariants.{Idle}
-use Rattle.batcher_core.specs.State.{CoreJob, State}
+use Rattle.batcher_core.proofs.Words.{LeafNode, Idle, CoreJob, State}
 use Rattle.batcher_core.specs.Operations.{IsCall, place_of}
 use Rattle.batcher_core.specs.Invariant.Statuses.{is_taken_by}
 use Rattle.batcher_core.specs.Invariant.Hold.{is_published, HoldInvariant}

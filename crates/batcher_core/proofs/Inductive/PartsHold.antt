@@ -9,24 +9,9 @@ use Rattle.batcher_core.specs.Invariant.Statuses.{StatusesInvariant}
 use Rattle.batcher_core.specs.Invariant.Book.{BookInvariant}
 use Rattle.batcher_core.specs.Invariant.Membership.{IsBooked, MembershipInvariant}
 use Rattle.batcher_core.specs.Invariant.{Parts}
-use Rattle.seq_objects.specs.declared.act.Act.{Act}
-use Rattle.seq_objects.specs.declared.act.Act.TheVariants.{Work, Call}
-use Rattle.sp_order.specs.declared.node.Kind.TheVariants.{LeafNode}
-use Rattle.sp_order.specs.Plans.{Nodes}
-use Rattle.batch_history.specs.declared.batch.Entry.{Entry}
+use Rattle.batcher_core.proofs.Words.{Act, Work, Call, LeafNode, Nodes, Entry, Progress, Waiting, Ready, Taken, Done, Ran, Task, Idle, Run, Half, Started, Kept, Ended, Whole, Handed, Status, Free, Pending, Executing, Served, CallState, NotCalled, Out, Got, Receipt, CoreJob, State, is_done, names}
 use Rattle.batch_history.specs.Book.{flat}
-use Rattle.batcher_core.specs.declared.state.progress.Progress.{Progress}
-use Rattle.batcher_core.specs.declared.state.progress.Progress.TheVariants.{Waiting, Ready, Taken, Done, Ran}
-use Rattle.batcher_core.specs.declared.state.task.Task.{Task}
-use Rattle.batcher_core.specs.declared.state.task.Task.TheVariants.{Idle, Run, Half, Started, Kept, Ended, Whole, Handed}
-use Rattle.batcher_core.specs.declared.state.status.Status.{Status}
-use Rattle.batcher_core.specs.declared.state.status.Status.TheVariants.{Free, Pending, Executing, Served}
-use Rattle.batcher_core.specs.declared.state.status.CallState.{CallState}
-use Rattle.batcher_core.specs.declared.state.status.CallState.TheVariants.{NotCalled, Out, Got}
-use Rattle.batcher_core.specs.declared.state.status.Receipt.{Receipt}
-use Rattle.batcher_core.specs.State.{CoreJob, State}
 use Rattle.batcher_core.specs.Operations.{op_in, Place, place_of}
-use Rattle.batcher_core.specs.Tasks.{is_done, names}
 use Rattle.batcher_core.specs.Invariant.Tasks.{TaskFits}
 use Rattle.batcher_core.specs.Invariant.Statuses.{IsAtCall, HasReceipt, is_taken_by}
 use Rattle.batcher_core.specs.Invariant.Hold.{is_published}

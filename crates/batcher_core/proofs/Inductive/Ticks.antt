@@ -1,11 +1,6 @@
 -- What the proofs carry of the ticks: the stamp of each leaf that has started, and what each tick was drawn for.
 use Rattle.std.specs.Prelude.{ℕ, ◌≡◌, ◌<◌, Option, None, Some}
-use Rattle.sp_order.specs.declared.node.Kind.TheVariants.{LeafNode}
-use Rattle.sp_order.specs.Plans.{Nodes, IsBySeries}
-use Rattle.batcher_core.specs.declared.state.progress.Progress.{Progress}
-use Rattle.batcher_core.specs.declared.state.progress.Progress.TheVariants.{Waiting, Ready, Taken, Done, Ran}
-use Rattle.batcher_core.specs.declared.state.task.Task.{Task}
-use Rattle.batcher_core.specs.declared.state.task.Task.TheVariants.{Idle, Run, Half, Started, Kept, Ended, Whole, Handed}
+use Rattle.batcher_core.proofs.Words.{LeafNode, Nodes, IsBySeries, Progress, Waiting, Ready, Taken, Done, Ran, Task, Idle, Run, Half, Started, Kept, Ended, Whole, Handed}
 
 -- what is told of a leaf that has started: its worker, its start, and its end once it has one
 pub record Stamp : Type 0 where

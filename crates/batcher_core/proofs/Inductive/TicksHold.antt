@@ -1,12 +1,7 @@
 -- What is carried of the ticks implies what the invariant says of them.
 use Rattle.std.proofs.Common.{ℕ, ◌≡◌, ◌<◌, Option, Some, None, refl, inl, inr, sym, ◌∙◌, ap}
 use Rattle.batcher_core.specs.Invariant.Ticks.{IsStartedAs, Draw, start_of, end_of, start_by, end_by, IsDrawn, HasStart, HasEnd, TicksInvariant}
-use Rattle.sp_order.specs.Plans.{Nodes}
-use Rattle.batcher_core.specs.declared.state.progress.Progress.{Progress}
-use Rattle.batcher_core.specs.declared.state.progress.Progress.TheVariants.{Waiting, Ready, Taken, Done, Ran}
-use Rattle.batcher_core.specs.declared.state.task.Task.{Task}
-use Rattle.batcher_core.specs.declared.state.task.Task.TheVariants.{Idle, Run, Half, Started, Kept, Ended, Whole, Handed}
-use Rattle.batcher_core.specs.Tasks.{names}
+use Rattle.batcher_core.proofs.Words.{Nodes, Progress, Waiting, Ready, Taken, Done, Ran, Task, Idle, Run, Half, Started, Kept, Ended, Whole, Handed, names}
 use Rattle.batcher_core.specs.Invariant.Tasks.{TaskFits}
 use Rattle.batcher_core.proofs.Inductive.Nodes.{InductiveTasks}
 use Rattle.batcher_core.proofs.Inductive.Ticks.{stamp, stamp_in_task, stamp_by, stamps, Drawn, StartOf, EndOf, RanBefore, EndsBefore, StartsAt, EndsAt, InductiveTicks}

@@ -1,15 +1,7 @@
 -- An arrival keeps all that is carried.
 use Rattle.std.proofs.Common.{ℕ, ◌≡◌, ◌<◌, Bool, true, Option, Some, None, arith}
 use Rattle.std.proofs.lemmas.Bool.Decides.{nat_tests}
-use Rattle.sp_order.specs.Plans.{IsPlan}
-use Rattle.batcher_core.specs.declared.state.progress.Progress.{Progress}
-use Rattle.batcher_core.specs.declared.state.task.Task.{Task}
-use Rattle.batcher_core.specs.declared.state.task.Task.TheVariants.{Idle, Whole, Handed}
-use Rattle.batcher_core.specs.declared.state.status.Status.{Status}
-use Rattle.batcher_core.specs.declared.state.status.CallState.{CallState}
-use Rattle.batcher_core.specs.declared.event.Event.TheVariants.{ArriveFirst, ArriveSecond}
-use Rattle.batcher_core.specs.State.{put, CoreJob, State}
-use Rattle.batcher_core.specs.Tasks.{is_done}
+use Rattle.batcher_core.proofs.Words.{IsPlan, Progress, Task, Idle, Whole, Handed, Status, CallState, ArriveFirst, ArriveSecond, put, CoreJob, State, is_done}
 use Rattle.batcher_core.specs.Invariant.Tasks.{TaskFits}
 use Rattle.batcher_core.specs.Events.{Needs}
 use Rattle.batcher_core.specs.Invariant.Hold.{is_published}

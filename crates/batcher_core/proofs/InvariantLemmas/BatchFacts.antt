@@ -1,21 +1,7 @@
 -- What a published batch means for statuses, for entries and for who is in the book.
 use Rattle.std.proofs.Common.{ℕ, ◌≡◌, ◌≢◌, ◌<◌, Bool, true, false, if◌then◌else◌, Option, Some, None, List, [], ◌∷◌, ◌++◌, length, arith, refl, sym, ◌∙◌, ap, length-append}
-use Rattle.seq_objects.specs.declared.op.Op.{Op}
-use Rattle.sp_order.specs.declared.node.Kind.TheVariants.{LeafNode}
-use Rattle.sp_order.specs.Plans.{Nodes}
-use Rattle.batch_history.specs.declared.batch.Entry.{Entry}
-use Rattle.batcher_core.specs.declared.state.progress.Progress.{Progress}
-use Rattle.batcher_core.specs.declared.state.progress.Progress.TheVariants.{Waiting, Ready, Taken, Done, Ran}
-use Rattle.batcher_core.specs.declared.state.task.Task.{Task}
-use Rattle.batcher_core.specs.declared.state.task.Task.TheVariants.{Idle, Run, Half, Started, Kept, Ended, Whole, Handed}
-use Rattle.batcher_core.specs.declared.state.status.Status.{Status}
-use Rattle.batcher_core.specs.declared.state.status.Status.TheVariants.{Executing}
-use Rattle.batcher_core.specs.declared.state.status.CallState.{CallState}
-use Rattle.batcher_core.specs.declared.state.status.CallState.TheVariants.{Out}
-use Rattle.batcher_core.specs.declared.state.status.Receipt.{Receipt}
-use Rattle.batcher_core.specs.State.{CoreJob, Hold, State}
+use Rattle.batcher_core.proofs.Words.{Op, LeafNode, Nodes, Entry, Progress, Waiting, Ready, Taken, Done, Ran, Task, Idle, Run, Half, Started, Kept, Ended, Whole, Handed, Status, Executing, CallState, Out, Receipt, CoreJob, Hold, State, names}
 use Rattle.batcher_core.specs.Operations.{leaf_of, op_of, Place, place_in, or_else, place_of, IsReceipt}
-use Rattle.batcher_core.specs.Tasks.{names}
 use Rattle.batcher_core.specs.Invariant.Tasks.{TaskFits}
 use Rattle.batcher_core.specs.Events.{published}
 use Rattle.batcher_core.specs.Invariant.Statuses.{HasReceipt, is_taken_by}

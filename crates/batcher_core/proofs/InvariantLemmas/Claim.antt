@@ -2,17 +2,7 @@
 use Rattle.std.proofs.Common.{ℕ, ◌≡◌, ◌<◌, Bool, Option, Some, List, arith, refl, inl, inr, subst, sym, ◌∙◌}
 use Rattle.std.proofs.lemmas.Bool.Decides.{nat_tests}
 use Rattle.std.proofs.lemmas.Bool.{cases_eq}
-use Rattle.sp_order.specs.Plans.{IsPlan}
-use Rattle.batch_history.specs.declared.batch.Entry.{Entry}
-use Rattle.batcher_core.specs.declared.state.progress.Progress.{Progress}
-use Rattle.batcher_core.specs.declared.state.progress.Progress.TheVariants.{Ready, Taken}
-use Rattle.batcher_core.specs.declared.state.task.Task.{Task}
-use Rattle.batcher_core.specs.declared.state.task.Task.TheVariants.{Idle, Run}
-use Rattle.batcher_core.specs.declared.state.status.Status.{Status}
-use Rattle.batcher_core.specs.declared.state.status.Status.TheVariants.{Free}
-use Rattle.batcher_core.specs.declared.state.status.CallState.{CallState}
-use Rattle.batcher_core.specs.declared.event.Event.TheVariants.{Claim}
-use Rattle.batcher_core.specs.State.{put, CoreJob, State}
+use Rattle.batcher_core.proofs.Words.{IsPlan, Entry, Progress, Ready, Taken, Task, Idle, Run, Status, Free, CallState, Claim, put, CoreJob, State}
 use Rattle.batcher_core.specs.Events.{Needs}
 use Rattle.batcher_core.specs.Invariant.Statuses.{IsAtCall, is_taken_by}
 use Rattle.batcher_core.specs.Invariant.Hold.{is_published}

@@ -2,18 +2,7 @@
 use Rattle.std.proofs.Common.{ℕ, ◌≡◌, ◌≢◌, ◌<◌, ◌+◌, ◌⊎◌, Bool, true, Option, Some, None, arith, refl, inl, inr, sym, ◌∙◌, ap, add_comm}
 use Rattle.std.proofs.lemmas.Bool.Decides.{nat_tests}
 use Rattle.std.proofs.lemmas.Bool.{cases_eq}
-use Rattle.sp_order.specs.declared.node.Kind.TheVariants.{LeafNode, SeqNode, ParNode}
-use Rattle.sp_order.specs.declared.node.Move.TheVariants.{Root, FinishParent, Arrive}
-use Rattle.sp_order.specs.Plans.{Nodes, IsPlan, IsSide, parent_of}
-use Rattle.batcher_core.specs.declared.state.progress.Progress.{Progress}
-use Rattle.batcher_core.specs.declared.state.progress.Progress.TheVariants.{Taken, Done, Ran}
-use Rattle.batcher_core.specs.declared.state.task.Task.{Task}
-use Rattle.batcher_core.specs.declared.state.task.Task.TheVariants.{Idle, Ended, Whole, Handed}
-use Rattle.batcher_core.specs.declared.state.status.Status.{Status}
-use Rattle.batcher_core.specs.declared.state.status.CallState.{CallState}
-use Rattle.batcher_core.specs.declared.event.Event.TheVariants.{FinishLeaf, FinishSeq, FinishPar}
-use Rattle.batcher_core.specs.State.{put, CoreJob, State}
-use Rattle.batcher_core.specs.Tasks.{is_done}
+use Rattle.batcher_core.proofs.Words.{LeafNode, SeqNode, ParNode, Root, FinishParent, Arrive, Nodes, IsPlan, IsSide, parent_of, Progress, Taken, Done, Ran, Task, Idle, Ended, Whole, Handed, Status, CallState, FinishLeaf, FinishSeq, FinishPar, put, CoreJob, State, is_done}
 use Rattle.batcher_core.specs.Invariant.Tasks.{TaskFits}
 use Rattle.batcher_core.specs.Events.{Needs, task_after}
 use Rattle.batcher_core.specs.Invariant.Hold.{is_published}

@@ -1,17 +1,7 @@
 -- The tasks, as a leaf goes on, a node is done, or a side arrives.
 use Rattle.std.proofs.Common.{ℕ, ◌≡◌, ◌≢◌, ◌<◌, ◌+◌, ◌⊎◌, Bool, true, Option, Some, None, arith, refl, inl, inr, sym, ◌∙◌, ap, add_comm}
 use Rattle.std.proofs.lemmas.Bool.Decides.{nat_tests}
-use Rattle.sp_order.specs.declared.node.Kind.{Kind}
-use Rattle.sp_order.specs.declared.node.Kind.TheVariants.{LeafNode, SeqNode, ParNode}
-use Rattle.sp_order.specs.declared.node.Move.{Move}
-use Rattle.sp_order.specs.declared.node.Move.TheVariants.{Root, OpenSecond, FinishParent, Arrive}
-use Rattle.sp_order.specs.Plans.{Nodes, IsPlan, IsSide, HasSide, parent_of}
-use Rattle.batcher_core.specs.declared.state.progress.Progress.{Progress}
-use Rattle.batcher_core.specs.declared.state.progress.Progress.TheVariants.{Waiting, Taken, Done, Ran}
-use Rattle.batcher_core.specs.declared.state.task.Task.{Task}
-use Rattle.batcher_core.specs.declared.state.task.Task.TheVariants.{Idle, Ended, Whole, Handed}
-use Rattle.batcher_core.specs.State.{put}
-use Rattle.batcher_core.specs.Tasks.{is_done, names}
+use Rattle.batcher_core.proofs.Words.{Kind, LeafNode, SeqNode, ParNode, Move, Root, OpenSecond, FinishParent, Arrive, Nodes, IsPlan, IsSide, HasSide, parent_of, Progress, Waiting, Taken, Done, Ran, Task, Idle, Ended, Whole, Handed, put, is_done, names}
 use Rattle.batcher_core.specs.Invariant.Tasks.{TaskFits}
 use Rattle.batcher_core.proofs.Inductive.Nodes.{InductiveNodes, passed_if, LeftAlone, InductiveTasks}
 use Rattle.batcher_core.proofs.CodeLemmas.Puts.{put_at, put_each}

@@ -1,9 +1,7 @@
 -- The holders of nodes, as a worker's task changes.
 use Rattle.std.proofs.Common.{ℕ, ◌≡◌, Option, Some, None, arith}
 use Rattle.std.proofs.lemmas.Bool.Decides.{nat_tests}
-use Rattle.batcher_core.specs.declared.state.task.Task.{Task}
-use Rattle.batcher_core.specs.State.{put}
-use Rattle.batcher_core.specs.Tasks.{names}
+use Rattle.batcher_core.proofs.Words.{Task, put, names}
 use Rattle.batcher_core.proofs.Inductive.Nodes.{HoldersFit}
 
 -- a worker takes a task

@@ -1,13 +1,7 @@
 -- What is left of all that is carried, where an event changes nodes, marks and the worker's task.
 use Rattle.std.proofs.Common.{arith, false, ℕ, ◌≡◌, ◌<◌, Option, Some, sym, ◌∙◌}
 use Rattle.std.proofs.lemmas.Bool.Decides.{nat_tests}
-use Rattle.sp_order.specs.declared.node.Kind.TheVariants.{LeafNode}
-use Rattle.batcher_core.specs.declared.state.progress.Progress.{Progress}
-use Rattle.batcher_core.specs.declared.state.progress.Progress.TheVariants.{Ran}
-use Rattle.batcher_core.specs.declared.state.task.Task.{Task}
-use Rattle.batcher_core.specs.declared.state.status.Status.TheVariants.{Free}
-use Rattle.batcher_core.specs.State.{put, CoreJob, State}
-use Rattle.batcher_core.specs.Tasks.{is_done}
+use Rattle.batcher_core.proofs.Words.{LeafNode, Progress, Ran, Task, Free, put, CoreJob, State, is_done}
 use Rattle.batcher_core.specs.Invariant.Statuses.{IsAtCall}
 use Rattle.batcher_core.specs.Invariant.Hold.{is_published}
 use Rattle.batcher_core.proofs.Inductive.Nodes.{InductiveNodes, InductiveTasks}

@@ -1,9 +1,6 @@
 -- The move after a node says which side it is.
 use Rattle.std.proofs.Common.{ℕ, ◌≡◌, Option, Some, None, inl, inr, refl, sym, ◌∙◌, ap}
-use Rattle.sp_order.specs.declared.node.Kind.{Kind}
-use Rattle.sp_order.specs.declared.node.Kind.TheVariants.{LeafNode, SeqNode, ParNode}
-use Rattle.sp_order.specs.declared.node.Move.TheVariants.{OpenSecond, FinishParent, Arrive}
-use Rattle.sp_order.specs.Plans.{Nodes, IsPlan, IsSide, HasSide, parent_of}
+use Rattle.batcher_core.proofs.Words.{Kind, LeafNode, SeqNode, ParNode, OpenSecond, FinishParent, Arrive, Nodes, IsPlan, IsSide, HasSide, parent_of}
 
 module _ (plan : Nodes) (n p : ℕ) (laws : IsPlan plan) where
   -- by what the parent is

@@ -2,13 +2,8 @@
 use Rattle.std.proofs.Common.{ℕ, ◌≡◌, ◌≢◌, true, Some, arith, inl, inr, sym, ◌∙◌}
 use Rattle.std.proofs.lemmas.Bool.Decides.{nat_tests}
 use Rattle.std.proofs.lemmas.Bool.{cases_eq}
-use Rattle.sp_order.specs.declared.node.Kind.TheVariants.{LeafNode, SeqNode}
-use Rattle.sp_order.specs.Plans.{Nodes, IsPlan, IsSide}
-use Rattle.batcher_core.specs.declared.state.progress.Progress.{Progress}
-use Rattle.batcher_core.specs.declared.state.progress.Progress.TheVariants.{Waiting, Ready, Taken, Done, Ran}
-use Rattle.batcher_core.specs.State.{put}
+use Rattle.batcher_core.proofs.Words.{LeafNode, SeqNode, Nodes, IsPlan, IsSide, Progress, Waiting, Ready, Taken, Done, Ran, put, is_done}
 use Rattle.batcher_core.specs.Operations.{IsLeaf}
-use Rattle.batcher_core.specs.Tasks.{is_done}
 use Rattle.batcher_core.proofs.Inductive.Nodes.{InductiveNodes}
 use Rattle.batcher_core.proofs.CodeLemmas.Puts.{put_at, put_other}
 

@@ -2,16 +2,7 @@
 use Rattle.std.proofs.Common.{ℕ, ◌≡◌, ◌≢◌, ◌<◌, ◌≤◌, Bool, false, Option, Some, None, arith, refl, inl, inr}
 use Rattle.std.proofs.lemmas.Bool.Decides.{nat_tests}
 use Rattle.std.proofs.lemmas.Bool.{cases_eq}
-use Rattle.sp_order.specs.declared.node.Kind.{Kind}
-use Rattle.sp_order.specs.declared.node.Kind.TheVariants.{SeqNode, ParNode}
-use Rattle.sp_order.specs.declared.node.Move.TheVariants.{OpenSecond, FinishParent}
-use Rattle.sp_order.specs.Plans.{Nodes, IsPlan, IsSide}
-use Rattle.batcher_core.specs.declared.state.progress.Progress.{Progress}
-use Rattle.batcher_core.specs.declared.state.progress.Progress.TheVariants.{Waiting, Ready, Taken}
-use Rattle.batcher_core.specs.declared.state.task.Task.{Task}
-use Rattle.batcher_core.specs.declared.state.task.Task.TheVariants.{Idle, Run, Half, Whole}
-use Rattle.batcher_core.specs.State.{put}
-use Rattle.batcher_core.specs.Tasks.{is_done, names}
+use Rattle.batcher_core.proofs.Words.{Kind, SeqNode, ParNode, OpenSecond, FinishParent, Nodes, IsPlan, IsSide, Progress, Waiting, Ready, Taken, Task, Idle, Run, Half, Whole, put, is_done, names}
 use Rattle.batcher_core.specs.Invariant.Tasks.{TaskFits}
 use Rattle.batcher_core.proofs.Inductive.Nodes.{InductiveNodes, passed_if, LeftAlone, InductiveTasks}
 use Rattle.batcher_core.proofs.CodeLemmas.Puts.{put_each}

@@ -1,16 +1,8 @@
 -- The opening state has all that is carried.
 use Rattle.std.proofs.Common.{ℕ, ◌≡◌, ◌≢◌, Bool, false, Option, None, arith, refl, sym, ap}
 use Rattle.std.proofs.lemmas.Bool.Decides.{nat_tests}
-use Rattle.sp_order.specs.Plans.{Nodes, IsPlan, parent_of}
-use Rattle.batcher_core.specs.declared.state.progress.Progress.{Progress}
-use Rattle.batcher_core.specs.declared.state.progress.Progress.TheVariants.{Waiting, Ready, Taken}
-use Rattle.batcher_core.specs.declared.state.task.Task.{Task}
-use Rattle.batcher_core.specs.declared.state.task.Task.TheVariants.{Idle}
-use Rattle.batcher_core.specs.declared.state.status.Status.{Status}
-use Rattle.batcher_core.specs.declared.state.status.Status.TheVariants.{Free}
-use Rattle.batcher_core.specs.declared.state.status.CallState.{CallState}
-use Rattle.batcher_core.specs.declared.state.status.CallState.TheVariants.{NotCalled}
-use Rattle.batcher_core.specs.State.{put, CoreJob, opening_state}
+use Rattle.batcher_core.proofs.Words.{Nodes, IsPlan, parent_of, Progress, Waiting, Ready, Taken, Task, Idle, Status, Free, CallState, NotCalled, put, CoreJob}
+use Rattle.batcher_core.specs.State.{opening_state}
 use Rattle.batcher_core.specs.Operations.{place_of}
 use Rattle.batcher_core.proofs.Inductive.Nodes.{InductiveNodes, InductiveTasks}
 use Rattle.batcher_core.proofs.Inductive.Ticks.{Stamp, stamps, StartOf, InductiveTicks}

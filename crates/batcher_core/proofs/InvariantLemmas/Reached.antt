@@ -1,11 +1,7 @@
 -- Each state that can be reached has the invariant.
 use Rattle.std.proofs.Common.{◌≢◌, ◌<◌, ℕ, None, List, [], ◌∷◌, sym, subst}
-use Rattle.sp_order.specs.declared.node.Move.TheVariants.{Root}
-use Rattle.sp_order.specs.Precedence.{Tree, leaf, seq, par}
-use Rattle.sp_order.specs.Plans.{Nodes, IsPlan}
-use Rattle.sp_order.specs.PlanOf.{OccursAt, IsPlanOf}
-use Rattle.batcher_core.specs.State.{CoreJob, CoreState, opening_core}
-use Rattle.batcher_core.specs.declared.event.Event.{Event}
+use Rattle.batcher_core.proofs.Words.{Root, Tree, leaf, seq, par, Nodes, IsPlan, OccursAt, IsPlanOf, CoreJob, CoreState, Event}
+use Rattle.batcher_core.specs.State.{opening_core}
 use Rattle.batcher_core.specs.Invariant.{Invariant}
 use Rattle.batcher_core.proofs.Inductive.Parts.{InductiveParts}
 use Rattle.batcher_core.proofs.Inductive.Lists.{InductiveLists}

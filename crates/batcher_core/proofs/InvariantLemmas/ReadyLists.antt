@@ -5,16 +5,8 @@ use Rattle.batcher_core.specs.Invariant.ReadyLists.{ReadyListsInvariant}
 use Rattle.batcher_core.proofs.Inductive.Lists.{stands_in, InductiveLists}
 use Rattle.batcher_core.specs.State.{opening_core}
 use Rattle.std.proofs.lemmas.Bool.Decides.{nat_tests}
-use Rattle.sp_order.specs.declared.node.Kind.TheVariants.{SeqNode, ParNode}
-use Rattle.sp_order.specs.Plans.{IsPlan, parent_of}
-use Rattle.batcher_core.specs.declared.state.progress.Progress.{Progress}
-use Rattle.batcher_core.specs.declared.state.progress.Progress.TheVariants.{Waiting, Ready, Taken, Done, Ran}
-use Rattle.batcher_core.specs.declared.state.task.Task.{Task}
-use Rattle.batcher_core.specs.declared.state.task.Task.TheVariants.{Run, Half, Ended, Whole, Handed}
-use Rattle.batcher_core.specs.declared.event.Event.{Event}
-use Rattle.batcher_core.specs.declared.event.Event.TheVariants.{Claim, Start, OpenParRight, OpenParLeft, OpenSeqLeft, OpenSeqRight, Post, Win, Take, Publish, Answer, Release, Leave, Keep, End, FinishLeaf, FinishSeq, FinishPar, ArriveFirst, ArriveSecond}
-use Rattle.batcher_core.specs.State.{put, CoreJob, State, opening_state}
-use Rattle.batcher_core.specs.Tasks.{is_done}
+use Rattle.batcher_core.proofs.Words.{SeqNode, ParNode, IsPlan, parent_of, Progress, Waiting, Ready, Taken, Done, Ran, Task, Run, Half, Ended, Whole, Handed, Event, Claim, Start, OpenParRight, OpenParLeft, OpenSeqLeft, OpenSeqRight, Post, Win, Take, Publish, Answer, Release, Leave, Keep, End, FinishLeaf, FinishSeq, FinishPar, ArriveFirst, ArriveSecond, put, CoreJob, State, is_done}
+use Rattle.batcher_core.specs.State.{opening_state}
 use Rattle.batcher_core.specs.Invariant.Tasks.{TaskFits}
 use Rattle.batcher_core.specs.Events.{Needs, Does}
 use Rattle.batcher_core.proofs.Inductive.Parts.{InductiveParts}

@@ -1,13 +1,6 @@
 -- What the status, the call and the task of one worker say of each other.
 use Rattle.std.proofs.Common.{◌≡◌, ◌≢◌, Bool, true, List, arith}
-use Rattle.batch_history.specs.declared.batch.Entry.{Entry}
-use Rattle.batcher_core.specs.declared.state.task.Task.{Task}
-use Rattle.batcher_core.specs.declared.state.task.Task.TheVariants.{Idle}
-use Rattle.batcher_core.specs.declared.state.status.Status.{Status}
-use Rattle.batcher_core.specs.declared.state.status.Status.TheVariants.{Free, Executing}
-use Rattle.batcher_core.specs.declared.state.status.CallState.{CallState}
-use Rattle.batcher_core.specs.declared.state.status.CallState.TheVariants.{NotCalled, Out}
-use Rattle.batcher_core.specs.State.{CoreJob}
+use Rattle.batcher_core.proofs.Words.{Entry, Task, Idle, Status, Free, Executing, CallState, NotCalled, Out, CoreJob}
 use Rattle.batcher_core.proofs.Inductive.Book.{StatusFits}
 
 module _ (job : CoreJob) (book : List (List Entry)) (t : Task) (st : Status) (c : CallState) (b : Bool) where

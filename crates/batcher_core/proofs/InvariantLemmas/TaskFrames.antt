@@ -1,15 +1,7 @@
 -- What the task of another worker says, as a node or a mark changes.
 use Rattle.std.proofs.Common.{ℕ, ◌≡◌, ◌≢◌, ◌⊎◌, true, false, Option, Some, None, arith, refl}
 use Rattle.std.proofs.lemmas.Bool.Decides.{nat_tests}
-use Rattle.sp_order.specs.declared.node.Kind.TheVariants.{SeqNode, ParNode}
-use Rattle.sp_order.specs.declared.node.Move.TheVariants.{FinishParent, Arrive}
-use Rattle.sp_order.specs.Plans.{Nodes, IsPlan, IsSide}
-use Rattle.batcher_core.specs.declared.state.progress.Progress.{Progress}
-use Rattle.batcher_core.specs.declared.state.progress.Progress.TheVariants.{Waiting, Ready, Taken}
-use Rattle.batcher_core.specs.declared.state.task.Task.{Task}
-use Rattle.batcher_core.specs.declared.state.task.Task.TheVariants.{Handed}
-use Rattle.batcher_core.specs.State.{put}
-use Rattle.batcher_core.specs.Tasks.{is_done, names}
+use Rattle.batcher_core.proofs.Words.{SeqNode, ParNode, FinishParent, Arrive, Nodes, IsPlan, IsSide, Progress, Waiting, Ready, Taken, Task, Handed, put, is_done, names}
 use Rattle.batcher_core.specs.Invariant.Tasks.{TaskFits}
 use Rattle.batcher_core.proofs.Inductive.Nodes.{InductiveTasks}
 

@@ -1,12 +1,8 @@
 -- The ticks, as a leaf starts or ends.
 use Rattle.std.proofs.Common.{ℕ, ◌≡◌, ◌≢◌, ◌<◌, ◌+◌, true, Option, Some, None, arith, refl, sym, ◌∙◌}
 use Rattle.std.proofs.lemmas.Bool.Decides.{nat_tests}
-use Rattle.sp_order.specs.Plans.{Nodes, IsUnder, itself, one_below}
-use Rattle.batcher_core.specs.declared.state.progress.Progress.{Progress}
-use Rattle.batcher_core.specs.declared.state.progress.Progress.TheVariants.{Waiting, Ready, Taken, Done, Ran}
-use Rattle.batcher_core.specs.declared.state.task.Task.{Task}
-use Rattle.batcher_core.specs.State.{put}
-use Rattle.batcher_core.specs.Tasks.{is_done}
+use Rattle.batcher_core.proofs.Words.{Nodes, IsUnder, Progress, Waiting, Ready, Taken, Done, Ran, Task, put, is_done}
+use Rattle.sp_order.specs.Plans.{itself, one_below}
 use Rattle.batcher_core.proofs.Inductive.Nodes.{InductiveNodes}
 use Rattle.batcher_core.proofs.Inductive.Ticks.{Stamp, stamp, stamps, StartOf, EndOf, RanBefore, ComesBefore, InductiveTicks}
 

@@ -3,18 +3,7 @@ use Rattle.std.proofs.Common.{ℕ, zero, suc, ◌≡◌, ◌≢◌, ◌<◌, ◌
 use Rattle.std.proofs.lemmas.Bool.{cases_eq}
 use Rattle.std.proofs.lemmas.Bool.Decides.{nat_tests}
 use Rattle.seq_objects.specs.Objects.{Objects}
-use Rattle.sp_order.specs.declared.node.Kind.{Kind}
-use Rattle.sp_order.specs.declared.node.Kind.TheVariants.{LeafNode}
-use Rattle.batch_history.specs.declared.batch.Entry.{Entry}
-use Rattle.batcher_core.specs.declared.state.task.Task.{Task}
-use Rattle.batcher_core.specs.declared.state.task.Task.TheVariants.{Started, Kept}
-use Rattle.batcher_core.specs.declared.state.status.Status.{Status}
-use Rattle.batcher_core.specs.declared.state.status.Status.TheVariants.{Free, Pending, Executing, Served}
-use Rattle.batcher_core.specs.declared.state.status.CallState.{CallState}
-use Rattle.batcher_core.specs.declared.state.status.CallState.TheVariants.{NotCalled, Out, Got}
-use Rattle.batcher_core.specs.declared.state.status.Receipt.{Receipt}
-use Rattle.batcher_core.specs.declared.event.Event.TheVariants.{Post, Win, Take, Publish, Answer, Release, Leave, Keep}
-use Rattle.batcher_core.specs.State.{put, CoreJob, Hold, State}
+use Rattle.batcher_core.proofs.Words.{Kind, LeafNode, Entry, Task, Started, Kept, Status, Free, Pending, Executing, Served, CallState, NotCalled, Out, Got, Receipt, Post, Win, Take, Publish, Answer, Release, Leave, Keep, put, CoreJob, Hold, State}
 use Rattle.batcher_core.specs.Operations.{leaf_of, op_in}
 use Rattle.batcher_core.specs.Invariant.Tasks.{TaskFits}
 use Rattle.batcher_core.specs.Events.{Needs, is_pending, new_hold, looked, published, answered}

@@ -1,14 +1,6 @@
 -- What is known of a state whose root is done, of its leaves and its workers.
 use Rattle.std.proofs.Common.{ℕ, ◌≡◌, ◌≢◌, ◌<◌, true, None, Some, inl, refl, sym, ◌∙◌}
-use Rattle.sp_order.specs.declared.node.Kind.TheVariants.{LeafNode}
-use Rattle.sp_order.specs.Precedence.{Tree, leaves}
-use Rattle.sp_order.specs.Plans.{IsPlan}
-use Rattle.sp_order.specs.PlanOf.{IsPlanOf}
-use Rattle.batcher_core.specs.declared.state.progress.Progress.{Progress}
-use Rattle.batcher_core.specs.declared.state.progress.Progress.TheVariants.{Waiting, Ready, Taken, Done, Ran}
-use Rattle.batcher_core.specs.declared.state.task.Task.TheVariants.{Idle}
-use Rattle.batcher_core.specs.State.{CoreJob, State}
-use Rattle.batcher_core.specs.Tasks.{is_done}
+use Rattle.batcher_core.proofs.Words.{LeafNode, Tree, leaves, IsPlan, IsPlanOf, Progress, Waiting, Ready, Taken, Done, Ran, Idle, CoreJob, State, is_done}
 use Rattle.batcher_core.specs.Code.Lookups.{LeafIn}
 use Rattle.batcher_core.specs.Invariant.{Parts}
 use Rattle.batcher_core.specs.Reports.{HasRun}

@@ -3,19 +3,15 @@ use Rattle.std.proofs.Common.{ℕ, ◌≡◌, ◌<◌, Option, Some, None, List,
 use Rattle.std.specs.Prelude.{slice_get, slice_index_or, IsSomeAnd}
 use Rattle.std.proofs.lemmas.Option.{get_or_from_slice_get, slice_get_within}
 use Rattle.seq_objects.specs.Objects.{value_of}
-use Rattle.seq_objects.specs.declared.act.Act.{Act}
-use Rattle.seq_objects.specs.declared.act.Act.TheVariants.{Work, Call}
-use Rattle.sp_order.specs.Precedence.{Tree, leaves, IsBefore}
-use Rattle.sp_order.specs.Plans.{IsBySeries}
+use Rattle.batcher_core.proofs.Words.{Act, Work, Call, Tree, leaves, IsBySeries, Entry, CoreJob, State, core_job}
+use Rattle.sp_order.specs.Precedence.{IsBefore}
 use Rattle.sp_order.specs.Preorder.{nodes_of}
 use Rattle.sp_order.specs.Jobs.{JobValue}
-use Rattle.batch_history.specs.declared.batch.Entry.{Entry}
 use Rattle.batch_history.specs.declared.row.Row.{Row}
 use Rattle.batch_history.specs.declared.report.Report.{Report}
 use Rattle.seq_objects.specs.Pairs.{HasEachOnce}
 use Rattle.batch_history.specs.Book.{flat}
 use Rattle.batch_history.specs.Lawful.{HasRows, KeepsOrder, IsCallLeaf, HasCalls, KeepsTicks, HasValues, Lawful}
-use Rattle.batcher_core.specs.State.{CoreJob, State, core_job}
 use Rattle.batcher_core.specs.Operations.{op_in}
 use Rattle.batcher_core.specs.Reports.{IsRowOf, IsReportOf}
 use Rattle.batcher_core.proofs.BookLemmas.EntryLists.{each_so, each_at, each_mapped}

@@ -3,8 +3,7 @@ use Rattle.std.proofs.Common.{ℕ, ◌≡◌, Some, List, [], ◌∷◌, map, re
 use Rattle.std.specs.List.{AllByRecursion}
 use Rattle.batch_history.specs.declared.row.Row.{Row}
 use Rattle.batch_history.specs.declared.report.Report.{Report}
-use Rattle.batcher_core.specs.declared.state.progress.Progress.TheVariants.{Ran}
-use Rattle.batcher_core.specs.State.{CoreJob, State}
+use Rattle.batcher_core.proofs.Words.{Ran, CoreJob, State}
 use Rattle.batcher_core.specs.Reports.{IsRowOf, IsReportOf}
 
 -- a leaf ran once

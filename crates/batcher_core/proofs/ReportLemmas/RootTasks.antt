@@ -1,16 +1,7 @@
 -- The tasks, as the root is done.
 use Rattle.std.proofs.Common.{ℕ, ◌≡◌, ◌≢◌, ◌<◌, ◌+◌, ◌⊎◌, true, Option, Some, None, arith, refl, ap}
 use Rattle.std.proofs.lemmas.Bool.Decides.{nat_tests}
-use Rattle.sp_order.specs.declared.node.Kind.{Kind}
-use Rattle.sp_order.specs.declared.node.Kind.TheVariants.{LeafNode, SeqNode, ParNode}
-use Rattle.sp_order.specs.declared.node.Move.TheVariants.{Root}
-use Rattle.sp_order.specs.Plans.{Nodes, IsPlan, IsSide, parent_of}
-use Rattle.batcher_core.specs.declared.state.progress.Progress.{Progress}
-use Rattle.batcher_core.specs.declared.state.progress.Progress.TheVariants.{Waiting, Taken}
-use Rattle.batcher_core.specs.declared.state.task.Task.{Task}
-use Rattle.batcher_core.specs.declared.state.task.Task.TheVariants.{Idle}
-use Rattle.batcher_core.specs.State.{put}
-use Rattle.batcher_core.specs.Tasks.{is_done, names}
+use Rattle.batcher_core.proofs.Words.{Kind, LeafNode, SeqNode, ParNode, Root, Nodes, IsPlan, IsSide, parent_of, Progress, Waiting, Taken, Task, Idle, put, is_done, names}
 use Rattle.batcher_core.specs.Invariant.Tasks.{TaskFits}
 use Rattle.batcher_core.proofs.Inductive.Nodes.{InductiveNodes, passed_if, LeftAlone, InductiveTasks}
 use Rattle.batcher_core.proofs.CodeLemmas.Puts.{put_each}

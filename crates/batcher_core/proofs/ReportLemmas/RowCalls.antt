@@ -5,16 +5,10 @@ use Rattle.std.specs.List.{AllByRecursion}
 use Rattle.std.proofs.lemmas.List.Elements.{recursion_from_All, All-contains_itself}
 use Rattle.seq_objects.specs.Objects.{value_of}
 use Rattle.seq_objects.specs.Spin.{spin_of}
-use Rattle.seq_objects.specs.declared.act.Act.{Act}
-use Rattle.seq_objects.specs.declared.act.Act.TheVariants.{Work, Call}
-use Rattle.seq_objects.specs.declared.op.Op.{Op}
-use Rattle.batch_history.specs.declared.batch.Entry.{Entry}
+use Rattle.batcher_core.proofs.Words.{Act, Work, Call, Op, Entry, Ran, CoreJob, State, is_done}
 use Rattle.batch_history.specs.Book.{flat}
 use Rattle.batch_history.specs.declared.row.Row.{Row}
-use Rattle.batcher_core.specs.declared.state.progress.Progress.TheVariants.{Ran}
-use Rattle.batcher_core.specs.State.{CoreJob, State}
 use Rattle.batcher_core.specs.Operations.{op_in, IsCall, Place}
-use Rattle.batcher_core.specs.Tasks.{is_done}
 use Rattle.batcher_core.specs.Invariant.Values.{IsValue}
 use Rattle.batcher_core.specs.Invariant.Membership.{IsBooked}
 use Rattle.batcher_core.proofs.BookLemmas.EntryLists.{each_at}

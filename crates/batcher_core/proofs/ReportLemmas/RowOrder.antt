@@ -2,11 +2,9 @@
 use Rattle.std.proofs.Common.{ℕ, ◌≡◌, ◌≢◌, ◌<◌, ◌⊎◌, inl, inr, Some, arith, sym, ◌∙◌}
 use Rattle.std.specs.Prelude.{slice_get}
 use Rattle.std.proofs.lemmas.Bool.{cases_lt}
-use Rattle.sp_order.specs.Plans.{IsBySeries}
+use Rattle.batcher_core.proofs.Words.{IsBySeries, Ran, CoreJob, State}
 use Rattle.batch_history.specs.declared.row.Row.{Row}
 use Rattle.batch_history.specs.declared.report.Report.{Report}
-use Rattle.batcher_core.specs.declared.state.progress.Progress.TheVariants.{Ran}
-use Rattle.batcher_core.specs.State.{CoreJob, State}
 use Rattle.batcher_core.specs.Invariant.Ticks.{start_of, HasEnd}
 use Rattle.batcher_core.specs.Reports.{IsRowOf, IsReportOf}
 use Rattle.batcher_core.proofs.ReportLemmas.EndedRuns.{IsEnded}

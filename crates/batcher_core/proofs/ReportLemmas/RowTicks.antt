@@ -8,9 +8,7 @@ use Rattle.std.proofs.lemmas.Map.Views.{Contains-from_any, list_any-from_Contain
 use Rattle.seq_objects.specs.Pairs.{AreDistinct, HasEachOnce}
 use Rattle.batch_history.specs.Lawful.{ticks_of}
 use Rattle.batch_history.specs.declared.row.Row.{Row}
-use Rattle.batcher_core.specs.declared.state.progress.Progress.TheVariants.{Ran}
-use Rattle.batcher_core.specs.declared.state.task.Task.TheVariants.{Idle}
-use Rattle.batcher_core.specs.State.{CoreJob, State}
+use Rattle.batcher_core.proofs.Words.{Ran, Idle, CoreJob, State}
 use Rattle.batcher_core.specs.Invariant.Ticks.{IsStartedAs, Draw, start_of, end_of, start_by, end_by, IsDrawn}
 use Rattle.batcher_core.specs.Reports.{IsRowOf}
 use Rattle.batcher_core.proofs.BookLemmas.EntryLists.{each_so, each_at}

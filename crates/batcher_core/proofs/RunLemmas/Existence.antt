@@ -3,19 +3,13 @@ use Rattle.std.proofs.Common.{ℕ, zero, suc, ◌≡◌, ◌≢◌, ◌<◌, ◌
 use Rattle.std.specs.List.{AllByRecursion}
 use Rattle.std.proofs.lemmas.Bool.{cases_Bool}
 use Rattle.std.proofs.Math.Nat.{mod-lt}
-use Rattle.sp_order.specs.Precedence.{Tree}
-use Rattle.sp_order.specs.Plans.{IsPlan}
-use Rattle.sp_order.specs.PlanOf.{IsPlanOf}
-use Rattle.batcher_core.specs.declared.event.Event.{Event}
-use Rattle.batcher_core.specs.declared.event.Event.TheVariants.{Claim, Start, OpenParRight, OpenParLeft, OpenSeqLeft, OpenSeqRight, Post, Win, Take, Publish, Answer, Release, Leave, Keep, End, FinishLeaf, FinishSeq, FinishPar, ArriveFirst, ArriveSecond}
+use Rattle.batcher_core.proofs.Words.{Tree, IsPlan, IsPlanOf, Event, Claim, Start, OpenParRight, OpenParLeft, OpenSeqLeft, OpenSeqRight, Post, Win, Take, Publish, Answer, Release, Leave, Keep, End, FinishLeaf, FinishSeq, FinishPar, ArriveFirst, ArriveSecond, CoreJob, State, CoreState, is_done}
 use Rattle.batcher_core.specs.Choice.{choice}
 use Rattle.batcher_core.specs.Events.{Needs, Does, Happens, made, published}
 use Rattle.batcher_core.specs.Invariant.{Invariant}
 use Rattle.batcher_core.specs.Lists.{ready_after}
 use Rattle.batcher_core.specs.Runs.{IsStep, IsTurnOf, IsTurn, Drives, over, by_schedule, by_robin}
 use Rattle.batcher_core.specs.Serving.{served}
-use Rattle.batcher_core.specs.State.{CoreJob, State, CoreState}
-use Rattle.batcher_core.specs.Tasks.{is_done}
 use Rattle.batcher_core.proofs.Inductive.Parts.{InductiveParts}
 use Rattle.batcher_core.proofs.Inductive.FromParts.{parts_carried, event_keeps_all}
 use Rattle.batcher_core.proofs.BatchLemmas.Existence.{batch_exists}

@@ -1,9 +1,7 @@
 -- What runs and schedules reach.
 use Rattle.std.proofs.Common.{ℕ, ◌≡◌, ◌+◌, ◌%◌, true, Option, Some, None, List, [], ◌∷◌, ◌++◌, refl, subst}
-use Rattle.batcher_core.specs.declared.event.Event.{Event}
-use Rattle.batcher_core.specs.declared.event.Event.TheVariants.{Claim}
-use Rattle.batcher_core.specs.State.{CoreJob, CoreState, opening_state, opening_core}
-use Rattle.batcher_core.specs.Tasks.{is_done}
+use Rattle.batcher_core.proofs.Words.{Event, Claim, CoreJob, CoreState, is_done}
+use Rattle.batcher_core.specs.State.{opening_state, opening_core}
 use Rattle.batcher_core.specs.Choice.{choice, choice_steal}
 use Rattle.batcher_core.specs.Runs.{TurnsReach, IsReached, IsStep, Step, ReachesFrom, IsTurnOf, Drives, over, by_schedule, by_robin, step_of, steps_of, driven}
 

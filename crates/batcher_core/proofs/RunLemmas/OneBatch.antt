@@ -4,13 +4,9 @@ use Rattle.std.specs.Prelude.{Contains}
 use Rattle.std.specs.List.{AllByRecursion}
 use Rattle.seq_objects.specs.Objects.{Objects, after, reply_to}
 use Rattle.seq_objects.specs.BatchOrder.{ComesFirst}
-use Rattle.seq_objects.specs.declared.op.Op.{Op}
-use Rattle.batch_history.specs.declared.batch.Entry.{Entry}
+use Rattle.batcher_core.proofs.Words.{Op, Entry, Event, Claim, Start, OpenParRight, OpenParLeft, OpenSeqLeft, OpenSeqRight, Post, Win, Take, Publish, Answer, Release, Leave, Keep, End, FinishLeaf, FinishSeq, FinishPar, ArriveFirst, ArriveSecond, CoreJob, State}
 use Rattle.seq_objects.specs.Pairs.{EachPair, AreDistinct}
 use Rattle.batch_history.specs.Book.{IsLegalFrom}
-use Rattle.batcher_core.specs.declared.event.Event.{Event}
-use Rattle.batcher_core.specs.declared.event.Event.TheVariants.{Claim, Start, OpenParRight, OpenParLeft, OpenSeqLeft, OpenSeqRight, Post, Win, Take, Publish, Answer, Release, Leave, Keep, End, FinishLeaf, FinishSeq, FinishPar, ArriveFirst, ArriveSecond}
-use Rattle.batcher_core.specs.State.{CoreJob, State}
 use Rattle.batcher_core.specs.Serving.{served}
 use Rattle.batcher_core.specs.Events.{has_taken, IsTakenCall, IsBatchOf, published, Does}
 use Rattle.batcher_core.proofs.BookLemmas.EntryLists.{each_so, each_both, each_at}

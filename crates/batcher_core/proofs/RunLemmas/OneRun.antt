@@ -1,8 +1,7 @@
 -- A schedule drives a job to one state only.
 use Rattle.std.proofs.Common.{ℕ, ◌≡◌, ◌+◌, ◌%◌, ◌⊎◌, true, false, Option, Some, None, List, [], ◌∷◌, refl, inl, inr, subst, sym, ◌∙◌}
-use Rattle.batcher_core.specs.declared.event.Event.{Event}
-use Rattle.batcher_core.specs.State.{CoreJob, CoreState, opening_core}
-use Rattle.batcher_core.specs.Tasks.{is_done}
+use Rattle.batcher_core.proofs.Words.{Event, CoreJob, CoreState, is_done}
+use Rattle.batcher_core.specs.State.{opening_core}
 use Rattle.batcher_core.specs.Choice.{choice}
 use Rattle.batcher_core.specs.Runs.{IsStep, IsTurnOf, IsTurn, Drives, over, by_schedule, by_robin, driven}
 use Rattle.batcher_core.proofs.RunLemmas.OneBatch.{one_state}

@@ -5,13 +5,8 @@ use Rattle.std.specs.Option.{is_some}
 use Rattle.std.proofs.lemmas.Bool.{cases_lt}
 use Rattle.std.proofs.lemmas.Option.{same_Some}
 use Rattle.std.proofs.Math.Nat.{add-mod_right, mod-add-mod, mod-eq_of_lt, mul-le-mul_right}
-use Rattle.sp_order.specs.Precedence.{Tree}
-use Rattle.sp_order.specs.Plans.{IsPlan}
-use Rattle.sp_order.specs.PlanOf.{IsPlanOf}
+use Rattle.batcher_core.proofs.Words.{Tree, IsPlan, IsPlanOf, Event, CoreJob, CoreState, is_done}
 use Rattle.sp_order.specs.Preorder.{nodes_of}
-use Rattle.batcher_core.specs.declared.event.Event.{Event}
-use Rattle.batcher_core.specs.State.{CoreJob, CoreState}
-use Rattle.batcher_core.specs.Tasks.{is_done}
 use Rattle.batcher_core.proofs.Inductive.Parts.{InductiveParts}
 use Rattle.batcher_core.specs.Invariant.ReadyLists.{ReadyListsInvariant}
 use Rattle.batcher_core.specs.Measure.{measure}

@@ -2,12 +2,8 @@
 use Rattle.std.proofs.Common.{ℕ, ◌≡◌, ◌<◌, ◌+◌, ◌%◌, ◌&&◌, not, Bool, true, false, Option, Some, None, List, [], refl, sym, ◌∙◌, ap, subst, inl, inr, length, drop, slice_index_or, Result, Ok, Err, IfOk}
 use Rattle.std.proofs.lemmas.List.{drop_more}
 use Rattle.std.proofs.lemmas.Option.{same_Some}
-use Rattle.seq_objects.specs.declared.act.Act.{Act}
-use Rattle.sp_order.specs.Precedence.{Tree}
-use Rattle.batcher_core.specs.declared.event.Event.{Event}
+use Rattle.batcher_core.proofs.Words.{Act, Tree, Event, CoreJob, CoreState, core_job, is_done}
 use Rattle.batcher_core.specs.declared.turn.Turn.{Turn}
-use Rattle.batcher_core.specs.State.{CoreJob, CoreState, core_job}
-use Rattle.batcher_core.specs.Tasks.{is_done}
 use Rattle.batcher_core.specs.Choice.{choice}
 use Rattle.batcher_core.specs.Runs.{IsStep, IsTurnOf, IsTurn, Drives, over, by_schedule, by_robin}
 use Rattle.batcher_core.specs.Code.Core.{CoreView, job_in, state_in, due_in, is_over_in, moved_if, turn_answer, IsTurnResult}

@@ -1,8 +1,7 @@
 -- A run by turns keeps what the proofs carry, and has no more events than the opening's count.
 use Rattle.std.proofs.Common.{ℕ, ◌≢◌, ◌<◌, ◌≤◌, ◌+◌, ◌*◌, None, List, [], ◌∷◌, length, arith, subst, sym, ap}
-use Rattle.sp_order.specs.Plans.{IsPlan}
-use Rattle.batcher_core.specs.declared.event.Event.{Event}
-use Rattle.batcher_core.specs.State.{CoreJob, CoreState, opening_state, opening_core}
+use Rattle.batcher_core.proofs.Words.{IsPlan, Event, CoreJob, CoreState}
+use Rattle.batcher_core.specs.State.{opening_state, opening_core}
 use Rattle.batcher_core.proofs.Inductive.Parts.{InductiveParts}
 use Rattle.batcher_core.proofs.Inductive.Lists.{InductiveLists}
 use Rattle.batcher_core.specs.Measure.{measure, call_count}

@@ -1,16 +1,7 @@
 -- Each event keeps what is said of a trapped worker that waits.
 use Rattle.std.proofs.Common.{ℕ, ◌≡◌, ◌≢◌, ◌≤◌, ◌+◌, Bool, true, false, if◌then◌else◌, Option, Some, None, List, [], ◌∷◌, ◌++◌, length, arith, refl, inl, inr, subst, sym, ◌∙◌, ap, length-append}
 use Rattle.std.proofs.lemmas.Bool.{cases_eq}
-use Rattle.sp_order.specs.Plans.{IsPlan}
-use Rattle.batch_history.specs.declared.batch.Entry.{Entry}
-use Rattle.batcher_core.specs.declared.state.task.Task.{Task}
-use Rattle.batcher_core.specs.declared.state.task.Task.TheVariants.{Idle, Run, Half, Started, Kept, Ended, Handed}
-use Rattle.batcher_core.specs.declared.state.status.Status.{Status}
-use Rattle.batcher_core.specs.declared.state.status.Status.TheVariants.{Free, Pending, Executing, Served}
-use Rattle.batcher_core.specs.declared.state.status.Receipt.{Receipt}
-use Rattle.batcher_core.specs.declared.event.Event.{Event}
-use Rattle.batcher_core.specs.declared.event.Event.TheVariants.{Claim, Start, OpenParRight, OpenParLeft, OpenSeqLeft, OpenSeqRight, Post, Win, Take, Publish, Answer, Release, Leave, Keep, End, FinishLeaf, FinishSeq, FinishPar, ArriveFirst, ArriveSecond}
-use Rattle.batcher_core.specs.State.{put, CoreJob, Hold, State}
+use Rattle.batcher_core.proofs.Words.{IsPlan, Entry, Task, Idle, Run, Half, Started, Kept, Ended, Handed, Status, Free, Pending, Executing, Served, Receipt, Event, Claim, Start, OpenParRight, OpenParLeft, OpenSeqLeft, OpenSeqRight, Post, Win, Take, Publish, Answer, Release, Leave, Keep, End, FinishLeaf, FinishSeq, FinishPar, ArriveFirst, ArriveSecond, put, CoreJob, Hold, State}
 use Rattle.batcher_core.specs.Operations.{Place}
 use Rattle.batcher_core.specs.Serving.{served}
 use Rattle.batcher_core.specs.Events.{task_after, is_pending, new_hold, looked, published, answered, Needs, IsBatchOf, Happens}

@@ -1,14 +1,6 @@
 -- Where the entry of a trapped worker's call stands.
 use Rattle.std.proofs.Common.{ℕ, ◌≡◌, ◌≤◌, ◌+◌, true, Option, Some, None, List, [], ◌∷◌, ◌++◌, length, arith, refl, inr}
-use Rattle.sp_order.specs.declared.node.Kind.TheVariants.{LeafNode}
-use Rattle.batch_history.specs.declared.batch.Entry.{Entry}
-use Rattle.batcher_core.specs.declared.state.progress.Progress.TheVariants.{Taken}
-use Rattle.batcher_core.specs.declared.state.task.Task.{Task}
-use Rattle.batcher_core.specs.declared.state.task.Task.TheVariants.{Idle, Run, Half, Started, Kept, Ended, Whole, Handed}
-use Rattle.batcher_core.specs.declared.state.status.Status.TheVariants.{Executing}
-use Rattle.batcher_core.specs.declared.state.status.CallState.TheVariants.{Out}
-use Rattle.batcher_core.specs.declared.state.status.Receipt.{Receipt}
-use Rattle.batcher_core.specs.State.{CoreJob, State}
+use Rattle.batcher_core.proofs.Words.{LeafNode, Entry, Taken, Task, Idle, Run, Half, Started, Kept, Ended, Whole, Handed, Executing, Out, Receipt, CoreJob, State}
 use Rattle.batcher_core.specs.Operations.{IsCall, Place, place_in, or_else, place_of, IsReceipt}
 use Rattle.batcher_core.specs.Invariant.Tasks.{TaskFits}
 use Rattle.batcher_core.specs.Invariant.Statuses.{IsAtCall, HasReceipt}

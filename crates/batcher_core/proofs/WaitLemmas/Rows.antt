@@ -1,9 +1,6 @@
 -- What each event of the gate makes of how a trapped worker waits, by its status.
 use Rattle.std.proofs.Common.{ℕ, ◌≡◌, ◌≢◌, ◌<◌, ◌+◌, Bool, true, false, Option, Some, None, arith}
-use Rattle.batcher_core.specs.declared.state.status.Status.{Status}
-use Rattle.batcher_core.specs.declared.state.status.Status.TheVariants.{Free, Pending, Executing, Served}
-use Rattle.batcher_core.specs.declared.state.status.Receipt.{Receipt}
-use Rattle.batcher_core.specs.State.{Hold}
+use Rattle.batcher_core.proofs.Words.{Status, Free, Pending, Executing, Served, Receipt, Hold}
 use Rattle.batcher_core.specs.Operations.{Place}
 use Rattle.batcher_core.specs.Events.{new_hold, looked, published, answered}
 use Rattle.batcher_core.specs.Invariant.Hold.{is_published}

@@ -1,9 +1,6 @@
 -- A worker that stays trapped waits for two batches at most.
 use Rattle.std.proofs.Common.{ℕ, ◌≡◌, ◌≤◌, ◌+◌, length}
-use Rattle.sp_order.specs.Plans.{IsPlan}
-use Rattle.batcher_core.specs.declared.state.status.Status.TheVariants.{Served}
-use Rattle.batcher_core.specs.declared.state.status.Receipt.{Receipt}
-use Rattle.batcher_core.specs.State.{CoreJob, State}
+use Rattle.batcher_core.proofs.Words.{IsPlan, Served, Receipt, CoreJob, State}
 use Rattle.batcher_core.proofs.Inductive.Parts.{InductiveParts}
 use Rattle.batcher_core.specs.Waits.{task_place, WaitsSince, StaysTrapped, at_once, by_event}
 use Rattle.batcher_core.proofs.InvariantLemmas.EachEvent.{event_keeps}

@@ -45,6 +45,14 @@ pub place_in_batch : (k i : ℕ) (b : List Entry) (u : ℕ) (p : Place) → plac
 place_in_batch k i [] u p e = cc
 place_in_batch k i (x ∷ xs) u p e = first_or (x.leaf == u) k i x (place_in k (i + 1) xs u) p e (place_in_batch k (i + 1) xs u p)
 
+-- a choice that takes the first
+pub takes : (m u : ℕ) (a : Place) (o : Option Place) → m ≡ u → (if m == u then Some a else o) ≡ Some a
+takes m u a o same = grind (arith, nat_tests)
+
+-- and one that does not
+pub skips : (m u : ℕ) (a : Place) (o : Option Place) → m ≢ u → (if m == u then Some a else o) ≡ o
+skips m u a o other = grind (arith, nat_tests)
+
 -- the first entry is what is found, if it is of the leaf
 picks_first : (m u : ℕ) (a p : Place) (o : Option Place) → m ≡ u → (if m == u then Some a else o) ≡ Some p → a ≡ p
 picks_first m u a p o at e = grind (arith, nat_tests)

@@ -1,8 +1,10 @@
 -- Lists of entries and of numbers.
-use Rattle.std.proofs.Common.{ℕ, ◌≡◌, ◌≢◌, List, [], ◌∷◌, ◌++◌, map, subst}
+use Rattle.std.proofs.Common.{ℕ, ◌≡◌, ◌≢◌, false, List, [], ◌∷◌, ◌++◌, map, arith, subst}
 use Rattle.std.specs.Prelude.{Contains}
 use Rattle.std.proofs.lemmas.List.Elements.{All-from_recursion}
-use Rattle.std.specs.List.{AllByRecursion}
+use Rattle.std.specs.List.{AllByRecursion, IsDistinct}
+use Rattle.std.proofs.Math.Dec.{eqb}
+use Rattle.std.proofs.lemmas.Bool.Decides.{nat_tests}
 use Rattle.batch_history.specs.declared.batch.Entry.{Entry}
 use Rattle.seq_objects.specs.Pairs.{AreDistinct}
 
@@ -34,6 +36,23 @@ each_mapped f P Q g (x ∷ xs) h = (g x h.0, each_mapped f P Q g xs h.1)
 -- what holds of each element holds of one that the list contains
 pub each_at : {A : Type 0} (P : A → Type 0) (xs : List A) (x : A) → AllByRecursion P xs → Contains xs x → P x
 each_at P xs x h c = subst P c.2 (All-from_recursion P xs h c.0 x c.1)
+
+-- of two lists that are distinct together the first is
+pub distinct_front : (xs ys : List ℕ) → AreDistinct (xs ++ ys) → AreDistinct xs
+distinct_front [] ys h = tt
+distinct_front (x ∷ xs) ys h = ((each_front (λ y. x ≢ y) xs ys h.0).0, distinct_front xs ys h.1)
+
+-- and so is the second
+pub distinct_back : (xs ys : List ℕ) → AreDistinct (xs ++ ys) → AreDistinct ys
+distinct_back [] ys h = h
+distinct_back (x ∷ xs) ys h = distinct_back xs ys h.1
+
+-- numbers that are distinct are so by their test
+pub distinct_tests : (xs : List ℕ) → AreDistinct xs → IsDistinct eqb xs
+unfolding IsDistinct
+distinct_tests [] distinct = tt
+distinct_tests (x ∷ xs) distinct =
+    (each_so (λ y. x ≢ y) (λ y. eqb x y ≡ false) (λ y apart. grind (arith, nat_tests)) xs distinct.0, distinct_tests xs distinct.1)
 
 -- two lists of distinct numbers, with none in common
 pub distinct_append : (xs ys : List ℕ) → AreDistinct xs → AreDistinct ys → AllByRecursion (λ x. AllByRecursion (λ y. x ≢ y) ys) xs → AreDistinct (xs ++ ys)

@@ -1,15 +1,15 @@
 -- Where an entry stands in a book whose leaves are distinct.
-use Rattle.std.proofs.Common.{ℕ, zero, suc, ◌≡◌, ◌≢◌, ◌+◌, ◌==◌, if◌then◌else◌, Option, None, Some, List, [], ◌∷◌, ◌++◌, map, Contains, inl, inr, arith, refl, sym, subst, ◌∙◌, ap}
+use Rattle.std.proofs.Common.{ℕ, zero, suc, ◌≡◌, ◌≢◌, ◌+◌, Option, None, Some, List, [], ◌∷◌, ◌++◌, map, Contains, inl, inr, arith, refl, sym, subst, ◌∙◌, ap}
 use Rattle.std.specs.Prelude.{slice_get}
 use Rattle.std.specs.List.{AllByRecursion}
-use Rattle.std.proofs.lemmas.Bool.Decides.{nat_tests}
 use Rattle.std.proofs.lemmas.List.{map-append, length-map, get_or-map}
 use Rattle.std.proofs.lemmas.List.Elements.{Contains-append_cases, Contains-append_left, Contains-append_right}
 use Rattle.batch_history.specs.declared.batch.Entry.{Entry}
 use Rattle.seq_objects.specs.Pairs.{AreDistinct}
 use Rattle.batch_history.specs.Book.{flat}
 use Rattle.batcher_core.specs.Operations.{Place, place_in, or_else, place_from, place_of}
-use Rattle.batcher_core.proofs.BookLemmas.EntryLists.{each_front, each_at}
+use Rattle.batcher_core.proofs.BookLemmas.EntryLists.{each_front, each_at, distinct_front, distinct_back}
+use Rattle.batcher_core.proofs.BookLemmas.Books.{takes, skips}
 
 -- the leaves of entries
 abbrev pub leaves_of : List Entry → List ℕ
@@ -26,28 +26,10 @@ pub record IsPlaced (place : Option Place) (batch : ℕ) (e : Entry) : Type 0 wh
 pub contains_leaf : (es : List Entry) (e : Entry) → Contains es e → Contains (leaves_of es) e.leaf
 contains_leaf es e h = (h.0, omega (arith, h.1, length-map es (λ (x : Entry). x.leaf)), get_or-map (λ (x : Entry). x.leaf) es h.0 e e.leaf h.1 ∙ ap (λ (x : Entry). x.leaf) h.2)
 
--- of two lists that are distinct together the first is
-distinct_front : (xs ys : List ℕ) → AreDistinct (xs ++ ys) → AreDistinct xs
-distinct_front [] ys h = tt
-distinct_front (x ∷ xs) ys h = ((each_front (λ y. x ≢ y) xs ys h.0).0, distinct_front xs ys h.1)
-
--- and so is the second
-distinct_back : (xs ys : List ℕ) → AreDistinct (xs ++ ys) → AreDistinct ys
-distinct_back [] ys h = h
-distinct_back (x ∷ xs) ys h = distinct_back xs ys h.1
-
--- and what the second contains is not in the first
+-- what the second of two lists contains is not in the first, if they are distinct together
 distinct_across : (xs ys : List ℕ) (y : ℕ) → AreDistinct (xs ++ ys) → Contains ys y → AllByRecursion (λ x. x ≢ y) xs
 distinct_across [] ys y h there = tt
 distinct_across (x ∷ xs) ys y h there = (each_at (λ z. x ≢ z) ys y (each_front (λ z. x ≢ z) xs ys h.0).1 there, distinct_across xs ys y h.1 there)
-
--- a choice that takes the first
-takes : (m u : ℕ) (a : Place) (o : Option Place) → m ≡ u → (if m == u then Some a else o) ≡ Some a
-takes m u a o same = grind (arith, nat_tests)
-
--- and one that does not
-skips : (m u : ℕ) (a : Place) (o : Option Place) → m ≢ u → (if m == u then Some a else o) ≡ o
-skips m u a o other = grind (arith, nat_tests)
 
 -- a leaf of which there is no entry has no place
 none_in : (k i : ℕ) (b : List Entry) (u : ℕ) → AllByRecursion (λ x. x ≢ u) (leaves_of b) → place_in k i b u ≡ None

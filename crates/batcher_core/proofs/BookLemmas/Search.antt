@@ -1,23 +1,16 @@
 -- The search for a leaf's entry: forward in a batch, and from the last batch back to the first.
-use Rattle.std.proofs.Common.{ℕ, zero, suc, ◌≡◌, ◌≢◌, ◌<◌, ◌≤◌, ◌+◌, ◌==◌, if◌then◌else◌, true, false, Option, Some, None, List, [], ◌∷◌, ◌++◌, length, map, take, drop, get_or, arith, refl, sym, ◌∙◌, ap, add-one, drop-cons, length-append}
+use Rattle.std.proofs.Common.{ℕ, zero, suc, ◌≡◌, ◌≢◌, ◌<◌, ◌≤◌, ◌+◌, true, false, Option, Some, None, List, [], ◌∷◌, ◌++◌, length, map, take, drop, get_or, arith, refl, sym, ◌∙◌, ap, add-one, drop-cons, length-append}
 use Rattle.std.specs.Prelude.{is_some}
-use Rattle.std.proofs.lemmas.List.{take_more, length-take-le}
+use Rattle.std.proofs.lemmas.List.{map-append, take_more, length-take-le}
 use Rattle.std.proofs.Math.ListN.{drop_of_length-le}
-use Rattle.std.proofs.lemmas.Bool.Decides.{nat_tests}
 use Rattle.std.specs.List.{AllByRecursion}
 use Rattle.batcher_core.proofs.Words.{Entry, Receipt}
 use Rattle.seq_objects.specs.Pairs.{AreDistinct}
 use Rattle.batch_history.specs.Book.{flat}
 use Rattle.batcher_core.specs.Operations.{Place, place_in, or_else, place_of}
 use Rattle.batcher_core.specs.Code.Batches.{receipt_at}
-use Rattle.batcher_core.proofs.BookLemmas.Books.{or_else_none, place_append, found_entry, found_in_book, flat_append}
-
--- which of the first entry and the rest is found
-leaf_there : (m u : ℕ) (a : Place) (o : Option Place) → m ≡ u → (if m == u then Some a else o) ≡ Some a
-leaf_there m u a o e = grind (arith, nat_tests)
-
-leaf_apart : (m u : ℕ) (a : Place) (o : Option Place) → m ≢ u → (if m == u then Some a else o) ≡ o
-leaf_apart m u a o e = grind (arith, nat_tests)
+use Rattle.batcher_core.proofs.BookLemmas.Books.{takes, skips, or_else_none, place_append, found_entry, found_in_book, flat_append}
+use Rattle.batcher_core.proofs.BookLemmas.EntryLists.{distinct_front}
 
 module _ (k : ℕ) (entries : List Entry) (u n : ℕ) (d : Entry) (below : n < length entries) where
   abbrev place : Place
@@ -30,11 +23,11 @@ module _ (k : ℕ) (entries : List Entry) (u n : ℕ) (d : Entry) (below : n < l
 
   -- the entry at a place is of the leaf
   pub found_here : (get_or entries n d).leaf ≡ u → place_in k n (drop n entries) u ≡ Some place
-  found_here e = opened ∙ leaf_there (get_or entries n d).leaf u place (place_in k (n + 1) (drop (n + 1) entries) u) e
+  found_here e = opened ∙ takes (get_or entries n d).leaf u place (place_in k (n + 1) (drop (n + 1) entries) u) e
 
   -- or it is not
   pub passed_here : (get_or entries n d).leaf ≢ u → place_in k n (drop n entries) u ≡ place_in k (n + 1) (drop (n + 1) entries) u
-  passed_here e = opened ∙ leaf_apart (get_or entries n d).leaf u place (place_in k (n + 1) (drop (n + 1) entries) u) e
+  passed_here e = opened ∙ skips (get_or entries n d).leaf u place (place_in k (n + 1) (drop (n + 1) entries) u) e
 
 -- there is nothing past the end
 pub passed_all : (k : ℕ) (entries : List Entry) (u n : ℕ) → length entries ≤ n → place_in k n (drop n entries) u ≡ None
@@ -58,15 +51,6 @@ apart : (xs ys : List Entry) → AreDistinct (map (λ (e : Entry). e.leaf) (xs +
     → AllByRecursion (λ (a : Entry). AllByRecursion (λ (b : Entry). a.leaf ≢ b.leaf) ys) xs
 apart [] ys h = tt
 apart (x ∷ xs) ys h = (behind x xs ys h.0, apart xs ys h.1)
-
--- what holds of the leaves of two lists holds of those of the first
-before : (P : ℕ → Type 0) (xs ys : List Entry) → AllByRecursion P (map (λ (e : Entry). e.leaf) (xs ++ ys)) → AllByRecursion P (map (λ (e : Entry). e.leaf) xs)
-before P [] ys h = tt
-before P (x ∷ xs) ys h = (h.0, before P xs ys h.1)
-
-distinct_front : (xs ys : List Entry) → AreDistinct (map (λ (e : Entry). e.leaf) (xs ++ ys)) → AreDistinct (map (λ (e : Entry). e.leaf) xs)
-distinct_front [] ys h = tt
-distinct_front (x ∷ xs) ys h = (before (λ l. x.leaf ≢ l) xs ys h.0, distinct_front xs ys h.1)
 
 -- A leaf that is found in one batch is found in none before it, where no leaf stands twice.
 not_before : (bs : List (List Entry)) (b : List Entry) (u k : ℕ) (p q : Place) → AreDistinct (map (λ (e : Entry). e.leaf) (flat bs ++ b))
@@ -129,4 +113,6 @@ module _ (bs : List (List Entry)) (u n : ℕ) (b : List Entry) (below : n < leng
   passed_back found e none = rw one_less (place_not_last (take n bs) b u (rw here (none_place (place_in n 0 b u) (rw e at none))))
 
   pub distinct_back : AreDistinct (map (λ (e : Entry). e.leaf) (flat (take (n + 1) bs))) → AreDistinct (map (λ (e : Entry). e.leaf) (flat (take n bs)))
-  distinct_back distinct = distinct_front (flat (take n bs)) b (rw all_less at distinct)
+  distinct_back distinct =
+      let both = rw all_less at distinct in
+      distinct_front (map (λ (e : Entry). e.leaf) (flat (take n bs))) (map (λ (e : Entry). e.leaf) b) (rw map-append at both)

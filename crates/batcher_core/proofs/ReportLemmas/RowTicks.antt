@@ -1,7 +1,6 @@
 -- The starts and ends of the rows of a run that has ended are the numbers below twice the leaves, each once.
-use Rattle.std.proofs.Common.{ℕ, zero, suc, ◌≡◌, ◌≢◌, ◌<◌, ◌≤◌, ◌+◌, ◌*◌, ◌⊎◌, inl, inr, false, List, [], ◌∷◌, Contains, arith, sym, subst, ◌∙◌, ap, eqb, eqb-true}
-use Rattle.std.specs.List.{AllByRecursion, IsDistinct}
-use Rattle.std.proofs.lemmas.Bool.Decides.{nat_tests}
+use Rattle.std.proofs.Common.{ℕ, zero, suc, ◌≡◌, ◌≢◌, ◌<◌, ◌≤◌, ◌+◌, ◌*◌, ◌⊎◌, inl, inr, List, [], ◌∷◌, Contains, arith, sym, subst, ◌∙◌, ap, eqb-true}
+use Rattle.std.specs.List.{AllByRecursion}
 use Rattle.std.proofs.lemmas.Cmp.{nat_eq_equiv}
 use Rattle.std.proofs.lemmas.Map.Steps.{length-le_from_distinct_below, le-length_from_below}
 use Rattle.std.proofs.lemmas.Map.Views.{Contains-from_any, list_any-from_Contains}
@@ -11,20 +10,10 @@ use Rattle.batch_history.specs.declared.row.Row.{Row}
 use Rattle.batcher_core.proofs.Words.{Ran, Idle, CoreJob, State}
 use Rattle.batcher_core.specs.Invariant.Ticks.{IsStartedAs, Draw, start_of, end_of, start_by, end_by, IsDrawn}
 use Rattle.batcher_core.specs.Reports.{IsRowOf}
-use Rattle.batcher_core.proofs.BookLemmas.EntryLists.{each_so, each_at}
+use Rattle.batcher_core.proofs.BookLemmas.EntryLists.{each_so, each_at, distinct_tests}
 use Rattle.batcher_core.proofs.ReportLemmas.EndedRuns.{IsEnded}
 use Rattle.batcher_core.proofs.ReportLemmas.RowLists.{AreRowsOf, each_got, row_is, row_there, ticks_length, ticks_in}
 use Rattle.batcher_core.proofs.ReportLemmas.OneReport.{same_ran}
-
--- a number that is apart from others is so by the test
-test_apart : (x : ℕ) (ys : List ℕ) → AllByRecursion (λ y. x ≢ y) ys → AllByRecursion (λ y. eqb x y ≡ false) ys
-test_apart x ys apart = each_so (λ y. x ≢ y) (λ y. eqb x y ≡ false) (λ y h. grind (arith, nat_tests)) ys apart
-
--- numbers that are distinct are so by their test
-test_distinct : (xs : List ℕ) → AreDistinct xs → IsDistinct eqb xs
-unfolding IsDistinct
-test_distinct [] distinct = tt
-test_distinct (x ∷ xs) distinct = (test_apart x xs distinct.0, test_distinct xs distinct.1)
 
 module _ (job : CoreJob) (total : ℕ) (s : State) (h : IsEnded job total s) where
   -- the tick is the start or the end of the leaf
@@ -135,7 +124,7 @@ module _ (job : CoreJob) (total : ℕ) (s : State) (h : IsEnded job total s) whe
     -- so there are two for each leaf
     tick_is : s.tick ≡ 2 * total
     tick_is =
-        let most = length-le_from_distinct_below (ticks_of rows) s.tick (test_distinct (ticks_of rows) distinct)
+        let most = length-le_from_distinct_below (ticks_of rows) s.tick (distinct_tests (ticks_of rows) distinct)
         (λ q found. each_at (λ t. t < s.tick) (ticks_of rows) q ticks_below (Contains-from_any eqb-true q (ticks_of rows) found)) in
         let least = le-length_from_below (ticks_of rows) s.tick (λ q low. list_any-from_Contains nat_eq_equiv q (ticks_of rows) (tick_in q low)) in
         omega (arith, most, least, ticks_length rows 0 total of)

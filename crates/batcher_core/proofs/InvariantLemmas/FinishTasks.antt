@@ -242,9 +242,10 @@ module _ (plan : Nodes) (node : ℕ → Progress) (mark : ℕ → ℕ) (task : �
         marks = λ q k m e. grind (arith, nat_tests, h.marks q k m e, laws.left_of_par q k m e, laws.right_of_par q k m e, laws.apart q k m e);
       }
 
-  -- nobody holds a block at which the second side arrives
-  pub second_free : (p l r n : ℕ) → task w ≡ Whole n → plan.kind p ≡ Some (ParNode l r) → IsSide plan p n → mark p ≡ 1 → holder p ≡ None
-  second_free p l r n mine par side one =
+  -- as the second side arrives at a block, the block is taken, both its sides are done, and nobody holds it
+  second_finds : (p l r n : ℕ) → task w ≡ Whole n → plan.kind p ≡ Some (ParNode l r) → IsSide plan p n → mark p ≡ 1
+      → (node p ≡ Taken) × (is_done (node l) ≡ true) × (is_done (node r) ≡ true) × (holder p ≡ None)
+  second_finds p l r n mine par side one =
       let mine' : TaskFits plan node mark (Whole n) = rw mine at (h.fits w) in
       let which : (n ≡ l) ⊎ (n ≡ r) = par_side p l r n par side in
       let lr : l ≢ r = laws.apart p l r par in
@@ -254,26 +255,30 @@ module _ (plan : Nodes) (node : ℕ → Progress) (mark : ℕ → ℕ) (task : �
       let counted : mark p ≡ passed_if (is_done (node l)) (holder l) + passed_if (is_done (node r)) (holder r) = h.marks p l r par in
       let both : (is_done (node l) ≡ true) × (is_done (node r) ≡ true) = grind arith in
       let side_l : IsSide plan p l = ap parent_of (laws.left_of_par p l r par) in
-      unnamed p (λ v. par_busy plan node mark p l r par side_l both.0 both.1 taken (grind arith) (task v) (h.fits v))
+      (taken, both.0, both.1, unnamed p (λ v. par_busy plan node mark p l r par side_l both.0 both.1 taken (grind arith) (task v) (h.fits v)))
+
+  pub second_free : (p l r n : ℕ) → task w ≡ Whole n → plan.kind p ≡ Some (ParNode l r) → IsSide plan p n → mark p ≡ 1 → holder p ≡ None
+  second_free p l r n mine par side one = (second_finds p l r n mine par side one).3
 
   -- the second side of a Par arrives: the worker is handed the Par
   pub arrive_second : (p l r n : ℕ) → task w ≡ Whole n → plan.kind p ≡ Some (ParNode l r) → IsSide plan p n → mark p ≡ 1
       → InductiveTasks plan node (put mark p 2) (put task w (Handed p)) (put (put holder n None) p (Some w))
   arrive_second p l r n mine par side one =
       let mine' : TaskFits plan node mark (Whole n) = rw mine at (h.fits w) in
+      let found = second_finds p l r n mine par side one in
+      let taken : node p ≡ Taken = found.0 in
+      let left : is_done (node l) ≡ true = found.1 in
+      let right : is_done (node r) ≡ true = found.2 in
+      let free : holder p ≡ None = found.3 in
       let which : (n ≡ l) ⊎ (n ≡ r) = par_side p l r n par side in
       let lr : l ≢ r = laws.apart p l r par in
-      let taken : node p ≡ Taken = grind arith in
       let after_n : plan.after n ≡ Arrive p = grind (arith, laws.left_of_par p l r par, laws.right_of_par p l r par) in
       let held : holder n ≡ Some w = h.holders.named w n (rw mine refl) in
-      let counted : mark p ≡ passed_if (is_done (node l)) (holder l) + passed_if (is_done (node r)) (holder r) = h.marks p l r par in
-      let both : (is_done (node l) ≡ true) × (is_done (node r) ≡ true) = grind arith in
       let side_l : IsSide plan p l = ap parent_of (laws.left_of_par p l r par) in
-      let free : holder p ≡ None = unnamed p (λ v. par_busy plan node mark p l r par side_l both.0 both.1 taken (grind arith) (task v) (h.fits v)) in
       record {
         holders = move_task task holder w n p (Handed p) h.holders (rw mine refl) refl free;
         fits = put_each (TaskFits plan node (put mark p 2)) task w (Handed p) (l, r, par, taken, put_at mark p p 2 refl)
-            (λ v other. arrive_task plan node mark p 2 (task v) (λ e. par_busy plan node mark p l r par side_l both.0 both.1 taken (grind arith) (task v) (h.fits v) (rw e refl)) (h.fits v));
+            (λ v other. arrive_task plan node mark p 2 (task v) (λ e. par_busy plan node mark p l r par side_l left right taken (grind arith) (task v) (h.fits v) (rw e refl)) (h.fits v));
         alone = λ q t nobody. hand_alone node mark holder n p w 2 (plan.kind q) q (grind (arith, nat_tests)) (λ k m e. grind (arith, laws.left_of_seq q k m e)) (λ k m e. grind (arith, laws.right_of_seq q k m e))
             (h.alone q t (grind (arith, nat_tests)));
         marks = λ q k m e. grind (arith, nat_tests, h.marks q k m e, laws.left_of_par q k m e, laws.right_of_par q k m e, laws.apart q k m e);

@@ -30,15 +30,32 @@ answer_row job book t st c took told r has hasnt receipt h = grind arith
 take_row : (job : CoreJob) (book : List (List Entry)) (t : Task) (st : Status) (c : CallState) (b : Bool) → st ≡ Pending → StatusFits job book t st c b → StatusFits job book t Executing c true
 take_row job book t st c b pending h = grind arith
 
--- the rows of all workers
-two_rows : (job : CoreJob) (book : List (List Entry)) (task : ℕ → Task) (status : ℕ → Status) (call : ℕ → CallState) (taken taken' : ℕ → Bool) (w : ℕ) (st : Status) (c : CallState)
-    → ((v : ℕ) → StatusFits job book (task v) (status v) (call v) (taken v))
-    → StatusFits job book (task w) st c (taken' w) → ((v : ℕ) → v ≢ w → taken' v ≡ taken v)
-    → (v : ℕ) → StatusFits job book (task v) (put status w st v) (put call w c v) (taken' v)
-two_rows job book task status call taken taken' w st c h here same v = elim (cases_eq v w) [
+-- the rows of all workers, where the status and the call of one change
+two_rows : (job : CoreJob) (book : List (List Entry)) (task : ℕ → Task) (status : ℕ → Status) (call : ℕ → CallState) (taken : ℕ → Bool) (w : ℕ) (st : Status) (c : CallState)
+    → ((v : ℕ) → StatusFits job book (task v) (status v) (call v) (taken v)) → StatusFits job book (task w) st c (taken w)
+    → (v : ℕ) → StatusFits job book (task v) (put status w st v) (put call w c v) (taken v)
+two_rows job book task status call taken w st c h here v = elim (cases_eq v w) [
   | inl e ↦ rw (e, put_at status w w st refl, put_at call w w c refl) here
-  | inr e ↦ rw (put_other status w v st e, put_other call w v c e, same v e) (h v)
+  | inr e ↦ rw (put_other status w v st e, put_other call w v c e) (h v)
 ]
+
+-- all that is carried, after an event that changes statuses, calls and the hold alone, and not who is in the book
+gate_keeps : (job : CoreJob) (s : State) (status : ℕ → Status) (call : ℕ → CallState) (hold : Option Hold) → InductiveParts job s
+    → ((v : ℕ) → StatusFits job s.book (s.task v) (status v) (call v) (is_taken_by hold v)) → HoldInvariant job.workers status call hold
+    → ((x : Progress) (o : Option ℕ) → booked_by x o s.task status call (is_published hold) ≡ booked_by x o s.task s.status s.call (is_published s.hold))
+    → InductiveParts job (record s { status = status; call = call; hold = hold })
+gate_keeps job s status call hold h rows holds same = record {
+  holder = h.holder;
+  nodes = h.nodes;
+  tasks = h.tasks;
+  beyond = h.beyond;
+  ticks = h.ticks;
+  statuses = rows;
+  hold = holds;
+  book = h.book;
+  booked = λ n leaf is call. h.booked n leaf is call ∙ sym (same (s.node n) (h.holder n));
+  values = h.values;
+}
 
 -- a post changes not who is in the book
 post_booked : (x : Progress) (o : Option ℕ) (task : ℕ → Task) (status : ℕ → Status) (call : ℕ → CallState) (b : Bool) (w : ℕ) → status w ≡ Free → call w ≡ NotCalled
@@ -56,19 +73,12 @@ post_hold workers status call w (Some hd) called h = (grind (arith, nat_tests), 
 
 -- a post
 pub post_keeps : (job : CoreJob) (s : State) (w n t : ℕ) → InductiveParts job s → Needs job s w (Post n t) → InductiveParts job (record s { status = put s.status w Pending; call = put s.call w Out })
-post_keeps job s w n t h needs = record {
-  holder = h.holder;
-  nodes = h.nodes;
-  tasks = h.tasks;
-  beyond = h.beyond;
-  ticks = h.ticks;
-  statuses = two_rows job s.book s.task s.status s.call (is_taken_by s.hold) (is_taken_by s.hold) w Pending Out h.statuses
-      (post_row job s.book (s.task w) (s.status w) (s.call w) (is_taken_by s.hold w) (at_call job s.book (s.task w) n t needs.1 needs.2) needs.0 needs.3 (h.statuses w)) (λ v e. refl);
-  hold = post_hold job.workers s.status s.call w s.hold needs.3 h.hold;
-  book = h.book;
-  booked = λ m u leaf call. h.booked m u leaf call ∙ sym (post_booked (s.node m) (h.holder m) s.task s.status s.call (is_published s.hold) w needs.0 needs.3);
-  values = h.values;
-}
+post_keeps job s w n t h needs =
+    gate_keeps job s (put s.status w Pending) (put s.call w Out) s.hold h
+    (two_rows job s.book s.task s.status s.call (is_taken_by s.hold) w Pending Out h.statuses
+    (post_row job s.book (s.task w) (s.status w) (s.call w) (is_taken_by s.hold w) (at_call job s.book (s.task w) n t needs.1 needs.2) needs.0 needs.3 (h.statuses w)))
+    (post_hold job.workers s.status s.call w s.hold needs.3 h.hold)
+    (λ x o. post_booked x o s.task s.status s.call (is_published s.hold) w needs.0 needs.3)
 
 -- a new hold changes not who is in the book
 win_booked : (x : Progress) (o : Option ℕ) (task : ℕ → Task) (status : ℕ → Status) (call : ℕ → CallState) (h : Option Hold) (w : ℕ) → h ≡ None
@@ -77,18 +87,10 @@ win_booked x o task status call h w e = grind arith
 
 -- the flag is won
 pub win_keeps : (job : CoreJob) (s : State) (w : ℕ) → InductiveParts job s → Needs job s w Win → InductiveParts job (record s { hold = Some (new_hold w) })
-win_keeps job s w h needs = record {
-  holder = h.holder;
-  nodes = h.nodes;
-  tasks = h.tasks;
-  beyond = h.beyond;
-  ticks = h.ticks;
-  statuses = λ v. rw needs.2 at (h.statuses v);
-  hold = (needs.1, omega arith, λ u e. cc, λ e. cc, λ e. cc, λ u e. cc, λ u e. cc, λ l. absurd (omega arith));
-  book = h.book;
-  booked = λ m u leaf call. h.booked m u leaf call ∙ sym (win_booked (s.node m) (h.holder m) s.task s.status s.call s.hold w needs.2);
-  values = h.values;
-}
+win_keeps job s w h needs =
+    gate_keeps job s s.status s.call (Some (new_hold w)) h (λ v. rw needs.2 at (h.statuses v))
+    (needs.1, omega arith, λ u e. cc, λ e. cc, λ e. cc, λ u e. cc, λ u e. cc, λ l. absurd (omega arith))
+    (λ x o. win_booked x o s.task s.status s.call s.hold w needs.2)
 
 -- an answer
 answer_booked : (x : Progress) (o : Option ℕ) (task : ℕ → Task) (status : ℕ → Status) (call : ℕ → CallState) (b : Bool) (u : ℕ) (r : Receipt) → status u ≡ Executing → b ≡ true
@@ -143,21 +145,13 @@ answer_keeps job s w u r h needs =
     let hold : HoldInvariant job.workers s.status s.call (Some hd) = rw there at h.hold in
     let rows : (v : ℕ) → StatusFits job s.book (s.task v) (s.status v) (s.call v) (is_taken_by (Some hd) v) = λ v. rw there at (h.statuses v) in
     let ex : s.status u ≡ Executing = taken_executing job s.book (s.task u) (s.status u) (s.call u) (hd.taken u && not (hd.answered u)) (taken_yes hd u needs.3 needs.4) (rows u) in
-    record {
-      holder = h.holder;
-      nodes = h.nodes;
-      tasks = h.tasks;
-      beyond = h.beyond;
-      ticks = h.ticks;
-      statuses = rw there (one_row job s.book s.task s.status s.call (is_taken_by (Some hd)) (is_taken_by (answered (Some hd) u)) u (Served r) rows
-          (rw (put_at hd.answered u u true refl) (answer_row job s.book (s.task u) (s.status u) (s.call u) (hd.taken u) (hd.answered u) r needs.3 needs.4
-          (started_receipt job s.book (s.task u) needs.5.0 needs.5.2.1 r needs.5.2.2 (rw needs.5.2.0 needs.5.3)) (rows u)))
-          (other_answer hd u));
-      hold = rw there (answer_hold job.workers s.status s.call hd u r needs.2 needs.3 hold);
-      book = h.book;
-      booked = λ m v leaf call. rw there (rw there at (h.booked m v leaf call) ∙ sym (answer_booked (s.node m) (h.holder m) s.task s.status s.call hd.published u r ex needs.2));
-      values = h.values;
-    }
+    gate_keeps job s (put s.status u (Served r)) s.call (answered s.hold u) h
+    (rw there (one_row job s.book s.task s.status s.call (is_taken_by (Some hd)) (is_taken_by (answered (Some hd) u)) u (Served r) rows
+    (rw (put_at hd.answered u u true refl) (answer_row job s.book (s.task u) (s.status u) (s.call u) (hd.taken u) (hd.answered u) r needs.3 needs.4
+    (started_receipt job s.book (s.task u) needs.5.0 needs.5.2.1 r needs.5.2.2 (rw needs.5.2.0 needs.5.3)) (rows u)))
+    (other_answer hd u)))
+    (rw there (answer_hold job.workers s.status s.call hd u r needs.2 needs.3 hold))
+    (λ x o. rw there (answer_booked x o s.task s.status s.call hd.published u r ex needs.2))
 
 -- a look that takes changes not who is in the book
 take_booked : (x : Progress) (o : Option ℕ) (job : CoreJob) (book : List (List Entry)) (task : ℕ → Task) (status : ℕ → Status) (call : ℕ → CallState) (u : ℕ) (taken : Bool) → status u ≡ Pending
@@ -228,18 +222,8 @@ take_keeps job s w u h needs =
     let hd : Hold = needs.0 in
     let there : s.hold ≡ Some hd = needs.1.0 in
     let all = pending_row job s hd u (is_pending (s.status u)) refl (omega (arith, needs.2, needs.3)) needs.2 (rw there at h.hold) (λ v. rw there at (h.statuses v)) in
-    record {
-      holder = h.holder;
-      nodes = h.nodes;
-      tasks = h.tasks;
-      beyond = h.beyond;
-      ticks = h.ticks;
-      statuses = rw there all.0;
-      hold = rw there all.1;
-      book = h.book;
-      booked = λ m v leaf call. rw there (rw there at (h.booked m v leaf call) ∙ sym (all.2 (s.node m) (h.holder m)));
-      values = h.values;
-    }
+    gate_keeps job s (if is_pending (s.status u) then put s.status u Executing else s.status) s.call (looked s.hold (is_pending (s.status u)) u) h
+    (rw there all.0) (rw there all.1) (λ x o. rw there (all.2 x o))
 
 -- a worker leaves
 leave_booked : (x : Progress) (o : Option ℕ) (task : ℕ → Task) (status : ℕ → Status) (call : ℕ → CallState) (b : Bool) (w : ℕ) (r : Receipt) → status w ≡ Served r
@@ -256,19 +240,12 @@ leave_hold workers status call w r (Some hd) other h =
 
 -- a worker leaves its call
 pub leave_keeps : (job : CoreJob) (s : State) (w : ℕ) (r : Receipt) → InductiveParts job s → Needs job s w (Leave r) → InductiveParts job (record s { status = put s.status w Free; call = put s.call w (Got r) })
-leave_keeps job s w r h needs = record {
-  holder = h.holder;
-  nodes = h.nodes;
-  tasks = h.tasks;
-  beyond = h.beyond;
-  ticks = h.ticks;
-  statuses = two_rows job s.book s.task s.status s.call (is_taken_by s.hold) (is_taken_by s.hold) w Free (Got r) h.statuses
-      (leave_row job s.book (s.task w) (s.status w) (s.call w) (is_taken_by s.hold w) r needs.0 (h.statuses w)) (λ v e. refl);
-  hold = leave_hold job.workers s.status s.call w r s.hold needs.1 h.hold;
-  book = h.book;
-  booked = λ m u leaf call. h.booked m u leaf call ∙ sym (leave_booked (s.node m) (h.holder m) s.task s.status s.call (is_published s.hold) w r needs.0);
-  values = h.values;
-}
+leave_keeps job s w r h needs =
+    gate_keeps job s (put s.status w Free) (put s.call w (Got r)) s.hold h
+    (two_rows job s.book s.task s.status s.call (is_taken_by s.hold) w Free (Got r) h.statuses
+    (leave_row job s.book (s.task w) (s.status w) (s.call w) (is_taken_by s.hold w) r needs.0 (h.statuses w)))
+    (leave_hold job.workers s.status s.call w r s.hold needs.1 h.hold)
+    (λ x o. leave_booked x o s.task s.status s.call (is_published s.hold) w r needs.0)
 
 -- the flag is released
 pub no_more : (job : CoreJob) (book : List (List Entry)) (t : Task) (st : Status) (c : CallState) (took told : Bool) → (took ≡ true → told ≡ true) → StatusFits job book t st c (took && not told) → StatusFits job book t st c false × (st ≢ Executing)
@@ -286,15 +263,5 @@ release_keeps job s w h needs =
     let there : s.hold ≡ Some hd = needs.1.0 in
     let rows : (v : ℕ) → StatusFits job s.book (s.task v) (s.status v) (s.call v) false × (s.status v ≢ Executing) =
     λ v. no_more job s.book (s.task v) (s.status v) (s.call v) (hd.taken v) (hd.answered v) (needs.3 v) (rw there at (h.statuses v)) in
-    record {
-      holder = h.holder;
-      nodes = h.nodes;
-      tasks = h.tasks;
-      beyond = h.beyond;
-      ticks = h.ticks;
-      statuses = λ v. (rows v).0;
-      hold = tt;
-      book = h.book;
-      booked = λ m u leaf call. h.booked m u leaf call ∙ sym (release_booked (s.node m) (h.holder m) s.task s.status s.call (is_published s.hold) (λ v. (rows v).1));
-      values = h.values;
-    }
+    gate_keeps job s s.status s.call None h (λ v. (rows v).0) tt
+    (λ x o. release_booked x o s.task s.status s.call (is_published s.hold) (λ v. (rows v).1))

@@ -1,14 +1,14 @@
 //! Doing an event.
 ghost use Rattle.std.specs.Prelude.{◌≡◌, ◌<◌, ℕ, IfOk};
 ghost use Rattle.sp_order.specs.Preorder.{nodes_of};
-ghost use Rattle.batcher_core.specs.State.{core_job};
+ghost use Rattle.batcher_core.specs.Code.Job.{job_of};
 ghost use Rattle.batcher_core.specs.Events.{Needs, Does};
 ghost use Rattle.batcher_core.specs.Ranges.{IsInRange};
 ghost use Rattle.batcher_core.specs.Code.Places.{IsAtEnd};
 ghost use Rattle.batcher_core.specs.Code.Abstraction.{state_of, ready_of, SameSizes};
 ghost use Rattle.batcher_core.specs.Lists.{ready_after};
 ghost use Rattle.batcher_core.specs.declared.event.Event.TheVariants.{Claim};
-ghost use Rattle.batcher_core.specs.Code.Core.{RepInvariant};
+ghost use Rattle.batcher_core.specs.Code.Core.{Represents};
 
 mod gate;
 pub(crate) mod gather;
@@ -18,10 +18,9 @@ pub(crate) mod serve;
 mod steps;
 
 use crate::event::Event;
+use crate::job::CoreJob;
 use crate::state::State;
 use crate::state::task::Task;
-use seq_objects::Act;
-use sp_order::Plan;
 use std::alloc::{AllocError, Global};
 
 impl State {
@@ -29,19 +28,17 @@ impl State {
     pub(crate) fn apply(
         &mut self,
         alloc: Global,
-        plan: &Plan,
-        acts: &[Act],
-        workers: u32,
+        job: &CoreJob,
         worker: u32,
         event: Event,
     ) -> Result<(), AllocError>
-        requires fits { RepInvariant plan.now acts.now workers self.old }
-        requires worker_in { worker < workers }
-        requires in_range { IsInRange (nodes_of plan.now).count workers event }
-        requires needs { Needs (core_job plan.now acts.now workers) (state_of self.old) worker event }
+        requires fits { Represents job.now self.old }
+        requires worker_in { worker < job.now.workers }
+        requires in_range { IsInRange (nodes_of job.now.plan).count job.now.workers event }
+        requires needs { Needs (job_of job.now) (state_of self.old) worker event }
         requires at_end { (n : ℕ) → event ≡ Claim n → (v : ℕ) → IsAtEnd n (ready_of self.old v) }
         ensures sizes { IfOk result (λ _. SameSizes self.old self.new) }
-        ensures event { IfOk result (λ _. Does (core_job plan.now acts.now workers) (state_of self.old) worker event (state_of self.new)) }
+        ensures event { IfOk result (λ _. Does (job_of job.now) (state_of self.old) worker event (state_of self.new)) }
         ensures lists { IfOk result (λ _. ready_of self.new ≡ ready_after worker event (ready_of self.old)) }
     {
         match event {
@@ -56,7 +53,7 @@ impl State {
             Event::Post { .. } => self.post(worker),
             Event::Win => self.win(worker),
             Event::Take(other) => self.take(other),
-            Event::Publish => self.publish(alloc, plan, acts, workers, worker)?,
+            Event::Publish => self.publish(alloc, job, worker)?,
             Event::Answer {
                 worker: other,
                 receipt,

@@ -1,23 +1,21 @@
 //! The choice of a worker's turn.
-ghost use Rattle.std.specs.Prelude.{◌≡◌, ◌<◌, ◌≤◌, ℕ, length, slice_index_or, Option, None, Some};
+ghost use Rattle.std.specs.Prelude.{◌≡◌, ◌<◌, ◌≤◌, ℕ, length, None, Some};
 ghost use Rattle.sp_order.specs.Preorder.{nodes_of};
-ghost use Rattle.batcher_core.specs.State.{core_job};
-ghost use Rattle.batcher_core.specs.Operations.{leaf_of, IsLeaf};
+ghost use Rattle.batcher_core.specs.Code.Job.{job_of};
 ghost use Rattle.batcher_core.specs.Choice.{choice, choice_by, choice_free, choice_run, choice_half, choice_started, choice_second, choice_parent, choice_arrive, choice_handed};
 ghost use Rattle.batcher_core.specs.Code.Abstraction.{state_of, ready_of, core_state_of};
-ghost use Rattle.batcher_core.specs.Code.Lookups.{CanChoose, MoveIn, LeafIn, claim_choice, whole_choice, work_due, steps_of as act_steps};
+ghost use Rattle.batcher_core.specs.Code.Lookups.{CanChoose, MoveIn, claim_choice, whole_choice, work_due, steps_of as act_steps};
 ghost use Rattle.seq_objects.specs.Spin.{spin_of};
-ghost use Rattle.seq_objects.specs.declared.act.Act.TheVariants.{Work};
 
 mod gate;
 pub(crate) mod receipt;
 
 use crate::event::Event;
+use crate::job::CoreJob;
 use crate::state::State;
 use crate::state::status::{CallState, Status};
 use crate::state::task::Task;
 use seq_objects::{Act, value};
-use sp_order::Plan;
 use sp_order::node::{Kind, Move};
 
 /// With a node of this kind in hand, of which nothing is done.
@@ -153,19 +151,6 @@ fn of_started(act: Act, call: CallState, node: u32, start: u64, work: u64) -> Op
     }
 }
 
-/// What the leaf at this node does.
-fn act_at(plan: &Plan, acts: &[Act], node: u32) -> Act
-    requires node_in { node < (nodes_of plan.now).count }
-    requires leaf { IsLeaf ((nodes_of plan.now).kind node) }
-    requires leaf_in { LeafIn (length acts.now) ((nodes_of plan.now).kind node) }
-    ensures { result ≡ slice_index_or acts.now (leaf_of ((nodes_of plan.now).kind node)) (Work 0) }
-{
-    match plan.kind(node) {
-        Kind::LeafNode(leaf) => acts[leaf as usize],
-        _ => Act::Work(0),
-    }
-}
-
 impl State {
     /// With nothing in hand: the newest node of the own list, or else the oldest of the next list that has one. Where
     /// no list has a node it looks at none of them.
@@ -192,40 +177,36 @@ impl State {
 
     /// With a node in hand that is done, by what is to be done then.
     #[tactic(auto, unfolding(crate::specs::Code::Abstraction::state_of))]
-    pub(crate) fn choose_whole(&self, plan: &Plan, node: u32) -> Option<Event>
-        requires node_in { node < (nodes_of plan.now).count }
-        requires marks_in { length self.now.marks.items ≡ (nodes_of plan.now).count }
-        requires moves_in { MoveIn (nodes_of plan.now).count ((nodes_of plan.now).after node) }
-        ensures { result ≡ whole_choice (nodes_of plan.now) (state_of self.now).mark ((nodes_of plan.now).after node) node }
+    pub(crate) fn choose_whole(&self, job: &CoreJob, node: u32) -> Option<Event>
+        requires node_in { node < (nodes_of job.now.plan).count }
+        requires marks_in { length self.now.marks.items ≡ (nodes_of job.now.plan).count }
+        requires moves_in { MoveIn (nodes_of job.now.plan).count ((nodes_of job.now.plan).after node) }
+        ensures { result ≡ whole_choice (nodes_of job.now.plan) (state_of self.now).mark ((nodes_of job.now.plan).after node) node }
     {
-        match plan.after(node) {
+        match job.plan.after(node) {
             Move::Root => None,
-            Move::OpenSecond(parent) => of_second(plan.kind(parent), parent),
-            Move::FinishParent(parent) => of_parent(plan.kind(parent), parent),
+            Move::OpenSecond(parent) => of_second(job.plan.kind(parent), parent),
+            Move::FinishParent(parent) => of_parent(job.plan.kind(parent), parent),
             Move::Arrive(parent) => {
-                of_arrive(plan.kind(parent), parent, self.marks[parent as usize], node)
+                of_arrive(
+                    job.plan.kind(parent),
+                    parent,
+                    self.marks[parent as usize],
+                    node,
+                )
             }
         }
     }
 
     /// How many steps of work the leaf has that the worker has started, if it has started one that works.
     #[tactic(auto, unfolding(crate::specs::Code::Abstraction::state_of))]
-    pub(crate) fn work_due(
-        &self,
-        plan: &Plan,
-        acts: &[Act],
-        workers: u32,
-        worker: u32,
-    ) -> Option<u32>
-        requires looks { CanChoose (nodes_of plan.now) acts.now workers self.now }
-        requires worker_in { worker < workers }
-        ensures { result ≡ work_due (nodes_of plan.now) acts.now ((state_of self.now).task worker) }
+    pub(crate) fn work_due(&self, job: &CoreJob, worker: u32) -> Option<u32>
+        requires looks { CanChoose job.now self.now }
+        requires worker_in { worker < job.now.workers }
+        ensures { result ≡ work_due (nodes_of job.now.plan) job.now.acts.items ((state_of self.now).task worker) }
     {
         match self.tasks[worker as usize] {
-            Task::Started { node, .. } => match plan.kind(node) {
-                Kind::LeafNode(leaf) => steps_of(acts[leaf as usize]),
-                _ => None,
-            },
+            Task::Started { node, .. } => steps_of(job.act_at(node)),
             _ => None,
         }
     }
@@ -233,51 +214,37 @@ impl State {
     /// The event that the task of a worker allows that is not trapped. The value is that of the work that is due, if
     /// some is.
     #[tactic(auto, unfolding(crate::specs::Code::Abstraction::state_of, crate::specs::Code::Abstraction::ready_of))]
-    pub(crate) fn choose_free(
-        &self,
-        plan: &Plan,
-        acts: &[Act],
-        workers: u32,
-        worker: u32,
-        work: u64,
-    ) -> Option<Event>
-        requires looks { CanChoose (nodes_of plan.now) acts.now workers self.now }
-        requires worker_in { worker < workers }
-        requires work { (steps : ℕ) → work_due (nodes_of plan.now) acts.now ((state_of self.now).task worker) ≡ Some steps → work ≡ spin_of steps }
-        ensures { result ≡ choice_free (core_job plan.now acts.now workers) (core_state_of self.now) worker ((state_of self.now).task worker) }
+    pub(crate) fn choose_free(&self, job: &CoreJob, worker: u32, work: u64) -> Option<Event>
+        requires looks { CanChoose job.now self.now }
+        requires worker_in { worker < job.now.workers }
+        requires work { (steps : ℕ) → work_due (nodes_of job.now.plan) job.now.acts.items ((state_of self.now).task worker) ≡ Some steps → work ≡ spin_of steps }
+        ensures { result ≡ choice_free (job_of job.now) (core_state_of self.now) worker ((state_of self.now).task worker) }
     {
         match self.tasks[worker as usize] {
-            Task::Idle => self.choose_claim(workers, worker),
-            Task::Run(node) => of_run(plan.kind(node), node),
-            Task::Half(node) => of_half(plan.kind(node), node),
+            Task::Idle => self.choose_claim(job.workers, worker),
+            Task::Run(node) => of_run(job.plan.kind(node), node),
+            Task::Half(node) => of_half(job.plan.kind(node), node),
             Task::Started { node, start } => {
-                let act = act_at(plan, acts, node);
+                let act = job.act_at(node);
                 of_started(act, self.calls[worker as usize], node, start, work)
             }
             Task::Kept { node, start } => Some(Event::End { node, start }),
             Task::Ended { node, start, end } => Some(Event::FinishLeaf { node, start, end }),
-            Task::Whole(node) => self.choose_whole(plan, node),
-            Task::Handed(node) => of_handed(plan.kind(node), node),
+            Task::Whole(node) => self.choose_whole(job, node),
+            Task::Handed(node) => of_handed(job.plan.kind(node), node),
         }
     }
 
     /// The event of a worker that does not have the flag, by its status.
     #[tactic(auto, unfolding(crate::specs::Code::Abstraction::state_of))]
-    fn choose_by_status(
-        &self,
-        plan: &Plan,
-        acts: &[Act],
-        workers: u32,
-        worker: u32,
-        work: u64,
-    ) -> Option<Event>
-        requires looks { CanChoose (nodes_of plan.now) acts.now workers self.now }
-        requires worker_in { worker < workers }
-        requires work { (steps : ℕ) → work_due (nodes_of plan.now) acts.now ((state_of self.now).task worker) ≡ Some steps → work ≡ spin_of steps }
-        ensures { result ≡ choice_by (core_job plan.now acts.now workers) (core_state_of self.now) worker ((state_of self.now).status worker) }
+    fn choose_by_status(&self, job: &CoreJob, worker: u32, work: u64) -> Option<Event>
+        requires looks { CanChoose job.now self.now }
+        requires worker_in { worker < job.now.workers }
+        requires work { (steps : ℕ) → work_due (nodes_of job.now.plan) job.now.acts.items ((state_of self.now).task worker) ≡ Some steps → work ≡ spin_of steps }
+        ensures { result ≡ choice_by (job_of job.now) (core_state_of self.now) worker ((state_of self.now).status worker) }
     {
         match self.statuses[worker as usize] {
-            Status::Free => self.choose_free(plan, acts, workers, worker, work),
+            Status::Free => self.choose_free(job, worker, work),
             Status::Pending => self.choose_pending(),
             Status::Executing => None,
             Status::Served(receipt) => Some(Event::Leave(receipt)),
@@ -286,22 +253,15 @@ impl State {
 
     /// The event of a worker's turn, if it has one.
     #[tactic(auto, unfolding(crate::specs::Code::Abstraction::state_of))]
-    pub(crate) fn choose(
-        &self,
-        plan: &Plan,
-        acts: &[Act],
-        workers: u32,
-        worker: u32,
-        work: u64,
-    ) -> Option<Event>
-        requires looks { CanChoose (nodes_of plan.now) acts.now workers self.now }
-        requires worker_in { worker < workers }
-        requires work { (steps : ℕ) → work_due (nodes_of plan.now) acts.now ((state_of self.now).task worker) ≡ Some steps → work ≡ spin_of steps }
-        ensures { result ≡ choice (core_job plan.now acts.now workers) (core_state_of self.now) worker }
+    pub(crate) fn choose(&self, job: &CoreJob, worker: u32, work: u64) -> Option<Event>
+        requires looks { CanChoose job.now self.now }
+        requires worker_in { worker < job.now.workers }
+        requires work { (steps : ℕ) → work_due (nodes_of job.now.plan) job.now.acts.items ((state_of self.now).task worker) ≡ Some steps → work ≡ spin_of steps }
+        ensures { result ≡ choice (job_of job.now) (core_state_of self.now) worker }
     {
         match self.hold {
-            Some(hold) if hold.worker == worker => self.choose_holding(plan, acts, workers, hold),
-            _ => self.choose_by_status(plan, acts, workers, worker, work),
+            Some(hold) if hold.worker == worker => self.choose_holding(job, hold),
+            _ => self.choose_by_status(job, worker, work),
         }
     }
 }

@@ -9,6 +9,7 @@ mod apply;
 mod choose;
 pub mod driver;
 pub mod event;
+pub mod job;
 pub mod laws;
 mod order;
 mod report;
@@ -19,6 +20,7 @@ pub mod turn;
 
 pub use driver::drive;
 pub use event::Event;
+pub use job::CoreJob;
 pub use scheduler::Core;
 pub use spun::Spun;
 pub use state::State;

@@ -11,13 +11,13 @@ ghost use Rattle.batcher_core.specs.Reports.{IsReportOf};
 ghost use Rattle.batcher_core.specs.Code.Core.{job_in, state_in, due_in, turn_answer, is_over_in, IsTurnResult, RepInvariant};
 
 use crate::event::Event;
+use crate::job::CoreJob;
 use crate::laws::report::{done_leaves_have_run, done_report_is_lawful};
 use crate::report::rows_of;
 use crate::spun::Spun;
 use crate::state::State;
 use crate::turn::Turn;
 use batch_history::{Report, Rows};
-use seq_objects::Act;
 use sp_order::laws::{plan_has_sides, plan_stands_for_tree};
 use sp_order::{Job, Plan};
 use std::alloc::{AllocError, Global};
@@ -27,9 +27,7 @@ use std::marker::Model;
 #[derive(Drop)]
 pub struct Core {
     alloc: Global,
-    plan: Plan,
-    acts: Vec<Act>,
-    workers: u32,
+    job: CoreJob,
     table: State,
     spent: bool,
 }
@@ -38,15 +36,15 @@ impl Model for Core {
     ghost use Rattle.std.specs.Prelude.{◌≡◌, ◌<◌, false};
     ghost use Rattle.std.specs.Coded.{codes};
     ghost use Rattle.sp_order.specs.TreeEncoding.{coded_tree};
-    ghost use Rattle.batcher_core.specs.Code.Core.{CoreView, RepInvariant};
+    ghost use Rattle.batcher_core.specs.Code.Core.{CoreView, Represents};
 
     ghost Value = { CoreView };
 
     ghost coded = { Prim.hlevel (codes, coded_tree) };
 
-    ghost view = { λ c. record { tree = c.plan; acts = c.acts.items; workers = c.workers; table = c.table; spent = c.spent } };
+    ghost view = { λ c. record { tree = c.job.plan; acts = c.job.acts.items; workers = c.job.workers; table = c.table; spent = c.spent } };
 
-    ghost invariant = { λ c. (0 < c.workers) × (c.spent ≡ false → RepInvariant c.plan c.acts.items c.workers c.table) };
+    ghost invariant = { λ c. (0 < c.job.workers) × (c.spent ≡ false → Represents c.job c.table) };
 }
 
 /// The value of the work that was done, or 0 where none was.
@@ -76,9 +74,11 @@ impl Core {
         let table = State::opening(alloc, plan.nodes(), workers)?;
         Ok(Core {
             alloc,
-            plan,
-            acts,
-            workers,
+            job: CoreJob {
+                plan,
+                acts,
+                workers,
+            },
             table,
             spent: false,
         })
@@ -90,8 +90,7 @@ impl Core {
         requires worker_in { worker < self.now.workers }
         ensures { result ≡ due_in self.now worker }
     {
-        self.table
-            .work_due(&self.plan, self.acts.as_slice(), self.workers, worker)
+        self.table.work_due(&self.job, worker)
     }
 
     /// The event of this worker's next turn, if it has one. The number is what the work gives that is due of the
@@ -102,9 +101,7 @@ impl Core {
         requires work { (steps : ℕ) → due_in self.now worker ≡ Some steps → work ≡ spin_of steps }
         ensures { result ≡ choice (job_in self.now) (state_in self.now) worker }
     {
-        let acts = self.acts.as_slice();
-        self.table
-            .choose(&self.plan, acts, self.workers, worker, work)
+        self.table.choose(&self.job, worker, work)
     }
 
     /// One turn of this worker. If it has started a leaf of work, it answers how many steps are due, until it is
@@ -130,11 +127,7 @@ impl Core {
         let Some(event) = self.choice(worker, value_of(&spun)) else {
             return Ok(Turn::Idle);
         };
-        let acts = self.acts.as_slice();
-        match self
-            .table
-            .apply(self.alloc, &self.plan, acts, self.workers, worker, event)
-        {
+        match self.table.apply(self.alloc, &self.job, worker, event) {
             Ok(()) => Ok(Turn::Moved),
             Err(error) => {
                 self.spent = true;
@@ -156,7 +149,7 @@ impl Core {
         ensures workers { result ≡ self.now.workers }
         ensures some { 0 < result }
     {
-        self.workers
+        self.job.workers
     }
 
     /// What a core shows that is not spent has the invariant.
@@ -189,11 +182,17 @@ impl Core {
         plan_stands_for_tree();
         done_leaves_have_run();
         done_report_is_lawful();
-        let leaf_total = self.acts.len() as u32;
+        let leaf_total = self.job.acts.len() as u32;
         let table = self.table;
-        let rows = rows_of(alloc, &self.plan, &table.nodes, &table.values, leaf_total)?;
+        let rows = rows_of(
+            alloc,
+            &self.job.plan,
+            &table.nodes,
+            &table.values,
+            leaf_total,
+        )?;
         Ok(Report {
-            workers: self.workers,
+            workers: self.job.workers,
             history: table.history,
             rows: Rows::of(rows),
         })

@@ -1,5 +1,5 @@
 -- The entries of the calls that were taken, once served, make the batch that is to be published.
-use Rattle.std.proofs.Common.{ℕ, ◌≡◌, ◌≢◌, ◌<◌, ◌≤◌, Bool, true, false, Some, List, [], ◌∷◌, map, length, arith, ◌∙◌, ap}
+use Rattle.std.proofs.Common.{ℕ, ◌≡◌, ◌≢◌, ◌<◌, ◌≤◌, Bool, true, false, Some, List, [], ◌∷◌, map, length, arith, refl, ◌∙◌, ap}
 use Rattle.std.specs.Prelude.{Contains}
 use Rattle.std.specs.List.{AllByRecursion}
 use Rattle.std.proofs.lemmas.List.{length-map}
@@ -57,6 +57,12 @@ module _ (job : CoreJob) (s : State) (hd : Hold) (h : InductiveParts job s) (the
   taken_at_call unpublished w took =
       let fits : StatusFits job s.book (s.task w) (s.status w) (s.call w) (is_taken_by (Some hd) w) = rw there at (h.statuses w) in
       executing_at_call job s.book (s.task w) (s.status w) (s.call w) (is_taken_by (Some hd) w) fits (executing job s hd w there unpublished hold_stands fits took)
+
+  -- until then no worker is answered
+  pub owed_before : hd.published ≡ false → (w : ℕ) → hd.taken w ≡ true → is_taken_by s.hold w ≡ true
+  owed_before unpublished w took =
+      let answered : hd.answered w ≡ false = grind (arith, hold_stands.6 w) in
+      let owed : is_taken_by (Some hd) w ≡ true = rw (took, answered) refl in rw there owed
 
   -- there are no more calls than workers
   pub few_calls : (calls : List Call) → AreTakenCalls job s.task hd.taken calls → length calls ≤ job.workers

@@ -10,13 +10,13 @@ use Rattle.batcher_core.specs.declared.state.hold.Hold.{Hold as StoredHold}
 use Rattle.batcher_core.specs.declared.state.State.{State as StoredState}
 use Rattle.batcher_core.specs.State.{Hold, core_job}
 use Rattle.batcher_core.specs.Events.{Needs, IsBatchOf}
-use Rattle.batcher_core.specs.Invariant.Statuses.{IsAtCall}
+use Rattle.batcher_core.specs.Invariant.Statuses.{IsAtCall, is_taken_by}
 use Rattle.batcher_core.specs.Code.Batches.{AreTakenCalls, AreEntriesOf}
 use Rattle.batcher_core.specs.Code.Places.{at}
 use Rattle.batcher_core.specs.Code.Abstraction.{hold_view, hold_of, state_of, CounterFits}
 use Rattle.batcher_core.specs.Code.Core.{RepInvariant}
 use Rattle.batcher_core.proofs.BookLemmas.Room.{counter_room}
-use Rattle.batcher_core.proofs.BatchLemmas.Made.{taken_at_call, few_calls, batch_made}
+use Rattle.batcher_core.proofs.BatchLemmas.Made.{taken_at_call, owed_before, few_calls, batch_made}
 use Rattle.batcher_core.proofs.BatchLemmas.History.{history_made}
 use Rattle.batcher_core.proofs.Inductive.FromParts.{kept_parts}
 
@@ -41,6 +41,9 @@ module _ (tree : Tree) (acts : List Act) (workers : ℕ) (t : StoredState) (hold
 
   pub at_call : (v : ℕ) → at hold.taken false v ≡ true → IsAtCall (core_job tree acts workers) ((state_of t).task v)
   at_call v took = taken_at_call (core_job tree acts workers) (state_of t) (hold_view hold) (kept_parts tree acts workers t h) (held t hold there) unpublished v took
+
+  pub taken_owed : (v : ℕ) → at hold.taken false v ≡ true → is_taken_by (state_of t).hold v ≡ true
+  taken_owed v took = owed_before (core_job tree acts workers) (state_of t) (hold_view hold) (kept_parts tree acts workers t h) (held t hold there) unpublished v took
 
   module _ (calls : List Call) (taken : AreTakenCalls (core_job tree acts workers) (state_of t).task (at hold.taken false) calls) where
     pub room : (state_of t).objects.counter + length calls * 2 ^ 32 ≤ 2 ^ 64

@@ -2,7 +2,7 @@
 use Rattle.std.proofs.Common.{ℕ, ◌≡◌, ◌≢◌, ◌<◌, ◌≤◌, ◌+◌, Option, Some, None, arith, refl, inl, inr, sym, ◌∙◌}
 use Rattle.std.proofs.lemmas.Bool.{cases_eq, cases_lt}
 use Rattle.batcher_core.proofs.Words.{Kind, LeafNode, SeqNode, ParNode, Move, Root, OpenSecond, FinishParent, Arrive, Tree, leaf, seq, par, leaves, Nodes, node_count, OccursAt, IsPlanOf}
-use Rattle.batcher_core.specs.Code.Lookups.{LeafIn}
+use Rattle.batcher_core.specs.Code.Job.{LeafIn}
 
 -- the nodes of a tree that stands at a node hold leaves below a number
 abbrev Below : Nodes → ℕ → ℕ → ℕ → Type 0

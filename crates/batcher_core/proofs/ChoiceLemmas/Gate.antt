@@ -24,7 +24,7 @@ use Rattle.batcher_core.proofs.ChoiceLemmas.Search.{if_both, some_is_found, none
 use Rattle.batcher_core.proofs.ChoiceLemmas.Tasks.{Gives}
 
 -- what is known of a worker whose call is taken and not answered
-taken_row : (job : CoreJob) (book : List (List Entry)) (t : Task) (st : Status) (c : CallState) (b : Bool) → b ≡ true → StatusFits job book t st c b → (st ≡ Executing) × IsAtCall job t
+pub taken_row : (job : CoreJob) (book : List (List Entry)) (t : Task) (st : Status) (c : CallState) (b : Bool) → b ≡ true → StatusFits job book t st c b → (st ≡ Executing) × IsAtCall job t
 taken_row job book t st c b taken h = grind arith
 
 both_true : (a b : Bool) → (a && not b) ≡ true → (a ≡ true) × (b ≡ false)

@@ -10,13 +10,17 @@ use Rattle.batcher_core.specs.declared.state.progress.Progress.{Progress}
 use Rattle.batcher_core.specs.declared.state.task.Task.{Task}
 use Rattle.batcher_core.specs.declared.state.task.Task.TheVariants.{Idle, Run, Half, Started, Kept, Ended, Whole, Handed}
 use Rattle.batcher_core.specs.declared.state.State.{State as StoredState}
-use Rattle.batcher_core.specs.State.{core_job}
+use Rattle.batcher_core.specs.State.{CoreJob}
+use Rattle.batcher_core.specs.Code.Job.{job_of, HasLeaf, TaskIn}
+use Rattle.batcher_core.specs.Invariant.Statuses.{IsAtCall, is_taken_by}
+use Rattle.batcher_core.specs.declared.job.CoreJob.{CoreJob as StoredJob}
+use Rattle.batcher_core.proofs.ChoiceLemmas.Gate.{taken_row}
 use Rattle.batcher_core.specs.Operations.{IsLeaf}
 use Rattle.batcher_core.specs.Tasks.{names}
 use Rattle.batcher_core.specs.Invariant.Tasks.{TaskFits}
 use Rattle.batcher_core.specs.Code.Abstraction.{state_of}
-use Rattle.batcher_core.specs.Code.Lookups.{TaskIn, MoveIn, CanChoose}
-use Rattle.batcher_core.specs.Code.Core.{RepInvariant}
+use Rattle.batcher_core.specs.Code.Lookups.{MoveIn, CanChoose}
+use Rattle.batcher_core.specs.Code.Core.{Represents}
 use Rattle.batcher_core.proofs.CodeLemmas.InRange.{parent_in, named_in}
 use Rattle.batcher_core.proofs.BookLemmas.Room.{book_room}
 use Rattle.batcher_core.proofs.Inductive.FromParts.{kept_parts}
@@ -44,18 +48,32 @@ book_of : (t : StoredState) → (state_of t).book ≡ t.history
 unfolding state_of
 book_of t = refl
 
-pub looks : (tree : Tree) (acts : List Act) (workers : ℕ) (t : StoredState) → RepInvariant tree acts workers t → CanChoose (nodes_of tree) acts workers t
-looks tree acts workers t h =
-    let room = rw (book_of t) at (book_room (core_job tree acts workers) (state_of t) (kept_parts tree acts workers t h) h.calls_in) in
+-- a worker that is at a call has started a leaf
+has_leaf : (job : CoreJob) (node : ℕ → Progress) (mark : ℕ → ℕ) (task : Task) → TaskFits job.plan node mark task → IsAtCall job task → HasLeaf job.plan task
+has_leaf job node mark Idle fits call = absurd call
+has_leaf job node mark (Run n) fits call = absurd call
+has_leaf job node mark (Half n) fits call = absurd call
+has_leaf job node mark (Started n s) fits call = fits.0
+has_leaf job node mark (Kept n s) fits call = absurd call
+has_leaf job node mark (Ended n s e) fits call = absurd call
+has_leaf job node mark (Whole n) fits call = absurd call
+has_leaf job node mark (Handed n) fits call = absurd call
+
+pub looks : (job : StoredJob) (t : StoredState) → Represents job t → CanChoose job t
+looks job t h =
+    let kept = kept_parts job.plan job.acts.items job.workers t h in
+    let room = rw (book_of t) at (book_room (job_of job) (state_of t) kept h.calls_in) in
     let most = h.most in
     record {
       few = h.few;
       sizes = h.sizes;
-      tasks_in = λ w. task_in (nodes_of tree).count ((state_of t).task w) (λ n name. named_in (core_job tree acts workers) (state_of t) h.laws (kept_parts tree acts workers t h) w n name);
-      at_leaf = λ w n start e. started_leaf (nodes_of tree) (state_of t).node (state_of t).mark ((state_of t).task w) n start ((kept_parts tree acts workers t h).tasks.fits w) e;
-      moves_in = λ n. move_in (nodes_of tree) h.laws n ((nodes_of tree).after n) refl;
+      tasks_in = λ w. task_in (nodes_of job.plan).count ((state_of t).task w) (λ n name. named_in (job_of job) (state_of t) h.laws kept w n name);
+      at_leaf = λ w n start e. started_leaf (nodes_of job.plan) (state_of t).node (state_of t).mark ((state_of t).task w) n start (kept.tasks.fits w) e;
+      moves_in = λ n. move_in (nodes_of job.plan) h.laws n ((nodes_of job.plan).after n) refl;
       leaves_in = h.leaves_in;
-      leaves = rw (book_of t) at (kept_parts tree acts workers t h).book.leaves;
+      owed = λ w taken. has_leaf (job_of job) (state_of t).node (state_of t).mark ((state_of t).task w) (kept.tasks.fits w)
+          (taken_row (job_of job) (state_of t).book ((state_of t).task w) ((state_of t).status w) ((state_of t).call w) (is_taken_by (state_of t).hold w) taken (kept.statuses w)).1;
+      leaves = rw (book_of t) at kept.book.leaves;
       few_batches = omega (arith, room.0, room.1, most);
       few_entries = omega (arith, room.0, most);
     }

@@ -1,7 +1,7 @@
 -- What is known of a state whose root is done, of its leaves and its workers.
 use Rattle.std.proofs.Common.{ℕ, ◌≡◌, ◌≢◌, ◌<◌, true, None, Some, inl, refl, sym, ◌∙◌}
 use Rattle.batcher_core.proofs.Words.{LeafNode, Tree, leaves, IsPlan, IsPlanOf, Progress, Waiting, Ready, Taken, Done, Ran, Idle, CoreJob, State, is_done}
-use Rattle.batcher_core.specs.Code.Lookups.{LeafIn}
+use Rattle.batcher_core.specs.Code.Job.{LeafIn}
 use Rattle.batcher_core.specs.Invariant.{Parts}
 use Rattle.batcher_core.specs.Reports.{HasRun}
 use Rattle.batcher_core.proofs.ReportLemmas.RootDone.{each_done, each_idle}

@@ -1,13 +1,15 @@
 -- What contracts see of a core, what its table keeps to, and what its turns answer.
 use Rattle.batcher_core.specs.Choice.{choice}
 use Rattle.batcher_core.specs.Code.Abstraction.{CounterFits, Sizes, core_state_of, state_of}
-use Rattle.batcher_core.specs.Code.Lookups.{LeafIn, work_due}
+use Rattle.batcher_core.specs.Code.Job.{LeafIn}
+use Rattle.batcher_core.specs.Code.Lookups.{work_due}
 use Rattle.batcher_core.specs.Invariant.{Invariant}
 use Rattle.batcher_core.specs.Operations.{IsCall}
 use Rattle.batcher_core.specs.Runs.{IsStep}
 use Rattle.batcher_core.specs.State.{CoreJob, CoreState, core_job}
 use Rattle.batcher_core.specs.Tasks.{is_done}
 use Rattle.batcher_core.specs.declared.event.Event.{Event}
+use Rattle.batcher_core.specs.declared.job.CoreJob.{CoreJob as StoredJob}
 use Rattle.batcher_core.specs.declared.state.State.{State as StoredState}
 use Rattle.batcher_core.specs.declared.turn.Turn.{Turn}
 use Rattle.batcher_core.specs.declared.turn.Turn.TheVariants.{Idle, Moved, Spin}
@@ -53,6 +55,10 @@ pub record RepInvariant (tree : Tree) (acts : List Act) (workers : ℕ) (t : Sto
   pub sizes : Sizes t (nodes_of tree).count workers
   pub counter : CounterFits t
   pub inv : Invariant (core_job tree acts workers) (core_state_of t)
+
+-- and the same of a job as the code has it
+abbrev pub Represents : StoredJob → StoredState → Type 0
+Represents job t = RepInvariant job.plan job.acts.items job.workers t
 
 abbrev pub moved_if : Option Event → Turn
 moved_if None = Idle

@@ -2,9 +2,12 @@
 use Rattle.batch_history.specs.Book.{flat}
 use Rattle.batcher_core.specs.Choice.{choice_arrive, choice_parent, choice_second, choice_steal, last_of}
 use Rattle.batcher_core.specs.Code.Abstraction.{Sizes, state_of}
+use Rattle.batcher_core.specs.Code.Job.{HasLeaf, LeafIn, TaskIn}
+use Rattle.batcher_core.specs.Invariant.Statuses.{is_taken_by}
 use Rattle.batcher_core.specs.Operations.{IsLeaf}
 use Rattle.batcher_core.specs.declared.event.Event.{Event}
 use Rattle.batcher_core.specs.declared.event.Event.TheVariants.{Claim}
+use Rattle.batcher_core.specs.declared.job.CoreJob.{CoreJob as StoredJob}
 use Rattle.batcher_core.specs.declared.state.State.{State as StoredState}
 use Rattle.batcher_core.specs.declared.state.task.Task.{Task}
 use Rattle.batcher_core.specs.declared.state.task.Task.TheVariants.{Ended, Half, Handed, Idle, Kept, Run, Started, Whole}
@@ -12,23 +15,12 @@ use Rattle.seq_objects.specs.Pairs.{AreDistinct}
 use Rattle.seq_objects.specs.declared.act.Act.{Act}
 use Rattle.seq_objects.specs.declared.act.Act.TheVariants.{Call, Work}
 use Rattle.sp_order.specs.Plans.{Nodes}
-use Rattle.sp_order.specs.Precedence.{leaves}
+use Rattle.sp_order.specs.Preorder.{nodes_of}
 use Rattle.sp_order.specs.declared.node.Kind.{Kind}
 use Rattle.sp_order.specs.declared.node.Kind.TheVariants.{LeafNode, ParNode, SeqNode}
 use Rattle.sp_order.specs.declared.node.Move.{Move}
 use Rattle.sp_order.specs.declared.node.Move.TheVariants.{Arrive as ArriveAt, FinishParent, OpenSecond, Root}
-use Rattle.std.specs.Prelude.{List, None, Option, Some, [], length, map, slice_index_or, ℕ, ◌+◌, ◌-◌, ◌<◌, ◌^◌, ◌∷◌, ◌≡◌, ◌≤◌}
-
--- the node that a task names is below this number
-abbrev pub TaskIn : ℕ → Task → Type 0
-TaskIn nodes Idle = Unit {0}
-TaskIn nodes (Run n) = n < nodes
-TaskIn nodes (Half n) = n < nodes
-TaskIn nodes (Started n s) = n < nodes
-TaskIn nodes (Kept n s) = n < nodes
-TaskIn nodes (Ended n s e) = n < nodes
-TaskIn nodes (Whole n) = n < nodes
-TaskIn nodes (Handed n) = n < nodes
+use Rattle.std.specs.Prelude.{List, None, Option, Some, [], length, map, slice_index_or, true, ℕ, ◌+◌, ◌-◌, ◌<◌, ◌^◌, ◌∷◌, ◌≡◌, ◌≤◌}
 
 -- and so is the parent that a move names
 abbrev pub MoveIn : ℕ → Move → Type 0
@@ -37,21 +29,16 @@ MoveIn nodes (OpenSecond p) = p < nodes
 MoveIn nodes (FinishParent p) = p < nodes
 MoveIn nodes (ArriveAt p) = p < nodes
 
--- a leaf has a number below this one
-abbrev pub LeafIn : ℕ → Option Kind → Type 0
-LeafIn leaves None = Unit {0}
-LeafIn leaves (Some (LeafNode u)) = u < leaves
-LeafIn leaves (Some (SeqNode l r)) = Unit {0}
-LeafIn leaves (Some (ParNode l r)) = Unit {0}
-
 -- what the choice of a turn looks up is there
-pub record CanChoose (plan : Nodes) (acts : List Act) (workers : ℕ) (t : StoredState) : Type 0 where
-  pub few : workers ≤ 32
-  pub sizes : Sizes t plan.count workers
-  pub tasks_in : (w : ℕ) → TaskIn plan.count ((state_of t).task w)
-  pub at_leaf : (w n start : ℕ) → (state_of t).task w ≡ Started n start → IsLeaf (plan.kind n)
-  pub moves_in : (n : ℕ) → MoveIn plan.count (plan.after n)
-  pub leaves_in : (n : ℕ) → LeafIn (length acts) (plan.kind n)
+pub record CanChoose (job : StoredJob) (t : StoredState) : Type 0 where
+  pub few : job.workers ≤ 32
+  pub sizes : Sizes t (nodes_of job.plan).count job.workers
+  pub tasks_in : (w : ℕ) → TaskIn (nodes_of job.plan).count ((state_of t).task w)
+  pub at_leaf : (w n start : ℕ) → (state_of t).task w ≡ Started n start → IsLeaf ((nodes_of job.plan).kind n)
+  pub moves_in : (n : ℕ) → MoveIn (nodes_of job.plan).count ((nodes_of job.plan).after n)
+  pub leaves_in : (n : ℕ) → LeafIn (length job.acts.items) ((nodes_of job.plan).kind n)
+  -- a worker that is to be answered has started a leaf
+  pub owed : (w : ℕ) → is_taken_by (state_of t).hold w ≡ true → HasLeaf (nodes_of job.plan) ((state_of t).task w)
   -- the receipts are looked up in the book, in which no leaf stands twice
   pub leaves : AreDistinct (map (λ entry. entry.leaf) (flat t.history))
   pub few_batches : length t.history < 2 ^ 32

@@ -2,6 +2,4 @@ use Rattle.batcher_core.proofs.CodeLemmas.CoreFits.{looks}
 use Rattle.batcher_core.proofs.scheduler.Core.choice.Goals as goal
 
 pub choose-requires-clause-looks : goal.choose-requires-clause-looks
-choose-requires-clause-looks c =
-    let unspent = rw (← c.self.view_is) at c.requires.unspent in
-    rw c.as_slice-acts.ensures.value (looks c.self.inside.plan c.self.inside.acts.items c.self.inside.workers c.self.inside.table (c.self.invariant.1 unspent))
+choose-requires-clause-looks c = looks c.self.inside.job c.self.inside.table (c.self.invariant.1 (rw (← c.self.view_is) at c.requires.unspent))

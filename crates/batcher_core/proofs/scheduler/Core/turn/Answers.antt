@@ -7,34 +7,33 @@ pub returns-in_default-choice-clause-event : goal.returns-in_default-choice-clau
 returns-in_default-choice-clause-event c =
     let below = rw (← c.self.view_is) at c.requires.worker_in in
     let none = rw (← c.self.view_is) at (sym c.choice.ensures ∙ c.in_default-choice.is) in
-    rw (← c.self.view_is) (makes_none c.self.inside.plan c.self.inside.acts.items c.self.inside.workers c.self.inside.table c.args.worker (c.self.invariant.1 c.if-self.false) below none)
+    rw (← c.self.view_is) (makes_none c.self.inside.job.plan c.self.inside.job.acts.items c.self.inside.job.workers c.self.inside.table c.args.worker (c.self.invariant.1 c.if-self.false) below none)
 
 pub apply-requires-clause-in_range : goal.apply-requires-clause-in_range
 apply-requires-clause-in_range c =
     let below = rw (← c.self.view_is) at c.requires.worker_in in
     let chosen = rw (← c.self.view_is) at (sym c.choice.ensures ∙ c.in-Some-choice.is) in
-    chosen_in_range c.self.inside.plan c.self.inside.acts.items c.self.inside.workers c.self.inside.table c.args.worker (c.self.invariant.1 c.if-self.false) below c.in-Some-choice.event chosen
+    chosen_in_range c.self.inside.job.plan c.self.inside.job.acts.items c.self.inside.job.workers c.self.inside.table c.args.worker (c.self.invariant.1 c.if-self.false) below c.in-Some-choice.event chosen
 
 pub apply-requires-clause-needs : goal.apply-requires-clause-needs
 apply-requires-clause-needs c =
     let below = rw (← c.self.view_is) at c.requires.worker_in in
     let chosen = rw (← c.self.view_is) at (sym c.choice.ensures ∙ c.in-Some-choice.is) in
-    rw c.as_slice-acts.ensures.value
-    (chosen_needs c.self.inside.plan c.self.inside.acts.items c.self.inside.workers c.self.inside.table c.args.worker (c.self.invariant.1 c.if-self.false) below c.in-Some-choice.event chosen)
+    (chosen_needs c.self.inside.job.plan c.self.inside.job.acts.items c.self.inside.job.workers c.self.inside.table c.args.worker (c.self.invariant.1 c.if-self.false) below c.in-Some-choice.event chosen)
 
 pub apply-requires-clause-at_end : goal.apply-requires-clause-at_end
 apply-requires-clause-at_end c =
     let below = rw (← c.self.view_is) at c.requires.worker_in in
     let chosen = rw (← c.self.view_is) at (sym c.choice.ensures ∙ c.in-Some-choice.is) in
-    chosen_at_end c.self.inside.plan c.self.inside.acts.items c.self.inside.workers c.self.inside.table c.args.worker (c.self.invariant.1 c.if-self.false) below c.in-Some-choice.event chosen
+    chosen_at_end c.self.inside.job.plan c.self.inside.job.acts.items c.self.inside.job.workers c.self.inside.table c.args.worker (c.self.invariant.1 c.if-self.false) below c.in-Some-choice.event chosen
 
 pub invariant_of-self : goal.invariant_of-self
 invariant_of-self c =
     let below = rw (← c.self.view_is) at c.requires.worker_in in
     let chosen = rw (← c.self.view_is) at (sym c.choice.ensures ∙ c.in-Some-choice.is) in
-    let does = rw c.as_slice-acts.ensures.value at c.in-Ok.ensures.event in (
+    let does = c.in-Ok.ensures.event in (
       c.self.invariant.0,
-      λ unspent. fits_after c.self.inside.plan c.self.inside.acts.items c.self.inside.workers c.self.inside.table c.apply.new.self c.args.worker c.in-Some-choice.event
+      λ unspent. fits_after c.self.inside.job.plan c.self.inside.job.acts.items c.self.inside.job.workers c.self.inside.table c.apply.new.self c.args.worker c.in-Some-choice.event
           (c.self.invariant.1 c.if-self.false) below chosen does c.in-Ok.ensures.lists c.in-Ok.ensures.sizes,
     )
 
@@ -42,6 +41,6 @@ pub returns-in-Ok-clause-event : goal.returns-in-Ok-clause-event
 returns-in-Ok-clause-event c =
     let below = rw (← c.self.view_is) at c.requires.worker_in in
     let chosen = rw (← c.self.view_is) at (sym c.choice.ensures ∙ c.in-Some-choice.is) in
-    let does = rw c.as_slice-acts.ensures.value at c.in-Ok.ensures.event in
-    rw (← c.self.view_is) (makes_event c.self.inside.plan c.self.inside.acts.items c.self.inside.workers c.self.inside.table c.apply.new.self c.args.worker c.in-Some-choice.event
+    let does = c.in-Ok.ensures.event in
+    rw (← c.self.view_is) (makes_event c.self.inside.job.plan c.self.inside.job.acts.items c.self.inside.job.workers c.self.inside.table c.apply.new.self c.args.worker c.in-Some-choice.event
     (c.self.invariant.1 c.if-self.false) below chosen does c.in-Ok.ensures.lists)

@@ -1,0 +1,62 @@
+//! What a core runs.
+ghost use Rattle.std.specs.Prelude.{◌≡◌, ◌<◌, length};
+ghost use Rattle.sp_order.specs.Preorder.{nodes_of};
+ghost use Rattle.batcher_core.specs.Choice.{leaf_named};
+ghost use Rattle.batcher_core.specs.Operations.{leaf_of, IsLeaf};
+ghost use Rattle.batcher_core.specs.Tasks.{names};
+ghost use Rattle.batcher_core.specs.Code.Job.{job_of, leaf_at as leaf_of_kind, LeafIn, HasLeaf, TaskIn};
+
+use crate::state::task::Task;
+use seq_objects::Act;
+use sp_order::Plan;
+use sp_order::node::Kind;
+
+/// What a core runs: the nodes of a job, what its leaves do, and by how many workers.
+#[derive(Drop)]
+pub struct CoreJob {
+    pub(crate) plan: Plan,
+    /// What the leaves do, by their numbers.
+    pub(crate) acts: Vec<Act>,
+    pub(crate) workers: u32,
+}
+
+impl CoreJob {
+    /// The leaf at a node, if it is one.
+    pub(crate) fn leaf_at(&self, node: u32) -> Option<u32>
+        requires { node < (nodes_of self.now.plan).count }
+        ensures { result ≡ leaf_of_kind ((nodes_of self.now.plan).kind node) }
+    {
+        match self.plan.kind(node) {
+            Kind::LeafNode(leaf) => Some(leaf),
+            _ => None,
+        }
+    }
+
+    /// What the leaf at a node does.
+    pub(crate) fn act_at(&self, node: u32) -> Act
+        requires node_in { node < (nodes_of self.now.plan).count }
+        requires leaf { IsLeaf ((nodes_of self.now.plan).kind node) }
+        requires leaf_in { LeafIn (length self.now.acts.items) ((nodes_of self.now.plan).kind node) }
+        ensures { result ≡ (job_of self.now).act (leaf_of ((nodes_of self.now.plan).kind node)) }
+    {
+        match self.leaf_at(node) {
+            Some(leaf) => self.acts[leaf as usize],
+            None => unreachable!(),
+        }
+    }
+
+    /// The leaf that a worker with this task has started.
+    pub(crate) fn started_leaf(&self, task: Task) -> u32
+        requires task_in { TaskIn (nodes_of self.now.plan).count task }
+        requires leaf { HasLeaf (nodes_of self.now.plan) task }
+        ensures { result ≡ leaf_named (nodes_of self.now.plan) (names task) }
+    {
+        let Task::Started { node, .. } = task else {
+            unreachable!()
+        };
+        match self.leaf_at(node) {
+            Some(leaf) => leaf,
+            None => unreachable!(),
+        }
+    }
+}

@@ -129,16 +129,15 @@ fn steps_of(act: Act) -> Option<u32>
 
 /// With a leaf in hand that has started, by what it does and by what the worker knows of its call. The value is
 /// that of its work, if it is work.
-fn of_started(act: Act, call: CallState, node: u32, start: u64, work: u64) -> Option<Event>
-    requires { (steps : ℕ) → act_steps act ≡ Some steps → work ≡ spin_of steps }
+fn of_started(act: Act, call: CallState, node: u32, start: u64, work: Option<u64>) -> Option<Event>
+    requires { (steps : ℕ) → act_steps act ≡ Some steps → work ≡ Some (spin_of steps) }
     ensures { result ≡ choice_started act call node start }
 {
     match act {
-        Act::Work(_) => Some(Event::Keep {
-            node,
-            start,
-            value: work,
-        }),
+        Act::Work(_) => match work {
+            Some(value) => Some(Event::Keep { node, start, value }),
+            None => unreachable!(),
+        },
         Act::Call(_) => match call {
             CallState::NotCalled => Some(Event::Post { node, start }),
             CallState::Out => None,
@@ -214,10 +213,10 @@ impl State {
     /// The event that the task of a worker allows that is not trapped. The value is that of the work that is due, if
     /// some is.
     #[tactic(auto, unfolding(crate::specs::Code::Abstraction::state_of, crate::specs::Code::Abstraction::ready_of))]
-    pub(crate) fn choose_free(&self, job: &CoreJob, worker: u32, work: u64) -> Option<Event>
+    pub(crate) fn choose_free(&self, job: &CoreJob, worker: u32, work: Option<u64>) -> Option<Event>
         requires looks { CanChoose job.now self.now }
         requires worker_in { worker < job.now.workers }
-        requires work { (steps : ℕ) → work_due (nodes_of job.now.plan) job.now.acts.items ((state_of self.now).task worker) ≡ Some steps → work ≡ spin_of steps }
+        requires work { (steps : ℕ) → work_due (nodes_of job.now.plan) job.now.acts.items ((state_of self.now).task worker) ≡ Some steps → work ≡ Some (spin_of steps) }
         ensures { result ≡ choice_free (job_of job.now) (core_state_of self.now) worker ((state_of self.now).task worker) }
     {
         match self.tasks[worker as usize] {
@@ -237,10 +236,10 @@ impl State {
 
     /// The event of a worker that does not have the flag, by its status.
     #[tactic(auto, unfolding(crate::specs::Code::Abstraction::state_of))]
-    fn choose_by_status(&self, job: &CoreJob, worker: u32, work: u64) -> Option<Event>
+    fn choose_by_status(&self, job: &CoreJob, worker: u32, work: Option<u64>) -> Option<Event>
         requires looks { CanChoose job.now self.now }
         requires worker_in { worker < job.now.workers }
-        requires work { (steps : ℕ) → work_due (nodes_of job.now.plan) job.now.acts.items ((state_of self.now).task worker) ≡ Some steps → work ≡ spin_of steps }
+        requires work { (steps : ℕ) → work_due (nodes_of job.now.plan) job.now.acts.items ((state_of self.now).task worker) ≡ Some steps → work ≡ Some (spin_of steps) }
         ensures { result ≡ choice_by (job_of job.now) (core_state_of self.now) worker ((state_of self.now).status worker) }
     {
         match self.statuses[worker as usize] {
@@ -253,10 +252,10 @@ impl State {
 
     /// The event of a worker's turn, if it has one.
     #[tactic(auto, unfolding(crate::specs::Code::Abstraction::state_of))]
-    pub(crate) fn choose(&self, job: &CoreJob, worker: u32, work: u64) -> Option<Event>
+    pub(crate) fn choose(&self, job: &CoreJob, worker: u32, work: Option<u64>) -> Option<Event>
         requires looks { CanChoose job.now self.now }
         requires worker_in { worker < job.now.workers }
-        requires work { (steps : ℕ) → work_due (nodes_of job.now.plan) job.now.acts.items ((state_of self.now).task worker) ≡ Some steps → work ≡ spin_of steps }
+        requires work { (steps : ℕ) → work_due (nodes_of job.now.plan) job.now.acts.items ((state_of self.now).task worker) ≡ Some steps → work ≡ Some (spin_of steps) }
         ensures { result ≡ choice (job_of job.now) (core_state_of self.now) worker }
     {
         match self.hold {

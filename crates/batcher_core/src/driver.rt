@@ -55,11 +55,23 @@ fn run_round_robin(core: &mut Core) -> Result<(), AllocError>
     let workers = core.workers();
     let mut worker = 0;
     while !core.is_over() {
-        core.fits();
+        core.invariant_holds();
         take_turn(core, worker)?;
         worker = (worker + 1) % workers;
     }
     Ok(())
+}
+
+/// Takes turns by the workers of the schedule, and then round robin, until the core is over.
+fn run(core: &mut Core, schedule: &[u32]) -> Result<(), AllocError>
+    requires { AllByRecursion (λ worker. worker < core.old.workers) schedule.now }
+    ensures job { IfOk result (λ _. (core.new.tree ≡ core.old.tree) × (core.new.acts ≡ core.old.acts) × (core.new.workers ≡ core.old.workers)) }
+    ensures drives { IfOk result (λ _. Drives (job_in core.old) (state_in core.old) schedule.now 0 (state_in core.new)) }
+    ensures over { IfOk result (λ _. is_over_in core.new ≡ true) }
+    ensures spent { IfOk result (λ _. core.old.spent ≡ false) }
+{
+    run_schedule(core, schedule)?;
+    run_round_robin(core)
 }
 
 /// Takes turns until the core is over: by the workers of the schedule, and then by all workers round robin, from
@@ -72,7 +84,6 @@ pub fn drive(alloc: Global, core: Core, schedule: &[u32]) -> Result<Report, Allo
     ensures spent { IfOk result (λ _. core.spent ≡ false) }
 {
     let mut core = core;
-    run_schedule(&mut core, schedule)?;
-    run_round_robin(&mut core)?;
+    run(&mut core, schedule)?;
     core.report(alloc)
 }

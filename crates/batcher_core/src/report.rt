@@ -20,16 +20,16 @@ fn row_of(leaf: u32, progress: Progress, value: Option<u64>) -> Row
     ensures leaf { result.leaf ≡ leaf }
     ensures row { IsRowFor progress value result }
 {
-    let (worker, start, end) = match progress {
-        Progress::Ran { worker, start, end } => (worker, start, end),
-        _ => (0, 0, 0),
+    let Progress::Ran { worker, start, end } = progress else {
+        unreachable!()
     };
+    let Some(value) = value else { unreachable!() };
     Row {
         leaf,
         worker,
         start,
         end,
-        value: value.unwrap_or(0),
+        value,
     }
 }
 

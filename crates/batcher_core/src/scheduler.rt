@@ -1,5 +1,5 @@
 //! The scheduler's core.
-ghost use Rattle.std.specs.Prelude.{◌≡◌, ◌<◌, ◌≤◌, ℕ, IfOk, IfErr, IsSome, IfSome, Some, true, false, IsTrue, ◌↔◌};
+ghost use Rattle.std.specs.Prelude.{◌≡◌, ◌<◌, ◌≤◌, ℕ, IfOk, IfErr, IsSome, IfSome, Some, true, false, IsTrue, ◌↔◌, map};
 ghost use Rattle.seq_objects.specs.Spin.{spin_of};
 ghost use Rattle.batcher_core.specs.State.{opening_core};
 ghost use Rattle.batcher_core.specs.Tasks.{is_done as node_done};
@@ -7,7 +7,9 @@ ghost use Rattle.batcher_core.specs.Choice.{choice};
 ghost use Rattle.sp_order.specs.Precedence.{leaves};
 ghost use Rattle.batch_history.specs.Lawful.{Lawful};
 ghost use Rattle.batcher_core.specs.Invariant.{Invariant};
-ghost use Rattle.batcher_core.specs.Reports.{IsReportOf};
+ghost use Rattle.batcher_core.specs.Reports.{IsReportOf, TellsLeaf};
+ghost use Rattle.sp_order.specs.Preorder.{nodes_of};
+ghost use Rattle.std.specs.List.{AllByRecursion, range_with_len};
 ghost use Rattle.batcher_core.specs.Code.Core.{job_in, state_in, due_in, turn_answer, is_over_in, IsTurnResult, RepInvariant};
 
 use crate::event::Event;
@@ -17,7 +19,7 @@ use crate::report::rows_of;
 use crate::spun::Spun;
 use crate::state::State;
 use crate::turn::Turn;
-use batch_history::{Report, Rows};
+use batch_history::{Report, Row, Rows};
 use sp_order::laws::{plan_has_sides, plan_stands_for_tree};
 use sp_order::{Job, Plan};
 use std::alloc::{AllocError, Global};
@@ -47,13 +49,13 @@ impl Model for Core {
     ghost invariant = { λ c. (0 < c.job.workers) × (c.spent ≡ false → Represents c.job c.table) };
 }
 
-/// The value of the work that was done, or 0 where none was.
-fn value_of(spun: &Option<Spun>) -> u64
-    ensures { IfSome spun.now (λ s. result ≡ spin_of s) }
+/// The value of the work that was done, if some was.
+fn value_of(spun: &Option<Spun>) -> Option<u64>
+    ensures { IfSome spun.now (λ s. result ≡ Some (spin_of s)) }
 {
     match spun {
-        None => 0,
-        Some(spun) => spun.value(),
+        None => None,
+        Some(spun) => Some(spun.value()),
     }
 }
 
@@ -95,10 +97,10 @@ impl Core {
 
     /// The event of this worker's next turn, if it has one. The number is what the work gives that is due of the
     /// worker, if some is.
-    pub(crate) fn choice(&self, worker: u32, work: u64) -> Option<Event>
+    pub(crate) fn choice(&self, worker: u32, work: Option<u64>) -> Option<Event>
         requires unspent { self.now.spent ≡ false }
         requires worker_in { worker < self.now.workers }
-        requires work { (steps : ℕ) → due_in self.now worker ≡ Some steps → work ≡ spin_of steps }
+        requires work { (steps : ℕ) → due_in self.now worker ≡ Some steps → work ≡ Some (spin_of steps) }
         ensures { result ≡ choice (job_in self.now) (state_in self.now) worker }
     {
         self.table.choose(&self.job, worker, work)
@@ -152,15 +154,15 @@ impl Core {
         self.job.workers
     }
 
-    /// What a core shows that is not spent has the invariant.
+    /// The invariant, in a core that is not spent. It is for proofs, and does nothing.
     pub fn stands(&self)
         ensures { self.now.spent ≡ false → Invariant (job_in self.now) (state_in self.now) }
     {
-        self.fits();
+        self.invariant_holds();
     }
 
-    /// What a core keeps to that is not spent.
-    pub(crate) fn fits(&self)
+    /// The invariant of what a core keeps that is not spent. It is for proofs, and does nothing.
+    pub(crate) fn invariant_holds(&self)
         ensures { self.now.spent ≡ false → RepInvariant self.now.tree self.now.acts self.now.workers self.now.table }
     {
         let _ = &self.spent;
@@ -173,6 +175,24 @@ impl Core {
         !self.spent && self.table.root_done()
     }
 
+    /// The rows of the report of a core that is over.
+    fn rows(&self, alloc: Global) -> Result<Vec<Row>, AllocError>
+        requires { is_over_in self.now ≡ true }
+        ensures leaves { IfOk result (λ rows. map (λ row. row.leaf) rows.items ≡ range_with_len 0 (leaves self.now.tree)) }
+        ensures rows { IfOk result (λ rows. AllByRecursion (λ row. TellsLeaf (nodes_of self.now.tree).node_of (state_in self.now).state.node (state_in self.now).state.value row) rows.items) }
+    {
+        plan_stands_for_tree();
+        done_leaves_have_run();
+        let leaf_total = self.job.acts.len() as u32;
+        rows_of(
+            alloc,
+            &self.job.plan,
+            &self.table.nodes,
+            &self.table.values,
+            leaf_total,
+        )
+    }
+
     /// The report of a core that is over.
     pub fn report(self, alloc: Global) -> Result<Report, AllocError>
         requires { is_over_in self ≡ true }
@@ -180,19 +200,12 @@ impl Core {
         ensures lawful { IfOk result (λ report. Lawful (record { shape = Some self.tree; acts = self.acts }) self.workers report) }
     {
         plan_stands_for_tree();
-        done_leaves_have_run();
         done_report_is_lawful();
-        let leaf_total = self.job.acts.len() as u32;
+        let rows = self.rows(alloc)?;
+        let workers = self.job.workers;
         let table = self.table;
-        let rows = rows_of(
-            alloc,
-            &self.job.plan,
-            &table.nodes,
-            &table.values,
-            leaf_total,
-        )?;
         Ok(Report {
-            workers: self.job.workers,
+            workers,
             history: table.history,
             rows: Rows::of(rows),
         })

@@ -47,3 +47,9 @@ leaf_in_kind plan tree n most h len (Some (ParNode l r)) e = record {}
 
 pub leaves_in : (plan : Nodes) (tree : Tree) (most : ℕ) → IsPlanOf plan tree → leaves tree ≡ most → (n : ℕ) → LeafIn most (plan.kind n)
 leaves_in plan tree most h len n = leaf_in_kind plan tree n most h len (plan.kind n) refl
+
+-- a tree has no more leaves than nodes
+pub leaves_few : (tree : Tree) → leaves tree ≤ node_count tree
+leaves_few leaf = omega arith
+leaves_few (seq left right) = let l = leaves_few left in let r = leaves_few right in omega (arith, l, r)
+leaves_few (par left right) = let l = leaves_few left in let r = leaves_few right in omega (arith, l, r)

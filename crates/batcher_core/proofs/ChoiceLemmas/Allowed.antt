@@ -1,5 +1,5 @@
 -- What the code of an event looks up is there: the tick and the looks have room, and a node that is claimed stands at an end of its list.
-use Rattle.std.proofs.Common.{ℕ, ◌≡◌, ◌<◌, ◌+◌, ◌^◌, Option, Some, None, IfSome, List, arith, refl, sym, ◌∙◌, ap}
+use Rattle.std.proofs.Common.{ℕ, ◌≡◌, ◌<◌, ◌+◌, ◌^◌, Option, Some, None, IfSome, IsSome, List, arith, refl, sym, ◌∙◌, ap}
 use Rattle.seq_objects.specs.declared.act.Act.{Act}
 use Rattle.sp_order.specs.Precedence.{Tree}
 use Rattle.sp_order.specs.Preorder.{nodes_of}
@@ -27,6 +27,14 @@ tick_of t = refl
 held : (t : StoredState) → (state_of t).hold ≡ hold_of t.hold
 unfolding state_of
 held t = refl
+
+some_held : (o : Option StoredHold) (hd : Hold) → hold_of o ≡ Some hd → IsSome o
+some_held None hd is = cc
+some_held (Some h) hd is = refl
+
+-- where the state has a hold, so has what it is kept in
+pub held_by_needs : (t : StoredState) (hd : Hold) → (state_of t).hold ≡ Some hd → IsSome t.hold
+held_by_needs t hd is = some_held t.hold hd (sym (held t) ∙ is)
 
 abbrev looks_of : Option Hold → ℕ
 looks_of None = 0

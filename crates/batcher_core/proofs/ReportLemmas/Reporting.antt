@@ -19,7 +19,7 @@ over_is true done h = absurd cc
 
 -- the report of the rows of all leaves
 pub reported : (tree : Tree) (acts : List Act) (workers : ℕ) (t : StoredState) (rows : List Row) → map (λ (row : Row). row.leaf) rows ≡ range_with_len 0 (leaves tree)
-    → AllByRecursion (λ (row : Row). TellsLeaf (nodes_of tree).node_of (at t.nodes.items Waiting) (at t.values.items None) row) rows
+    → AllByRecursion (λ (row : Row). TellsLeaf (nodes_of tree).node_of (state_of t).node (state_of t).value row) rows
     → IsReportOf (core_job tree acts workers) (leaves tree) (state_of t) (record { workers = workers; history = t.history; rows = rows })
 unfolding state_of
 reported tree acts workers t rows order tell = record { workers = refl; leaves = order; rows = tell; history = refl }

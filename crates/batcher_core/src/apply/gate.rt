@@ -1,5 +1,5 @@
 //! What each event of the gate writes, but a publish.
-ghost use Rattle.std.specs.Prelude.{◌≡◌, ◌<◌, length, None, Some, IfSome, if◌then◌else◌};
+ghost use Rattle.std.specs.Prelude.{◌≡◌, ◌<◌, length, None, Some, IfSome, IsSome, if◌then◌else◌};
 ghost use Rattle.batcher_core.specs.State.{put};
 ghost use Rattle.batcher_core.specs.Code.Abstraction.{state_of, ready_of, SameSizes};
 ghost use Rattle.batcher_core.specs.Events.{is_pending as status_pending, new_hold, looked as hold_looked, answered as hold_answered};
@@ -7,7 +7,7 @@ ghost use Rattle.batcher_core.specs.declared.state.status.Status.TheVariants.{Fr
 ghost use Rattle.batcher_core.specs.declared.state.status.CallState.TheVariants.{Out, Got};
 
 use crate::state::State;
-use crate::state::hold::{Hold, answered, looked};
+use crate::state::hold::Hold;
 use crate::state::status::{CallState, Receipt, Status};
 
 /// Whether a call with this status is posted, and no worker has taken it.
@@ -21,7 +21,7 @@ fn is_pending(status: Status) -> bool
 }
 
 /// The status of a worker once it is looked at.
-fn after_look(status: Status) -> Status
+fn status_after_look(status: Status) -> Status
     ensures { result ≡ if status_pending status then Executing else status }
 {
     match status {
@@ -59,14 +59,18 @@ impl State {
     pub(crate) fn take(&mut self, other: u32)
         requires status_in { other < length self.old.statuses.items }
         requires other_in { other < 32 }
+        requires held { IsSome self.old.hold }
         requires room { IfSome self.old.hold (λ h. h.looks < 32) }
         ensures sizes { SameSizes self.old self.new }
         ensures event { state_of self.new ≡ record (state_of self.old) { status = if status_pending ((state_of self.old).status other) then put (state_of self.old).status other Executing else (state_of self.old).status; hold = hold_looked (state_of self.old).hold (status_pending ((state_of self.old).status other)) other } }
         ensures lists { ready_of self.new ≡ ready_of self.old }
     {
+        let Some(hold) = self.hold else {
+            unreachable!()
+        };
         let status = self.statuses[other as usize];
-        self.hold = looked(self.hold, other, is_pending(status));
-        self.statuses[other as usize] = after_look(status);
+        self.hold = Some(hold.after_look(other, is_pending(status)));
+        self.statuses[other as usize] = status_after_look(status);
     }
 
     /// This worker is handed its receipt.
@@ -74,12 +78,16 @@ impl State {
     pub(crate) fn answer(&mut self, other: u32, receipt: Receipt)
         requires status_in { other < length self.old.statuses.items }
         requires other_in { other < 32 }
+        requires held { IsSome self.old.hold }
         ensures sizes { SameSizes self.old self.new }
         ensures event { state_of self.new ≡ record (state_of self.old) { status = put (state_of self.old).status other (Served receipt); hold = hold_answered (state_of self.old).hold other } }
         ensures lists { ready_of self.new ≡ ready_of self.old }
     {
+        let Some(hold) = self.hold else {
+            unreachable!()
+        };
         self.statuses[other as usize] = Status::Served(receipt);
-        self.hold = answered(self.hold, other);
+        self.hold = Some(hold.after_answer(other));
     }
 
     /// The flag is let go.

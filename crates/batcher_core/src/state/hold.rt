@@ -1,10 +1,10 @@
 //! What the worker that has the flag keeps.
-ghost use Rattle.std.specs.Prelude.{◌≡◌, ◌<◌, ◌≤◌, Some, IfSome, true, false};
+ghost use Rattle.std.specs.Prelude.{◌≡◌, ◌<◌, ◌≤◌, Some, true, false};
 ghost use Rattle.batcher_core.specs.State.{put};
 ghost use Rattle.batcher_core.specs.Events.{new_hold, looked as hold_looked, published as hold_published, answered as hold_answered};
 ghost use Rattle.batcher_core.specs.Choice.{some_below, least_below, is_owed};
 ghost use Rattle.batcher_core.specs.Code.Places.{at};
-ghost use Rattle.batcher_core.specs.Code.Abstraction.{hold_view, hold_of};
+ghost use Rattle.batcher_core.specs.Code.Abstraction.{hold_view};
 
 /// What the worker that has the flag keeps: the batch that it is making. The two lists go by the workers' numbers.
 #[derive(Clone, Copy, Debug)]
@@ -54,7 +54,7 @@ impl Hold {
     }
 
     /// Whether it has taken the call of this worker.
-    pub(crate) fn taken(&self, worker: u32) -> bool
+    pub(crate) fn has_call_of(&self, worker: u32) -> bool
         requires { worker < 32 }
         ensures { result ≡ (hold_view self.now).taken worker }
     {
@@ -67,7 +67,7 @@ impl Hold {
         ensures { result ≡ some_below (hold_view self.now).taken workers }
     {
         for worker in 0..workers {
-            if self.taken(worker) {
+            if self.has_call_of(worker) {
                 return true;
             }
         }
@@ -86,45 +86,42 @@ impl Hold {
         }
         None
     }
-}
 
-/// After a look at a worker, whose call is taken or not.
-pub(crate) fn looked(hold: Option<Hold>, other: u32, takes: bool) -> Option<Hold>
-    requires room { IfSome hold (λ h. h.looks < 32) }
-    requires other_in { other < 32 }
-    ensures { hold_of result ≡ hold_looked (hold_of hold) takes other }
-{
-    let hold = hold?;
-    let looks = hold.looks + 1;
-    if takes {
-        let taken = with(hold.taken, other);
-        Some(Hold {
-            looks,
-            taken,
-            ..hold
-        })
-    } else {
-        Some(Hold { looks, ..hold })
+    /// After a look at a worker, whose call is taken or not.
+    pub(crate) fn after_look(&self, other: u32, takes: bool) -> Hold
+        requires room { self.now.looks < 32 }
+        requires other_in { other < 32 }
+        ensures { Some (hold_view result) ≡ hold_looked (Some (hold_view self.now)) takes other }
+    {
+        let looks = self.looks + 1;
+        if takes {
+            let taken = with(self.taken, other);
+            Hold {
+                looks,
+                taken,
+                ..*self
+            }
+        } else {
+            Hold { looks, ..*self }
+        }
     }
-}
 
-/// After the calls that it has taken are served.
-pub(crate) fn published(hold: Option<Hold>) -> Option<Hold>
-    ensures { hold_of result ≡ hold_published (hold_of hold) }
-{
-    let hold = hold?;
-    Some(Hold {
-        published: true,
-        ..hold
-    })
-}
+    /// After the calls that it has taken are served.
+    pub(crate) fn after_publish(&self) -> Hold
+        ensures { Some (hold_view result) ≡ hold_published (Some (hold_view self.now)) }
+    {
+        Hold {
+            published: true,
+            ..*self
+        }
+    }
 
-/// After this worker has its receipt.
-pub(crate) fn answered(hold: Option<Hold>, other: u32) -> Option<Hold>
-    requires { other < 32 }
-    ensures { hold_of result ≡ hold_answered (hold_of hold) other }
-{
-    let hold = hold?;
-    let answered = with(hold.answered, other);
-    Some(Hold { answered, ..hold })
+    /// After this worker has its receipt.
+    pub(crate) fn after_answer(&self, other: u32) -> Hold
+        requires { other < 32 }
+        ensures { Some (hold_view result) ≡ hold_answered (Some (hold_view self.now)) other }
+    {
+        let answered = with(self.answered, other);
+        Hold { answered, ..*self }
+    }
 }

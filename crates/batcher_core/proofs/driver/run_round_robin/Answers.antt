@@ -10,7 +10,7 @@ use Rattle.batcher_core.proofs.driver.run_round_robin.Goals as goal
 pub loop-core-smaller : goal.loop-core-smaller
 loop-core-smaller c =
     let unspent = c.in_ok-take_turn.ensures.spent in
-    round_fewer c.args.core.now c.loop-core.core c.take_turn.new.core c.workers-workers.result c.loop-core.worker c.loop-core.invariant.job (c.fits.ensures unspent)
+    round_fewer c.args.core.now c.loop-core.core c.take_turn.new.core c.workers-workers.result c.loop-core.worker c.loop-core.invariant.job (c.invariant_holds.ensures unspent)
     (c.plan_stands_for_tree.ensures c.loop-core.core.tree) c.workers-workers.ensures.workers c.loop-core.invariant.below (sym c.is_over.ensures ∙ c.loop-core-test.true) unspent
     c.in_ok-take_turn.ensures.turn
 

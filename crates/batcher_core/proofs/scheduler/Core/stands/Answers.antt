@@ -1,4 +1,4 @@
 use Rattle.batcher_core.proofs.scheduler.Core.stands.Goals as goal
 
 pub returns : goal.returns
-returns c = λ unspent. (c.fits.ensures unspent).inv
+returns c = λ unspent. (c.invariant_holds.ensures unspent).inv

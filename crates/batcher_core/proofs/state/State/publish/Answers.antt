@@ -59,7 +59,7 @@ returns-clause-event c =
     let are = rw c.deref-2.ensures.value at (c.in_ok-entries.ensures.entries) in
     let batch = is_batch c.args.job.now.plan c.args.job.now.acts.items c.args.job.now.workers c.args.self.now c.in-Some.hold c.args.worker c.requires.fits c.requires.needs c.in-Some.is
     c.in_ok-calls.calls.items taken c.in_ok-entries.entries.items are c.in_ok-entries.ensures.legal in
-    (c.in_ok-entries.entries.items, batch, rw (c.published-self.ensures, c.in_ok-append.ensures.ok, c.of.ensures, c.in_ok-entries.ensures.after) refl)
+    (c.in_ok-entries.entries.items, batch, rw (c.in-Some.is, c.after_publish.ensures, c.in_ok-append.ensures.ok, c.of.ensures, c.in_ok-entries.ensures.after) refl)
 
 pub returns-clause-lists : goal.returns-clause-lists
 unfolding ready_of

@@ -1,0 +1,48 @@
+use Rattle.std.proofs.Common.{◌≡◌, arith, sym, ◌∙◌}
+use Rattle.sp_order.specs.Precedence.{leaves}
+use Rattle.batcher_core.specs.State.{core_job}
+use Rattle.batcher_core.specs.Code.Abstraction.{state_of}
+use Rattle.batcher_core.proofs.BookLemmas.LeavesIn.{leaves_few}
+use Rattle.batcher_core.proofs.ReportLemmas.Reporting.{over_is}
+use Rattle.batcher_core.proofs.scheduler.Core.rows.Goals as goal
+
+pub overflow_cast-leaf_total : goal.overflow_cast-leaf_total
+overflow_cast-leaf_total c =
+    let over = over_is _ _ (rw (← c.self.view_is) at c.requires) in
+    let fits = c.self.invariant.1 over.0 in
+    let few = leaves_few c.self.inside.job.plan in
+    let count = (c.plan_stands_for_tree.ensures c.self.inside.job.plan).count in
+    omega (arith, c.len-leaf_total.ensures, c.self.inside.job.acts.ok.0, fits.leaves, fits.most, few, count)
+
+pub rows_of-requires-clause-ran : goal.rows_of-requires-clause-ran
+unfolding state_of
+rows_of-requires-clause-ran c =
+    let over = over_is _ _ (rw (← c.self.view_is) at c.requires) in
+    let fits = c.self.invariant.1 over.0 in
+    let job = core_job c.self.inside.job.plan c.self.inside.job.acts.items c.self.inside.job.workers in
+    let parts = fits.inv.parts in
+    let all : c.len-leaf_total.result ≡ leaves c.self.inside.job.plan = c.len-leaf_total.ensures ∙ c.self.inside.job.acts.ok.0 ∙ sym fits.leaves in
+    rw (c.deref.ensures.value, all)
+    (λ leaf below. (c.done_leaves_have_run.ensures job c.self.inside.job.plan (state_of c.self.inside.table) (c.plan_stands_for_tree.ensures c.self.inside.job.plan) parts over.1 leaf below).0)
+
+pub rows_of-requires-clause-valued : goal.rows_of-requires-clause-valued
+unfolding state_of
+rows_of-requires-clause-valued c =
+    let over = over_is _ _ (rw (← c.self.view_is) at c.requires) in
+    let fits = c.self.invariant.1 over.0 in
+    let job = core_job c.self.inside.job.plan c.self.inside.job.acts.items c.self.inside.job.workers in
+    let parts = fits.inv.parts in
+    let all : c.len-leaf_total.result ≡ leaves c.self.inside.job.plan = c.len-leaf_total.ensures ∙ c.self.inside.job.acts.ok.0 ∙ sym fits.leaves in
+    rw (c.deref-2.ensures.value, all)
+    (λ leaf below. (c.done_leaves_have_run.ensures job c.self.inside.job.plan (state_of c.self.inside.table) (c.plan_stands_for_tree.ensures c.self.inside.job.plan) parts over.1 leaf below).1)
+
+pub returns-clause-leaves : goal.returns-clause-leaves
+returns-clause-leaves c =
+    let over = over_is _ _ (rw (← c.self.view_is) at c.requires) in
+    let fits = c.self.invariant.1 over.0 in
+    let all : c.len-leaf_total.result ≡ leaves c.self.inside.job.plan = c.len-leaf_total.ensures ∙ c.self.inside.job.acts.ok.0 ∙ sym fits.leaves in
+    rw (← c.self.view_is) (rw all at c.rows_of.ensures.leaves)
+
+pub returns-clause-rows : goal.returns-clause-rows
+unfolding state_of
+returns-clause-rows c = rw (← c.self.view_is) (rw (c.deref.ensures.value, c.deref-2.ensures.value) at c.rows_of.ensures.rows)

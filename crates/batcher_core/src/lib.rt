@@ -11,7 +11,6 @@ pub mod driver;
 pub mod event;
 pub mod job;
 pub mod laws;
-mod order;
 mod report;
 pub mod scheduler;
 pub mod spun;

@@ -14,7 +14,8 @@ use Rattle.batcher_core.specs.Invariant.Tasks.{TaskFits}
 use Rattle.batcher_core.specs.Code.Batches.{IsCallOf, AreEntriesOf}
 use Rattle.batcher_core.proofs.Inductive.Parts.{InductiveParts}
 use Rattle.batcher_core.proofs.BookLemmas.EntryLists.{each_append, each_front, each_so}
-use Rattle.batcher_core.proofs.BatchLemmas.CallOrder.{IsFirst, first_through, first_or_second, first_or_not}
+use Rattle.seq_objects.proofs.CallOrder.{IsFirst, first_through, first_or_second}
+use Rattle.batcher_core.proofs.BatchLemmas.CallOrder.{first_or_not}
 use Rattle.batcher_core.proofs.BatchLemmas.TakenCalls.{at_call_started, TakenOf, between}
 use Rattle.batcher_core.proofs.BatchLemmas.Made.{taken_at_call, batch_made}
 

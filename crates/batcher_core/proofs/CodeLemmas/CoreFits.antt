@@ -1,7 +1,5 @@
 -- What the choice of a turn looks up is there, in what a core keeps to.
-use Rattle.std.proofs.Common.{ℕ, ◌≡◌, ◌<◌, Some, List, arith, refl}
-use Rattle.seq_objects.specs.declared.act.Act.{Act}
-use Rattle.sp_order.specs.Precedence.{Tree}
+use Rattle.std.proofs.Common.{ℕ, ◌≡◌, ◌<◌, Some, arith, refl}
 use Rattle.sp_order.specs.Plans.{Nodes, IsPlan}
 use Rattle.sp_order.specs.Preorder.{nodes_of}
 use Rattle.sp_order.specs.declared.node.Move.{Move}

@@ -10,7 +10,7 @@ use Rattle.batch_history.specs.Book.{IsLegalFrom}
 use Rattle.batcher_core.specs.Serving.{served}
 use Rattle.batcher_core.specs.Events.{has_taken, IsTakenCall, IsBatchOf, published, Does}
 use Rattle.batcher_core.proofs.BookLemmas.EntryLists.{each_so, each_both, each_at}
-use Rattle.batcher_core.proofs.BatchLemmas.CallOrder.{one_way}
+use Rattle.seq_objects.proofs.CallOrder.{one_way}
 
 -- an entry of the list has this worker
 abbrev HasWorker : List Entry → ℕ → Type 0

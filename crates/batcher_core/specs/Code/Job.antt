@@ -5,7 +5,6 @@ use Rattle.batcher_core.specs.declared.job.CoreJob.{CoreJob as StoredJob}
 use Rattle.batcher_core.specs.declared.state.task.Task.{Task}
 use Rattle.batcher_core.specs.declared.state.task.Task.TheVariants.{Ended, Half, Handed, Idle, Kept, Run, Started, Whole}
 use Rattle.sp_order.specs.Plans.{Nodes}
-use Rattle.sp_order.specs.Preorder.{nodes_of}
 use Rattle.sp_order.specs.declared.node.Kind.{Kind}
 use Rattle.sp_order.specs.declared.node.Kind.TheVariants.{LeafNode, ParNode, SeqNode}
 use Rattle.std.specs.Prelude.{None, Option, Some, ℕ, ◌<◌}

@@ -4,7 +4,7 @@ use crate::state::status::Receipt;
 
 /// What a worker does in one step. There is a variant for each row of the rules, with the nodes that the row
 /// speaks of.
-#[derive(Clone, Copy, Debug, PartialEq, Eq)]
+#[derive(Clone, Copy)]
 pub enum Event {
     /// It takes this ready node.
     Claim(u32),

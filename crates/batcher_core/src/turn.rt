@@ -1,7 +1,7 @@
 //! What a worker's turn answers.
 
 /// What a turn of a worker did.
-#[derive(Clone, Copy, Debug, PartialEq, Eq)]
+#[derive(Clone, Copy)]
 pub enum Turn {
     /// One event happened.
     Moved,

@@ -7,7 +7,7 @@ ghost use Rattle.batcher_core.specs.Code.Places.{at};
 ghost use Rattle.batcher_core.specs.Code.Abstraction.{hold_view};
 
 /// What the worker that has the flag keeps: the batch that it is making. The two lists go by the workers' numbers.
-#[derive(Clone, Copy, Debug)]
+#[derive(Clone, Copy)]
 pub struct Hold {
     /// The worker that has the flag.
     pub worker: u32,

@@ -1,7 +1,7 @@
 //! How far the nodes of a job have come.
 
 /// How far a node has come.
-#[derive(Clone, Copy, Debug, PartialEq, Eq)]
+#[derive(Clone, Copy)]
 pub enum Progress {
     /// It may not be run yet.
     Waiting,

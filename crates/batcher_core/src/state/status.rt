@@ -3,7 +3,7 @@
 use seq_objects::Reply;
 
 /// Where the entry of a call stands in the book, and what was replied.
-#[derive(Clone, Copy, Debug, PartialEq, Eq)]
+#[derive(Clone, Copy)]
 pub struct Receipt {
     pub batch: u32,
     pub place: u32,
@@ -11,7 +11,7 @@ pub struct Receipt {
 }
 
 /// How far the call has come that a worker has posted. A worker is trapped where its status is not free.
-#[derive(Clone, Copy, Debug, PartialEq, Eq)]
+#[derive(Clone, Copy)]
 pub enum Status {
     /// It has posted none.
     Free,
@@ -24,7 +24,7 @@ pub enum Status {
 }
 
 /// What a worker knows of the call of the leaf that it has started.
-#[derive(Clone, Copy, Debug, PartialEq, Eq)]
+#[derive(Clone, Copy)]
 pub enum CallState {
     /// It has not made one.
     NotCalled,

@@ -1,7 +1,7 @@
 //! What the workers have in hand.
 
 /// What a worker has in hand. Each task but the first names one node.
-#[derive(Clone, Copy, Debug, PartialEq, Eq)]
+#[derive(Clone, Copy)]
 pub enum Task {
     /// Nothing.
     Idle,

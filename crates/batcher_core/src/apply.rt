@@ -11,11 +11,8 @@ ghost use Rattle.batcher_core.specs.declared.event.Event.TheVariants.{Claim};
 ghost use Rattle.batcher_core.specs.Code.Core.{Represents};
 
 mod gate;
-pub(crate) mod gather;
-mod opens;
+mod job;
 mod publish;
-pub(crate) mod serve;
-mod steps;
 
 use crate::event::Event;
 use crate::job::CoreJob;

@@ -1,215 +1,24 @@
 //! The choice of a worker's turn.
-ghost use Rattle.std.specs.Prelude.{◌≡◌, ◌<◌, ◌≤◌, ℕ, length, None, Some};
+ghost use Rattle.std.specs.Prelude.{◌≡◌, ◌<◌, ℕ, None, Some};
 ghost use Rattle.sp_order.specs.Preorder.{nodes_of};
 ghost use Rattle.batcher_core.specs.Code.Job.{job_of};
-ghost use Rattle.batcher_core.specs.Choice.{choice, choice_by, choice_free, choice_run, choice_half, choice_started, choice_second, choice_parent, choice_arrive, choice_handed};
-ghost use Rattle.batcher_core.specs.Code.Abstraction.{state_of, ready_of, core_state_of};
-ghost use Rattle.batcher_core.specs.Code.Lookups.{CanChoose, MoveIn, claim_choice, whole_choice, work_due, steps_of as act_steps};
+ghost use Rattle.batcher_core.specs.Choice.{choice, choice_by, choice_free};
+ghost use Rattle.batcher_core.specs.Code.Abstraction.{state_of, core_state_of};
+ghost use Rattle.batcher_core.specs.Code.Lookups.{CanChoose, work_due};
 ghost use Rattle.seq_objects.specs.Spin.{spin_of};
 
 mod gate;
+mod job;
 pub(crate) mod receipt;
 
+use crate::choose::job::{of_half, of_handed, of_run, of_started};
 use crate::event::Event;
 use crate::job::CoreJob;
 use crate::state::State;
-use crate::state::status::{CallState, Status};
+use crate::state::status::Status;
 use crate::state::task::Task;
-use seq_objects::{Act, value};
-use sp_order::node::{Kind, Move};
-
-/// With a node of this kind in hand, of which nothing is done.
-fn of_run(kind: Kind, node: u32) -> Option<Event>
-    ensures { result ≡ choice_run (Some kind) node }
-{
-    match kind {
-        Kind::LeafNode(_) => Some(Event::Start(node)),
-        Kind::SeqNode(left, right) => Some(Event::OpenSeqLeft {
-            parent: node,
-            left,
-            right,
-        }),
-        Kind::ParNode(left, right) => Some(Event::OpenParRight {
-            parent: node,
-            left,
-            right,
-        }),
-    }
-}
-
-/// With a parallel block in hand, whose right side is open.
-fn of_half(kind: Kind, node: u32) -> Option<Event>
-    ensures { result ≡ choice_half (Some kind) node }
-{
-    match kind {
-        Kind::ParNode(left, right) => Some(Event::OpenParLeft {
-            parent: node,
-            left,
-            right,
-        }),
-        _ => None,
-    }
-}
-
-/// The left side of this series is done.
-fn of_second(kind: Kind, parent: u32) -> Option<Event>
-    ensures { result ≡ choice_second (Some kind) parent }
-{
-    match kind {
-        Kind::SeqNode(left, right) => Some(Event::OpenSeqRight {
-            parent,
-            left,
-            right,
-        }),
-        _ => None,
-    }
-}
-
-/// The right side of this series is done.
-fn of_parent(kind: Kind, parent: u32) -> Option<Event>
-    ensures { result ≡ choice_parent (Some kind) parent }
-{
-    match kind {
-        Kind::SeqNode(left, right) => Some(Event::FinishSeq {
-            parent,
-            left,
-            right,
-        }),
-        _ => None,
-    }
-}
-
-/// A side of this parallel block is done, and so many sides have arrived.
-fn of_arrive(kind: Kind, parent: u32, mark: u32, node: u32) -> Option<Event>
-    ensures { result ≡ choice_arrive (Some kind) parent mark node }
-{
-    match kind {
-        Kind::ParNode(left, right) => Some(if mark == 0 {
-            Event::ArriveFirst {
-                parent,
-                left,
-                right,
-                side: node,
-            }
-        } else {
-            Event::ArriveSecond {
-                parent,
-                left,
-                right,
-                side: node,
-            }
-        }),
-        _ => None,
-    }
-}
-
-/// With a parallel block in hand, at which both sides have arrived.
-fn of_handed(kind: Kind, parent: u32) -> Option<Event>
-    ensures { result ≡ choice_handed (Some kind) parent }
-{
-    match kind {
-        Kind::ParNode(left, right) => Some(Event::FinishPar {
-            parent,
-            left,
-            right,
-        }),
-        _ => None,
-    }
-}
-
-/// How many steps of work an act is, if it is work.
-fn steps_of(act: Act) -> Option<u32>
-    ensures { result ≡ act_steps act }
-{
-    match act {
-        Act::Work(steps) => Some(steps),
-        Act::Call(_) => None,
-    }
-}
-
-/// With a leaf in hand that has started, by what it does and by what the worker knows of its call. The value is
-/// that of its work, if it is work.
-fn of_started(act: Act, call: CallState, node: u32, start: u64, work: Option<u64>) -> Option<Event>
-    requires { (steps : ℕ) → act_steps act ≡ Some steps → work ≡ Some (spin_of steps) }
-    ensures { result ≡ choice_started act call node start }
-{
-    match act {
-        Act::Work(_) => match work {
-            Some(value) => Some(Event::Keep { node, start, value }),
-            None => unreachable!(),
-        },
-        Act::Call(_) => match call {
-            CallState::NotCalled => Some(Event::Post { node, start }),
-            CallState::Out => None,
-            CallState::Got(receipt) => Some(Event::Keep {
-                node,
-                start,
-                value: value(receipt.reply),
-            }),
-        },
-    }
-}
 
 impl State {
-    /// With nothing in hand: the newest node of the own list, or else the oldest of the next list that has one. Where
-    /// no list has a node it looks at none of them.
-    #[tactic(auto, unfolding(crate::specs::Code::Abstraction::ready_of))]
-    pub(crate) fn choose_claim(&self, workers: u32, worker: u32) -> Option<Event>
-        requires worker_in { worker < workers }
-        requires few { workers ≤ 32 }
-        ensures { result ≡ claim_choice workers (ready_of self.now) worker (ready_of self.now worker) }
-    {
-        if self.ready.are_empty() {
-            return None;
-        }
-        if let Some(node) = self.ready.of(worker).last() {
-            return Some(Event::Claim(*node));
-        }
-        for k in 1..workers {
-            let other = (worker + k) % workers;
-            if let Some(node) = self.ready.of(other).first() {
-                return Some(Event::Claim(*node));
-            }
-        }
-        None
-    }
-
-    /// With a node in hand that is done, by what is to be done then.
-    #[tactic(auto, unfolding(crate::specs::Code::Abstraction::state_of))]
-    pub(crate) fn choose_whole(&self, job: &CoreJob, node: u32) -> Option<Event>
-        requires node_in { node < (nodes_of job.now.plan).count }
-        requires marks_in { length self.now.marks.items ≡ (nodes_of job.now.plan).count }
-        requires moves_in { MoveIn (nodes_of job.now.plan).count ((nodes_of job.now.plan).after node) }
-        ensures { result ≡ whole_choice (nodes_of job.now.plan) (state_of self.now).mark ((nodes_of job.now.plan).after node) node }
-    {
-        match job.plan.after(node) {
-            Move::Root => None,
-            Move::OpenSecond(parent) => of_second(job.plan.kind(parent), parent),
-            Move::FinishParent(parent) => of_parent(job.plan.kind(parent), parent),
-            Move::Arrive(parent) => {
-                of_arrive(
-                    job.plan.kind(parent),
-                    parent,
-                    self.marks[parent as usize],
-                    node,
-                )
-            }
-        }
-    }
-
-    /// How many steps of work the leaf has that the worker has started, if it has started one that works.
-    #[tactic(auto, unfolding(crate::specs::Code::Abstraction::state_of))]
-    pub(crate) fn work_due(&self, job: &CoreJob, worker: u32) -> Option<u32>
-        requires looks { CanChoose job.now self.now }
-        requires worker_in { worker < job.now.workers }
-        ensures { result ≡ work_due (nodes_of job.now.plan) job.now.acts.items ((state_of self.now).task worker) }
-    {
-        match self.tasks[worker as usize] {
-            Task::Started { node, .. } => steps_of(job.act_at(node)),
-            _ => None,
-        }
-    }
-
     /// The event that the task of a worker allows that is not trapped. The value is that of the work that is due, if
     /// some is.
     #[tactic(auto, unfolding(crate::specs::Code::Abstraction::state_of, crate::specs::Code::Abstraction::ready_of))]

@@ -1,16 +1,19 @@
-//! What each event of a leaf or a block writes that makes no node ready.
-ghost use Rattle.std.specs.Prelude.{◌≡◌, ◌<◌, ◌+◌, ◌^◌, length, Some};
+//! What the events of leaves and blocks write.
+ghost use Rattle.std.specs.Prelude.{◌≡◌, ◌<◌, ◌+◌, ◌^◌, length, Some, ◌++◌, ◌∷◌, [], ℕ, IfOk};
 ghost use Rattle.batcher_core.specs.State.{put};
 ghost use Rattle.batcher_core.specs.Code.Abstraction.{state_of, ready_of, SameSizes};
 ghost use Rattle.batcher_core.specs.Events.{task_after as next_task};
-ghost use Rattle.batcher_core.specs.declared.state.progress.Progress.TheVariants.{Done, Ran};
-ghost use Rattle.batcher_core.specs.declared.state.task.Task.TheVariants.{Started, Kept, Ended};
+ghost use Rattle.batcher_core.specs.declared.state.progress.Progress.TheVariants.{Done, Ran, Ready, Taken};
+ghost use Rattle.batcher_core.specs.declared.state.task.Task.TheVariants.{Started, Kept, Ended, Run};
 ghost use Rattle.batcher_core.specs.declared.state.status.CallState.TheVariants.{NotCalled};
+ghost use Rattle.batcher_core.specs.Code.Places.{IsAtEnd};
+ghost use Rattle.batcher_core.specs.Lists.{without};
 
 use crate::state::State;
 use crate::state::progress::Progress;
 use crate::state::status::CallState;
 use crate::state::task::Task;
+use std::alloc::AllocError;
 
 /// What a worker has in hand once it has finished a node.
 fn task_after(node: u32) -> Task
@@ -24,6 +27,37 @@ fn task_after(node: u32) -> Task
 }
 
 impl State {
+    /// The worker takes a ready node, which stands at an end of a list.
+    #[tactic(auto, using(crate::proofs::CodeLemmas::Written::at_written), unfolding(crate::specs::Code::Abstraction::state_of, crate::specs::Code::Abstraction::ready_of))]
+    pub(crate) fn claim(&mut self, worker: u32, node: u32)
+        requires worker_in { worker < length self.old.tasks.items }
+        requires node_in { node < length self.old.nodes.items }
+        requires at_ends { (v : ℕ) → IsAtEnd node (ready_of self.old v) }
+        ensures sizes { SameSizes self.old self.new }
+        ensures event { state_of self.new ≡ record (state_of self.old) { node = put (state_of self.old).node node Taken; task = put (state_of self.old).task worker (Run node) } }
+        ensures lists { ready_of self.new ≡ λ v. without node (ready_of self.old v) }
+    {
+        self.ready.remove(node);
+        self.nodes[node as usize] = Progress::Taken;
+        self.tasks[worker as usize] = Task::Run(node);
+    }
+
+    /// The worker makes a node ready, and has this in hand then.
+    #[tactic(auto, using(crate::proofs::CodeLemmas::Written::at_written), unfolding(crate::specs::Code::Abstraction::state_of, crate::specs::Code::Abstraction::ready_of))]
+    pub(crate) fn open(&mut self, worker: u32, node: u32, then: Task) -> Result<(), AllocError>
+        requires worker_in { worker < length self.old.tasks.items }
+        requires node_in { node < length self.old.nodes.items }
+        requires ready_in { worker < length self.old.ready }
+        ensures sizes { IfOk result (λ _. SameSizes self.old self.new) }
+        ensures event { IfOk result (λ _. state_of self.new ≡ record (state_of self.old) { node = put (state_of self.old).node node Ready; task = put (state_of self.old).task worker then }) }
+        ensures lists { IfOk result (λ _. ready_of self.new ≡ put (ready_of self.old) worker (ready_of self.old worker ++ node ∷ [])) }
+    {
+        self.ready.push(worker, node)?;
+        self.nodes[node as usize] = Progress::Ready;
+        self.tasks[worker as usize] = then;
+        Ok(())
+    }
+
     /// The worker starts a leaf.
     #[tactic(auto, using(crate::proofs::CodeLemmas::Written::at_written), unfolding(crate::specs::Code::Abstraction::state_of, crate::specs::Code::Abstraction::ready_of))]
     pub(crate) fn start(&mut self, worker: u32, node: u32)

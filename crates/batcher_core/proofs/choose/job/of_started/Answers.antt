@@ -1,6 +1,6 @@
 use Rattle.std.proofs.Common.{◌≡◌, None, Some, refl, sym, ◌∙◌}
 use Rattle.seq_objects.specs.Spin.{spin_of}
-use Rattle.batcher_core.proofs.choose.of_started.Goals as goal
+use Rattle.batcher_core.proofs.choose.job.of_started.Goals as goal
 
 pub unreachable-requires : goal.unreachable-requires
 unreachable-requires c =

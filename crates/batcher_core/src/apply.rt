@@ -1,4 +1,4 @@
-//! Doing an event.
+//! What an event does to the state: one function for each row of the rules, and the dispatch to it.
 ghost use Rattle.std.specs.Prelude.{◌≡◌, ◌<◌, ℕ, IfOk};
 ghost use Rattle.sp_order.specs.Preorder.{nodes_of};
 ghost use Rattle.batcher_core.specs.Code.Job.{job_of};
@@ -21,7 +21,7 @@ use crate::state::task::Task;
 use std::alloc::{AllocError, Global};
 
 impl State {
-    /// Does an event of a worker.
+    /// Does an event of a worker. After want of memory the state may be part of the way.
     pub(crate) fn apply(
         &mut self,
         alloc: Global,

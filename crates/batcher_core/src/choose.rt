@@ -1,4 +1,4 @@
-//! The choice of a worker's turn.
+//! The choice of a worker's turn: the event that it makes in this state, if it can make one. Nothing is written here.
 ghost use Rattle.std.specs.Prelude.{◌≡◌, ◌<◌, ℕ, None, Some};
 ghost use Rattle.sp_order.specs.Preorder.{nodes_of};
 ghost use Rattle.batcher_core.specs.Code.Job.{job_of};
@@ -19,8 +19,8 @@ use crate::state::status::Status;
 use crate::state::task::Task;
 
 impl State {
-    /// The event that the task of a worker allows that is not trapped. The value is that of the work that is due, if
-    /// some is.
+    /// The event of a worker whose status is free, by its task. `work` is the value of the work that is due, if some
+    /// is due.
     #[tactic(auto, unfolding(crate::specs::Code::Abstraction::state_of, crate::specs::Code::Abstraction::ready_of))]
     pub(crate) fn choose_free(&self, job: &CoreJob, worker: u32, work: Option<u64>) -> Option<Event>
         requires looks { CanChoose job.now self.now }
@@ -43,7 +43,7 @@ impl State {
         }
     }
 
-    /// The event of a worker that does not have the flag, by its status.
+    /// The event of a worker that does not hold the flag, by its status.
     #[tactic(auto, unfolding(crate::specs::Code::Abstraction::state_of))]
     fn choose_by_status(&self, job: &CoreJob, worker: u32, work: Option<u64>) -> Option<Event>
         requires looks { CanChoose job.now self.now }
@@ -59,7 +59,9 @@ impl State {
         }
     }
 
-    /// The event of a worker's turn, if it has one.
+    /// The event of a worker's turn, or none where the worker can do nothing in this state.
+    ///
+    /// Memory: none.
     #[tactic(auto, unfolding(crate::specs::Code::Abstraction::state_of))]
     pub(crate) fn choose(&self, job: &CoreJob, worker: u32, work: Option<u64>) -> Option<Event>
         requires looks { CanChoose job.now self.now }

@@ -1,4 +1,4 @@
-//! A whole run by turns.
+//! A whole run by turns on one thread: the workers of a schedule, and then all workers round robin.
 ghost use Rattle.std.specs.Prelude.{◌≡◌, ◌<◌, ℕ, false, true, Some, [], IfOk};
 ghost use Rattle.std.specs.List.{AllByRecursion};
 ghost use Rattle.sp_order.specs.Precedence.{leaves};
@@ -15,7 +15,7 @@ use batch_history::Report;
 use sp_order::laws::plan_stands_for_tree;
 use std::alloc::{AllocError, Global};
 
-/// A turn of this worker, in which the work is done that is due of it.
+/// One turn of a worker. Where work is due, it is done here and the turn taken with it.
 pub(crate) fn take_turn(core: &mut Core, worker: u32) -> Result<Turn, AllocError>
     requires { worker < core.old.workers }
     ensures job { (core.new.tree ≡ core.old.tree) × (core.new.acts ≡ core.old.acts) × (core.new.workers ≡ core.old.workers) }
@@ -28,7 +28,7 @@ pub(crate) fn take_turn(core: &mut Core, worker: u32) -> Result<Turn, AllocError
     }
 }
 
-/// Takes turns by the workers of the schedule, until it ends or the core is over.
+/// Takes turns by the workers of the schedule until the schedule ends or the core is over.
 fn run_schedule(core: &mut Core, schedule: &[u32]) -> Result<(), AllocError>
     requires { AllByRecursion (λ worker. worker < core.old.workers) schedule.now }
     ensures job { IfOk result (λ _. (core.new.tree ≡ core.old.tree) × (core.new.acts ≡ core.old.acts) × (core.new.workers ≡ core.old.workers)) }
@@ -44,7 +44,7 @@ fn run_schedule(core: &mut Core, schedule: &[u32]) -> Result<(), AllocError>
     Ok(())
 }
 
-/// Takes turns by all workers round robin, from worker 0 on, until the core is over.
+/// Takes turns by all workers round robin, beginning with worker 0, until the core is over.
 fn run_round_robin(core: &mut Core) -> Result<(), AllocError>
     ensures job { IfOk result (λ _. (core.new.tree ≡ core.old.tree) × (core.new.acts ≡ core.old.acts) × (core.new.workers ≡ core.old.workers)) }
     ensures drives { IfOk result (λ _. Drives (job_in core.old) (state_in core.old) [] 0 (state_in core.new)) }
@@ -74,9 +74,9 @@ fn run(core: &mut Core, schedule: &[u32]) -> Result<(), AllocError>
     run_round_robin(core)
 }
 
-/// Takes turns until the core is over: by the workers of the schedule, and then by all workers round robin, from
-/// worker 0 on. It returns always: each event lowers a count of those that are left, and until the core is over
-/// some worker has one. A core that is spent is an `Err`.
+/// Takes turns until the core is over: by the workers of the schedule, and then by all workers round robin, beginning
+/// with worker 0. It always returns, since each event lowers the number of events that are left, and until the core is
+/// over some worker has an event. A spent core gives an `Err`.
 pub fn drive(alloc: Global, core: Core, schedule: &[u32]) -> Result<Report, AllocError>
     requires { AllByRecursion (λ worker. worker < core.workers) schedule.now }
     ensures driven { IfOk result (λ report. IsDrivenFrom (job_in core) (leaves core.tree) (state_in core) schedule.now report) }

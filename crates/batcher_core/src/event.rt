@@ -1,96 +1,96 @@
-//! The events of a worker.
+//! The events by which a worker changes the core's state.
 
 use crate::state::status::Receipt;
 
-/// What a worker does in one step. There is a variant for each row of the rules, with the nodes that the row
-/// speaks of.
+/// One event of a worker. There is a variant for each row of the rules, with the nodes that the row names. In each
+/// block, `left` and `right` are its sides.
 #[derive(Clone, Copy)]
 pub enum Event {
-    /// It takes this ready node.
+    /// The worker takes this ready node off its list.
     Claim(u32),
-    /// It starts this leaf.
+    /// The worker starts this leaf, which draws a tick.
     Start(u32),
-    /// Of this parallel block it makes the right side ready.
+    /// The right side of a parallel block becomes ready.
     OpenParRight {
         parent: u32,
         left: u32,
         right: u32,
     },
-    /// Of this parallel block it makes the left side ready.
+    /// The left side of a parallel block becomes ready, after the right one.
     OpenParLeft {
         parent: u32,
         left: u32,
         right: u32,
     },
-    /// Of this series it makes the left side ready.
+    /// The left side of a series becomes ready.
     OpenSeqLeft {
         parent: u32,
         left: u32,
         right: u32,
     },
-    /// Of this series it makes the right side ready, since the left one is done.
+    /// The right side of a series becomes ready, since the left one is done.
     OpenSeqRight {
         parent: u32,
         left: u32,
         right: u32,
     },
-    /// It posts the call of this leaf, which has started.
+    /// The worker posts the call of this leaf, and is trapped from then on.
     Post {
         node: u32,
         start: u64,
     },
-    /// It takes the flag.
+    /// The worker wins the flag, which is free.
     Win,
-    /// It looks at this worker, and takes its call if that is pending.
+    /// The holder of the flag looks at this worker, and takes its call if that is pending.
     Take(u32),
-    /// The calls that it has taken are served, and join the book.
+    /// The calls that were taken are served, and appended to the book as one batch.
     Publish,
-    /// It hands this worker its receipt.
+    /// This worker gets its receipt from the holder of the flag.
     Answer {
         worker: u32,
         receipt: Receipt,
     },
-    /// It lets go of the flag.
+    /// The holder releases the flag.
     Release,
-    /// It leaves its call, with this receipt.
+    /// The worker leaves its call with this receipt, and is trapped no longer.
     Leave(Receipt),
-    /// It keeps the value of this leaf, which has started.
+    /// The worker keeps the value of this leaf, which has started.
     Keep {
         node: u32,
         start: u64,
         value: u64,
     },
-    /// It ends this leaf, which has started.
+    /// The worker ends this leaf, which draws a tick.
     End {
         node: u32,
         start: u64,
     },
-    /// This leaf is done, with its start and its end.
+    /// This leaf is done, with the ticks of its start and its end.
     FinishLeaf {
         node: u32,
         start: u64,
         end: u64,
     },
-    /// This series is done, since its right side is.
+    /// A series is done, since its right side is.
     FinishSeq {
         parent: u32,
         left: u32,
         right: u32,
     },
-    /// This parallel block is done, since both sides have arrived.
+    /// A parallel block is done, since both sides have arrived.
     FinishPar {
         parent: u32,
         left: u32,
         right: u32,
     },
-    /// At this parallel block this side is the first to arrive.
+    /// `side` is the first side to arrive at its parallel block.
     ArriveFirst {
         parent: u32,
         left: u32,
         right: u32,
         side: u32,
     },
-    /// At this parallel block this side is the second to arrive.
+    /// `side` is the second side to arrive at its parallel block, which its worker finishes next.
     ArriveSecond {
         parent: u32,
         left: u32,

@@ -1,4 +1,4 @@
-//! What a core runs.
+//! The job that a core runs.
 ghost use Rattle.std.specs.Prelude.{◌≡◌, ◌<◌, length};
 ghost use Rattle.sp_order.specs.Preorder.{nodes_of};
 ghost use Rattle.batcher_core.specs.Choice.{leaf_named};
@@ -11,17 +11,17 @@ use seq_objects::Act;
 use sp_order::Plan;
 use sp_order::node::Kind;
 
-/// What a core runs: the nodes of a job, what its leaves do, and by how many workers.
+/// The job that a core runs: the plan with its nodes, what its leaves do, and the number of workers.
 #[derive(Drop)]
 pub struct CoreJob {
     pub(crate) plan: Plan,
-    /// What the leaves do, by their numbers.
+    /// What each leaf does, by its number.
     pub(crate) acts: Vec<Act>,
     pub(crate) workers: u32,
 }
 
 impl CoreJob {
-    /// The leaf at a node, if it is one.
+    /// The number of the leaf at a node, if the node is a leaf.
     pub(crate) fn leaf_at(&self, node: u32) -> Option<u32>
         requires { node < (nodes_of self.now.plan).count }
         ensures { result ≡ leaf_of_kind ((nodes_of self.now.plan).kind node) }
@@ -32,7 +32,7 @@ impl CoreJob {
         }
     }
 
-    /// What the leaf at a node does.
+    /// What the leaf at a node does. The node is a leaf.
     pub(crate) fn act_at(&self, node: u32) -> Act
         requires node_in { node < (nodes_of self.now.plan).count }
         requires leaf { IsLeaf ((nodes_of self.now.plan).kind node) }
@@ -45,7 +45,7 @@ impl CoreJob {
         }
     }
 
-    /// The leaf that a worker with this task has started.
+    /// The number of the leaf that a worker with this task has started. It has started one.
     pub(crate) fn started_leaf(&self, task: Task) -> u32
         requires task_in { TaskIn (nodes_of self.now.plan).count task }
         requires leaf { HasLeaf (nodes_of self.now.plan) task }

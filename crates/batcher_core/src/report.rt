@@ -1,4 +1,4 @@
-//! The rows of a report, made of what is known of the nodes.
+//! The rows of a report, one for each leaf.
 ghost use Rattle.std.specs.Prelude.{◌≡◌, ◌≢◌, ◌<◌, ◌≤◌, ℕ, None, IfOk, map};
 ghost use Rattle.std.specs.List.{AllByRecursion, range_with_len};
 ghost use Rattle.sp_order.specs.Precedence.{leaves};
@@ -33,7 +33,7 @@ fn row_of(leaf: u32, progress: Progress, value: Option<u64>) -> Row
     }
 }
 
-/// The rows of the first leaves of a plan, in leaf order, where each of them has run and has a value.
+/// The rows of the leaves below `leaf_total`, in leaf order. Each of these leaves has run and has a value.
 pub(crate) fn rows_of(
     alloc: Global,
     plan: &Plan,

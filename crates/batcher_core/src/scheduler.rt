@@ -1,4 +1,4 @@
-//! The scheduler's core.
+//! The scheduler's core: a job, its workers, and the turns by which they run it.
 ghost use Rattle.std.specs.Prelude.{◌≡◌, ◌<◌, ◌≤◌, ℕ, IfOk, IfErr, IsSome, IfSome, Some, true, false, IsTrue, ◌↔◌, map};
 ghost use Rattle.seq_objects.specs.Spin.{spin_of};
 ghost use Rattle.batcher_core.specs.State.{opening_core};
@@ -25,7 +25,8 @@ use sp_order::{Job, Plan};
 use std::alloc::{AllocError, Global};
 use std::marker::Model;
 
-/// The scheduler's core: a job, its workers, and how far they have come. It is spent once memory has failed.
+/// The scheduler's core: a job, its workers, and the state that they have reached. Once memory was wanting in a turn
+/// the core is spent: its state may be part of the way through an event, and it takes no more turns.
 #[derive(Drop)]
 pub struct Core {
     alloc: Global,
@@ -60,7 +61,9 @@ fn value_of(spun: &Option<Spun>) -> Option<u64>
 }
 
 impl Core {
-    /// The core of this job, which has leaves, in its opening state.
+    /// The core of a job that has leaves, in the opening state.
+    ///
+    /// Memory: proportional to the nodes and the workers.
     pub fn start(alloc: Global, job: &Job, workers: u32) -> Result<Core, AllocError>
         requires leaves { IsSome job.now.shape }
         requires some_workers { 0 < workers }
@@ -86,7 +89,7 @@ impl Core {
         })
     }
 
-    /// How many steps of work are due of this worker, if some are.
+    /// The number of steps of work that are due of a worker, if it has started a leaf that works.
     pub(crate) fn due(&self, worker: u32) -> Option<u32>
         requires unspent { self.now.spent ≡ false }
         requires worker_in { worker < self.now.workers }
@@ -95,8 +98,7 @@ impl Core {
         self.table.work_due(&self.job, worker)
     }
 
-    /// The event of this worker's next turn, if it has one. The number is what the work gives that is due of the
-    /// worker, if some is.
+    /// The event of a worker's next turn, if it has one. `work` is the value of the work that is due, if some is due.
     pub(crate) fn choice(&self, worker: u32, work: Option<u64>) -> Option<Event>
         requires unspent { self.now.spent ≡ false }
         requires worker_in { worker < self.now.workers }
@@ -106,9 +108,11 @@ impl Core {
         self.table.choose(&self.job, worker, work)
     }
 
-    /// One turn of this worker. If it has started a leaf of work, it answers how many steps are due, until it is
-    /// given that work done; else what it is given is not looked at. After an `Err` the core is spent, and each
-    /// later turn is an `Err`.
+    /// One turn of a worker. Where the worker has started a leaf that works, the turn answers how many steps are due
+    /// until it is given that work; else `spun` is not looked at. After an `Err` the core is spent, and each later turn
+    /// is an `Err`.
+    ///
+    /// Memory: at most one node in a list, or one batch.
     pub fn turn(&mut self, worker: u32, spun: Option<Spun>) -> Result<Turn, AllocError>
         requires worker_in { worker < self.old.workers }
         requires work { IfSome spun (λ s. (steps : ℕ) → due_in self.old worker ≡ Some steps → s ≡ steps) }
@@ -138,7 +142,9 @@ impl Core {
         }
     }
 
-    /// The ready nodes of this worker, the oldest first; beyond the workers there are none. Memory: none.
+    /// The ready nodes of a worker, the oldest first. Beyond the workers there are none.
+    ///
+    /// Memory: none.
     #[tactic(auto, unfolding(crate::specs::Code::Abstraction::ready_of))]
     pub fn ready(&self, worker: u32) -> &[u32]
         ensures { result.now ≡ (state_in self.now).ready worker }
@@ -146,7 +152,7 @@ impl Core {
         self.table.ready.of(worker)
     }
 
-    /// How many workers it has.
+    /// The number of workers.
     pub fn workers(&self) -> u32
         ensures workers { result ≡ self.now.workers }
         ensures some { 0 < result }
@@ -168,7 +174,9 @@ impl Core {
         let _ = &self.spent;
     }
 
-    /// Whether the root is done, in a core that is not spent. It takes no memory.
+    /// Whether the root is done and the core is not spent.
+    ///
+    /// Memory: none.
     pub fn is_over(&self) -> bool
         ensures { result ≡ is_over_in self.now }
     {

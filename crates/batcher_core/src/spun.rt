@@ -5,7 +5,7 @@ ghost use Rattle.seq_objects.specs.Spin.{spin_of};
 use seq_objects::work::spin;
 use std::marker::Model;
 
-/// So many steps of work, done. Contracts see it as their number: the value is what these steps give.
+/// Work that is done: a number of steps, and the value that they give. Contracts see the number of steps.
 #[derive(Drop)]
 pub struct Spun {
     steps: u32,
@@ -24,7 +24,9 @@ impl Model for Spun {
 }
 
 impl Spun {
-    /// Does so many steps of work. It takes no memory.
+    /// Does `n` steps of work, in time proportional to `n`.
+    ///
+    /// Memory: none.
     pub fn of(n: u32) -> Spun
         ensures { result ≡ n }
     {
@@ -34,14 +36,14 @@ impl Spun {
         }
     }
 
-    /// How many steps were done.
+    /// The number of steps that were done.
     pub fn number(&self) -> u32
         ensures { result ≡ self.now }
     {
         self.steps
     }
 
-    /// What they give.
+    /// The value that the steps give.
     pub(crate) fn value(&self) -> u64
         ensures { result ≡ spin_of self.now }
     {

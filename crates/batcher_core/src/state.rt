@@ -1,4 +1,4 @@
-//! The parts of the core's state.
+//! The state of the core.
 
 ghost use Rattle.std.specs.Prelude.{◌≡◌, ◌<◌, length};
 ghost use Rattle.batcher_core.specs.Code.Abstraction.{state_of};
@@ -19,27 +19,27 @@ use crate::state::task::Task;
 use batch_history::History;
 use seq_objects::Plain;
 
-/// The parts of a core's state. Nodes, marks and values go by the numbers of nodes, and the others by those of
-/// workers.
+/// The state of a core. `nodes`, `marks` and `values` have an item for each node, and `tasks`, `statuses`, `calls` and
+/// `ready` one for each worker.
 #[derive(Drop)]
 pub struct State {
     /// How far each node has come.
     pub(crate) nodes: Vec<Progress>,
-    /// How many sides have arrived at each parallel block.
+    /// The number of sides that have arrived at each parallel block.
     pub(crate) marks: Vec<u32>,
     /// The value of each leaf that has one.
     pub(crate) values: Vec<Option<u64>>,
-    /// What each worker has in hand.
+    /// The task of each worker.
     pub(crate) tasks: Vec<Task>,
-    /// How far the call has come that each worker has posted.
+    /// How far each worker's call has come.
     pub(crate) statuses: Vec<Status>,
     /// What each worker knows of the call of the leaf that it has started.
     pub(crate) calls: Vec<CallState>,
     /// The ready nodes of each worker, the oldest first.
     pub(crate) ready: ReadyLists,
-    /// What the worker that has the flag keeps, if one has it.
+    /// The hold of the worker that has the flag. The flag is free where there is none.
     pub(crate) hold: Option<Hold>,
-    /// The tick that the next start or end of a leaf draws.
+    /// The tick that the next start or end of a leaf draws: the number of those that there were.
     pub(crate) tick: u64,
     /// The batches that were served.
     pub(crate) history: History,

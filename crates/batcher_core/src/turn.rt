@@ -1,6 +1,6 @@
-//! What a worker's turn answers.
+//! The answers of a worker's turn.
 
-/// What a turn of a worker did.
+/// What a worker's turn did.
 #[derive(Clone, Copy)]
 pub enum Turn {
     /// One event happened.

@@ -1,4 +1,4 @@
-//! What each event of the gate writes, but a publish.
+//! What the events of the gate write: post, win, take, answer, release and leave.
 ghost use Rattle.std.specs.Prelude.{◌≡◌, ◌<◌, length, None, Some, IfSome, IsSome, if◌then◌else◌};
 ghost use Rattle.batcher_core.specs.State.{put};
 ghost use Rattle.batcher_core.specs.Code.Abstraction.{state_of, ready_of, SameSizes};
@@ -20,7 +20,7 @@ fn is_pending(status: Status) -> bool
     }
 }
 
-/// The status of a worker once it is looked at.
+/// The status of a worker once the holder of the flag has looked at it: a pending call is taken.
 fn status_after_look(status: Status) -> Status
     ensures { result ≡ if status_pending status then Executing else status }
 {
@@ -44,7 +44,7 @@ impl State {
         self.calls[worker as usize] = CallState::Out;
     }
 
-    /// The worker takes the flag.
+    /// The worker wins the flag.
     #[tactic(auto, unfolding(crate::specs::Code::Abstraction::state_of, crate::specs::Code::Abstraction::ready_of))]
     pub(crate) fn win(&mut self, worker: u32)
         ensures sizes { SameSizes self.old self.new }
@@ -54,7 +54,7 @@ impl State {
         self.hold = Some(Hold::of(worker));
     }
 
-    /// The worker that has the flag looks at this one, and takes its call if that is pending.
+    /// The holder of the flag looks at the worker `other`, and takes its call if that is pending.
     #[tactic(auto, using(crate::proofs::CodeLemmas::Written::at_written), unfolding(crate::specs::Code::Abstraction::state_of, crate::specs::Code::Abstraction::ready_of))]
     pub(crate) fn take(&mut self, other: u32)
         requires status_in { other < length self.old.statuses.items }
@@ -73,7 +73,7 @@ impl State {
         self.statuses[other as usize] = status_after_look(status);
     }
 
-    /// This worker is handed its receipt.
+    /// The worker `other` gets its receipt.
     #[tactic(auto, using(crate::proofs::CodeLemmas::Written::at_written), unfolding(crate::specs::Code::Abstraction::state_of, crate::specs::Code::Abstraction::ready_of))]
     pub(crate) fn answer(&mut self, other: u32, receipt: Receipt)
         requires status_in { other < length self.old.statuses.items }
@@ -90,7 +90,7 @@ impl State {
         self.hold = Some(hold.after_answer(other));
     }
 
-    /// The flag is let go.
+    /// The flag is released.
     #[tactic(auto, unfolding(crate::specs::Code::Abstraction::state_of, crate::specs::Code::Abstraction::ready_of))]
     pub(crate) fn release(&mut self)
         ensures sizes { SameSizes self.old self.new }
@@ -100,7 +100,7 @@ impl State {
         self.hold = None;
     }
 
-    /// The worker leaves its call, with its receipt.
+    /// The worker leaves its call with its receipt.
     #[tactic(auto, using(crate::proofs::CodeLemmas::Written::at_written), unfolding(crate::specs::Code::Abstraction::state_of, crate::specs::Code::Abstraction::ready_of))]
     pub(crate) fn leave(&mut self, worker: u32, receipt: Receipt)
         requires status_in { worker < length self.old.statuses.items }

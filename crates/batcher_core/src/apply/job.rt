@@ -1,4 +1,4 @@
-//! What the events of leaves and blocks write.
+//! What the events of leaves and blocks write: claim, start, open, keep, end, finish and arrive.
 ghost use Rattle.std.specs.Prelude.{◌≡◌, ◌<◌, ◌+◌, ◌^◌, length, Some, ◌++◌, ◌∷◌, [], ℕ, IfOk};
 ghost use Rattle.batcher_core.specs.State.{put};
 ghost use Rattle.batcher_core.specs.Code.Abstraction.{state_of, ready_of, SameSizes};
@@ -15,7 +15,7 @@ use crate::state::status::CallState;
 use crate::state::task::Task;
 use std::alloc::AllocError;
 
-/// What a worker has in hand once it has finished a node.
+/// The task of a worker that has finished a node: none after the root.
 fn task_after(node: u32) -> Task
     ensures { result ≡ next_task node }
 {
@@ -42,7 +42,7 @@ impl State {
         self.tasks[worker as usize] = Task::Run(node);
     }
 
-    /// The worker makes a node ready, and has this in hand then.
+    /// The worker makes a node ready, and has the task `then` after it.
     #[tactic(auto, using(crate::proofs::CodeLemmas::Written::at_written), unfolding(crate::specs::Code::Abstraction::state_of, crate::specs::Code::Abstraction::ready_of))]
     pub(crate) fn open(&mut self, worker: u32, node: u32, then: Task) -> Result<(), AllocError>
         requires worker_in { worker < length self.old.tasks.items }
@@ -132,7 +132,8 @@ impl State {
         self.tasks[worker as usize] = task_after(node);
     }
 
-    /// Another side of a parallel block has arrived: so many have then, and the worker has this in hand.
+    /// A side of a parallel block arrives. `mark` is the number of sides that have arrived then, and `then` the
+    /// worker's next task.
     #[tactic(auto, using(crate::proofs::CodeLemmas::Written::at_written), unfolding(crate::specs::Code::Abstraction::state_of, crate::specs::Code::Abstraction::ready_of))]
     pub(crate) fn arrive(&mut self, worker: u32, node: u32, mark: u32, then: Task)
         requires worker_in { worker < length self.old.tasks.items }

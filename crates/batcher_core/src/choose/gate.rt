@@ -1,4 +1,4 @@
-//! The choice of the turn of a worker that has the flag, or wants it.
+//! The choice of a worker that holds the flag or waits for it.
 ghost use Rattle.std.specs.Prelude.{◌≡◌, ◌<◌, ◌≤◌, ◌^◌, Some, length, map};
 ghost use Rattle.sp_order.specs.Preorder.{nodes_of};
 ghost use Rattle.batch_history.specs.Book.{flat};
@@ -17,7 +17,7 @@ use crate::state::State;
 use crate::state::hold::Hold;
 
 impl State {
-    /// With a call that is pending: it takes the flag, if that is free.
+    /// The event of a worker whose call is pending: it wins the flag, if that is free.
     #[tactic(auto, unfolding(crate::specs::Code::Abstraction::state_of))]
     pub(crate) fn choose_pending(&self) -> Option<Event>
         ensures { result ≡ choice_pending (state_of self.now).hold }
@@ -28,7 +28,7 @@ impl State {
         }
     }
 
-    /// This worker is handed the receipt for its leaf's entry.
+    /// The event that answers a worker: it gets the receipt of its leaf's entry in the book.
     #[tactic(auto, unfolding(crate::specs::Code::Abstraction::state_of))]
     fn choose_answer(&self, job: &CoreJob, other: u32) -> Option<Event>
         requires looks { CanChoose job.now self.now }
@@ -46,8 +46,8 @@ impl State {
         }
     }
 
-    /// With the flag: it looks at the workers one after another, then publishes if it has taken some calls, then
-    /// answers those workers, and then lets go of the flag.
+    /// The event of the worker that holds the flag: it looks at the workers one after another, publishes if it has
+    /// taken a call, answers the workers whose calls it has taken, and releases the flag.
     #[tactic(auto, unfolding(crate::specs::Code::Abstraction::state_of))]
     pub(crate) fn choose_holding(&self, job: &CoreJob, hold: Hold) -> Option<Event>
         requires looks { CanChoose job.now self.now }

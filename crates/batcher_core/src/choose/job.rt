@@ -1,4 +1,4 @@
-//! The choice of the turn of a worker that runs a node, or looks for one.
+//! The choice of a worker that runs a node or looks for one to claim.
 ghost use Rattle.std.specs.Prelude.{◌≡◌, ◌<◌, ◌≤◌, ℕ, length, None, Some};
 ghost use Rattle.sp_order.specs.Preorder.{nodes_of};
 ghost use Rattle.batcher_core.specs.Choice.{choice_run, choice_half, choice_started, choice_second, choice_parent, choice_arrive, choice_handed};
@@ -14,7 +14,7 @@ use crate::state::task::Task;
 use seq_objects::{Act, value};
 use sp_order::node::{Kind, Move};
 
-/// With a node of this kind in hand, of which nothing is done.
+/// The event of a worker that has claimed a node of this kind: a leaf starts, and a block opens its first side.
 pub(crate) fn of_run(kind: Kind, node: u32) -> Option<Event>
     ensures { result ≡ choice_run (Some kind) node }
 {
@@ -33,7 +33,7 @@ pub(crate) fn of_run(kind: Kind, node: u32) -> Option<Event>
     }
 }
 
-/// With a parallel block in hand, whose right side is open.
+/// The event of a worker that has opened the right side of a parallel block: it opens the left one.
 pub(crate) fn of_half(kind: Kind, node: u32) -> Option<Event>
     ensures { result ≡ choice_half (Some kind) node }
 {
@@ -47,7 +47,7 @@ pub(crate) fn of_half(kind: Kind, node: u32) -> Option<Event>
     }
 }
 
-/// The left side of this series is done.
+/// The event after the left side of a series: the right side opens.
 fn of_second(kind: Kind, parent: u32) -> Option<Event>
     ensures { result ≡ choice_second (Some kind) parent }
 {
@@ -61,7 +61,7 @@ fn of_second(kind: Kind, parent: u32) -> Option<Event>
     }
 }
 
-/// The right side of this series is done.
+/// The event after the right side of a series: the series is done.
 fn of_parent(kind: Kind, parent: u32) -> Option<Event>
     ensures { result ≡ choice_parent (Some kind) parent }
 {
@@ -75,7 +75,8 @@ fn of_parent(kind: Kind, parent: u32) -> Option<Event>
     }
 }
 
-/// A side of this parallel block is done, and so many sides have arrived.
+/// The event after a side of a parallel block, `node`: it arrives. `mark` is the number of sides that have arrived
+/// before it.
 fn of_arrive(kind: Kind, parent: u32, mark: u32, node: u32) -> Option<Event>
     ensures { result ≡ choice_arrive (Some kind) parent mark node }
 {
@@ -99,7 +100,7 @@ fn of_arrive(kind: Kind, parent: u32, mark: u32, node: u32) -> Option<Event>
     }
 }
 
-/// With a parallel block in hand, at which both sides have arrived.
+/// The event of a worker that was handed a parallel block, since both sides have arrived: the block is done.
 pub(crate) fn of_handed(kind: Kind, parent: u32) -> Option<Event>
     ensures { result ≡ choice_handed (Some kind) parent }
 {
@@ -113,7 +114,7 @@ pub(crate) fn of_handed(kind: Kind, parent: u32) -> Option<Event>
     }
 }
 
-/// How many steps of work an act is, if it is work.
+/// The number of steps of an act that is work.
 fn steps_of(act: Act) -> Option<u32>
     ensures { result ≡ act_steps act }
 {
@@ -123,8 +124,8 @@ fn steps_of(act: Act) -> Option<u32>
     }
 }
 
-/// With a leaf in hand that has started, by what it does and by what the worker knows of its call. The value is
-/// that of its work, if it is work.
+/// The event of a worker that has started a leaf, by what the leaf does and by how far its call has come. `work` is
+/// the value of the leaf's work, where it works.
 pub(crate) fn of_started(
     act: Act,
     call: CallState,
@@ -153,8 +154,9 @@ pub(crate) fn of_started(
 }
 
 impl State {
-    /// With nothing in hand: the newest node of the own list, or else the oldest of the next list that has one. Where
-    /// no list has a node it looks at none of them.
+    /// The event of a worker without a task: it claims the newest node of its own list or, where that is empty, the
+    /// oldest of the next list that has a node, in the order of the workers' numbers. Where no list has a node it looks
+    /// at none of them; else it looks at each list at most once.
     #[tactic(auto, unfolding(crate::specs::Code::Abstraction::ready_of))]
     pub(crate) fn choose_claim(&self, workers: u32, worker: u32) -> Option<Event>
         requires worker_in { worker < workers }
@@ -176,7 +178,7 @@ impl State {
         None
     }
 
-    /// With a node in hand that is done, by what is to be done then.
+    /// The event of a worker whose node is done, by the move that the plan has after that node.
     #[tactic(auto, unfolding(crate::specs::Code::Abstraction::state_of))]
     pub(crate) fn choose_whole(&self, job: &CoreJob, node: u32) -> Option<Event>
         requires node_in { node < (nodes_of job.now.plan).count }
@@ -199,7 +201,7 @@ impl State {
         }
     }
 
-    /// How many steps of work the leaf has that the worker has started, if it has started one that works.
+    /// The number of steps of the leaf that the worker has started, if it has started one that works.
     #[tactic(auto, unfolding(crate::specs::Code::Abstraction::state_of))]
     pub(crate) fn work_due(&self, job: &CoreJob, worker: u32) -> Option<u32>
         requires looks { CanChoose job.now self.now }

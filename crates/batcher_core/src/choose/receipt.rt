@@ -8,7 +8,8 @@ ghost use Rattle.batcher_core.specs.Code.Batches.{receipt_at};
 use crate::state::status::Receipt;
 use batch_history::{Batch, Entry};
 
-/// The receipt of this leaf's entry in the batch with this number, if the batch has one.
+/// The receipt of a leaf's entry in the batch with this number, if the batch has one. The entries are compared one
+/// after another.
 fn receipt_in(batch: u32, entries: &[Entry], leaf: u32) -> Option<Receipt>
     requires few { length entries.now < 2 ^ 32 }
     ensures { result ≡ receipt_at (place_in batch 0 entries.now leaf) }
@@ -25,8 +26,8 @@ fn receipt_in(batch: u32, entries: &[Entry], leaf: u32) -> Option<Receipt>
     None
 }
 
-/// The receipt of this leaf's entry, if the batches have one. It looks from the last batch on, since the receipt
-/// that is asked for mostly stands there.
+/// The receipt of a leaf's entry, if the batches have one. The search goes from the last batch to the first, since
+/// the leaf asked for mostly stands in the last.
 pub(crate) fn receipt_of(batches: &[Batch], leaf: u32) -> Option<Receipt>
     requires few_batches { length batches.now < 2 ^ 32 }
     requires few_entries { length (flat batches.now) < 2 ^ 32 }

@@ -1,4 +1,4 @@
-//! What the worker that has the flag keeps.
+//! The hold of the worker that has the flag.
 ghost use Rattle.std.specs.Prelude.{◌≡◌, ◌<◌, ◌≤◌, Some, true, false};
 ghost use Rattle.batcher_core.specs.State.{put};
 ghost use Rattle.batcher_core.specs.Events.{new_hold, looked as hold_looked, published as hold_published, answered as hold_answered};
@@ -6,22 +6,23 @@ ghost use Rattle.batcher_core.specs.Choice.{some_below, least_below, is_owed};
 ghost use Rattle.batcher_core.specs.Code.Places.{at};
 ghost use Rattle.batcher_core.specs.Code.Abstraction.{hold_view};
 
-/// What the worker that has the flag keeps: the batch that it is making. The two lists go by the workers' numbers.
+/// The hold of the worker that has the flag: how far it has come with its batch. `taken` and `answered` have an item
+/// for each worker.
 #[derive(Clone, Copy)]
 pub struct Hold {
     /// The worker that has the flag.
     pub worker: u32,
-    /// How many workers it has looked at.
+    /// The number of workers that it has looked at, in the order of their numbers.
     pub looks: u32,
-    /// Whose calls it has taken.
+    /// The workers whose calls it has taken.
     pub taken: [bool; 32],
-    /// Whom of these it has answered.
+    /// Those of them that have their receipts.
     pub answered: [bool; 32],
     /// Whether the calls that it has taken are served.
     pub published: bool,
 }
 
-/// The list with true at this place.
+/// The list with `true` at a place.
 fn with(list: [bool; 32], place: u32) -> [bool; 32]
     requires { place < 32 }
     ensures { at result false ≡ put (at list false) place true }
@@ -32,7 +33,7 @@ fn with(list: [bool; 32], place: u32) -> [bool; 32]
 }
 
 impl Hold {
-    /// The hold of a worker that has just taken the flag.
+    /// The hold of a worker that has just won the flag.
     pub(crate) fn of(worker: u32) -> Hold
         ensures { hold_view result ≡ new_hold worker }
     {
@@ -45,7 +46,7 @@ impl Hold {
         }
     }
 
-    /// Whether it has taken the call of this worker, and has not answered it.
+    /// Whether it has taken the call of a worker that has no receipt yet.
     fn is_owed(&self, worker: u32) -> bool
         requires { worker < 32 }
         ensures { result ≡ is_owed (hold_view self.now) worker }
@@ -53,7 +54,7 @@ impl Hold {
         self.taken[worker as usize] && !self.answered[worker as usize]
     }
 
-    /// Whether it has taken the call of this worker.
+    /// Whether it has taken the call of a worker.
     pub(crate) fn has_call_of(&self, worker: u32) -> bool
         requires { worker < 32 }
         ensures { result ≡ (hold_view self.now).taken worker }
@@ -61,7 +62,7 @@ impl Hold {
         self.taken[worker as usize]
     }
 
-    /// Whether it has taken a call.
+    /// Whether it has taken a call at all.
     pub(crate) fn has_taken(&self, workers: u32) -> bool
         requires { workers ≤ 32 }
         ensures { result ≡ some_below (hold_view self.now).taken workers }
@@ -74,7 +75,7 @@ impl Hold {
         false
     }
 
-    /// The least worker whose call it has taken and that it has not answered.
+    /// The worker with the least number whose call it has taken and that has no receipt yet.
     pub(crate) fn least_owed(&self, workers: u32) -> Option<u32>
         requires { workers ≤ 32 }
         ensures { result ≡ least_below (is_owed (hold_view self.now)) workers }
@@ -87,7 +88,7 @@ impl Hold {
         None
     }
 
-    /// After a look at a worker, whose call is taken or not.
+    /// The hold after a look at the worker `other`, whose call it takes or not.
     pub(crate) fn after_look(&self, other: u32, takes: bool) -> Hold
         requires room { self.now.looks < 32 }
         requires other_in { other < 32 }
@@ -106,7 +107,7 @@ impl Hold {
         }
     }
 
-    /// After the calls that it has taken are served.
+    /// The hold after the calls that it has taken are served.
     pub(crate) fn after_publish(&self) -> Hold
         ensures { Some (hold_view result) ≡ hold_published (Some (hold_view self.now)) }
     {
@@ -116,7 +117,7 @@ impl Hold {
         }
     }
 
-    /// After this worker has its receipt.
+    /// The hold after the worker `other` has its receipt.
     pub(crate) fn after_answer(&self, other: u32) -> Hold
         requires { other < 32 }
         ensures { Some (hold_view result) ≡ hold_answered (Some (hold_view self.now)) other }

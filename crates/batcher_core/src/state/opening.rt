@@ -1,4 +1,4 @@
-//! The table of the opening state.
+//! The opening state.
 ghost use Rattle.std.specs.Prelude.{◌≡◌, ◌<◌, ℕ, length, IfOk, replicate};
 ghost use Rattle.batcher_core.specs.State.{opening_state, opening_core};
 ghost use Rattle.batcher_core.specs.Code.Places.{at};
@@ -14,7 +14,7 @@ use batch_history::History;
 use seq_objects::Plain;
 use std::alloc::{AllocError, Global};
 
-/// So many copies of an item.
+/// A list of `count` copies of an item.
 fn copies<T: Copy>(alloc: Global, item: T, count: u32) -> Result<Vec<T>, AllocError>
     ensures { IfOk result (λ v. v.items ≡ replicate count item) }
 {
@@ -25,7 +25,7 @@ fn copies<T: Copy>(alloc: Global, item: T, count: u32) -> Result<Vec<T>, AllocEr
     Ok(items)
 }
 
-/// The nodes, of which the root is ready.
+/// The progress of the nodes at the opening: the root is ready.
 fn opening_nodes(alloc: Global, nodes: u32) -> Result<Vec<Progress>, AllocError>
     requires { 0 < nodes }
     ensures len { IfOk result (λ v. length v.items ≡ nodes) }
@@ -37,7 +37,7 @@ fn opening_nodes(alloc: Global, nodes: u32) -> Result<Vec<Progress>, AllocError>
 }
 
 impl State {
-    /// The table in which the root is ready, and nothing has happened.
+    /// The state in which the root is ready in the list of worker 0, and nothing has happened.
     pub(crate) fn opening(alloc: Global, nodes: u32, workers: u32) -> Result<State, AllocError>
         requires nodes { 0 < nodes }
         requires workers { 0 < workers }

@@ -3,7 +3,7 @@
 /// How far a node has come.
 #[derive(Clone, Copy)]
 pub enum Progress {
-    /// It may not be run yet.
+    /// A side before it is not done.
     Waiting,
     /// It may be run, and no worker has taken it.
     Ready,

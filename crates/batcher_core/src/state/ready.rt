@@ -7,8 +7,8 @@ ghost use Rattle.batcher_core.specs.Code.Places.{at, one_if_non_empty as count_o
 use std::alloc::{AllocError, Global};
 use std::marker::Model;
 
-/// The ready nodes of one worker, the oldest first. The oldest is claimed by a step of `first`, and a list with no
-/// node left begins anew, so neither end costs more where the list is long.
+/// The ready nodes of one worker, the oldest first. A claim of the oldest is a step of `first`, and a list with no node
+/// left begins anew, so a claim at either end takes the same time however long the list is.
 #[derive(Drop)]
 pub struct ReadyList {
     items: Vec<u32>,
@@ -40,7 +40,9 @@ fn begin_anew(items: &mut Vec<u32>, first: usize) -> usize
 }
 
 impl ReadyList {
-    /// The list with no nodes. Memory: none.
+    /// The list with no nodes.
+    ///
+    /// Memory: none.
     fn new(alloc: Global) -> ReadyList
         ensures { result ≡ [] }
     {
@@ -110,7 +112,7 @@ impl ReadyList {
         self.first = begin_anew(&mut self.items, self.first + 1);
     }
 
-    /// Takes a node away that stands once in the list, at one of its ends, or not at all.
+    /// Takes away a node that stands once in the list, at one of its ends, or not at all.
     fn remove(&mut self, node: u32)
         requires { IsAtEnd node self.old }
         ensures { self.new ≡ without node self.old }
@@ -123,12 +125,12 @@ impl ReadyList {
     }
 }
 
-/// A list of ready nodes for each worker. It keeps count of those that have a node, so that a worker with nothing to
-/// do sees at once that there is nothing to claim.
+/// A list of ready nodes for each worker, and the number of lists that have a node, by which a worker without a task
+/// sees at once that there is nothing to claim. Contracts see the lists.
 #[derive(Drop)]
 pub struct ReadyLists {
     lists: Vec<ReadyList>,
-    /// How many of the lists have a node.
+    /// The number of lists that have a node.
     non_empty: usize,
 }
 
@@ -144,7 +146,7 @@ impl Model for ReadyLists {
 }
 
 impl ReadyLists {
-    /// The lists of this number of workers, which have no nodes.
+    /// Lists without nodes, one for each of `workers`.
     fn empty(alloc: Global, workers: u32) -> Result<ReadyLists, AllocError>
         ensures { IfOk result (λ lists. lists ≡ replicate workers []) }
     {
@@ -158,7 +160,7 @@ impl ReadyLists {
         })
     }
 
-    /// The lists of this number of workers, of which that of worker 0 has the root.
+    /// The lists at the opening: that of worker 0 has the root, and the others are empty.
     pub(crate) fn opening(alloc: Global, workers: u32) -> Result<ReadyLists, AllocError>
         requires { 0 < workers }
         ensures len { IfOk result (λ lists. length lists ≡ workers) }
@@ -169,7 +171,9 @@ impl ReadyLists {
         Ok(lists)
     }
 
-    /// The nodes of a worker, the oldest first. Beyond the workers there are none. Memory: none.
+    /// The nodes of a worker, the oldest first. Beyond the workers there are none.
+    ///
+    /// Memory: none.
     pub(crate) fn of(&self, worker: u32) -> &[u32]
         ensures { result.now ≡ at self.now [] worker }
     {
@@ -200,7 +204,7 @@ impl ReadyLists {
         Ok(())
     }
 
-    /// Takes a node out of the lists, where it stands once, at an end of one of them.
+    /// Takes away a node that stands at an end of one list, or in none. Each list is looked at.
     pub(crate) fn remove(&mut self, node: u32)
         requires { (v : ℕ) → IsAtEnd node (at self.old [] v) }
         ensures len { length self.new ≡ length self.old }

@@ -2,7 +2,7 @@
 
 use seq_objects::Reply;
 
-/// Where the entry of a call stands in the book, and what was replied.
+/// The receipt of a call: the number of its batch, the place of its entry in that batch, and the reply.
 #[derive(Clone, Copy)]
 pub struct Receipt {
     pub batch: u32,
@@ -10,26 +10,26 @@ pub struct Receipt {
     pub reply: Reply,
 }
 
-/// How far the call has come that a worker has posted. A worker is trapped where its status is not free.
+/// How far the call of a worker has come. The worker is trapped where its status is not `Free`.
 #[derive(Clone, Copy)]
 pub enum Status {
-    /// It has posted none.
+    /// The worker has posted no call.
     Free,
-    /// It is posted, and no worker has taken it.
+    /// The call is posted, and the holder of the flag has not taken it.
     Pending,
-    /// The worker that holds the flag has taken it.
+    /// The holder of the flag has taken the call.
     Executing,
-    /// It is done, and this is its receipt.
+    /// The call is served, and this is its receipt.
     Served(Receipt),
 }
 
 /// What a worker knows of the call of the leaf that it has started.
 #[derive(Clone, Copy)]
 pub enum CallState {
-    /// It has not made one.
+    /// The worker has not made the call.
     NotCalled,
-    /// It has posted it, and has not left it.
+    /// The worker has posted the call, and has not left it.
     Out,
-    /// It has left it, with this receipt.
+    /// The worker has left the call with this receipt.
     Got(Receipt),
 }

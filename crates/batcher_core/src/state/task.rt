@@ -1,22 +1,22 @@
-//! What the workers have in hand.
+//! The tasks of the workers.
 
-/// What a worker has in hand. Each task but the first names one node.
+/// The task of a worker. Each but the first names one node.
 #[derive(Clone, Copy)]
 pub enum Task {
-    /// Nothing.
+    /// None: the worker may claim a node.
     Idle,
-    /// This node, which it has taken.
+    /// A node that the worker has claimed.
     Run(u32),
-    /// This parallel block, of which it has made the right side ready.
+    /// A parallel block of which the worker has made the right side ready.
     Half(u32),
-    /// This leaf, which has started.
+    /// A leaf that has started, with the tick of its start.
     Started { node: u32, start: u64 },
-    /// This leaf, which has started and has its value.
+    /// A leaf that has started and has its value.
     Kept { node: u32, start: u64 },
-    /// This leaf, which has started and ended.
+    /// A leaf that has started and ended, with both ticks.
     Ended { node: u32, start: u64, end: u64 },
-    /// This node, which is done and is not the root.
+    /// A node that is done and is not the root.
     Whole(u32),
-    /// This parallel block, at which both sides have arrived.
+    /// A parallel block at which both sides have arrived.
     Handed(u32),
 }

@@ -9,9 +9,7 @@ use Rattle.batcher_core.specs.Invariant.Tasks.{TasksInvariant}
 use Rattle.batcher_core.specs.Invariant.Ticks.{TicksInvariant}
 use Rattle.batcher_core.specs.Invariant.Values.{ValuesInvariant}
 use Rattle.batcher_core.specs.State.{CoreJob, CoreState, State}
-use Rattle.batcher_core.specs.declared.state.status.CallState.TheVariants.{NotCalled}
-use Rattle.batcher_core.specs.declared.state.status.Status.TheVariants.{Free}
-use Rattle.batcher_core.specs.declared.state.task.Task.TheVariants.{Idle}
+use Rattle.batcher_core.specs.Words.{NotCalled, Free, Idle}
 use Rattle.std.specs.Prelude.{ℕ, ◌-◌, ◌≡◌, ◌≤◌}
 pub mod Nodes
 pub mod Tasks

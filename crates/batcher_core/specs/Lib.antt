@@ -8,6 +8,7 @@ pub use Rattle.sp_order.specs.Preorder
 pub use Rattle.seq_objects.specs.Pairs
 pub use Rattle.batch_history.specs.Book
 pub use Rattle.batch_history.specs.Lawful
+pub mod Words
 pub mod State
 pub mod Operations
 pub mod Serving

@@ -1,7 +1,6 @@
 -- The lists of ready nodes of the workers, the oldest first.
 use Rattle.batcher_core.specs.State.{put}
-use Rattle.batcher_core.specs.declared.event.Event.{Event}
-use Rattle.batcher_core.specs.declared.event.Event.TheVariants.{Claim, OpenParLeft, OpenParRight, OpenSeqLeft, OpenSeqRight}
+use Rattle.batcher_core.specs.Words.{Event, Claim, OpenParLeft, OpenParRight, OpenSeqLeft, OpenSeqRight}
 use Rattle.std.specs.Prelude.{List, [], if◌then◌else◌, ℕ, ◌++◌, ◌+◌, ◌==◌, ◌∷◌}
 
 -- the list without this number

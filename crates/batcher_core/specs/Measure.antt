@@ -1,17 +1,7 @@
 -- How many events are left at most, in a run by turns.
 use Rattle.batcher_core.specs.Operations.{op_in}
 use Rattle.batcher_core.specs.State.{CoreJob, Hold, State}
-use Rattle.batcher_core.specs.declared.state.progress.Progress.{Progress}
-use Rattle.batcher_core.specs.declared.state.progress.Progress.TheVariants.{Done, Ran, Ready, Taken, Waiting}
-use Rattle.batcher_core.specs.declared.state.status.CallState.{CallState}
-use Rattle.batcher_core.specs.declared.state.status.CallState.TheVariants.{Got, NotCalled, Out}
-use Rattle.batcher_core.specs.declared.state.status.Status.{Status}
-use Rattle.batcher_core.specs.declared.state.status.Status.TheVariants.{Executing, Free, Pending, Served}
-use Rattle.batcher_core.specs.declared.state.task.Task.{Task}
-use Rattle.batcher_core.specs.declared.state.task.Task.TheVariants.{Ended, Half, Handed, Idle, Kept, Run, Started, Whole}
-use Rattle.seq_objects.specs.declared.op.Op.{Op}
-use Rattle.sp_order.specs.declared.node.Kind.{Kind}
-use Rattle.sp_order.specs.declared.node.Kind.TheVariants.{LeafNode, ParNode, SeqNode}
+use Rattle.batcher_core.specs.Words.{Progress, Done, Ran, Ready, Taken, Waiting, CallState, Got, NotCalled, Out, Status, Executing, Free, Pending, Served, Task, Ended, Half, Handed, Idle, Kept, Run, Started, Whole, Op, Kind, LeafNode, ParNode, SeqNode}
 use Rattle.std.specs.Prelude.{Bool, None, Option, Some, false, if◌then◌else◌, suc, zero, ℕ, ◌+◌, ◌-◌, ◌==◌}
 
 -- the sum of the values at the numbers below n

@@ -1,12 +1,6 @@
 -- The leaves that call, the operation of each, and where its entry stands in the book.
-use Rattle.batch_history.specs.declared.batch.Entry.{Entry}
+use Rattle.batcher_core.specs.Words.{Entry, Receipt, Act, Call, Work, Op, Kind, LeafNode, ParNode, SeqNode}
 use Rattle.batcher_core.specs.State.{CoreJob}
-use Rattle.batcher_core.specs.declared.state.status.Receipt.{Receipt}
-use Rattle.seq_objects.specs.declared.act.Act.{Act}
-use Rattle.seq_objects.specs.declared.act.Act.TheVariants.{Call, Work}
-use Rattle.seq_objects.specs.declared.op.Op.{Op}
-use Rattle.sp_order.specs.declared.node.Kind.{Kind}
-use Rattle.sp_order.specs.declared.node.Kind.TheVariants.{LeafNode, ParNode, SeqNode}
 use Rattle.std.specs.Prelude.{List, None, Option, Some, [], if◌then◌else◌, ℕ, ◌+◌, ◌==◌, ◌∷◌, ◌≡◌, ◌≢◌}
 
 -- the leaf that a node is

@@ -3,11 +3,8 @@ use Rattle.batch_history.specs.declared.report.Report.{Report}
 use Rattle.batch_history.specs.declared.row.Row.{Row}
 use Rattle.batcher_core.specs.Runs.{Drives}
 use Rattle.batcher_core.specs.State.{CoreJob, CoreState, State, core_job, opening_core}
-use Rattle.batcher_core.specs.declared.state.progress.Progress.{Progress}
-use Rattle.batcher_core.specs.declared.state.progress.Progress.TheVariants.{Ran}
-use Rattle.seq_objects.specs.declared.act.Act.{Act}
+use Rattle.batcher_core.specs.Words.{Progress, Ran, Act, Tree, leaves}
 use Rattle.sp_order.specs.Jobs.{JobValue}
-use Rattle.sp_order.specs.Precedence.{Tree, leaves}
 use Rattle.std.specs.List.{AllByRecursion, range_with_len}
 use Rattle.std.specs.Prelude.{List, None, Option, Some, [], map, ℕ, ◌≡◌}
 

@@ -1,19 +1,7 @@
 -- The state of the scheduler's core, as functions of the numbers of nodes and of workers.
 use Rattle.seq_objects.specs.Objects as objects
-use Rattle.batch_history.specs.declared.batch.Entry.{Entry}
-use Rattle.batcher_core.specs.declared.state.progress.Progress.{Progress}
-use Rattle.batcher_core.specs.declared.state.progress.Progress.TheVariants.{Ready, Waiting}
-use Rattle.batcher_core.specs.declared.state.status.CallState.{CallState}
-use Rattle.batcher_core.specs.declared.state.status.CallState.TheVariants.{NotCalled}
-use Rattle.batcher_core.specs.declared.state.status.Status.{Status}
-use Rattle.batcher_core.specs.declared.state.status.Status.TheVariants.{Free}
-use Rattle.batcher_core.specs.declared.state.task.Task.{Task}
-use Rattle.batcher_core.specs.declared.state.task.Task.TheVariants.{Idle}
+use Rattle.batcher_core.specs.Words.{Entry, Progress, Ready, Waiting, CallState, NotCalled, Status, Free, Task, Idle, Act, Work, Nodes, Tree}
 use Rattle.seq_objects.specs.Objects.{Objects}
-use Rattle.seq_objects.specs.declared.act.Act.{Act}
-use Rattle.seq_objects.specs.declared.act.Act.TheVariants.{Work}
-use Rattle.sp_order.specs.Plans.{Nodes}
-use Rattle.sp_order.specs.Precedence.{Tree}
 use Rattle.sp_order.specs.Preorder.{nodes_of}
 use Rattle.std.specs.Prelude.{Bool, List, None, Option, [], if◌then◌else◌, slice_index_or, ℕ, ◌==◌, ◌∷◌}
 

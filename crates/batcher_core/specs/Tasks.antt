@@ -1,8 +1,5 @@
 -- What a worker's task says.
-use Rattle.batcher_core.specs.declared.state.progress.Progress.{Progress}
-use Rattle.batcher_core.specs.declared.state.progress.Progress.TheVariants.{Done, Ran, Ready, Taken, Waiting}
-use Rattle.batcher_core.specs.declared.state.task.Task.{Task}
-use Rattle.batcher_core.specs.declared.state.task.Task.TheVariants.{Ended, Half, Handed, Idle, Kept, Run, Started, Whole}
+use Rattle.batcher_core.specs.Words.{Progress, Done, Ran, Ready, Taken, Waiting, Task, Ended, Half, Handed, Idle, Kept, Run, Started, Whole}
 use Rattle.std.specs.Prelude.{Bool, None, Option, Some, false, true, ℕ}
 
 abbrev pub is_done : Progress → Bool

@@ -4,16 +4,11 @@
 -- moment at which the worker is trapped, its call is or will be in a batch with a number of at most b + 1; where it
 -- is pending at that moment, in batch b or b + 1. So it waits for at most two batches: for the one that is gathered
 -- at that moment, if that has looked past it, and for the next one.
-use Rattle.batch_history.specs.declared.batch.Entry.{Entry}
+use Rattle.batcher_core.specs.Words.{Entry, Event, Status, Executing, Free, Pending, Served, Task, Ended, Half, Handed, Idle, Kept, Run, Started, Whole}
 use Rattle.batcher_core.specs.Events.{Happens}
 use Rattle.batcher_core.specs.Invariant.Hold.{is_published}
 use Rattle.batcher_core.specs.Operations.{Place, leaf_of, place_of}
 use Rattle.batcher_core.specs.State.{CoreJob, Hold, State}
-use Rattle.batcher_core.specs.declared.event.Event.{Event}
-use Rattle.batcher_core.specs.declared.state.status.Status.{Status}
-use Rattle.batcher_core.specs.declared.state.status.Status.TheVariants.{Executing, Free, Pending, Served}
-use Rattle.batcher_core.specs.declared.state.task.Task.{Task}
-use Rattle.batcher_core.specs.declared.state.task.Task.TheVariants.{Ended, Half, Handed, Idle, Kept, Run, Started, Whole}
 use Rattle.std.specs.Prelude.{List, None, Option, Some, false, length, true, ℕ, ◌+◌, ◌≡◌, ◌≢◌, ◌≤◌, ◌⊎◌}
 
 -- the worker is trapped

@@ -1,9 +1,6 @@
 -- The hold of the worker that has the flag.
 use Rattle.batcher_core.specs.State.{Hold}
-use Rattle.batcher_core.specs.declared.state.status.CallState.{CallState}
-use Rattle.batcher_core.specs.declared.state.status.CallState.TheVariants.{Out}
-use Rattle.batcher_core.specs.declared.state.status.Status.{Status}
-use Rattle.batcher_core.specs.declared.state.status.Status.TheVariants.{Pending}
+use Rattle.batcher_core.specs.Words.{CallState, Out, Status, Pending}
 use Rattle.std.specs.Prelude.{Bool, None, Option, Some, false, true, ℕ, ◌<◌, ◌≡◌, ◌≢◌, ◌≤◌}
 
 abbrev pub is_published : Option Hold → Bool

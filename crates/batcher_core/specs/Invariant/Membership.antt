@@ -2,12 +2,7 @@
 use Rattle.batcher_core.specs.Invariant.Hold.{is_published}
 use Rattle.batcher_core.specs.Operations.{IsCall, Place, place_of}
 use Rattle.batcher_core.specs.State.{CoreJob, State}
-use Rattle.batcher_core.specs.declared.state.progress.Progress.TheVariants.{Ran}
-use Rattle.batcher_core.specs.declared.state.status.CallState.TheVariants.{Got}
-use Rattle.batcher_core.specs.declared.state.status.Receipt.{Receipt}
-use Rattle.batcher_core.specs.declared.state.status.Status.TheVariants.{Executing, Served}
-use Rattle.batcher_core.specs.declared.state.task.Task.TheVariants.{Ended, Kept, Started}
-use Rattle.sp_order.specs.declared.node.Kind.TheVariants.{LeafNode}
+use Rattle.batcher_core.specs.Words.{Ran, Got, Receipt, Executing, Served, Ended, Kept, Started, LeafNode}
 use Rattle.std.specs.Prelude.{Some, true, ℕ, ◌≡◌, ◌⊎◌}
 
 -- the call of the leaf at this node is in the book, if it has one, as the call of this worker

@@ -1,10 +1,7 @@
 -- The nodes.
 use Rattle.batcher_core.specs.Operations.{IsLeaf}
 use Rattle.batcher_core.specs.Tasks.{is_done}
-use Rattle.batcher_core.specs.declared.state.progress.Progress.{Progress}
-use Rattle.batcher_core.specs.declared.state.progress.Progress.TheVariants.{Done, Ran, Ready, Waiting}
-use Rattle.sp_order.specs.Plans.{IsSide, IsUnder, Nodes}
-use Rattle.sp_order.specs.declared.node.Kind.TheVariants.{SeqNode}
+use Rattle.batcher_core.specs.Words.{Progress, Done, Ran, Ready, Waiting, IsSide, IsUnder, Nodes, SeqNode}
 use Rattle.std.specs.Prelude.{None, Some, true, ℕ, ◌≡◌, ◌≢◌, ◌⊎◌}
 
 -- the node is under a side of the other one

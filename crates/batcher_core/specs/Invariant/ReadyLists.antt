@@ -1,7 +1,6 @@
 -- The lists of ready nodes.
 use Rattle.batcher_core.specs.Lists.{times}
-use Rattle.batcher_core.specs.declared.state.progress.Progress.{Progress}
-use Rattle.batcher_core.specs.declared.state.progress.Progress.TheVariants.{Ready}
+use Rattle.batcher_core.specs.Words.{Progress, Ready}
 use Rattle.std.specs.Prelude.{List, ℕ, ◌<◌, ◌≡◌, ◌≢◌}
 
 -- each ready node stands in the list of one of the workers, once, and in no other; and lists hold ready nodes only

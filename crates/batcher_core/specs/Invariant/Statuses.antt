@@ -1,12 +1,7 @@
 -- The statuses, the calls and the receipts of the workers.
-use Rattle.batch_history.specs.declared.batch.Entry.{Entry}
+use Rattle.batcher_core.specs.Words.{Entry, Got, NotCalled, Out, Receipt, Executing, Free, Served, Task, Ended, Half, Handed, Idle, Kept, Run, Started, Whole}
 use Rattle.batcher_core.specs.Operations.{IsCall, IsReceipt, leaf_of, place_of}
 use Rattle.batcher_core.specs.State.{CoreJob, Hold, State}
-use Rattle.batcher_core.specs.declared.state.status.CallState.TheVariants.{Got, NotCalled, Out}
-use Rattle.batcher_core.specs.declared.state.status.Receipt.{Receipt}
-use Rattle.batcher_core.specs.declared.state.status.Status.TheVariants.{Executing, Free, Served}
-use Rattle.batcher_core.specs.declared.state.task.Task.{Task}
-use Rattle.batcher_core.specs.declared.state.task.Task.TheVariants.{Ended, Half, Handed, Idle, Kept, Run, Started, Whole}
 use Rattle.std.specs.Prelude.{Bool, List, None, Option, Some, false, not, true, ℕ, ◌&&◌, ◌↔◌, ◌≡◌, ◌≢◌}
 
 -- the task is started at a leaf that calls

@@ -1,12 +1,7 @@
 -- The workers' tasks, and the marks of parallel blocks.
 use Rattle.batcher_core.specs.Operations.{IsLeaf}
 use Rattle.batcher_core.specs.Tasks.{is_done, names}
-use Rattle.batcher_core.specs.declared.state.progress.Progress.{Progress}
-use Rattle.batcher_core.specs.declared.state.progress.Progress.TheVariants.{Taken, Waiting}
-use Rattle.batcher_core.specs.declared.state.task.Task.{Task}
-use Rattle.batcher_core.specs.declared.state.task.Task.TheVariants.{Ended, Half, Handed, Idle, Kept, Run, Started, Whole}
-use Rattle.sp_order.specs.Plans.{IsSide, Nodes}
-use Rattle.sp_order.specs.declared.node.Kind.TheVariants.{ParNode, SeqNode}
+use Rattle.batcher_core.specs.Words.{Progress, Taken, Waiting, Task, Ended, Half, Handed, Idle, Kept, Run, Started, Whole, IsSide, Nodes, ParNode, SeqNode}
 use Rattle.std.specs.Prelude.{Some, true, ℕ, ◌+◌, ◌<◌, ◌≡◌, ◌≢◌, ◌⊎◌}
 
 -- some task names the node

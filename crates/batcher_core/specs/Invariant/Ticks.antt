@@ -1,10 +1,6 @@
 -- The ticks of the leaves.
 use Rattle.batcher_core.specs.Operations.{IsLeaf}
-use Rattle.batcher_core.specs.declared.state.progress.Progress.{Progress}
-use Rattle.batcher_core.specs.declared.state.progress.Progress.TheVariants.{Ran}
-use Rattle.batcher_core.specs.declared.state.task.Task.{Task}
-use Rattle.batcher_core.specs.declared.state.task.Task.TheVariants.{Ended, Half, Handed, Idle, Kept, Run, Started, Whole}
-use Rattle.sp_order.specs.Plans.{IsBySeries, Nodes}
+use Rattle.batcher_core.specs.Words.{Progress, Ran, Task, Ended, Half, Handed, Idle, Kept, Run, Started, Whole, IsBySeries, Nodes}
 use Rattle.std.specs.Prelude.{ℕ, ◌<◌, ◌≡◌, ◌⊎◌}
 
 -- the task names the node as started, kept or ended, with this start

@@ -1,16 +1,10 @@
 -- The values of the leaves.
 use Rattle.batch_history.specs.Book.{flat}
-use Rattle.batch_history.specs.declared.batch.Entry.{Entry}
+use Rattle.batcher_core.specs.Words.{Entry, Progress, Task, Ended, Kept, Act, Call, Work, LeafNode}
 use Rattle.batcher_core.specs.State.{CoreJob, State}
 use Rattle.batcher_core.specs.Tasks.{is_done}
-use Rattle.batcher_core.specs.declared.state.progress.Progress.{Progress}
-use Rattle.batcher_core.specs.declared.state.task.Task.{Task}
-use Rattle.batcher_core.specs.declared.state.task.Task.TheVariants.{Ended, Kept}
 use Rattle.seq_objects.specs.Objects.{value_of}
 use Rattle.seq_objects.specs.Spin.{spin_of}
-use Rattle.seq_objects.specs.declared.act.Act.{Act}
-use Rattle.seq_objects.specs.declared.act.Act.TheVariants.{Call, Work}
-use Rattle.sp_order.specs.declared.node.Kind.TheVariants.{LeafNode}
 use Rattle.std.specs.Prelude.{Contains, List, Some, true, ℕ, ◌≡◌, ◌⊎◌}
 
 -- the leaf is done, or a task kept or ended names it

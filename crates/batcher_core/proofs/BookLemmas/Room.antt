@@ -1,9 +1,9 @@
 -- There is at most one entry for each leaf that calls, so the numbers of batches, of places and of the counter have room.
-use Rattle.std.proofs.Common.{ℕ, ◌≡◌, ◌<◌, ◌≤◌, ◌+◌, ◌*◌, ◌^◌, true, false, Some, List, [], ◌∷◌, ◌++◌, length, map, arith, refl, inl, inr, sym, ◌∙◌, ap, eqb-true, length-append}
+use Rattle.std.proofs.Common.{ℕ, ◌≡◌, ◌<◌, ◌≤◌, ◌+◌, ◌*◌, ◌^◌, Some, List, [], ◌∷◌, ◌++◌, length, map, arith, refl, sym, ◌∙◌, ap, eqb-true, length-append}
 use Rattle.std.proofs.lemmas.List.{length-map}
-use Rattle.std.specs.List.{AllByRecursion, list_any}
-use Rattle.std.proofs.Math.Dec.{eqb}
+use Rattle.std.specs.List.{AllByRecursion}
 use Rattle.std.proofs.lemmas.Map.Steps.{length-le_from_distinct_below}
+use Rattle.std.proofs.lemmas.Map.Views.{Contains-from_any}
 use Rattle.seq_objects.specs.Objects.{Objects}
 use Rattle.seq_objects.specs.declared.call.Call.{Call as Asked}
 use Rattle.batcher_core.proofs.Words.{Entry, CoreJob, State}
@@ -12,20 +12,13 @@ use Rattle.batch_history.specs.Book.{flat, IsBatch}
 use Rattle.batcher_core.specs.Operations.{op_in, IsCall}
 use Rattle.batcher_core.proofs.Inductive.Parts.{InductiveParts}
 use Rattle.batcher_core.specs.Code.Batches.{call_in, AreEntriesOf}
-use Rattle.batcher_core.proofs.BookLemmas.EntryLists.{each_so, each_mapped, distinct_tests}
+use Rattle.batcher_core.proofs.BookLemmas.EntryLists.{each_so, each_mapped, each_at, distinct_tests}
 use Rattle.batcher_core.proofs.BookLemmas.Books.{flat_append}
-use Rattle.batcher_core.proofs.CodeLemmas.TickRoom.{either}
-
-each_below : (xs : List ℕ) (most q : ℕ) → AllByRecursion (λ x. x < most) xs → list_any (eqb q) xs ≡ true → q < most
-each_below [] most q h any = let z : false ≡ true = any in absurd (cc)
-each_below (x ∷ xs) most q h any = elim (either (eqb q x) (list_any (eqb q) xs) any) [
-  | inl e ↦ let same = eqb-true q x e in omega (arith, same, h.0)
-  | inr r ↦ each_below xs most q h.1 r
-]
 
 -- there are no more distinct numbers than numbers below their bound
 pub distinct_few : (xs : List ℕ) (most : ℕ) → AreDistinct xs → AllByRecursion (λ x. x < most) xs → length xs ≤ most
-distinct_few xs most distinct below = length-le_from_distinct_below xs most (distinct_tests xs distinct) (λ q any. each_below xs most q below any)
+distinct_few xs most distinct below =
+    length-le_from_distinct_below xs most (distinct_tests xs distinct) (λ q found. each_at (λ x. x < most) xs q below (Contains-from_any eqb-true q xs found))
 
 -- no batch is empty, so there are no more batches than entries
 pub few_batches : (book : List (List Entry)) → AllByRecursion IsBatch book → length book ≤ length (flat book)

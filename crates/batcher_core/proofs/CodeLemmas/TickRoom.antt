@@ -1,13 +1,12 @@
 -- There are at most two ticks for each node, so the tick has room.
-use Rattle.std.proofs.Common.{ℕ, zero, suc, ◌≡◌, ◌≢◌, ◌<◌, ◌≤◌, ◌+◌, ◌*◌, ◌⊎◌, ◌||◌, Bool, true, false, Option, Some, None, List, [], ◌∷◌, length, arith, refl, inl, inr, sym, ◌∙◌, ap, eqb-true}
-use Rattle.std.proofs.lemmas.Bool.Decides.{nat_tests}
-use Rattle.std.specs.List.{IsDistinct, AllByRecursion, list_any}
-use Rattle.std.proofs.Math.Dec.{eqb}
-use Rattle.std.proofs.lemmas.Map.Steps.{length-le_from_distinct_below}
+use Rattle.std.proofs.Common.{ℕ, zero, suc, ◌≡◌, ◌≢◌, ◌<◌, ◌≤◌, ◌+◌, ◌*◌, Option, Some, None, List, [], ◌∷◌, length, arith, refl, sym, ◌∙◌, ap}
+use Rattle.std.specs.List.{AllByRecursion}
+use Rattle.seq_objects.specs.Pairs.{AreDistinct}
 use Rattle.sp_order.specs.Plans.{IsPlan}
 use Rattle.batcher_core.specs.State.{CoreJob, State}
 use Rattle.batcher_core.proofs.Inductive.Ticks.{Stamp, Drawn, StartOf, EndOf, StartsAt, EndsAt, stamps}
 use Rattle.batcher_core.proofs.Inductive.Parts.{InductiveParts}
+use Rattle.batcher_core.proofs.BookLemmas.Room.{distinct_few}
 use Rattle.batcher_core.proofs.CodeLemmas.InRange.{standing_in}
 
 abbrev code : Drawn → ℕ
@@ -22,18 +21,6 @@ codes draw (suc k) = code (draw k) ∷ codes draw k
 length_codes : (draw : ℕ → Drawn) (k : ℕ) → length (codes draw k) ≡ k
 length_codes draw zero = refl
 length_codes draw (suc k) = let h = length_codes draw k in omega (arith, h)
-
-pub either : (a b : Bool) → (a || b) ≡ true → (a ≡ true) ⊎ (b ≡ true)
-either true b h = inl refl
-either false b h = inr h
-
--- a code in the list is that of a tick
-code_at : (draw : ℕ → Drawn) (k q : ℕ) → list_any (eqb q) (codes draw k) ≡ true → (t : ℕ) × (t < k) × (q ≡ code (draw t))
-code_at draw zero q h = let z : false ≡ true = h in absurd (cc)
-code_at draw (suc k) q h = elim (either (eqb q (code (draw k))) (list_any (eqb q) (codes draw k)) h) [
-  | inl e ↦ (k, omega arith, eqb-true q (code (draw k)) e)
-  | inr r ↦ let g = code_at draw k q r in (g.0, omega (arith, g.1), g.2)
-]
 
 same_start : (s : Option Stamp) (t u : ℕ) → StartsAt s t → StartsAt s u → t ≡ u
 same_start None t u a b = absurd a
@@ -60,20 +47,22 @@ same_code (StartOf n) (EndOf m) e = absurd (omega (arith, e))
 same_code (EndOf n) (StartOf m) e = absurd (omega (arith, e))
 same_code (EndOf n) (EndOf m) e = ap EndOf (omega (arith, e))
 
-pub code_apart : (x y : ℕ) → x ≢ y → eqb x y ≡ false
-code_apart x y apart = grind (arith, nat_tests)
+-- the codes of draws that differ are distinct
+apart_codes : (draw : ℕ → Drawn) (j x : ℕ) → ((t : ℕ) → t < j → x ≢ code (draw t)) → AllByRecursion (λ y. x ≢ y) (codes draw j)
+apart_codes draw zero x h = tt
+apart_codes draw (suc j) x h = (h j (omega arith), apart_codes draw j x (λ t below. h t (omega (arith, below))))
 
-apart_codes : (draw : ℕ → Drawn) (j x : ℕ) → ((t : ℕ) → t < j → x ≢ code (draw t)) → AllByRecursion (λ y. eqb x y ≡ false) (codes draw j)
-apart_codes draw zero x h = record {}
-apart_codes draw (suc j) x h = (code_apart x (code (draw j)) (h j (omega arith)), apart_codes draw j x (λ t below. h t (omega (arith, below))))
-
-distinct_codes : (draw : ℕ → Drawn) (k : ℕ) → ((t u : ℕ) → t < k → u < k → draw t ≡ draw u → t ≡ u) → IsDistinct eqb (codes draw k)
-unfolding IsDistinct
-distinct_codes draw zero h = record {}
+distinct_codes : (draw : ℕ → Drawn) (k : ℕ) → ((t u : ℕ) → t < k → u < k → draw t ≡ draw u → t ≡ u) → AreDistinct (codes draw k)
+distinct_codes draw zero h = tt
 distinct_codes draw (suc k) h = (
   apart_codes draw k (code (draw k)) (λ t below e. let f = h k t (omega arith) (omega (arith, below)) (same_code (draw k) (draw t) e) in absurd (omega (arith, f, below))),
   distinct_codes draw k (λ t u a b. h t u (omega (arith, a)) (omega (arith, b))),
 )
+
+-- what holds of the code of each draw
+each_code : (P : ℕ → Type 0) (draw : ℕ → Drawn) (k : ℕ) → ((t : ℕ) → t < k → P (code (draw t))) → AllByRecursion P (codes draw k)
+each_code P draw zero h = tt
+each_code P draw (suc k) h = (h k (omega arith), each_code P draw k (λ t below. h t (omega (arith, below))))
 
 module _ (job : CoreJob) (s : State) (laws : IsPlan job.plan) (h : InductiveParts job s) where
   known_in : (n : ℕ) → stamps s.node s.task h.holder n ≢ None → n < job.plan.count
@@ -89,13 +78,10 @@ module _ (job : CoreJob) (s : State) (laws : IsPlan job.plan) (h : InductivePart
   drawn_once t u a b (StartOf n) e f = same_start (stamps s.node s.task h.holder n) t u (h.ticks.start_at t n a e) (h.ticks.start_at u n b f)
   drawn_once t u a b (EndOf n) e f = same_end (stamps s.node s.task h.holder n) t u (h.ticks.end_at t n a e) (h.ticks.end_at u n b f)
 
-  codes_below : (q : ℕ) → list_any (eqb q) (codes h.ticks.draw s.tick) ≡ true → q < 2 * job.plan.count
-  codes_below q any =
-      let g = code_at h.ticks.draw s.tick q any in rw g.2 (drawn_below g.0 g.1 (h.ticks.draw g.0) refl)
-
   -- there are at most two ticks for each node
   pub tick_most : s.tick ≤ 2 * job.plan.count
   tick_most =
-      let d = distinct_codes h.ticks.draw s.tick (λ t u a b e. drawn_once t u a b (h.ticks.draw u) e refl) in
-      let l = length-le_from_distinct_below (codes h.ticks.draw s.tick) (2 * job.plan.count) d codes_below in
-      rw (length_codes h.ticks.draw s.tick) at l
+      let most = distinct_few (codes h.ticks.draw s.tick) (2 * job.plan.count)
+          (distinct_codes h.ticks.draw s.tick (λ t u a b e. drawn_once t u a b (h.ticks.draw u) e refl))
+          (each_code (λ c. c < 2 * job.plan.count) h.ticks.draw s.tick (λ t below. drawn_below t below (h.ticks.draw t) refl)) in
+      rw (length_codes h.ticks.draw s.tick) at most

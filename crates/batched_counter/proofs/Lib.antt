@@ -1,2 +1,3 @@
+pub mod BeginLemmas
+pub mod EndLemmas
 mod Law
-mod Rows

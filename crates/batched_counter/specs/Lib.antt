@@ -1,4 +1,4 @@
 pub mod Sums
-pub mod Adds
+pub mod Calls
 pub mod Pieces
-pub mod Joined
+pub mod Code

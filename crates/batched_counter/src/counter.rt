@@ -1,13 +1,15 @@
-//! The counter.
+//! A counter that serves batches of additions.
 ghost use Rattle.std.specs.Prelude.{◌≡◌, ℕ, IfOk, IsOk};
 ghost use Rattle.seq_objects.specs.Serial.{replies_to_all, after_all, of_counter};
 ghost use Rattle.seq_objects.specs.Pieces.{AllMeet, BatchContext};
-ghost use Rattle.batched_counter.specs.declared.chunk.Chunk.{Chunk as ChunkOf};
-ghost use Rattle.batched_counter.specs.Adds.{MayServe};
+ghost use Rattle.batched_counter.specs.declared.piece.Piece.{Piece as PieceOf};
+ghost use Rattle.batched_counter.specs.Calls.{MayServe};
 ghost use Rattle.batched_counter.specs.Pieces.{Meets, Cut, IsContextOf};
 
-use crate::chunk::{Chunk, Sums};
-use crate::sums::{chunks_of, join, sums_of};
+use crate::begin::pieces_of;
+use crate::end::join_pieces;
+use crate::piece::{Piece, Rest, Served};
+use crate::serve::serve_piece;
 use seq_objects::{Batched, Call, Reply};
 use std::alloc::{AllocError, Global};
 use std::marker::Model;
@@ -26,14 +28,10 @@ impl Model for Counter {
     ghost view = { λ c. c.number };
 }
 
-/// What is kept of a counter while the chunks of a batch are summed: the number before the batch.
-#[derive(Drop)]
-pub struct Before {
-    pub number: u64,
-}
-
 impl Counter {
-    /// The opening number. It takes no memory.
+    /// A counter at 0.
+    ///
+    /// Memory: none.
     pub fn new(_alloc: Global) -> Result<Counter, AllocError>
         ensures opening { IfOk result (λ c. c ≡ 0) }
         ensures sure { IsOk result }
@@ -43,11 +41,11 @@ impl Counter {
 }
 
 impl Batched for Counter {
-    type In = Chunk;
+    type In = Piece;
 
-    type Out = Sums;
+    type Out = Served;
 
-    type Rest = Before;
+    type Rest = Rest;
 
     const MOST: u32 = 16;
 
@@ -63,28 +61,32 @@ impl Batched for Counter {
 
     ghost is_context_of = { IsContextOf };
 
-    fn begin(self, alloc: Global, calls: &[Call]) -> Result<(Before, Vec<Chunk>), AllocError> {
-        let chunks = chunks_of(alloc, calls)?;
-        let before = Before {
+    fn begin(self, alloc: Global, calls: &[Call]) -> Result<(Rest, Vec<Piece>), AllocError> {
+        let pieces = pieces_of(alloc, calls)?;
+        let rest = Rest {
             number: self.number,
         };
-        Ok((before, chunks))
+        Ok((rest, pieces))
     }
 
-    fn piece(alloc: Global, input: Chunk) -> Result<Sums, AllocError> {
-        sums_of(alloc, &input.addends)
+    fn piece(alloc: Global, input: Piece) -> Result<Served, AllocError> {
+        serve_piece(alloc, &input.addends)
     }
 
     fn end(
         alloc: Global,
-        rest: Before,
-        outs: Vec<Sums>,
+        rest: Rest,
+        outs: Vec<Served>,
     ) -> Result<(Counter, Vec<Reply>), AllocError>
-        requires { (o : BatchContext ℕ ChunkOf) × IsContextOf rest o × AllMeet Meets o.ins outs.items }
-        ensures replies { IfOk result (λ p. (o : BatchContext ℕ ChunkOf) → IsContextOf rest o → AllMeet Meets o.ins outs.items → p.1.items ≡ replies_to_all (of_counter o.before) o.calls) }
-        ensures content { IfOk result (λ p. (o : BatchContext ℕ ChunkOf) → IsContextOf rest o → AllMeet Meets o.ins outs.items → of_counter p.0 ≡ after_all (of_counter o.before) o.calls) }
+        requires { (o : BatchContext ℕ PieceOf) × IsContextOf rest o × AllMeet Meets o.ins outs.items }
+        ensures replies { IfOk result (λ p. (o : BatchContext ℕ PieceOf) → IsContextOf rest o
+            → AllMeet Meets o.ins outs.items
+            → p.1.items ≡ replies_to_all (of_counter o.before) o.calls) }
+        ensures content { IfOk result (λ p. (o : BatchContext ℕ PieceOf) → IsContextOf rest o
+            → AllMeet Meets o.ins outs.items
+            → of_counter p.0 ≡ after_all (of_counter o.before) o.calls) }
     {
-        let (number, replies) = join(alloc, rest.number, &outs)?;
+        let (number, replies) = join_pieces(alloc, rest.number, &outs)?;
         Ok((Counter { number }, replies))
     }
 }

@@ -1,16 +1,15 @@
-//! A counter that serves a batch of additions in chunks.
+//! A counter that serves a batch of additions in pieces.
 //!
-//! `Counter` obeys the law of batches: its chunks are summed apart from one another, and the end adds what
-//! came before each of them. So the replies to a batch and the number after it are those of one addition after
+//! `Counter` obeys the law of batches: the pieces are summed apart from one another, and the end adds to each of
+//! their sums what came before. So the replies to a batch and the number after it are those of one addition after
 //! another. The crate stands on `seq_objects`, which has the law.
 #![tactic(auto)]
 
-pub mod chunk;
+mod begin;
 pub mod counter;
-mod sums;
+mod end;
+pub mod piece;
+mod serve;
 
-pub use chunk::{Chunk, Sums};
-pub use counter::{Before, Counter};
-
-#[cfg(test)]
-mod tests;
+pub use counter::Counter;
+pub use piece::{Piece, Rest, Served};

@@ -1,7 +1,7 @@
 use Rattle.std.proofs.Common.{◌≡◌, ◌++◌, ◌+◌, ◌<◌, ◌^◌, drop}
 use Rattle.std.specs.List.{AllByRecursion}
-use Rattle.batched_counter.specs.Joined.{number_replies}
-use Rattle.batched_counter.proofs.sums.push_numbers.Given as goal
+use Rattle.batched_counter.specs.Code.End.{number_replies}
+use Rattle.batched_counter.proofs.end.push_numbers.Given as goal
 
 abbrev pub invariant-loop-prefix : goal.invariant-loop-prefix
 invariant-loop-prefix l = record {

@@ -1,6 +1,6 @@
 use Rattle.std.proofs.Common.{◌≡◌, ◌++◌, ◌+◌, drop}
 use Rattle.batched_counter.specs.Sums.{total, sums_from}
-use Rattle.batched_counter.proofs.sums.sums_of.Given as goal
+use Rattle.batched_counter.proofs.serve.serve_piece.Given as goal
 
 abbrev pub invariant-loop-addend : goal.invariant-loop-addend
 invariant-loop-addend l = record {

@@ -1,6 +1,6 @@
 use Rattle.std.proofs.Common.{◌≡◌, ◌++◌, drop}
-use Rattle.batched_counter.specs.Adds.{addends}
-use Rattle.batched_counter.proofs.sums.addends_of.Given as goal
+use Rattle.batched_counter.specs.Calls.{addends}
+use Rattle.batched_counter.proofs.begin.addends_of.Given as goal
 
 -- the addends so far and those of what is left are all
 abbrev pub invariant-loop-call : goal.invariant-loop-call

@@ -1,7 +1,7 @@
 -- The additions of a batch, and which of them can be served.
 use Rattle.std.specs.Prelude.{ℕ, ◌+◌, ◌<◌, ◌^◌, List, map}
 use Rattle.seq_objects.specs.declared.op.Op.{Op}
-use Rattle.seq_objects.specs.declared.op.Op.TheVariants.{CounterAdd, Push, Pop, TreeInsert, TreeRemove, TreeFind, TreeNext, PqInsert, PqTake}
+use Rattle.seq_objects.specs.declared.op.Op.TheVariants.{CounterAdd}
 use Rattle.seq_objects.specs.declared.call.Call.{Call}
 use Rattle.seq_objects.specs.Objects.{Objects}
 use Rattle.seq_objects.specs.Batches.{AreOf, Counter}
@@ -10,14 +10,7 @@ use Rattle.batched_counter.specs.Sums.{total}
 -- what an operation adds to the counter
 abbrev pub addend_of : Op → ℕ
 addend_of (CounterAdd addend) = addend
-addend_of (Push item) = 0
-addend_of Pop = 0
-addend_of (TreeInsert key) = 0
-addend_of (TreeRemove key) = 0
-addend_of (TreeFind key) = 0
-addend_of (TreeNext key) = 0
-addend_of (PqInsert item) = 0
-addend_of PqTake = 0
+addend_of _ = 0
 
 -- what the calls add, in their order
 abbrev pub addends : List Call → List ℕ

@@ -1,0 +1,51 @@
+//! Cutting the additions of a batch into pieces.
+ghost use Rattle.std.specs.Prelude.{◌≡◌, ◌+◌, ◌<◌, ◌≤◌, ◌/◌, ◌^◌, length, IfOk};
+ghost use Rattle.batched_counter.specs.Sums.{total};
+ghost use Rattle.batched_counter.specs.Calls.{addend_of, addends};
+ghost use Rattle.batched_counter.specs.Pieces.{IsCutInto, addends_in};
+
+use crate::piece::Piece;
+use seq_objects::{Call, Op};
+use std::alloc::{AllocError, Global};
+
+/// What an operation adds to the counter.
+fn addend_of(op: Op) -> u32
+    ensures { result ≡ addend_of op }
+{
+    match op {
+        Op::CounterAdd(addend) => addend,
+        _ => 0,
+    }
+}
+
+/// What calls add, in their order.
+fn addends_of(alloc: Global, calls: &[Call]) -> Result<Vec<u32>, AllocError>
+    ensures { IfOk result (λ v. v.items ≡ addends calls.now) }
+{
+    let mut all = Vec::new(alloc);
+    for call in calls {
+        all.push(addend_of(call.op))?;
+    }
+    Ok(all)
+}
+
+/// The pieces of a batch, each of a sixteenth of the calls, rounded up; the last may be shorter.
+pub(crate) fn pieces_of(alloc: Global, calls: &[Call]) -> Result<Vec<Piece>, AllocError>
+    requires fits { total (addends calls.now) < 2 ^ 64 }
+    requires some { 0 < length calls.now }
+    ensures cut { IfOk result (λ v. IsCutInto ((length calls.now + 15) / 16) (addends calls.now) (addends_in v.items)) }
+    ensures count { IfOk result (λ v. (1 ≤ length v.items) × (length v.items ≤ 16)) }
+{
+    let size = (calls.len() - 1) / 16 + 1;
+    let mut pieces = Vec::new(alloc);
+    let mut at = 0;
+    'cuts: for _ in 0..16u32 {
+        if at < calls.len() {
+            let end = (at + size).min(calls.len());
+            let addends = addends_of(alloc, &calls[at..end])?;
+            pieces.push(Piece { addends })?;
+            at = end;
+        }
+    }
+    Ok(pieces)
+}

@@ -2,8 +2,6 @@ pub mod Calls
 pub mod Stripes
 pub mod Lists
 pub mod Rooms
-pub mod Moves
+pub mod Copies
 pub mod Pieces
-pub mod Cuts
-pub mod Kept
-pub mod Joined
+pub mod Code

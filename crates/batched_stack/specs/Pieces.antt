@@ -7,8 +7,8 @@ use Rattle.seq_objects.specs.Batches.{AreOneBatch, AreOf, Stack}
 use Rattle.seq_objects.specs.Pieces.{BatchContext}
 use Rattle.batched_stack.specs.declared.piece.Piece.{Piece}
 use Rattle.batched_stack.specs.declared.piece.Served.{Served}
-use Rattle.batched_stack.specs.declared.stack.Rest.{Rest}
-use Rattle.batched_stack.specs.Calls.{pushed, pop_count}
+use Rattle.batched_stack.specs.declared.piece.Rest.{Rest}
+use Rattle.batched_stack.specs.Calls.{pushes_of, pops_of}
 use Rattle.batched_stack.specs.Stripes.{StackView, stripe, stripe_length}
 use Rattle.batched_stack.specs.Lists.{lists, rooms_in}
 use Rattle.batched_stack.specs.Rooms.{NeedsRoom, IsNext}
@@ -16,9 +16,10 @@ use Rattle.batched_stack.specs.Rooms.{NeedsRoom, IsNext}
 -- the pushes that go to stripe j, where the first is item n
 abbrev pub pushes_to : ℕ → ℕ → List ℕ → List ℕ
 pushes_to j n [] = []
-pushes_to j n (item ∷ items) = if n % 16 == j then item ∷ pushes_to j (n + 1) items else pushes_to j (n + 1) items
+pushes_to j n (item ∷ items) =
+    if n % 16 == j then item ∷ pushes_to j (n + 1) items else pushes_to j (n + 1) items
 
--- how many of so many pops take an item of stripe j, where there are n items: the last is item n - 1
+-- how many of a number of pops take an item of stripe j, where there are n items: the last is item n - 1
 abbrev pub pops_from : ℕ → ℕ → ℕ → ℕ
 pops_from j n zero = 0
 pops_from j zero (suc pops) = 0
@@ -26,7 +27,8 @@ pops_from j (suc n) (suc pops) = if n % 16 == j then 1 + pops_from j n pops else
 
 -- stripe j has a push, or a pop that finds an item
 abbrev pub is_called : ℕ → List ℕ → ℕ → ℕ → Bool
-is_called n pushes pops j = nat_lt 0 (length (pushes_to j n pushes) + pops_from j (n + length pushes) pops)
+is_called n pushes pops j =
+    nat_lt 0 (length (pushes_to j n pushes) + pops_from j (n + length pushes) pops)
 
 -- stripe 0 where there is no other
 abbrev pub or_first : List ℕ → List ℕ
@@ -37,6 +39,7 @@ or_first (j ∷ js) = j ∷ js
 abbrev pub piece_numbers : ℕ → List ℕ → ℕ → List ℕ
 piece_numbers n pushes pops = or_first (filter (is_called n pushes pops) (range_with_len 0 16))
 
+-- the stripes that the pieces have
 abbrev pub numbers_in : List Piece → List ℕ
 numbers_in pieces = map (λ piece. piece.number) pieces
 
@@ -49,8 +52,8 @@ pub record IsPieceOf (stack puts : List ℕ) (takes : ℕ) (piece : Piece) : Typ
 -- The pieces of a batch, one for each stripe that gets one. That each has its stripe's present room, which the
 -- items don't tell, is said by `IsContextOf`.
 pub record Cut (objects : Objects) (calls : List Call) (pieces : List Piece) : Type 0 where
-  pub numbers : numbers_in pieces ≡ piece_numbers (length objects.stack) (pushed calls) (pop_count calls)
-  pub each : AllByRecursion (IsPieceOf objects.stack (pushed calls) (pop_count calls)) pieces
+  pub numbers : numbers_in pieces ≡ piece_numbers (length objects.stack) (pushes_of calls) (pops_of calls)
+  pub each : AllByRecursion (IsPieceOf objects.stack (pushes_of calls) (pops_of calls)) pieces
 
 -- the pushes were put on the stripe, and then the pops took its last items; the room is the next one
 pub record Meets (piece : Piece) (served : Served) : Type 0 where
@@ -69,13 +72,15 @@ pub record IsKept (before : StackView) (stripes : List (List ℕ)) (rooms : List
 pub record IsContextOf (rest : Rest) (o : BatchContext StackView Piece) : Type 0 where
   pub batch : AreOneBatch o.calls
   pub calls : AreOf Stack o.calls
-  pub numbers : numbers_in o.ins ≡ piece_numbers (length o.before.items) (pushed o.calls) (pop_count o.calls)
-  pub each : AllByRecursion (IsPieceOf o.before.items (pushed o.calls) (pop_count o.calls)) o.ins
+  pub numbers : numbers_in o.ins ≡ piece_numbers (length o.before.items) (pushes_of o.calls) (pops_of o.calls)
+  pub each : AllByRecursion (IsPieceOf o.before.items (pushes_of o.calls) (pops_of o.calls)) o.ins
   pub rooms : AllByRecursion (λ piece. piece.stripe.room ≡ slice_index o.before.rooms piece.number) o.ins
   pub count : rest.count ≡ length o.before.items
-  pub pushes : rest.pushes ≡ length (pushed o.calls)
-  pub pops : rest.pops ≡ pop_count o.calls
+  pub pushes : rest.pushes ≡ length (pushes_of o.calls)
+  pub pops : rest.pops ≡ pops_of o.calls
   pub fits : rest.count + rest.pushes < 2 ^ 63
   pub sixteen : length rest.stripes.items ≡ 16
-  pub kept : (j : ℕ) → j < 16 → has j (numbers_in o.ins) ≡ false → IsKept o.before (lists rest.stripes.items) (rooms_in rest.stripes.items) j
-  pub settled : (j : ℕ) → j < 16 → NeedsRoom (slice_index o.before.rooms j) (stripe_length j (length o.before.items)) → ⊥
+  pub kept : (j : ℕ) → j < 16 → has j (numbers_in o.ins) ≡ false
+      → IsKept o.before (lists rest.stripes.items) (rooms_in rest.stripes.items) j
+  pub settled : (j : ℕ) → j < 16
+      → NeedsRoom (slice_index o.before.rooms j) (stripe_length j (length o.before.items)) → ⊥

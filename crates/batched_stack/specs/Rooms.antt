@@ -15,8 +15,10 @@ pub record IsRoomFor (len new : ℕ) : Type 0 where
 
 -- the room that a stripe has next, where its length is now this one
 abbrev pub IsNext : ℕ → ℕ → ℕ → Type 0
-IsNext room len new = (NeedsRoom room len × IsRoomFor len new) ⊎ ((NeedsRoom room len → ⊥) × (new ≡ room))
+IsNext room len new =
+    (NeedsRoom room len × IsRoomFor len new) ⊎ ((NeedsRoom room len → ⊥) × (new ≡ room))
 
 -- the rooms of all stripes are the next ones after these, where the stack has now n items
 abbrev pub AreNext : List ℕ → ℕ → List ℕ → Type 0
-AreNext rooms n new = (j : ℕ) → j < 16 → IsNext (slice_index rooms j) (stripe_length j n) (slice_index new j)
+AreNext rooms n new =
+    (j : ℕ) → j < 16 → IsNext (slice_index rooms j) (stripe_length j n) (slice_index new j)

@@ -13,8 +13,10 @@ stripe_length j n = (n + 15 - j) / 16
 
 -- stripe j of a list: each sixteenth item, from item j on
 abbrev pub stripe : ℕ → List ℕ → List ℕ
-stripe j items = map (λ i. slice_index items (16 * i + j)) (range_with_len 0 (stripe_length j (length items)))
+stripe j items =
+    map (λ i. slice_index items (16 * i + j)) (range_with_len 0 (stripe_length j (length items)))
 
 -- the list that stripes make: item p stands in stripe p % 16, at place p / 16 from the bottom
 abbrev pub items_of : List (List ℕ) → ℕ → List ℕ
-items_of stripes n = map (λ p. slice_index (slice_index_or stripes (p % 16) []) (p / 16)) (range_with_len 0 n)
+items_of stripes n =
+    map (λ p. slice_index (slice_index_or stripes (p % 16) []) (p / 16)) (range_with_len 0 n)

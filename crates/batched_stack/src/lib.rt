@@ -3,22 +3,18 @@
 //! `Stack` obeys the law of batches: its items lie in 16 stripes, each piece of a batch works on one of them,
 //! and the replies and the items afterwards are those of one call after another. Each stripe's vector has
 //! exactly the room that its room number says, and the number changes by one rule; `laws` says that the items
-//! moved by all changes of room are at most twice the calls. The crate stands on `seq_objects`, which has the
+//! copied by all changes of room are at most twice the calls. The crate stands on `seq_objects`, which has the
 //! law of batches.
 #![tactic(auto)]
 
-mod cut;
-mod join;
+mod begin;
+mod end;
 pub mod laws;
 pub mod piece;
-mod room;
 mod serve;
 pub mod stack;
 pub mod stripe;
 
-pub use piece::{Piece, Served};
-pub use stack::{Rest, Stack};
+pub use piece::{Piece, Rest, Served};
+pub use stack::Stack;
 pub use stripe::Stripe;
-
-#[cfg(test)]
-mod tests;

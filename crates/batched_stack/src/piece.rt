@@ -1,4 +1,4 @@
-//! The pieces of a batch, each of one stripe.
+//! A piece of a batch, which has one stripe, what it comes to, and what is kept meanwhile.
 ghost use Rattle.std.specs.Prelude.{◌+◌, ◌<◌, ◌≤◌, length};
 
 use crate::stripe::Stripe;
@@ -24,4 +24,14 @@ pub struct Served {
     pub stripe: Stripe,
     pub popped: Vec<u32>,
     ghost low: { number < 16 },
+}
+
+/// What is kept of a stack while its pieces are worked on: the stripes that no piece has, and how many items
+/// the stack had and how many pushes and pops the batch has.
+#[derive(Drop)]
+pub struct Rest {
+    pub stripes: Vec<Stripe>,
+    pub count: usize,
+    pub pushes: usize,
+    pub pops: usize,
 }

@@ -3,11 +3,11 @@ ghost use Rattle.std.specs.Prelude.{◌≡◌, ◌-◌, ◌≤◌, ◌++◌, len
 ghost use Rattle.batched_stack.specs.Pieces.{Meets};
 
 use crate::piece::{Piece, Served};
-use crate::room::settled_stripe;
 use crate::stripe::Stripe;
+use crate::stripe::room::settled_stripe;
 use std::alloc::{AllocError, Global};
 
-/// Takes the last items off, and writes them behind others, the last one first.
+/// Takes the last `count` items off, and appends them to `popped`, the last one first.
 fn take_newest(items: &mut Vec<u32>, count: usize, popped: &mut Vec<u32>) -> Result<(), AllocError>
     requires { count ≤ length items.old.items }
     ensures items { OnOk result (items.new.items ≡ take (length items.old.items - count) items.old.items) }

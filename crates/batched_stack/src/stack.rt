@@ -1,21 +1,21 @@
-//! The stack.
+//! A stack that serves batches of pushes and pops.
 ghost use Rattle.std.specs.Prelude.{◌≡◌, [], length, IfOk, OnOk};
 ghost use Rattle.seq_objects.specs.Serial.{replies_to_all, after_all, of_stack};
 ghost use Rattle.seq_objects.specs.Pieces.{AllMeet, BatchContext};
 ghost use Rattle.batched_stack.specs.declared.piece.Piece.{Piece as PieceOf};
 ghost use Rattle.batched_stack.specs.Stripes.{StackView};
 ghost use Rattle.batched_stack.specs.Rooms.{AreNext};
-ghost use Rattle.batched_stack.specs.Moves.{first_rooms};
-ghost use Rattle.batched_stack.specs.Kept.{AreEmpty};
+ghost use Rattle.batched_stack.specs.Copies.{first_rooms};
+ghost use Rattle.batched_stack.specs.Code.Invariant.{AreEmpty};
 ghost use Rattle.batched_stack.specs.Calls.{MayServe};
 ghost use Rattle.batched_stack.specs.Pieces.{Cut, Meets, IsContextOf};
 
-use crate::cut::{cut, pops_of, pushes_of};
-use crate::join::{put_back, replies_of, rooms_of};
-use crate::piece::{Piece, Served};
-use crate::room::empty_stripe;
+use crate::begin::{cut_pieces, pops_of, pushes_of};
+use crate::end::{put_back, replies_of, rooms_of};
+use crate::piece::{Piece, Rest, Served};
 use crate::serve::serve_piece;
 use crate::stripe::Stripe;
+use crate::stripe::room::empty_stripe;
 use seq_objects::{Batched, Call, Reply};
 use std::alloc::{AllocError, Global};
 use std::marker::Model;
@@ -31,29 +31,19 @@ pub struct Stack {
 impl Model for Stack {
     ghost use Rattle.batched_stack.specs.Stripes.{StackView, items_of};
     ghost use Rattle.batched_stack.specs.Lists.{lists};
-    ghost use Rattle.batched_stack.specs.Kept.{IsWhole};
+    ghost use Rattle.batched_stack.specs.Code.Invariant.{StackInvariant};
 
     ghost Value = { StackView };
 
     ghost view = { λ s. record { items = items_of (lists s.stripes.items) s.count; rooms = s.rooms.items } };
 
-    ghost invariant = { λ s. IsWhole s.stripes.items s.rooms.items s.count };
+    ghost invariant = { λ s. StackInvariant s.stripes.items s.rooms.items s.count };
 }
 
 /// More items than any memory holds.
 const TOO_MANY: usize = 1 << 62;
 
-/// What is kept of a stack while its pieces are worked on: the stripes that no piece has, and how many items
-/// the stack had and how many pushes and pops the batch has.
-#[derive(Drop)]
-pub struct Rest {
-    pub stripes: Vec<Stripe>,
-    pub count: usize,
-    pub pushes: usize,
-    pub pops: usize,
-}
-
-/// Stripes without items.
+/// The 16 stripes of an empty stack.
 fn empty_stripes(alloc: Global) -> Result<Vec<Stripe>, AllocError>
     ensures { IfOk result (λ v. AreEmpty v.items) }
 {
@@ -120,7 +110,7 @@ impl Batched for Stack {
         if count >= TOO_MANY || items.len() >= TOO_MANY {
             return Err(AllocError);
         }
-        let (stripes, pieces) = cut(alloc, stripes, count, &items, pops)?;
+        let (stripes, pieces) = cut_pieces(alloc, stripes, count, &items, pops)?;
         let rest = Rest {
             stripes,
             count,
@@ -136,10 +126,16 @@ impl Batched for Stack {
 
     fn end(alloc: Global, rest: Rest, outs: Vec<Served>) -> Result<(Stack, Vec<Reply>), AllocError>
         requires { (o : BatchContext StackView PieceOf) × IsContextOf rest o × AllMeet Meets o.ins outs.items }
-        ensures replies { IfOk result (λ p. (o : BatchContext StackView PieceOf) → IsContextOf rest o → AllMeet Meets o.ins outs.items → p.1.items ≡ replies_to_all (of_stack o.before.items) o.calls) }
-        ensures content { IfOk result (λ p. (o : BatchContext StackView PieceOf) → IsContextOf rest o → AllMeet Meets o.ins outs.items → of_stack p.0.items ≡ after_all (of_stack o.before.items) o.calls) }
+        ensures replies { IfOk result (λ p. (o : BatchContext StackView PieceOf)
+            → IsContextOf rest o → AllMeet Meets o.ins outs.items
+            → p.1.items ≡ replies_to_all (of_stack o.before.items) o.calls) }
+        ensures content { IfOk result (λ p. (o : BatchContext StackView PieceOf)
+            → IsContextOf rest o → AllMeet Meets o.ins outs.items
+            → of_stack p.0.items ≡ after_all (of_stack o.before.items) o.calls) }
         // Each stripe's room is the one that the rule gives.
-        ensures rooms { IfOk result (λ p. (o : BatchContext StackView PieceOf) → IsContextOf rest o → AllMeet Meets o.ins outs.items → AreNext o.before.rooms (length p.0.items) p.0.rooms) }
+        ensures rooms { IfOk result (λ p. (o : BatchContext StackView PieceOf) → IsContextOf rest o
+            → AllMeet Meets o.ins outs.items
+            → AreNext o.before.rooms (length p.0.items) p.0.rooms) }
     {
         let Rest {
             stripes,

@@ -1,5 +1,7 @@
-//! A stripe of a stack.
+//! A stripe of a stack: the items of one remainder modulo 16.
 ghost use Rattle.std.specs.Prelude.{◌≡◌, vec_capacity};
+
+pub(crate) mod room;
 
 /// Each sixteenth item of a stack, and the room of the vector that they lie in.
 #[derive(Drop)]

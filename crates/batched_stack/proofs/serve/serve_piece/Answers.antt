@@ -1,6 +1,6 @@
 use Rattle.std.proofs.Common.{◌≡◌, ◌+◌, ℕ, min, length, ◌∙◌, refl, sym, ap, subst, length-append, rules}
 use Rattle.batched_stack.specs.Rooms.{IsNext}
-use Rattle.batched_stack.proofs.Taken.{taken_items, taken_popped}
+use Rattle.batched_stack.proofs.ServeLemmas.Taken.{taken_items, taken_popped}
 use Rattle.batched_stack.proofs.serve.serve_piece.Goals as goal
 
 pub returns : goal.returns

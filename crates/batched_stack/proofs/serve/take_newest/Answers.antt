@@ -1,6 +1,6 @@
 use Rattle.std.proofs.Common.{◌≡◌, ◌<◌, ◌-◌, ◌+◌, ◌++◌, ◌∷◌, [], length, reverse, drop, get_or, ◌∙◌, sym, ap, append_assoc, arith}
 use Rattle.std.proofs.lemmas.Grind.{common_steps}
-use Rattle.batched_stack.proofs.Taken.{take_one_less, drop_one_more, last_taken, same_item}
+use Rattle.batched_stack.proofs.ServeLemmas.Taken.{take_one_less, drop_one_more, last_taken, same_item}
 use Rattle.batched_stack.proofs.serve.take_newest.Goals as goal
 use Rattle.batched_stack.proofs.serve.take_newest.Goals.{in-Some+in_ok-push, in_default}
 

@@ -3,11 +3,11 @@ use Rattle.std.specs.List.{AllByRecursion}
 use Rattle.seq_objects.specs.Serial.{of_stack}
 use Rattle.batched_stack.specs.Stripes.{StackView}
 use Rattle.batched_stack.specs.Lists.{lists}
-use Rattle.batched_stack.specs.declared.stack.Rest.{Rest}
-use Rattle.batched_stack.specs.Calls.{pushed, pop_count}
+use Rattle.batched_stack.specs.declared.piece.Rest.{Rest}
+use Rattle.batched_stack.specs.Calls.{pushes_of, pops_of}
 use Rattle.batched_stack.specs.Pieces.{Cut, IsContextOf, piece_numbers, numbers_in}
-use Rattle.batched_stack.specs.Cuts.{IsCutOf}
-use Rattle.batched_stack.proofs.Remembered.{piece_count, numbers_seen, pieces_seen, remembered}
+use Rattle.batched_stack.specs.Code.Begin.{IsCutOf}
+use Rattle.batched_stack.proofs.BeginLemmas.Context.{piece_count, numbers_seen, pieces_seen, remembered}
 use Rattle.batched_stack.proofs.stack.StackBatched.begin.Goals as goal
 
 pub returns-clause-count : goal.returns-clause-count
@@ -19,13 +19,13 @@ returns-clause-cut c =
     let count = c.self.inside.count in
     let stripes = c.self.inside.stripes.items in
     let pieces = c.in_ok-stripes.pieces.items in
-    let puts : c.deref.result.now ≡ pushed calls = c.deref.ensures.value ∙ c.in_ok-items.ensures in
-    let takes : c.pops_of-pops.result ≡ pop_count calls = c.pops_of-pops.ensures in
-    let numbers : numbers_in pieces ≡ piece_numbers count (pushed calls) (pop_count calls) = c.in_ok-stripes.ensures.numbers ∙ ap (λ p. piece_numbers count p c.pops_of-pops.result) puts ∙ ap (λ k. piece_numbers count (pushed calls) k) takes in
-    let each : AllByRecursion (IsCutOf stripes count (pushed calls) (pop_count calls)) pieces = subst (λ (k : ℕ). AllByRecursion (IsCutOf stripes count (pushed calls) k) pieces) takes (subst (λ (p : List ℕ). AllByRecursion (IsCutOf stripes count p c.pops_of-pops.result) pieces) puts c.in_ok-stripes.ensures.each) in
+    let puts : c.deref.result.now ≡ pushes_of calls = c.deref.ensures.value ∙ c.in_ok-items.ensures in
+    let takes : c.pops_of-pops.result ≡ pops_of calls = c.pops_of-pops.ensures in
+    let numbers : numbers_in pieces ≡ piece_numbers count (pushes_of calls) (pops_of calls) = c.in_ok-stripes.ensures.numbers ∙ ap (λ p. piece_numbers count p c.pops_of-pops.result) puts ∙ ap (λ k. piece_numbers count (pushes_of calls) k) takes in
+    let each : AllByRecursion (IsCutOf stripes count (pushes_of calls) (pops_of calls)) pieces = subst (λ (k : ℕ). AllByRecursion (IsCutOf stripes count (pushes_of calls) k) pieces) takes (subst (λ (p : List ℕ). AllByRecursion (IsCutOf stripes count p c.pops_of-pops.result) pieces) puts c.in_ok-stripes.ensures.each) in
     subst (λ (v : StackView). Cut (of_stack v.items) calls pieces) c.self.view_is (record {
-      numbers = numbers_seen (lists stripes) count (pushed calls) (pop_count calls) pieces numbers;
-      each = pieces_seen stripes count (pushed calls) (pop_count calls) pieces c.self.invariant.stripes each;
+      numbers = numbers_seen (lists stripes) count (pushes_of calls) (pops_of calls) pieces numbers;
+      each = pieces_seen stripes count (pushes_of calls) (pops_of calls) pieces c.self.invariant.stripes each;
     })
 
 pub returns-clause-remembers : goal.returns-clause-remembers
@@ -34,10 +34,10 @@ returns-clause-remembers c =
     let count = c.self.inside.count in
     let stripes = c.self.inside.stripes.items in
     let pieces = c.in_ok-stripes.pieces.items in
-    let puts : c.deref.result.now ≡ pushed calls = c.deref.ensures.value ∙ c.in_ok-items.ensures in
-    let takes : c.pops_of-pops.result ≡ pop_count calls = c.pops_of-pops.ensures in
-    let numbers : numbers_in pieces ≡ piece_numbers count (pushed calls) (pop_count calls) = c.in_ok-stripes.ensures.numbers ∙ ap (λ p. piece_numbers count p c.pops_of-pops.result) puts ∙ ap (λ k. piece_numbers count (pushed calls) k) takes in
-    let each : AllByRecursion (IsCutOf stripes count (pushed calls) (pop_count calls)) pieces = subst (λ (k : ℕ). AllByRecursion (IsCutOf stripes count (pushed calls) k) pieces) takes (subst (λ (p : List ℕ). AllByRecursion (IsCutOf stripes count p c.pops_of-pops.result) pieces) puts c.in_ok-stripes.ensures.each) in
+    let puts : c.deref.result.now ≡ pushes_of calls = c.deref.ensures.value ∙ c.in_ok-items.ensures in
+    let takes : c.pops_of-pops.result ≡ pops_of calls = c.pops_of-pops.ensures in
+    let numbers : numbers_in pieces ≡ piece_numbers count (pushes_of calls) (pops_of calls) = c.in_ok-stripes.ensures.numbers ∙ ap (λ p. piece_numbers count p c.pops_of-pops.result) puts ∙ ap (λ k. piece_numbers count (pushes_of calls) k) takes in
+    let each : AllByRecursion (IsCutOf stripes count (pushes_of calls) (pops_of calls)) pieces = subst (λ (k : ℕ). AllByRecursion (IsCutOf stripes count (pushes_of calls) k) pieces) takes (subst (λ (p : List ℕ). AllByRecursion (IsCutOf stripes count p c.pops_of-pops.result) pieces) puts c.in_ok-stripes.ensures.each) in
     let pushes : c.len-2.result ≡ length c.in_ok-items.items.items = search rules in
     let rest : Rest = record { stripes = c.in_ok-stripes.stripes; count = count; pushes = c.len-2.result; pops = c.pops_of-pops.result } in
     let fits : count + c.len-2.result < 2 ^ 63 = search rules in

@@ -1,0 +1,2 @@
+pub mod Striped
+pub mod Whole

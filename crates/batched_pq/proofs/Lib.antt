@@ -1,11 +1,7 @@
-pub mod Bags
-pub mod Choosing
-pub mod Dealing
-pub mod Fronts
-pub mod Law
-pub mod Ranks
-pub mod Roots
-pub mod Rows
-pub mod Runs
-pub mod Serial
-pub mod Taking
+mod Bags
+mod Serial
+mod HeapLemmas
+mod BeginLemmas
+mod ServeLemmas
+mod EndLemmas
+mod Law

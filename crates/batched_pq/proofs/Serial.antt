@@ -9,12 +9,13 @@ use Rattle.seq_objects.specs.Objects.{with_item, least, without_least, number_or
 use Rattle.seq_objects.specs.BatchOrder.{ComesFirst}
 use Rattle.seq_objects.specs.Batches.{AreInBatchOrder, AreOf, object_of, Queue}
 use Rattle.seq_objects.specs.Serial.{of_bag, after_all, replies_to_all}
-use Rattle.batched_pq.specs.Bags.{with_items}
+use Rattle.batched_pq.specs.Code.Bags.{with_items}
 use Rattle.batched_pq.specs.Calls.{item_of, inserts_of, takes_of}
-use Rattle.batched_pq.specs.Choice.{take_replies, after_takes, insert_replies}
+use Rattle.batched_pq.specs.Code.End.{take_replies, after_takes, insert_replies}
 
 -- no insert comes behind a take
-not_before : (op : Op) (worker worker' : ℕ) → object_of op ≡ Queue → ComesFirst PqTake worker op worker' → item_of op ≡ None
+not_before : (op : Op) (worker worker' : ℕ) → object_of op ≡ Queue
+    → ComesFirst PqTake worker op worker' → item_of op ≡ None
 not_before (CounterAdd a) worker worker' is first = absurd cc
 not_before (Push a) worker worker' is first = absurd cc
 not_before Pop worker worker' is first = absurd cc
@@ -25,7 +26,9 @@ not_before (TreeNext a) worker worker' is first = absurd cc
 not_before (PqInsert a) worker worker' is first = absurd (elim first [ inl less ↦ omega (arith, less) | inr same ↦ omega (arith, same.0) ])
 not_before PqTake worker worker' is first = refl
 
-no_inserts : (worker : ℕ) (calls : List Call) → AreOf Queue calls → AllByRecursion (λ call. ComesFirst PqTake worker call.op call.worker) calls → inserts_of calls ≡ []
+no_inserts : (worker : ℕ) (calls : List Call) → AreOf Queue calls
+    → AllByRecursion (λ call. ComesFirst PqTake worker call.op call.worker) calls
+    → inserts_of calls ≡ []
 no_inserts worker [] is first = refl
 no_inserts worker (call ∷ calls) is first = rw (not_before call.op worker call.worker is.0 first.0) (no_inserts worker calls is.1 first.1)
 
@@ -49,7 +52,8 @@ replied_step bag PqTake worker leaf calls is all first ih =
     let one : 1 + takes_of calls ≡ suc (takes_of calls) = omega arith in
     rw (none, one) (ap (λ replies. number_or_empty (least bag) ∷ replies) rest)
 
-pub serial_replies : (bag : List ℕ) (calls : List Call) → AreOf Queue calls → AreInBatchOrder calls → Replied bag calls
+pub serial_replies : (bag : List ℕ) (calls : List Call) → AreOf Queue calls → AreInBatchOrder calls
+    → Replied bag calls
 serial_replies bag [] is order = refl
 serial_replies bag (call ∷ calls) is order = replied_step bag call.op call.worker call.leaf calls is.0 is.1 order.0 (λ bag'. serial_replies bag' calls is.1 order.1)
 
@@ -73,19 +77,16 @@ served_step bag PqTake worker leaf calls is all first ih =
     let one : 1 + takes_of calls ≡ suc (takes_of calls) = omega arith in
     rw (none, one) rest
 
-pub serial_after : (bag : List ℕ) (calls : List Call) → AreOf Queue calls → AreInBatchOrder calls → Served bag calls
+pub serial_after : (bag : List ℕ) (calls : List Call) → AreOf Queue calls → AreInBatchOrder calls
+    → Served bag calls
 serial_after bag [] is order = refl
 serial_after bag (call ∷ calls) is order = served_step bag call.op call.worker call.leaf calls is.0 is.1 order.0 (λ bag'. serial_after bag' calls is.1 order.1)
 
 -- one take of those that are left
-pub take_replied : (takes counter : ℕ) (bag : List ℕ) → counter < takes → take_replies (takes - counter) bag ≡ number_or_empty (least bag) ∷ take_replies (takes - (counter + 1)) (without_least bag)
+pub take_replied : (takes counter : ℕ) (bag : List ℕ) → counter < takes
+    → take_replies (takes - counter) bag ≡ number_or_empty (least bag) ∷ take_replies (takes - (counter + 1)) (without_least bag)
 take_replied takes counter bag more = let e : takes - counter ≡ suc (takes - (counter + 1)) = omega arith in rw e refl
 
-pub take_served : (takes counter : ℕ) (bag : List ℕ) → counter < takes → after_takes (takes - counter) bag ≡ after_takes (takes - (counter + 1)) (without_least bag)
+pub take_served : (takes counter : ℕ) (bag : List ℕ) → counter < takes
+    → after_takes (takes - counter) bag ≡ after_takes (takes - (counter + 1)) (without_least bag)
 take_served takes counter bag more = let e : takes - counter ≡ suc (takes - (counter + 1)) = omega arith in rw e refl
-
-pub no_take_replied : (takes counter : ℕ) (bag : List ℕ) → takes ≤ counter → take_replies (takes - counter) bag ≡ []
-no_take_replied takes counter bag none = let e : takes - counter ≡ 0 = omega arith in rw e refl
-
-pub no_take_served : (takes counter : ℕ) (bag : List ℕ) → takes ≤ counter → after_takes (takes - counter) bag ≡ bag
-no_take_served takes counter bag none = let e : takes - counter ≡ 0 = omega arith in rw e refl

@@ -2,32 +2,20 @@
 use Rattle.std.specs.Prelude.{ℕ, ◌+◌, ◌%◌, ◌==◌, if◌then◌else◌, List, [], ◌∷◌, Some, None}
 use Rattle.std.specs.declared.option.Option.{Option}
 use Rattle.seq_objects.specs.declared.op.Op.{Op}
-use Rattle.seq_objects.specs.declared.op.Op.TheVariants.{CounterAdd, Push, Pop, TreeInsert, TreeRemove, TreeFind, TreeNext, PqInsert, PqTake}
+use Rattle.seq_objects.specs.declared.op.Op.TheVariants.{PqInsert, PqTake}
 use Rattle.seq_objects.specs.declared.call.Call.{Call}
+use Rattle.seq_objects.specs.Objects.{Objects}
+use Rattle.seq_objects.specs.Batches.{AreOf, Queue}
 
 -- the item that an operation inserts, if it is an insert
 abbrev pub item_of : Op → Option ℕ
-item_of (CounterAdd addend) = None
-item_of (Push item) = None
-item_of Pop = None
-item_of (TreeInsert key) = None
-item_of (TreeRemove key) = None
-item_of (TreeFind key) = None
-item_of (TreeNext key) = None
 item_of (PqInsert item) = Some item
-item_of PqTake = None
+item_of _ = None
 
 -- 1 for a take
 abbrev pub takes_in : Op → ℕ
-takes_in (CounterAdd addend) = 0
-takes_in (Push item) = 0
-takes_in Pop = 0
-takes_in (TreeInsert key) = 0
-takes_in (TreeRemove key) = 0
-takes_in (TreeFind key) = 0
-takes_in (TreeNext key) = 0
-takes_in (PqInsert item) = 0
 takes_in PqTake = 1
+takes_in _ = 0
 
 -- an item in front of others, if there is one
 abbrev pub and_then : Option ℕ → List ℕ → List ℕ
@@ -47,4 +35,10 @@ takes_of (call ∷ calls) = takes_in call.op + takes_of calls
 -- of inserts that are counted from a number on, those of one shard: insert i goes to shard i mod 8
 abbrev pub inserts_for : ℕ → ℕ → List ℕ → List ℕ
 inserts_for shard i [] = []
-inserts_for shard i (item ∷ items) = if i % 8 == shard then item ∷ inserts_for shard (i + 1) items else inserts_for shard (i + 1) items
+inserts_for shard i (item ∷ items) =
+    if i % 8 == shard then item ∷ inserts_for shard (i + 1) items
+    else inserts_for shard (i + 1) items
+
+-- all calls are of the queue
+abbrev pub MayServe : Objects → List Call → Type 0
+MayServe objects calls = AreOf Queue calls

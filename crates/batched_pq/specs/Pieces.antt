@@ -4,42 +4,40 @@ use Rattle.seq_objects.specs.declared.call.Call.{Call}
 use Rattle.seq_objects.specs.Objects.{Objects}
 use Rattle.seq_objects.specs.Orders.{Ascends, copies}
 use Rattle.seq_objects.specs.Serial.{of_bag}
-use Rattle.seq_objects.specs.Batches.{AreOneBatch, AreOf, Queue}
+use Rattle.seq_objects.specs.Batches.{AreOneBatch}
 use Rattle.seq_objects.specs.Pieces.{BatchContext}
-use Rattle.batched_pq.specs.declared.share.Share.{Share}
-use Rattle.batched_pq.specs.declared.share.Counts.{Counts}
-use Rattle.batched_pq.specs.Shards.{Parts, all_of, bag_of, NoneExceeds}
-use Rattle.batched_pq.specs.Calls.{inserts_of, takes_of, inserts_for}
-
--- all calls are of the queue
-abbrev pub MayServe : Objects → List Call → Type 0
-MayServe objects calls = AreOf Queue calls
+use Rattle.batched_pq.specs.declared.piece.Piece.{Piece}
+use Rattle.batched_pq.specs.declared.piece.Rest.{Rest}
+use Rattle.batched_pq.specs.Shards.{ShardView, all_of, bag_of, NoneExceeds}
+use Rattle.batched_pq.specs.Calls.{MayServe, inserts_of, takes_of, inserts_for}
 
 -- the shards in the pieces
-abbrev pub shards_in : List Share → List Parts
+abbrev pub shards_in : List Piece → List ShardView
 shards_in [] = []
-shards_in (share ∷ shares) = share.shard ∷ shards_in shares
+shards_in (piece ∷ pieces) = piece.shard ∷ shards_in pieces
 
 -- from a shard on, each up to the last has its part of the inserts, and the number of takes
-abbrev pub AreShares : ℕ → List ℕ → ℕ → List Share → Type 0
-AreShares shard inserts takes [] = shard ≡ 8
-AreShares shard inserts takes (share ∷ shares) = (share.inserts.items ≡ inserts_for shard 0 inserts) × (share.takes ≡ takes) × AreShares (shard + 1) inserts takes shares
+abbrev pub ArePieces : ℕ → List ℕ → ℕ → List Piece → Type 0
+ArePieces shard inserts takes [] = shard ≡ 8
+ArePieces shard inserts takes (piece ∷ pieces) =
+    (piece.inserts.items ≡ inserts_for shard 0 inserts) × (piece.takes ≡ takes)
+    × ArePieces (shard + 1) inserts takes pieces
 
 -- there is a piece for each of the eight shards, and the shards together have the items of the bag
-pub record Cut (objects : Objects) (calls : List Call) (ins : List Share) : Type 0 where
-  pub shares : AreShares 0 (inserts_of calls) (takes_of calls) ins
+pub record Cut (objects : Objects) (calls : List Call) (ins : List Piece) : Type 0 where
+  pub pieces : ArePieces 0 (inserts_of calls) (takes_of calls) ins
   pub bag : bag_of (shards_in ins) ≡ objects.bag
 
 -- the out has the items of the shard and the inserts; its front ascends, none of the front's items exceeds one
 -- of the rest, and there are enough for the takes or there is no rest
-pub record Meets (share : Share) (out : Parts) : Type 0 where
-  pub items : (n : ℕ) → copies n (all_of out) ≡ copies n (all_of share.shard ++ share.inserts.items)
+pub record Meets (piece : Piece) (out : ShardView) : Type 0 where
+  pub items : (n : ℕ) → copies n (all_of out) ≡ copies n (all_of piece.shard ++ piece.inserts.items)
   pub ascends : Ascends out.front
   pub least : NoneExceeds out.front out.rest
-  pub enough : (share.takes ≤ length out.front) ⊎ (out.rest ≡ [])
+  pub enough : (piece.takes ≤ length out.front) ⊎ (out.rest ≡ [])
 
 -- what is kept are the numbers of inserts and of takes of the batch, which was cut so
-pub record IsContextOf (rest : Counts) (o : BatchContext (List ℕ) Share) : Type 0 where
+pub record IsContextOf (rest : Rest) (o : BatchContext (List ℕ) Piece) : Type 0 where
   pub batch : AreOneBatch o.calls
   pub may : MayServe (of_bag o.before) o.calls
   pub inserts : rest.inserts ≡ length (inserts_of o.calls)

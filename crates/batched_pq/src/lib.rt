@@ -6,18 +6,15 @@
 //! stands on `seq_objects`, which has the law.
 #![tactic(auto)]
 
-mod choice;
-mod cut;
+mod begin;
+mod end;
 pub mod heap;
-mod node;
+pub mod piece;
 pub mod queue;
+mod serve;
 pub mod shard;
-pub mod share;
 
 pub use heap::Heap;
+pub use piece::{Piece, Rest, Served};
 pub use queue::Queue;
 pub use shard::Shard;
-pub use share::{Counts, Share};
-
-#[cfg(test)]
-mod tests;

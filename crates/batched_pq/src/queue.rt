@@ -1,14 +1,16 @@
-//! The queue.
+//! A priority queue that serves batches of inserts and takes.
 ghost use Rattle.std.specs.Prelude.{◌≡◌, ℕ, List, [], IfOk};
 ghost use Rattle.seq_objects.specs.Serial.{replies_to_all, after_all, of_bag};
 ghost use Rattle.seq_objects.specs.Pieces.{AllMeet, BatchContext};
-ghost use Rattle.batched_pq.specs.declared.share.Share.{Share as ShareOf};
-ghost use Rattle.batched_pq.specs.Pieces.{MayServe, Cut, Meets, IsContextOf};
+ghost use Rattle.batched_pq.specs.declared.piece.Piece.{Piece as PieceOf};
+ghost use Rattle.batched_pq.specs.Calls.{MayServe};
+ghost use Rattle.batched_pq.specs.Pieces.{Cut, Meets, IsContextOf};
 
-use crate::choice::replies_of;
-use crate::cut::{inserts_of, shares_of, takes_of};
-use crate::shard::{Shard, prepare};
-use crate::share::{Counts, Share};
+use crate::begin::{inserts_of, pieces_of, takes_of};
+use crate::end::replies_of;
+use crate::piece::{Piece, Rest, Served};
+use crate::serve::serve_piece;
+use crate::shard::Shard;
 use seq_objects::{Batched, Call, Reply};
 use std::alloc::{AllocError, Global};
 use std::marker::Model;
@@ -32,7 +34,7 @@ impl Model for Queue {
 }
 
 impl Queue {
-    /// The opening queue, which is empty.
+    /// An empty queue.
     pub fn new(alloc: Global) -> Result<Queue, AllocError>
         ensures { IfOk result (λ q. q ≡ []) }
     {
@@ -45,11 +47,11 @@ impl Queue {
 }
 
 impl Batched for Queue {
-    type In = Share;
+    type In = Piece;
 
-    type Out = Shard;
+    type Out = Served;
 
-    type Rest = Counts;
+    type Rest = Rest;
 
     const MOST: u32 = 8;
 
@@ -65,32 +67,29 @@ impl Batched for Queue {
 
     ghost is_context_of = { IsContextOf };
 
-    fn begin(self, alloc: Global, calls: &[Call]) -> Result<(Counts, Vec<Share>), AllocError> {
+    fn begin(self, alloc: Global, calls: &[Call]) -> Result<(Rest, Vec<Piece>), AllocError> {
         let Queue { shards } = self;
         let inserts = inserts_of(alloc, calls)?;
         let takes = takes_of(calls);
-        let shares = shares_of(alloc, shards, &inserts, takes)?;
-        let counts = Counts {
+        let pieces = pieces_of(alloc, shards, &inserts, takes)?;
+        let rest = Rest {
             inserts: inserts.len(),
             takes,
         };
-        Ok((counts, shares))
+        Ok((rest, pieces))
     }
 
-    fn piece(alloc: Global, input: Share) -> Result<Shard, AllocError> {
-        let Share {
-            shard,
-            inserts,
-            takes,
-        } = input;
-        let out = prepare(alloc, shard, &inserts, takes)?;
-        Ok(out)
+    fn piece(alloc: Global, input: Piece) -> Result<Served, AllocError> {
+        serve_piece(alloc, input)
     }
 
-    fn end(alloc: Global, rest: Counts, outs: Vec<Shard>) -> Result<(Queue, Vec<Reply>), AllocError>
-        requires { (o : BatchContext (List ℕ) ShareOf) × IsContextOf rest o × AllMeet Meets o.ins outs.items }
-        ensures replies { IfOk result (λ p. (o : BatchContext (List ℕ) ShareOf) → IsContextOf rest o → AllMeet Meets o.ins outs.items → p.1.items ≡ replies_to_all (of_bag o.before) o.calls) }
-        ensures content { IfOk result (λ p. (o : BatchContext (List ℕ) ShareOf) → IsContextOf rest o → AllMeet Meets o.ins outs.items → of_bag p.0 ≡ after_all (of_bag o.before) o.calls) }
+    fn end(alloc: Global, rest: Rest, outs: Vec<Served>) -> Result<(Queue, Vec<Reply>), AllocError>
+        requires { (o : BatchContext (List ℕ) PieceOf) × IsContextOf rest o × AllMeet Meets o.ins outs.items }
+        ensures replies { IfOk result (λ p. (o : BatchContext (List ℕ) PieceOf) → IsContextOf rest o
+            → AllMeet Meets o.ins outs.items
+            → p.1.items ≡ replies_to_all (of_bag o.before) o.calls) }
+        ensures content { IfOk result (λ p. (o : BatchContext (List ℕ) PieceOf) → IsContextOf rest o
+            → AllMeet Meets o.ins outs.items → of_bag p.0 ≡ after_all (of_bag o.before) o.calls) }
     {
         let mut shards = outs;
         let replies = replies_of(alloc, rest.inserts, rest.takes, &mut shards)?;

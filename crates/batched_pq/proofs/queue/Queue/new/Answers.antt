@@ -1,6 +1,6 @@
 use Rattle.std.proofs.Common.{refl, arith}
 use Rattle.std.proofs.lemmas.Grind.{common_steps}
-use Rattle.batched_pq.proofs.Taking.{items_push}
+use Rattle.batched_pq.proofs.EndLemmas.Taking.{items_push}
 use Rattle.batched_pq.proofs.queue.Queue.new.Goals as goal
 
 pub loop-preserved : goal.loop-preserved

@@ -1,0 +1,5 @@
+pub mod Bags
+pub mod Nodes
+pub mod Runs
+pub mod Leftist
+pub mod End

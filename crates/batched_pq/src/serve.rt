@@ -1,0 +1,20 @@
+//! Serving a piece: its inserts, and the least items to the front.
+ghost use Rattle.std.specs.Prelude.{IfOk};
+ghost use Rattle.batched_pq.specs.Pieces.{Meets};
+
+use crate::piece::{Piece, Served};
+use crate::shard::prepare;
+use std::alloc::{AllocError, Global};
+
+/// Puts the inserts of a piece into its shard, and brings enough items for all takes to the front.
+pub(crate) fn serve_piece(alloc: Global, piece: Piece) -> Result<Served, AllocError>
+    ensures { IfOk result (λ out. Meets piece out) }
+{
+    let Piece {
+        shard,
+        inserts,
+        takes,
+    } = piece;
+    let out = prepare(alloc, shard, &inserts, takes)?;
+    Ok(out)
+}

@@ -2,7 +2,8 @@
 use Rattle.std.proofs.Common.{◌≡◌, ℕ, Bool, true, false, cond, ◌&&◌, if◌then◌else◌, List, [], ◌∷◌, filter, slice_get, Some, refl, ap}
 use Rattle.std.specs.List.{AllByRecursion, find}
 
-pub filter_where : {X : Type 0} (p q : X → Bool) (xs : List X) → AllByRecursion (λ x. p x ≡ q x) xs → filter p xs ≡ filter q xs
+pub filter_where : {X : Type 0} (p q : X → Bool) (xs : List X) → AllByRecursion (λ x. p x ≡ q x) xs
+    → filter p xs ≡ filter q xs
 filter_where p q [] each = refl
 filter_where p q (x ∷ xs) each = rw (each.0, filter_where p q xs each.1) refl
 
@@ -10,11 +11,13 @@ pub each_of : {X : Type 0} (P : X → Type 0) → ((x : X) → P x) → (xs : Li
 each_of P f [] = tt
 each_of P f (x ∷ xs) = (f x, each_of P f xs)
 
-pub filter_all : {X : Type 0} (p : X → Bool) → ((x : X) → p x ≡ true) → (xs : List X) → filter p xs ≡ xs
+pub filter_all : {X : Type 0} (p : X → Bool) → ((x : X) → p x ≡ true) → (xs : List X)
+    → filter p xs ≡ xs
 filter_all p passes [] = refl
 filter_all p passes (x ∷ xs) = rw (passes x) (ap (λ zs. x ∷ zs) (filter_all p passes xs))
 
-pub filter_both : {X : Type 0} (p q : X → Bool) (xs : List X) → filter p (filter q xs) ≡ filter (λ x. q x && p x) xs
+pub filter_both : {X : Type 0} (p q : X → Bool) (xs : List X)
+    → filter p (filter q xs) ≡ filter (λ x. q x && p x) xs
 filter_both p q [] = refl
 filter_both {X} p q (x ∷ xs) = step (q x) (filter_both p q xs) where
   step : (t : Bool) → filter p (filter q xs) ≡ filter (λ x. q x && p x) xs
@@ -25,7 +28,8 @@ filter_both {X} p q (x ∷ xs) = step (q x) (filter_both p q xs) where
 pub first_found : (p : ℕ → Bool) (xs : List ℕ) → slice_get (filter p xs) 0 ≡ find p xs
 first_found p [] = refl
 first_found p (x ∷ xs) = step (p x) (first_found p xs) where
-  step : (t : Bool) → slice_get (filter p xs) 0 ≡ find p xs → slice_get (cond t (x ∷ filter p xs) (filter p xs)) 0 ≡ (if t then Some x else find p xs)
+  step : (t : Bool) → slice_get (filter p xs) 0 ≡ find p xs
+      → slice_get (cond t (x ∷ filter p xs) (filter p xs)) 0 ≡ (if t then Some x else find p xs)
   step true rest = refl
   step false rest = rest
 
@@ -33,6 +37,7 @@ pub find_where : (p q : ℕ → Bool) → ((x : ℕ) → p x ≡ q x) → (xs : 
 find_where p q same [] = refl
 find_where p q same (x ∷ xs) = rw (same x, find_where p q same xs) refl
 
-pub all_map : {X : Type 0} (P Q : X → Type 0) → ((x : X) → P x → Q x) → (xs : List X) → AllByRecursion P xs → AllByRecursion Q xs
+pub all_map : {X : Type 0} (P Q : X → Type 0) → ((x : X) → P x → Q x) → (xs : List X)
+    → AllByRecursion P xs → AllByRecursion Q xs
 all_map P Q f [] each = tt
 all_map P Q f (x ∷ xs) each = (f x each.0, all_map P Q f xs each.1)

@@ -17,25 +17,26 @@ use Rattle.seq_objects.specs.Batches.{AreInBatchOrder, AreOf, object_of, Tree}
 use Rattle.seq_objects.specs.Serial.{of_set, after_all, replies_to_all}
 use Rattle.seq_objects.specs.Pieces.{AllMeet, BatchContext}
 use Rattle.tree23.specs.Keys.{AllBelow}
-use Rattle.batched_tree.specs.declared.part.Part.{Part}
-use Rattle.batched_tree.specs.declared.part.Served.{Served}
-use Rattle.batched_tree.specs.declared.part.Groups.{Groups}
-use Rattle.batched_tree.specs.Keys.{key_of, below, from, calls_below, calls_from}
+use Rattle.batched_tree.specs.declared.piece.Piece.{Piece}
+use Rattle.batched_tree.specs.declared.piece.Served.{Served}
+use Rattle.batched_tree.specs.declared.piece.Rest.{Rest}
+use Rattle.batched_tree.specs.Calls.{key_of}
+use Rattle.batched_tree.specs.Code.Sides.{below, from, calls_below, calls_from}
 use Rattle.batched_tree.specs.Groups.{starts_of, group_of}
 use Rattle.batched_tree.specs.Replies.{or_beyond, reply_within, replies_within}
 use Rattle.batched_tree.specs.Pieces.{Meets, IsContextOf}
-use Rattle.batched_tree.specs.Cuts.{IsPiece, ArePieces}
-use Rattle.batched_tree.specs.Joined.{merged, replies_of, joined, CanJoin}
-use Rattle.batched_tree.proofs.Sides.{all_filter, all_passed, is_less, is_not_less, all_below, all_from, both_sides, ascends_from}
-use Rattle.batched_tree.proofs.Cuts.{some_key}
+use Rattle.batched_tree.specs.Code.Begin.{IsCutPiece, AreCutPieces}
+use Rattle.batched_tree.specs.Code.End.{merged_replies, replies_of, joined_keys, CanJoin}
+use Rattle.batched_tree.proofs.ServeLemmas.Sides.{all_filter, all_passed, is_less, is_not_less, all_below, all_from, both_sides, ascends_from}
+use Rattle.batched_tree.proofs.BeginLemmas.Cuts.{some_key}
 use Rattle.batched_tree.proofs.Filters.{all_map}
-use Rattle.batched_tree.proofs.Dealing.{groups_within}
-use Rattle.batched_tree.proofs.Ranges.{cut_pieces}
-use Rattle.batched_tree.proofs.Halves.{shared, less_or_not, halves_replies, halves_after, set_after, kept}
+use Rattle.batched_tree.proofs.BeginLemmas.Dealing.{groups_within}
+use Rattle.batched_tree.proofs.BeginLemmas.Ranges.{cut_pieces}
+use Rattle.batched_tree.proofs.ServeLemmas.Halves.{shared, less_or_not, halves_replies, halves_after, set_after, kept}
 
 -- the first piece has the calls below the first start, and the other pieces have the others
 merged_split : (b : ℕ) (starts : List ℕ) (calls : List Call) (q : List Reply) (qs : List (List Reply))
-    → merged (map (λ call. group_of (key_of call) (b ∷ starts)) calls) (q ∷ qs) ≡ shared b calls q (merged (map (λ call. group_of (key_of call) starts) (calls_from b calls)) qs)
+    → merged_replies (map (λ call. group_of (key_of call) (b ∷ starts)) calls) (q ∷ qs) ≡ shared b calls q (merged_replies (map (λ call. group_of (key_of call) starts) (calls_from b calls)) qs)
 merged_split b starts [] q qs = refl
 merged_split b starts (call ∷ calls) q qs = elim (less_or_not (key_of call) b) [
   | inl less ↦
@@ -47,7 +48,8 @@ merged_split b starts (call ∷ calls) q qs = elim (less_or_not (key_of call) b)
       rw test (ap (λ rs. get_or (get_or qs group []) 0 Empty ∷ rs) (merged_split b starts calls q (set qs group (drop 1 (get_or qs group [])))))
 ]
 
-merged_alone : (objects : Objects) (calls : List Call) → merged (map (λ call. group_of (key_of call) []) calls) (replies_to_all objects calls ∷ []) ≡ replies_to_all objects calls
+merged_alone : (objects : Objects) (calls : List Call)
+    → merged_replies (map (λ call. group_of (key_of call) []) calls) (replies_to_all objects calls ∷ []) ≡ replies_to_all objects calls
 merged_alone objects [] = refl
 merged_alone objects (call ∷ calls) = ap (λ rs. reply_to objects call.op ∷ rs) (merged_alone (after objects call.op) calls)
 
@@ -70,19 +72,23 @@ within_none (TreeNext key) reply = or_none reply
 within_none (PqInsert item) reply = refl
 within_none PqTake reply = refl
 
-replies_none : (objects : Objects) (calls : List Call) → replies_within None objects calls ≡ replies_to_all objects calls
+replies_none : (objects : Objects) (calls : List Call)
+    → replies_within None objects calls ≡ replies_to_all objects calls
 replies_none objects [] = refl
 replies_none objects (call ∷ calls) = rw (within_none call.op (reply_to objects call.op), replies_none (after objects call.op) calls) refl
 
 -- calls that are left out leave the others in their order
-pairs_filter : (R : Call → Call → Type 0) (test : Call → Bool) (calls : List Call) → EachPair R calls → EachPair R (filter test calls)
+pairs_filter : (R : Call → Call → Type 0) (test : Call → Bool) (calls : List Call)
+    → EachPair R calls → EachPair R (filter test calls)
 pairs_filter R test [] each = tt
 pairs_filter R test (call ∷ calls) each = step (test call) (pairs_filter R test calls each.1) where
-  step : (t : Bool) → EachPair R (filter test calls) → EachPair R (cond t (call ∷ filter test calls) (filter test calls))
+  step : (t : Bool) → EachPair R (filter test calls)
+      → EachPair R (cond t (call ∷ filter test calls) (filter test calls))
   step true rest = (all_filter (λ later. R call later) test calls each.0, rest)
   step false rest = rest
 
-order_from : (b : ℕ) (calls : List Call) → AreInBatchOrder calls → AreInBatchOrder (calls_from b calls)
+order_from : (b : ℕ) (calls : List Call) → AreInBatchOrder calls
+    → AreInBatchOrder (calls_from b calls)
 order_from b calls order = pairs_filter (λ first second. ComesFirst first.op first.worker second.op second.worker) (λ call. not (nat_lt (key_of call) b)) calls order
 
 tree_below : (b : ℕ) (calls : List Call) → AreOf Tree calls → AreOf Tree (calls_below b calls)
@@ -92,64 +98,71 @@ tree_from : (b : ℕ) (calls : List Call) → AreOf Tree calls → AreOf Tree (c
 tree_from b calls tree = all_filter (λ call. object_of call.op ≡ Tree) (λ call. not (nat_lt (key_of call) b)) calls tree
 
 -- what a piece owes, said of the set and the calls of which it is a part
-no_more : (ins : List Part) (outs : List Served) → ins ≡ [] → AllMeet Meets ins outs → outs ≡ []
+no_more : (ins : List Piece) (outs : List Served) → ins ≡ [] → AllMeet Meets ins outs → outs ≡ []
 no_more [] [] none meet = refl
 no_more [] (out ∷ outs) none meet = absurd meet
-no_more (part ∷ ins) outs none meet = absurd (cc)
+no_more (piece ∷ ins) outs none meet = absurd (cc)
 
-owed_replies : (set : List ℕ) (calls : List Call) (beyond : Option ℕ) (part : Part) (out : Served) → IsPiece set calls beyond part → Meets part out → out.replies.items ≡ replies_within beyond (of_set set) calls
-owed_replies set calls beyond part out is meet = rw (is.keys_are, is.calls_are, is.beyond_is) at meet.replies
+owed_replies : (set : List ℕ) (calls : List Call) (beyond : Option ℕ) (piece : Piece) (out : Served)
+    → IsCutPiece set calls beyond piece → Meets piece out
+    → out.replies.items ≡ replies_within beyond (of_set set) calls
+owed_replies set calls beyond piece out is meet = rw (is.keys_are, is.calls_are, is.beyond_is) at meet.replies
 
-owed_keys : (set : List ℕ) (calls : List Call) (beyond : Option ℕ) (part : Part) (out : Served) → IsPiece set calls beyond part → Meets part out → out.row ≡ (after_all (of_set set) calls).set
-owed_keys set calls beyond part out is meet = rw (is.keys_are, is.calls_are) at meet.keys
+owed_keys : (set : List ℕ) (calls : List Call) (beyond : Option ℕ) (piece : Piece) (out : Served)
+    → IsCutPiece set calls beyond piece → Meets piece out
+    → out.row ≡ (after_all (of_set set) calls).set
+owed_keys set calls beyond piece out is meet = rw (is.keys_are, is.calls_are) at meet.keys
 
-pieces_replies : (starts set : List ℕ) (calls : List Call) (ins : List Part) (outs : List Served) → StrictlyAscends set → AreOf Tree calls → AreInBatchOrder calls
-    → ArePieces set calls starts ins → AllMeet Meets ins outs → merged (map (λ call. group_of (key_of call) starts) calls) (replies_of outs) ≡ replies_to_all (of_set set) calls
-pieces_replies [] set calls [] outs up tree order parts meet = absurd parts
-pieces_replies (b ∷ starts) set calls [] outs up tree order parts meet = absurd parts
-pieces_replies [] set calls (part ∷ ins) [] up tree order parts meet = absurd meet
-pieces_replies (b ∷ starts) set calls (part ∷ ins) [] up tree order parts meet = absurd meet
-pieces_replies [] set calls (part ∷ ins) (out ∷ outs) up tree order parts meet =
-    let none : outs ≡ [] = no_more ins outs parts.1 meet.1 in
-    let own : out.replies.items ≡ replies_to_all (of_set set) calls = owed_replies set calls None part out parts.0 meet.0 ∙ replies_none (of_set set) calls in
+pieces_replies : (starts set : List ℕ) (calls : List Call) (ins : List Piece) (outs : List Served)
+    → StrictlyAscends set → AreOf Tree calls → AreInBatchOrder calls
+    → AreCutPieces set calls starts ins → AllMeet Meets ins outs → merged_replies (map (λ call. group_of (key_of call) starts) calls) (replies_of outs) ≡ replies_to_all (of_set set) calls
+pieces_replies [] set calls [] outs up tree order pieces meet = absurd pieces
+pieces_replies (b ∷ starts) set calls [] outs up tree order pieces meet = absurd pieces
+pieces_replies [] set calls (piece ∷ ins) [] up tree order pieces meet = absurd meet
+pieces_replies (b ∷ starts) set calls (piece ∷ ins) [] up tree order pieces meet = absurd meet
+pieces_replies [] set calls (piece ∷ ins) (out ∷ outs) up tree order pieces meet =
+    let none : outs ≡ [] = no_more ins outs pieces.1 meet.1 in
+    let own : out.replies.items ≡ replies_to_all (of_set set) calls = owed_replies set calls None piece out pieces.0 meet.0 ∙ replies_none (of_set set) calls in
     rw (own, none) (merged_alone (of_set set) calls)
-pieces_replies (b ∷ starts) set calls (part ∷ ins) (out ∷ outs) up tree order parts meet =
+pieces_replies (b ∷ starts) set calls (piece ∷ ins) (out ∷ outs) up tree order pieces meet =
     let low = below b set in
     let high = from b set in
-    let own : out.replies.items ≡ replies_within (slice_get high 0) (of_set low) (calls_below b calls) = owed_replies low (calls_below b calls) (slice_get high 0) part out parts.0 meet.0 in
-    let rest = pieces_replies starts high (calls_from b calls) ins outs (ascends_from b set up) (tree_from b calls tree) (order_from b calls order) parts.1 meet.1 in
+    let own : out.replies.items ≡ replies_within (slice_get high 0) (of_set low) (calls_below b calls) = owed_replies low (calls_below b calls) (slice_get high 0) piece out pieces.0 meet.0 in
+    let rest = pieces_replies starts high (calls_from b calls) ins outs (ascends_from b set up) (tree_from b calls tree) (order_from b calls order) pieces.1 meet.1 in
     let law = halves_replies b calls low high (slice_get high 0) tree order (all_below b set) (all_from b set) (inl refl) in
     let both : replies_to_all (of_set set) calls ≡ replies_to_all (of_set (low ++ high)) calls = ap (λ keys. replies_to_all (of_set keys) calls) (both_sides b set up) in
     let split = merged_split b starts calls out.replies.items (replies_of outs) in
-    let joined_law : shared b calls out.replies.items (merged (map (λ call. group_of (key_of call) starts) (calls_from b calls)) (replies_of outs)) ≡ replies_to_all (of_set (low ++ high)) calls = rw (own, rest) (sym law) in
+    let joined_law : shared b calls out.replies.items (merged_replies (map (λ call. group_of (key_of call) starts) (calls_from b calls)) (replies_of outs)) ≡ replies_to_all (of_set (low ++ high)) calls = rw (own, rest) (sym law) in
     split ∙ joined_law ∙ sym both
 
-pieces_after : (starts set : List ℕ) (calls : List Call) (ins : List Part) (outs : List Served) → StrictlyAscends set → AreOf Tree calls
-    → ArePieces set calls starts ins → AllMeet Meets ins outs → after_all (of_set set) calls ≡ of_set (joined outs)
-pieces_after [] set calls [] outs up tree parts meet = absurd parts
-pieces_after (b ∷ starts) set calls [] outs up tree parts meet = absurd parts
-pieces_after [] set calls (part ∷ ins) [] up tree parts meet = absurd meet
-pieces_after (b ∷ starts) set calls (part ∷ ins) [] up tree parts meet = absurd meet
-pieces_after [] set calls (part ∷ ins) (out ∷ outs) up tree parts meet =
-    let none : outs ≡ [] = no_more ins outs parts.1 meet.1 in
-    let own = owed_keys set calls None part out parts.0 meet.0 in
-    let whole : joined (out ∷ outs) ≡ (after_all (of_set set) calls).set = rw none (append-nil out.row ∙ own) in
+pieces_after : (starts set : List ℕ) (calls : List Call) (ins : List Piece) (outs : List Served)
+    → StrictlyAscends set → AreOf Tree calls
+    → AreCutPieces set calls starts ins → AllMeet Meets ins outs → after_all (of_set set) calls ≡ of_set (joined_keys outs)
+pieces_after [] set calls [] outs up tree pieces meet = absurd pieces
+pieces_after (b ∷ starts) set calls [] outs up tree pieces meet = absurd pieces
+pieces_after [] set calls (piece ∷ ins) [] up tree pieces meet = absurd meet
+pieces_after (b ∷ starts) set calls (piece ∷ ins) [] up tree pieces meet = absurd meet
+pieces_after [] set calls (piece ∷ ins) (out ∷ outs) up tree pieces meet =
+    let none : outs ≡ [] = no_more ins outs pieces.1 meet.1 in
+    let own = owed_keys set calls None piece out pieces.0 meet.0 in
+    let whole : joined_keys (out ∷ outs) ≡ (after_all (of_set set) calls).set = rw none (append-nil out.row ∙ own) in
     set_after set calls tree ∙ ap of_set (sym whole)
-pieces_after (b ∷ starts) set calls (part ∷ ins) (out ∷ outs) up tree parts meet =
+pieces_after (b ∷ starts) set calls (piece ∷ ins) (out ∷ outs) up tree pieces meet =
     let low = below b set in
     let high = from b set in
-    let own = owed_keys low (calls_below b calls) (slice_get high 0) part out parts.0 meet.0 in
-    let rest = pieces_after starts high (calls_from b calls) ins outs (ascends_from b set up) (tree_from b calls tree) parts.1 meet.1 in
+    let own = owed_keys low (calls_below b calls) (slice_get high 0) piece out pieces.0 meet.0 in
+    let rest = pieces_after starts high (calls_from b calls) ins outs (ascends_from b set up) (tree_from b calls tree) pieces.1 meet.1 in
     let law = halves_after b calls low high tree (all_below b set) (all_from b set) in
     let both : after_all (of_set set) calls ≡ after_all (of_set (low ++ high)) calls = ap (λ keys. after_all (of_set keys) calls) (both_sides b set up) in
-    let keys : (after_all (of_set high) (calls_from b calls)).set ≡ joined outs = ap (λ (objects : Objects). objects.set) rest in
+    let keys : (after_all (of_set high) (calls_from b calls)).set ≡ joined_keys outs = ap (λ (objects : Objects). objects.set) rest in
     both ∙ rw (own, ← keys) law
 
 -- the subtrees stand in order
 abbrev IsAbove : List ℕ → ℕ → Type 0
 IsAbove set k = AllByRecursion (λ x. x < k) set
 
-all_both : {X : Type 0} (P Q R : X → Type 0) → ((x : X) → P x → Q x → R x) → (xs : List X) → AllByRecursion P xs → AllByRecursion Q xs → AllByRecursion R xs
+all_both : {X : Type 0} (P Q R : X → Type 0) → ((x : X) → P x → Q x → R x) → (xs : List X)
+    → AllByRecursion P xs → AllByRecursion Q xs → AllByRecursion R xs
 all_both P Q R f [] each each' = tt
 all_both P Q R f (x ∷ xs) each each' = (f x each.0 each'.0, all_both P Q R f xs each.1 each'.1)
 
@@ -160,23 +173,26 @@ turned (k ∷ low) high each = (
   turned low high (all_map (IsAbove (k ∷ low)) (IsAbove low) (λ j above. above.1) high each),
 )
 
-above_both : (low t : List ℕ) (b k : ℕ) → IsAbove low k → AllByRecursion (λ x. x < b) t → b ≤ k → IsAbove (low ++ t) k
+above_both : (low t : List ℕ) (b k : ℕ) → IsAbove low k → AllByRecursion (λ x. x < b) t → b ≤ k
+    → IsAbove (low ++ t) k
 above_both [] [] b k above down le = tt
 above_both [] (x ∷ t) b k above down le = (omega (arith, down.0, le), above_both [] t b k above down.1 le)
 above_both (x ∷ low) t b k above down le = (above.0, above_both low t b k above.1 down le)
 
-can_join : (starts set low : List ℕ) (calls : List Call) (ins : List Part) (outs : List Served) → AreOf Tree calls → AllByRecursion (IsAbove low) set → AllByRecursion (λ call. IsAbove low (key_of call)) calls
-    → ArePieces set calls starts ins → AllMeet Meets ins outs → CanJoin low outs
-can_join [] set low calls [] outs tree above keys parts meet = absurd parts
-can_join (b ∷ starts) set low calls [] outs tree above keys parts meet = absurd parts
-can_join [] set low calls (part ∷ ins) [] tree above keys parts meet = absurd meet
-can_join (b ∷ starts) set low calls (part ∷ ins) [] tree above keys parts meet = absurd meet
-can_join [] set low calls (part ∷ ins) (out ∷ outs) tree above keys parts meet =
-    let none : outs ≡ [] = no_more ins outs parts.1 meet.1 in
-    let own = owed_keys set calls None part out parts.0 meet.0 in
+can_join : (starts set low : List ℕ) (calls : List Call) (ins : List Piece) (outs : List Served)
+    → AreOf Tree calls → AllByRecursion (IsAbove low) set
+    → AllByRecursion (λ call. IsAbove low (key_of call)) calls
+    → AreCutPieces set calls starts ins → AllMeet Meets ins outs → CanJoin low outs
+can_join [] set low calls [] outs tree above keys pieces meet = absurd pieces
+can_join (b ∷ starts) set low calls [] outs tree above keys pieces meet = absurd pieces
+can_join [] set low calls (piece ∷ ins) [] tree above keys pieces meet = absurd meet
+can_join (b ∷ starts) set low calls (piece ∷ ins) [] tree above keys pieces meet = absurd meet
+can_join [] set low calls (piece ∷ ins) (out ∷ outs) tree above keys pieces meet =
+    let none : outs ≡ [] = no_more ins outs pieces.1 meet.1 in
+    let own = owed_keys set calls None piece out pieces.0 meet.0 in
     rw (own, none) (turned low (after_all (of_set set) calls).set (kept (IsAbove low) set calls tree keys above), tt)
-can_join (b ∷ starts) set low calls (part ∷ ins) (out ∷ outs) tree above keys parts meet =
-    let own = owed_keys (below b set) (calls_below b calls) (slice_get (from b set) 0) part out parts.0 meet.0 in
+can_join (b ∷ starts) set low calls (piece ∷ ins) (out ∷ outs) tree above keys pieces meet =
+    let own = owed_keys (below b set) (calls_below b calls) (slice_get (from b set) 0) piece out pieces.0 meet.0 in
     let mine = tree_below b calls tree in
     let all = kept (IsAbove low) (below b set) (calls_below b calls) mine (all_filter (λ call. IsAbove low (key_of call)) (λ call. nat_lt (key_of call) b) calls keys) (all_filter (IsAbove low) (λ k. nat_lt k b) set above) in
     let keys_down = all_passed (λ call. key_of call < b) (λ call. nat_lt (key_of call) b) (λ call is. is_less (key_of call) b is) calls in
@@ -185,29 +201,36 @@ can_join (b ∷ starts) set low calls (part ∷ ins) (out ∷ outs) tree above k
     let t = (after_all (of_set (below b set)) (calls_below b calls)).set in
     let above' = all_both (IsAbove low) (λ k. b ≤ k) (IsAbove (low ++ t)) (λ k a le. above_both low t b k a down le) (from b set) (all_filter (IsAbove low) (λ k. not (nat_lt k b)) set above) (all_from b set) in
     let keys' = all_both (λ (call : Call). IsAbove low (key_of call)) (λ call. b ≤ key_of call) (λ call. IsAbove (low ++ t) (key_of call)) (λ call a le. above_both low t b (key_of call) a down le) (calls_from b calls) (all_filter (λ call. IsAbove low (key_of call)) (λ call. not (nat_lt (key_of call) b)) calls keys) keys_up in
-    rw own (turned low t all, can_join starts (from b set) (low ++ t) (calls_from b calls) ins outs (tree_from b calls tree) above' keys' parts.1 meet.1)
+    rw own (turned low t all, can_join starts (from b set) (low ++ t) (calls_from b calls) ins outs (tree_from b calls tree) above' keys' pieces.1 meet.1)
 
 -- each call has a piece
-length_parts : (starts set : List ℕ) (calls : List Call) (ins : List Part) → ArePieces set calls starts ins → length ins ≡ length starts + 1
-length_parts [] set calls [] parts = absurd parts
-length_parts (b ∷ starts) set calls [] parts = absurd parts
-length_parts [] set calls (part ∷ ins) parts = rw parts.1 (omega arith)
-length_parts (b ∷ starts) set calls (part ∷ ins) parts = omega (arith, length_parts starts (from b set) (calls_from b calls) ins parts.1)
+length_parts : (starts set : List ℕ) (calls : List Call) (ins : List Piece)
+    → AreCutPieces set calls starts ins → length ins ≡ length starts + 1
+length_parts [] set calls [] pieces = absurd pieces
+length_parts (b ∷ starts) set calls [] pieces = absurd pieces
+length_parts [] set calls (piece ∷ ins) pieces = rw pieces.1 (omega arith)
+length_parts (b ∷ starts) set calls (piece ∷ ins) pieces = omega (arith, length_parts starts (from b set) (calls_from b calls) ins pieces.1)
 
-length_outs : (ins : List Part) (outs : List Served) → AllMeet Meets ins outs → length (replies_of outs) ≡ length ins
+length_outs : (ins : List Piece) (outs : List Served) → AllMeet Meets ins outs
+    → length (replies_of outs) ≡ length ins
 length_outs [] [] meet = refl
 length_outs [] (out ∷ outs) meet = absurd meet
-length_outs (part ∷ ins) [] meet = absurd meet
-length_outs (part ∷ ins) (out ∷ outs) meet = omega (arith, length_outs ins outs meet.1)
+length_outs (piece ∷ ins) [] meet = absurd meet
+length_outs (piece ∷ ins) (out ∷ outs) meet = omega (arith, length_outs ins outs meet.1)
 
 -- what the end stands on
-pieces_of : (rest : Groups) (o : BatchContext (List ℕ) Part) (r : IsContextOf rest o) → ArePieces o.before o.calls (starts_of r.cut.groups) o.ins
+pieces_of : (rest : Rest) (o : BatchContext (List ℕ) Piece) (r : IsContextOf rest o)
+    → AreCutPieces o.before o.calls (starts_of r.cut.groups) o.ins
 pieces_of rest o r = cut_pieces (of_set o.before) o.calls o.ins (some_key o.calls r.batch.some) r.cut
 
-pub law_replies : (rest : Groups) (o : BatchContext (List ℕ) Part) (outs : List Served) → IsContextOf rest o → AllMeet Meets o.ins outs → merged rest.groups.items (replies_of outs) ≡ replies_to_all (of_set o.before) o.calls
+pub law_replies : (rest : Rest) (o : BatchContext (List ℕ) Piece) (outs : List Served)
+    → IsContextOf rest o → AllMeet Meets o.ins outs
+    → merged_replies rest.groups.items (replies_of outs) ≡ replies_to_all (of_set o.before) o.calls
 law_replies rest o outs r meet = rw r.groups (pieces_replies (starts_of r.cut.groups) o.before o.calls o.ins outs r.ascends r.may r.batch.order (pieces_of rest o r) meet)
 
-pub law_content : (rest : Groups) (o : BatchContext (List ℕ) Part) (outs : List Served) → IsContextOf rest o → AllMeet Meets o.ins outs → of_set (joined outs) ≡ after_all (of_set o.before) o.calls
+pub law_content : (rest : Rest) (o : BatchContext (List ℕ) Piece) (outs : List Served)
+    → IsContextOf rest o → AllMeet Meets o.ins outs
+    → of_set (joined_keys outs) ≡ after_all (of_set o.before) o.calls
 law_content rest o outs r meet = sym (pieces_after (starts_of r.cut.groups) o.before o.calls o.ins outs r.ascends r.may (pieces_of rest o r) meet)
 
 above_none : (set : List ℕ) → AllByRecursion (IsAbove []) set
@@ -218,10 +241,13 @@ keys_above_none : (calls : List Call) → AllByRecursion (λ call. IsAbove [] (k
 keys_above_none [] = tt
 keys_above_none (call ∷ calls) = (tt, keys_above_none calls)
 
-pub law_can_join : (rest : Groups) (o : BatchContext (List ℕ) Part) (outs : List Served) → IsContextOf rest o → AllMeet Meets o.ins outs → CanJoin [] outs
+pub law_can_join : (rest : Rest) (o : BatchContext (List ℕ) Piece) (outs : List Served)
+    → IsContextOf rest o → AllMeet Meets o.ins outs → CanJoin [] outs
 law_can_join rest o outs r meet = can_join (starts_of r.cut.groups) o.before [] o.calls o.ins outs r.may (above_none o.before) (keys_above_none o.calls) (pieces_of rest o r) meet
 
-pub law_groups : (rest : Groups) (o : BatchContext (List ℕ) Part) (outs : List Served) → IsContextOf rest o → AllMeet Meets o.ins outs → AllByRecursion (λ group. group < length (replies_of outs)) rest.groups.items
+pub law_groups : (rest : Rest) (o : BatchContext (List ℕ) Piece) (outs : List Served)
+    → IsContextOf rest o → AllMeet Meets o.ins outs
+    → AllByRecursion (λ group. group < length (replies_of outs)) rest.groups.items
 law_groups rest o outs r meet =
     let starts = starts_of r.cut.groups in
     let less : length starts < length (replies_of outs) = omega (arith, length_parts starts o.before o.calls o.ins (pieces_of rest o r), length_outs o.ins outs meet) in

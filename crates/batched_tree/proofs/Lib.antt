@@ -1,12 +1,5 @@
-mod Asked
-mod Calls
-mod Counting
-mod Cuts
-mod Dealing
 mod Filters
-mod Halves
+mod BeginLemmas
+mod ServeLemmas
+mod EndLemmas
 mod Law
-mod Merging
-mod Ranges
-mod Sides
-mod Sorting

@@ -1,6 +1,5 @@
-pub mod Keys
+pub mod Calls
 pub mod Groups
-pub mod Cuts
 pub mod Replies
 pub mod Pieces
-pub mod Joined
+pub mod Code

@@ -5,47 +5,45 @@ use Rattle.std.specs.Option.{unwrap_or}
 use Rattle.seq_objects.specs.declared.call.Call.{Call}
 use Rattle.seq_objects.specs.Objects.{Objects, has}
 use Rattle.seq_objects.specs.Orders.{StrictlyAscends}
-use Rattle.seq_objects.specs.Batches.{AreOneBatch, AreOf, Tree}
+use Rattle.seq_objects.specs.Batches.{AreOneBatch}
 use Rattle.seq_objects.specs.Serial.{of_set, after_all}
 use Rattle.seq_objects.specs.Pieces.{BatchContext}
-use Rattle.batched_tree.specs.declared.part.Part.{Part}
-use Rattle.batched_tree.specs.declared.part.Served.{Served}
-use Rattle.batched_tree.specs.declared.part.Groups.{Groups}
-use Rattle.batched_tree.specs.Keys.{key_of, distinct_keys}
+use Rattle.batched_tree.specs.declared.piece.Piece.{Piece}
+use Rattle.batched_tree.specs.declared.piece.Served.{Served}
+use Rattle.batched_tree.specs.declared.piece.Rest.{Rest}
+use Rattle.batched_tree.specs.Calls.{MayServe, key_of, distinct_keys}
 use Rattle.batched_tree.specs.Groups.{AreGroups, least_of, starts_of, is_in, least_beyond, group_of}
 use Rattle.batched_tree.specs.Replies.{replies_within}
 
 -- the part of a group: the keys of the set in its range, the calls whose keys are in the group, and the least
 -- key of the set beyond the range, if there is one
-pub record IsPart (set : List ℕ) (calls : List Call) (group : List ℕ) (start : ℕ) (end : Option ℕ) (part : Part) : Type 0 where
-  pub keys_are : part.row ≡ filter (is_in start end) set
-  pub calls_are : part.calls.items ≡ filter (λ call. has (key_of call) group) calls
-  pub beyond_is : part.beyond ≡ least_beyond end set
+pub record IsPiece (set : List ℕ) (calls : List Call) (group : List ℕ) (start : ℕ) (end : Option ℕ) (piece : Piece) : Type 0 where
+  pub keys_are : piece.row ≡ filter (is_in start end) set
+  pub calls_are : piece.calls.items ≡ filter (λ call. has (key_of call) group) calls
+  pub beyond_is : piece.beyond ≡ least_beyond end set
 
 -- each group has a part, in the order of the groups. The range of the first group begins at `start`, that of
 -- each other group at its least key, and each ends before the least key of the next group
-abbrev pub AreParts : List ℕ → List Call → ℕ → List (List ℕ) → List Part → Type 0
-AreParts set calls start [] parts = parts ≡ []
-AreParts set calls start (group ∷ groups) [] = ⊥
-AreParts set calls start (group ∷ groups) (part ∷ parts) = IsPart set calls group start (least_of groups) part × AreParts set calls (unwrap_or (least_of groups) 0) groups parts
+abbrev pub ArePieces : List ℕ → List Call → ℕ → List (List ℕ) → List Piece → Type 0
+ArePieces set calls start [] pieces = pieces ≡ []
+ArePieces set calls start (group ∷ groups) [] = ⊥
+ArePieces set calls start (group ∷ groups) (piece ∷ pieces) =
+    IsPiece set calls group start (least_of groups) piece
+    × ArePieces set calls (unwrap_or (least_of groups) 0) groups pieces
 
 -- a group has a sixteenth of the distinct keys of the calls, rounded up, and the first range begins at 0
-pub record Cut (objects : Objects) (calls : List Call) (ins : List Part) : Type 0 where
+pub record Cut (objects : Objects) (calls : List Call) (ins : List Piece) : Type 0 where
   pub groups : List (List ℕ)
   pub groups_are : AreGroups ((length (distinct_keys calls) + 15) / 16) (distinct_keys calls) groups
-  pub parts : AreParts objects.set calls 0 groups ins
+  pub pieces : ArePieces objects.set calls 0 groups ins
 
 -- the out has the keys after the calls, and the replies to them
-pub record Meets (part : Part) (served : Served) : Type 0 where
-  pub keys : served.row ≡ (after_all (of_set part.row) part.calls.items).set
-  pub replies : served.replies.items ≡ replies_within part.beyond (of_set part.row) part.calls.items
-
--- all calls are of the tree
-abbrev pub MayServe : Objects → List Call → Type 0
-MayServe objects calls = AreOf Tree calls
+pub record Meets (piece : Piece) (served : Served) : Type 0 where
+  pub keys : served.row ≡ (after_all (of_set piece.row) piece.calls.items).set
+  pub replies : served.replies.items ≡ replies_within piece.beyond (of_set piece.row) piece.calls.items
 
 -- what is kept is the number of the group of each call of the batch, which could be served and was cut so
-pub record IsContextOf (rest : Groups) (o : BatchContext (List ℕ) Part) : Type 0 where
+pub record IsContextOf (rest : Rest) (o : BatchContext (List ℕ) Piece) : Type 0 where
   pub ascends : StrictlyAscends o.before
   pub batch : AreOneBatch o.calls
   pub may : MayServe (of_set o.before) o.calls

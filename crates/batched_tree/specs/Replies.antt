@@ -2,7 +2,7 @@
 use Rattle.std.specs.Prelude.{ℕ, List, [], ◌∷◌}
 use Rattle.std.specs.declared.option.Option.{Option}
 use Rattle.seq_objects.specs.declared.op.Op.{Op}
-use Rattle.seq_objects.specs.declared.op.Op.TheVariants.{CounterAdd, Push, Pop, TreeInsert, TreeRemove, TreeFind, TreeNext, PqInsert, PqTake}
+use Rattle.seq_objects.specs.declared.op.Op.TheVariants.{TreeNext}
 use Rattle.seq_objects.specs.declared.call.Call.{Call}
 use Rattle.seq_objects.specs.declared.reply.Reply.{Reply}
 use Rattle.seq_objects.specs.declared.reply.Reply.TheVariants as reply
@@ -18,17 +18,11 @@ or_beyond reply.No beyond = reply.No
 
 -- the least key beyond the range matters to a question for the next key alone
 abbrev pub reply_within : Option ℕ → Op → Reply → Reply
-reply_within beyond (CounterAdd addend) reply = reply
-reply_within beyond (Push item) reply = reply
-reply_within beyond Pop reply = reply
-reply_within beyond (TreeInsert key) reply = reply
-reply_within beyond (TreeRemove key) reply = reply
-reply_within beyond (TreeFind key) reply = reply
 reply_within beyond (TreeNext key) reply = or_beyond reply beyond
-reply_within beyond (PqInsert item) reply = reply
-reply_within beyond PqTake reply = reply
+reply_within beyond _ reply = reply
 
 -- the replies to calls that are served one after another, where a key is the least beyond the range
 abbrev pub replies_within : Option ℕ → Objects → List Call → List Reply
 replies_within beyond objects [] = []
-replies_within beyond objects (call ∷ calls) = reply_within beyond call.op (reply_to objects call.op) ∷ replies_within beyond (after objects call.op) calls
+replies_within beyond objects (call ∷ calls) =
+    reply_within beyond call.op (reply_to objects call.op) ∷ replies_within beyond (after objects call.op) calls

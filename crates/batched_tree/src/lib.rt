@@ -7,18 +7,12 @@
 //! law, and on `tree23`, whose subtrees move whole at a cut.
 #![tactic(auto)]
 
-mod cut;
-mod groups;
-mod join;
-pub mod part;
-mod reserve;
+mod begin;
+mod end;
+pub mod piece;
+mod pool;
 mod serve;
 pub mod tree_set;
 
-pub use part::{Groups, Part, Served};
+pub use piece::{Piece, Rest, Served};
 pub use tree_set::TreeSet;
-
-#[cfg(test)]
-mod costs;
-#[cfg(test)]
-mod tests;

@@ -1,17 +1,17 @@
-//! What a piece does: it serves its calls on its row, one after another.
+//! Serving a piece: its calls on its row, one after another.
 ghost use Rattle.std.specs.Prelude.{◌≡◌, true, IfOk, OnOk};
 ghost use Rattle.seq_objects.specs.Objects.{after, reply_to};
 ghost use Rattle.seq_objects.specs.Serial.{of_set};
-ghost use Rattle.batched_tree.specs.Keys.{is_of_tree};
+ghost use Rattle.batched_tree.specs.Calls.{is_of_tree};
 ghost use Rattle.batched_tree.specs.Replies.{reply_within};
 ghost use Rattle.batched_tree.specs.Pieces.{Meets};
 
-use crate::part::{Part, Served};
+use crate::piece::{Piece, Served};
 use seq_objects::{Op, Reply};
 use std::alloc::AllocError;
 use tree23::Row;
 
-/// Serves one operation on a row, where a key of the whole set is the least beyond its range.
+/// Serves one operation on a row, where `beyond` is the least key of the whole set beyond the row's range.
 fn serve_one(row: &mut Row, beyond: Option<u32>, op: Op) -> Result<Reply, AllocError>
     requires { is_of_tree op ≡ true }
     ensures reply { IfOk result (λ reply. reply ≡ reply_within beyond op (reply_to (of_set row.old) op)) }
@@ -28,13 +28,13 @@ fn serve_one(row: &mut Row, beyond: Option<u32>, op: Op) -> Result<Reply, AllocE
 }
 
 /// Serves the calls of a piece.
-pub(crate) fn served(part: Part) -> Result<Served, AllocError>
-    ensures { IfOk result (λ served. Meets part served) }
+pub(crate) fn serve_piece(piece: Piece) -> Result<Served, AllocError>
+    ensures { IfOk result (λ served. Meets piece served) }
 {
-    let beyond = part.beyond;
-    let calls = part.calls;
-    let mut row = part.row;
-    let mut replies = part.replies;
+    let beyond = piece.beyond;
+    let calls = piece.calls;
+    let mut row = piece.row;
+    let mut replies = piece.replies;
     replies.clear();
     for call in &calls {
         replies.push(serve_one(&mut row, beyond, call.op)?)?;

@@ -1,17 +1,18 @@
-//! The set.
+//! A set of numbers that serves batches of calls.
 ghost use Rattle.std.specs.Prelude.{◌≡◌, ℕ, [], List, IfOk, IsOk};
 ghost use Rattle.seq_objects.specs.Orders.{StrictlyAscends};
 ghost use Rattle.seq_objects.specs.Serial.{replies_to_all, after_all, of_set};
 ghost use Rattle.seq_objects.specs.Pieces.{AllMeet, BatchContext};
-ghost use Rattle.batched_tree.specs.declared.part.Part.{Part as PartOf};
-ghost use Rattle.batched_tree.specs.Pieces.{MayServe, Meets, Cut, IsContextOf};
+ghost use Rattle.batched_tree.specs.declared.piece.Piece.{Piece as PieceOf};
+ghost use Rattle.batched_tree.specs.Calls.{MayServe};
+ghost use Rattle.batched_tree.specs.Pieces.{Meets, Cut, IsContextOf};
 
-use crate::cut::parts_of;
-use crate::groups::{groups_of, keys_of, starts_of};
-use crate::join::{joined, merged};
-use crate::part::{Groups, Part, Served};
-use crate::reserve::Reserve;
-use crate::serve::served;
+use crate::begin::groups::{groups_of, keys_of, starts_of};
+use crate::begin::pieces_of;
+use crate::end::{join_pieces, merge_replies};
+use crate::piece::{Piece, Rest, Served};
+use crate::pool::Pool;
+use crate::serve::serve_piece;
 use seq_objects::{Batched, Call, Reply};
 use std::alloc::{AllocError, Global};
 use std::marker::Model;
@@ -21,7 +22,7 @@ use tree23::Row;
 #[derive(Drop)]
 pub struct TreeSet {
     row: Row,
-    reserve: Reserve,
+    pool: Pool,
 }
 
 impl Model for TreeSet {
@@ -33,18 +34,20 @@ impl Model for TreeSet {
 }
 
 impl TreeSet {
-    /// The empty set. It takes no memory.
+    /// The empty set.
+    ///
+    /// Memory: none.
     pub fn new(alloc: Global) -> Result<TreeSet, AllocError>
         ensures opening { IfOk result (λ s. s ≡ []) }
         ensures sure { IsOk result }
     {
         Ok(TreeSet {
             row: Row::new(alloc),
-            reserve: Reserve::new(alloc),
+            pool: Pool::new(alloc),
         })
     }
 
-    /// What is so of each set: its keys are in order, without repeats. The call does nothing.
+    /// The keys of each set strictly ascend. For proofs; does nothing.
     pub fn keys_ascend(&self)
         ensures { StrictlyAscends self.now }
     {
@@ -53,11 +56,11 @@ impl TreeSet {
 }
 
 impl Batched for TreeSet {
-    type In = Part;
+    type In = Piece;
 
     type Out = Served;
 
-    type Rest = Groups;
+    type Rest = Rest;
 
     const MOST: u32 = 16;
 
@@ -73,32 +76,35 @@ impl Batched for TreeSet {
 
     ghost is_context_of = { IsContextOf };
 
-    fn begin(self, alloc: Global, calls: &[Call]) -> Result<(Groups, Vec<Part>), AllocError> {
+    fn begin(self, alloc: Global, calls: &[Call]) -> Result<(Rest, Vec<Piece>), AllocError> {
         self.row.keys_ascend();
         let keys = keys_of(alloc, calls)?;
         let starts = starts_of(alloc, &keys)?;
         let groups = groups_of(alloc, &starts, calls)?;
-        let mut reserve = self.reserve;
-        let parts = parts_of(alloc, self.row, &starts, calls, &groups, &mut reserve)?;
-        Ok((Groups { groups, reserve }, parts))
+        let mut pool = self.pool;
+        let pieces = pieces_of(alloc, self.row, &starts, calls, &groups, &mut pool)?;
+        Ok((Rest { groups, pool }, pieces))
     }
 
-    fn piece(_alloc: Global, input: Part) -> Result<Served, AllocError> {
-        served(input)
+    fn piece(_alloc: Global, input: Piece) -> Result<Served, AllocError> {
+        serve_piece(input)
     }
 
     fn end(
         alloc: Global,
-        rest: Groups,
+        rest: Rest,
         outs: Vec<Served>,
     ) -> Result<(TreeSet, Vec<Reply>), AllocError>
-        requires { (o : BatchContext (List ℕ) PartOf) × IsContextOf rest o × AllMeet Meets o.ins outs.items }
-        ensures replies { IfOk result (λ p. (o : BatchContext (List ℕ) PartOf) → IsContextOf rest o → AllMeet Meets o.ins outs.items → p.1.items ≡ replies_to_all (of_set o.before) o.calls) }
-        ensures content { IfOk result (λ p. (o : BatchContext (List ℕ) PartOf) → IsContextOf rest o → AllMeet Meets o.ins outs.items → of_set p.0 ≡ after_all (of_set o.before) o.calls) }
+        requires { (o : BatchContext (List ℕ) PieceOf) × IsContextOf rest o × AllMeet Meets o.ins outs.items }
+        ensures replies { IfOk result (λ p. (o : BatchContext (List ℕ) PieceOf) → IsContextOf rest o
+            → AllMeet Meets o.ins outs.items
+            → p.1.items ≡ replies_to_all (of_set o.before) o.calls) }
+        ensures content { IfOk result (λ p. (o : BatchContext (List ℕ) PieceOf) → IsContextOf rest o
+            → AllMeet Meets o.ins outs.items → of_set p.0 ≡ after_all (of_set o.before) o.calls) }
     {
-        let mut reserve = rest.reserve;
-        let (row, pieces) = joined(alloc, outs, &mut reserve)?;
-        let replies = merged(alloc, &rest.groups, pieces, &mut reserve)?;
-        Ok((TreeSet { row, reserve }, replies))
+        let mut pool = rest.pool;
+        let (row, pieces) = join_pieces(alloc, outs, &mut pool)?;
+        let replies = merge_replies(alloc, &rest.groups, pieces, &mut pool)?;
+        Ok((TreeSet { row, pool }, replies))
     }
 }

@@ -1,0 +1,6 @@
+pub mod Asked
+pub mod Counting
+pub mod Cuts
+pub mod Dealing
+pub mod Ranges
+pub mod Sorting

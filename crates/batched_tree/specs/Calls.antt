@@ -1,0 +1,32 @@
+-- The calls of a batch of the tree: their keys, and which can be served.
+use Rattle.std.specs.Prelude.{ℕ, Bool, true, false, List, [], ◌∷◌}
+use Rattle.seq_objects.specs.declared.op.Op.{Op}
+use Rattle.seq_objects.specs.declared.op.Op.TheVariants.{TreeInsert, TreeRemove, TreeFind, TreeNext}
+use Rattle.seq_objects.specs.declared.call.Call.{Call}
+use Rattle.seq_objects.specs.Objects.{Objects, with_key, argument_of}
+use Rattle.seq_objects.specs.Batches.{AreOf, Tree}
+
+-- whether an operation is one of the tree
+abbrev pub is_of_tree : Op → Bool
+is_of_tree (TreeInsert key) = true
+is_of_tree (TreeRemove key) = true
+is_of_tree (TreeFind key) = true
+is_of_tree (TreeNext key) = true
+is_of_tree _ = false
+
+-- the key of a call of the tree
+abbrev pub key_of : Call → ℕ
+key_of call = argument_of call.op
+
+-- a set into which the keys of the calls were put
+abbrev pub with_keys : List ℕ → List Call → List ℕ
+with_keys set [] = set
+with_keys set (call ∷ calls) = with_keys (with_key (key_of call) set) calls
+
+-- the distinct keys of the calls, ascending
+abbrev pub distinct_keys : List Call → List ℕ
+distinct_keys calls = with_keys [] calls
+
+-- all calls are of the tree
+abbrev pub MayServe : Objects → List Call → Type 0
+MayServe objects calls = AreOf Tree calls

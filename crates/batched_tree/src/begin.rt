@@ -1,0 +1,67 @@
+//! Cutting a set into pieces, and dealing the calls of a batch to them.
+ghost use Rattle.std.specs.Prelude.{◌≡◌, ◌+◌, true, [], length, map, IfOk};
+ghost use Rattle.std.specs.List.{list_all};
+ghost use Rattle.batched_tree.specs.Calls.{is_of_tree, key_of};
+ghost use Rattle.batched_tree.specs.Groups.{group_of};
+ghost use Rattle.batched_tree.specs.Code.Begin.{IsCutPiece, AreCutPieces};
+
+pub(crate) mod groups;
+
+use crate::piece::Piece;
+use crate::pool::Pool;
+use seq_objects::Call;
+use std::alloc::{AllocError, Global};
+use tree23::{Rest, Row};
+
+/// A piece that has no calls yet.
+fn piece_of(row: Row, beyond: Option<u32>, pool: &mut Pool) -> Piece
+    ensures { IsCutPiece row [] beyond result }
+{
+    Piece {
+        row,
+        calls: pool.take_calls(),
+        replies: pool.take_replies(),
+        beyond,
+    }
+}
+
+/// The pieces whose ranges but the first begin with the starts, before they have calls.
+fn empty_pieces(
+    alloc: Global,
+    set: Row,
+    starts: &[u32],
+    pool: &mut Pool,
+) -> Result<Vec<Piece>, AllocError>
+    ensures pieces { IfOk result (λ v. AreCutPieces set [] starts.now v.items) }
+    ensures count { IfOk result (λ v. length v.items ≡ length starts.now + 1) }
+{
+    let mut pieces = Vec::with_capacity(alloc, starts.len() + 1)?;
+    let mut rest = Rest::new(set);
+    for start in starts {
+        let row = rest.take_below(*start, &mut pool.spares)?;
+        pieces.push(piece_of(row, rest.least(), pool))?;
+    }
+    pieces.push(piece_of(rest.into_row(), None, pool))?;
+    Ok(pieces)
+}
+
+/// The pieces of a batch whose groups but the first begin with the starts, where `groups` has the group of each call.
+pub(crate) fn pieces_of(
+    alloc: Global,
+    set: Row,
+    starts: &[u32],
+    calls: &[Call],
+    groups: &[usize],
+    pool: &mut Pool,
+) -> Result<Vec<Piece>, AllocError>
+    requires of_tree { list_all (λ call. is_of_tree call.op) calls.now ≡ true }
+    requires groups { groups.now ≡ map (λ call. group_of (key_of call) starts.now) calls.now }
+    ensures pieces { IfOk result (λ v. AreCutPieces set calls.now starts.now v.items) }
+    ensures count { IfOk result (λ v. length v.items ≡ length starts.now + 1) }
+{
+    let mut pieces = empty_pieces(alloc, set, starts, pool)?;
+    for (place, call) in calls.iter().enumerate() {
+        pieces[groups[place]].calls.push(*call)?;
+    }
+    Ok(pieces)
+}

@@ -1,0 +1,99 @@
+//! Joining the rows of the pieces, and merging their replies.
+ghost use Rattle.std.specs.Prelude.{◌≡◌, ◌<◌, [], length, drop, slice_get, IfOk};
+ghost use Rattle.std.specs.List.{AllByRecursion};
+ghost use Rattle.batched_tree.specs.Code.End.{merged_replies, replies_of, joined_keys, CanJoin};
+
+use crate::piece::Served;
+use crate::pool::Pool;
+use seq_objects::Reply;
+use std::alloc::{AllocError, Global};
+use std::marker::Model;
+use tree23::Row;
+
+/// The replies of a piece that are left. Contracts see them as a list.
+#[derive(Drop)]
+pub(crate) struct Replies {
+    all: Vec<Reply>,
+    at: usize,
+}
+
+impl Model for Replies {
+    ghost use Rattle.std.specs.Prelude.{List, drop};
+    ghost use Rattle.seq_objects.specs.declared.reply.Reply.{Reply};
+
+    ghost Value = { List Reply };
+
+    ghost view = { λ r. drop r.at r.all.items };
+}
+
+impl Replies {
+    fn new(all: Vec<Reply>) -> Replies
+        ensures { result ≡ all.items }
+    {
+        Replies { all, at: 0 }
+    }
+
+    fn next(&mut self) -> Option<Reply>
+        ensures reply { result ≡ slice_get self.old 0 }
+        ensures rest { self.new ≡ drop 1 self.old }
+    {
+        if self.at < self.all.len() {
+            let reply = self.all[self.at];
+            self.at += 1;
+            Some(reply)
+        } else {
+            None
+        }
+    }
+}
+
+/// One row of the rows of all pieces, and the replies of each piece.
+pub(crate) fn join_pieces(
+    alloc: Global,
+    outs: Vec<Served>,
+    pool: &mut Pool,
+) -> Result<(Row, Vec<Replies>), AllocError>
+    requires { CanJoin [] outs.items }
+    ensures keys { IfOk result (λ p. p.0 ≡ joined_keys outs.items) }
+    ensures replies { IfOk result (λ p. p.1.items ≡ replies_of outs.items) }
+{
+    let mut replies = Vec::with_capacity(alloc, outs.len())?;
+    let mut pieces = outs.into_iter();
+    let mut row = match pieces.next() {
+        Some(first) => {
+            replies.push(Replies::new(first.replies))?;
+            pool.keep_calls(first.calls);
+            first.row
+        }
+        None => Row::new(alloc),
+    };
+    for served in pieces {
+        row.append(served.row, &mut pool.spares)?;
+        replies.push(Replies::new(served.replies))?;
+        pool.keep_calls(served.calls);
+    }
+    row.gather(&mut pool.spares)?;
+    Ok((row, replies))
+}
+
+/// The replies in the order of the calls, where `groups` has the group of each call.
+pub(crate) fn merge_replies(
+    alloc: Global,
+    groups: &[usize],
+    pieces: Vec<Replies>,
+    pool: &mut Pool,
+) -> Result<Vec<Reply>, AllocError>
+    requires { AllByRecursion (λ group. group < length pieces.items) groups.now }
+    ensures { IfOk result (λ v. v.items ≡ merged_replies groups.now pieces.items) }
+{
+    let mut left = pieces;
+    let mut replies = Vec::with_capacity(alloc, groups.len())?;
+    for group in groups {
+        let next = left[*group].next();
+        replies.push(next.unwrap_or(Reply::Empty))?;
+    }
+    for piece in left {
+        pool.keep_replies(piece.all);
+    }
+    Ok(replies)
+}

@@ -1,6 +1,2 @@
-pub mod Numbers
-pub mod Counts
-pub mod Schedules
-pub mod Fronts
-pub mod Ends
-pub mod InMemory
+pub mod CommandLemmas
+pub mod OutcomeLemmas

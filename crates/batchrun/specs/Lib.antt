@@ -11,3 +11,4 @@ pub use Rattle.batcher_core.specs.Reports
 pub mod Words
 pub mod Lines
 pub mod Outcomes
+pub mod Code

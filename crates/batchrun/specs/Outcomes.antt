@@ -18,7 +18,7 @@ pub record WasRead (held : Option (List ℕ)) (bytes : List ℕ) : Type 0 where
   pub whole : IsWhole held bytes
   pub short : length bytes ≤ 1048576
 
--- The bytes that were read are a job's, and the report is lawful for this job and so many workers.
+-- The bytes that were read are a job's, and the report is lawful for this job and this count of workers.
 pub record HasRun (held : Option (List ℕ)) (workers : ℕ) (report : Report) : Type 0 where
   pub bytes : List ℕ
   pub read : WasRead held bytes
@@ -27,7 +27,7 @@ pub record HasRun (held : Option (List ℕ)) (workers : ℕ) (report : Report) :
   pub lawful : Lawful job workers report
 
 -- The bytes that were read are a job's, and the report is lawful; it is the one that turns make of this job: those of the
--- schedule, and then those of so many workers round robin from worker 0 on.
+-- schedule, and then those of all workers round robin from worker 0 on.
 pub record HasDriven (held : Option (List ℕ)) (workers : ℕ) (schedule : List ℕ) (report : Report) : Type 0 where
   pub run : HasRun held workers report
   pub driven : IsDrivenReport run.job workers schedule report
@@ -59,13 +59,6 @@ HasCause (Refused (Job fault)) held ReadsFailed WritesFailed = IsRefused held fa
 HasCause WriteFault held ReadsFailed WritesFailed = WritesFailed
 HasCause Memory held ReadsFailed WritesFailed = Unit {0}
 
--- why a reading ended before the end of the input
-abbrev pub StopsReading : Status → Option (List ℕ) → Type 0 → Type 0
-StopsReading ReadFault held ReadsFailed = ReadsFailed
-StopsReading (Refused TooLong) held ReadsFailed = IfSome held (λ bytes. 1048576 < length bytes)
-StopsReading Memory held ReadsFailed = Unit {0}
-StopsReading status held ReadsFailed = ⊥
-
 -- what err took: the line, or a front of it where err failed
 abbrev pub Tells : List ℕ → Option (List ℕ) → Option (List ℕ) → Type 0 → Type 0
 Tells line old new WritesFailed = Appends old new line ⊎ (AppendsFront old new line × WritesFailed)
@@ -80,27 +73,27 @@ pub record Completes (status : Status) (held : Option (List ℕ)) (ReadsFailed W
   pub refused : (bytes : List ℕ) (fault : JobFault) → held ≡ Some bytes → ¬ ReadsFailed → length bytes ≤ 1048576 → IsFaultOf bytes fault → IsUnlessMemory status (Refused (Job fault))
   pub accepted : (bytes : List ℕ) (job : JobValue) → held ≡ Some bytes → ¬ ReadsFailed → ¬ WritesFailed → length bytes ≤ 1048576 → IsJobOf bytes job → IsUnlessMemory status Done
 
--- there is room for the text of each report that is lawful
-abbrev pub HasRoomFor : JobValue → ℕ → ℕ → Type 0
-HasRoomFor job workers room = (report : Report) → Lawful job workers report → length (report_text report) ≤ room
-
--- Where the shelf never fails and holds an accepted job, and out is sure to take the report's text, the run is
--- done, unless memory runs out.
-abbrev pub IsAssured : Status → Option (List ℕ) → ℕ → Bool → ℕ → Type 0
-IsAssured status held workers never_fails sure =
-    (bytes : List ℕ) (job : JobValue) → held ≡ Some bytes → length bytes ≤ 1048576 → IsJobOf bytes job
-    → IsTrue never_fails → HasRoomFor job workers sure → IsUnlessMemory status Done
-
--- out fails only at a text that is longer than what it is sure to take
+-- a write fault comes only where the text of this report is longer than the room that out has left
 abbrev pub FailsPast : Status → Option Report → ℕ → Type 0
-FailsPast WriteFault (Some report) sure = sure < length (report_text report)
-FailsPast status report sure = Unit {0}
+FailsPast WriteFault (Some report) room = room < length (report_text report)
+FailsPast status report room = Unit {0}
 
--- an accepted job is held, and there is room for its report's text
-pub record HoldsJob (held : Option (List ℕ)) (workers room : ℕ) : Type 0 where
+-- the text of this report, if there is one, is within the room
+abbrev pub TextFits : Option Report → ℕ → Type 0
+TextFits None room = Unit {0}
+TextFits (Some report) room = length (report_text report) ≤ room
+
+-- Where the shelf never fails and holds an accepted job, and the text of the report is within the room that out has
+-- left, the run is done, unless memory runs out.
+abbrev pub IsAssured : Status → Option Report → Option (List ℕ) → Bool → ℕ → Type 0
+IsAssured status report held never_fails room =
+    (bytes : List ℕ) (job : JobValue) → held ≡ Some bytes → length bytes ≤ 1048576 → IsJobOf bytes job
+    → IsTrue never_fails → TextFits report room → IsUnlessMemory status Done
+
+-- an accepted job is held
+pub record HoldsJob (held : Option (List ℕ)) : Type 0 where
   pub bytes : List ℕ
   pub job : JobValue
   pub told : held ≡ Some bytes
   pub short : length bytes ≤ 1048576
   pub accepted : IsJobOf bytes job
-  pub fits : HasRoomFor job workers room

@@ -7,14 +7,10 @@ use Rattle.std.specs.Fmt.{decimal}
 use Rattle.std.specs.declared.string.String.{String}
 use Rattle.std.specs.declared.alloc.Global.{Global}
 
--- run the job of a file by turns on one thread, with so many workers: first those that the schedule lists, and then all round
--- robin
+-- run the job of a file by turns on one thread: first those of the workers that the schedule lists, and then those of all
+-- workers round robin
 pub data Command : Type 0 where
   step : (file : List ℕ) → (workers : ℕ) → (schedule : List ℕ) → Command
-
--- the word begins with no plus, and with no zero but that of `0`
-abbrev pub BeginsPlain : List ℕ → Type 0
-BeginsPlain word = (slice_index word 0 ≢ 43) × (slice_index word 0 ≡ 48 → length word ≡ 1)
 
 -- the number from 1 to the most that the word writes in decimal, if it writes one
 abbrev pub number_up_to : ℕ → List ℕ → Option ℕ
@@ -29,7 +25,7 @@ digit_value byte =
     else if nat_le 97 byte && nat_le byte 118 then byte - 87
     else 32
 
--- a schedule is at most 65,536 digits, each of which names one of so many workers
+-- a schedule is at most 65,536 digits, each of which names one of the workers
 abbrev pub is_schedule : ℕ → List ℕ → Bool
 is_schedule workers word = nat_le (length word) 65536 && list_all (λ byte. nat_lt (digit_value byte) workers) word
 

@@ -5,25 +5,19 @@
 //! hands in the real words, files and streams. The crate stands on all layers below it.
 #![tactic(auto)]
 
-pub mod assured;
 pub mod command;
-#[cfg(test)]
-mod language_tests;
-pub mod number;
-#[cfg(test)]
-mod operation_tests;
+pub mod in_memory;
 pub mod outcome;
+pub mod program;
 pub mod run;
-#[cfg(test)]
-mod schedule_tests;
 pub mod status;
-pub mod tell;
 #[cfg(test)]
 mod tests;
-pub mod top;
 
 use bt_io::{NoPause, Sink, StdShelf, StdSink};
+use program::batchrun;
 use status::Status;
+use status::line::write_status;
 use std::env;
 use std::io::{Error, ErrorKind};
 use std::process::ExitCode;
@@ -39,7 +33,7 @@ fn without_words(error: Error) -> Status {
 
 /// Ends a run that has no words, with its line on err.
 fn ended<E: Sink>(err: &mut E, status: Status) -> ExitCode {
-    tell::tell(err, status);
+    write_status(err, status);
     ExitCode::from(status.number())
 }
 
@@ -54,7 +48,7 @@ fn main(rt: HostRuntime) -> ExitCode {
     let Ok(words) = words.skip(1).collect::<Vec<String>>(rt.alloc()) else {
         return ended(&mut err, Status::Memory);
     };
-    let outcome = top::batchrun(
+    let outcome = batchrun(
         &rt,
         rt.alloc(),
         words.as_slice(),

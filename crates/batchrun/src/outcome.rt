@@ -1,4 +1,4 @@
-//! What a run answers.
+//! The outcome of a run: its status, and its report.
 ghost use Rattle.std.specs.Prelude.{◌≡◌, None};
 
 use crate::status::Status;

@@ -1,4 +1,4 @@
-//! The run of a job by turns.
+//! The run of a job by turns on one thread.
 ghost use Rattle.std.specs.Prelude.{◌<◌, ◌≤◌, IfOk};
 ghost use Rattle.std.specs.List.{AllByRecursion};
 ghost use Rattle.batch_history.specs.Lawful.{Lawful};
@@ -9,7 +9,7 @@ use batcher_core::{Core, drive};
 use sp_order::Job;
 use std::alloc::{AllocError, Global};
 
-/// Runs a job on one thread: so many workers take turns on the scheduler's core, first those of the schedule, and then all
+/// Runs a job on one thread: the workers take turns on the scheduler's core, first those of the schedule, and then all
 /// round robin from worker 0 on.
 pub fn run_by_turns(
     alloc: Global,

@@ -1,10 +1,12 @@
-//! How a run ends.
+//! The status of a run: how it ended, and the number with which the process exits.
 ghost use Rattle.std.specs.Prelude.{◌≡◌};
+
+pub mod line;
 
 use job_lang::JobFault;
 
 /// Why a file was not taken.
-#[derive(Clone, Copy, Debug, PartialEq, Eq)]
+#[derive(Clone, Copy)]
 pub enum Refusal {
     /// It has more than 1,048,576 bytes.
     TooLong,
@@ -13,7 +15,7 @@ pub enum Refusal {
 }
 
 /// How a run ends.
-#[derive(Clone, Copy, Debug, PartialEq, Eq)]
+#[derive(Clone, Copy)]
 pub enum Status {
     /// The report was written.
     Done,

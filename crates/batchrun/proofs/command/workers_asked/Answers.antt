@@ -1,5 +1,5 @@
 use Rattle.std.proofs.Common.{inl, inr, sym, ◌∙◌, arith}
-use Rattle.batchrun.proofs.Counts.{number_found, no_count}
+use Rattle.batchrun.proofs.CommandLemmas.Counts.{number_found, no_count}
 use Rattle.batchrun.proofs.command.workers_asked.Goals as goal
 use Rattle.batchrun.proofs.command.workers_asked.Goals.{then-workers-lt1-via-then-workers-lt1, then-workers-lt1-via-else-workers-lt1+then-workers-gt32}
 

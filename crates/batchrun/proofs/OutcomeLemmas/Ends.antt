@@ -1,0 +1,133 @@
+-- What follows from the cause of a status and from its report.
+use Rattle.std.proofs.Common.{◌≡◌, ℕ, ◌<◌, ◌≤◌, List, length, Bool, Option, Some, None, IfSome, inl, inr, refl, sym, ap, subst, ◌∙◌, arith}
+use Rattle.std.specs.Prelude.{IsTrue}
+use Rattle.std.proofs.lemmas.List.{length-map}
+use Rattle.std.proofs.lemmas.List.FromFn.{length-range_with_len}
+use Rattle.sp_order.specs.Precedence.{leaf_count}
+use Rattle.sp_order.specs.Jobs.{JobValue}
+use Rattle.batch_history.specs.Lawful.{HasRows, Lawful}
+use Rattle.batch_history.specs.declared.row.Row.{Row}
+use Rattle.batch_history.specs.declared.report.Report.{Report}
+use Rattle.batcher_core.specs.Reports.{IsDrivenReport}
+use Rattle.job_lang.specs.Language.{IsJobOf, IsFaultOf}
+use Rattle.batchrun.specs.Outcomes.{WasRead, HasRun, HasDriven, Headline, HasCause, Completes, IsUnlessMemory, IsAssured, FailsPast}
+use Rattle.job_lang.specs.declared.fault.JobFault.{JobFault}
+use Rattle.batchrun.specs.declared.status.Refusal.TheVariants.{TooLong, Job}
+use Rattle.batchrun.specs.declared.status.Status.{Status}
+use Rattle.batchrun.specs.declared.status.Status.TheVariants.{Done, Made, Usage, ReadFault, Refused, WriteFault, Memory}
+
+-- a lawful report has a row for each leaf
+pub rows_count : (job : JobValue) (workers : ℕ) (report : Report) → HasRows job workers report → length report.rows ≡ leaf_count job.shape
+rows_count job workers report rows =
+    sym (length-map report.rows (λ (row : Row). row.leaf)) ∙ ap length rows.leaves ∙ length-range_with_len 0 (leaf_count job.shape)
+
+-- what a run does with the bytes that it read
+pub has_driven : (held : Option (List ℕ)) (workers : ℕ) (bytes : List ℕ) (job : JobValue) (schedule : List ℕ) (report : Report) → WasRead held bytes → IsJobOf bytes job → Lawful job workers report → IsDrivenReport job workers schedule report
+    → HasDriven held workers schedule report
+has_driven held workers bytes job schedule report read accepted lawful driven = record {
+  run = record { bytes = bytes; read = read; job = job; accepted = accepted; lawful = lawful };
+  driven = driven;
+}
+
+-- the bytes that were read are those that are held
+same_bytes : (held : Option (List ℕ)) (told bytes : List ℕ) → WasRead held bytes → held ≡ Some told → bytes ≡ told
+same_bytes None told bytes read is = cc
+same_bytes (Some xs) told bytes read is = let same : xs ≡ told = cc in read.whole ∙ same
+
+-- a text has one fault at most, and is no job then
+abbrev pub NoFault : Type 0
+NoFault = (text : List ℕ) (job : JobValue) (fault : JobFault) → IsJobOf text job → IsFaultOf text fault → ⊥
+
+abbrev pub OneFault : Type 0
+OneFault = (text : List ℕ) (fault fault' : JobFault) → IsFaultOf text fault → IsFaultOf text fault' → fault ≡ fault'
+
+-- the job of the bytes that are held is that of the bytes that were read
+job_read : (held : Option (List ℕ)) (told bytes : List ℕ) (job : JobValue) → WasRead held bytes → held ≡ Some told → IsJobOf told job → IsJobOf bytes job
+job_read held told bytes job read is accepted = subst (λ text. IsJobOf text job) (sym (same_bytes held told bytes read is)) accepted
+
+told_short : (told xs : List ℕ) → Some told ≡ Some xs → 1048576 < length told → length xs ≤ 1048576 → ⊥
+told_short told xs is long short = let same : told ≡ xs = cc in omega (arith, ap length same)
+
+-- the run is assured where no reading fails and the report's text is within the room
+pub is_assured : NoFault → (status : Status) (report : Option Report) (held : Option (List ℕ)) (workers : ℕ) (R W : Type 0) (old new : Option (List ℕ)) (never_fails : Bool) (room : ℕ)
+    → HasCause status held R W → Headline (HasRun held workers) status report old new → (IsTrue never_fails → (told : List ℕ) → held ≡ Some told → status ≡ ReadFault → ⊥) → FailsPast status report room
+    → IsAssured status report held never_fails room
+is_assured no_fault Done report held workers R W old new never_fails room why line reads past told job is short accepted never fits = inl refl
+is_assured no_fault Memory report held workers R W old new never_fails room why line reads past told job is short accepted never fits = inr refl
+is_assured no_fault Made report held workers R W old new never_fails room why line reads past told job is short accepted never fits = absurd why
+is_assured no_fault Usage report held workers R W old new never_fails room why line reads past told job is short accepted never fits = absurd why
+is_assured no_fault ReadFault report held workers R W old new never_fails room why line reads past told job is short accepted never fits = absurd (reads never told is refl)
+is_assured no_fault WriteFault None held workers R W old new never_fails room why line reads past told job is short accepted never fits = absurd line
+is_assured no_fault WriteFault (Some report) held workers R W old new never_fails room why line reads past told job is short accepted never fits = absurd (omega (arith, fits, past))
+is_assured no_fault (Refused TooLong) report None workers R W old new never_fails room why line reads past told job is short accepted never fits = cc
+is_assured no_fault (Refused TooLong) report (Some xs) workers R W old new never_fails room why line reads past told job is short accepted never fits = absurd (told_short xs told is why short)
+is_assured no_fault (Refused (Job fault)) report held workers R W old new never_fails room why line reads past told job is short accepted never fits =
+    absurd (no_fault why.bytes job fault (job_read held told why.bytes job why.read is accepted) why.why)
+
+-- the fault of the bytes that are held is that of the bytes that were read
+fault_read : (held : Option (List ℕ)) (told bytes : List ℕ) (fault : JobFault) → WasRead held bytes → held ≡ Some told → IsFaultOf told fault → IsFaultOf bytes fault
+fault_read held told bytes fault read is has = subst (λ text. IsFaultOf text fault) (sym (same_bytes held told bytes read is)) has
+
+-- a file whose bytes are held is too long where the status says so
+too_long_held : (held : Option (List ℕ)) (told : List ℕ) → held ≡ Some told → IfSome held (λ bytes. 1048576 < length bytes) → length told ≤ 1048576 → ⊥
+too_long_held None told is long short = cc
+too_long_held (Some xs) told is long short = let same : xs ≡ told = cc in omega (arith, ap length same, long, short)
+
+-- bytes that were read to the end are not too many
+read_short : (held : Option (List ℕ)) (told bytes : List ℕ) → WasRead held bytes → held ≡ Some told → 1048576 < length told → ⊥
+read_short held told bytes read is long = omega (arith, read.short, long, ap length (same_bytes held told bytes read is))
+
+-- a file that is too long is refused as such
+too_long_ends : (status : Status) (report : Option Report) (held : Option (List ℕ)) (workers : ℕ) (R W : Type 0) (old new : Option (List ℕ)) (told : List ℕ)
+    → HasCause status held R W → Headline (HasRun held workers) status report old new → held ≡ Some told → ¬ R → 1048576 < length told → IsUnlessMemory status (Refused TooLong)
+too_long_ends Done None held workers R W old new told why line is calm long = absurd line
+too_long_ends Done (Some report) held workers R W old new told why line is calm long = absurd (read_short held told line.0.bytes line.0.read is long)
+too_long_ends Memory report held workers R W old new told why line is calm long = inr refl
+too_long_ends Made report held workers R W old new told why line is calm long = absurd why
+too_long_ends Usage report held workers R W old new told why line is calm long = absurd why
+too_long_ends ReadFault report held workers R W old new told why line is calm long = absurd (calm why)
+too_long_ends WriteFault None held workers R W old new told why line is calm long = absurd line
+too_long_ends WriteFault (Some report) held workers R W old new told why line is calm long = absurd (read_short held told line.0.bytes line.0.read is long)
+too_long_ends (Refused TooLong) report held workers R W old new told why line is calm long = inl refl
+too_long_ends (Refused (Job fault)) report held workers R W old new told why line is calm long = absurd (read_short held told why.bytes why.read is long)
+
+-- a file with a fault is refused for it
+fault_ends : NoFault → OneFault → (status : Status) (report : Option Report) (held : Option (List ℕ)) (workers : ℕ) (R W : Type 0) (old new : Option (List ℕ)) (told : List ℕ) (fault : JobFault)
+    → HasCause status held R W → Headline (HasRun held workers) status report old new → held ≡ Some told → ¬ R → length told ≤ 1048576 → IsFaultOf told fault → IsUnlessMemory status (Refused (Job fault))
+fault_ends no_fault one_fault Done None held workers R W old new told fault why line is calm short has = absurd line
+fault_ends no_fault one_fault Done (Some report) held workers R W old new told fault why line is calm short has =
+    let run = line.0 in
+    absurd (no_fault run.bytes run.job fault run.accepted (fault_read held told run.bytes fault run.read is has))
+fault_ends no_fault one_fault Memory report held workers R W old new told fault why line is calm short has = inr refl
+fault_ends no_fault one_fault Made report held workers R W old new told fault why line is calm short has = absurd why
+fault_ends no_fault one_fault Usage report held workers R W old new told fault why line is calm short has = absurd why
+fault_ends no_fault one_fault ReadFault report held workers R W old new told fault why line is calm short has = absurd (calm why)
+fault_ends no_fault one_fault WriteFault None held workers R W old new told fault why line is calm short has = absurd line
+fault_ends no_fault one_fault WriteFault (Some report) held workers R W old new told fault why line is calm short has =
+    let run = line.0 in
+    absurd (no_fault run.bytes run.job fault run.accepted (fault_read held told run.bytes fault run.read is has))
+fault_ends no_fault one_fault (Refused TooLong) report held workers R W old new told fault why line is calm short has = absurd (too_long_held held told is why short)
+fault_ends no_fault one_fault (Refused (Job found)) report held workers R W old new told fault why line is calm short has =
+    inl (ap (λ (f : JobFault). Refused (Job f)) (one_fault why.bytes found fault why.why (fault_read held told why.bytes fault why.read is has)))
+
+-- an accepted job is done, where out doesn't fail
+job_ends : NoFault → (status : Status) (held : Option (List ℕ)) (R W : Type 0) (told : List ℕ) (job : JobValue)
+    → HasCause status held R W → held ≡ Some told → ¬ R → ¬ W → length told ≤ 1048576 → IsJobOf told job → IsUnlessMemory status Done
+job_ends no_fault Done held R W told job why is calm calm' short accepted = inl refl
+job_ends no_fault Memory held R W told job why is calm calm' short accepted = inr refl
+job_ends no_fault Made held R W told job why is calm calm' short accepted = absurd why
+job_ends no_fault Usage held R W told job why is calm calm' short accepted = absurd why
+job_ends no_fault ReadFault held R W told job why is calm calm' short accepted = absurd (calm why)
+job_ends no_fault WriteFault held R W told job why is calm calm' short accepted = absurd (calm' why)
+job_ends no_fault (Refused TooLong) held R W told job why is calm calm' short accepted = absurd (too_long_held held told is why short)
+job_ends no_fault (Refused (Job fault)) held R W told job why is calm calm' short accepted =
+    absurd (no_fault why.bytes job fault (job_read held told why.bytes job why.read is accepted) why.why)
+
+-- each file ends a run as its bytes call for
+pub completes : OneFault → NoFault → (status : Status) (report : Option Report) (held : Option (List ℕ)) (workers : ℕ) (R W : Type 0) (old new : Option (List ℕ))
+    → HasCause status held R W → Headline (HasRun held workers) status report old new → Completes status held R W
+completes one_fault no_fault status report held workers R W old new why line = record {
+  too_long = λ told is calm long. too_long_ends status report held workers R W old new told why line is calm long;
+  refused = λ told fault is calm short has. fault_ends no_fault one_fault status report held workers R W old new told fault why line is calm short has;
+  accepted = λ told job is calm calm' short accepted. job_ends no_fault status held R W told job why is calm calm' short accepted;
+}

@@ -54,14 +54,14 @@ abbrev pub choice_pending : Option Hold → Option Event
 choice_pending None = Some Win
 choice_pending (Some h) = None
 
--- with a node of this kind in hand, of which nothing is done
+-- of a worker whose task is run, by the kind of its node
 abbrev pub choice_run : Option Kind → ℕ → Option Event
 choice_run None n = None
 choice_run (Some (LeafNode leaf)) n = Some (Start n)
 choice_run (Some (SeqNode left right)) n = Some (OpenSeqLeft n left right)
 choice_run (Some (ParNode left right)) n = Some (OpenParRight n left right)
 
--- with a block of this kind in hand, whose right side is open
+-- of a worker whose task is half: the right side of its parallel block is open
 abbrev pub choice_half : Option Kind → ℕ → Option Event
 choice_half None p = None
 choice_half (Some (LeafNode leaf)) p = None
@@ -89,21 +89,21 @@ choice_parent (Some (LeafNode leaf)) p = None
 choice_parent (Some (SeqNode left right)) p = Some (FinishSeq p left right)
 choice_parent (Some (ParNode left right)) p = None
 
--- the side n of this parallel block is done, and so many sides have arrived
+-- the side n of this parallel block is done; the mark is the number of sides that have arrived
 abbrev pub choice_arrive : Option Kind → ℕ → ℕ → ℕ → Option Event
 choice_arrive None p mark n = None
 choice_arrive (Some (LeafNode leaf)) p mark n = None
 choice_arrive (Some (SeqNode left right)) p mark n = None
 choice_arrive (Some (ParNode left right)) p mark n = Some (if mark == 0 then ArriveFirst p left right n else ArriveSecond p left right n)
 
--- with a node in hand that is done, by what is to be done then
+-- of a worker whose task is whole: its node is done; by the move after it
 abbrev pub choice_whole : CoreJob → State → Move → ℕ → Option Event
 choice_whole job s Root n = None
 choice_whole job s (OpenSecond p) n = choice_second (job.plan.kind p) p
 choice_whole job s (FinishParent p) n = choice_parent (job.plan.kind p) p
 choice_whole job s (ArriveAt p) n = choice_arrive (job.plan.kind p) p (s.mark p) n
 
--- with a parallel block in hand at which both sides have arrived
+-- of a worker whose task is handed: both sides of its parallel block have arrived
 abbrev pub choice_handed : Option Kind → ℕ → Option Event
 choice_handed None p = None
 choice_handed (Some (LeafNode leaf)) p = None
@@ -115,7 +115,7 @@ abbrev pub oldest_or : List ℕ → Option Event → Option Event
 oldest_or [] other = other
 oldest_or (n ∷ ns) other = Some (Claim n)
 
--- the oldest node of the first list that is not empty, among those of so many workers from this one on, modulo the workers
+-- the oldest node of the first list that is not empty, among those of `many` workers from one on, modulo the workers
 unfoldable pub choice_steal : (ℕ → List ℕ) → ℕ → ℕ → ℕ → Option Event
 choice_steal ready workers from zero = None
 choice_steal ready workers from (suc many) = oldest_or (ready (from % workers)) (choice_steal ready workers (from + 1) many)
@@ -125,7 +125,7 @@ abbrev pub last_of : ℕ → List ℕ → ℕ
 last_of n [] = n
 last_of n (m ∷ ms) = last_of m ms
 
--- with nothing in hand: the newest node of the own list, or, if it is empty, the oldest one of another worker's
+-- of a worker whose task is idle: the newest node of the own list, or, if it is empty, the oldest one of another worker's
 abbrev pub choice_idle : CoreJob → (ℕ → List ℕ) → ℕ → List ℕ → Option Event
 choice_idle job ready w [] = choice_steal ready job.workers (w + 1) (job.workers - 1)
 choice_idle job ready w (n ∷ ns) = Some (Claim (last_of n ns))

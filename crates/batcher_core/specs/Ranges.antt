@@ -2,11 +2,11 @@
 use Rattle.batcher_core.specs.Words.{Event, Answer, ArriveFirst, ArriveSecond, Claim, End, FinishLeaf, FinishPar, FinishSeq, Keep, Leave, OpenParLeft, OpenParRight, OpenSeqLeft, OpenSeqRight, Post, Publish, Release, Start, Take, Win}
 use Rattle.std.specs.Prelude.{ℕ, ◌<◌}
 
--- a block and its two sides are among so many nodes
+-- a block and its two sides are below the number of nodes
 abbrev pub AreNodes : ℕ → ℕ → ℕ → ℕ → Type 0
 AreNodes nodes p l r = (p < nodes) × (l < nodes) × (r < nodes)
 
--- the nodes that an event speaks of are among so many nodes, and the workers among so many workers
+-- the nodes that an event speaks of are below the number of nodes, and the workers below the number of workers
 abbrev pub IsInRange : ℕ → ℕ → Event → Type 0
 IsInRange nodes workers (Claim n) = n < nodes
 IsInRange nodes workers (Start n) = n < nodes

@@ -5,7 +5,7 @@
 pub enum Turn {
     /// One event happened.
     Moved,
-    /// Nothing: the worker has started a leaf with so many steps of work, and is to be given the work done.
+    /// Nothing: the worker has started a leaf that works for this number of steps, and is to be given the work done.
     Spin(u32),
     /// Nothing: the worker has no event in this state.
     Idle,

@@ -1,4 +1,4 @@
--- The turns of a worker that has nothing in hand, and of one that is trapped.
+-- The turns of a worker whose task is idle, and of one that is trapped.
 use Rattle.std.proofs.Common.{ℕ, zero, suc, ◌≡◌, ◌≢◌, ◌<◌, ◌+◌, ◌-◌, ◌%◌, Option, Some, None, List, [], ◌∷◌, arith, refl, inl, inr, subst, ◌∙◌}
 use Rattle.std.proofs.lemmas.Bool.Decides.{nat_tests}
 use Rattle.std.proofs.lemmas.Bool.{cases_eq, cases_lt}
@@ -72,7 +72,7 @@ pub last_stands : (n : ℕ) (ns : List ℕ) → times (last_of n ns) (n ∷ ns) 
 last_stands n [] = first_stands n n [] refl
 last_stands n (m ∷ ms) = later_stands (last_of m ms) n (m ∷ ms) (last_stands m ms)
 
--- the list of this worker and those of so many after it are empty
+-- the list of this worker and those of the next ones after it are empty
 all_empty : (ready : ℕ → List ℕ) (workers from many : ℕ) → ready (from % workers) ≡ [] → ((k : ℕ) → k < many → ready ((from + 1 + k) % workers) ≡ [])
     → (k : ℕ) → k < suc many → ready ((from + k) % workers) ≡ []
 all_empty ready workers from many first rest zero below = let e : from ≡ from + 0 = omega arith in subst (λ n. ready (n % workers) ≡ []) e first

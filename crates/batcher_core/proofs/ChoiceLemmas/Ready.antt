@@ -120,7 +120,7 @@ pub not_under : (job : CoreJob) (s : CoreState) (w : ℕ) (o : Option Hold) → 
 not_under job s w None away = refl
 not_under job s w (Some h) away = let other = away h refl in grind (arith, nat_tests)
 
--- the turn of a worker that is not trapped and has nothing in hand
+-- the turn of a worker that is not trapped and whose task is idle
 pub choice_of_idle : (job : CoreJob) (s : CoreState) (w : ℕ) → InductiveParts job s.state → s.state.status w ≡ Free → s.state.task w ≡ Idle → choice job s w ≡ choice_idle job s.ready w (s.ready w)
 choice_of_idle job s w h free idle =
     not_under job s w s.state.hold (free_holds_not job s.state w h free) ∙ (ap (choice_by job s w) free ∙ ap (choice_free job s w) idle)

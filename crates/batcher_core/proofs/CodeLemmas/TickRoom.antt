@@ -82,6 +82,6 @@ module _ (job : CoreJob) (s : State) (laws : IsPlan job.plan) (h : InductivePart
   pub tick_most : s.tick ≤ 2 * job.plan.count
   tick_most =
       let most = distinct_few (codes h.ticks.draw s.tick) (2 * job.plan.count)
-          (distinct_codes h.ticks.draw s.tick (λ t u a b e. drawn_once t u a b (h.ticks.draw u) e refl))
-          (each_code (λ c. c < 2 * job.plan.count) h.ticks.draw s.tick (λ t below. drawn_below t below (h.ticks.draw t) refl)) in
+      (distinct_codes h.ticks.draw s.tick (λ t u a b e. drawn_once t u a b (h.ticks.draw u) e refl))
+      (each_code (λ c. c < 2 * job.plan.count) h.ticks.draw s.tick (λ t below. drawn_below t below (h.ticks.draw t) refl)) in
       rw (length_codes h.ticks.draw s.tick) at most

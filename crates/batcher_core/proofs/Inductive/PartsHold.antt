@@ -96,7 +96,7 @@ book_stands job s h = record {
       (h.book.in_order n m u v w x a b d started.0 kind kind' call (stamped_end job.plan job.workers s.node s.mark s.tick s.task h.holder h.tasks h.ticks n w a d ends) started.1 less) at;
 }
 
--- who is booked, by what the worker has in hand
+-- who is booked, by the task of the worker
 by_call : (s : State) (n w a : ℕ) (st : Status) (c : CallState) (b : Bool) → s.task w ≡ Started n a → s.status w ≡ st → s.call w ≡ c → is_published s.hold ≡ b
     → is_booked (Started n a) st c b ≡ true → IsBooked s n w
 by_call s n w a Free NotCalled b mine f g p e = cc

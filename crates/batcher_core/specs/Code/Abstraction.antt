@@ -50,7 +50,7 @@ pub record Sizes (t : StoredState) (nodes workers : ℕ) : Type 0 where
   pub calls_len : length t.calls.items ≡ workers
   pub ready_len : length t.ready ≡ workers
 
--- the counter is no greater than so many calls can make it
+-- the counter is no greater than the calls of the book can make it
 abbrev pub CounterFits : StoredState → Type 0
 CounterFits t = t.objects.counter ≤ length (flat t.history) * 2 ^ 32
 

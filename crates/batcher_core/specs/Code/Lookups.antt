@@ -44,7 +44,7 @@ pub record CanChoose (job : StoredJob) (t : StoredState) : Type 0 where
   pub few_batches : length t.history < 2 ^ 32
   pub few_entries : length (flat t.history) < 2 ^ 32
 
--- the choice of a worker that has nothing in hand, by its own list
+-- the choice of a worker whose task is idle, by its own list
 abbrev pub claim_choice : ℕ → (ℕ → List ℕ) → ℕ → List ℕ → Option Event
 claim_choice workers ready w [] = choice_steal ready workers (w + 1) (workers - 1)
 claim_choice workers ready w (n ∷ ns) = Some (Claim (last_of n ns))

@@ -1,0 +1,82 @@
+//! The 2-3 tree, and the row of trees.
+
+use std::alloc::{AllocError, Global};
+use std::test::Fail;
+use tree23::{Rest, Row, Spares, Tree23};
+
+/// The keys of a tree by calls of `next`: all of them but a key 0.
+fn keys_of(alloc: Global, tree: &Tree23) -> Result<Vec<u32>, AllocError> {
+    let mut keys = Vec::new(alloc);
+    let mut last = 0;
+    for _ in 0..tree.len() {
+        let Some(key) = tree.next(last) else {
+            return Ok(keys);
+        };
+        keys.push(key)?;
+        last = key;
+    }
+    Ok(keys)
+}
+
+#[test]
+fn a_tree_is_cut_and_joined(rt: HostRuntime) -> Result<(), Fail> {
+    let mut tree = Tree23::new(rt.alloc());
+    for key in 1..8 {
+        assert_eq!(rt; tree.insert(key)?, true, "at {key}");
+    }
+    assert_eq!(rt; (tree.insert(4)?, tree.find(4)), (false, true));
+    assert_eq!(rt; (tree.next(4), tree.next(7)), (Some(5), None));
+    assert_eq!(rt; (tree.len(), tree.depth()), (7, 0));
+    let (low, high) = tree.split_below(5)?;
+    assert_eq!(rt;
+        keys_of(rt.alloc(), &low)?.as_slice(),
+        [1, 2, 3, 4].as_slice()
+    );
+    assert_eq!(rt;
+        keys_of(rt.alloc(), &high)?.as_slice(),
+        [5, 6, 7].as_slice()
+    );
+    let mut tree = Tree23::concat(low, high)?;
+    assert_eq!(rt; tree.len(), 7);
+    assert_eq!(rt; (tree.remove(8), tree.remove(4)), (false, true));
+    assert_eq!(rt; (tree.find(4), tree.len()), (false, 6));
+    Ok(())
+}
+
+#[test]
+fn a_tree_of_many_keys_is_not_deep(rt: HostRuntime) -> Result<(), Fail> {
+    let mut tree = Tree23::new(rt.alloc());
+    for key in 0..20000 {
+        assert!(rt; tree.insert(key * 5)?, "at {key}");
+    }
+    assert_eq!(rt; tree.len(), 20000);
+    assert!(rt; 4 <= tree.depth() && tree.depth() <= 14);
+    assert_eq!(rt; (tree.next(99990), tree.next(99995)), (Some(99995), None));
+    for key in 0..20000 {
+        assert!(rt; tree.remove(key * 5), "at {key}");
+    }
+    assert_eq!(rt; (tree.len(), tree.depth()), (0, 0));
+    Ok(())
+}
+
+#[test]
+fn a_row_is_cut_and_put_together(rt: HostRuntime) -> Result<(), Fail> {
+    let mut row = Row::new(rt.alloc());
+    for key in 0..2000 {
+        assert!(rt; row.insert(key * 5)?, "at {key}");
+    }
+    let mut spares = Spares::new(rt.alloc());
+    let mut rest = Rest::new(row);
+    let mut low = rest.take_below(4000, &mut spares)?;
+    assert_eq!(rt; rest.least(), Some(4000));
+    assert_eq!(rt;
+        (low.find(4000), low.next(3990), low.next(3995)),
+        (false, Some(3995), None)
+    );
+    low.append(rest.into_row(), &mut spares)?;
+    low.gather(&mut spares)?;
+    assert_eq!(rt; (low.find(4000), low.next(3995)), (true, Some(4000)));
+    assert_eq!(rt; (low.remove(4000), low.remove(4001)), (true, false));
+    assert_eq!(rt; low.next(3995), Some(4005));
+    Ok(())
+}

@@ -34,6 +34,3 @@ pub use rest::Rest;
 pub use row::Row;
 pub use spares::Spares;
 pub use tree::Tree23;
-
-#[cfg(test)]
-mod tests;

@@ -1,11 +1,9 @@
 //! The choice of a worker's turn: the event that it makes in this state, if it can make one. Nothing is written here.
-ghost use Rattle.std.specs.Prelude.{◌≡◌, ◌<◌, ℕ, None, Some};
-ghost use Rattle.sp_order.specs.Preorder.{nodes_of};
+ghost use Rattle.std.specs.Prelude.{◌≡◌, ◌<◌};
 ghost use Rattle.batcher_core.specs.Code.Job.{job_of};
 ghost use Rattle.batcher_core.specs.Choice.{choice, choice_by, choice_free};
 ghost use Rattle.batcher_core.specs.Code.Abstraction.{state_of, core_state_of};
-ghost use Rattle.batcher_core.specs.Code.Lookups.{CanChoose, work_due};
-ghost use Rattle.seq_objects.specs.Spin.{spin_of};
+ghost use Rattle.batcher_core.specs.Code.Lookups.{CanChoose, IsWorkOf};
 
 mod gate;
 mod job;
@@ -25,7 +23,7 @@ impl State {
     pub(crate) fn choose_free(&self, job: &CoreJob, worker: u32, work: Option<u64>) -> Option<Event>
         requires looks { CanChoose job.now self.now }
         requires worker_in { worker < job.now.workers }
-        requires work { (steps : ℕ) → work_due (nodes_of job.now.plan) job.now.acts.items ((state_of self.now).task worker) ≡ Some steps → work ≡ Some (spin_of steps) }
+        requires work { IsWorkOf job.now self.now worker work }
         ensures { result ≡ choice_free (job_of job.now) (core_state_of self.now) worker ((state_of self.now).task worker) }
     {
         match self.tasks[worker as usize] {
@@ -48,7 +46,7 @@ impl State {
     fn choose_by_status(&self, job: &CoreJob, worker: u32, work: Option<u64>) -> Option<Event>
         requires looks { CanChoose job.now self.now }
         requires worker_in { worker < job.now.workers }
-        requires work { (steps : ℕ) → work_due (nodes_of job.now.plan) job.now.acts.items ((state_of self.now).task worker) ≡ Some steps → work ≡ Some (spin_of steps) }
+        requires work { IsWorkOf job.now self.now worker work }
         ensures { result ≡ choice_by (job_of job.now) (core_state_of self.now) worker ((state_of self.now).status worker) }
     {
         match self.statuses[worker as usize] {
@@ -66,7 +64,7 @@ impl State {
     pub(crate) fn choose(&self, job: &CoreJob, worker: u32, work: Option<u64>) -> Option<Event>
         requires looks { CanChoose job.now self.now }
         requires worker_in { worker < job.now.workers }
-        requires work { (steps : ℕ) → work_due (nodes_of job.now.plan) job.now.acts.items ((state_of self.now).task worker) ≡ Some steps → work ≡ Some (spin_of steps) }
+        requires work { IsWorkOf job.now self.now worker work }
         ensures { result ≡ choice (job_of job.now) (core_state_of self.now) worker }
     {
         match self.hold {

@@ -13,7 +13,7 @@ use sp_order::node::Kind;
 
 /// The job that a core runs: the plan with its nodes, what its leaves do, and the number of workers.
 #[derive(Drop)]
-pub struct CoreJob {
+pub(crate) struct CoreJob {
     pub(crate) plan: Plan,
     /// What each leaf does, by its number.
     pub(crate) acts: Vec<Act>,

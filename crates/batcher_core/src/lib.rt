@@ -1,15 +1,17 @@
 //! The core of the scheduler: its state, its events, and what holds in each state that can be reached.
 //!
-//! The rules by which workers share the nodes of a job and gather their calls into batches are defined here
-//! over plain states, and so is what they keep. The crate stands on `sp_order`, which has the nodes of a job,
-//! on `batch_history`, which has the book, and on `seq_objects`.
+//! The rules by which workers share the nodes of a job and gather their calls into batches are defined in `specs/` over
+//! plain states, and so is the invariant that they keep. A turn of a `Core` chooses an event (`choose`) and does it to
+//! the state (`apply`); `drive` takes turns until the root is done, and `report` makes the rows of the report. The
+//! laws of all runs stand in `laws`. The crate stands on `sp_order`, which has the nodes of a job, on `batch_history`,
+//! which has the book, and on `seq_objects`.
 #![tactic(auto)]
 
 mod apply;
 mod choose;
 pub mod driver;
 pub mod event;
-pub mod job;
+mod job;
 pub mod laws;
 mod report;
 pub mod scheduler;
@@ -19,10 +21,11 @@ pub mod turn;
 
 pub use driver::drive;
 pub use event::Event;
-pub use job::CoreJob;
 pub use scheduler::Core;
 pub use spun::Spun;
+#[doc(hidden)]
 pub use state::State;
+#[doc(hidden)]
 pub use state::hold::Hold;
 pub use state::progress::Progress;
 pub use state::status::{CallState, Receipt, Status};

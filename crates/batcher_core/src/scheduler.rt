@@ -90,7 +90,7 @@ impl Core {
     }
 
     /// The number of steps of work that are due of a worker, if it has started a leaf that works.
-    pub(crate) fn due(&self, worker: u32) -> Option<u32>
+    fn due(&self, worker: u32) -> Option<u32>
         requires unspent { self.now.spent ≡ false }
         requires worker_in { worker < self.now.workers }
         ensures { result ≡ due_in self.now worker }
@@ -99,7 +99,7 @@ impl Core {
     }
 
     /// The event of a worker's next turn, if it has one. `work` is the value of the work that is due, if some is due.
-    pub(crate) fn choice(&self, worker: u32, work: Option<u64>) -> Option<Event>
+    fn choice(&self, worker: u32, work: Option<u64>) -> Option<Event>
         requires unspent { self.now.spent ≡ false }
         requires worker_in { worker < self.now.workers }
         requires work { (steps : ℕ) → due_in self.now worker ≡ Some steps → work ≡ Some (spin_of steps) }

@@ -7,7 +7,7 @@ ghost use Rattle.batcher_core.specs.Tasks.{is_done as node_done};
 pub mod hold;
 mod opening;
 pub mod progress;
-pub mod ready;
+pub(crate) mod ready;
 pub mod status;
 pub mod task;
 

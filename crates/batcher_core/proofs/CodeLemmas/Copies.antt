@@ -1,5 +1,5 @@
 -- Lists of one item again and again, as functions of places.
-use Rattle.std.proofs.Common.{ℕ, ◌≡◌, ◌+◌, List, [], ◌∷◌, ◌++◌, replicate, arith}
+use Rattle.std.proofs.Common.{ℕ, ◌≡◌, List, replicate, arith}
 use Rattle.std.proofs.lemmas.Grind.{common_steps}
 use Rattle.batcher_core.specs.Code.Places.{at}
 
@@ -8,9 +8,6 @@ same_at n x m = grind (arith, common_steps)
 
 pub at_copies : {A : Type 0} (n : ℕ) (x : A) → at (replicate n x) x ≡ (λ m. x)
 at_copies n x = λ i m. same_at n x m i
-
-pub one_more : {A : Type 0} (n : ℕ) (x : A) → replicate n x ++ x ∷ [] ≡ replicate (n + 1) x
-one_more n x = grind (arith, common_steps)
 
 pub copied : {A : Type 0} (xs : List A) (n : ℕ) (x : A) → xs ≡ replicate n x → at xs x ≡ (λ m. x)
 copied xs n x e = rw e (at_copies n x)

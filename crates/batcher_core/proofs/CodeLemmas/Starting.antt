@@ -15,10 +15,6 @@ use Rattle.batcher_core.proofs.BookLemmas.CallsIn.{calls_in}
 use Rattle.batcher_core.specs.Invariant.{Invariant}
 use Rattle.batcher_core.proofs.InvariantLemmas.Reached.{opening_invariant}
 
-core_opens : opening_core.state ≡ opening_state
-unfolding opening_core
-core_opens = refl
-
 -- the counter starts at 0
 counter_opens : (t : StoredState) → state_of t ≡ opening_state → CounterFits t
 unfolding state_of opening_state

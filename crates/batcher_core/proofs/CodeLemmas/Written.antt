@@ -1,5 +1,5 @@
 -- How writing an item of a list changes the function of its places.
-use Rattle.std.proofs.Common.{ℕ, ◌≡◌, ◌<◌, ◌≤◌, List, length, get_or, arith, sym, ◌∙◌, slice_set}
+use Rattle.std.proofs.Common.{ℕ, ◌≡◌, ◌<◌, ◌≤◌, List, length, get_or, arith, slice_set}
 use Rattle.std.proofs.lemmas.Grind.{common_steps}
 use Rattle.std.proofs.lemmas.Bool.Decides.{nat_tests}
 use Rattle.batcher_core.specs.State.{put}
@@ -18,15 +18,3 @@ at_place xs n old d below is = grind (arith, common_steps)
 -- beyond the end
 pub at_beyond : {A : Type 0} (xs : List A) (n : ℕ) (d : A) → length xs ≤ n → at xs d n ≡ d
 at_beyond xs n d past = grind (arith, common_steps)
-
--- an item becomes f of it
-pub at_becomes : {A : Type 0} (xs : List A) (n : ℕ) (old x d : A) (f : A → A)
-    → n < length xs → old ≡ get_or xs n old → x ≡ f old → at (slice_set xs n x) d ≡ put (at xs d) n (f (at xs d n))
-at_becomes xs n old x d f below is e = rw (at_place xs n old d below is, ← e) (at_written xs n x d below)
-
-put_same : {A : Type 0} (f : ℕ → A) (n : ℕ) (x : A) → x ≡ f n → (m : ℕ) → put f n x m ≡ f m
-put_same f n x e m = grind (arith, nat_tests)
-
--- an item is written that was there
-pub at_same : {A : Type 0} (xs : List A) (n : ℕ) (old x d : A) → n < length xs → old ≡ get_or xs n old → x ≡ old → at (slice_set xs n x) d ≡ at xs d
-at_same xs n old x d below is e = at_written xs n x d below ∙ (λ i m. put_same (at xs d) n x (e ∙ sym (at_place xs n old d below is)) m i)

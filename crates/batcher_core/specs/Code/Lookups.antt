@@ -12,6 +12,7 @@ use Rattle.batcher_core.specs.declared.state.State.{State as StoredState}
 use Rattle.batcher_core.specs.declared.state.task.Task.{Task}
 use Rattle.batcher_core.specs.declared.state.task.Task.TheVariants.{Ended, Half, Handed, Idle, Kept, Run, Started, Whole}
 use Rattle.seq_objects.specs.Pairs.{AreDistinct}
+use Rattle.seq_objects.specs.Spin.{spin_of}
 use Rattle.seq_objects.specs.declared.act.Act.{Act}
 use Rattle.seq_objects.specs.declared.act.Act.TheVariants.{Call, Work}
 use Rattle.sp_order.specs.Plans.{Nodes}
@@ -77,3 +78,8 @@ work_due plan acts (Kept n s) = None
 work_due plan acts (Ended n s e) = None
 work_due plan acts (Whole n) = None
 work_due plan acts (Handed n) = None
+
+-- the value is that of the work that is due of the worker, if some is due
+abbrev pub IsWorkOf : StoredJob → StoredState → ℕ → Option ℕ → Type 0
+IsWorkOf job t w work =
+    (steps : ℕ) → work_due (nodes_of job.plan) job.acts.items ((state_of t).task w) ≡ Some steps → work ≡ Some (spin_of steps)

@@ -37,42 +37,42 @@ pub(crate) fn of_run(kind: Kind, node: u32) -> Option<Event>
 pub(crate) fn of_half(kind: Kind, node: u32) -> Option<Event>
     ensures { result ≡ choice_half (Some kind) node }
 {
-    match kind {
-        Kind::ParNode(left, right) => Some(Event::OpenParLeft {
-            parent: node,
-            left,
-            right,
-        }),
-        _ => None,
-    }
+    let Kind::ParNode(left, right) = kind else {
+        return None;
+    };
+    Some(Event::OpenParLeft {
+        parent: node,
+        left,
+        right,
+    })
 }
 
 /// The event after the left side of a series: the right side opens.
 fn of_second(kind: Kind, parent: u32) -> Option<Event>
     ensures { result ≡ choice_second (Some kind) parent }
 {
-    match kind {
-        Kind::SeqNode(left, right) => Some(Event::OpenSeqRight {
-            parent,
-            left,
-            right,
-        }),
-        _ => None,
-    }
+    let Kind::SeqNode(left, right) = kind else {
+        return None;
+    };
+    Some(Event::OpenSeqRight {
+        parent,
+        left,
+        right,
+    })
 }
 
 /// The event after the right side of a series: the series is done.
 fn of_parent(kind: Kind, parent: u32) -> Option<Event>
     ensures { result ≡ choice_parent (Some kind) parent }
 {
-    match kind {
-        Kind::SeqNode(left, right) => Some(Event::FinishSeq {
-            parent,
-            left,
-            right,
-        }),
-        _ => None,
-    }
+    let Kind::SeqNode(left, right) = kind else {
+        return None;
+    };
+    Some(Event::FinishSeq {
+        parent,
+        left,
+        right,
+    })
 }
 
 /// The event after a side of a parallel block, `node`: it arrives. `mark` is the number of sides that have arrived
@@ -104,14 +104,14 @@ fn of_arrive(kind: Kind, parent: u32, mark: u32, node: u32) -> Option<Event>
 pub(crate) fn of_handed(kind: Kind, parent: u32) -> Option<Event>
     ensures { result ≡ choice_handed (Some kind) parent }
 {
-    match kind {
-        Kind::ParNode(left, right) => Some(Event::FinishPar {
-            parent,
-            left,
-            right,
-        }),
-        _ => None,
-    }
+    let Kind::ParNode(left, right) = kind else {
+        return None;
+    };
+    Some(Event::FinishPar {
+        parent,
+        left,
+        right,
+    })
 }
 
 /// The number of steps of an act that is work.

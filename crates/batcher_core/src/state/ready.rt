@@ -10,7 +10,7 @@ use std::marker::Model;
 /// The ready nodes of one worker, the oldest first. A claim of the oldest is a step of `first`, and a list with no node
 /// left begins anew, so a claim at either end takes the same time however long the list is.
 #[derive(Drop)]
-pub struct ReadyList {
+pub(crate) struct ReadyList {
     items: Vec<u32>,
     /// The place of the oldest node.
     first: usize,
@@ -128,7 +128,7 @@ impl ReadyList {
 /// A list of ready nodes for each worker, and the number of lists that have a node, by which a worker without a task
 /// sees at once that there is nothing to claim. Contracts see the lists.
 #[derive(Drop)]
-pub struct ReadyLists {
+pub(crate) struct ReadyLists {
     lists: Vec<ReadyList>,
     /// The number of lists that have a node.
     non_empty: usize,

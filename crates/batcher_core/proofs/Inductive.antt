@@ -1,5 +1,6 @@
 pub mod Nodes
 pub mod Ticks
+pub mod Stamps
 pub mod Book
 pub mod Parts
 pub mod Lists

@@ -10,7 +10,6 @@ use Rattle.batcher_core.specs.declared.state.State.{State as StoredState}
 use Rattle.batcher_core.specs.Code.Abstraction.{state_of}
 use Rattle.batcher_core.specs.Code.Core.{RepInvariant}
 use Rattle.batcher_core.specs.Operations.{IsLeaf, op_of, Place, place_of}
-use Rattle.batcher_core.specs.Invariant.Tasks.{TaskFits}
 use Rattle.batcher_core.specs.Choice.{least_below}
 use Rattle.batcher_core.specs.Events.{Happens}
 use Rattle.batcher_core.specs.Runs.{IsStep}
@@ -26,6 +25,7 @@ use Rattle.batcher_core.specs.Invariant.{Parts, Invariant}
 use Rattle.batcher_core.proofs.Inductive.Nodes.{InductiveNodes, passed_if, LeftAlone, InductiveTasks}
 use Rattle.batcher_core.proofs.Inductive.Ticks.{Stamp, stamp, stamp_in_task, stamp_by, stamps, Drawn, StartOf, EndOf, StartsAt, EndsAt, InductiveTicks}
 use Rattle.batcher_core.proofs.Inductive.Book.{StatusFits, IsEarlier, InductiveBook, booked_by, worker_at, is_valued, valued_by, value_at, value_due}
+use Rattle.batcher_core.proofs.Inductive.Stamps.{started_name, started_leaf, stamped, stamped_end}
 use Rattle.batcher_core.proofs.Inductive.Parts.{InductiveParts}
 use Rattle.batcher_core.proofs.Inductive.Lists.{stands_in, InductiveLists}
 use Rattle.batcher_core.proofs.ChoiceLemmas.Search.{least_is_chosen, no_least}
@@ -72,39 +72,6 @@ told task (start_of n) = StartOf n
 told task (end_of n) = EndOf n
 told task (start_by w) = StartOf (node_in (names (task w)))
 told task (end_by w) = EndOf (node_in (names (task w)))
-
--- a task that names a leaf as started names it
-started_name : (t : Task) (n s : ℕ) → IsStartedAs t n s → names t ≡ Some n
-started_name Idle n s is = absurd is
-started_name (Run m) n s is = absurd is
-started_name (Half m) n s is = absurd is
-started_name (Started m a) n s is = ap Some is.0
-started_name (Kept m a) n s is = ap Some is.0
-started_name (Ended m a e) n s is = ap Some is.0
-started_name (Whole m) n s is = absurd is
-started_name (Handed m) n s is = absurd is
-
--- and says that it is a taken leaf
-started_leaf : (plan : Nodes) (node : ℕ → Progress) (mark : ℕ → ℕ) (t : Task) (n s : ℕ) → IsStartedAs t n s → TaskFits plan node mark t → IsLeaf (plan.kind n) × (node n ≡ Taken)
-started_leaf plan node mark Idle n s is fits = absurd is
-started_leaf plan node mark (Run m) n s is fits = absurd is
-started_leaf plan node mark (Half m) n s is fits = absurd is
-started_leaf plan node mark (Started m a) n s is fits = rw (← is.0) fits
-started_leaf plan node mark (Kept m a) n s is fits = rw (← is.0) fits
-started_leaf plan node mark (Ended m a e) n s is fits = rw (← is.0) fits
-started_leaf plan node mark (Whole m) n s is fits = absurd is
-started_leaf plan node mark (Handed m) n s is fits = absurd is
-
--- its stamp has this worker and this start
-started_stamp : (t : Task) (w n s : ℕ) → IsStartedAs t n s → (d : Option ℕ) × (stamp_in_task w t ≡ Some (stamp w s d))
-started_stamp Idle w n s is = absurd is
-started_stamp (Run m) w n s is = absurd is
-started_stamp (Half m) w n s is = absurd is
-started_stamp (Started m a) w n s is = (None, ap (λ (b : ℕ). Some (stamp w b None)) is.1)
-started_stamp (Kept m a) w n s is = (None, ap (λ (b : ℕ). Some (stamp w b None)) is.1)
-started_stamp (Ended m a e) w n s is = (Some e, ap (λ (b : ℕ). Some (stamp w b (Some e))) is.1)
-started_stamp (Whole m) w n s is = absurd is
-started_stamp (Handed m) w n s is = absurd is
 
 -- equal stamps have equal parts
 stamp_parts : (v w a s : ℕ) (d e : Option ℕ) → Some (stamp v a d) ≡ Some (stamp w s e) → (v ≡ w) × (a ≡ s) × (d ≡ e)
@@ -232,18 +199,8 @@ module _ (plan : Nodes) (workers : ℕ) (node : ℕ → Progress) (mark : ℕ �
   known : (n w s : ℕ) (e : Option ℕ) → stamps_of n ≡ Some (stamp w s e) → HasStart node task n w s × ((d : ℕ) → e ≡ Some d → HasEnd node task n w s d)
   known n w s e is = tells n w s e (node n) (holder_of n) refl refl is
 
-  -- a leaf that a task names as started has its stamp
-  stamp_held : (w n s : ℕ) → IsStartedAs (task w) n s → stamps_of n ≡ stamp_in_task w (task w)
-  stamp_held w n s is =
-      let leaf = started_leaf plan node mark (task w) n s is (tasks.says w) in
-      rw (leaf.1, named w n (started_name (task w) n s is)) refl
-
-  stamp_started : (w n s : ℕ) → IsStartedAs (task w) n s → (d : Option ℕ) × (stamps_of n ≡ Some (stamp w s d))
-  stamp_started w n s is = let d = started_stamp (task w) w n s is in (d.0, stamp_held w n s is ∙ d.1)
-
   stamp_ended : (n w s e : ℕ) → HasEnd node task n w s e → stamps_of n ≡ Some (stamp w s (Some e))
-  stamp_ended n w s e (inl ran) = rw ran refl
-  stamp_ended n w s e (inr mine) = stamp_held w n s (rw mine (refl, refl)) ∙ ap (stamp_in_task w) mine
+  stamp_ended = stamped_end plan node mark task holder_of tasks_carried
 
   -- the ticks at which it started and ended
   started_draw : (n w s : ℕ) → HasStart node task n w s → (draw_of s ≡ StartOf n) × (s < tick)
@@ -273,7 +230,7 @@ module _ (plan : Nodes) (workers : ℕ) (node : ℕ → Progress) (mark : ℕ �
   start_told t n (start_by w) d is =
       let name = started_name (task w) d.0 t d.1 in
       let e : d.0 ≡ n = same_start d.0 n (sym (ap (λ (o : Option ℕ). StartOf (node_in o)) name) ∙ is) in
-      let s = stamp_started w d.0 t d.1 in rw (← e, s.1) refl
+      let s = stamped plan node mark task holder_of tasks_carried d.0 w t (inr d.1) in rw (← e, s.1) refl
 
   end_told : (t n : ℕ) (a : Draw) → IsDrawn node task a t → told task a ≡ EndOf n → EndsAt (stamps_of n) t
   end_told t n (end_of m) d is = let e : m ≡ n = same_end m n is in rw (← e, d.2) refl

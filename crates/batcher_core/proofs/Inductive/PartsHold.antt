@@ -18,7 +18,8 @@ use Rattle.batcher_core.specs.Invariant.Hold.{is_published}
 use Rattle.batcher_core.proofs.Inductive.Nodes.{HoldersFit, InductiveTasks}
 use Rattle.batcher_core.proofs.Inductive.Book.{StatusFits, IsEarlier, is_booked, booked_by, worker_at, valued_by, value_due}
 use Rattle.batcher_core.proofs.Inductive.Parts.{InductiveParts}
-use Rattle.batcher_core.proofs.Inductive.TicksHold.{stamped, stamped_end, ticks_stand}
+use Rattle.batcher_core.proofs.Inductive.Stamps.{stamped, stamped_end}
+use Rattle.batcher_core.proofs.Inductive.TicksHold.{ticks_stand}
 use Rattle.batcher_core.proofs.Inductive.NodesHold.{nodes_stand, tasks_stand}
 use Rattle.batcher_core.proofs.BookLemmas.Books.{found_in_book}
 use Rattle.batcher_core.proofs.InvariantLemmas.Publish.{valued_is_booked, there_if}
@@ -91,9 +92,9 @@ book_stands job s h = record {
   leaves = h.book.leaves;
   operations = h.book.operations;
   in_order = λ n m u v w x a b d kind kind' call ends starts less later at.
-      let started = stamped job.plan job.workers s.node s.mark s.tick s.task h.holder h.tasks h.ticks m x b starts in
+      let started = stamped job.plan s.node s.mark s.task h.holder h.tasks m x b starts in
       earlier_place (place_of s.book u) (place_of s.book v) later
-      (h.book.in_order n m u v w x a b d started.0 kind kind' call (stamped_end job.plan job.workers s.node s.mark s.tick s.task h.holder h.tasks h.ticks n w a d ends) started.1 less) at;
+      (h.book.in_order n m u v w x a b d started.0 kind kind' call (stamped_end job.plan s.node s.mark s.task h.holder h.tasks n w a d ends) started.1 less) at;
 }
 
 -- who is booked, by the task of the worker

@@ -1,9 +1,9 @@
 -- What is carried of the ticks implies what the invariant says of them.
-use Rattle.std.proofs.Common.{ℕ, ◌≡◌, ◌<◌, Option, Some, None, refl, inl, inr, sym, ◌∙◌, ap}
+use Rattle.std.proofs.Common.{ℕ, ◌≡◌, ◌<◌, Option, Some, None, refl, inr, sym, ◌∙◌, ap}
 use Rattle.batcher_core.specs.Invariant.Ticks.{IsStartedAs, Draw, start_of, end_of, start_by, end_by, IsDrawn, HasStart, HasEnd, TicksInvariant}
 use Rattle.batcher_core.proofs.Words.{Nodes, Progress, Waiting, Ready, Taken, Done, Ran, Task, Idle, Run, Half, Started, Kept, Ended, Whole, Handed, names}
-use Rattle.batcher_core.specs.Invariant.Tasks.{TaskFits}
 use Rattle.batcher_core.proofs.Inductive.Nodes.{InductiveTasks}
+use Rattle.batcher_core.proofs.Inductive.Stamps.{started_held, stamped, stamped_end}
 use Rattle.batcher_core.proofs.Inductive.Ticks.{stamp, stamp_in_task, stamp_by, stamps, Drawn, StartOf, EndOf, RanBefore, EndsBefore, StartsAt, EndsAt, InductiveTicks}
 
 -- whose start or end a tick was drawn for: the worker's, while its task names the leaf, else the leaf's own
@@ -37,63 +37,9 @@ ran_before Done t h = absurd h
 
 module _ (plan : Nodes) (workers : ℕ) (node : ℕ → Progress) (mark : ℕ → ℕ) (tick : ℕ) (task : ℕ → Task) (holder : ℕ → Option ℕ)
     (tasks : InductiveTasks plan node mark task holder) (h : InductiveTicks plan workers node tick (stamps node task holder)) where
-  -- the leaf that a task names as started has a stamp with its worker and its start
-  abbrev HasStamp : ℕ → ℕ → ℕ → Type 0
-  HasStamp w n s = (holder n ≡ Some w) × (node n ≡ Taken) × (d : Option ℕ) × (stamps node task holder n ≡ Some (stamp w s d)) × ((e : ℕ) → d ≡ Some e → HasEnd node task n w s e)
-
-  -- the stamp of the leaf that a task names
-  stamp_of : (w m s : ℕ) (d : Option ℕ) (t : Task) → task w ≡ t → names t ≡ Some m → node m ≡ Taken → stamp_in_task w t ≡ Some (stamp w s d)
-      → stamps node task holder m ≡ Some (stamp w s d)
-  stamp_of w m s d t mine name taken is =
-      let held : holder m ≡ Some w = tasks.holders.named w m (ap names mine ∙ name) in
-      rw (taken, held, mine) is
-
-  -- row by row
-  started_stamp : (w n s : ℕ) (t : Task) → task w ≡ t → IsStartedAs t n s → TaskFits plan node mark t → HasStamp w n s
-  started_stamp w n s Idle mine is fits = absurd is
-  started_stamp w n s (Run m) mine is fits = absurd is
-  started_stamp w n s (Half m) mine is fits = absurd is
-  started_stamp w n s (Started m a) mine is fits = rw (← is.0, ← is.1)
-      (tasks.holders.named w m (ap names mine), fits.1, None, stamp_of w m a None (Started m a) mine refl fits.1 refl, λ e f. cc)
-  started_stamp w n s (Kept m a) mine is fits = rw (← is.0, ← is.1)
-      (tasks.holders.named w m (ap names mine), fits.1, None, stamp_of w m a None (Kept m a) mine refl fits.1 refl, λ e f. cc)
-  started_stamp w n s (Ended m a d) mine is fits = rw (← is.0, ← is.1) (
-    tasks.holders.named w m (ap names mine),
-    fits.1,
-    Some d,
-    stamp_of w m a (Some d) (Ended m a d) mine refl fits.1 refl,
-    λ e f. inr (let g : d ≡ e = cc in rw (← g) mine),
-  )
-  started_stamp w n s (Whole m) mine is fits = absurd is
-  started_stamp w n s (Handed m) mine is fits = absurd is
-
-  -- and of the task itself
-  by_task : (w n s : ℕ) → IsStartedAs (task w) n s → HasStamp w n s
-  by_task w n s is = started_stamp w n s (task w) refl is (tasks.fits w)
-
-  -- a leaf with a start has its stamp
-  abbrev IsStamped : ℕ → ℕ → ℕ → Type 0
-  IsStamped n w s = (d : Option ℕ) × (stamps node task holder n ≡ Some (stamp w s d)) × ((e : ℕ) → d ≡ Some e → HasEnd node task n w s e)
-
-  -- and so
-  pub stamped : (n w s : ℕ) → HasStart node task n w s → IsStamped n w s
-  stamped n w s (inl ran) = (Some ran.0, rw ran.1 refl, λ e f. inl (let g : ran.0 ≡ e = cc in rw (← g) ran.1))
-  stamped n w s (inr is) = let at = by_task w n s is in (at.2, at.3, at.4)
-
-  -- the stamp of a leaf that a task names as ended
-  ended_stamp : (n w s e : ℕ) → task w ≡ Ended n s e → stamps node task holder n ≡ Some (stamp w s (Some e))
-  ended_stamp n w s e mine =
-      let fits : TaskFits plan node mark (Ended n s e) = rw mine at (tasks.fits w) in
-      stamp_of w n s (Some e) (Ended n s e) mine refl fits.1 refl
-
-  -- a leaf with an end has its stamp
-  pub stamped_end : (n w s e : ℕ) → HasEnd node task n w s e → stamps node task holder n ≡ Some (stamp w s (Some e))
-  stamped_end n w s e (inl ran) = rw ran refl
-  stamped_end n w s e (inr mine) = ended_stamp n w s e mine
-
-  -- who holds a node
-  held_by : (n w : ℕ) → names (task w) ≡ Some n → holder n ≡ Some w
-  held_by n w name = tasks.holders.named w n name
+  abbrev has_stamp : (n w s : ℕ) → HasStart node task n w s
+      → (d : Option ℕ) × (stamps node task holder n ≡ Some (stamp w s d)) × ((e : ℕ) → d ≡ Some e → HasEnd node task n w s e)
+  has_stamp = stamped plan node mark task holder tasks
 
   -- what was drawn is told by the tick
   drawn_is : (a : Draw) (t : ℕ) → IsDrawn node task a t → (a ≡ source node holder (h.draw t)) × (t < tick)
@@ -104,13 +50,14 @@ module _ (plan : Nodes) (workers : ℕ) (node : ℕ → Progress) (mark : ℕ �
       let at = h.end_drawn n d.0 d.1 t (rw d.2 refl) in
       (sym (ap (source node holder) at.0 ∙ (rw d.2 refl)), at.1)
   drawn_is (start_by w) t d =
-      let stamp' = by_task w d.0 t d.1 in
-      let at = h.start_drawn d.0 w t stamp'.2 stamp'.3 in
-      (sym (ap (source node holder) at.0 ∙ (rw (stamp'.1, stamp'.0) refl)), at.1)
+      let held = started_held plan node mark task holder tasks w d.0 t d.1 in
+      let stamp' = has_stamp d.0 w t (inr d.1) in
+      let at = h.start_drawn d.0 w t stamp'.0 stamp'.1 in
+      (sym (ap (source node holder) at.0 ∙ (rw (held.0, held.1) refl)), at.1)
   drawn_is (end_by w) t d =
-      let fits : TaskFits plan node mark (Ended d.0 d.1 t) = rw d.2 at (tasks.fits w) in
-      let at = h.end_drawn d.0 w d.1 t (ended_stamp d.0 w d.1 t d.2) in
-      (sym (ap (source node holder) at.0 ∙ (rw (fits.1, held_by d.0 w (ap names d.2)) refl)), at.1)
+      let held = started_held plan node mark task holder tasks w d.0 d.1 (rw d.2 (refl, refl)) in
+      let at = h.end_drawn d.0 w d.1 t (stamped_end plan node mark task holder tasks d.0 w d.1 t (inr d.2)) in
+      (sym (ap (source node holder) at.0 ∙ (rw (held.0, held.1) refl)), at.1)
 
   -- a start that was drawn is that of a leaf
   start_found : (n t : ℕ) (x : Progress) (o : Option ℕ) → node n ≡ x → holder n ≡ o → StartsAt (stamp_by x o task) t → (a : Draw) × IsDrawn node task a t
@@ -164,13 +111,13 @@ module _ (plan : Nodes) (workers : ℕ) (node : ℕ → Progress) (mark : ℕ �
     distinct = λ a b t i j. (drawn_is a t i).0 ∙ sym (drawn_is b t j).0;
     only = λ a t i. (drawn_is a t i).1;
     each = λ t low. drawn_for t (h.draw t) refl low;
-    starts_first = λ n w s e ends. (h.end_drawn n w s e (stamped_end n w s e ends)).2;
+    starts_first = λ n w s e ends. (h.end_drawn n w s e (stamped_end plan node mark task holder tasks n w s e ends)).2;
     among = λ n w s e ran. h.workers_below n w s (Some e) (rw ran refl);
     in_order = λ n m w s leaf leaf' before starts.
-        let at = stamped m w s starts in
+        let at = has_stamp m w s starts in
         ran_before (node n) s (h.in_order n m w s at.0 (leaf.0, leaf.1, before) at.1);
     alone = λ n m w s t first second less.
-        let at = stamped n w s first in
-        let at' = stamped m w t second in
+        let at = has_stamp n w s first in
+        let at' = has_stamp m w t second in
         ends_before n w s t at.0 (h.one_at_once n m w s t at.0 at'.0 at.1 at'.1 less) at.2;
   }

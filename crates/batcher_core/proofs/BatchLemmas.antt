@@ -1,4 +1,3 @@
-pub mod CallOrder
 pub mod TakenCalls
 pub mod ServedCalls
 pub mod Made

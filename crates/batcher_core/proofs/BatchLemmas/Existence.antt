@@ -1,7 +1,7 @@
 -- The calls that are taken make a batch: each goes to its place in batch order, one worker after another.
-use Rattle.std.proofs.Common.{ℕ, zero, suc, ◌≡◌, ◌≢◌, ◌<◌, Bool, true, false, Option, Some, None, List, [], ◌∷◌, ◌++◌, arith, refl, inl, inr, subst, sym, ap}
+use Rattle.std.proofs.Common.{ℕ, zero, suc, ◌≡◌, ◌≢◌, ◌<◌, ◌⊎◌, Bool, true, false, Option, Some, None, List, [], ◌∷◌, ◌++◌, arith, refl, inl, inr, subst, sym, ap}
 use Rattle.std.specs.List.{AllByRecursion}
-use Rattle.std.proofs.lemmas.Bool.{cases_eq, cases_Bool}
+use Rattle.std.proofs.lemmas.Bool.{cases_eq, cases_lt, cases_Bool}
 use Rattle.seq_objects.specs.Objects.{Objects, after, reply_to}
 use Rattle.seq_objects.specs.Batches.{AreInBatchOrder}
 use Rattle.seq_objects.specs.declared.call.Call.{Call}
@@ -14,10 +14,37 @@ use Rattle.batcher_core.specs.Invariant.Tasks.{TaskFits}
 use Rattle.batcher_core.specs.Code.Batches.{IsCallOf, AreEntriesOf}
 use Rattle.batcher_core.proofs.Inductive.Parts.{InductiveParts}
 use Rattle.batcher_core.proofs.BookLemmas.EntryLists.{each_append, each_front, each_so}
+use Rattle.seq_objects.specs.BatchOrder.{ComesFirst, class_of, key_of}
 use Rattle.seq_objects.proofs.CallOrder.{IsFirst, first_through, first_or_second}
-use Rattle.batcher_core.proofs.BatchLemmas.CallOrder.{first_or_not}
 use Rattle.batcher_core.proofs.BatchLemmas.TakenCalls.{at_call_started, TakenOf, between}
 use Rattle.batcher_core.proofs.BatchLemmas.Made.{taken_at_call, batch_made}
+
+-- a class, a key and a worker come before others
+abbrev RanksFirst : (c k v d l w : ℕ) → Type 0
+RanksFirst c k v d l w = (c < d) ⊎ ((c ≡ d) × ((k < l) ⊎ ((k ≡ l) × (v < w))))
+
+-- that can be decided
+ranks_or_not : (c k v d l w : ℕ) → RanksFirst c k v d l w ⊎ (RanksFirst c k v d l w → ⊥)
+ranks_or_not c k v d l w = elim (cases_lt c d) [
+  | inl less ↦ inl (inl less)
+  | inr le ↦ elim (cases_eq c d) [
+    | inr other ↦ inr (λ h. grind arith)
+    | inl same ↦ elim (cases_lt k l) [
+      | inl less ↦ inl (inr (same, inl less))
+      | inr le' ↦ elim (cases_eq k l) [
+        | inr other ↦ inr (λ h. grind arith)
+        | inl same' ↦ elim (cases_lt v w) [
+          | inl less ↦ inl (inr (same, inr (same', less)))
+          | inr le'' ↦ inr (λ h. grind arith)
+        ]
+      ]
+    ]
+  ]
+]
+
+-- a call is served before another one, or it is not
+first_or_not : (a b : Op) (v w : ℕ) → ComesFirst a v b w ⊎ (ComesFirst a v b w → ⊥)
+first_or_not a b v w = ranks_or_not (class_of a) (key_of a) v (class_of b) (key_of b) w
 
 -- two parts of a list of calls, between which a call stands in batch order
 record Places (call : Call) (calls : List Call) : Type 0 where

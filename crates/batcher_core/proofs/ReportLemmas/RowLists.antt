@@ -8,7 +8,7 @@ use Rattle.batch_history.specs.Lawful.{ticks_of}
 use Rattle.batch_history.specs.declared.row.Row.{Row}
 use Rattle.batcher_core.proofs.BookLemmas.EntryLists.{each_at}
 
--- the rows are those of so many leaves, from a leaf on
+-- the rows are those of `count` leaves, from leaf `first` on
 abbrev pub AreRowsOf : List Row → ℕ → ℕ → Type 0
 AreRowsOf rows first count = map (λ (row : Row). row.leaf) rows ≡ range_with_len first count
 

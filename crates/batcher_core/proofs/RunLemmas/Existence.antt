@@ -76,7 +76,7 @@ module _ (job : CoreJob) (laws : IsPlan job.plan) where
   turn_some s w among inv = turn_of_some s w (choice job s w) among inv refl
 
   module _ (tree : Tree) (plan : IsPlanOf job.plan tree) where
-    -- round robin, with so many turns left at most
+    -- round robin, with fewer turns left than this number
     robin_drives : (most : ℕ) (s : CoreState) (robin : ℕ) → robin < job.workers → Invariant job s → turns_left job s robin < most
         → (last : CoreState) × Drives job s [] robin last
     robin_drives zero s robin below inv few = absurd (omega (arith, few))

@@ -20,7 +20,7 @@ use Rattle.batcher_core.proofs.MeasureLemmas.Lowers.{turn_lowers}
 use Rattle.batcher_core.proofs.RunLemmas.Taken.{SameJob, job_same, goes_on}
 use Rattle.batcher_core.proofs.Inductive.FromParts.{kept_parts}
 
--- the worker so many after this one has an event
+-- the worker that is d places after this one has an event
 abbrev pub acts_after : CoreJob → CoreState → ℕ → ℕ → Bool
 acts_after job s robin d = is_some (choice job s ((robin + d) % job.workers))
 
@@ -28,7 +28,7 @@ abbrev pub or_zero : Option ℕ → ℕ
 or_zero None = 0
 or_zero (Some n) = n
 
--- so many turns from this worker's on are idle before one makes an event
+-- how many turns, from this worker's on, are idle before one makes an event
 abbrev pub idle_turns : CoreJob → CoreState → ℕ → ℕ
 idle_turns job s robin = or_zero (least_below (acts_after job s robin) job.workers)
 

@@ -6,14 +6,9 @@ use Rattle.std.proofs.lemmas.List.{length-map}
 use Rattle.std.proofs.lemmas.Simd.{map-map}
 use Rattle.seq_objects.specs.BatchOrder.{ComesFirst}
 use Rattle.seq_objects.specs.declared.call.Call.{Call}
-use Rattle.batch_history.specs.declared.batch.Entry.{Entry}
+use Rattle.batcher_core.proofs.Words.{Entry, Task, Status, Executing, CallState, CoreJob, Hold, State}
 use Rattle.seq_objects.specs.Pairs.{EachPair}
 use Rattle.batch_history.specs.Book.{IsLegalFrom}
-use Rattle.batcher_core.specs.declared.state.task.Task.{Task}
-use Rattle.batcher_core.specs.declared.state.status.Status.{Status}
-use Rattle.batcher_core.specs.declared.state.status.Status.TheVariants.{Executing}
-use Rattle.batcher_core.specs.declared.state.status.CallState.{CallState}
-use Rattle.batcher_core.specs.State.{CoreJob, Hold, State}
 use Rattle.batcher_core.specs.Events.{has_taken, IsTakenCall, IsBatchOf}
 use Rattle.batcher_core.specs.Invariant.Statuses.{IsAtCall, is_taken_by}
 use Rattle.batcher_core.specs.Invariant.Hold.{HoldInvariant}

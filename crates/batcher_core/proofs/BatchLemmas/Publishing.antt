@@ -1,14 +1,10 @@
 -- The code of a publish: what it asks for is there, and it does what the event says.
 use Rattle.std.proofs.Common.{ℕ, ◌≡◌, ◌≤◌, ◌+◌, ◌*◌, ◌^◌, false, true, Some, None, List, [], ◌∷◌, ◌++◌, length, arith, refl, sym, ◌∙◌, ap}
-use Rattle.seq_objects.specs.declared.act.Act.{Act}
+use Rattle.batcher_core.proofs.Words.{Act, Tree, Entry, Publish, Hold, core_job}
 use Rattle.seq_objects.specs.declared.call.Call.{Call}
-use Rattle.sp_order.specs.Precedence.{Tree}
-use Rattle.batch_history.specs.declared.batch.Entry.{Entry}
 use Rattle.batch_history.specs.Book.{flat, IsLegalFrom, IsHistory}
-use Rattle.batcher_core.specs.declared.event.Event.TheVariants.{Publish}
 use Rattle.batcher_core.specs.declared.state.hold.Hold.{Hold as StoredHold}
 use Rattle.batcher_core.specs.declared.state.State.{State as StoredState}
-use Rattle.batcher_core.specs.State.{Hold, core_job}
 use Rattle.batcher_core.specs.Events.{Needs, IsBatchOf}
 use Rattle.batcher_core.specs.Invariant.Statuses.{IsAtCall, is_taken_by}
 use Rattle.batcher_core.specs.Code.Batches.{AreTakenCalls, AreEntriesOf}

@@ -1,13 +1,9 @@
 -- What the code of an event looks up is there: the tick and the looks have room, and a node that is claimed stands at an end of its list.
 use Rattle.std.proofs.Common.{ℕ, ◌≡◌, ◌<◌, ◌+◌, ◌^◌, Option, Some, None, IfSome, IsSome, List, arith, refl, sym, ◌∙◌, ap}
-use Rattle.seq_objects.specs.declared.act.Act.{Act}
-use Rattle.sp_order.specs.Precedence.{Tree}
+use Rattle.batcher_core.proofs.Words.{Act, Tree, Event, Claim, Take, Hold, core_job}
 use Rattle.sp_order.specs.Preorder.{nodes_of}
-use Rattle.batcher_core.specs.declared.event.Event.{Event}
-use Rattle.batcher_core.specs.declared.event.Event.TheVariants.{Claim, Take}
 use Rattle.batcher_core.specs.declared.state.hold.Hold.{Hold as StoredHold}
 use Rattle.batcher_core.specs.declared.state.State.{State as StoredState}
-use Rattle.batcher_core.specs.State.{Hold, core_job}
 use Rattle.batcher_core.specs.Events.{Needs}
 use Rattle.batcher_core.specs.Choice.{choice}
 use Rattle.batcher_core.specs.Ranges.{IsInRange}

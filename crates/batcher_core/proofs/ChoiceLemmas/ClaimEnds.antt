@@ -1,12 +1,8 @@
 -- A node that is chosen to be claimed stands at an end of a list, and nowhere else.
 use Rattle.std.proofs.Common.{ℕ, ◌≡◌, ◌≢◌, ◌-◌, ◌⊎◌, List, [], ◌∷◌, ◌++◌, length, get_or, arith, refl, inl, inr, sym, ◌∙◌, length-append}
 use Rattle.std.proofs.lemmas.Bool.{cases_eq}
-use Rattle.batcher_core.specs.declared.state.progress.Progress.{Progress}
-use Rattle.batcher_core.specs.declared.state.task.Task.TheVariants.{Idle}
-use Rattle.batcher_core.specs.declared.state.status.Status.TheVariants.{Free}
-use Rattle.batcher_core.specs.declared.event.Event.TheVariants.{Claim}
+use Rattle.batcher_core.proofs.Words.{Progress, Idle, Free, Claim, CoreJob, CoreState}
 use Rattle.std.proofs.Common.{Some}
-use Rattle.batcher_core.specs.State.{CoreJob, CoreState}
 use Rattle.batcher_core.specs.Lists.{times}
 use Rattle.batcher_core.specs.Invariant.ReadyLists.{ReadyListsInvariant}
 use Rattle.batcher_core.proofs.Inductive.Parts.{InductiveParts}

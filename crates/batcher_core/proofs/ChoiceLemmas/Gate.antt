@@ -1,18 +1,7 @@
 -- The turns of the worker that has the flag: the choice is an event whose needs are met.
 use Rattle.std.proofs.Common.{ℕ, ◌≡◌, ◌≢◌, ◌≤◌, ◌&&◌, not, nat_lt, Bool, true, false, if◌then◌else◌, Option, Some, None, List, arith, refl, ltb-true, ltb-false}
-use Rattle.sp_order.specs.declared.node.Kind.TheVariants.{LeafNode}
-use Rattle.batch_history.specs.declared.batch.Entry.{Entry}
-use Rattle.batcher_core.specs.declared.state.progress.Progress.{Progress}
-use Rattle.batcher_core.specs.declared.state.progress.Progress.TheVariants.{Taken}
-use Rattle.batcher_core.specs.declared.state.task.Task.{Task}
-use Rattle.batcher_core.specs.declared.state.task.Task.TheVariants.{Idle, Run, Half, Started, Kept, Ended, Whole, Handed}
-use Rattle.batcher_core.specs.declared.state.status.Status.{Status}
-use Rattle.batcher_core.specs.declared.state.status.Status.TheVariants.{Executing}
-use Rattle.batcher_core.specs.declared.state.status.CallState.{CallState}
-use Rattle.batcher_core.specs.declared.event.Event.TheVariants.{Take, Publish}
-use Rattle.batcher_core.specs.State.{CoreJob, Hold, State}
+use Rattle.batcher_core.proofs.Words.{LeafNode, Entry, Progress, Taken, Task, Idle, Run, Half, Started, Kept, Ended, Whole, Handed, Status, Executing, CallState, Take, Publish, CoreJob, Hold, State, names}
 use Rattle.batcher_core.specs.Operations.{leaf_of, IsCall, Place, place_of}
-use Rattle.batcher_core.specs.Tasks.{names}
 use Rattle.batcher_core.specs.Invariant.Tasks.{TaskFits}
 use Rattle.batcher_core.specs.Events.{Needs, Holds}
 use Rattle.batcher_core.specs.Invariant.Statuses.{IsAtCall, is_taken_by}

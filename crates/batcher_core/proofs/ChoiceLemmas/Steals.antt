@@ -3,8 +3,7 @@ use Rattle.std.proofs.Common.{ℕ, suc, ◌≡◌, ◌<◌, ◌≤◌, ◌+◌, 
 use Rattle.std.specs.List.{slice_get}
 use Rattle.batcher_core.specs.Choice.{choice_steal, oldest_or, last_of}
 use Rattle.batcher_core.specs.Code.Lookups.{claim_choice}
-use Rattle.batcher_core.specs.declared.event.Event.{Event}
-use Rattle.batcher_core.specs.declared.event.Event.TheVariants.{Claim}
+use Rattle.batcher_core.proofs.Words.{Event, Claim}
 
 abbrev claim_of : Option ℕ → Option Event
 claim_of None = None

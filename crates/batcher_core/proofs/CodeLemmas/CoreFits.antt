@@ -1,20 +1,13 @@
 -- What the choice of a turn looks up is there, in what a core keeps to.
 use Rattle.std.proofs.Common.{ℕ, ◌≡◌, ◌<◌, Some, arith, refl}
-use Rattle.sp_order.specs.Plans.{Nodes, IsPlan}
+use Rattle.batcher_core.proofs.Words.{Nodes, IsPlan, Move, Root, OpenSecond, FinishParent, Arrive, Progress, Task, Idle, Run, Half, Started, Kept, Ended, Whole, Handed, CoreJob, names}
 use Rattle.sp_order.specs.Preorder.{nodes_of}
-use Rattle.sp_order.specs.declared.node.Move.{Move}
-use Rattle.sp_order.specs.declared.node.Move.TheVariants.{Root, OpenSecond, FinishParent, Arrive}
-use Rattle.batcher_core.specs.declared.state.progress.Progress.{Progress}
-use Rattle.batcher_core.specs.declared.state.task.Task.{Task}
-use Rattle.batcher_core.specs.declared.state.task.Task.TheVariants.{Idle, Run, Half, Started, Kept, Ended, Whole, Handed}
 use Rattle.batcher_core.specs.declared.state.State.{State as StoredState}
-use Rattle.batcher_core.specs.State.{CoreJob}
 use Rattle.batcher_core.specs.Code.Job.{job_of, HasLeaf, TaskIn}
 use Rattle.batcher_core.specs.Invariant.Statuses.{IsAtCall, is_taken_by}
 use Rattle.batcher_core.specs.declared.job.CoreJob.{CoreJob as StoredJob}
 use Rattle.batcher_core.proofs.ChoiceLemmas.Gate.{taken_row}
 use Rattle.batcher_core.specs.Operations.{IsLeaf}
-use Rattle.batcher_core.specs.Tasks.{names}
 use Rattle.batcher_core.specs.Invariant.Tasks.{TaskFits}
 use Rattle.batcher_core.specs.Code.Abstraction.{state_of}
 use Rattle.batcher_core.specs.Code.Lookups.{MoveIn, CanChoose}

@@ -1,17 +1,8 @@
 -- The nodes that tasks, lists and events name are nodes of the plan, and the workers are among those that there are.
 use Rattle.std.proofs.Common.{ℕ, ◌≡◌, ◌≢◌, ◌<◌, true, Some, List, arith, ap}
-use Rattle.sp_order.specs.declared.node.Kind.{Kind}
-use Rattle.sp_order.specs.declared.node.Kind.TheVariants.{SeqNode, ParNode}
-use Rattle.sp_order.specs.Plans.{Nodes, IsPlan, IsSide, parent_of}
-use Rattle.batcher_core.specs.declared.state.progress.Progress.{Progress}
-use Rattle.batcher_core.specs.declared.state.progress.Progress.TheVariants.{Waiting}
-use Rattle.batcher_core.specs.declared.state.task.Task.{Task}
-use Rattle.batcher_core.specs.declared.event.Event.{Event}
-use Rattle.batcher_core.specs.declared.event.Event.TheVariants.{Claim, Start, OpenParRight, OpenParLeft, OpenSeqLeft, OpenSeqRight, Post, Win, Take, Publish, Answer, Release, Leave, Keep, End, FinishLeaf, FinishSeq, FinishPar, ArriveFirst, ArriveSecond}
-use Rattle.batcher_core.specs.State.{CoreJob, Hold, State}
+use Rattle.batcher_core.proofs.Words.{Kind, SeqNode, ParNode, Nodes, IsPlan, IsSide, parent_of, Progress, Waiting, Task, Event, Claim, Start, OpenParRight, OpenParLeft, OpenSeqLeft, OpenSeqRight, Post, Win, Take, Publish, Answer, Release, Leave, Keep, End, FinishLeaf, FinishSeq, FinishPar, ArriveFirst, ArriveSecond, CoreJob, Hold, State, names}
 use Rattle.batcher_core.specs.Lists.{times}
 use Rattle.batcher_core.specs.Invariant.ReadyLists.{ReadyListsInvariant}
-use Rattle.batcher_core.specs.Tasks.{names}
 use Rattle.batcher_core.specs.Invariant.Tasks.{TaskFits}
 use Rattle.batcher_core.specs.Events.{Needs}
 use Rattle.batcher_core.specs.Invariant.Hold.{HoldInvariant}

@@ -1,12 +1,10 @@
 -- The opening table of a job has what a core keeps to.
 use Rattle.std.proofs.Common.{ℕ, ◌≡◌, ◌<◌, ◌≤◌, Option, Some, List, length, arith, refl, sym, ap, subst}
-use Rattle.seq_objects.specs.declared.act.Act.{Act}
-use Rattle.sp_order.specs.Precedence.{Tree, leaf_count}
-use Rattle.sp_order.specs.Plans.{IsPlan}
-use Rattle.sp_order.specs.PlanOf.{IsPlanOf}
+use Rattle.batcher_core.proofs.Words.{Act, Tree, IsPlan, IsPlanOf, State, core_job}
+use Rattle.sp_order.specs.Precedence.{leaf_count}
 use Rattle.sp_order.specs.Preorder.{nodes_of}
 use Rattle.batcher_core.specs.declared.state.State.{State as StoredState}
-use Rattle.batcher_core.specs.State.{State, core_job, opening_state, opening_core}
+use Rattle.batcher_core.specs.State.{opening_state, opening_core}
 use Rattle.batcher_core.specs.Code.Abstraction.{state_of, ready_of, core_state_of, Sizes, CounterFits}
 use Rattle.batcher_core.specs.Code.Core.{RepInvariant}
 use Rattle.batcher_core.proofs.InvariantLemmas.Reached.{has_root}

@@ -2,8 +2,7 @@
 use Rattle.std.proofs.Common.{ℕ, zero, suc, ◌≡◌, ◌≢◌, ◌<◌, ◌≤◌, ◌+◌, ◌*◌, Option, Some, None, List, [], ◌∷◌, length, arith, refl, sym, ◌∙◌, ap}
 use Rattle.std.specs.List.{AllByRecursion}
 use Rattle.seq_objects.specs.Pairs.{AreDistinct}
-use Rattle.sp_order.specs.Plans.{IsPlan}
-use Rattle.batcher_core.specs.State.{CoreJob, State}
+use Rattle.batcher_core.proofs.Words.{IsPlan, CoreJob, State}
 use Rattle.batcher_core.proofs.Inductive.Ticks.{Stamp, Drawn, StartOf, EndOf, StartsAt, EndsAt, stamps}
 use Rattle.batcher_core.proofs.Inductive.Parts.{InductiveParts}
 use Rattle.batcher_core.proofs.BookLemmas.Room.{distinct_few}

@@ -1,12 +1,9 @@
 -- A turn keeps what the core keeps to, and makes what it answers.
 use Rattle.std.proofs.Common.{ℕ, ◌≡◌, ◌<◌, Some, None, List, refl, ◌∙◌}
-use Rattle.seq_objects.specs.declared.act.Act.{Act}
-use Rattle.sp_order.specs.Precedence.{Tree}
+use Rattle.batcher_core.proofs.Words.{Act, Tree, Event, core_job}
 use Rattle.sp_order.specs.Preorder.{nodes_of}
-use Rattle.batcher_core.specs.declared.event.Event.{Event}
 use Rattle.batcher_core.specs.declared.state.State.{State as StoredState}
 use Rattle.batcher_core.specs.declared.turn.Turn.TheVariants.{Moved, Idle}
-use Rattle.batcher_core.specs.State.{core_job}
 use Rattle.batcher_core.specs.Lists.{ready_after}
 use Rattle.batcher_core.specs.Events.{Does, Happens}
 use Rattle.batcher_core.specs.Choice.{choice}

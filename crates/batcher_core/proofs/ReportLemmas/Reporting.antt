@@ -1,12 +1,10 @@
 -- The report of a core that is over.
 use Rattle.std.proofs.Common.{ℕ, ◌≡◌, ◌&&◌, not, Bool, true, false, List, map, refl}
 use Rattle.std.specs.List.{AllByRecursion, range_with_len}
-use Rattle.seq_objects.specs.declared.act.Act.{Act}
-use Rattle.sp_order.specs.Precedence.{Tree, leaves}
+use Rattle.batcher_core.proofs.Words.{Act, Tree, leaves, core_job}
 use Rattle.sp_order.specs.Preorder.{nodes_of}
 use Rattle.batch_history.specs.declared.row.Row.{Row}
 use Rattle.batcher_core.specs.declared.state.State.{State as StoredState}
-use Rattle.batcher_core.specs.State.{core_job}
 use Rattle.batcher_core.specs.Code.Abstraction.{state_of}
 use Rattle.batcher_core.specs.Reports.{TellsLeaf, IsReportOf}
 

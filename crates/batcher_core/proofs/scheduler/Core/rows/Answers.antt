@@ -1,6 +1,5 @@
 use Rattle.std.proofs.Common.{◌≡◌, arith, sym, ◌∙◌}
-use Rattle.sp_order.specs.Precedence.{leaves}
-use Rattle.batcher_core.specs.State.{core_job}
+use Rattle.batcher_core.proofs.Words.{leaves, core_job}
 use Rattle.batcher_core.specs.Code.Abstraction.{state_of}
 use Rattle.batcher_core.proofs.BookLemmas.LeavesIn.{leaves_few}
 use Rattle.batcher_core.proofs.ReportLemmas.Reporting.{over_is}

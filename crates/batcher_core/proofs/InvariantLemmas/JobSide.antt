@@ -1,16 +1,35 @@
 -- What is left of all that is carried, where an event changes nodes, marks and the worker's task.
-use Rattle.std.proofs.Common.{arith, false, ℕ, ◌≡◌, ◌<◌, Option, Some, sym, ◌∙◌}
+use Rattle.std.proofs.Common.{ℕ, ◌≡◌, ◌<◌, Bool, false, Option, Some, List, arith, refl, inl, inr, subst, sym, ◌∙◌}
+use Rattle.std.proofs.lemmas.Bool.{cases_eq}
 use Rattle.std.proofs.lemmas.Bool.Decides.{nat_tests}
-use Rattle.batcher_core.proofs.Words.{LeafNode, Progress, Ran, Task, Free, put, CoreJob, State, is_done}
-use Rattle.batcher_core.specs.Invariant.Statuses.{IsAtCall}
+use Rattle.batcher_core.proofs.Words.{LeafNode, Entry, Progress, Ran, Task, Free, CallState, put, CoreJob, State, is_done}
+use Rattle.batcher_core.specs.Invariant.Statuses.{IsAtCall, is_taken_by}
 use Rattle.batcher_core.specs.Invariant.Hold.{is_published}
 use Rattle.batcher_core.proofs.Inductive.Nodes.{InductiveNodes, InductiveTasks}
-use Rattle.batcher_core.proofs.Inductive.Ticks.{stamps}
-use Rattle.batcher_core.proofs.Inductive.Book.{booked_by, valued_by}
+use Rattle.batcher_core.proofs.Inductive.Ticks.{Stamp, stamps}
+use Rattle.batcher_core.proofs.Inductive.Book.{StatusFits, InductiveBook, booked_by, valued_by}
 use Rattle.batcher_core.proofs.Inductive.Parts.{InductiveParts}
+use Rattle.batcher_core.proofs.CodeLemmas.Puts.{put_at, put_other}
 use Rattle.batcher_core.proofs.InvariantLemmas.ClaimTasks.{beyond_put}
 use Rattle.batcher_core.proofs.InvariantLemmas.TickSteps.{same_ticks}
-use Rattle.batcher_core.proofs.InvariantLemmas.Claim.{statuses_free, same_book}
+
+-- a free worker with another task, which is not at a call
+free_status : (job : CoreJob) (book : List (List Entry)) (t u : Task) (c : CallState) (b : Bool) → (IsAtCall job t → ⊥)
+    → StatusFits job book t Free c b → StatusFits job book u Free c b
+free_status job book t u c b away h = grind arith
+
+-- a free worker's row after a change of its task
+pub statuses_free : (job : CoreJob) (s : State) (w : ℕ) (t : Task) → s.status w ≡ Free → (IsAtCall job (s.task w) → ⊥)
+    → ((v : ℕ) → StatusFits job s.book (s.task v) (s.status v) (s.call v) (is_taken_by s.hold v))
+    → (v : ℕ) → StatusFits job s.book (put s.task w t v) (s.status v) (s.call v) (is_taken_by s.hold v)
+statuses_free job s w t free away h v = elim (cases_eq v w) as (λ _. StatusFits job s.book (put s.task w t v) (s.status v) (s.call v) (is_taken_by s.hold v)) [
+  | inl e ↦ rw (e, put_at s.task w w t refl, free) (free_status job s.book (s.task w) t (s.call w) (is_taken_by s.hold w) away (rw free at (h w)))
+  | inr e ↦ rw (put_other s.task w v t e) (h v)
+]
+
+-- the book, where each stamp is as it was
+pub same_book : (job : CoreJob) (s : State) (old new : ℕ → Option Stamp) → ((n : ℕ) → new n ≡ old n) → InductiveBook job s.book s.objects old → InductiveBook job s.book s.objects new
+same_book job s old new same h = subst (InductiveBook job s.book s.objects) (λ i n. sym (same n) i) h
 
 -- a node that has run has not changed, where only one that was not done has
 pub still_ran : (node : ℕ → Progress) (n : ℕ) (x : Progress) → is_done (node n) ≡ false → (m v a e : ℕ) → node m ≡ Ran v a e → put node n x m ≡ Ran v a e

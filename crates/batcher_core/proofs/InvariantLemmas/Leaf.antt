@@ -16,7 +16,7 @@ use Rattle.batcher_core.proofs.CodeLemmas.Puts.{put_at, put_other}
 use Rattle.batcher_core.proofs.InvariantLemmas.FinishTasks.{go_on}
 use Rattle.batcher_core.proofs.InvariantLemmas.ClaimTasks.{beyond_put}
 use Rattle.batcher_core.proofs.InvariantLemmas.TickSteps.{start_ticks, end_ticks, before_ran}
-use Rattle.batcher_core.proofs.InvariantLemmas.Claim.{statuses_free}
+use Rattle.batcher_core.proofs.InvariantLemmas.JobSide.{statuses_free}
 
 -- the stamps after a start
 start_stamp : (node : ℕ → Progress) (task : ℕ → Task) (holder : ℕ → Option ℕ) (w n t m : ℕ) → HoldersFit task holder → task w ≡ Run n → node n ≡ Taken

@@ -16,7 +16,7 @@ use Rattle.batcher_core.proofs.CodeLemmas.Puts.{put_at, put_other}
 use Rattle.batcher_core.proofs.InvariantLemmas.FinishTasks.{go_on}
 use Rattle.batcher_core.proofs.InvariantLemmas.ClaimTasks.{beyond_put}
 use Rattle.batcher_core.proofs.InvariantLemmas.TickSteps.{same_ticks}
-use Rattle.batcher_core.proofs.InvariantLemmas.Claim.{same_book}
+use Rattle.batcher_core.proofs.InvariantLemmas.JobSide.{same_book}
 use Rattle.batcher_core.proofs.InvariantLemmas.Leaf.{keep_stamp}
 use Rattle.batcher_core.proofs.InvariantLemmas.StatusRows.{not_out}
 

@@ -35,8 +35,10 @@ impl State {
         requires needs { Needs (job_of job.now) (state_of self.old) worker event }
         requires at_end { (n : ℕ) → event ≡ Claim n → (v : ℕ) → IsAtEnd n (ready_of self.old v) }
         ensures sizes { IfOk result (λ _. SameSizes self.old self.new) }
-        ensures event { IfOk result (λ _. Does (job_of job.now) (state_of self.old) worker event (state_of self.new)) }
-        ensures lists { IfOk result (λ _. ready_of self.new ≡ ready_after worker event (ready_of self.old)) }
+        ensures event { IfOk result
+            (λ _. Does (job_of job.now) (state_of self.old) worker event (state_of self.new)) }
+        ensures lists { IfOk result (λ _. ready_of self.new
+            ≡ ready_after worker event (ready_of self.old)) }
     {
         match event {
             Event::Claim(node) => self.claim(worker, node),

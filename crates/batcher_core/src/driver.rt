@@ -18,8 +18,10 @@ use std::alloc::{AllocError, Global};
 /// One turn of a worker. Where work is due, it is done here and the turn taken with it.
 pub(crate) fn take_turn(core: &mut Core, worker: u32) -> Result<Turn, AllocError>
     requires { worker < core.old.workers }
-    ensures job { (core.new.tree ≡ core.old.tree) × (core.new.acts ≡ core.old.acts) × (core.new.workers ≡ core.old.workers) }
-    ensures turn { IfOk result (λ _. IsTurn (job_in core.old) (state_in core.old) worker (state_in core.new)) }
+    ensures job { (core.new.tree ≡ core.old.tree) × (core.new.acts ≡ core.old.acts)
+        × (core.new.workers ≡ core.old.workers) }
+    ensures turn { IfOk result
+        (λ _. IsTurn (job_in core.old) (state_in core.old) worker (state_in core.new)) }
     ensures spent { IfOk result (λ _. core.old.spent ≡ false) }
 {
     match core.turn(worker, None)? {
@@ -31,8 +33,11 @@ pub(crate) fn take_turn(core: &mut Core, worker: u32) -> Result<Turn, AllocError
 /// Takes turns by the workers of the schedule until the schedule ends or the core is over.
 fn run_schedule(core: &mut Core, schedule: &[u32]) -> Result<(), AllocError>
     requires { AllByRecursion (λ worker. worker < core.old.workers) schedule.now }
-    ensures job { IfOk result (λ _. (core.new.tree ≡ core.old.tree) × (core.new.acts ≡ core.old.acts) × (core.new.workers ≡ core.old.workers)) }
-    ensures drives { IfOk result (λ _. (last : CoreState) → Drives (job_in core.old) (state_in core.new) [] 0 last → Drives (job_in core.old) (state_in core.old) schedule.now 0 last) }
+    ensures job { IfOk result (λ _. (core.new.tree ≡ core.old.tree)
+        × (core.new.acts ≡ core.old.acts) × (core.new.workers ≡ core.old.workers)) }
+    ensures drives { IfOk result (λ _. (last : CoreState)
+        → Drives (job_in core.old) (state_in core.new) [] 0 last
+        → Drives (job_in core.old) (state_in core.old) schedule.now 0 last) }
     ensures spent { IfOk result (λ _. core.new.spent ≡ false → core.old.spent ≡ false) }
 {
     for worker in schedule {
@@ -46,8 +51,10 @@ fn run_schedule(core: &mut Core, schedule: &[u32]) -> Result<(), AllocError>
 
 /// Takes turns by all workers round robin, beginning with worker 0, until the core is over.
 fn run_round_robin(core: &mut Core) -> Result<(), AllocError>
-    ensures job { IfOk result (λ _. (core.new.tree ≡ core.old.tree) × (core.new.acts ≡ core.old.acts) × (core.new.workers ≡ core.old.workers)) }
-    ensures drives { IfOk result (λ _. Drives (job_in core.old) (state_in core.old) [] 0 (state_in core.new)) }
+    ensures job { IfOk result (λ _. (core.new.tree ≡ core.old.tree)
+        × (core.new.acts ≡ core.old.acts) × (core.new.workers ≡ core.old.workers)) }
+    ensures drives { IfOk result
+        (λ _. Drives (job_in core.old) (state_in core.old) [] 0 (state_in core.new)) }
     ensures over { IfOk result (λ _. is_over_in core.new ≡ true) }
     ensures spent { IfOk result (λ _. core.old.spent ≡ false) }
 {
@@ -65,8 +72,10 @@ fn run_round_robin(core: &mut Core) -> Result<(), AllocError>
 /// Takes turns by the workers of the schedule, and then round robin, until the core is over.
 fn run(core: &mut Core, schedule: &[u32]) -> Result<(), AllocError>
     requires { AllByRecursion (λ worker. worker < core.old.workers) schedule.now }
-    ensures job { IfOk result (λ _. (core.new.tree ≡ core.old.tree) × (core.new.acts ≡ core.old.acts) × (core.new.workers ≡ core.old.workers)) }
-    ensures drives { IfOk result (λ _. Drives (job_in core.old) (state_in core.old) schedule.now 0 (state_in core.new)) }
+    ensures job { IfOk result (λ _. (core.new.tree ≡ core.old.tree)
+        × (core.new.acts ≡ core.old.acts) × (core.new.workers ≡ core.old.workers)) }
+    ensures drives { IfOk result
+        (λ _. Drives (job_in core.old) (state_in core.old) schedule.now 0 (state_in core.new)) }
     ensures over { IfOk result (λ _. is_over_in core.new ≡ true) }
     ensures spent { IfOk result (λ _. core.old.spent ≡ false) }
 {
@@ -79,8 +88,10 @@ fn run(core: &mut Core, schedule: &[u32]) -> Result<(), AllocError>
 /// over some worker has an event. A spent core gives an `Err`.
 pub fn drive(alloc: Global, core: Core, schedule: &[u32]) -> Result<Report, AllocError>
     requires { AllByRecursion (λ worker. worker < core.workers) schedule.now }
-    ensures driven { IfOk result (λ report. IsDrivenFrom (job_in core) (leaves core.tree) (state_in core) schedule.now report) }
-    ensures lawful { IfOk result (λ report. Lawful (record { shape = Some core.tree; acts = core.acts }) core.workers report) }
+    ensures driven { IfOk result
+        (λ report. IsDrivenFrom (job_in core) (leaves core.tree) (state_in core) schedule.now report) }
+    ensures lawful { IfOk result
+        (λ report. Lawful (record { shape = Some core.tree; acts = core.acts }) core.workers report) }
     ensures spent { IfOk result (λ _. core.spent ≡ false) }
 {
     let mut core = core;

@@ -42,10 +42,14 @@ pub(crate) fn rows_of(
     leaf_total: u32,
 ) -> Result<Vec<Row>, AllocError>
     requires few { leaf_total ≤ leaves plan.now }
-    requires ran { (leaf : ℕ) → leaf < leaf_total → HasRun (at nodes.now Waiting ((nodes_of plan.now).node_of leaf)) }
-    requires valued { (leaf : ℕ) → leaf < leaf_total → at values.now None ((nodes_of plan.now).node_of leaf) ≢ None }
-    ensures leaves { IfOk result (λ rows. map (λ row. row.leaf) rows.items ≡ range_with_len 0 leaf_total) }
-    ensures rows { IfOk result (λ rows. AllByRecursion (λ row. TellsLeaf (nodes_of plan.now).node_of (at nodes.now Waiting) (at values.now None) row) rows.items) }
+    requires ran { (leaf : ℕ) → leaf < leaf_total
+        → HasRun (at nodes.now Waiting ((nodes_of plan.now).node_of leaf)) }
+    requires valued { (leaf : ℕ) → leaf < leaf_total
+        → at values.now None ((nodes_of plan.now).node_of leaf) ≢ None }
+    ensures leaves { IfOk result (λ rows. map (λ row. row.leaf) rows.items
+        ≡ range_with_len 0 leaf_total) }
+    ensures rows { IfOk result (λ rows. AllByRecursion
+        (λ row. TellsLeaf (nodes_of plan.now).node_of (at nodes.now Waiting) (at values.now None) row) rows.items) }
 {
     let mut rows = Vec::with_capacity(alloc, leaf_total as usize)?;
     for leaf in 0..leaf_total {

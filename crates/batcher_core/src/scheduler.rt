@@ -68,8 +68,10 @@ impl Core {
         requires leaves { IsSome job.now.shape }
         requires some_workers { 0 < workers }
         requires few_workers { workers ≤ 32 }
-        ensures job { IfOk result (λ core. (Some core.tree ≡ job.now.shape) × (core.acts ≡ job.now.acts) × (core.workers ≡ workers)) }
-        ensures opening { IfOk result (λ core. (state_in core ≡ opening_core) × (core.spent ≡ false)) }
+        ensures job { IfOk result (λ core. (Some core.tree ≡ job.now.shape)
+            × (core.acts ≡ job.now.acts) × (core.workers ≡ workers)) }
+        ensures opening { IfOk result (λ core. (state_in core ≡ opening_core)
+            × (core.spent ≡ false)) }
     {
         plan_stands_for_tree();
         plan_has_sides();
@@ -102,7 +104,8 @@ impl Core {
     fn choice(&self, worker: u32, work: Option<u64>) -> Option<Event>
         requires unspent { self.now.spent ≡ false }
         requires worker_in { worker < self.now.workers }
-        requires work { (steps : ℕ) → due_in self.now worker ≡ Some steps → work ≡ Some (spin_of steps) }
+        requires work { (steps : ℕ) → due_in self.now worker ≡ Some steps
+            → work ≡ Some (spin_of steps) }
         ensures { result ≡ choice (job_in self.now) (state_in self.now) worker }
     {
         self.table.choose(&self.job, worker, work)
@@ -115,12 +118,16 @@ impl Core {
     /// Memory: at most one node in a list, or one batch.
     pub fn turn(&mut self, worker: u32, spun: Option<Spun>) -> Result<Turn, AllocError>
         requires worker_in { worker < self.old.workers }
-        requires work { IfSome spun (λ s. (steps : ℕ) → due_in self.old worker ≡ Some steps → s ≡ steps) }
-        ensures turn { IfOk result (λ t. t ≡ turn_answer (due_in self.old worker) spun (choice (job_in self.old) (state_in self.old) worker)) }
-        ensures event { IfOk result (λ t. IsTurnResult t (job_in self.old) (state_in self.old) worker (state_in self.new)) }
+        requires work { IfSome spun (λ s. (steps : ℕ) → due_in self.old worker ≡ Some steps
+            → s ≡ steps) }
+        ensures turn { IfOk result (λ t. t
+            ≡ turn_answer (due_in self.old worker) spun (choice (job_in self.old) (state_in self.old) worker)) }
+        ensures event { IfOk result
+            (λ t. IsTurnResult t (job_in self.old) (state_in self.old) worker (state_in self.new)) }
         ensures failed { IfErr result (λ _. self.new.spent ≡ true) }
         ensures spent { IfOk result (λ _. (self.old.spent ≡ false) × (self.new.spent ≡ false)) }
-        ensures job { (self.new.tree ≡ self.old.tree) × (self.new.acts ≡ self.old.acts) × (self.new.workers ≡ self.old.workers) }
+        ensures job { (self.new.tree ≡ self.old.tree) × (self.new.acts ≡ self.old.acts)
+            × (self.new.workers ≡ self.old.workers) }
     {
         if self.spent {
             return Err(AllocError);
@@ -169,7 +176,8 @@ impl Core {
 
     /// The invariant of what a core keeps that is not spent. It is for proofs, and does nothing.
     pub(crate) fn invariant_holds(&self)
-        ensures { self.now.spent ≡ false → RepInvariant self.now.tree self.now.acts self.now.workers self.now.table }
+        ensures { self.now.spent ≡ false
+            → RepInvariant self.now.tree self.now.acts self.now.workers self.now.table }
     {
         let _ = &self.spent;
     }
@@ -186,8 +194,10 @@ impl Core {
     /// The rows of the report of a core that is over.
     fn rows(&self, alloc: Global) -> Result<Vec<Row>, AllocError>
         requires { is_over_in self.now ≡ true }
-        ensures leaves { IfOk result (λ rows. map (λ row. row.leaf) rows.items ≡ range_with_len 0 (leaves self.now.tree)) }
-        ensures rows { IfOk result (λ rows. AllByRecursion (λ row. TellsLeaf (nodes_of self.now.tree).node_of (state_in self.now).state.node (state_in self.now).state.value row) rows.items) }
+        ensures leaves { IfOk result (λ rows. map (λ row. row.leaf) rows.items
+            ≡ range_with_len 0 (leaves self.now.tree)) }
+        ensures rows { IfOk result (λ rows. AllByRecursion
+            (λ row. TellsLeaf (nodes_of self.now.tree).node_of (state_in self.now).state.node (state_in self.now).state.value row) rows.items) }
     {
         plan_stands_for_tree();
         done_leaves_have_run();
@@ -204,8 +214,10 @@ impl Core {
     /// The report of a core that is over.
     pub fn report(self, alloc: Global) -> Result<Report, AllocError>
         requires { is_over_in self ≡ true }
-        ensures report { IfOk result (λ report. IsReportOf (job_in self) (leaves self.tree) (state_in self).state report) }
-        ensures lawful { IfOk result (λ report. Lawful (record { shape = Some self.tree; acts = self.acts }) self.workers report) }
+        ensures report { IfOk result
+            (λ report. IsReportOf (job_in self) (leaves self.tree) (state_in self).state report) }
+        ensures lawful { IfOk result
+            (λ report. Lawful (record { shape = Some self.tree; acts = self.acts }) self.workers report) }
     {
         plan_stands_for_tree();
         done_report_is_lawful();

@@ -37,7 +37,10 @@ impl State {
         requires status_in { worker < length self.old.statuses.items }
         requires call_in { worker < length self.old.calls.items }
         ensures sizes { SameSizes self.old self.new }
-        ensures event { state_of self.new ≡ record (state_of self.old) { status = put (state_of self.old).status worker Pending; call = put (state_of self.old).call worker Out } }
+        ensures event { state_of self.new ≡ record (state_of self.old) {
+          status = put (state_of self.old).status worker Pending;
+          call = put (state_of self.old).call worker Out;
+        } }
         ensures lists { ready_of self.new ≡ ready_of self.old }
     {
         self.statuses[worker as usize] = Status::Pending;
@@ -62,7 +65,11 @@ impl State {
         requires held { IsSome self.old.hold }
         requires room { IfSome self.old.hold (λ h. h.looks < 32) }
         ensures sizes { SameSizes self.old self.new }
-        ensures event { state_of self.new ≡ record (state_of self.old) { status = if status_pending ((state_of self.old).status other) then put (state_of self.old).status other Executing else (state_of self.old).status; hold = hold_looked (state_of self.old).hold (status_pending ((state_of self.old).status other)) other } }
+        ensures event { state_of self.new ≡ record (state_of self.old) {
+          status = if status_pending ((state_of self.old).status other)
+              then put (state_of self.old).status other Executing else (state_of self.old).status;
+          hold = hold_looked (state_of self.old).hold (status_pending ((state_of self.old).status other)) other;
+        } }
         ensures lists { ready_of self.new ≡ ready_of self.old }
     {
         let Some(hold) = self.hold else {
@@ -80,7 +87,10 @@ impl State {
         requires other_in { other < 32 }
         requires held { IsSome self.old.hold }
         ensures sizes { SameSizes self.old self.new }
-        ensures event { state_of self.new ≡ record (state_of self.old) { status = put (state_of self.old).status other (Served receipt); hold = hold_answered (state_of self.old).hold other } }
+        ensures event { state_of self.new ≡ record (state_of self.old) {
+          status = put (state_of self.old).status other (Served receipt);
+          hold = hold_answered (state_of self.old).hold other;
+        } }
         ensures lists { ready_of self.new ≡ ready_of self.old }
     {
         let Some(hold) = self.hold else {
@@ -106,7 +116,10 @@ impl State {
         requires status_in { worker < length self.old.statuses.items }
         requires call_in { worker < length self.old.calls.items }
         ensures sizes { SameSizes self.old self.new }
-        ensures event { state_of self.new ≡ record (state_of self.old) { status = put (state_of self.old).status worker Free; call = put (state_of self.old).call worker (Got receipt) } }
+        ensures event { state_of self.new ≡ record (state_of self.old) {
+          status = put (state_of self.old).status worker Free;
+          call = put (state_of self.old).call worker (Got receipt);
+        } }
         ensures lists { ready_of self.new ≡ ready_of self.old }
     {
         self.statuses[worker as usize] = Status::Free;

@@ -34,7 +34,10 @@ impl State {
         requires node_in { node < length self.old.nodes.items }
         requires at_ends { (v : ℕ) → IsAtEnd node (ready_of self.old v) }
         ensures sizes { SameSizes self.old self.new }
-        ensures event { state_of self.new ≡ record (state_of self.old) { node = put (state_of self.old).node node Taken; task = put (state_of self.old).task worker (Run node) } }
+        ensures event { state_of self.new ≡ record (state_of self.old) {
+          node = put (state_of self.old).node node Taken;
+          task = put (state_of self.old).task worker (Run node);
+        } }
         ensures lists { ready_of self.new ≡ λ v. without node (ready_of self.old v) }
     {
         self.ready.remove(node);
@@ -49,8 +52,12 @@ impl State {
         requires node_in { node < length self.old.nodes.items }
         requires ready_in { worker < length self.old.ready }
         ensures sizes { IfOk result (λ _. SameSizes self.old self.new) }
-        ensures event { IfOk result (λ _. state_of self.new ≡ record (state_of self.old) { node = put (state_of self.old).node node Ready; task = put (state_of self.old).task worker then }) }
-        ensures lists { IfOk result (λ _. ready_of self.new ≡ put (ready_of self.old) worker (ready_of self.old worker ++ node ∷ [])) }
+        ensures event { IfOk result (λ _. state_of self.new ≡ record (state_of self.old) {
+          node = put (state_of self.old).node node Ready;
+          task = put (state_of self.old).task worker then;
+        }) }
+        ensures lists { IfOk result (λ _. ready_of self.new
+            ≡ put (ready_of self.old) worker (ready_of self.old worker ++ node ∷ [])) }
     {
         self.ready.push(worker, node)?;
         self.nodes[node as usize] = Progress::Ready;
@@ -64,7 +71,10 @@ impl State {
         requires worker_in { worker < length self.old.tasks.items }
         requires room { self.old.tick + 1 < 2 ^ 64 }
         ensures sizes { SameSizes self.old self.new }
-        ensures event { state_of self.new ≡ record (state_of self.old) { tick = (state_of self.old).tick + 1; task = put (state_of self.old).task worker (Started node (state_of self.old).tick) } }
+        ensures event { state_of self.new ≡ record (state_of self.old) {
+          tick = (state_of self.old).tick + 1;
+          task = put (state_of self.old).task worker (Started node (state_of self.old).tick);
+        } }
         ensures lists { ready_of self.new ≡ ready_of self.old }
     {
         self.tasks[worker as usize] = Task::Started {
@@ -81,7 +91,11 @@ impl State {
         requires call_in { worker < length self.old.calls.items }
         requires node_in { node < length self.old.values.items }
         ensures sizes { SameSizes self.old self.new }
-        ensures event { state_of self.new ≡ record (state_of self.old) { value = put (state_of self.old).value node (Some value); call = put (state_of self.old).call worker NotCalled; task = put (state_of self.old).task worker (Kept node start) } }
+        ensures event { state_of self.new ≡ record (state_of self.old) {
+          value = put (state_of self.old).value node (Some value);
+          call = put (state_of self.old).call worker NotCalled;
+          task = put (state_of self.old).task worker (Kept node start);
+        } }
         ensures lists { ready_of self.new ≡ ready_of self.old }
     {
         self.values[node as usize] = Some(value);
@@ -95,7 +109,10 @@ impl State {
         requires worker_in { worker < length self.old.tasks.items }
         requires room { self.old.tick + 1 < 2 ^ 64 }
         ensures sizes { SameSizes self.old self.new }
-        ensures event { state_of self.new ≡ record (state_of self.old) { tick = (state_of self.old).tick + 1; task = put (state_of self.old).task worker (Ended node start (state_of self.old).tick) } }
+        ensures event { state_of self.new ≡ record (state_of self.old) {
+          tick = (state_of self.old).tick + 1;
+          task = put (state_of self.old).task worker (Ended node start (state_of self.old).tick);
+        } }
         ensures lists { ready_of self.new ≡ ready_of self.old }
     {
         self.tasks[worker as usize] = Task::Ended {
@@ -112,7 +129,10 @@ impl State {
         requires worker_in { worker < length self.old.tasks.items }
         requires node_in { node < length self.old.nodes.items }
         ensures sizes { SameSizes self.old self.new }
-        ensures event { state_of self.new ≡ record (state_of self.old) { node = put (state_of self.old).node node (Ran worker start end); task = put (state_of self.old).task worker (next_task node) } }
+        ensures event { state_of self.new ≡ record (state_of self.old) {
+          node = put (state_of self.old).node node (Ran worker start end);
+          task = put (state_of self.old).task worker (next_task node);
+        } }
         ensures lists { ready_of self.new ≡ ready_of self.old }
     {
         self.nodes[node as usize] = Progress::Ran { worker, start, end };
@@ -125,7 +145,10 @@ impl State {
         requires worker_in { worker < length self.old.tasks.items }
         requires node_in { node < length self.old.nodes.items }
         ensures sizes { SameSizes self.old self.new }
-        ensures event { state_of self.new ≡ record (state_of self.old) { node = put (state_of self.old).node node Done; task = put (state_of self.old).task worker (next_task node) } }
+        ensures event { state_of self.new ≡ record (state_of self.old) {
+          node = put (state_of self.old).node node Done;
+          task = put (state_of self.old).task worker (next_task node);
+        } }
         ensures lists { ready_of self.new ≡ ready_of self.old }
     {
         self.nodes[node as usize] = Progress::Done;
@@ -139,7 +162,10 @@ impl State {
         requires worker_in { worker < length self.old.tasks.items }
         requires node_in { node < length self.old.marks.items }
         ensures sizes { SameSizes self.old self.new }
-        ensures event { state_of self.new ≡ record (state_of self.old) { mark = put (state_of self.old).mark node mark; task = put (state_of self.old).task worker then } }
+        ensures event { state_of self.new ≡ record (state_of self.old) {
+          mark = put (state_of self.old).mark node mark;
+          task = put (state_of self.old).task worker then;
+        } }
         ensures lists { ready_of self.new ≡ ready_of self.old }
     {
         self.marks[node as usize] = mark;

@@ -194,7 +194,8 @@ impl ReadyLists {
     pub(crate) fn push(&mut self, worker: u32, node: u32) -> Result<(), AllocError>
         requires { worker < length self.old }
         ensures len { length self.new ≡ length self.old }
-        ensures lists { IfOk result (λ _. at self.new [] ≡ put (at self.old []) worker (at self.old [] worker ++ node ∷ [])) }
+        ensures lists { IfOk result (λ _. at self.new []
+            ≡ put (at self.old []) worker (at self.old [] worker ++ node ∷ [])) }
         ensures unchanged { IfErr result (λ _. at self.new [] ≡ at self.old []) }
     {
         let list = &mut self.lists[worker as usize];

@@ -11,6 +11,7 @@ use Rattle.batcher_core.proofs.Inductive.Ticks.{stamps}
 use Rattle.batcher_core.proofs.Inductive.Book.{booked_by, valued_by}
 use Rattle.batcher_core.proofs.Inductive.Parts.{InductiveParts}
 use Rattle.batcher_core.proofs.InvariantLemmas.NodeSteps.{finish_nodes}
+use Rattle.batcher_core.proofs.InvariantLemmas.Holders.{apart}
 use Rattle.batcher_core.proofs.InvariantLemmas.FinishTasks as leaves
 use Rattle.batcher_core.proofs.ReportLemmas.RootTasks as roots
 use Rattle.batcher_core.proofs.InvariantLemmas.JobSide.{still_ran, job_keeps}
@@ -147,7 +148,7 @@ module _ (job : CoreJob) (s : State) (w : ℕ) (laws : IsPlan job.plan) (below :
       (roots.finish_root job.plan s.node s.mark s.task h.holder w laws h.nodes h.tasks n n (Ran w t e) top fits.1 refl (rw mine refl) (inl refl)
       (λ q l r par. (roots.not_top job.plan s.node s.mark s.task h.holder w laws h.nodes h.tasks n q l top (ap parent_of (laws.left_of_par q l r par)), roots.not_top job.plan s.node s.mark s.task h.holder w laws h.nodes h.tasks n q r top (ap parent_of (laws.right_of_par q l r par))))
       (λ p side. absurd (roots.not_top job.plan s.node s.mark s.task h.holder w laws h.nodes h.tasks n p n top side refl))
-      (λ v other. leaves.apart job.plan s.node s.mark s.task h.holder w laws h.nodes h.tasks v n (rw mine refl) other)
+      (λ v other. apart s.task h.holder h.tasks.holders v w n (rw mine refl) other)
       (λ v m other side. absurd (leaf_side n fits.0.0 m fits.0.1 side)))
       (λ m. (same m).0) (λ m u leaf. (same m).1) (λ m. (same m).2) (still_ran s.node n (Ran w t e) (rw fits.1 refl))
 
@@ -195,7 +196,7 @@ module _ (job : CoreJob) (s : State) (w : ℕ) (laws : IsPlan job.plan) (below :
       (roots.finish_root job.plan s.node s.mark s.task h.holder w laws h.nodes h.tasks p p Done top taken refl (rw mine refl) (inl refl)
       (λ q k m par. (roots.not_top job.plan s.node s.mark s.task h.holder w laws h.nodes h.tasks p q k top (ap parent_of (laws.left_of_par q k m par)), roots.not_top job.plan s.node s.mark s.task h.holder w laws h.nodes h.tasks p q m top (ap parent_of (laws.right_of_par q k m par))))
       (λ q side. absurd (roots.not_top job.plan s.node s.mark s.task h.holder w laws h.nodes h.tasks p q p top side refl))
-      (λ v other. leaves.apart job.plan s.node s.mark s.task h.holder w laws h.nodes h.tasks v p (rw mine refl) other)
+      (λ v other. apart s.task h.holder h.tasks.holders v w p (rw mine refl) other)
       (λ v m other side name. side_unheld h.holder l r m v (leaves.par_side job.plan s.node s.mark s.task h.holder w laws h.nodes h.tasks p l r m needs.2 side) free_l free_r (h.tasks.holders.named v m name)))
       (λ m. (same m).0) (λ m u leaf. (same m).1) (λ m. (same m).2) (still_ran s.node p Done (rw taken refl))
 

@@ -5,7 +5,7 @@ use Rattle.batcher_core.proofs.Words.{Kind, LeafNode, SeqNode, ParNode, Move, Ro
 use Rattle.batcher_core.specs.Invariant.Tasks.{TaskFits}
 use Rattle.batcher_core.proofs.Inductive.Nodes.{InductiveNodes, passed_if, LeftAlone, InductiveTasks}
 use Rattle.batcher_core.proofs.CodeLemmas.Puts.{put_at, put_each}
-use Rattle.batcher_core.proofs.InvariantLemmas.Holders.{keep_task, drop_task, move_task}
+use Rattle.batcher_core.proofs.InvariantLemmas.Holders.{apart, keep_task, drop_task, move_task}
 use Rattle.batcher_core.proofs.InvariantLemmas.TaskFrames.{finish_task, arrive_task}
 
 -- of a side that is counted nobody is the holder
@@ -67,10 +67,6 @@ par_busy plan node mark p l r par side done_l done_r taken low t fits name = gri
 
 module _ (plan : Nodes) (node : ℕ → Progress) (mark : ℕ → ℕ) (task : ℕ → Task) (holder : ℕ → Option ℕ) (w : ℕ)
     (laws : IsPlan plan) (nodes : InductiveNodes plan node) (h : InductiveTasks plan node mark task holder) where
-  -- two workers hold no one node
-  pub apart : (v n : ℕ) → names (task w) ≡ Some n → v ≢ w → names (task v) ≢ Some n
-  apart v n mine other e = grind (arith, h.holders.named v n e, h.holders.named w n mine)
-
   -- the parent of a taken node is taken
   parent_taken : (p n : ℕ) → IsSide plan p n → node n ≡ Taken → node p ≡ Taken
   parent_taken p n side taken = grind (arith, nodes.below_waiting p n side, nodes.below_ready p n side, nodes.below_done p n side)
@@ -143,7 +139,7 @@ module _ (plan : Nodes) (node : ℕ → Progress) (mark : ℕ → ℕ) (task : �
         holders = keep_task task holder w (Whole n) h.holders (grind arith);
         fits = put_each (TaskFits plan (put node n (Ran w s e)) mark) task w (Whole n)
             (whole n (Ran w s e) taken refl has_parent)
-            (λ v other. finish_task plan node mark n (Ran w s e) laws taken refl (task v) (apart v n (grind arith) other)
+            (λ v other. finish_task plan node mark n (Ran w s e) laws taken refl (task v) (apart task holder h.holders v w n (grind arith) other)
             (λ m side. absurd (leaf_side n u m leaf side)) (h.fits v));
         alone = λ q t nobody. finish_alone node mark holder n (Ran w s e) (plan.kind q) q refl (grind arith) (h.alone q (grind (arith, nat_tests)) nobody);
         marks = λ q k m k'. grind (arith, nat_tests, h.marks q k m k');
@@ -170,7 +166,7 @@ module _ (plan : Nodes) (node : ℕ → Progress) (mark : ℕ → ℕ) (task : �
       let which : HasSide (Some (SeqNode l r)) m = rw seq at (laws.has_side p m side) in
       elim which [
         | inl e ↦ whole_left plan node mark p l r seq (rw e at side) done_l done_r (task v) fits (rw e at name)
-        | inr e ↦ apart v r (rw mine refl) other (rw e at name)
+        | inr e ↦ apart task holder h.holders v w r (rw mine refl) other (rw e at name)
       ]
 
   -- a Seq whose right is whole is done
@@ -217,7 +213,7 @@ module _ (plan : Nodes) (node : ℕ → Progress) (mark : ℕ → ℕ) (task : �
         holders = keep_task task holder w (Whole p) h.holders (grind arith);
         fits = put_each (TaskFits plan (put node p Done) mark) task w (Whole p)
             (whole p Done taken refl has_parent)
-            (λ v other. finish_task plan node mark p Done laws taken refl (task v) (apart v p (rw mine refl) other)
+            (λ v other. finish_task plan node mark p Done laws taken refl (task v) (apart task holder h.holders v w p (rw mine refl) other)
             (λ m side name. grind (arith, h.holders.named v m name, par_side p l r m par side)) (h.fits v));
         alone = λ q t nobody. finish_alone node mark holder p Done (plan.kind q) q refl (grind arith) (h.alone q (grind (arith, nat_tests)) nobody);
         marks = λ q k m k'. grind (arith, nat_tests, h.marks q k m k');

@@ -1,8 +1,13 @@
 -- The holders of nodes, as a worker's task changes.
-use Rattle.std.proofs.Common.{ℕ, ◌≡◌, Option, Some, None, arith}
+use Rattle.std.proofs.Common.{ℕ, ◌≡◌, ◌≢◌, Option, Some, None, arith}
 use Rattle.std.proofs.lemmas.Bool.Decides.{nat_tests}
 use Rattle.batcher_core.proofs.Words.{Task, put, names}
 use Rattle.batcher_core.proofs.Inductive.Nodes.{HoldersFit}
+
+-- two workers hold no one node
+pub apart : (task : ℕ → Task) (holder : ℕ → Option ℕ) → HoldersFit task holder
+    → (v w n : ℕ) → names (task w) ≡ Some n → v ≢ w → names (task v) ≢ Some n
+apart task holder h v w n mine other e = grind (arith, h.named v n e, h.named w n mine)
 
 -- a worker takes a task
 pub take_task : (task : ℕ → Task) (holder : ℕ → Option ℕ) (w n : ℕ) (t : Task) → HoldersFit task holder

@@ -6,7 +6,7 @@ use Rattle.batcher_core.proofs.Words.{Kind, SeqNode, ParNode, OpenSecond, Finish
 use Rattle.batcher_core.specs.Invariant.Tasks.{TaskFits}
 use Rattle.batcher_core.proofs.Inductive.Nodes.{InductiveNodes, passed_if, LeftAlone, InductiveTasks}
 use Rattle.batcher_core.proofs.CodeLemmas.Puts.{put_each}
-use Rattle.batcher_core.proofs.InvariantLemmas.Holders.{keep_task, drop_task}
+use Rattle.batcher_core.proofs.InvariantLemmas.Holders.{apart, keep_task, drop_task}
 use Rattle.batcher_core.proofs.InvariantLemmas.TaskFrames.{open_task}
 
 -- a series has one left side
@@ -24,10 +24,6 @@ passed_most b o = grind arith
 
 module _ (plan : Nodes) (node : ℕ → Progress) (mark : ℕ → ℕ) (task : ℕ → Task) (holder : ℕ → Option ℕ) (w : ℕ)
     (laws : IsPlan plan) (nodes : InductiveNodes plan node) (h : InductiveTasks plan node mark task holder) where
-  -- two workers hold no one node
-  pub apart : (v n : ℕ) → names (task w) ≡ Some n → v ≢ w → names (task v) ≢ Some n
-  apart v n mine other e = grind (arith, h.holders.named v n e, h.holders.named w n mine)
-
   -- no task names a Seq whose left is done, while it is taken
   pub busy : (t : Task) (p l r : ℕ) → plan.kind p ≡ Some (SeqNode l r) → IsSide plan p l → node p ≡ Taken → node l ≢ Waiting → TaskFits plan node mark t → names t ≢ Some p
   busy t p l r seq side taken there fits name = grind arith
@@ -47,7 +43,7 @@ module _ (plan : Nodes) (node : ℕ → Progress) (mark : ℕ → ℕ) (task : �
         holders = keep_task task holder w (Half p) h.holders (grind arith);
         fits = put_each (TaskFits plan (put node r Ready) mark) task w (Half p)
             (l, r, par, grind (arith, nat_tests), grind (arith, nat_tests), grind (arith, nat_tests))
-            (λ v other. open_task plan node mark p r laws.left_of_par laws.right_of_seq side waits (task v) (apart v p (grind arith) other)
+            (λ v other. open_task plan node mark p r laws.left_of_par laws.right_of_seq side waits (task v) (apart task holder h.holders v w p (grind arith) other)
             (λ k seq. grind arith) (h.fits v));
         alone = λ q taken nobody. grind (arith, nat_tests, h.alone q);
         marks = λ q k m e. grind (arith, nat_tests, h.marks q k m e);
@@ -70,7 +66,7 @@ module _ (plan : Nodes) (node : ℕ → Progress) (mark : ℕ → ℕ) (task : �
       record {
         holders = drop_task task holder w p Idle h.holders (grind arith) refl;
         fits = put_each (TaskFits plan (put node l Ready) mark) task w Idle tt
-            (λ v other. open_task plan node mark p l laws.left_of_par laws.right_of_seq side waits (task v) (apart v p (grind arith) other)
+            (λ v other. open_task plan node mark p l laws.left_of_par laws.right_of_seq side waits (task v) (apart task holder h.holders v w p (grind arith) other)
             (λ k seq. grind arith) (h.fits v));
         alone = λ q taken nobody. elim (cases_eq q p) [
           | inl e ↦ rw e (rw par (grind (arith, nat_tests)))
@@ -95,7 +91,7 @@ module _ (plan : Nodes) (node : ℕ → Progress) (mark : ℕ → ℕ) (task : �
       record {
         holders = drop_task task holder w p Idle h.holders (grind arith) refl;
         fits = put_each (TaskFits plan (put node l Ready) mark) task w Idle tt
-            (λ v other. open_task plan node mark p l laws.left_of_par laws.right_of_seq side waits (task v) (apart v p (grind arith) other)
+            (λ v other. open_task plan node mark p l laws.left_of_par laws.right_of_seq side waits (task v) (apart task holder h.holders v w p (grind arith) other)
             (λ k e. grind arith) (h.fits v));
         alone = λ q taken nobody. grind (arith, nat_tests, h.alone q);
         marks = λ q k m e. grind (arith, nat_tests, h.marks q k m e);
@@ -119,7 +115,7 @@ module _ (plan : Nodes) (node : ℕ → Progress) (mark : ℕ → ℕ) (task : �
         fits = put_each (TaskFits plan (put node r Ready) mark) task w Idle tt
             (λ v other. open_task plan node mark p r laws.left_of_par laws.right_of_seq side_r waits (task v)
             (busy (task v) p l r seq side taken_p (grind arith) (h.fits v))
-            (λ k e. rw (seq_left plan seq e) at (apart v l (grind arith) other)) (h.fits v));
+            (λ k e. rw (seq_left plan seq e) at (apart task holder h.holders v w l (grind arith) other)) (h.fits v));
         alone = λ q taken nobody. grind (arith, nat_tests, h.alone q);
         marks = λ q k m e. grind (arith, nat_tests, h.marks q k m e, laws.left_of_par q k m e, laws.right_of_par q k m e);
       }

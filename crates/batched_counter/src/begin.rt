@@ -22,7 +22,7 @@ fn addend_of(op: Op) -> u32
 fn addends_of(alloc: Global, calls: &[Call]) -> Result<Vec<u32>, AllocError>
     ensures { IfOk result (λ v. v.items ≡ addends calls.now) }
 {
-    let mut all = Vec::new(alloc);
+    let mut all = Vec::with_capacity(alloc, calls.len())?;
     for call in calls {
         all.push(addend_of(call.op))?;
     }
@@ -37,7 +37,7 @@ pub(crate) fn pieces_of(alloc: Global, calls: &[Call]) -> Result<Vec<Piece>, All
     ensures count { IfOk result (λ v. (1 ≤ length v.items) × (length v.items ≤ 16)) }
 {
     let size = (calls.len() - 1) / 16 + 1;
-    let mut pieces = Vec::new(alloc);
+    let mut pieces = Vec::with_capacity(alloc, calls.len().min(16))?;
     let mut at = 0;
     'cuts: for _ in 0..16u32 {
         if at < calls.len() {

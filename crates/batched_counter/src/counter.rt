@@ -65,6 +65,7 @@ impl Batched for Counter {
         let pieces = pieces_of(alloc, calls)?;
         let rest = Rest {
             number: self.number,
+            calls: calls.len(),
         };
         Ok((rest, pieces))
     }
@@ -86,7 +87,7 @@ impl Batched for Counter {
             → AllMeet Meets o.ins outs.items
             → of_counter p.0 ≡ after_all (of_counter o.before) o.calls) }
     {
-        let (number, replies) = join_pieces(alloc, rest.number, &outs)?;
+        let (number, replies) = join_pieces(alloc, rest.number, rest.calls, &outs)?;
         Ok((Counter { number }, replies))
     }
 }

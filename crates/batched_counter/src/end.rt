@@ -18,17 +18,18 @@ fn push_numbers(replies: &mut Vec<Reply>, base: u64, prefixes: &[u64]) -> Result
     Ok(())
 }
 
-/// The number after a batch, and the replies to it.
+/// The number after a batch, and the replies to it. Room for `calls` replies is taken at once.
 pub(crate) fn join_pieces(
     alloc: Global,
     number: u64,
+    calls: usize,
     outs: &[Served],
 ) -> Result<(u64, Vec<Reply>), AllocError>
     requires { CanJoin number outs.now }
     ensures number { IfOk result (λ p. p.0 ≡ number_after number outs.now) }
     ensures replies { IfOk result (λ p. p.1.items ≡ all_replies number outs.now) }
 {
-    let mut replies = Vec::new(alloc);
+    let mut replies = Vec::with_capacity(alloc, calls)?;
     let mut base = number;
     for out in outs {
         push_numbers(&mut replies, base, &out.prefixes)?;

@@ -16,8 +16,10 @@ pub struct Served {
     pub total: u64,
 }
 
-/// What is kept of a counter while the pieces of a batch are summed: the number before the batch.
+/// What is kept of a counter while the pieces of a batch are summed: the number before the batch, and how many
+/// calls the batch has, which nothing but the room for the replies depends on.
 #[derive(Drop)]
 pub struct Rest {
     pub number: u64,
+    pub calls: usize,
 }

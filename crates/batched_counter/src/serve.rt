@@ -11,7 +11,7 @@ pub(crate) fn serve_piece(alloc: Global, addends: &[u32]) -> Result<Served, Allo
     ensures prefixes { IfOk result (λ s. s.prefixes.items ≡ sums_from 0 addends.now) }
     ensures total { IfOk result (λ s. s.total ≡ total addends.now) }
 {
-    let mut prefixes = Vec::new(alloc);
+    let mut prefixes = Vec::with_capacity(alloc, addends.len())?;
     let mut sum: u64 = 0;
     for addend in addends {
         sum += u64::from(*addend);

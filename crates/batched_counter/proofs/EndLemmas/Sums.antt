@@ -1,5 +1,6 @@
 -- What the outs of the pieces come to, as sums of all addends.
-use Rattle.std.proofs.Common.{◌≡◌, ℕ, ◌+◌, ◌<◌, ◌^◌, List, [], ◌∷◌, ◌++◌, refl, sym, ap, arith}
+use Rattle.std.proofs.Common.{◌≡◌, ℕ, ◌+◌, ◌<◌, ◌^◌, List, [], ◌∷◌, ◌++◌, length, drop, get_or, refl, sym, ap, subst, ◌∙◌, arith}
+use Rattle.std.proofs.lemmas.List.{drop_more}
 use Rattle.std.specs.List.{AllByRecursion}
 use Rattle.seq_objects.specs.declared.reply.Reply.TheVariants.{Number}
 use Rattle.seq_objects.specs.Pieces.{AllMeet}
@@ -60,3 +61,11 @@ bounded_all base (piece ∷ ins) [] m h = absurd m
 bounded_all base (piece ∷ ins) (out ∷ outs) m h =
     let t = total_append piece.addends.items (flat (addends_in ins)) in
     rw (m.0.prefixes, m.0.total) (sums_bounded base 0 (2 ^ 64) piece.addends.items (omega arith), omega arith, bounded_all (base + total piece.addends.items) ins outs m.1 (omega arith))
+
+-- the numbers of the next of the outs fit
+pub next_fits : (base i : ℕ) (outs : List Served) (out : Served) → i < length outs
+    → out ≡ get_or outs i out → CanJoin base (drop i outs)
+    → AllByRecursion (λ prefix. base + prefix < 2 ^ 64) out.prefixes.items
+next_fits base i outs out less is fits =
+    let cut : drop i outs ≡ out ∷ drop (i + 1) outs = drop_more outs i out less ∙ ap (λ o. o ∷ drop (i + 1) outs) (sym is) in
+    (subst (CanJoin base) cut fits).0

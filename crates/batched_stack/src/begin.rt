@@ -37,11 +37,11 @@ fn pops_in(op: Op) -> usize
     }
 }
 
-/// The items that the pushes of a batch put on the stack.
-pub(crate) fn pushes_of(alloc: Global, calls: &[Call]) -> Result<Vec<u32>, AllocError>
+/// The items that the pushes of a batch put on the stack. Room is taken for all calls but `pops` of them.
+pub(crate) fn pushes_of(alloc: Global, calls: &[Call], pops: usize) -> Result<Vec<u32>, AllocError>
     ensures { IfOk result (λ v. v.items ≡ pushes_of calls.now) }
 {
-    let mut items = Vec::new(alloc);
+    let mut items = Vec::with_capacity(alloc, calls.len().saturating_sub(pops))?;
     for call in calls {
         if let Some(item) = item_in(call.op) {
             items.push(item)?;
@@ -66,7 +66,7 @@ fn each_sixteenth(alloc: Global, items: &[u32], first: usize) -> Result<Vec<u32>
     requires { first < 16 }
     ensures { IfOk result (λ v. v.items ≡ stripe first items.now) }
 {
-    let mut found = Vec::new(alloc);
+    let mut found = Vec::with_capacity(alloc, items.len().saturating_sub(first).div_ceil(16))?;
     let mut at = first;
     while at < items.len() {
         found.push(items[at])?;
@@ -102,11 +102,12 @@ fn pops_of_stripe(number: usize, total: usize, pops: usize) -> usize
     length_of(number, total) - length_of(number, total.saturating_sub(pops))
 }
 
-/// Whether there is a push or a pop.
-fn has_calls(pushes: &[u32], pops: usize) -> bool
-    ensures { result ≡ nat_lt 0 (length pushes.now + pops) }
+/// Whether a stripe has a push, of which `first` is the first one, or a pop.
+fn has_calls(first: usize, pushes: &[u32], pops: usize) -> bool
+    requires { first < 16 }
+    ensures { result ≡ nat_lt 0 (stripe_length first (length pushes.now) + pops) }
 {
-    !pushes.is_empty() || pops > 0
+    first < pushes.len() || pops > 0
 }
 
 /// Takes a stripe out, and gives it to a piece with its calls.
@@ -154,11 +155,12 @@ fn cut_called(
         → IsSame stripes.items p.0.items j) }
 {
     let mut stripes = stripes;
-    let mut pieces = Vec::new(alloc);
+    let mut pieces = Vec::with_capacity(alloc, pushes.len().saturating_add(pops).min(16))?;
     for number in 0..16usize {
-        let mine = each_sixteenth(alloc, pushes, first_push(number, count))?;
+        let first = first_push(number, count);
         let taken = pops_of_stripe(number, count + pushes.len(), pops);
-        if has_calls(&mine, taken) {
+        if has_calls(first, pushes, taken) {
+            let mine = each_sixteenth(alloc, pushes, first)?;
             add_piece(&mut stripes, &mut pieces, alloc, number, mine, taken)?;
         }
     }

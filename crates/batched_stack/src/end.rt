@@ -9,22 +9,25 @@ use crate::stripe::Stripe;
 use seq_objects::Reply;
 use std::alloc::{AllocError, Global};
 
-/// As many empty vectors as there are stripes.
-fn empty_vectors(alloc: Global) -> Result<Vec<Vec<u32>>, AllocError>
+/// As many empty vectors as there are stripes, in memory that is used again.
+fn empty_vectors(alloc: Global, memory: Vec<Vec<u32>>) -> Result<Vec<Vec<u32>>, AllocError>
     ensures { IfOk result (λ v. map (λ items. items.items) v.items ≡ replicate 16 []) }
 {
-    let mut vectors = Vec::new(alloc);
+    let mut vectors = memory;
+    vectors.clear();
     for _ in 0..16u32 {
         vectors.push(Vec::new(alloc))?;
     }
     Ok(vectors)
 }
 
-/// Puts each stripe that a piece had back in its place, and gives the items that were popped from each stripe.
+/// Puts each stripe that a piece had back in its place, and gives the items that were popped from each stripe, in
+/// memory that is used again.
 pub(crate) fn put_back(
     alloc: Global,
     stripes: Vec<Stripe>,
     outs: Vec<Served>,
+    memory: Vec<Vec<u32>>,
 ) -> Result<(Vec<Stripe>, Vec<Vec<u32>>), AllocError>
     requires { length stripes.items ≡ 16 }
     ensures sixteen { IfOk result (λ p. length p.0.items ≡ 16) }
@@ -34,7 +37,7 @@ pub(crate) fn put_back(
     ensures popped { IfOk result (λ p. map (λ items. items.items) p.1.items ≡ with_outs (λ out. out.popped.items) (replicate 16 []) outs.items) }
 {
     let mut stripes = stripes;
-    let mut popped = empty_vectors(alloc)?;
+    let mut popped = empty_vectors(alloc, memory)?;
     for out in outs {
         let Served {
             number,
@@ -47,11 +50,12 @@ pub(crate) fn put_back(
     Ok((stripes, popped))
 }
 
-/// The rooms of the stripes.
-pub(crate) fn rooms_of(alloc: Global, stripes: &[Stripe]) -> Result<Vec<u64>, AllocError>
+/// The rooms of the stripes, in memory that is used again.
+pub(crate) fn rooms_of(memory: Vec<u64>, stripes: &[Stripe]) -> Result<Vec<u64>, AllocError>
     ensures { IfOk result (λ v. v.items ≡ rooms_in stripes.now) }
 {
-    let mut rooms = Vec::new(alloc);
+    let mut rooms = memory;
+    rooms.clear();
     for stripe in stripes {
         rooms.push(stripe.room)?;
     }
@@ -117,7 +121,7 @@ pub(crate) fn replies_of(
     requires found { total - left ≤ pops }
     ensures { IfOk result (λ v. v.items ≡ stack_replies (map (λ items. items.items) popped.now) total left pushes pops) }
 {
-    let mut replies = Vec::new(alloc);
+    let mut replies = Vec::with_capacity(alloc, pushes.saturating_add(pops))?;
     push_same(&mut replies, Reply::Unit, pushes)?;
     push_numbers(&mut replies, popped, total, left)?;
     push_same(&mut replies, Reply::Empty, pops - (total - left))?;

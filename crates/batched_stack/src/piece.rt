@@ -26,11 +26,14 @@ pub struct Served {
     ghost low: { number < 16 },
 }
 
-/// What is kept of a stack while its pieces are worked on: the stripes that no piece has, and how many items
-/// the stack had and how many pushes and pops the batch has.
+/// What is kept of a stack while its pieces are worked on: the stripes that no piece has, how many items the stack
+/// had, and how many pushes and pops the batch has. The rooms and the popped items are those that the batch before
+/// left: memory that is used again.
 #[derive(Drop)]
 pub struct Rest {
     pub stripes: Vec<Stripe>,
+    pub rooms: Vec<u64>,
+    pub popped: Vec<Vec<u32>>,
     pub count: usize,
     pub pushes: usize,
     pub pops: usize,

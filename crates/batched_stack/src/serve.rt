@@ -33,7 +33,7 @@ pub(crate) fn serve_piece(alloc: Global, piece: Piece) -> Result<Served, AllocEr
         pops,
     } = piece;
     let Stripe { mut items, room } = stripe;
-    let mut popped = Vec::new(alloc);
+    let mut popped = Vec::with_capacity(alloc, pops)?;
     let again = pops.min(pushes.len());
     take_newest(&mut pushes, again, &mut popped)?;
     take_newest(&mut items, pops - again, &mut popped)?;

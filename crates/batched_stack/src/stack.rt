@@ -20,11 +20,13 @@ use seq_objects::{Batched, Call, Reply};
 use std::alloc::{AllocError, Global};
 use std::marker::Model;
 
-/// A stack in 16 stripes. Contracts see its items, the last one the top, and the rooms of its stripes.
+/// A stack in 16 stripes. Contracts see its items, the last one the top, and the rooms of its stripes. What the
+/// last batch popped is kept as memory for the next.
 #[derive(Drop)]
 pub struct Stack {
     stripes: Vec<Stripe>,
     rooms: Vec<u64>,
+    popped: Vec<Vec<u32>>,
     count: usize,
 }
 
@@ -47,7 +49,7 @@ const TOO_MANY: usize = 1 << 62;
 fn empty_stripes(alloc: Global) -> Result<Vec<Stripe>, AllocError>
     ensures { IfOk result (λ v. AreEmpty v.items) }
 {
-    let mut stripes = Vec::new(alloc);
+    let mut stripes = Vec::with_capacity(alloc, 16)?;
     for _ in 0..16u32 {
         stripes.push(empty_stripe(alloc)?)?;
     }
@@ -61,10 +63,11 @@ impl Stack {
         ensures rooms { IfOk result (λ s. s.rooms ≡ first_rooms) }
     {
         let stripes = empty_stripes(alloc)?;
-        let rooms = rooms_of(alloc, &stripes)?;
+        let rooms = rooms_of(Vec::with_capacity(alloc, 16)?, &stripes)?;
         Ok(Stack {
             stripes,
             rooms,
+            popped: Vec::with_capacity(alloc, 16)?,
             count: 0,
         })
     }
@@ -100,11 +103,12 @@ impl Batched for Stack {
     ghost is_context_of = { IsContextOf };
 
     fn begin(self, alloc: Global, calls: &[Call]) -> Result<(Rest, Vec<Piece>), AllocError> {
-        let items = pushes_of(alloc, calls)?;
         let pops = pops_of(calls);
+        let items = pushes_of(alloc, calls, pops)?;
         let Stack {
             stripes,
-            rooms: _,
+            rooms,
+            popped,
             count,
         } = self;
         if count >= TOO_MANY || items.len() >= TOO_MANY {
@@ -113,6 +117,8 @@ impl Batched for Stack {
         let (stripes, pieces) = cut_pieces(alloc, stripes, count, &items, pops)?;
         let rest = Rest {
             stripes,
+            rooms,
+            popped,
             count,
             pushes: items.len(),
             pops,
@@ -139,18 +145,21 @@ impl Batched for Stack {
     {
         let Rest {
             stripes,
+            rooms: old_rooms,
+            popped: old_popped,
             count,
             pushes,
             pops,
         } = rest;
         let total = count + pushes;
         let left = total.saturating_sub(pops);
-        let (stripes, popped) = put_back(alloc, stripes, outs)?;
-        let rooms = rooms_of(alloc, &stripes)?;
+        let (stripes, popped) = put_back(alloc, stripes, outs, old_popped)?;
+        let rooms = rooms_of(old_rooms, &stripes)?;
         let replies = replies_of(alloc, &popped, total, left, pushes, pops)?;
         let stack = Stack {
             stripes,
             rooms,
+            popped,
             count: left,
         };
         Ok((stack, replies))

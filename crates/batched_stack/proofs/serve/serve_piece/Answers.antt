@@ -12,6 +12,6 @@ returns c =
     record {
       number = refl;
       items = rw (c.in_ok-stripe.ensures.items, c.deref.ensures.value, c.in_ok-take_newest-2.ensures.items, c.in_ok-take_newest.ensures.items, again) (taken_items items pushes c.args.piece.pops c.args.piece.few);
-      popped = rw (c.in_ok-take_newest-2.ensures.popped, c.in_ok-take_newest.ensures.popped, c.new-popped.ensures.items, again) (taken_popped items pushes c.args.piece.pops c.args.piece.few);
+      popped = rw (c.in_ok-take_newest-2.ensures.popped, c.in_ok-take_newest.ensures.popped, c.in_ok-popped.ensures.items, again) (taken_popped items pushes c.args.piece.pops c.args.piece.few);
       room = subst (λ (n : ℕ). IsNext c.args.piece.stripe.room n c.in_ok-stripe.stripe.room) (sym long) c.in_ok-stripe.ensures.room;
     }

@@ -39,7 +39,7 @@ returns-clause-remembers c =
     let numbers : numbers_in pieces ≡ piece_numbers count (pushes_of calls) (pops_of calls) = c.in_ok-stripes.ensures.numbers ∙ ap (λ p. piece_numbers count p c.pops_of-pops.result) puts ∙ ap (λ k. piece_numbers count (pushes_of calls) k) takes in
     let each : AllByRecursion (IsCutOf stripes count (pushes_of calls) (pops_of calls)) pieces = subst (λ (k : ℕ). AllByRecursion (IsCutOf stripes count (pushes_of calls) k) pieces) takes (subst (λ (p : List ℕ). AllByRecursion (IsCutOf stripes count p c.pops_of-pops.result) pieces) puts c.in_ok-stripes.ensures.each) in
     let pushes : c.len-2.result ≡ length c.in_ok-items.items.items = search rules in
-    let rest : Rest = record { stripes = c.in_ok-stripes.stripes; count = count; pushes = c.len-2.result; pops = c.pops_of-pops.result } in
+    let rest : Rest = record { stripes = c.in_ok-stripes.stripes; rooms = c.self.inside.rooms; popped = c.self.inside.popped; count = count; pushes = c.len-2.result; pops = c.pops_of-pops.result } in
     let fits : count + c.len-2.result < 2 ^ 63 = search rules in
     subst (λ (v : StackView). IsContextOf rest (record { before = v; calls = calls; ins = pieces })) c.self.view_is
     (remembered stripes c.self.inside.rooms.items rest calls pieces c.self.invariant c.requires.batch c.requires.may numbers each (pushes ∙ ap length c.in_ok-items.ensures) takes fits c.in_ok-stripes.ensures.sixteen c.in_ok-stripes.ensures.kept)

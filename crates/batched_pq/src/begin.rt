@@ -29,11 +29,15 @@ fn takes_in(op: Op) -> usize
     }
 }
 
-/// The items that are inserted, in the order of the calls.
-pub(crate) fn inserts_of(alloc: Global, calls: &[Call]) -> Result<Vec<u32>, AllocError>
+/// The items that are inserted, in the order of the calls. Room is taken for all calls but `takes` of them.
+pub(crate) fn inserts_of(
+    alloc: Global,
+    calls: &[Call],
+    takes: usize,
+) -> Result<Vec<u32>, AllocError>
     ensures { IfOk result (λ v. v.items ≡ inserts_of calls.now) }
 {
-    let mut inserts = Vec::with_capacity(alloc, calls.len())?;
+    let mut inserts = Vec::with_capacity(alloc, calls.len().saturating_sub(takes))?;
     for call in calls {
         if let Some(item) = item_of(call.op) {
             inserts.push(item)?;
@@ -53,12 +57,12 @@ pub(crate) fn takes_of(calls: &[Call]) -> usize
     takes
 }
 
-/// The inserts of one shard.
+/// The inserts of one shard. Where it has none, no memory is taken.
 fn inserts_for(alloc: Global, number: usize, inserts: &[u32]) -> Result<Vec<u32>, AllocError>
     requires { number < 8 }
     ensures { IfOk result (λ v. v.items ≡ inserts_for number 0 inserts.now) }
 {
-    let mut own = Vec::with_capacity(alloc, inserts.len().div_ceil(8))?;
+    let mut own = Vec::with_capacity(alloc, inserts.len().saturating_sub(number).div_ceil(8))?;
     let mut i = number;
     while i < inserts.len() {
         own.push(inserts[i])?;

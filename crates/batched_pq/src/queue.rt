@@ -38,7 +38,7 @@ impl Queue {
     pub fn new(alloc: Global) -> Result<Queue, AllocError>
         ensures { IfOk result (λ q. q ≡ []) }
     {
-        let mut shards = Vec::new(alloc);
+        let mut shards = Vec::with_capacity(alloc, 8)?;
         for _ in 0..8u32 {
             shards.push(Shard::new(alloc))?;
         }
@@ -69,8 +69,8 @@ impl Batched for Queue {
 
     fn begin(self, alloc: Global, calls: &[Call]) -> Result<(Rest, Vec<Piece>), AllocError> {
         let Queue { shards } = self;
-        let inserts = inserts_of(alloc, calls)?;
         let takes = takes_of(calls);
+        let inserts = inserts_of(alloc, calls, takes)?;
         let pieces = pieces_of(alloc, shards, &inserts, takes)?;
         let rest = Rest {
             inserts: inserts.len(),

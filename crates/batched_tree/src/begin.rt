@@ -11,7 +11,7 @@ use crate::piece::Piece;
 use crate::pool::Pool;
 use seq_objects::Call;
 use std::alloc::{AllocError, Global};
-use tree23::{Rest, Row};
+use tree_forest::{Rest, Row};
 
 /// A piece that has no calls yet.
 fn piece_of(row: Row, beyond: Option<u32>, pool: &mut Pool) -> Piece

@@ -8,7 +8,7 @@ use crate::pool::Pool;
 use seq_objects::Reply;
 use std::alloc::{AllocError, Global};
 use std::marker::Model;
-use tree23::Row;
+use tree_forest::Row;
 
 /// The replies of a piece that are left. Contracts see them as a list.
 #[derive(Drop)]

@@ -5,7 +5,7 @@ ghost use Rattle.batched_tree.specs.Calls.{is_of_tree};
 
 use crate::pool::Pool;
 use seq_objects::{Call, Reply};
-use tree23::Row;
+use tree_forest::Row;
 
 /// A row of subtrees, the calls whose keys are in its range, and the least key of the whole set beyond that range. The
 /// vector for the replies is reused memory with stale content.

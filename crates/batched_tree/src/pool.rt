@@ -3,12 +3,12 @@ ghost use Rattle.std.specs.Prelude.{◌≡◌, []};
 
 use seq_objects::{Call, Reply};
 use std::alloc::Global;
-use tree23::Spares;
+use tree_forest::RowSpares;
 
 /// Boxes and vectors for reuse. Nothing that contracts say of a set depends on them.
 #[derive(Drop)]
 pub struct Pool {
-    pub spares: Spares,
+    pub spares: RowSpares,
     calls: Vec<Vec<Call>>,
     replies: Vec<Vec<Reply>>,
     alloc: Global,
@@ -20,7 +20,7 @@ impl Pool {
     /// Memory: none.
     pub fn new(alloc: Global) -> Pool {
         Pool {
-            spares: Spares::new(alloc),
+            spares: RowSpares::new(alloc),
             calls: Vec::new(alloc),
             replies: Vec::new(alloc),
             alloc,

@@ -9,7 +9,7 @@ ghost use Rattle.batched_tree.specs.Pieces.{Meets};
 use crate::piece::{Piece, Served};
 use seq_objects::{Op, Reply};
 use std::alloc::AllocError;
-use tree23::Row;
+use tree_forest::Row;
 
 /// Serves one operation on a row, where `beyond` is the least key of the whole set beyond the row's range.
 fn serve_one(row: &mut Row, beyond: Option<u32>, op: Op) -> Result<Reply, AllocError>

@@ -16,7 +16,7 @@ use crate::serve::serve_piece;
 use seq_objects::{Batched, Call, Reply};
 use std::alloc::{AllocError, Global};
 use std::marker::Model;
-use tree23::Row;
+use tree_forest::Row;
 
 /// A set of numbers. Contracts see it as the list of its keys, which strictly ascends.
 #[derive(Drop)]

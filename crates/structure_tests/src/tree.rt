@@ -2,7 +2,8 @@
 
 use std::alloc::{AllocError, Global};
 use std::test::Fail;
-use tree23::{Rest, Row, Spares, Tree23};
+use tree23::Tree23;
+use tree_forest::{Rest, Row, RowSpares};
 
 /// The keys of a tree by calls of `next`: all of them but a key 0.
 fn keys_of(alloc: Global, tree: &Tree23) -> Result<Vec<u32>, AllocError> {
@@ -65,7 +66,7 @@ fn a_row_is_cut_and_put_together(rt: HostRuntime) -> Result<(), Fail> {
     for key in 0..2000 {
         assert!(rt; row.insert(key * 5)?, "at {key}");
     }
-    let mut spares = Spares::new(rt.alloc());
+    let mut spares = RowSpares::new(rt.alloc());
     let mut rest = Rest::new(row);
     let mut low = rest.take_below(4000, &mut spares)?;
     assert_eq!(rt; rest.least(), Some(4000));

@@ -1,6 +1,4 @@
+pub mod Code
 pub mod Keys
-pub mod Mending
 pub mod Nodes
-pub mod Rows
 pub mod Splits
-pub mod Steps

@@ -1,11 +1,11 @@
 -- What a tree of nodes holds, and when it is balanced.
 use Rattle.std.specs.Prelude.{◌≡◌, ℕ, ◌+◌, ◌%◌, ◌<◌, ◌≤◌, ◌^◌, List, [], ◌∷◌, ◌++◌, length, ⊤}
 use Rattle.std.specs.List.{AllByRecursion}
-use Rattle.tree23.specs.declared.node.Tree.{Tree}
-use Rattle.tree23.specs.declared.node.Tree.TheVariants.{Leaf, Block, One', Two', Three'}
-use Rattle.tree23.specs.declared.node.Part.{Part}
-use Rattle.tree23.specs.declared.node.Grown.{Grown}
-use Rattle.tree23.specs.declared.node.Grown.TheVariants.{Fits, Splits}
+use Rattle.tree23.specs.declared.tree.node.Tree.{Tree}
+use Rattle.tree23.specs.declared.tree.node.Tree.TheVariants.{Leaf, Block, One', Two', Three'}
+use Rattle.tree23.specs.declared.tree.node.Part.{Part}
+use Rattle.tree23.specs.declared.tree.node.Grown.{Grown}
+use Rattle.tree23.specs.declared.tree.node.Grown.TheVariants.{Fits, Splits}
 use Rattle.tree23.specs.Keys.{StrictlyAscends}
 
 -- the most keys of a block

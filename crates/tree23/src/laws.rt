@@ -4,7 +4,7 @@ ghost use Rattle.tree23.specs.Keys.{AllBelow};
 ghost use Rattle.tree23.specs.Splits.{IsSplit};
 
 /// The two sides of a cut can be put together again.
-#[tactic(auto, using(crate::proofs::SidesOfAKey::sides_apart))]
+#[tactic(auto, using(crate::proofs::KeyLemmas::SidesOfAKey::sides_apart))]
 pub fn sides_of_a_cut_are_apart()
     ensures { (key : ℕ) (whole low high : List ℕ) → IsSplit key whole low high → AllBelow low high }
 {}

@@ -4,13 +4,24 @@ ghost use Rattle.std.specs.List.{AllByRecursion};
 ghost use Rattle.tree23.specs.Keys.{StrictlyAscends, AllBelow, with_key, has, without_key, least_above};
 ghost use Rattle.tree23.specs.Splits.{IsSplit};
 
-use crate::insert::insert_at_root;
-use crate::join::chain;
-use crate::look::{find_in, next_in};
-use crate::node::Part;
-use crate::remove::{lower, remove_in};
-use crate::spares::Spares;
-use crate::split::{Halves, split};
+pub mod block;
+pub mod insert;
+pub mod join;
+pub mod node;
+pub mod rebalance;
+pub mod remove;
+pub mod search;
+pub mod split;
+pub mod split_node;
+pub mod try_insert;
+
+use crate::pool::Spares;
+use crate::tree::insert::insert_at_root;
+use crate::tree::join::chain;
+use crate::tree::node::Part;
+use crate::tree::remove::{lower, remove_in};
+use crate::tree::search::{find_in, next_in};
+use crate::tree::split::{Halves, split};
 use std::alloc::{AllocError, Global};
 use std::marker::Model;
 
@@ -85,7 +96,7 @@ impl Tree23 {
     }
 
     /// Puts the key in, and says whether it is new.
-    #[tactic(auto, using(crate::proofs::Inserting::set_inserted, crate::proofs::Inserting::inserted_keys, crate::proofs::Inserting::inserted_answer))]
+    #[tactic(auto, using(crate::proofs::TreeLemmas::Inserting::set_inserted, crate::proofs::TreeLemmas::Inserting::inserted_keys, crate::proofs::TreeLemmas::Inserting::inserted_answer))]
     pub fn insert(&mut self, key: u32) -> Result<bool, AllocError>
         ensures answer { IfOk result (λ added. added ≡ not (has key self.old)) }
         ensures keys { OnOk result (self.new ≡ with_key key self.old) }
@@ -96,7 +107,7 @@ impl Tree23 {
     }
 
     /// Takes the key out, and says whether it was there. It takes no memory.
-    #[tactic(auto, using(crate::proofs::Trees::set_without, crate::proofs::Removing::removed_keys, crate::proofs::Removing::removed_found))]
+    #[tactic(auto, using(crate::proofs::TreeLemmas::Trees::set_without, crate::proofs::TreeLemmas::Removing::removed_keys, crate::proofs::TreeLemmas::Removing::removed_found))]
     pub fn remove(&mut self, key: u32) -> bool
         ensures answer { result ≡ has key self.old }
         ensures keys { self.new ≡ without_key key self.old }

@@ -1,5 +1,5 @@
 use Rattle.std.proofs.Common.{arith}
-use Rattle.tree23.proofs.Trees.{set_length, set_both}
+use Rattle.tree23.proofs.TreeLemmas.Trees.{set_length, set_both}
 use Rattle.tree23.proofs.tree.Tree23.concat.Goals as goal
 
 pub chain-requires-clause-fits : goal.chain-requires-clause-fits

@@ -1,5 +1,5 @@
 use Rattle.std.proofs.Common.{arith}
-use Rattle.tree23.proofs.Trees.{set_length}
+use Rattle.tree23.proofs.TreeLemmas.Trees.{set_length}
 use Rattle.tree23.proofs.tree.Tree23.len.Goals as goal
 
 pub returns-clause-keys : goal.returns-clause-keys

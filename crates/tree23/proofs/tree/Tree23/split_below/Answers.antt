@@ -1,5 +1,5 @@
 use Rattle.std.proofs.Common.{arith}
-use Rattle.tree23.proofs.Trees.{set_length, set_low, set_high}
+use Rattle.tree23.proofs.TreeLemmas.Trees.{set_length, set_low, set_high}
 use Rattle.tree23.proofs.tree.Tree23.split_below.Goals as goal
 
 pub split-requires-clause-fits : goal.split-requires-clause-fits

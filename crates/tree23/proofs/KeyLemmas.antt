@@ -1,0 +1,5 @@
+pub mod Ascending
+pub mod Beside
+pub mod Places
+pub mod KeysAfter
+pub mod SidesOfAKey

@@ -1,0 +1,159 @@
+//! The nodes of a 2-3 tree, and how they are made of their sides.
+ghost use Rattle.std.specs.Prelude.{◌≡◌, ◌+◌, ◌%◌, ◌<◌, ◌^◌, ◌++◌, ◌∷◌, length};
+ghost use Rattle.tree23.specs.Nodes.{keys, depth, IsTree, IsPart, IsLoose, IsNarrow};
+ghost use Rattle.tree23.specs.declared.tree.node.Tree.TheVariants.{Leaf};
+
+/// A tree of nodes. What lies below the lowest nodes are blocks of keys.
+#[cycle(tree)]
+#[derive(Drop)]
+pub enum Tree {
+    /// A block without keys. It takes no memory.
+    Leaf,
+    /// The keys of a block, which strictly ascend.
+    Block(Box<Vec<u32>>),
+    /// The first side alone, and no key: only between a removal and its repair.
+    One(Box<Node>),
+    /// The first and the second side, around the low key.
+    Two(Box<Node>),
+    /// Three sides, around both keys.
+    Three(Box<Node>),
+}
+
+/// The sides and the keys of a node, of which the tree's variant tells how many are in use. So a node stays
+/// where it is while a side comes or goes.
+#[cycle(tree)]
+#[derive(Drop)]
+pub struct Node {
+    /// How many keys there are here and below.
+    pub size: u64,
+    pub first: Tree,
+    pub low: u32,
+    pub second: Tree,
+    pub high: u32,
+    pub third: Tree,
+}
+
+/// A tree, and how many levels of nodes it has.
+#[derive(Drop)]
+pub struct Part {
+    pub tree: Tree,
+    pub levels: u64,
+}
+
+/// What came off a tree that other keys were put into in place.
+#[derive(Drop)]
+pub enum Grown {
+    /// Nothing.
+    Fits,
+    /// A key, and a tree of the same depth behind it.
+    Splits(u32, Tree),
+}
+
+impl Tree {
+    /// How many keys there are, without counting them.
+    #[inline]
+    pub fn size(&self) -> u64
+        requires { IsTree self.now }
+        ensures { result ≡ length (keys self.now) % 2 ^ 64 }
+    {
+        match self {
+            Tree::Leaf => 0,
+            Tree::Block(block) => block.len() as u64,
+            Tree::Two(node) => node.size,
+            Tree::Three(node) => node.size,
+            Tree::One(_) => unreachable!(),
+        }
+    }
+}
+
+impl Part {
+    /// No keys.
+    #[inline]
+    pub fn empty() -> Part
+        ensures part { IsPart result }
+        ensures keys { result.tree ≡ Leaf }
+    {
+        Part {
+            tree: Tree::Leaf,
+            levels: 0,
+        }
+    }
+}
+
+/// A node with nothing in it.
+#[inline]
+pub fn bare() -> Node {
+    Node {
+        size: 0,
+        first: Tree::Leaf,
+        low: 0,
+        second: Tree::Leaf,
+        high: 0,
+        third: Tree::Leaf,
+    }
+}
+
+/// One side alone, in a node that is there.
+pub fn one(mut node: Box<Node>, a: Tree) -> Tree
+    requires a { IsTree a }
+    ensures keys { keys result ≡ keys a }
+    ensures loose { IsLoose result }
+    ensures narrow { IsNarrow result }
+    ensures depth { depth result ≡ depth a + 1 }
+{
+    *node = Node { first: a, ..bare() };
+    Tree::One(node)
+}
+
+/// Two sides around a key, in a node that is there.
+#[inline]
+pub fn two(mut node: Box<Node>, a: Tree, k: u32, b: Tree) -> Tree
+    requires a { IsTree a }
+    requires b { IsTree b }
+    requires level { depth b ≡ depth a }
+    ensures keys { keys result ≡ keys a ++ k ∷ keys b }
+    ensures tree { IsTree result }
+    ensures loose { IsLoose result }
+    ensures narrow { IsNarrow result }
+    ensures depth { depth result ≡ depth a + 1 }
+{
+    let size = a.size().wrapping_add(b.size()).wrapping_add(1);
+    *node = Node {
+        size,
+        first: a,
+        low: k,
+        second: b,
+        high: 0,
+        third: Tree::Leaf,
+    };
+    Tree::Two(node)
+}
+
+/// Three sides around two keys, in a node that is there.
+#[inline]
+pub fn three(mut node: Box<Node>, a: Tree, k: u32, b: Tree, m: u32, c: Tree) -> Tree
+    requires a { IsTree a }
+    requires b { IsTree b }
+    requires c { IsTree c }
+    requires level_b { depth b ≡ depth a }
+    requires level_c { depth c ≡ depth a }
+    ensures keys { keys result ≡ keys a ++ k ∷ (keys b ++ m ∷ keys c) }
+    ensures tree { IsTree result }
+    ensures loose { IsLoose result }
+    ensures depth { depth result ≡ depth a + 1 }
+{
+    let size = a
+        .size()
+        .wrapping_add(b.size())
+        .wrapping_add(c.size())
+        .wrapping_add(2);
+    *node = Node {
+        size,
+        first: a,
+        low: k,
+        second: b,
+        high: m,
+        third: c,
+    };
+    Tree::Three(node)
+}

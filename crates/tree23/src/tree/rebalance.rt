@@ -1,0 +1,277 @@
+//! Nodes from one of whose sides a key was taken: that side may be left with one side of its own.
+ghost use Rattle.std.specs.Prelude.{◌≡◌, ◌+◌, ◌++◌, ◌∷◌};
+ghost use Rattle.tree23.specs.Nodes.{keys, depth, IsTree, IsLoose, IsNarrow};
+ghost use Rattle.tree23.specs.Code.Removals.{IsFirstLess, IsSecondLess, IsThirdLess};
+
+use crate::tree::node::{Node, Tree, bare, one, three, two};
+use std::mem;
+
+/// Two sides around a key, of which the first may have one side.
+fn join_first(node: Box<Node>, a: Tree, k: u32, b: Tree) -> Tree
+    requires a { IsLoose a }
+    requires b { IsTree b }
+    requires level { depth b ≡ depth a }
+    ensures keys { keys result ≡ keys a ++ k ∷ keys b }
+    ensures loose { IsLoose result }
+    ensures narrow { IsNarrow result }
+    ensures depth { depth result ≡ depth a + 1 }
+{
+    match a {
+        Tree::One(mut left) => {
+            let Node { first: x, .. } = mem::replace(&mut *left, bare());
+            match b {
+                Tree::Two(mut right) => {
+                    let Node {
+                        first,
+                        low,
+                        second,
+                        ..
+                    } = mem::replace(&mut *right, bare());
+                    one(node, three(right, x, k, first, low, second))
+                }
+                Tree::Three(mut right) => {
+                    let Node {
+                        first,
+                        low,
+                        second,
+                        high,
+                        third,
+                        ..
+                    } = mem::replace(&mut *right, bare());
+                    two(
+                        node,
+                        two(left, x, k, first),
+                        low,
+                        two(right, second, high, third),
+                    )
+                }
+                Tree::Leaf | Tree::Block(_) | Tree::One(_) => unreachable!(),
+            }
+        }
+        whole => two(node, whole, k, b),
+    }
+}
+
+/// Two sides around a key, of which the second may have one side.
+fn join_second(node: Box<Node>, a: Tree, k: u32, b: Tree) -> Tree
+    requires a { IsTree a }
+    requires b { IsLoose b }
+    requires level { depth b ≡ depth a }
+    ensures keys { keys result ≡ keys a ++ k ∷ keys b }
+    ensures loose { IsLoose result }
+    ensures narrow { IsNarrow result }
+    ensures depth { depth result ≡ depth a + 1 }
+{
+    match b {
+        Tree::One(mut right) => {
+            let Node { first: x, .. } = mem::replace(&mut *right, bare());
+            match a {
+                Tree::Two(mut left) => {
+                    let Node {
+                        first,
+                        low,
+                        second,
+                        ..
+                    } = mem::replace(&mut *left, bare());
+                    one(node, three(left, first, low, second, k, x))
+                }
+                Tree::Three(mut left) => {
+                    let Node {
+                        first,
+                        low,
+                        second,
+                        high,
+                        third,
+                        ..
+                    } = mem::replace(&mut *left, bare());
+                    two(
+                        node,
+                        two(left, first, low, second),
+                        high,
+                        two(right, third, k, x),
+                    )
+                }
+                Tree::Leaf | Tree::Block(_) | Tree::One(_) => unreachable!(),
+            }
+        }
+        whole => two(node, a, k, whole),
+    }
+}
+
+/// One side more behind one or two.
+fn behind(rest: Tree, m: u32, c: Tree) -> Tree
+    requires rest { IsLoose rest }
+    requires narrow { IsNarrow rest }
+    requires c { IsTree c }
+    requires level { depth rest ≡ depth c + 1 }
+    ensures keys { keys result ≡ keys rest ++ m ∷ keys c }
+    ensures loose { IsLoose result }
+    ensures depth { depth result ≡ depth rest }
+{
+    match rest {
+        Tree::One(mut node) => {
+            let Node { first, .. } = mem::replace(&mut *node, bare());
+            two(node, first, m, c)
+        }
+        Tree::Two(mut node) => {
+            let Node {
+                first,
+                low,
+                second,
+                ..
+            } = mem::replace(&mut *node, bare());
+            three(node, first, low, second, m, c)
+        }
+        Tree::Leaf | Tree::Block(_) | Tree::Three(_) => unreachable!(),
+    }
+}
+
+/// One side more before one or two.
+fn before(a: Tree, k: u32, rest: Tree) -> Tree
+    requires a { IsTree a }
+    requires rest { IsLoose rest }
+    requires narrow { IsNarrow rest }
+    requires level { depth rest ≡ depth a + 1 }
+    ensures keys { keys result ≡ keys a ++ k ∷ keys rest }
+    ensures loose { IsLoose result }
+    ensures depth { depth result ≡ depth rest }
+{
+    match rest {
+        Tree::One(mut node) => {
+            let Node { first, .. } = mem::replace(&mut *node, bare());
+            two(node, a, k, first)
+        }
+        Tree::Two(mut node) => {
+            let Node {
+                first,
+                low,
+                second,
+                ..
+            } = mem::replace(&mut *node, bare());
+            three(node, a, k, first, low, second)
+        }
+        Tree::Leaf | Tree::Block(_) | Tree::Three(_) => unreachable!(),
+    }
+}
+
+/// A node whose first side lost a key.
+pub fn mend_first(tree: &mut Tree)
+    requires { IsFirstLess tree.old }
+    ensures keys { keys tree.new ≡ keys tree.old }
+    ensures loose { IsLoose tree.new }
+    ensures depth { depth tree.new ≡ depth tree.old }
+{
+    match tree {
+        Tree::Two(node) => {
+            if let Tree::One(_) = &node.first {
+                let Tree::Two(mut node) = mem::replace(tree, Tree::Leaf) else {
+                    unreachable!()
+                };
+                let Node {
+                    first,
+                    low,
+                    second,
+                    ..
+                } = mem::replace(&mut *node, bare());
+                *tree = join_first(node, first, low, second);
+            } else {
+                node.size = node.size.wrapping_sub(1);
+            }
+        }
+        Tree::Three(node) => {
+            if let Tree::One(_) = &node.first {
+                let Tree::Three(mut node) = mem::replace(tree, Tree::Leaf) else {
+                    unreachable!()
+                };
+                let Node {
+                    first,
+                    low,
+                    second,
+                    high,
+                    third,
+                    ..
+                } = mem::replace(&mut *node, bare());
+                *tree = behind(join_first(node, first, low, second), high, third);
+            } else {
+                node.size = node.size.wrapping_sub(1);
+            }
+        }
+        Tree::Leaf | Tree::Block(_) | Tree::One(_) => unreachable!(),
+    }
+}
+
+/// A node whose second side lost a key.
+pub fn mend_second(tree: &mut Tree)
+    requires { IsSecondLess tree.old }
+    ensures keys { keys tree.new ≡ keys tree.old }
+    ensures loose { IsLoose tree.new }
+    ensures depth { depth tree.new ≡ depth tree.old }
+{
+    match tree {
+        Tree::Two(node) => {
+            if let Tree::One(_) = &node.second {
+                let Tree::Two(mut node) = mem::replace(tree, Tree::Leaf) else {
+                    unreachable!()
+                };
+                let Node {
+                    first,
+                    low,
+                    second,
+                    ..
+                } = mem::replace(&mut *node, bare());
+                *tree = join_second(node, first, low, second);
+            } else {
+                node.size = node.size.wrapping_sub(1);
+            }
+        }
+        Tree::Three(node) => {
+            if let Tree::One(_) = &node.second {
+                let Tree::Three(mut node) = mem::replace(tree, Tree::Leaf) else {
+                    unreachable!()
+                };
+                let Node {
+                    first,
+                    low,
+                    second,
+                    high,
+                    third,
+                    ..
+                } = mem::replace(&mut *node, bare());
+                *tree = behind(join_second(node, first, low, second), high, third);
+            } else {
+                node.size = node.size.wrapping_sub(1);
+            }
+        }
+        Tree::Leaf | Tree::Block(_) | Tree::One(_) => unreachable!(),
+    }
+}
+
+/// A node whose third side lost a key.
+pub fn mend_third(tree: &mut Tree)
+    requires { IsThirdLess tree.old }
+    ensures keys { keys tree.new ≡ keys tree.old }
+    ensures loose { IsLoose tree.new }
+    ensures depth { depth tree.new ≡ depth tree.old }
+{
+    match tree {
+        Tree::Three(node) => {
+            if let Tree::One(_) = &node.third {
+                let Tree::Three(mut node) = mem::replace(tree, Tree::Leaf) else {
+                    unreachable!()
+                };
+                let Node {
+                    first,
+                    low,
+                    second,
+                    high,
+                    third,
+                    ..
+                } = mem::replace(&mut *node, bare());
+                *tree = before(first, low, join_second(node, second, high, third));
+            } else {
+                node.size = node.size.wrapping_sub(1);
+            }
+        }
+        Tree::Leaf | Tree::Block(_) | Tree::One(_) | Tree::Two(_) => unreachable!(),
+    }
+}

@@ -1,0 +1,7 @@
+pub mod Cutting
+pub mod KeyedTrees
+pub mod Compacting
+pub mod KeySets
+pub mod Passing
+pub mod ForestKeys
+pub mod Reversing

@@ -11,14 +11,14 @@ use crate::piece::Piece;
 use crate::pool::Pool;
 use seq_objects::Call;
 use std::alloc::{AllocError, Global};
-use tree_forest::{Rest, Row};
+use tree_forest::{Forest, Remaining};
 
 /// A piece that has no calls yet.
-fn piece_of(row: Row, beyond: Option<u32>, pool: &mut Pool) -> Piece
-    ensures { IsCutPiece row [] beyond result }
+fn piece_of(forest: Forest, beyond: Option<u32>, pool: &mut Pool) -> Piece
+    ensures { IsCutPiece forest [] beyond result }
 {
     Piece {
-        row,
+        forest,
         calls: pool.take_calls(),
         replies: pool.take_replies(),
         beyond,
@@ -28,7 +28,7 @@ fn piece_of(row: Row, beyond: Option<u32>, pool: &mut Pool) -> Piece
 /// The pieces whose ranges but the first begin with the starts, before they have calls.
 fn empty_pieces(
     alloc: Global,
-    set: Row,
+    set: Forest,
     starts: &[u32],
     pool: &mut Pool,
 ) -> Result<Vec<Piece>, AllocError>
@@ -36,19 +36,19 @@ fn empty_pieces(
     ensures count { IfOk result (λ v. length v.items ≡ length starts.now + 1) }
 {
     let mut pieces = Vec::with_capacity(alloc, starts.len() + 1)?;
-    let mut rest = Rest::new(set);
+    let mut rest = Remaining::new(set);
     for start in starts {
-        let row = rest.take_below(*start, &mut pool.spares)?;
-        pieces.push(piece_of(row, rest.least(), pool))?;
+        let forest = rest.split_off_below(*start, &mut pool.trees)?;
+        pieces.push(piece_of(forest, rest.least(), pool))?;
     }
-    pieces.push(piece_of(rest.into_row(), None, pool))?;
+    pieces.push(piece_of(rest.into_forest(), None, pool))?;
     Ok(pieces)
 }
 
 /// The pieces of a batch whose groups but the first begin with the starts, where `groups` has the group of each call.
 pub(crate) fn pieces_of(
     alloc: Global,
-    set: Row,
+    set: Forest,
     starts: &[u32],
     calls: &[Call],
     groups: &[usize],

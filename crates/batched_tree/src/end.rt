@@ -1,4 +1,4 @@
-//! Joining the rows of the pieces, and merging their replies.
+//! Joining the forests of the pieces, and merging their replies.
 ghost use Rattle.std.specs.Prelude.{◌≡◌, ◌<◌, [], length, drop, slice_get, IfOk};
 ghost use Rattle.std.specs.List.{AllByRecursion};
 ghost use Rattle.batched_tree.specs.Code.End.{merged_replies, replies_of, joined_keys, CanJoin};
@@ -8,7 +8,7 @@ use crate::pool::Pool;
 use seq_objects::Reply;
 use std::alloc::{AllocError, Global};
 use std::marker::Model;
-use tree_forest::Row;
+use tree_forest::Forest;
 
 /// The replies of a piece that are left. Contracts see them as a list.
 #[derive(Drop)]
@@ -47,33 +47,33 @@ impl Replies {
     }
 }
 
-/// One row of the rows of all pieces, and the replies of each piece.
+/// One forest of the forests of all pieces, and the replies of each piece.
 pub(crate) fn join_pieces(
     alloc: Global,
     outs: Vec<Served>,
     pool: &mut Pool,
-) -> Result<(Row, Vec<Replies>), AllocError>
+) -> Result<(Forest, Vec<Replies>), AllocError>
     requires { CanJoin [] outs.items }
     ensures keys { IfOk result (λ p. p.0 ≡ joined_keys outs.items) }
     ensures replies { IfOk result (λ p. p.1.items ≡ replies_of outs.items) }
 {
     let mut replies = Vec::with_capacity(alloc, outs.len())?;
     let mut pieces = outs.into_iter();
-    let mut row = match pieces.next() {
+    let mut forest = match pieces.next() {
         Some(first) => {
             replies.push(Replies::new(first.replies))?;
             pool.keep_calls(first.calls);
-            first.row
+            first.forest
         }
-        None => Row::new(alloc),
+        None => Forest::new(alloc),
     };
     for served in pieces {
-        row.append(served.row, &mut pool.spares)?;
+        forest.append(served.forest, &mut pool.trees)?;
         replies.push(Replies::new(served.replies))?;
         pool.keep_calls(served.calls);
     }
-    row.gather(&mut pool.spares)?;
-    Ok((row, replies))
+    forest.compact(&mut pool.trees)?;
+    Ok((forest, replies))
 }
 
 /// The replies in the order of the calls, where `groups` has the group of each call.

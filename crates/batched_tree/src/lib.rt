@@ -1,7 +1,7 @@
 //! A set of numbers that serves a batch of calls in pieces, each of which owns a part of the set's 2-3 trees.
 //!
-//! `TreeSet` obeys the law of batches: the keys of a batch are cut into groups, the row of trees is cut below the
-//! least key of each group but the first, and the pieces work on their rows of subtrees apart from one another. The
+//! `TreeSet` obeys the law of batches: the keys of a batch are cut into groups, the forest of trees is cut below the
+//! least key of each group but the first, and the pieces work on their forests of subtrees apart from one another. The
 //! replies to a batch and the keys after it are those of one call after another. A piece also knows the least
 //! key beyond its range, which may be the next key of a call. The crate stands on `seq_objects`, which has the
 //! law, and on `tree23`, whose subtrees move whole at a cut.

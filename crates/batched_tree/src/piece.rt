@@ -5,23 +5,23 @@ ghost use Rattle.batched_tree.specs.Calls.{is_of_tree};
 
 use crate::pool::Pool;
 use seq_objects::{Call, Reply};
-use tree_forest::Row;
+use tree_forest::Forest;
 
-/// A row of subtrees, the calls whose keys are in its range, and the least key of the whole set beyond that range. The
+/// A forest of subtrees, the calls whose keys are in its range, and the least key of the whole set beyond that range. The
 /// vector for the replies is reused memory with stale content.
 #[derive(Drop)]
 pub struct Piece {
-    pub row: Row,
+    pub forest: Forest,
     pub calls: Vec<Call>,
     pub replies: Vec<Reply>,
     pub beyond: Option<u32>,
     ghost of_tree: { list_all (λ call. is_of_tree call.op) calls.items ≡ true },
 }
 
-/// The row after the calls, the replies to them, and the vector of the calls, to be reused.
+/// The forest after the calls, the replies to them, and the vector of the calls, to be reused.
 #[derive(Drop)]
 pub struct Served {
-    pub row: Row,
+    pub forest: Forest,
     pub replies: Vec<Reply>,
     pub calls: Vec<Call>,
 }

@@ -3,12 +3,12 @@ ghost use Rattle.std.specs.Prelude.{◌≡◌, []};
 
 use seq_objects::{Call, Reply};
 use std::alloc::Global;
-use tree_forest::RowSpares;
+use tree_forest::ForestPool;
 
 /// Boxes and vectors for reuse. Nothing that contracts say of a set depends on them.
 #[derive(Drop)]
 pub struct Pool {
-    pub spares: RowSpares,
+    pub trees: ForestPool,
     calls: Vec<Vec<Call>>,
     replies: Vec<Vec<Reply>>,
     alloc: Global,
@@ -20,7 +20,7 @@ impl Pool {
     /// Memory: none.
     pub fn new(alloc: Global) -> Pool {
         Pool {
-            spares: RowSpares::new(alloc),
+            trees: ForestPool::new(alloc),
             calls: Vec::new(alloc),
             replies: Vec::new(alloc),
             alloc,

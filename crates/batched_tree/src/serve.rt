@@ -1,4 +1,4 @@
-//! Serving a piece: its calls on its row, one after another.
+//! Serving a piece: its calls on its forest, one after another.
 ghost use Rattle.std.specs.Prelude.{◌≡◌, true, IfOk, OnOk};
 ghost use Rattle.seq_objects.specs.Objects.{after, reply_to};
 ghost use Rattle.seq_objects.specs.Serial.{of_set};
@@ -9,19 +9,19 @@ ghost use Rattle.batched_tree.specs.Pieces.{Meets};
 use crate::piece::{Piece, Served};
 use seq_objects::{Op, Reply};
 use std::alloc::AllocError;
-use tree_forest::Row;
+use tree_forest::Forest;
 
-/// Serves one operation on a row, where `beyond` is the least key of the whole set beyond the row's range.
-fn serve_one(row: &mut Row, beyond: Option<u32>, op: Op) -> Result<Reply, AllocError>
+/// Serves one operation on a forest, where `beyond` is the least key of the whole set beyond the forest's range.
+fn serve_one(forest: &mut Forest, beyond: Option<u32>, op: Op) -> Result<Reply, AllocError>
     requires { is_of_tree op ≡ true }
-    ensures reply { IfOk result (λ reply. reply ≡ reply_within beyond op (reply_to (of_set row.old) op)) }
-    ensures after { OnOk result (of_set row.new ≡ after (of_set row.old) op) }
+    ensures reply { IfOk result (λ reply. reply ≡ reply_within beyond op (reply_to (of_set forest.old) op)) }
+    ensures after { OnOk result (of_set forest.new ≡ after (of_set forest.old) op) }
 {
     let reply = match op {
-        Op::TreeInsert(key) => Reply::yes_or_no(row.insert(key)?),
-        Op::TreeRemove(key) => Reply::yes_or_no(row.remove(key)),
-        Op::TreeFind(key) => Reply::yes_or_no(row.find(key)),
-        Op::TreeNext(key) => Reply::number_or_empty(row.next(key).or(beyond)),
+        Op::TreeInsert(key) => Reply::yes_or_no(forest.insert(key)?),
+        Op::TreeRemove(key) => Reply::yes_or_no(forest.remove(key)),
+        Op::TreeFind(key) => Reply::yes_or_no(forest.find(key)),
+        Op::TreeNext(key) => Reply::number_or_empty(forest.next(key).or(beyond)),
         _ => unreachable!(),
     };
     Ok(reply)
@@ -33,14 +33,14 @@ pub(crate) fn serve_piece(piece: Piece) -> Result<Served, AllocError>
 {
     let beyond = piece.beyond;
     let calls = piece.calls;
-    let mut row = piece.row;
+    let mut forest = piece.forest;
     let mut replies = piece.replies;
     replies.clear();
     for call in &calls {
-        replies.push(serve_one(&mut row, beyond, call.op)?)?;
+        replies.push(serve_one(&mut forest, beyond, call.op)?)?;
     }
     Ok(Served {
-        row,
+        forest,
         replies,
         calls,
     })

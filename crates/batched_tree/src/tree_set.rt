@@ -16,12 +16,12 @@ use crate::serve::serve_piece;
 use seq_objects::{Batched, Call, Reply};
 use std::alloc::{AllocError, Global};
 use std::marker::Model;
-use tree_forest::Row;
+use tree_forest::Forest;
 
 /// A set of numbers. Contracts see it as the list of its keys, which strictly ascends.
 #[derive(Drop)]
 pub struct TreeSet {
-    row: Row,
+    forest: Forest,
     pool: Pool,
 }
 
@@ -30,7 +30,7 @@ impl Model for TreeSet {
 
     ghost Value = { List ℕ };
 
-    ghost view = { λ s. s.row };
+    ghost view = { λ s. s.forest };
 }
 
 impl TreeSet {
@@ -42,7 +42,7 @@ impl TreeSet {
         ensures sure { IsOk result }
     {
         Ok(TreeSet {
-            row: Row::new(alloc),
+            forest: Forest::new(alloc),
             pool: Pool::new(alloc),
         })
     }
@@ -51,7 +51,7 @@ impl TreeSet {
     pub fn keys_ascend(&self)
         ensures { StrictlyAscends self.now }
     {
-        self.row.keys_ascend();
+        self.forest.keys_ascend();
     }
 }
 
@@ -77,12 +77,12 @@ impl Batched for TreeSet {
     ghost is_context_of = { IsContextOf };
 
     fn begin(self, alloc: Global, calls: &[Call]) -> Result<(Rest, Vec<Piece>), AllocError> {
-        self.row.keys_ascend();
+        self.forest.keys_ascend();
         let keys = keys_of(alloc, calls)?;
         let starts = starts_of(alloc, &keys)?;
         let groups = groups_of(alloc, &starts, calls)?;
         let mut pool = self.pool;
-        let pieces = pieces_of(alloc, self.row, &starts, calls, &groups, &mut pool)?;
+        let pieces = pieces_of(alloc, self.forest, &starts, calls, &groups, &mut pool)?;
         Ok((Rest { groups, pool }, pieces))
     }
 
@@ -103,8 +103,8 @@ impl Batched for TreeSet {
             → AllMeet Meets o.ins outs.items → of_set p.0 ≡ after_all (of_set o.before) o.calls) }
     {
         let mut pool = rest.pool;
-        let (row, pieces) = join_pieces(alloc, outs, &mut pool)?;
+        let (forest, pieces) = join_pieces(alloc, outs, &mut pool)?;
         let replies = merge_replies(alloc, &rest.groups, pieces, &mut pool)?;
-        Ok((TreeSet { row, pool }, replies))
+        Ok((TreeSet { forest, pool }, replies))
     }
 }

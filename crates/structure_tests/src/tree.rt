@@ -1,9 +1,9 @@
-//! The 2-3 tree, and the row of trees.
+//! The 2-3 tree, and the forest of trees.
 
 use std::alloc::{AllocError, Global};
 use std::test::Fail;
+use tree_forest::{Forest, ForestPool, Remaining};
 use tree23::Tree23;
-use tree_forest::{Rest, Row, RowSpares};
 
 /// The keys of a tree by calls of `next`: all of them but a key 0.
 fn keys_of(alloc: Global, tree: &Tree23) -> Result<Vec<u32>, AllocError> {
@@ -62,20 +62,20 @@ fn a_tree_of_many_keys_is_not_deep(rt: HostRuntime) -> Result<(), Fail> {
 
 #[test]
 fn a_row_is_cut_and_put_together(rt: HostRuntime) -> Result<(), Fail> {
-    let mut row = Row::new(rt.alloc());
+    let mut forest = Forest::new(rt.alloc());
     for key in 0..2000 {
-        assert!(rt; row.insert(key * 5)?, "at {key}");
+        assert!(rt; forest.insert(key * 5)?, "at {key}");
     }
-    let mut spares = RowSpares::new(rt.alloc());
-    let mut rest = Rest::new(row);
-    let mut low = rest.take_below(4000, &mut spares)?;
+    let mut pool = ForestPool::new(rt.alloc());
+    let mut rest = Remaining::new(forest);
+    let mut low = rest.split_off_below(4000, &mut pool)?;
     assert_eq!(rt; rest.least(), Some(4000));
     assert_eq!(rt;
         (low.find(4000), low.next(3990), low.next(3995)),
         (false, Some(3995), None)
     );
-    low.append(rest.into_row(), &mut spares)?;
-    low.gather(&mut spares)?;
+    low.append(rest.into_forest(), &mut pool)?;
+    low.compact(&mut pool)?;
     assert_eq!(rt; (low.find(4000), low.next(3995)), (true, Some(4000)));
     assert_eq!(rt; (low.remove(4000), low.remove(4001)), (true, false));
     assert_eq!(rt; low.next(3995), Some(4005));

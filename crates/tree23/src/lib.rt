@@ -1,5 +1,5 @@
 //! A set of numbers as a 2-3 tree: each inner node has two or three subtrees of one depth, and the keys below the
-//! lowest nodes stand in blocks.
+//! lowest nodes stand in leaves.
 //!
 //! Contracts see the tree as the list of its keys, which strictly ascends, and each call is exact on that
 //! list. A tree of depth d holds at least 2 ^ d - 1 keys, also after a cut and after two trees are put
@@ -10,5 +10,5 @@ pub mod laws;
 pub mod pool;
 pub mod tree;
 
-pub use pool::Spares;
+pub use pool::Pool;
 pub use tree::Tree23;

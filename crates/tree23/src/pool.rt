@@ -1,79 +1,82 @@
-//! What is no longer in use while trees are cut and put together, for the next nodes and blocks that are made.
+//! Memory of nodes and leaves that is reused.
 ghost use Rattle.std.specs.Prelude.{◌≡◌, [], IfOk};
-ghost use Rattle.tree23.specs.Nodes.{IsBottom};
+ghost use Rattle.tree23.specs.Nodes.{IsLeaf};
 
-use crate::tree::block::empty_block;
-use crate::tree::node::{Node, Tree, bare};
+use crate::tree::leaf::empty_leaf;
+use crate::tree::node::{Node, Tree, empty_node};
 use std::alloc::{AllocError, Global};
 
-/// How many boxes of nodes and how many blocks are kept at most.
+/// How many boxes of nodes and how many leaves are kept at most.
 const MOST: usize = 256;
 
-/// Boxes and vectors that are at hand. Nothing that contracts say of trees and rows depends on them.
+/// Boxes of nodes and leaves that are no longer in use while trees are cut and joined, for the next that are made.
+/// Nothing that contracts say of trees depends on them.
 #[derive(Drop)]
-pub struct Spares {
+pub struct Pool {
     nodes: Vec<Box<Node>>,
-    blocks: Vec<Box<Vec<u32>>>,
+    leaves: Vec<Box<Vec<u32>>>,
     alloc: Global,
 }
 
-impl Spares {
-    /// None. It takes no memory.
+impl Pool {
+    /// An empty pool.
+    ///
+    /// Memory: none.
     #[inline]
-    pub fn new(alloc: Global) -> Spares {
-        Spares {
+    pub fn new(alloc: Global) -> Pool {
+        Pool {
             nodes: Vec::new(alloc),
-            blocks: Vec::new(alloc),
+            leaves: Vec::new(alloc),
             alloc,
         }
     }
 
     /// Keeps a node, unless there are many, or there is no memory for its place here.
     #[inline]
-    pub fn keep(&mut self, node: Box<Node>) {
+    pub fn give(&mut self, node: Box<Node>) {
         if self.nodes.len() < MOST {
             if let Err(_) = self.nodes.push(node) {}
         }
     }
 
-    /// A node that is at hand, or a new one.
+    /// A box for a node: one of the pool, or a new one.
     #[inline]
     pub fn take(&mut self) -> Result<Box<Node>, AllocError> {
         match self.nodes.pop() {
             Some(node) => Ok(node),
             None => {
-                let node = Box::new(self.alloc, bare())?;
+                let node = Box::new(self.alloc, empty_node())?;
                 Ok(node)
             }
         }
     }
 
-    /// Keeps the memory of a block, unless there are many, or there is no memory for its place here.
-    pub fn keep_block(&mut self, tree: Tree)
-        requires bottom { IsBottom tree }
+    /// Keeps the memory of a leaf, unless there are many, or there is no memory for its place here.
+    pub fn give_leaf(&mut self, tree: Tree)
+        requires bottom { IsLeaf tree }
     {
         match tree {
-            Tree::Block(block) => {
-                if self.blocks.len() < MOST {
-                    if let Err(_) = self.blocks.push(block) {}
+            Tree::Leaf(leaf) => {
+                if self.leaves.len() < MOST {
+                    if let Err(_) = self.leaves.push(leaf) {}
                 }
             }
-            Tree::Leaf => {}
-            Tree::One(_) | Tree::Two(_) | Tree::Three(_) => unreachable!(),
+            Tree::Empty => {}
+            Tree::Underfull(_) | Tree::Two(_) | Tree::Three(_) => unreachable!(),
         }
     }
 
-    /// A block without keys, at hand or new.
+    /// A leaf without keys: one of the pool, or a new one.
     #[inline]
-    pub fn take_block(&mut self) -> Result<Box<Vec<u32>>, AllocError>
-        ensures { IfOk result (λ block. block.value.items ≡ []) }
+    pub fn take_leaf(&mut self) -> Result<Box<Vec<u32>>, AllocError>
+        ensures { IfOk result (λ leaf. leaf.value.items ≡ []) }
     {
-        match self.blocks.pop() {
-            Some(mut block) => {
-                block.clear();
-                Ok(block)
+        match self.leaves.pop() {
+            Some(mut leaf) => {
+                leaf.clear();
+                Ok(leaf)
             }
-            None => empty_block(self.alloc),
+            None => empty_leaf(self.alloc),
         }
     }
 }

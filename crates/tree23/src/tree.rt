@@ -4,9 +4,9 @@ ghost use Rattle.std.specs.List.{AllByRecursion};
 ghost use Rattle.tree23.specs.Keys.{StrictlyAscends, AllBelow, with_key, has, without_key, least_above};
 ghost use Rattle.tree23.specs.Splits.{IsSplit};
 
-pub mod block;
 pub mod insert;
 pub mod join;
+pub mod leaf;
 pub mod node;
 pub mod rebalance;
 pub mod remove;
@@ -15,11 +15,11 @@ pub mod split;
 pub mod split_node;
 pub mod try_insert;
 
-use crate::pool::Spares;
+use crate::pool::Pool;
 use crate::tree::insert::insert_at_root;
-use crate::tree::join::chain;
-use crate::tree::node::Part;
-use crate::tree::remove::{lower, remove_in};
+use crate::tree::join::concat;
+use crate::tree::node::Rooted;
+use crate::tree::remove::{remove_in, shrink_root};
 use crate::tree::search::{find_in, next_in};
 use crate::tree::split::{Halves, split};
 use std::alloc::{AllocError, Global};
@@ -28,7 +28,7 @@ use std::marker::Model;
 /// A set of numbers, as a balanced tree. Contracts see it as the list of its keys, which strictly ascends.
 #[derive(Drop)]
 pub struct Tree23 {
-    pub(crate) root: Part,
+    pub(crate) root: Rooted,
     pub(crate) alloc: Global,
 }
 
@@ -37,26 +37,27 @@ impl Model for Tree23 {
 
     ghost Value = { List ℕ };
 
-    ghost use Rattle.tree23.specs.Nodes.{keys, IsRooted};
+    ghost use Rattle.tree23.specs.Nodes.{keys, IsRootedSet};
 
     ghost view = { λ t. keys t.root.tree };
 
-    ghost invariant = { λ t. IsRooted t.root };
+    ghost invariant = { λ t. IsRootedSet t.root };
 }
 
 impl Tree23 {
-    /// The empty set. It takes no memory.
+    /// The empty set.
+    ///
+    /// Memory: none.
     pub fn new(alloc: Global) -> Tree23
         ensures { result ≡ [] }
     {
         Tree23 {
-            root: Part::empty(),
+            root: Rooted::empty(),
             alloc,
         }
     }
 
-    /// What is so of each tree: its keys are in order, without repeats, and have 32 bits. The call does
-    /// nothing.
+    /// The keys of each tree are in order, without repeats, and have 32 bits. For proofs; does nothing.
     pub fn keys_ascend(&self)
         ensures ascends { StrictlyAscends self.now }
         ensures small { AllByRecursion (λ k. k < 2 ^ 32) self.now }
@@ -72,13 +73,13 @@ impl Tree23 {
         self.root.tree.size()
     }
 
-    /// How many levels of nodes there are. Below them stand blocks of up to 256 keys, so a tree with few keys
+    /// How many levels of nodes there are. Below them stand leaves of up to 256 keys, so a tree with few keys
     /// may have none.
     pub fn depth(&self) -> u32
         ensures least { 2 ^ result ≤ length self.now + 1 }
         ensures most { length self.now < 257 * 3 ^ result }
     {
-        self.root.levels as u32
+        self.root.height as u32
     }
 
     /// Whether the key is there.
@@ -106,14 +107,16 @@ impl Tree23 {
         Ok(added)
     }
 
-    /// Takes the key out, and says whether it was there. It takes no memory.
+    /// Takes the key out, and says whether it was there.
+    ///
+    /// Memory: none.
     #[tactic(auto, using(crate::proofs::TreeLemmas::Trees::set_without, crate::proofs::TreeLemmas::Removing::removed_keys, crate::proofs::TreeLemmas::Removing::removed_found))]
     pub fn remove(&mut self, key: u32) -> bool
         ensures answer { result ≡ has key self.old }
         ensures keys { self.new ≡ without_key key self.old }
     {
         let found = remove_in(&mut self.root.tree, key);
-        lower(&mut self.root);
+        shrink_root(&mut self.root);
         found
     }
 
@@ -123,12 +126,12 @@ impl Tree23 {
     {
         let alloc = self.alloc;
         let mut halves = Halves {
-            low: Part::empty(),
-            high: Part::empty(),
+            low: Rooted::empty(),
+            high: Rooted::empty(),
         };
-        let mut spares = Spares::new(alloc);
-        let Part { tree, levels } = self.root;
-        split(tree, levels, key, &mut halves, &mut spares)?;
+        let mut pool = Pool::new(alloc);
+        let Rooted { tree, height } = self.root;
+        split(tree, height, key, &mut halves, &mut pool)?;
         let Halves { low, high } = halves;
         Ok((Tree23 { root: low, alloc }, Tree23 { root: high, alloc }))
     }
@@ -139,7 +142,7 @@ impl Tree23 {
         ensures { IfOk result (λ tree. tree ≡ low ++ high) }
     {
         let mut root = low.root;
-        chain(low.alloc, &mut root, high.root)?;
+        concat(low.alloc, &mut root, high.root)?;
         Ok(Tree23 {
             root,
             alloc: low.alloc,

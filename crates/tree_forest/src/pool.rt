@@ -1,53 +1,53 @@
-//! What is no longer in use while rows are cut and put together, for the next that are made.
+//! What is no longer in use while forests are cut and put together, for the next that are made.
 ghost use Rattle.std.specs.Prelude.{◌≡◌, [], IfOk};
 
-use crate::forest::trees::Entry;
+use crate::forest::trees::KeyedTree;
 use std::alloc::{AllocError, Global};
-use tree23::Spares;
+use tree23::Pool;
 
-/// How many vectors of rows are kept at most.
+/// How many vectors of forests are kept at most.
 const MOST: usize = 256;
 
-/// Boxes and vectors that are at hand. Nothing that contracts say of rows depends on them.
+/// Boxes and vectors that are at hand. Nothing that contracts say of forests depends on them.
 #[derive(Drop)]
-pub struct RowSpares {
-    pub(crate) trees: Spares,
-    rows: Vec<Vec<Entry>>,
+pub struct ForestPool {
+    pub(crate) trees: Pool,
+    rows: Vec<Vec<KeyedTree>>,
     alloc: Global,
 }
 
-impl RowSpares {
+impl ForestPool {
     /// None. It takes no memory.
     #[inline]
-    pub fn new(alloc: Global) -> RowSpares {
-        RowSpares {
-            trees: Spares::new(alloc),
+    pub fn new(alloc: Global) -> ForestPool {
+        ForestPool {
+            trees: Pool::new(alloc),
             rows: Vec::new(alloc),
             alloc,
         }
     }
 
-    /// Keeps the vector of a row, unless there are many, or there is no memory for its place here.
+    /// Keeps the vector of a forest, unless there are many, or there is no memory for its place here.
     #[inline]
-    pub(crate) fn keep_row(&mut self, row: Vec<Entry>) {
+    pub(crate) fn give_entries(&mut self, forest: Vec<KeyedTree>) {
         if self.rows.len() < MOST {
-            if let Err(_) = self.rows.push(row) {}
+            if let Err(_) = self.rows.push(forest) {}
         }
     }
 
-    /// A vector for a row, at hand or new.
+    /// A vector for a forest, at hand or new.
     #[inline]
-    pub(crate) fn take_row(&mut self) -> Result<Vec<Entry>, AllocError>
-        ensures { IfOk result (λ row. row.items ≡ []) }
+    pub(crate) fn take_entries(&mut self) -> Result<Vec<KeyedTree>, AllocError>
+        ensures { IfOk result (λ forest. forest.items ≡ []) }
     {
         match self.rows.pop() {
-            Some(mut row) => {
-                row.clear();
-                Ok(row)
+            Some(mut forest) => {
+                forest.clear();
+                Ok(forest)
             }
             None => {
-                let row = Vec::with_capacity(self.alloc, 12)?;
-                Ok(row)
+                let forest = Vec::with_capacity(self.alloc, 12)?;
+                Ok(forest)
             }
         }
     }

@@ -42,7 +42,7 @@ group_less starts calls groups i are less = rw are (omega (arith, group_at start
 
 -- a piece with one more call
 pub record HasMore (call : Call) (old new : Piece) : Type 0 where
-  pub row : new.row ≡ old.row
+  pub forest : new.forest ≡ old.forest
   pub calls : new.calls.items ≡ old.calls.items ++ call ∷ []
   pub beyond : new.beyond ≡ old.beyond
 
@@ -50,7 +50,7 @@ piece_more : (keys : List ℕ) (calls : List Call) (beyond : Option ℕ) (call :
     → IsCutPiece keys calls beyond old → HasMore call old new
     → IsCutPiece keys (calls ++ call ∷ []) beyond new
 piece_more keys calls beyond call old new is more = record {
-  keys_are = more.row ∙ is.keys_are;
+  keys_are = more.forest ∙ is.keys_are;
   calls_are = more.calls ∙ ap (λ before. before ++ call ∷ []) is.calls_are;
   beyond_is = more.beyond ∙ is.beyond_is;
 }

@@ -25,18 +25,18 @@ all_at P xs k ys each = (all_back P xs (k ∷ ys) each).0
 
 pub all_with : (P : ℕ → Type 0) (key : ℕ) (xs : List ℕ) → P key → AllByRecursion P xs → AllByRecursion P (with_key key xs)
 all_with P key [] here each = (here, tt)
-all_with P key (x ∷ xs) here each = step (nat_lt key x) (key == x) (all_with P key xs here each.1) where
-  step : (first same : Bool) → AllByRecursion P (with_key key xs) → AllByRecursion P (if first then key ∷ x ∷ xs else (if same then x ∷ xs else x ∷ with_key key xs))
-  step true same rest = (here, each)
-  step false true rest = each
-  step false false rest = (each.0, rest)
+all_with P key (x ∷ xs) here each = insertion (nat_lt key x) (key == x) (all_with P key xs here each.1) where
+  insertion : (first same : Bool) → AllByRecursion P (with_key key xs) → AllByRecursion P (if first then key ∷ x ∷ xs else (if same then x ∷ xs else x ∷ with_key key xs))
+  insertion true same rest = (here, each)
+  insertion false true rest = each
+  insertion false false rest = (each.0, rest)
 
 pub all_without : (P : ℕ → Type 0) (key : ℕ) (xs : List ℕ) → AllByRecursion P xs → AllByRecursion P (without_key key xs)
 all_without P key [] each = tt
-all_without P key (x ∷ xs) each = step (key == x) (all_without P key xs each.1) where
-  step : (same : Bool) → AllByRecursion P (without_key key xs) → AllByRecursion P (if same then xs else x ∷ without_key key xs)
-  step true rest = each.1
-  step false rest = (each.0, rest)
+all_without P key (x ∷ xs) each = insertion (key == x) (all_without P key xs each.1) where
+  insertion : (same : Bool) → AllByRecursion P (without_key key xs) → AllByRecursion P (if same then xs else x ∷ without_key key xs)
+  insertion true rest = each.1
+  insertion false rest = (each.0, rest)
 
 pub all_above : (m n : ℕ) (xs : List ℕ) → m < n → AllByRecursion (λ y. n < y) xs → AllByRecursion (λ y. m < y) xs
 all_above m n xs less each = all_map (λ y. n < y) (λ y. m < y) (λ y above. omega (arith, above)) xs each
@@ -50,8 +50,8 @@ pub ascends_back : (xs ys : List ℕ) → StrictlyAscends (xs ++ ys) → Strictl
 ascends_back [] ys up = up
 ascends_back (x ∷ xs) ys up = ascends_back xs ys up.1
 
-pub ascends_behind : (xs : List ℕ) (k : ℕ) (ys : List ℕ) → StrictlyAscends (xs ++ k ∷ ys) → StrictlyAscends ys
-ascends_behind xs k ys up = (ascends_back xs (k ∷ ys) up).1
+pub ascends_after : (xs : List ℕ) (k : ℕ) (ys : List ℕ) → StrictlyAscends (xs ++ k ∷ ys) → StrictlyAscends ys
+ascends_after xs k ys up = (ascends_back xs (k ∷ ys) up).1
 
 pub all_below_key : (xs : List ℕ) (k : ℕ) (ys : List ℕ) → StrictlyAscends (xs ++ k ∷ ys) → AllByRecursion (λ x. x < k) xs
 all_below_key [] k ys up = tt
@@ -67,19 +67,19 @@ ascends_both (x ∷ low) high up up' below = (all_append (λ y. x < y) low high 
 
 pub ascends_with : (key : ℕ) (xs : List ℕ) → StrictlyAscends xs → StrictlyAscends (with_key key xs)
 ascends_with key [] up = (tt, tt)
-ascends_with key (x ∷ xs) up = step (nat_lt key x) (key == x) refl refl (ascends_with key xs up.1) where
-  step : (first same : Bool) → nat_lt key x ≡ first → (key == x) ≡ same → StrictlyAscends (with_key key xs)
+ascends_with key (x ∷ xs) up = insertion (nat_lt key x) (key == x) refl refl (ascends_with key xs up.1) where
+  insertion : (first same : Bool) → nat_lt key x ≡ first → (key == x) ≡ same → StrictlyAscends (with_key key xs)
       → StrictlyAscends (if first then key ∷ x ∷ xs else (if same then x ∷ xs else x ∷ with_key key xs))
-  step true same is is' rest = let less : key < x = grind (arith, nat_tests) in ((less, all_above key x xs less up.0), up)
-  step false true is is' rest = up
-  step false false is is' rest = (all_with (λ y. x < y) key xs (grind (arith, nat_tests)) up.0, rest)
+  insertion true same is is' rest = let less : key < x = grind (arith, nat_tests) in ((less, all_above key x xs less up.0), up)
+  insertion false true is is' rest = up
+  insertion false false is is' rest = (all_with (λ y. x < y) key xs (grind (arith, nat_tests)) up.0, rest)
 
 pub ascends_without : (key : ℕ) (xs : List ℕ) → StrictlyAscends xs → StrictlyAscends (without_key key xs)
 ascends_without key [] up = tt
-ascends_without key (x ∷ xs) up = step (key == x) (ascends_without key xs up.1) where
-  step : (same : Bool) → StrictlyAscends (without_key key xs) → StrictlyAscends (if same then xs else x ∷ without_key key xs)
-  step true rest = up.1
-  step false rest = (all_without (λ y. x < y) key xs up.0, rest)
+ascends_without key (x ∷ xs) up = insertion (key == x) (ascends_without key xs up.1) where
+  insertion : (same : Bool) → StrictlyAscends (without_key key xs) → StrictlyAscends (if same then xs else x ∷ without_key key xs)
+  insertion true rest = up.1
+  insertion false rest = (all_without (λ y. x < y) key xs up.0, rest)
 
 -- a list that ascends is no longer than the range of its keys
 pub length_in_range : (limit least : ℕ) (xs : List ℕ) → StrictlyAscends xs → AllByRecursion (λ k. least ≤ k) xs → AllByRecursion (λ k. k < limit) xs → least ≤ limit → least + length xs ≤ limit

@@ -3,7 +3,7 @@ use Rattle.std.proofs.Common.{◌≡◌, ℕ, ◌<◌, ◌≤◌, Bool, true, fa
 use Rattle.std.specs.List.{AllByRecursion}
 use Rattle.std.proofs.lemmas.Bool.Decides.{nat_tests}
 use Rattle.tree23.specs.Keys.{StrictlyAscends, has, with_key, without_key, least_above}
-use Rattle.tree23.proofs.KeyLemmas.Ascending.{all_at, all_above, ascends_front, ascends_behind}
+use Rattle.tree23.proofs.KeyLemmas.Ascending.{all_at, all_above, ascends_front, ascends_after}
 
 pub append_around : (xs : List ℕ) (j : ℕ) (ys : List ℕ) (k : ℕ) (zs : List ℕ) → (xs ++ j ∷ ys) ++ k ∷ zs ≡ xs ++ j ∷ (ys ++ k ∷ zs)
 append_around xs j ys k zs = append_assoc xs (j ∷ ys) (k ∷ zs)
@@ -11,38 +11,38 @@ append_around xs j ys k zs = append_assoc xs (j ∷ ys) (k ∷ zs)
 -- a key that is below all keys of a list
 pub has_none : (key : ℕ) (xs : List ℕ) → AllByRecursion (λ x. key < x) xs → has key xs ≡ false
 has_none key [] below = refl
-has_none key (x ∷ xs) below = step (key == x) refl (has_none key xs below.1) where
-  step : (same : Bool) → (key == x) ≡ same → has key xs ≡ false → (same || has key xs) ≡ false
-  step true is rest = absurd (grind (arith, nat_tests, below.0))
-  step false is rest = rest
+has_none key (x ∷ xs) below = insertion (key == x) refl (has_none key xs below.1) where
+  insertion : (same : Bool) → (key == x) ≡ same → has key xs ≡ false → (same || has key xs) ≡ false
+  insertion true is rest = absurd (grind (arith, nat_tests, below.0))
+  insertion false is rest = rest
 
 without_none : (key : ℕ) (xs : List ℕ) → AllByRecursion (λ x. key < x) xs → without_key key xs ≡ xs
 without_none key [] below = refl
-without_none key (x ∷ xs) below = step (key == x) refl (without_none key xs below.1) where
-  step : (same : Bool) → (key == x) ≡ same → without_key key xs ≡ xs → (if same then xs else x ∷ without_key key xs) ≡ x ∷ xs
-  step true is rest = absurd (grind (arith, nat_tests, below.0))
-  step false is rest = ap (λ zs. x ∷ zs) rest
+without_none key (x ∷ xs) below = insertion (key == x) refl (without_none key xs below.1) where
+  insertion : (same : Bool) → (key == x) ≡ same → without_key key xs ≡ xs → (if same then xs else x ∷ without_key key xs) ≡ x ∷ xs
+  insertion true is rest = absurd (grind (arith, nat_tests, below.0))
+  insertion false is rest = ap (λ zs. x ∷ zs) rest
 
 -- a key that is above the first of a list
 pub has_past : (key x : ℕ) (xs : List ℕ) → x < key → has key (x ∷ xs) ≡ has key xs
-has_past key x xs less = step (key == x) refl where
-  step : (same : Bool) → (key == x) ≡ same → (same || has key xs) ≡ has key xs
-  step true is = absurd (grind (arith, nat_tests, less))
-  step false is = refl
+has_past key x xs less = insertion (key == x) refl where
+  insertion : (same : Bool) → (key == x) ≡ same → (same || has key xs) ≡ has key xs
+  insertion true is = absurd (grind (arith, nat_tests, less))
+  insertion false is = refl
 
 pub with_past : (key x : ℕ) (xs : List ℕ) → x < key → with_key key (x ∷ xs) ≡ x ∷ with_key key xs
-with_past key x xs less = step (nat_lt key x) (key == x) refl refl where
-  step : (first same : Bool) → nat_lt key x ≡ first → (key == x) ≡ same
+with_past key x xs less = insertion (nat_lt key x) (key == x) refl refl where
+  insertion : (first same : Bool) → nat_lt key x ≡ first → (key == x) ≡ same
       → (if first then key ∷ x ∷ xs else (if same then x ∷ xs else x ∷ with_key key xs)) ≡ x ∷ with_key key xs
-  step true same is is' = absurd (grind (arith, nat_tests, less))
-  step false true is is' = absurd (grind (arith, nat_tests, less))
-  step false false is is' = refl
+  insertion true same is is' = absurd (grind (arith, nat_tests, less))
+  insertion false true is is' = absurd (grind (arith, nat_tests, less))
+  insertion false false is is' = refl
 
 without_past : (key x : ℕ) (xs : List ℕ) → x < key → without_key key (x ∷ xs) ≡ x ∷ without_key key xs
-without_past key x xs less = step (key == x) refl where
-  step : (same : Bool) → (key == x) ≡ same → (if same then xs else x ∷ without_key key xs) ≡ x ∷ without_key key xs
-  step true is = absurd (grind (arith, nat_tests, less))
-  step false is = refl
+without_past key x xs less = insertion (key == x) refl where
+  insertion : (same : Bool) → (key == x) ≡ same → (if same then xs else x ∷ without_key key xs) ≡ x ∷ without_key key xs
+  insertion true is = absurd (grind (arith, nat_tests, less))
+  insertion false is = refl
 
 -- whether a list has a key
 pub has_left : (key k : ℕ) (xs ys : List ℕ) → key < k → StrictlyAscends (xs ++ k ∷ ys) → has key (xs ++ k ∷ ys) ≡ has key xs
@@ -56,28 +56,28 @@ has_right key k (x ∷ xs) ys less up =
     has_past key x (xs ++ k ∷ ys) (omega arith) ∙ has_right key k xs ys less up.1
 
 pub has_here : (key k : ℕ) (xs ys : List ℕ) → key ≡ k → has key (xs ++ k ∷ ys) ≡ true
-has_here key k [] ys is = step (key == k) (grind (arith, nat_tests)) where
-  step : (same : Bool) → same ≡ true → (same || has key ys) ≡ true
-  step true met = refl
-  step false met = cc
-has_here key k (x ∷ xs) ys is = step (key == x) (has_here key k xs ys is) where
-  step : (same : Bool) → has key (xs ++ k ∷ ys) ≡ true → (same || has key (xs ++ k ∷ ys)) ≡ true
-  step true rest = refl
-  step false rest = rest
+has_here key k [] ys is = insertion (key == k) (grind (arith, nat_tests)) where
+  insertion : (same : Bool) → same ≡ true → (same || has key ys) ≡ true
+  insertion true met = refl
+  insertion false met = cc
+has_here key k (x ∷ xs) ys is = insertion (key == x) (has_here key k xs ys is) where
+  insertion : (same : Bool) → has key (xs ++ k ∷ ys) ≡ true → (same || has key (xs ++ k ∷ ys)) ≡ true
+  insertion true rest = refl
+  insertion false rest = rest
 
 -- a list with a key
 pub with_left : (key k : ℕ) (xs ys : List ℕ) → key < k → with_key key (xs ++ k ∷ ys) ≡ with_key key xs ++ k ∷ ys
-with_left key k [] ys less = step (nat_lt key k) (grind (arith, nat_tests)) where
-  step : (first : Bool) → first ≡ true → (if first then key ∷ k ∷ ys else (if key == k then k ∷ ys else k ∷ with_key key ys)) ≡ key ∷ k ∷ ys
-  step true is = refl
-  step false is = cc
-with_left key k (x ∷ xs) ys less = step (nat_lt key x) (key == x) (with_left key k xs ys less) where
-  step : (first same : Bool) → with_key key (xs ++ k ∷ ys) ≡ with_key key xs ++ k ∷ ys
+with_left key k [] ys less = insertion (nat_lt key k) (grind (arith, nat_tests)) where
+  insertion : (first : Bool) → first ≡ true → (if first then key ∷ k ∷ ys else (if key == k then k ∷ ys else k ∷ with_key key ys)) ≡ key ∷ k ∷ ys
+  insertion true is = refl
+  insertion false is = cc
+with_left key k (x ∷ xs) ys less = insertion (nat_lt key x) (key == x) (with_left key k xs ys less) where
+  insertion : (first same : Bool) → with_key key (xs ++ k ∷ ys) ≡ with_key key xs ++ k ∷ ys
       → (if first then key ∷ x ∷ (xs ++ k ∷ ys) else (if same then x ∷ (xs ++ k ∷ ys) else x ∷ with_key key (xs ++ k ∷ ys)))
       ≡ (if first then key ∷ x ∷ xs else (if same then x ∷ xs else x ∷ with_key key xs)) ++ k ∷ ys
-  step true same rest = refl
-  step false true rest = refl
-  step false false rest = ap (λ zs. x ∷ zs) rest
+  insertion true same rest = refl
+  insertion false true rest = refl
+  insertion false false rest = ap (λ zs. x ∷ zs) rest
 
 pub with_right : (key k : ℕ) (xs ys : List ℕ) → k < key → StrictlyAscends (xs ++ k ∷ ys) → with_key key (xs ++ k ∷ ys) ≡ xs ++ k ∷ with_key key ys
 with_right key k [] ys less up = with_past key k ys less
@@ -87,25 +87,25 @@ with_right key k (x ∷ xs) ys less up =
 
 pub with_present : (key : ℕ) (xs : List ℕ) → StrictlyAscends xs → has key xs ≡ true → with_key key xs ≡ xs
 with_present key [] up there = cc
-with_present key (x ∷ xs) up there = step (nat_lt key x) (key == x) refl refl there (with_present key xs up.1) where
-  step : (first same : Bool) → nat_lt key x ≡ first → (key == x) ≡ same → (same || has key xs) ≡ true
+with_present key (x ∷ xs) up there = insertion (nat_lt key x) (key == x) refl refl there (with_present key xs up.1) where
+  insertion : (first same : Bool) → nat_lt key x ≡ first → (key == x) ≡ same → (same || has key xs) ≡ true
       → (has key xs ≡ true → with_key key xs ≡ xs)
       → (if first then key ∷ x ∷ xs else (if same then x ∷ xs else x ∷ with_key key xs)) ≡ x ∷ xs
-  step true true is is' there rest = absurd (grind (arith, nat_tests))
-  step true false is is' there rest =
+  insertion true true is is' there rest = absurd (grind (arith, nat_tests))
+  insertion true false is is' there rest =
       let none = has_none key xs (all_above key x xs (grind (arith, nat_tests)) up.0) in
       cc
-  step false true is is' there rest = refl
-  step false false is is' there rest = ap (λ zs. x ∷ zs) (rest there)
+  insertion false true is is' there rest = refl
+  insertion false false is is' there rest = ap (λ zs. x ∷ zs) (rest there)
 
 -- a list without a key
 pub without_left : (key k : ℕ) (xs ys : List ℕ) → key < k → StrictlyAscends (xs ++ k ∷ ys) → without_key key (xs ++ k ∷ ys) ≡ without_key key xs ++ k ∷ ys
 without_left key k [] ys less up = without_none key (k ∷ ys) (less, all_above key k ys less up.0)
-without_left key k (x ∷ xs) ys less up = step (key == x) (without_left key k xs ys less up.1) where
-  step : (same : Bool) → without_key key (xs ++ k ∷ ys) ≡ without_key key xs ++ k ∷ ys
+without_left key k (x ∷ xs) ys less up = insertion (key == x) (without_left key k xs ys less up.1) where
+  insertion : (same : Bool) → without_key key (xs ++ k ∷ ys) ≡ without_key key xs ++ k ∷ ys
       → (if same then xs ++ k ∷ ys else x ∷ without_key key (xs ++ k ∷ ys)) ≡ (if same then xs else x ∷ without_key key xs) ++ k ∷ ys
-  step true rest = refl
-  step false rest = ap (λ zs. x ∷ zs) rest
+  insertion true rest = refl
+  insertion false rest = ap (λ zs. x ∷ zs) rest
 
 pub without_right : (key k : ℕ) (xs ys : List ℕ) → k < key → StrictlyAscends (xs ++ k ∷ ys) → without_key key (xs ++ k ∷ ys) ≡ xs ++ k ∷ without_key key ys
 without_right key k [] ys less up = without_past key k ys less
@@ -114,10 +114,10 @@ without_right key k (x ∷ xs) ys less up =
     without_past key x (xs ++ k ∷ ys) (omega arith) ∙ ap (λ zs. x ∷ zs) (without_right key k xs ys less up.1)
 
 pub without_here : (key k : ℕ) (xs ys : List ℕ) → key ≡ k → StrictlyAscends (xs ++ k ∷ ys) → without_key key (xs ++ k ∷ ys) ≡ xs ++ ys
-without_here key k [] ys is up = step (key == k) (grind (arith, nat_tests)) where
-  step : (same : Bool) → same ≡ true → (if same then ys else k ∷ without_key key ys) ≡ ys
-  step true met = refl
-  step false met = cc
+without_here key k [] ys is up = insertion (key == k) (grind (arith, nat_tests)) where
+  insertion : (same : Bool) → same ≡ true → (if same then ys else k ∷ without_key key ys) ≡ ys
+  insertion true met = refl
+  insertion false met = cc
 without_here key k (x ∷ xs) ys is up =
     let before : x < k = all_at (λ y. x < y) xs k ys up.0 in
     without_past key x (xs ++ k ∷ ys) (omega arith) ∙ ap (λ zs. x ∷ zs) (without_here key k xs ys is up.1)
@@ -128,30 +128,30 @@ without_last key k xs ys is none up = without_here key k xs ys is up ∙ rw none
 -- the least key above a key
 pub least_left : (key k : ℕ) (xs ys : List ℕ) (found : ℕ) → least_above key xs ≡ Some found → least_above key (xs ++ k ∷ ys) ≡ Some found
 least_left key k [] ys found is = absurd (cc)
-least_left key k (x ∷ xs) ys found is = step (nat_lt key x) is (least_left key k xs ys found) where
-  step : (more : Bool) → (if more then Some x else least_above key xs) ≡ Some found
+least_left key k (x ∷ xs) ys found is = insertion (nat_lt key x) is (least_left key k xs ys found) where
+  insertion : (more : Bool) → (if more then Some x else least_above key xs) ≡ Some found
       → (least_above key xs ≡ Some found → least_above key (xs ++ k ∷ ys) ≡ Some found)
       → (if more then Some x else least_above key (xs ++ k ∷ ys)) ≡ Some found
-  step true is rest = is
-  step false is rest = rest is
+  insertion true is rest = is
+  insertion false is rest = rest is
 
 pub least_here : (key k : ℕ) (xs ys : List ℕ) → key < k → least_above key xs ≡ None → least_above key (xs ++ k ∷ ys) ≡ Some k
-least_here key k [] ys less none = step (nat_lt key k) (grind (arith, nat_tests)) where
-  step : (more : Bool) → more ≡ true → (if more then Some k else least_above key ys) ≡ Some k
-  step true met = refl
-  step false met = cc
-least_here key k (x ∷ xs) ys less none = step (nat_lt key x) none (least_here key k xs ys less) where
-  step : (more : Bool) → (if more then Some x else least_above key xs) ≡ None
+least_here key k [] ys less none = insertion (nat_lt key k) (grind (arith, nat_tests)) where
+  insertion : (more : Bool) → more ≡ true → (if more then Some k else least_above key ys) ≡ Some k
+  insertion true met = refl
+  insertion false met = cc
+least_here key k (x ∷ xs) ys less none = insertion (nat_lt key x) none (least_here key k xs ys less) where
+  insertion : (more : Bool) → (if more then Some x else least_above key xs) ≡ None
       → (least_above key xs ≡ None → least_above key (xs ++ k ∷ ys) ≡ Some k)
       → (if more then Some x else least_above key (xs ++ k ∷ ys)) ≡ Some k
-  step true none rest = absurd (cc)
-  step false none rest = rest none
+  insertion true none rest = absurd (cc)
+  insertion false none rest = rest none
 
 pub least_past : (key x : ℕ) (xs : List ℕ) → x ≤ key → least_above key (x ∷ xs) ≡ least_above key xs
-least_past key x xs le = step (nat_lt key x) refl where
-  step : (more : Bool) → nat_lt key x ≡ more → (if more then Some x else least_above key xs) ≡ least_above key xs
-  step true is = absurd (grind (arith, nat_tests, le))
-  step false is = refl
+least_past key x xs le = insertion (nat_lt key x) refl where
+  insertion : (more : Bool) → nat_lt key x ≡ more → (if more then Some x else least_above key xs) ≡ least_above key xs
+  insertion true is = absurd (grind (arith, nat_tests, le))
+  insertion false is = refl
 
 pub least_right : (key k : ℕ) (xs ys : List ℕ) → k ≤ key → StrictlyAscends (xs ++ k ∷ ys) → least_above key (xs ++ k ∷ ys) ≡ least_above key ys
 least_right key k [] ys le up = least_past key k ys le
@@ -159,8 +159,8 @@ least_right key k (x ∷ xs) ys le up =
     let before : x < k = all_at (λ y. x < y) xs k ys up.0 in
     least_past key x (xs ++ k ∷ ys) (omega arith) ∙ least_right key k xs ys le up.1
 
-pub ruleset removing = (append_around, without_last, without_left, without_right, without_here, has_left, has_right, has_here, ascends_front, ascends_behind)
+pub ruleset removing = (append_around, without_last, without_left, without_right, without_here, has_left, has_right, has_here, ascends_front, ascends_after)
 
-pub ruleset looking = (has_left, has_right, has_here, ascends_front, ascends_behind)
+pub ruleset looking = (has_left, has_right, has_here, ascends_front, ascends_after)
 
-pub ruleset nexts = (least_left, least_here, least_right, ascends_front, ascends_behind)
+pub ruleset nexts = (least_left, least_here, least_right, ascends_front, ascends_after)

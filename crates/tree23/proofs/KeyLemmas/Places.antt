@@ -30,36 +30,36 @@ above_from key at xs up l le =
     rw (drop_more xs at 0 l) (le, all_map (λ k. get_or xs at 0 < k) (λ k. key ≤ k) (λ k h. omega arith) (drop (at + 1) xs) (all_above_key (take at xs) (get_or xs at 0) (drop (at + 1) xs) s))
 
 -- whether a key is there
-has_behind : (key : ℕ) (low high : List ℕ) → AllByRecursion (λ k. k < key) low → has key (low ++ high) ≡ has key high
-has_behind key [] high below = refl
-has_behind key (x ∷ low) high below = has_past key x (low ++ high) below.0 ∙ has_behind key low high below.1
+has_after : (key : ℕ) (low high : List ℕ) → AllByRecursion (λ k. k < key) low → has key (low ++ high) ≡ has key high
+has_after key [] high below = refl
+has_after key (x ∷ low) high below = has_past key x (low ++ high) below.0 ∙ has_after key low high below.1
 
 has_first : (key x : ℕ) (xs : List ℕ) → StrictlyAscends (x ∷ xs) → key ≤ x → has key (x ∷ xs) ≡ (x == key)
-has_first key x xs up le = step (key == x) refl where
-  step : (same : Bool) → (key == x) ≡ same → (same || has key xs) ≡ (x == key)
-  step true is = grind (arith, nat_tests)
-  step false is =
+has_first key x xs up le = insertion (key == x) refl where
+  insertion : (same : Bool) → (key == x) ≡ same → (same || has key xs) ≡ (x == key)
+  insertion true is = grind (arith, nat_tests)
+  insertion false is =
       let none = has_none key xs (all_map (λ k. x < k) (λ k. key < k) (λ k h. omega arith) xs up.0) in
       grind (arith, nat_tests, none)
 
 pub has_nowhere : (key at : ℕ) (xs : List ℕ) → IsSplit key xs (take at xs) (drop at xs) → length xs ≤ at → has key xs ≡ false
-has_nowhere key at xs cut l = rw (drop_all at xs l) at (ap (has key) cut.is ∙ has_behind key (take at xs) (drop at xs) cut.below)
+has_nowhere key at xs cut l = rw (drop_all at xs l) at (ap (has key) cut.is ∙ has_after key (take at xs) (drop at xs) cut.below)
 
 pub has_at : (key at : ℕ) (xs : List ℕ) → StrictlyAscends xs → IsSplit key xs (take at xs) (drop at xs) → at < length xs → has key xs ≡ (get_or xs at 0 == key)
 has_at key at xs up cut l =
     let s = ascends_around at xs up l in
     let above = rw (drop_more xs at 0 l) at cut.above in
-    ap (has key) cut.is ∙ has_behind key (take at xs) (drop at xs) cut.below ∙ ap (has key) (drop_more xs at 0 l)
+    ap (has key) cut.is ∙ has_after key (take at xs) (drop at xs) cut.below ∙ ap (has key) (drop_more xs at 0 l)
     ∙ has_first key (get_or xs at 0) (drop (at + 1) xs) (ascends_back (take at xs) _ s) above.0
 
 -- a key put in at its place
 with_first : (key x : ℕ) (xs : List ℕ) → key ≤ x → has key (x ∷ xs) ≡ false → with_key key (x ∷ xs) ≡ key ∷ x ∷ xs
-with_first key x xs le none = step (nat_lt key x) (key == x) refl refl none where
-  step : (first same : Bool) → nat_lt key x ≡ first → (key == x) ≡ same → (same || has key xs) ≡ false
+with_first key x xs le none = insertion (nat_lt key x) (key == x) refl refl none where
+  insertion : (first same : Bool) → nat_lt key x ≡ first → (key == x) ≡ same → (same || has key xs) ≡ false
       → (if first then key ∷ x ∷ xs else (if same then x ∷ xs else x ∷ with_key key xs)) ≡ key ∷ x ∷ xs
-  step true same is is' none = refl
-  step false true is is' none = absurd (cc)
-  step false false is is' none = absurd (grind (arith, nat_tests, le))
+  insertion true same is is' none = refl
+  insertion false true is is' none = absurd (cc)
+  insertion false false is is' none = absurd (grind (arith, nat_tests, le))
 
 with_between : (key : ℕ) (low high : List ℕ) → AllByRecursion (λ k. k < key) low → AllByRecursion (λ k. key ≤ k) high → has key (low ++ high) ≡ false → with_key key (low ++ high) ≡ low ++ key ∷ high
 with_between key [] [] below above none = refl
@@ -77,23 +77,23 @@ without_at key at xs up l is =
     ap (without_key key) (around_place at xs l) ∙ without_here key (get_or xs at 0) (take at xs) (drop (at + 1) xs) is (ascends_around at xs up l)
     ∙ ap (λ n. take at xs ++ drop n xs) (add-one at)
 
--- the place behind all keys that are not above a key
-pub record IsBehind (key : ℕ) (xs : List ℕ) (at : ℕ) : Type 0 where
+-- the place after all keys that are not above a key
+pub record IsAfter (key : ℕ) (xs : List ℕ) (at : ℕ) : Type 0 where
   pub up_to : AllByRecursion (λ k. k ≤ key) (take at xs)
   pub above : AllByRecursion (λ k. key < k) (drop at xs)
 
 above_absent : (key : ℕ) (xs : List ℕ) → AllByRecursion (λ k. key ≤ k) xs → has key xs ≡ false → AllByRecursion (λ k. key < k) xs
 above_absent key [] above none = tt
-above_absent key (x ∷ xs) above none = step (key == x) refl none (above_absent key xs above.1) where
-  step : (same : Bool) → (key == x) ≡ same → (same || has key xs) ≡ false → (has key xs ≡ false → AllByRecursion (λ k. key < k) xs)
+above_absent key (x ∷ xs) above none = insertion (key == x) refl none (above_absent key xs above.1) where
+  insertion : (same : Bool) → (key == x) ≡ same → (same || has key xs) ≡ false → (has key xs ≡ false → AllByRecursion (λ k. key < k) xs)
       → (key < x) × AllByRecursion (λ k. key < k) xs
-  step true is none rest = absurd (cc)
-  step false is none rest = let le : key ≤ x = above.0 in (grind (arith, nat_tests), rest none)
+  insertion true is none rest = absurd (cc)
+  insertion false is none rest = let le : key ≤ x = above.0 in (grind (arith, nat_tests), rest none)
 
-pub behind_absent : (key at : ℕ) (xs : List ℕ) → IsSplit key xs (take at xs) (drop at xs) → has key xs ≡ false → IsBehind key xs at
-behind_absent key at xs cut none = record {
+pub after_absent : (key at : ℕ) (xs : List ℕ) → IsSplit key xs (take at xs) (drop at xs) → has key xs ≡ false → IsAfter key xs at
+after_absent key at xs cut none = record {
   up_to = all_map (λ k. k < key) (λ k. k ≤ key) (λ k h. omega arith) (take at xs) cut.below;
-  above = above_absent key (drop at xs) cut.above (sym (ap (has key) cut.is ∙ has_behind key (take at xs) (drop at xs) cut.below) ∙ none);
+  above = above_absent key (drop at xs) cut.above (sym (ap (has key) cut.is ∙ has_after key (take at xs) (drop at xs) cut.below) ∙ none);
 }
 
 pub within_present : (key at : ℕ) (xs : List ℕ) → IsSplit key xs (take at xs) (drop at xs) → has key xs ≡ true → at < length xs
@@ -109,8 +109,8 @@ key_present key at xs up cut there =
     let is = has_at key at xs up cut (within_present key at xs cut there) in
     grind (arith, nat_tests)
 
-pub behind_present : (key at : ℕ) (xs : List ℕ) → StrictlyAscends xs → IsSplit key xs (take at xs) (drop at xs) → has key xs ≡ true → IsBehind key xs (at + 1)
-behind_present key at xs up cut there =
+pub after_present : (key at : ℕ) (xs : List ℕ) → StrictlyAscends xs → IsSplit key xs (take at xs) (drop at xs) → has key xs ≡ true → IsAfter key xs (at + 1)
+after_present key at xs up cut there =
     let l = within_present key at xs cut there in
     let is = key_present key at xs up cut there in
     record {
@@ -119,21 +119,21 @@ behind_present key at xs up cut there =
     }
 
 -- the least key above a key
-least_behind : (key : ℕ) (low high : List ℕ) → AllByRecursion (λ k. k ≤ key) low → least_above key (low ++ high) ≡ least_above key high
-least_behind key [] high below = refl
-least_behind key (x ∷ low) high below = least_past key x (low ++ high) below.0 ∙ least_behind key low high below.1
+least_after : (key : ℕ) (low high : List ℕ) → AllByRecursion (λ k. k ≤ key) low → least_above key (low ++ high) ≡ least_above key high
+least_after key [] high below = refl
+least_after key (x ∷ low) high below = least_past key x (low ++ high) below.0 ∙ least_after key low high below.1
 
 least_first : (key x : ℕ) (xs : List ℕ) → key < x → least_above key (x ∷ xs) ≡ Some x
-least_first key x xs less = step (nat_lt key x) (grind (arith, nat_tests)) where
-  step : (more : Bool) → more ≡ true → (if more then Some x else least_above key xs) ≡ Some x
-  step true met = refl
-  step false met = cc
+least_first key x xs less = insertion (nat_lt key x) (grind (arith, nat_tests)) where
+  insertion : (more : Bool) → more ≡ true → (if more then Some x else least_above key xs) ≡ Some x
+  insertion true met = refl
+  insertion false met = cc
 
-pub least_nowhere : (key at : ℕ) (xs : List ℕ) → IsBehind key xs at → length xs ≤ at → least_above key xs ≡ None
+pub least_nowhere : (key at : ℕ) (xs : List ℕ) → IsAfter key xs at → length xs ≤ at → least_above key xs ≡ None
 least_nowhere key at xs place l =
-    ap (least_above key) (sym (take-append-drop at xs)) ∙ least_behind key (take at xs) (drop at xs) place.up_to ∙ ap (least_above key) (drop_all at xs l)
+    ap (least_above key) (sym (take-append-drop at xs)) ∙ least_after key (take at xs) (drop at xs) place.up_to ∙ ap (least_above key) (drop_all at xs l)
 
-pub least_at : (key at : ℕ) (xs : List ℕ) → IsBehind key xs at → at < length xs → least_above key xs ≡ Some (get_or xs at 0)
+pub least_at : (key at : ℕ) (xs : List ℕ) → IsAfter key xs at → at < length xs → least_above key xs ≡ Some (get_or xs at 0)
 least_at key at xs place l =
     let above = rw (drop_more xs at 0 l) at place.above in
-    ap (least_above key) (around_place at xs l) ∙ least_behind key (take at xs) (get_or xs at 0 ∷ drop (at + 1) xs) place.up_to ∙ least_first key (get_or xs at 0) (drop (at + 1) xs) above.0
+    ap (least_above key) (around_place at xs l) ∙ least_after key (take at xs) (get_or xs at 0 ∷ drop (at + 1) xs) place.up_to ∙ least_first key (get_or xs at 0) (drop (at + 1) xs) above.0

@@ -4,7 +4,7 @@ use Rattle.std.specs.Prelude.{Result, Ok, Err, OnOk}
 use Rattle.std.specs.List.{AllByRecursion}
 use Rattle.tree23.specs.Keys.{StrictlyAscends, AllBelow}
 use Rattle.tree23.specs.Splits.{IsSplit}
-use Rattle.tree23.proofs.KeyLemmas.Ascending.{all_map, all_append, all_below_key, all_above_key, ascends_front, ascends_behind}
+use Rattle.tree23.proofs.KeyLemmas.Ascending.{all_map, all_append, all_below_key, all_above_key, ascends_front, ascends_after}
 
 pub record Parts (limit : ℕ) (whole a : List ℕ) (k : ℕ) (b : List ℕ) : Type 0 where
   pub is : whole ≡ a ++ k ∷ b
@@ -22,7 +22,7 @@ parts limit whole a k b e s l =
     record {
       is = e;
       left = ascends_front a (k ∷ b) s';
-      right = ascends_behind a k b s';
+      right = ascends_after a k b s';
       left_fits = omega (arith, length-append a (k ∷ b));
       right_fits = omega (arith, length-append a (k ∷ b));
       below = all_below_key a k b s';

@@ -2,21 +2,21 @@
 use Rattle.std.proofs.Common.{◌+◌, ◌*◌, ◌<◌, ◌≤◌, ◌^◌, ◌∷◌, ◌++◌, length, arith, length-append}
 use Rattle.std.proofs.lemmas.Grind.{pow_more}
 use Rattle.tree23.specs.declared.tree.node.Tree.{Tree}
-use Rattle.tree23.specs.declared.tree.node.Tree.TheVariants.{Leaf, Block, One', Two', Three'}
+use Rattle.tree23.specs.declared.tree.node.Tree.TheVariants.{Empty, Leaf, Underfull', Two', Three'}
 use Rattle.tree23.specs.Nodes.{keys, depth, IsTree}
 
 pub depth_within : (tree : Tree) → IsTree tree → depth tree ≤ length (keys tree)
-depth_within Leaf t = omega arith
-depth_within (Block b) t = omega arith
-depth_within (One' p n a k b m c) t = absurd t
+depth_within Empty t = omega arith
+depth_within (Leaf b) t = omega arith
+depth_within (Underfull' p n a k b m c) t = absurd t
 depth_within (Two' p n a k b m c) t = omega (arith, depth_within a t.0, length-append (keys a) (k ∷ keys b))
 depth_within (Three' p n a k b m c) t = omega (arith, depth_within a t.0, length-append (keys a) (k ∷ (keys b ++ m ∷ keys c)))
 
 -- a tree of depth d holds at least 2 ^ d - 1 keys
 pub keys_at_least : (tree : Tree) → IsTree tree → 2 ^ depth tree ≤ length (keys tree) + 1
-keys_at_least Leaf t = omega arith
-keys_at_least (Block b) t = omega arith
-keys_at_least (One' p n a k b m c) t = absurd t
+keys_at_least Empty t = omega arith
+keys_at_least (Leaf b) t = omega arith
+keys_at_least (Underfull' p n a k b m c) t = absurd t
 keys_at_least (Two' p n a k b m c) t =
     let level = t.2 in
     let x = keys_at_least a t.0 in
@@ -28,11 +28,11 @@ keys_at_least (Three' p n a k b m c) t =
     let y = rw level at (keys_at_least b t.1) in
     rw pow_more (omega (arith, x, y, length-append (keys a) (k ∷ (keys b ++ m ∷ keys c)), length-append (keys b) (m ∷ keys c)))
 
--- a tree of depth d holds fewer than 257 * 3 ^ d keys, as there are 3 ^ d blocks at most, and 3 ^ d - 1 keys above them
+-- a tree of depth d holds fewer than 257 * 3 ^ d keys, as there are 3 ^ d leaves at most, and 3 ^ d - 1 keys above them
 pub keys_at_most : (tree : Tree) → IsTree tree → length (keys tree) < 257 * 3 ^ depth tree
-keys_at_most Leaf t = omega arith
-keys_at_most (Block b) t = omega arith
-keys_at_most (One' p n a k b m c) t = absurd t
+keys_at_most Empty t = omega arith
+keys_at_most (Leaf b) t = omega arith
+keys_at_most (Underfull' p n a k b m c) t = absurd t
 keys_at_most (Two' p n a k b m c) t =
     let level = t.2 in
     let x = keys_at_most a t.0 in

@@ -6,7 +6,7 @@ use Rattle.tree23.specs.Keys.{StrictlyAscends, has, without_key}
 use Rattle.tree23.specs.Code.Removals.{IsTaken, IsRemoved}
 use Rattle.tree23.specs.Nodes.{keys, IsTree}
 use Rattle.tree23.specs.Splits.{IsSplit}
-use Rattle.tree23.proofs.KeyLemmas.Ascending.{ascends_front, ascends_behind}
+use Rattle.tree23.proofs.KeyLemmas.Ascending.{ascends_front, ascends_after}
 use Rattle.tree23.proofs.KeyLemmas.Beside.{without_left, without_right, without_here, has_left, has_right, has_here}
 use Rattle.tree23.proofs.KeyLemmas.Places.{without_at, within_present, key_present}
 
@@ -23,39 +23,39 @@ taken_right key k a b b' s lt i = record {
 }
 
 pub taken_middle : (key k m : ℕ) (a b c b' : List ℕ) → StrictlyAscends (a ++ k ∷ (b ++ m ∷ c)) → k < key → key < m → IsTaken key b b' → IsTaken key (a ++ k ∷ (b ++ m ∷ c)) (a ++ k ∷ (b' ++ m ∷ c))
-taken_middle key k m a b c b' s gt lt i = taken_right key k a (b ++ m ∷ c) (b' ++ m ∷ c) s gt (taken_left key m b c b' (ascends_behind a k (b ++ m ∷ c) s) lt i)
+taken_middle key k m a b c b' s gt lt i = taken_right key k a (b ++ m ∷ c) (b' ++ m ∷ c) s gt (taken_left key m b c b' (ascends_after a k (b ++ m ∷ c) s) lt i)
 
 pub taken_last : (key k m : ℕ) (a b c c' : List ℕ) → StrictlyAscends (a ++ k ∷ (b ++ m ∷ c)) → k < key → m < key → IsTaken key c c' → IsTaken key (a ++ k ∷ (b ++ m ∷ c)) (a ++ k ∷ (b ++ m ∷ c'))
-taken_last key k m a b c c' s gt gt' i = taken_right key k a (b ++ m ∷ c) (b ++ m ∷ c') s gt (taken_right key m b c c' (ascends_behind a k (b ++ m ∷ c) s) gt' i)
+taken_last key k m a b c c' s gt gt' i = taken_right key k a (b ++ m ∷ c) (b ++ m ∷ c') s gt (taken_right key m b c c' (ascends_after a k (b ++ m ∷ c) s) gt' i)
 
 pub taken_here : (key k : ℕ) (a b : List ℕ) → StrictlyAscends (a ++ k ∷ b) → key ≡ k → IsTaken key (a ++ k ∷ b) (a ++ b)
 taken_here key k a b s e = record { is = sym (without_here key k a b e s); present = has_here key k a b e }
 
 pub taken_high : (key k m : ℕ) (a b c : List ℕ) → StrictlyAscends (a ++ k ∷ (b ++ m ∷ c)) → k < key → key ≡ m → IsTaken key (a ++ k ∷ (b ++ m ∷ c)) (a ++ k ∷ (b ++ c))
-taken_high key k m a b c s gt e = taken_right key k a (b ++ m ∷ c) (b ++ c) s gt (taken_here key m b c (ascends_behind a k (b ++ m ∷ c) s) e)
+taken_high key k m a b c s gt e = taken_right key k a (b ++ m ∷ c) (b ++ c) s gt (taken_here key m b c (ascends_after a k (b ++ m ∷ c) s) e)
 
 pub without_absent : (key : ℕ) (xs : List ℕ) → has key xs ≡ false → without_key key xs ≡ xs
 without_absent key [] none = refl
-without_absent key (x ∷ xs) none = step (key == x) none (without_absent key xs) where
-  step : (same : Bool) → (same || has key xs) ≡ false → (has key xs ≡ false → without_key key xs ≡ xs) → (if same then xs else x ∷ without_key key xs) ≡ x ∷ xs
-  step true none rest = absurd (cc)
-  step false none rest = ap (λ zs. x ∷ zs) (rest none)
+without_absent key (x ∷ xs) none = insertion (key == x) none (without_absent key xs) where
+  insertion : (same : Bool) → (same || has key xs) ≡ false → (has key xs ≡ false → without_key key xs ≡ xs) → (if same then xs else x ∷ without_key key xs) ≡ x ∷ xs
+  insertion true none rest = absurd (cc)
+  insertion false none rest = ap (λ zs. x ∷ zs) (rest none)
 
--- a key taken out of a block at its place
+-- a key taken out of a leaf at its place
 pub taken_at : (key at : ℕ) (xs : List ℕ) → StrictlyAscends xs → IsSplit key xs (take at xs) (drop at xs) → has key xs ≡ true → remove xs at ≡ without_key key xs
 taken_at key at xs up cut there = sym (without_at key at xs up (within_present key at xs cut there) (key_present key at xs up cut there))
 
--- a removal from a block, which is no longer after it than before
+-- a removal from a leaf, which is no longer after it than before
 pub removed_of_keys : (key : ℕ) (old new : Tree) (found : Bool) → IsTree new → found ≡ has key (keys old) → keys new ≡ without_key key (keys old) → IsRemoved key old new found
 removed_of_keys key old new true tree there is = record { is = is; present = sym there }
 removed_of_keys key old new false tree there is = (tree, is ∙ without_absent key (keys old) (sym there), sym there)
 
 length_without : (key : ℕ) (xs : List ℕ) → length (without_key key xs) ≤ length xs
 length_without key [] = omega arith
-length_without key (x ∷ xs) = step (key == x) (length_without key xs) where
-  step : (same : Bool) → length (without_key key xs) ≤ length xs → length (if same then xs else x ∷ without_key key xs) ≤ length (x ∷ xs)
-  step true rest = omega arith
-  step false rest = omega arith
+length_without key (x ∷ xs) = insertion (key == x) (length_without key xs) where
+  insertion : (same : Bool) → length (without_key key xs) ≤ length xs → length (if same then xs else x ∷ without_key key xs) ≤ length (x ∷ xs)
+  insertion true rest = omega arith
+  insertion false rest = omega arith
 
 pub fits_without : (key limit : ℕ) (old new : List ℕ) → new ≡ without_key key old → length old ≤ limit → length new ≤ limit
 fits_without key limit old new is fits = rw is (omega (arith, fits, length_without key old))
@@ -69,6 +69,6 @@ pub removed_found : (key : ℕ) (old new : Tree) (found : Bool) → IsRemoved ke
 removed_found key old new true taken = sym taken.present
 removed_found key old new false kept = sym kept.2
 
-pub ruleset sides_ascend = (ascends_front, ascends_behind)
+pub ruleset sides_ascend = (ascends_front, ascends_after)
 
 pub ruleset removing_at = (within_present, taken_at, without_absent)

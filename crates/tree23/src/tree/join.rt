@@ -1,258 +1,260 @@
-//! Trees put together around a key.
+//! Trees joined around a key: the lower one moves whole to the edge of the other, at its own height (2-3 tree join).
 ghost use Rattle.std.specs.Prelude.{◌≡◌, ◌+◌, ◌%◌, ◌<◌, ◌^◌, ◌++◌, ◌∷◌, true, length, IfOk, OnOk};
-ghost use Rattle.tree23.specs.Nodes.{room, keys, depth, IsTree, IsBottom, IsPart, grown_keys, IsGrown};
+ghost use Rattle.tree23.specs.Nodes.{room, keys, depth, IsTree, IsLeaf, IsRooted, keys_with_split, IsTreeWithSplit};
 
-use crate::pool::Spares;
-use crate::tree::block::ROOM;
-use crate::tree::node::{Grown, Part, Tree, two};
-use crate::tree::remove::{lower, pop_first};
-use crate::tree::split_node::{split_first, split_third, widen_first, widen_second};
+use crate::pool::Pool;
+use crate::tree::leaf::ROOM;
+use crate::tree::node::{Rooted, Split, Tree, two};
+use crate::tree::remove::{pop_first, shrink_root};
+use crate::tree::split_node::{
+    add_after_first, add_after_second, split_after_first, split_after_third,
+};
 use std::alloc::{AllocError, Global};
 use std::mem;
 
-/// Whether two trees are blocks that fit into one, with a key between them.
+/// Whether two trees are leaves that fit into one, with a key between them.
 #[inline]
-fn become_one(low: &Tree, high: &Tree) -> bool
+fn fit_in_one_leaf(low: &Tree, high: &Tree) -> bool
     requires low { IsTree low.now }
     requires high { IsTree high.now }
-    ensures bottom { result ≡ true → IsBottom low.now × IsBottom high.now }
+    ensures bottom { result ≡ true → IsLeaf low.now × IsLeaf high.now }
     ensures fits { result ≡ true → length (keys low.now) + length (keys high.now) < room }
 {
     match high {
-        Tree::Leaf | Tree::Block(_) => match low {
-            Tree::Leaf | Tree::Block(_) => low.size() + high.size() < ROOM as u64,
-            Tree::One(_) | Tree::Two(_) | Tree::Three(_) => false,
+        Tree::Empty | Tree::Leaf(_) => match low {
+            Tree::Empty | Tree::Leaf(_) => low.size() + high.size() < ROOM as u64,
+            Tree::Underfull(_) | Tree::Two(_) | Tree::Three(_) => false,
         },
-        Tree::One(_) | Tree::Two(_) | Tree::Three(_) => false,
+        Tree::Underfull(_) | Tree::Two(_) | Tree::Three(_) => false,
     }
 }
 
-/// The block of a tree's keys: the tree's own, or an empty one where it has none.
-fn block_in(tree: Tree, spares: &mut Spares) -> Result<Box<Vec<u32>>, AllocError>
-    requires bottom { IsBottom tree }
+/// The leaf of a tree's keys: the tree's own, or an empty one where it has none.
+fn leaf_in(tree: Tree, pool: &mut Pool) -> Result<Box<Vec<u32>>, AllocError>
+    requires bottom { IsLeaf tree }
     ensures { IfOk result (λ b. b.value.items ≡ keys tree) }
 {
     match tree {
-        Tree::Block(block) => Ok(block),
-        Tree::Leaf => spares.take_block(),
-        Tree::One(_) | Tree::Two(_) | Tree::Three(_) => unreachable!(),
+        Tree::Leaf(leaf) => Ok(leaf),
+        Tree::Empty => pool.take_leaf(),
+        Tree::Underfull(_) | Tree::Two(_) | Tree::Three(_) => unreachable!(),
     }
 }
 
-/// Puts a block's keys behind others.
-fn put_block_behind(block: &mut Vec<u32>, high: &Tree) -> Result<(), AllocError>
-    requires bottom { IsBottom high.now }
-    ensures { OnOk result (block.new.items ≡ block.old.items ++ keys high.now) }
+/// Puts a leaf's keys after others.
+fn put_leaf_after(leaf: &mut Vec<u32>, high: &Tree) -> Result<(), AllocError>
+    requires bottom { IsLeaf high.now }
+    ensures { OnOk result (leaf.new.items ≡ leaf.old.items ++ keys high.now) }
 {
     match high {
-        Tree::Block(behind) => {
-            block.extend_from_slice(behind)?;
+        Tree::Leaf(after) => {
+            leaf.extend_from_slice(after)?;
             Ok(())
         }
-        Tree::Leaf => Ok(()),
-        Tree::One(_) | Tree::Two(_) | Tree::Three(_) => unreachable!(),
+        Tree::Empty => Ok(()),
+        Tree::Underfull(_) | Tree::Two(_) | Tree::Three(_) => unreachable!(),
     }
 }
 
-/// Puts a key and a tree behind one of the same depth. Two blocks become one where one has room for both and the key.
-fn meet(low: &mut Tree, key: u32, high: Tree, spares: &mut Spares) -> Result<Grown, AllocError>
+/// Puts a key and a tree after one of the same depth. Two leaves become one where one has room for both and the key.
+fn join_equal(low: &mut Tree, key: u32, high: Tree, pool: &mut Pool) -> Result<Split, AllocError>
     requires low { IsTree low.old }
     requires high { IsTree high }
     requires level { depth low.old ≡ depth high }
-    ensures keys { IfOk result (λ g. grown_keys low.new g ≡ keys low.old ++ key ∷ keys high) }
-    ensures grown { IfOk result (λ g. IsGrown (depth low.old) low.new g) }
+    ensures keys { IfOk result (λ g. keys_with_split low.new g ≡ keys low.old ++ key ∷ keys high) }
+    ensures split { IfOk result (λ g. IsTreeWithSplit (depth low.old) low.new g) }
 {
-    if become_one(low, &high) {
-        let mut block = block_in(mem::replace(low, Tree::Leaf), spares)?;
-        block.push(key)?;
-        put_block_behind(&mut block, &high)?;
-        *low = Tree::Block(block);
-        Ok(Grown::Fits)
+    if fit_in_one_leaf(low, &high) {
+        let mut leaf = leaf_in(mem::replace(low, Tree::Empty), pool)?;
+        leaf.push(key)?;
+        put_leaf_after(&mut leaf, &high)?;
+        *low = Tree::Leaf(leaf);
+        Ok(Split::Fits)
     } else {
-        Ok(Grown::Splits(key, high))
+        Ok(Split::Splits(key, high))
     }
 }
 
-/// Puts a key and `high` behind a tree at its right edge, that many levels below its root. `added` is how
-/// many keys that is.
+/// Puts a key and `high` after a tree at its right edge, `levels` below its root. `added` is the number of keys that
+/// come to it.
 pub fn join_right(
     low: &mut Tree,
     levels: u64,
     key: u32,
     high: Tree,
     added: u64,
-    spares: &mut Spares,
-) -> Result<Grown, AllocError>
+    pool: &mut Pool,
+) -> Result<Split, AllocError>
     requires low { IsTree low.old }
     requires high { IsTree high }
     requires levels { depth low.old ≡ depth high + levels }
     requires added { added ≡ (length (keys high) + 1) % 2 ^ 64 }
-    ensures keys { IfOk result (λ g. grown_keys low.new g ≡ keys low.old ++ key ∷ keys high) }
-    ensures grown { IfOk result (λ g. IsGrown (depth low.old) low.new g) }
+    ensures keys { IfOk result (λ g. keys_with_split low.new g ≡ keys low.old ++ key ∷ keys high) }
+    ensures split { IfOk result (λ g. IsTreeWithSplit (depth low.old) low.new g) }
 {
     if levels == 0 {
-        return meet(low, key, high, spares);
+        return join_equal(low, key, high, pool);
     }
     match low {
         Tree::Two(node) => {
-            match join_right(&mut node.second, levels - 1, key, high, added, spares)? {
-                Grown::Fits => node.size = node.size.wrapping_add(added),
-                Grown::Splits(k, right) => widen_second(low, k, right),
+            match join_right(&mut node.second, levels - 1, key, high, added, pool)? {
+                Split::Fits => node.size = node.size.wrapping_add(added),
+                Split::Splits(k, right) => add_after_second(low, k, right),
             }
-            Ok(Grown::Fits)
+            Ok(Split::Fits)
         }
         Tree::Three(node) => {
-            match join_right(&mut node.third, levels - 1, key, high, added, spares)? {
-                Grown::Fits => {
+            match join_right(&mut node.third, levels - 1, key, high, added, pool)? {
+                Split::Fits => {
                     node.size = node.size.wrapping_add(added);
-                    Ok(Grown::Fits)
+                    Ok(Split::Fits)
                 }
-                Grown::Splits(k, right) => {
-                    let spare = spares.take()?;
-                    let (m, rest) = split_third(low, spare, k, right);
-                    Ok(Grown::Splits(m, rest))
+                Split::Splits(k, right) => {
+                    let spare = pool.take()?;
+                    let (m, rest) = split_after_third(low, spare, k, right);
+                    Ok(Split::Splits(m, rest))
                 }
             }
         }
-        Tree::Leaf | Tree::Block(_) | Tree::One(_) => unreachable!(),
+        Tree::Empty | Tree::Leaf(_) | Tree::Underfull(_) => unreachable!(),
     }
 }
 
-/// Puts `low` and a key before a tree at its left edge, that many levels below its root. `added` is how
-/// many keys that is.
+/// Puts `low` and a key before a tree at its left edge, `levels` below its root. `added` is the number of keys that come
+/// to it.
 pub fn join_left(
     low: Tree,
     key: u32,
     high: &mut Tree,
     levels: u64,
     added: u64,
-    spares: &mut Spares,
-) -> Result<Grown, AllocError>
+    pool: &mut Pool,
+) -> Result<Split, AllocError>
     requires low { IsTree low }
     requires high { IsTree high.old }
     requires levels { depth high.old ≡ depth low + levels }
     requires added { added ≡ (length (keys low) + 1) % 2 ^ 64 }
-    ensures keys { IfOk result (λ g. grown_keys high.new g ≡ keys low ++ key ∷ keys high.old) }
-    ensures grown { IfOk result (λ g. IsGrown (depth high.old) high.new g) }
+    ensures keys { IfOk result (λ g. keys_with_split high.new g ≡ keys low ++ key ∷ keys high.old) }
+    ensures split { IfOk result (λ g. IsTreeWithSplit (depth high.old) high.new g) }
 {
     if levels == 0 {
         let right = mem::replace(high, low);
-        return meet(high, key, right, spares);
+        return join_equal(high, key, right, pool);
     }
     match high {
         Tree::Two(node) => {
-            match join_left(low, key, &mut node.first, levels - 1, added, spares)? {
-                Grown::Fits => node.size = node.size.wrapping_add(added),
-                Grown::Splits(k, right) => widen_first(high, k, right),
+            match join_left(low, key, &mut node.first, levels - 1, added, pool)? {
+                Split::Fits => node.size = node.size.wrapping_add(added),
+                Split::Splits(k, right) => add_after_first(high, k, right),
             }
-            Ok(Grown::Fits)
+            Ok(Split::Fits)
         }
         Tree::Three(node) => {
-            match join_left(low, key, &mut node.first, levels - 1, added, spares)? {
-                Grown::Fits => {
+            match join_left(low, key, &mut node.first, levels - 1, added, pool)? {
+                Split::Fits => {
                     node.size = node.size.wrapping_add(added);
-                    Ok(Grown::Fits)
+                    Ok(Split::Fits)
                 }
-                Grown::Splits(k, right) => {
-                    let spare = spares.take()?;
-                    let (m, rest) = split_first(high, spare, k, right);
-                    Ok(Grown::Splits(m, rest))
+                Split::Splits(k, right) => {
+                    let spare = pool.take()?;
+                    let (m, rest) = split_after_first(high, spare, k, right);
+                    Ok(Split::Splits(m, rest))
                 }
             }
         }
-        Tree::Leaf | Tree::Block(_) | Tree::One(_) => unreachable!(),
+        Tree::Empty | Tree::Leaf(_) | Tree::Underfull(_) => unreachable!(),
     }
 }
 
-/// A tree and what came off it, under one root.
+/// Puts a tree and what was split off it under one root.
 #[inline]
-fn under_one_root(part: &mut Part, grown: Grown, spares: &mut Spares) -> Result<(), AllocError>
-    requires grown { IsGrown part.old.levels part.old.tree grown }
-    requires fits { part.old.levels < 2 ^ 63 }
-    ensures keys { OnOk result (keys part.new.tree ≡ grown_keys part.old.tree grown) }
-    ensures part { OnOk result (IsPart part.new) }
+fn under_one_root(rooted: &mut Rooted, split: Split, pool: &mut Pool) -> Result<(), AllocError>
+    requires split { IsTreeWithSplit rooted.old.height rooted.old.tree split }
+    requires fits { rooted.old.height < 2 ^ 63 }
+    ensures keys { OnOk result (keys rooted.new.tree ≡ keys_with_split rooted.old.tree split) }
+    ensures rooted { OnOk result (IsRooted rooted.new) }
 {
-    if let Grown::Splits(k, right) = grown {
-        let root = spares.take()?;
-        let left = mem::replace(&mut part.tree, Tree::Leaf);
-        part.tree = two(root, left, k, right);
-        part.levels += 1;
+    if let Split::Splits(k, right) = split {
+        let root = pool.take()?;
+        let left = mem::replace(&mut rooted.tree, Tree::Empty);
+        rooted.tree = two(root, left, k, right);
+        rooted.height += 1;
     }
     Ok(())
 }
 
-/// Puts a key and a tree of any depth behind another.
+/// Puts a key and a tree of any depth after another.
 #[tactic(auto, using(crate::proofs::TreeLemmas::Depths::depth_within))]
-pub fn put_behind(
-    low: &mut Part,
+pub fn put_after(
+    low: &mut Rooted,
     key: u32,
-    mut high: Part,
-    spares: &mut Spares,
+    mut high: Rooted,
+    pool: &mut Pool,
 ) -> Result<(), AllocError>
-    requires low { IsPart low.old }
-    requires high { IsPart high }
+    requires low { IsRooted low.old }
+    requires high { IsRooted high }
     requires fits { length (keys low.old.tree) + length (keys high.tree) < 2 ^ 63 }
     ensures keys { OnOk result (keys low.new.tree ≡ keys low.old.tree ++ key ∷ keys high.tree) }
-    ensures part { OnOk result (IsPart low.new) }
+    ensures rooted { OnOk result (IsRooted low.new) }
 {
-    if low.levels >= high.levels {
+    if low.height >= high.height {
         let added = high.tree.size().wrapping_add(1);
-        let levels = low.levels - high.levels;
-        let grown = join_right(&mut low.tree, levels, key, high.tree, added, spares)?;
-        under_one_root(low, grown, spares)
+        let levels = low.height - high.height;
+        let split = join_right(&mut low.tree, levels, key, high.tree, added, pool)?;
+        under_one_root(low, split, pool)
     } else {
         let added = low.tree.size().wrapping_add(1);
-        let levels = high.levels - low.levels;
-        let left = mem::replace(&mut low.tree, Tree::Leaf);
-        let grown = join_left(left, key, &mut high.tree, levels, added, spares)?;
+        let levels = high.height - low.height;
+        let left = mem::replace(&mut low.tree, Tree::Empty);
+        let split = join_left(left, key, &mut high.tree, levels, added, pool)?;
         *low = high;
-        under_one_root(low, grown, spares)
+        under_one_root(low, split, pool)
     }
 }
 
 /// Puts a tree of any depth and a key before another.
 #[tactic(auto, using(crate::proofs::TreeLemmas::Depths::depth_within))]
 pub fn put_before(
-    mut low: Part,
+    mut low: Rooted,
     key: u32,
-    high: &mut Part,
-    spares: &mut Spares,
+    high: &mut Rooted,
+    pool: &mut Pool,
 ) -> Result<(), AllocError>
-    requires low { IsPart low }
-    requires high { IsPart high.old }
+    requires low { IsRooted low }
+    requires high { IsRooted high.old }
     requires fits { length (keys low.tree) + length (keys high.old.tree) < 2 ^ 63 }
     ensures keys { OnOk result (keys high.new.tree ≡ keys low.tree ++ key ∷ keys high.old.tree) }
-    ensures part { OnOk result (IsPart high.new) }
+    ensures rooted { OnOk result (IsRooted high.new) }
 {
-    if low.levels >= high.levels {
+    if low.height >= high.height {
         let added = high.tree.size().wrapping_add(1);
-        let levels = low.levels - high.levels;
-        let right = mem::replace(&mut high.tree, Tree::Leaf);
-        let grown = join_right(&mut low.tree, levels, key, right, added, spares)?;
+        let levels = low.height - high.height;
+        let right = mem::replace(&mut high.tree, Tree::Empty);
+        let split = join_right(&mut low.tree, levels, key, right, added, pool)?;
         *high = low;
-        under_one_root(high, grown, spares)
+        under_one_root(high, split, pool)
     } else {
         let added = low.tree.size().wrapping_add(1);
-        let levels = high.levels - low.levels;
-        let grown = join_left(low.tree, key, &mut high.tree, levels, added, spares)?;
-        under_one_root(high, grown, spares)
+        let levels = high.height - low.height;
+        let split = join_left(low.tree, key, &mut high.tree, levels, added, pool)?;
+        under_one_root(high, split, pool)
     }
 }
 
-/// Puts the keys of a tree of any depth behind those of another.
-pub fn chain(alloc: Global, low: &mut Part, mut high: Part) -> Result<(), AllocError>
-    requires low { IsPart low.old }
-    requires high { IsPart high }
+/// Puts the keys of a tree of any depth after those of another.
+pub fn concat(alloc: Global, low: &mut Rooted, mut high: Rooted) -> Result<(), AllocError>
+    requires low { IsRooted low.old }
+    requires high { IsRooted high }
     requires fits { length (keys low.old.tree) + length (keys high.tree) < 2 ^ 63 }
     ensures keys { OnOk result (keys low.new.tree ≡ keys low.old.tree ++ keys high.tree) }
-    ensures part { OnOk result (IsPart low.new) }
+    ensures rooted { OnOk result (IsRooted low.new) }
 {
     match pop_first(&mut high.tree) {
         None => Ok(()),
         Some(key) => {
-            lower(&mut high);
-            let mut spares = Spares::new(alloc);
-            put_behind(low, key, high, &mut spares)
+            shrink_root(&mut high);
+            let mut pool = Pool::new(alloc);
+            put_after(low, key, high, &mut pool)
         }
     }
 }

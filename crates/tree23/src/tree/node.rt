@@ -1,18 +1,18 @@
 //! The nodes of a 2-3 tree, and how they are made of their sides.
 ghost use Rattle.std.specs.Prelude.{◌≡◌, ◌+◌, ◌%◌, ◌<◌, ◌^◌, ◌++◌, ◌∷◌, length};
-ghost use Rattle.tree23.specs.Nodes.{keys, depth, IsTree, IsPart, IsLoose, IsNarrow};
-ghost use Rattle.tree23.specs.declared.tree.node.Tree.TheVariants.{Leaf};
+ghost use Rattle.tree23.specs.Nodes.{keys, depth, IsTree, IsRooted, IsLoose, IsNarrow};
+ghost use Rattle.tree23.specs.declared.tree.node.Tree.TheVariants.{Empty};
 
-/// A tree of nodes. What lies below the lowest nodes are blocks of keys.
+/// A tree of nodes. What lies below the lowest nodes are leaves of keys.
 #[cycle(tree)]
 #[derive(Drop)]
 pub enum Tree {
-    /// A block without keys. It takes no memory.
-    Leaf,
-    /// The keys of a block, which strictly ascend.
-    Block(Box<Vec<u32>>),
+    /// A leaf without keys, which has no memory.
+    Empty,
+    /// The keys of a leaf, which strictly ascend.
+    Leaf(Box<Vec<u32>>),
     /// The first side alone, and no key: only between a removal and its repair.
-    One(Box<Node>),
+    Underfull(Box<Node>),
     /// The first and the second side, around the low key.
     Two(Box<Node>),
     /// Three sides, around both keys.
@@ -35,17 +35,17 @@ pub struct Node {
 
 /// A tree, and how many levels of nodes it has.
 #[derive(Drop)]
-pub struct Part {
+pub struct Rooted {
     pub tree: Tree,
-    pub levels: u64,
+    pub height: u64,
 }
 
-/// What came off a tree that other keys were put into in place.
+/// What was split off a tree that other keys were put into in place.
 #[derive(Drop)]
-pub enum Grown {
+pub enum Split {
     /// Nothing.
     Fits,
-    /// A key, and a tree of the same depth behind it.
+    /// A key, and a tree of the same depth after it.
     Splits(u32, Tree),
 }
 
@@ -57,52 +57,57 @@ impl Tree {
         ensures { result ≡ length (keys self.now) % 2 ^ 64 }
     {
         match self {
-            Tree::Leaf => 0,
-            Tree::Block(block) => block.len() as u64,
+            Tree::Empty => 0,
+            Tree::Leaf(leaf) => leaf.len() as u64,
             Tree::Two(node) => node.size,
             Tree::Three(node) => node.size,
-            Tree::One(_) => unreachable!(),
+            Tree::Underfull(_) => unreachable!(),
         }
     }
 }
 
-impl Part {
-    /// No keys.
+impl Rooted {
+    /// A tree without keys.
+    ///
+    /// Memory: none.
     #[inline]
-    pub fn empty() -> Part
-        ensures part { IsPart result }
-        ensures keys { result.tree ≡ Leaf }
+    pub fn empty() -> Rooted
+        ensures rooted { IsRooted result }
+        ensures keys { result.tree ≡ Empty }
     {
-        Part {
-            tree: Tree::Leaf,
-            levels: 0,
+        Rooted {
+            tree: Tree::Empty,
+            height: 0,
         }
     }
 }
 
 /// A node with nothing in it.
 #[inline]
-pub fn bare() -> Node {
+pub fn empty_node() -> Node {
     Node {
         size: 0,
-        first: Tree::Leaf,
+        first: Tree::Empty,
         low: 0,
-        second: Tree::Leaf,
+        second: Tree::Empty,
         high: 0,
-        third: Tree::Leaf,
+        third: Tree::Empty,
     }
 }
 
 /// One side alone, in a node that is there.
-pub fn one(mut node: Box<Node>, a: Tree) -> Tree
+pub fn underfull(mut node: Box<Node>, a: Tree) -> Tree
     requires a { IsTree a }
     ensures keys { keys result ≡ keys a }
     ensures loose { IsLoose result }
     ensures narrow { IsNarrow result }
     ensures depth { depth result ≡ depth a + 1 }
 {
-    *node = Node { first: a, ..bare() };
-    Tree::One(node)
+    *node = Node {
+        first: a,
+        ..empty_node()
+    };
+    Tree::Underfull(node)
 }
 
 /// Two sides around a key, in a node that is there.
@@ -124,7 +129,7 @@ pub fn two(mut node: Box<Node>, a: Tree, k: u32, b: Tree) -> Tree
         low: k,
         second: b,
         high: 0,
-        third: Tree::Leaf,
+        third: Tree::Empty,
     };
     Tree::Two(node)
 }

@@ -3,7 +3,7 @@ ghost use Rattle.std.specs.Prelude.{◌≡◌, ◌+◌, ◌++◌, ◌∷◌};
 ghost use Rattle.tree23.specs.Nodes.{keys, depth, IsTree, IsLoose, IsNarrow};
 ghost use Rattle.tree23.specs.Code.Removals.{IsFirstLess, IsSecondLess, IsThirdLess};
 
-use crate::tree::node::{Node, Tree, bare, one, three, two};
+use crate::tree::node::{Node, Tree, empty_node, three, two, underfull};
 use std::mem;
 
 /// Two sides around a key, of which the first may have one side.
@@ -17,8 +17,8 @@ fn join_first(node: Box<Node>, a: Tree, k: u32, b: Tree) -> Tree
     ensures depth { depth result ≡ depth a + 1 }
 {
     match a {
-        Tree::One(mut left) => {
-            let Node { first: x, .. } = mem::replace(&mut *left, bare());
+        Tree::Underfull(mut left) => {
+            let Node { first: x, .. } = mem::replace(&mut *left, empty_node());
             match b {
                 Tree::Two(mut right) => {
                     let Node {
@@ -26,8 +26,8 @@ fn join_first(node: Box<Node>, a: Tree, k: u32, b: Tree) -> Tree
                         low,
                         second,
                         ..
-                    } = mem::replace(&mut *right, bare());
-                    one(node, three(right, x, k, first, low, second))
+                    } = mem::replace(&mut *right, empty_node());
+                    underfull(node, three(right, x, k, first, low, second))
                 }
                 Tree::Three(mut right) => {
                     let Node {
@@ -37,7 +37,7 @@ fn join_first(node: Box<Node>, a: Tree, k: u32, b: Tree) -> Tree
                         high,
                         third,
                         ..
-                    } = mem::replace(&mut *right, bare());
+                    } = mem::replace(&mut *right, empty_node());
                     two(
                         node,
                         two(left, x, k, first),
@@ -45,7 +45,7 @@ fn join_first(node: Box<Node>, a: Tree, k: u32, b: Tree) -> Tree
                         two(right, second, high, third),
                     )
                 }
-                Tree::Leaf | Tree::Block(_) | Tree::One(_) => unreachable!(),
+                Tree::Empty | Tree::Leaf(_) | Tree::Underfull(_) => unreachable!(),
             }
         }
         whole => two(node, whole, k, b),
@@ -63,8 +63,8 @@ fn join_second(node: Box<Node>, a: Tree, k: u32, b: Tree) -> Tree
     ensures depth { depth result ≡ depth a + 1 }
 {
     match b {
-        Tree::One(mut right) => {
-            let Node { first: x, .. } = mem::replace(&mut *right, bare());
+        Tree::Underfull(mut right) => {
+            let Node { first: x, .. } = mem::replace(&mut *right, empty_node());
             match a {
                 Tree::Two(mut left) => {
                     let Node {
@@ -72,8 +72,8 @@ fn join_second(node: Box<Node>, a: Tree, k: u32, b: Tree) -> Tree
                         low,
                         second,
                         ..
-                    } = mem::replace(&mut *left, bare());
-                    one(node, three(left, first, low, second, k, x))
+                    } = mem::replace(&mut *left, empty_node());
+                    underfull(node, three(left, first, low, second, k, x))
                 }
                 Tree::Three(mut left) => {
                     let Node {
@@ -83,7 +83,7 @@ fn join_second(node: Box<Node>, a: Tree, k: u32, b: Tree) -> Tree
                         high,
                         third,
                         ..
-                    } = mem::replace(&mut *left, bare());
+                    } = mem::replace(&mut *left, empty_node());
                     two(
                         node,
                         two(left, first, low, second),
@@ -91,15 +91,15 @@ fn join_second(node: Box<Node>, a: Tree, k: u32, b: Tree) -> Tree
                         two(right, third, k, x),
                     )
                 }
-                Tree::Leaf | Tree::Block(_) | Tree::One(_) => unreachable!(),
+                Tree::Empty | Tree::Leaf(_) | Tree::Underfull(_) => unreachable!(),
             }
         }
         whole => two(node, a, k, whole),
     }
 }
 
-/// One side more behind one or two.
-fn behind(rest: Tree, m: u32, c: Tree) -> Tree
+/// Puts a side after one or two.
+fn after(rest: Tree, m: u32, c: Tree) -> Tree
     requires rest { IsLoose rest }
     requires narrow { IsNarrow rest }
     requires c { IsTree c }
@@ -109,8 +109,8 @@ fn behind(rest: Tree, m: u32, c: Tree) -> Tree
     ensures depth { depth result ≡ depth rest }
 {
     match rest {
-        Tree::One(mut node) => {
-            let Node { first, .. } = mem::replace(&mut *node, bare());
+        Tree::Underfull(mut node) => {
+            let Node { first, .. } = mem::replace(&mut *node, empty_node());
             two(node, first, m, c)
         }
         Tree::Two(mut node) => {
@@ -119,14 +119,14 @@ fn behind(rest: Tree, m: u32, c: Tree) -> Tree
                 low,
                 second,
                 ..
-            } = mem::replace(&mut *node, bare());
+            } = mem::replace(&mut *node, empty_node());
             three(node, first, low, second, m, c)
         }
-        Tree::Leaf | Tree::Block(_) | Tree::Three(_) => unreachable!(),
+        Tree::Empty | Tree::Leaf(_) | Tree::Three(_) => unreachable!(),
     }
 }
 
-/// One side more before one or two.
+/// Puts a side before one or two.
 fn before(a: Tree, k: u32, rest: Tree) -> Tree
     requires a { IsTree a }
     requires rest { IsLoose rest }
@@ -137,8 +137,8 @@ fn before(a: Tree, k: u32, rest: Tree) -> Tree
     ensures depth { depth result ≡ depth rest }
 {
     match rest {
-        Tree::One(mut node) => {
-            let Node { first, .. } = mem::replace(&mut *node, bare());
+        Tree::Underfull(mut node) => {
+            let Node { first, .. } = mem::replace(&mut *node, empty_node());
             two(node, a, k, first)
         }
         Tree::Two(mut node) => {
@@ -147,15 +147,15 @@ fn before(a: Tree, k: u32, rest: Tree) -> Tree
                 low,
                 second,
                 ..
-            } = mem::replace(&mut *node, bare());
+            } = mem::replace(&mut *node, empty_node());
             three(node, a, k, first, low, second)
         }
-        Tree::Leaf | Tree::Block(_) | Tree::Three(_) => unreachable!(),
+        Tree::Empty | Tree::Leaf(_) | Tree::Three(_) => unreachable!(),
     }
 }
 
-/// A node whose first side lost a key.
-pub fn mend_first(tree: &mut Tree)
+/// Rebalances a node whose first side lost a key.
+pub fn rebalance_first(tree: &mut Tree)
     requires { IsFirstLess tree.old }
     ensures keys { keys tree.new ≡ keys tree.old }
     ensures loose { IsLoose tree.new }
@@ -163,8 +163,8 @@ pub fn mend_first(tree: &mut Tree)
 {
     match tree {
         Tree::Two(node) => {
-            if let Tree::One(_) = &node.first {
-                let Tree::Two(mut node) = mem::replace(tree, Tree::Leaf) else {
+            if let Tree::Underfull(_) = &node.first {
+                let Tree::Two(mut node) = mem::replace(tree, Tree::Empty) else {
                     unreachable!()
                 };
                 let Node {
@@ -172,15 +172,15 @@ pub fn mend_first(tree: &mut Tree)
                     low,
                     second,
                     ..
-                } = mem::replace(&mut *node, bare());
+                } = mem::replace(&mut *node, empty_node());
                 *tree = join_first(node, first, low, second);
             } else {
                 node.size = node.size.wrapping_sub(1);
             }
         }
         Tree::Three(node) => {
-            if let Tree::One(_) = &node.first {
-                let Tree::Three(mut node) = mem::replace(tree, Tree::Leaf) else {
+            if let Tree::Underfull(_) = &node.first {
+                let Tree::Three(mut node) = mem::replace(tree, Tree::Empty) else {
                     unreachable!()
                 };
                 let Node {
@@ -190,18 +190,18 @@ pub fn mend_first(tree: &mut Tree)
                     high,
                     third,
                     ..
-                } = mem::replace(&mut *node, bare());
-                *tree = behind(join_first(node, first, low, second), high, third);
+                } = mem::replace(&mut *node, empty_node());
+                *tree = after(join_first(node, first, low, second), high, third);
             } else {
                 node.size = node.size.wrapping_sub(1);
             }
         }
-        Tree::Leaf | Tree::Block(_) | Tree::One(_) => unreachable!(),
+        Tree::Empty | Tree::Leaf(_) | Tree::Underfull(_) => unreachable!(),
     }
 }
 
-/// A node whose second side lost a key.
-pub fn mend_second(tree: &mut Tree)
+/// Rebalances a node whose second side lost a key.
+pub fn rebalance_second(tree: &mut Tree)
     requires { IsSecondLess tree.old }
     ensures keys { keys tree.new ≡ keys tree.old }
     ensures loose { IsLoose tree.new }
@@ -209,8 +209,8 @@ pub fn mend_second(tree: &mut Tree)
 {
     match tree {
         Tree::Two(node) => {
-            if let Tree::One(_) = &node.second {
-                let Tree::Two(mut node) = mem::replace(tree, Tree::Leaf) else {
+            if let Tree::Underfull(_) = &node.second {
+                let Tree::Two(mut node) = mem::replace(tree, Tree::Empty) else {
                     unreachable!()
                 };
                 let Node {
@@ -218,15 +218,15 @@ pub fn mend_second(tree: &mut Tree)
                     low,
                     second,
                     ..
-                } = mem::replace(&mut *node, bare());
+                } = mem::replace(&mut *node, empty_node());
                 *tree = join_second(node, first, low, second);
             } else {
                 node.size = node.size.wrapping_sub(1);
             }
         }
         Tree::Three(node) => {
-            if let Tree::One(_) = &node.second {
-                let Tree::Three(mut node) = mem::replace(tree, Tree::Leaf) else {
+            if let Tree::Underfull(_) = &node.second {
+                let Tree::Three(mut node) = mem::replace(tree, Tree::Empty) else {
                     unreachable!()
                 };
                 let Node {
@@ -236,18 +236,18 @@ pub fn mend_second(tree: &mut Tree)
                     high,
                     third,
                     ..
-                } = mem::replace(&mut *node, bare());
-                *tree = behind(join_second(node, first, low, second), high, third);
+                } = mem::replace(&mut *node, empty_node());
+                *tree = after(join_second(node, first, low, second), high, third);
             } else {
                 node.size = node.size.wrapping_sub(1);
             }
         }
-        Tree::Leaf | Tree::Block(_) | Tree::One(_) => unreachable!(),
+        Tree::Empty | Tree::Leaf(_) | Tree::Underfull(_) => unreachable!(),
     }
 }
 
-/// A node whose third side lost a key.
-pub fn mend_third(tree: &mut Tree)
+/// Rebalances a node whose third side lost a key.
+pub fn rebalance_third(tree: &mut Tree)
     requires { IsThirdLess tree.old }
     ensures keys { keys tree.new ≡ keys tree.old }
     ensures loose { IsLoose tree.new }
@@ -255,8 +255,8 @@ pub fn mend_third(tree: &mut Tree)
 {
     match tree {
         Tree::Three(node) => {
-            if let Tree::One(_) = &node.third {
-                let Tree::Three(mut node) = mem::replace(tree, Tree::Leaf) else {
+            if let Tree::Underfull(_) = &node.third {
+                let Tree::Three(mut node) = mem::replace(tree, Tree::Empty) else {
                     unreachable!()
                 };
                 let Node {
@@ -266,12 +266,12 @@ pub fn mend_third(tree: &mut Tree)
                     high,
                     third,
                     ..
-                } = mem::replace(&mut *node, bare());
+                } = mem::replace(&mut *node, empty_node());
                 *tree = before(first, low, join_second(node, second, high, third));
             } else {
                 node.size = node.size.wrapping_sub(1);
             }
         }
-        Tree::Leaf | Tree::Block(_) | Tree::One(_) | Tree::Two(_) => unreachable!(),
+        Tree::Empty | Tree::Leaf(_) | Tree::Underfull(_) | Tree::Two(_) => unreachable!(),
     }
 }

@@ -1,27 +1,29 @@
-//! Keys taken out of a tree, in place and with no memory.
+//! Keys taken out of a tree, in place.
+//!
+//! Memory: none.
 ghost use Rattle.std.specs.Prelude.{◌≡◌, ◌<◌, [], ◌∷◌};
 ghost use Rattle.tree23.specs.Keys.{StrictlyAscends, has, without_key};
-ghost use Rattle.tree23.specs.Nodes.{keys, depth, IsTree, IsPart, IsLoose, IsNarrow, IsWide};
+ghost use Rattle.tree23.specs.Nodes.{keys, depth, IsTree, IsRooted, IsLoose, IsNarrow, IsWide};
 ghost use Rattle.tree23.specs.Code.Removals.{IsRemoved, IsPopped, first_side, second_side, third_side, keys_but_low, keys_but_high};
 
-use crate::tree::block::{is_at, place};
-use crate::tree::node::{Node, Part, Tree, bare, one, two};
-use crate::tree::rebalance::{mend_first, mend_second, mend_third};
+use crate::tree::leaf::{is_at, place};
+use crate::tree::node::{Node, Rooted, Tree, empty_node, two, underfull};
+use crate::tree::rebalance::{rebalance_first, rebalance_second, rebalance_third};
 use std::mem;
 
-/// Takes the first side, which has no keys, and the key behind it off a node.
+/// Takes the first side, which has no keys, and the key after it off a node.
 fn drop_first(tree: &mut Tree) -> u32
     requires tree { IsTree tree.old }
     requires some { 0 < depth tree.old }
-    requires bare { keys (first_side tree.old) ≡ [] }
+    requires empty { keys (first_side tree.old) ≡ [] }
     ensures keys { keys tree.old ≡ result ∷ keys tree.new }
     ensures loose { IsLoose tree.new }
     ensures depth { depth tree.new ≡ depth tree.old }
 {
-    match mem::replace(tree, Tree::Leaf) {
+    match mem::replace(tree, Tree::Empty) {
         Tree::Two(mut node) => {
-            let Node { low, second, .. } = mem::replace(&mut *node, bare());
-            *tree = one(node, second);
+            let Node { low, second, .. } = mem::replace(&mut *node, empty_node());
+            *tree = underfull(node, second);
             low
         }
         Tree::Three(mut node) => {
@@ -31,27 +33,27 @@ fn drop_first(tree: &mut Tree) -> u32
                 high,
                 third,
                 ..
-            } = mem::replace(&mut *node, bare());
+            } = mem::replace(&mut *node, empty_node());
             *tree = two(node, second, high, third);
             low
         }
-        Tree::Leaf | Tree::Block(_) | Tree::One(_) => unreachable!(),
+        Tree::Empty | Tree::Leaf(_) | Tree::Underfull(_) => unreachable!(),
     }
 }
 
-/// Takes the key behind the first side off a node, and the second side, which has no keys.
+/// Takes the key after the first side off a node, and the second side, which has no keys.
 fn drop_low(tree: &mut Tree)
     requires tree { IsTree tree.old }
     requires some { 0 < depth tree.old }
-    requires bare { keys (second_side tree.old) ≡ [] }
+    requires empty { keys (second_side tree.old) ≡ [] }
     ensures keys { keys tree.new ≡ keys_but_low tree.old }
     ensures loose { IsLoose tree.new }
     ensures depth { depth tree.new ≡ depth tree.old }
 {
-    match mem::replace(tree, Tree::Leaf) {
+    match mem::replace(tree, Tree::Empty) {
         Tree::Two(mut node) => {
-            let Node { first, .. } = mem::replace(&mut *node, bare());
-            *tree = one(node, first);
+            let Node { first, .. } = mem::replace(&mut *node, empty_node());
+            *tree = underfull(node, first);
         }
         Tree::Three(mut node) => {
             let Node {
@@ -59,33 +61,33 @@ fn drop_low(tree: &mut Tree)
                 high,
                 third,
                 ..
-            } = mem::replace(&mut *node, bare());
+            } = mem::replace(&mut *node, empty_node());
             *tree = two(node, first, high, third);
         }
-        Tree::Leaf | Tree::Block(_) | Tree::One(_) => unreachable!(),
+        Tree::Empty | Tree::Leaf(_) | Tree::Underfull(_) => unreachable!(),
     }
 }
 
-/// Takes the key behind the second of three sides off a node, and the third side, which has no keys.
+/// Takes the key after the second of three sides off a node, and the third side, which has no keys.
 fn drop_high(tree: &mut Tree)
     requires tree { IsTree tree.old }
     requires wide { IsWide tree.old }
-    requires bare { keys (third_side tree.old) ≡ [] }
+    requires empty { keys (third_side tree.old) ≡ [] }
     ensures keys { keys tree.new ≡ keys_but_high tree.old }
     ensures loose { IsLoose tree.new }
     ensures depth { depth tree.new ≡ depth tree.old }
 {
-    match mem::replace(tree, Tree::Leaf) {
+    match mem::replace(tree, Tree::Empty) {
         Tree::Three(mut node) => {
             let Node {
                 first,
                 low,
                 second,
                 ..
-            } = mem::replace(&mut *node, bare());
+            } = mem::replace(&mut *node, empty_node());
             *tree = two(node, first, low, second);
         }
-        Tree::Leaf | Tree::Block(_) | Tree::One(_) | Tree::Two(_) => unreachable!(),
+        Tree::Empty | Tree::Leaf(_) | Tree::Underfull(_) | Tree::Two(_) => unreachable!(),
     }
 }
 
@@ -97,42 +99,42 @@ pub fn pop_first(tree: &mut Tree) -> Option<u32>
     ensures depth { depth tree.new ≡ depth tree.old }
 {
     match tree {
-        Tree::Leaf => None,
-        Tree::Block(block) => {
-            if block.is_empty() {
+        Tree::Empty => None,
+        Tree::Leaf(leaf) => {
+            if leaf.is_empty() {
                 None
             } else {
-                Some(block.remove(0))
+                Some(leaf.remove(0))
             }
         }
         Tree::Two(node) => match pop_first(&mut node.first) {
             Some(key) => {
-                mend_first(tree);
+                rebalance_first(tree);
                 Some(key)
             }
             None => Some(drop_first(tree)),
         },
         Tree::Three(node) => match pop_first(&mut node.first) {
             Some(key) => {
-                mend_first(tree);
+                rebalance_first(tree);
                 Some(key)
             }
             None => Some(drop_first(tree)),
         },
-        Tree::One(_) => unreachable!(),
+        Tree::Underfull(_) => unreachable!(),
     }
 }
 
-/// The tree under a root that may have one side.
-pub fn lower(part: &mut Part)
-    requires loose { IsLoose part.old.tree }
-    requires levels { part.old.levels ≡ depth part.old.tree }
-    ensures keys { keys part.new.tree ≡ keys part.old.tree }
-    ensures part { IsPart part.new }
+/// Replaces a root that has one side by that side.
+pub fn shrink_root(rooted: &mut Rooted)
+    requires loose { IsLoose rooted.old.tree }
+    requires height { rooted.old.height ≡ depth rooted.old.tree }
+    ensures keys { keys rooted.new.tree ≡ keys rooted.old.tree }
+    ensures rooted { IsRooted rooted.new }
 {
-    if let Tree::One(node) = &mut part.tree {
-        part.tree = mem::replace(&mut node.first, Tree::Leaf);
-        part.levels -= 1;
+    if let Tree::Underfull(node) = &mut rooted.tree {
+        rooted.tree = mem::replace(&mut node.first, Tree::Empty);
+        rooted.height -= 1;
     }
 }
 
@@ -148,18 +150,18 @@ pub fn remove_low(tree: &mut Tree)
         Tree::Two(node) => match pop_first(&mut node.second) {
             Some(next) => {
                 node.low = next;
-                mend_second(tree);
+                rebalance_second(tree);
             }
             None => drop_low(tree),
         },
         Tree::Three(node) => match pop_first(&mut node.second) {
             Some(next) => {
                 node.low = next;
-                mend_second(tree);
+                rebalance_second(tree);
             }
             None => drop_low(tree),
         },
-        Tree::Leaf | Tree::Block(_) | Tree::One(_) => unreachable!(),
+        Tree::Empty | Tree::Leaf(_) | Tree::Underfull(_) => unreachable!(),
     }
 }
 
@@ -175,26 +177,26 @@ pub fn remove_high(tree: &mut Tree)
         Tree::Three(node) => match pop_first(&mut node.third) {
             Some(next) => {
                 node.high = next;
-                mend_third(tree);
+                rebalance_third(tree);
             }
             None => drop_high(tree),
         },
-        Tree::Leaf | Tree::Block(_) | Tree::One(_) | Tree::Two(_) => unreachable!(),
+        Tree::Empty | Tree::Leaf(_) | Tree::Underfull(_) | Tree::Two(_) => unreachable!(),
     }
 }
 
-/// Takes the key out of a block, and says whether it was there.
+/// Takes the key out of a leaf, and says whether it was there.
 #[inline]
 #[tactic(auto, using(crate::proofs::TreeLemmas::Removing::removing_at))]
-fn remove_in_block(block: &mut Vec<u32>, key: u32) -> bool
-    requires ascends { StrictlyAscends block.old.items }
-    ensures answer { result ≡ has key block.old.items }
-    ensures keys { block.new.items ≡ without_key key block.old.items }
+fn remove_in_leaf(leaf: &mut Vec<u32>, key: u32) -> bool
+    requires ascends { StrictlyAscends leaf.old.items }
+    ensures answer { result ≡ has key leaf.old.items }
+    ensures keys { leaf.new.items ≡ without_key key leaf.old.items }
 {
-    let at = place(block, key);
-    let found = is_at(block, at, key);
+    let at = place(leaf, key);
+    let found = is_at(leaf, at, key);
     if found {
-        block.remove(at);
+        leaf.remove(at);
     }
     found
 }
@@ -210,15 +212,15 @@ pub fn remove_in(tree: &mut Tree, key: u32) -> bool
     ensures depth { depth tree.new ≡ depth tree.old }
 {
     match tree {
-        Tree::Leaf => false,
-        Tree::Block(block) => remove_in_block(block, key),
+        Tree::Empty => false,
+        Tree::Leaf(leaf) => remove_in_leaf(leaf, key),
         Tree::Two(_) => remove_in_two(tree, key),
         Tree::Three(_) => remove_in_three(tree, key),
-        Tree::One(_) => unreachable!(),
+        Tree::Underfull(_) => unreachable!(),
     }
 }
 
-/// The same at a root with two sides.
+/// The removal from a tree whose root has two sides.
 #[cycle(removal)]
 #[tactic(auto, using(crate::proofs::TreeLemmas::Removing::sides_ascend))]
 fn remove_in_two(tree: &mut Tree, key: u32) -> bool
@@ -234,7 +236,7 @@ fn remove_in_two(tree: &mut Tree, key: u32) -> bool
             if key < node.low {
                 match remove_in(&mut node.first, key) {
                     true => {
-                        mend_first(tree);
+                        rebalance_first(tree);
                         true
                     }
                     false => false,
@@ -242,7 +244,7 @@ fn remove_in_two(tree: &mut Tree, key: u32) -> bool
             } else if node.low < key {
                 match remove_in(&mut node.second, key) {
                     true => {
-                        mend_second(tree);
+                        rebalance_second(tree);
                         true
                     }
                     false => false,
@@ -252,11 +254,11 @@ fn remove_in_two(tree: &mut Tree, key: u32) -> bool
                 true
             }
         }
-        Tree::Leaf | Tree::Block(_) | Tree::One(_) | Tree::Three(_) => unreachable!(),
+        Tree::Empty | Tree::Leaf(_) | Tree::Underfull(_) | Tree::Three(_) => unreachable!(),
     }
 }
 
-/// The same at a root with three sides.
+/// The removal from a tree whose root has three sides.
 #[cycle(removal)]
 #[tactic(auto, using(crate::proofs::TreeLemmas::Removing::sides_ascend))]
 fn remove_in_three(tree: &mut Tree, key: u32) -> bool
@@ -272,7 +274,7 @@ fn remove_in_three(tree: &mut Tree, key: u32) -> bool
             if key < node.low {
                 match remove_in(&mut node.first, key) {
                     true => {
-                        mend_first(tree);
+                        rebalance_first(tree);
                         true
                     }
                     false => false,
@@ -283,7 +285,7 @@ fn remove_in_three(tree: &mut Tree, key: u32) -> bool
             } else if key < node.high {
                 match remove_in(&mut node.second, key) {
                     true => {
-                        mend_second(tree);
+                        rebalance_second(tree);
                         true
                     }
                     false => false,
@@ -294,13 +296,13 @@ fn remove_in_three(tree: &mut Tree, key: u32) -> bool
             } else {
                 match remove_in(&mut node.third, key) {
                     true => {
-                        mend_third(tree);
+                        rebalance_third(tree);
                         true
                     }
                     false => false,
                 }
             }
         }
-        Tree::Leaf | Tree::Block(_) | Tree::One(_) | Tree::Two(_) => unreachable!(),
+        Tree::Empty | Tree::Leaf(_) | Tree::Underfull(_) | Tree::Two(_) => unreachable!(),
     }
 }

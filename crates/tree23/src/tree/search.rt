@@ -1,9 +1,9 @@
-//! Keys looked up.
+//! Search in a tree: a key, the next key, and the first.
 ghost use Rattle.std.specs.Prelude.{◌≡◌, slice_get};
 ghost use Rattle.tree23.specs.Keys.{StrictlyAscends, has, least_above};
 ghost use Rattle.tree23.specs.Nodes.{keys, IsTree};
 
-use crate::tree::block::{is_at, place};
+use crate::tree::leaf::{is_at, place};
 use crate::tree::node::Tree;
 
 /// Whether the key is there.
@@ -14,8 +14,8 @@ pub fn find_in(tree: &Tree, key: u32) -> bool
     ensures { result ≡ has key (keys tree.now) }
 {
     match tree {
-        Tree::Leaf => false,
-        Tree::Block(block) => is_at(block, place(block, key), key),
+        Tree::Empty => false,
+        Tree::Leaf(leaf) => is_at(leaf, place(leaf, key), key),
         Tree::Two(node) => {
             if key < node.low {
                 find_in(&node.first, key)
@@ -36,26 +36,26 @@ pub fn find_in(tree: &Tree, key: u32) -> bool
                 find_in(&node.third, key)
             }
         }
-        Tree::One(_) => unreachable!(),
+        Tree::Underfull(_) => unreachable!(),
     }
 }
 
-/// The least key of a block above.
+/// The least key of a leaf that is greater.
 #[inline]
-fn next_in_block(block: &[u32], key: u32) -> Option<u32>
-    requires ascends { StrictlyAscends block.now }
-    ensures { result ≡ least_above key block.now }
+fn next_in_leaf(leaf: &[u32], key: u32) -> Option<u32>
+    requires ascends { StrictlyAscends leaf.now }
+    ensures { result ≡ least_above key leaf.now }
 {
-    let at = place(block, key);
-    let behind = if is_at(block, at, key) { at + 1 } else { at };
-    if behind < block.len() {
-        Some(block[behind])
+    let at = place(leaf, key);
+    let after = if is_at(leaf, at, key) { at + 1 } else { at };
+    if after < leaf.len() {
+        Some(leaf[after])
     } else {
         None
     }
 }
 
-/// The least key above.
+/// The least key that is greater.
 #[tactic(auto, using(crate::proofs::KeyLemmas::Beside::nexts))]
 pub fn next_in(tree: &Tree, key: u32) -> Option<u32>
     requires tree { IsTree tree.now }
@@ -63,8 +63,8 @@ pub fn next_in(tree: &Tree, key: u32) -> Option<u32>
     ensures { result ≡ least_above key (keys tree.now) }
 {
     match tree {
-        Tree::Leaf => None,
-        Tree::Block(block) => next_in_block(block, key),
+        Tree::Empty => None,
+        Tree::Leaf(leaf) => next_in_leaf(leaf, key),
         Tree::Two(node) => {
             if key < node.low {
                 match next_in(&node.first, key) {
@@ -90,7 +90,7 @@ pub fn next_in(tree: &Tree, key: u32) -> Option<u32>
                 next_in(&node.third, key)
             }
         }
-        Tree::One(_) => unreachable!(),
+        Tree::Underfull(_) => unreachable!(),
     }
 }
 
@@ -100,12 +100,12 @@ pub fn first_in(tree: &Tree) -> Option<u32>
     ensures { result ≡ slice_get (keys tree.now) 0 }
 {
     match tree {
-        Tree::Leaf => None,
-        Tree::Block(block) => block.first().copied(),
+        Tree::Empty => None,
+        Tree::Leaf(leaf) => leaf.first().copied(),
         Tree::Two(node) | Tree::Three(node) => match first_in(&node.first) {
             Some(key) => Some(key),
             None => Some(node.low),
         },
-        Tree::One(_) => unreachable!(),
+        Tree::Underfull(_) => unreachable!(),
     }
 }

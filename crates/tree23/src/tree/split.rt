@@ -1,36 +1,36 @@
 //! A tree cut at a key.
 ghost use Rattle.std.specs.Prelude.{◌≡◌, ◌<◌, ◌^◌, length, OnOk};
 ghost use Rattle.tree23.specs.Keys.{StrictlyAscends};
-ghost use Rattle.tree23.specs.Nodes.{keys, depth, IsTree, IsBottom, IsNarrow, IsWide};
+ghost use Rattle.tree23.specs.Nodes.{keys, depth, IsTree, IsLeaf, IsNarrow, IsWide};
 ghost use Rattle.tree23.specs.Splits.{IsSplit};
 ghost use Rattle.tree23.specs.Code.Halves.{AreParts, AreEmpty};
 
-use crate::pool::Spares;
-use crate::tree::block::cut_block;
-use crate::tree::join::{put_before, put_behind};
-use crate::tree::node::{Node, Part, Tree, bare, two};
+use crate::pool::Pool;
+use crate::tree::join::{put_after, put_before};
+use crate::tree::leaf::cut_leaf;
+use crate::tree::node::{Node, Rooted, Tree, empty_node, two};
 use std::alloc::AllocError;
 use std::mem;
 
 /// The two parts of a tree.
 #[derive(Drop)]
 pub struct Halves {
-    pub low: Part,
-    pub high: Part,
+    pub low: Rooted,
+    pub high: Rooted,
 }
 
 /// Puts the keys below `key` and the others into two parts that are empty.
 #[cycle(cut)]
 pub fn split(
     tree: Tree,
-    levels: u64,
+    height: u64,
     key: u32,
     halves: &mut Halves,
-    spares: &mut Spares,
+    pool: &mut Pool,
 ) -> Result<(), AllocError>
     requires tree { IsTree tree }
     requires ascends { StrictlyAscends (keys tree) }
-    requires levels { levels ≡ depth tree }
+    requires height { height ≡ depth tree }
     requires fits { length (keys tree) < 2 ^ 62 }
     requires parts { AreParts halves.old }
     requires empty { AreEmpty halves.old }
@@ -38,22 +38,17 @@ pub fn split(
     ensures split { OnOk result (IsSplit key (keys tree) (keys halves.new.low.tree) (keys halves.new.high.tree)) }
 {
     match &tree {
-        Tree::Leaf | Tree::Block(_) => split_block(tree, key, halves, spares),
-        Tree::Two(_) => split_two(tree, levels, key, halves, spares),
-        Tree::Three(_) => split_three(tree, levels, key, halves, spares),
-        Tree::One(_) => unreachable!(),
+        Tree::Empty | Tree::Leaf(_) => split_leaf(tree, key, halves, pool),
+        Tree::Two(_) => split_two(tree, height, key, halves, pool),
+        Tree::Three(_) => split_three(tree, height, key, halves, pool),
+        Tree::Underfull(_) => unreachable!(),
     }
 }
 
-/// The same of a block.
-fn split_block(
-    tree: Tree,
-    key: u32,
-    halves: &mut Halves,
-    spares: &mut Spares,
-) -> Result<(), AllocError>
+/// The cut of a leaf.
+fn split_leaf(tree: Tree, key: u32, halves: &mut Halves, pool: &mut Pool) -> Result<(), AllocError>
     requires tree { IsTree tree }
-    requires bottom { IsBottom tree }
+    requires bottom { IsLeaf tree }
     requires ascends { StrictlyAscends (keys tree) }
     requires parts { AreParts halves.old }
     requires empty { AreEmpty halves.old }
@@ -61,30 +56,30 @@ fn split_block(
     ensures split { OnOk result (IsSplit key (keys tree) (keys halves.new.low.tree) (keys halves.new.high.tree)) }
 {
     match tree {
-        Tree::Block(mut block) => {
-            let behind = cut_block(&mut block, key, spares.take_block()?)?;
-            halves.low.tree = Tree::Block(block);
-            halves.high.tree = Tree::Block(behind);
+        Tree::Leaf(mut leaf) => {
+            let after = cut_leaf(&mut leaf, key, pool.take_leaf()?)?;
+            halves.low.tree = Tree::Leaf(leaf);
+            halves.high.tree = Tree::Leaf(after);
             Ok(())
         }
-        Tree::Leaf => Ok(()),
-        Tree::One(_) | Tree::Two(_) | Tree::Three(_) => unreachable!(),
+        Tree::Empty => Ok(()),
+        Tree::Underfull(_) | Tree::Two(_) | Tree::Three(_) => unreachable!(),
     }
 }
 
-/// The same of a root with two sides.
+/// The cut of a tree whose root has two sides.
 #[cycle(cut)]
 fn split_two(
     tree: Tree,
-    levels: u64,
+    height: u64,
     key: u32,
     halves: &mut Halves,
-    spares: &mut Spares,
+    pool: &mut Pool,
 ) -> Result<(), AllocError>
     requires tree { IsTree tree }
     requires narrow { IsNarrow tree }
     requires ascends { StrictlyAscends (keys tree) }
-    requires levels { levels ≡ depth tree }
+    requires height { height ≡ depth tree }
     requires fits { length (keys tree) < 2 ^ 62 }
     requires parts { AreParts halves.old }
     requires empty { AreEmpty halves.old }
@@ -93,47 +88,47 @@ fn split_two(
 {
     match tree {
         Tree::Two(mut node) => {
-            let side = levels - 1;
+            let side = height - 1;
             let Node {
                 first,
                 low,
                 second,
                 ..
-            } = mem::replace(&mut *node, bare());
-            spares.keep(node);
+            } = mem::replace(&mut *node, empty_node());
+            pool.give(node);
             if key <= low {
-                split(first, side, key, halves, spares)?;
-                let rest = Part {
+                split(first, side, key, halves, pool)?;
+                let rest = Rooted {
                     tree: second,
-                    levels: side,
+                    height: side,
                 };
-                put_behind(&mut halves.high, low, rest, spares)
+                put_after(&mut halves.high, low, rest, pool)
             } else {
-                split(second, side, key, halves, spares)?;
-                let rest = Part {
+                split(second, side, key, halves, pool)?;
+                let rest = Rooted {
                     tree: first,
-                    levels: side,
+                    height: side,
                 };
-                put_before(rest, low, &mut halves.low, spares)
+                put_before(rest, low, &mut halves.low, pool)
             }
         }
-        Tree::Leaf | Tree::Block(_) | Tree::One(_) | Tree::Three(_) => unreachable!(),
+        Tree::Empty | Tree::Leaf(_) | Tree::Underfull(_) | Tree::Three(_) => unreachable!(),
     }
 }
 
-/// The same of a root with three sides.
+/// The cut of a tree whose root has three sides.
 #[cycle(cut)]
 fn split_three(
     tree: Tree,
-    levels: u64,
+    height: u64,
     key: u32,
     halves: &mut Halves,
-    spares: &mut Spares,
+    pool: &mut Pool,
 ) -> Result<(), AllocError>
     requires tree { IsTree tree }
     requires wide { IsWide tree }
     requires ascends { StrictlyAscends (keys tree) }
-    requires levels { levels ≡ depth tree }
+    requires height { height ≡ depth tree }
     requires fits { length (keys tree) < 2 ^ 62 }
     requires parts { AreParts halves.old }
     requires empty { AreEmpty halves.old }
@@ -142,7 +137,7 @@ fn split_three(
 {
     match tree {
         Tree::Three(mut node) => {
-            let side = levels - 1;
+            let side = height - 1;
             let Node {
                 first,
                 low,
@@ -150,30 +145,30 @@ fn split_three(
                 high,
                 third,
                 ..
-            } = mem::replace(&mut *node, bare());
+            } = mem::replace(&mut *node, empty_node());
             if key <= low {
                 let tree = two(node, second, high, third);
-                split(first, side, key, halves, spares)?;
-                put_behind(&mut halves.high, low, Part { tree, levels }, spares)
+                split(first, side, key, halves, pool)?;
+                put_after(&mut halves.high, low, Rooted { tree, height }, pool)
             } else if key <= high {
-                spares.keep(node);
-                split(second, side, key, halves, spares)?;
-                let before = Part {
+                pool.give(node);
+                split(second, side, key, halves, pool)?;
+                let before = Rooted {
                     tree: first,
-                    levels: side,
+                    height: side,
                 };
-                put_before(before, low, &mut halves.low, spares)?;
-                let behind = Part {
+                put_before(before, low, &mut halves.low, pool)?;
+                let after = Rooted {
                     tree: third,
-                    levels: side,
+                    height: side,
                 };
-                put_behind(&mut halves.high, high, behind, spares)
+                put_after(&mut halves.high, high, after, pool)
             } else {
                 let tree = two(node, first, low, second);
-                split(third, side, key, halves, spares)?;
-                put_before(Part { tree, levels }, high, &mut halves.low, spares)
+                split(third, side, key, halves, pool)?;
+                put_before(Rooted { tree, height }, high, &mut halves.low, pool)
             }
         }
-        Tree::Leaf | Tree::Block(_) | Tree::One(_) | Tree::Two(_) => unreachable!(),
+        Tree::Empty | Tree::Leaf(_) | Tree::Underfull(_) | Tree::Two(_) => unreachable!(),
     }
 }

@@ -2,17 +2,17 @@
 use Rattle.std.proofs.Common.{◌≡◌, ℕ, ◌-◌, List, [], ◌∷◌, ◌++◌, length, reverse, Some, None, Option, refl, sym, ap, ◌∙◌, subst, arith, length-append}
 use Rattle.std.specs.Prelude.{slice_get}
 use Rattle.std.proofs.lemmas.List.{reverse-append, reverse-reverse}
-use Rattle.tree_forest.specs.declared.forest.trees.Entry.{Entry}
-use Rattle.tree_forest.specs.Forests.{behind, AreEntries}
+use Rattle.tree_forest.specs.declared.forest.trees.KeyedTree.{KeyedTree}
+use Rattle.tree_forest.specs.Forests.{entry_keys, AreKeyedTrees}
 use Rattle.tree_forest.proofs.ForestLemmas.KeyedTrees.{entries_push}
 
 -- entries turned around
-pub turned : (entries left : List Entry) (e : Entry) → entries ≡ left ++ e ∷ [] → reverse entries ≡ e ∷ reverse left
+pub turned : (entries left : List KeyedTree) (e : KeyedTree) → entries ≡ left ++ e ∷ [] → reverse entries ≡ e ∷ reverse left
 turned entries left e is = ap reverse is ∙ reverse-append left (e ∷ [])
 
-pub entries_turned : (entries : List Entry) → AreEntries entries → AreEntries (reverse entries)
+pub entries_turned : (entries : List KeyedTree) → AreKeyedTrees entries → AreKeyedTrees (reverse entries)
 entries_turned [] each = tt
-entries_turned (e ∷ entries) each = subst AreEntries (sym (reverse-append (e ∷ []) entries)) (entries_push (reverse entries) e (entries_turned entries each.1) each.0)
+entries_turned (e ∷ entries) each = subst AreKeyedTrees (sym (reverse-append (e ∷ []) entries)) (entries_push (reverse entries) e (entries_turned entries each.1) each.0)
 
 -- the first key of a list in two parts
 pub first_here : (k : ℕ) (xs ys : List ℕ) → Some k ≡ slice_get xs 0 → Some k ≡ slice_get (xs ++ ys) 0
@@ -23,28 +23,28 @@ pub first_past : (first : Option ℕ) (xs ys : List ℕ) → None ≡ slice_get 
 first_past first [] ys none is = is
 first_past first (x ∷ xs) ys none is = absurd (cc)
 
--- the key of the last entry is the first of those behind the entries from the last to the first
-get_last : (xs : List Entry) (e : Entry) → slice_get (xs ++ e ∷ []) (length xs) ≡ Some e
+-- the key of the last entry is the first of those after the entries from the last to the first
+get_last : (xs : List KeyedTree) (e : KeyedTree) → slice_get (xs ++ e ∷ []) (length xs) ≡ Some e
 get_last [] e = refl
 get_last (x ∷ xs) e = get_last xs e
 
-last_of : (items r : List Entry) (e : Entry) → reverse items ≡ e ∷ r → slice_get items (length items - 1) ≡ Some e
+last_of : (items r : List KeyedTree) (e : KeyedTree) → reverse items ≡ e ∷ r → slice_get items (length items - 1) ≡ Some e
 last_of items r e is =
     let snoc : items ≡ reverse r ++ e ∷ [] = sym (reverse-reverse items) ∙ ap reverse is ∙ reverse-append (e ∷ []) r in
     let place : length items - 1 ≡ length (reverse r) = omega (arith, ap length snoc, length-append (reverse r) (e ∷ [])) in
     ap (λ n. slice_get items n) place ∙ ap (λ z. slice_get z (length (reverse r))) snoc ∙ get_last (reverse r) e
 
-pub first_behind : (items : List Entry) (e : Entry) → slice_get items (length items - 1) ≡ Some e → Some e.key ≡ slice_get (behind (reverse items)) 0
-first_behind items e is = step (reverse items) refl where
-  step : (r : List Entry) → reverse items ≡ r → Some e.key ≡ slice_get (behind r) 0
+pub first_after : (items : List KeyedTree) (e : KeyedTree) → slice_get items (length items - 1) ≡ Some e → Some e.key ≡ slice_get (entry_keys (reverse items)) 0
+first_after items e is = step (reverse items) refl where
+  step : (r : List KeyedTree) → reverse items ≡ r → Some e.key ≡ slice_get (entry_keys r) 0
   step [] eq =
       let none : items ≡ [] = sym (reverse-reverse items) ∙ ap reverse eq in
       let gone : None ≡ Some e = rw none at is in
       absurd (cc)
   step (e' ∷ r) eq = let same : Some e' ≡ Some e = sym (last_of items r e' eq) ∙ is in cc
 
-pub none_behind : (items : List Entry) → slice_get items (length items - 1) ≡ None → None ≡ slice_get (behind (reverse items)) 0
-none_behind items is = step (reverse items) refl where
-  step : (r : List Entry) → reverse items ≡ r → None ≡ slice_get (behind r) 0
+pub none_after : (items : List KeyedTree) → slice_get items (length items - 1) ≡ None → None ≡ slice_get (entry_keys (reverse items)) 0
+none_after items is = step (reverse items) refl where
+  step : (r : List KeyedTree) → reverse items ≡ r → None ≡ slice_get (entry_keys r) 0
   step [] eq = refl
   step (e ∷ r) eq = let gone : Some e ≡ None = sym (last_of items r e eq) ∙ is in absurd (cc)

@@ -1,114 +1,114 @@
-//! A tree cut at a key into rows of its subtrees, which move whole: only the nodes on the way to the key are opened.
+//! A tree cut at a key into forests of its subtrees, which move whole: only the nodes on the way to the key are opened.
 ghost use Rattle.std.specs.Prelude.{◌≡◌, OnOk};
 ghost use Rattle.tree23.specs.Keys.{StrictlyAscends};
 ghost use Rattle.tree23.specs.Nodes.{keys, depth, IsTree, IsNarrow, IsWide};
-ghost use Rattle.tree_forest.specs.Forests.{whole_keys, IsCarving, IsCarved};
+ghost use Rattle.tree_forest.specs.Forests.{whole_keys, IsForestCut, IsCut};
 
-use crate::forest::trees::Forest;
-use crate::pool::RowSpares;
+use crate::forest::trees::Trees;
+use crate::pool::ForestPool;
 use std::alloc::AllocError;
 use std::mem;
-use tree23::tree::block::cut_block;
-use tree23::tree::node::{Node, Part, Tree, bare};
+use tree23::tree::leaf::cut_leaf;
+use tree23::tree::node::{Node, Rooted, Tree, empty_node};
 
 /// The sides of a cut, and the key before the tree that is being cut, if there is one. On the high side the
 /// entries stand from the last to the first.
 #[derive(Drop)]
-pub struct Carving {
-    pub low: Forest,
+pub struct ForestCut {
+    pub low: Trees,
     pub before: Option<u32>,
-    pub high: Forest,
+    pub high: Trees,
 }
 
-/// Puts the keys of a tree below `key` behind those of the low side, and the others before those of the high side.
-#[cycle(carving)]
-pub fn carve(
+/// Puts the keys of a tree below `key` after those of the low side, and the others before those of the high side.
+#[cycle(cutting)]
+pub fn cut_at(
     tree: Tree,
-    levels: u64,
+    height: u64,
     key: u32,
-    sides: &mut Carving,
-    spares: &mut RowSpares,
+    sides: &mut ForestCut,
+    pool: &mut ForestPool,
 ) -> Result<(), AllocError>
     requires tree { IsTree tree }
     requires ascends { StrictlyAscends (keys tree) }
-    requires levels { levels ≡ depth tree }
-    requires sides { IsCarving key sides.old }
-    ensures { OnOk result (IsCarved key (whole_keys (keys tree) sides.old) sides.new) }
+    requires height { height ≡ depth tree }
+    requires sides { IsForestCut key sides.old }
+    ensures { OnOk result (IsCut key (whole_keys (keys tree) sides.old) sides.new) }
 {
     match tree {
-        Tree::Leaf => sides.low.put(sides.before, Tree::Leaf, 0),
-        Tree::Block(mut block) => {
-            let behind = cut_block(&mut block, key, spares.trees.take_block()?)?;
-            sides.high.front = Part {
-                tree: Tree::Block(behind),
-                levels: 0,
+        Tree::Empty => sides.low.put(sides.before, Tree::Empty, 0),
+        Tree::Leaf(mut leaf) => {
+            let after = cut_leaf(&mut leaf, key, pool.trees.take_leaf()?)?;
+            sides.high.front = Rooted {
+                tree: Tree::Leaf(after),
+                height: 0,
             };
-            sides.low.put(sides.before, Tree::Block(block), 0)
+            sides.low.put(sides.before, Tree::Leaf(leaf), 0)
         }
-        Tree::Two(_) => carve_two(tree, levels, key, sides, spares),
-        Tree::Three(_) => carve_three(tree, levels, key, sides, spares),
-        Tree::One(_) => unreachable!(),
+        Tree::Two(_) => cut_two(tree, height, key, sides, pool),
+        Tree::Three(_) => cut_three(tree, height, key, sides, pool),
+        Tree::Underfull(_) => unreachable!(),
     }
 }
 
 /// The same of a root with two sides.
-#[cycle(carving)]
-fn carve_two(
+#[cycle(cutting)]
+fn cut_two(
     tree: Tree,
-    levels: u64,
+    height: u64,
     key: u32,
-    sides: &mut Carving,
-    spares: &mut RowSpares,
+    sides: &mut ForestCut,
+    pool: &mut ForestPool,
 ) -> Result<(), AllocError>
     requires tree { IsTree tree }
     requires narrow { IsNarrow tree }
     requires ascends { StrictlyAscends (keys tree) }
-    requires levels { levels ≡ depth tree }
-    requires sides { IsCarving key sides.old }
-    ensures { OnOk result (IsCarved key (whole_keys (keys tree) sides.old) sides.new) }
+    requires height { height ≡ depth tree }
+    requires sides { IsForestCut key sides.old }
+    ensures { OnOk result (IsCut key (whole_keys (keys tree) sides.old) sides.new) }
 {
     match tree {
         Tree::Two(mut node) => {
-            let levels = levels - 1;
+            let height = height - 1;
             let Node {
                 first,
                 low,
                 second,
                 ..
-            } = mem::replace(&mut *node, bare());
-            spares.trees.keep(node);
+            } = mem::replace(&mut *node, empty_node());
+            pool.trees.give(node);
             if key <= low {
-                sides.high.push(low, second, levels)?;
-                carve(first, levels, key, sides, spares)
+                sides.high.push(low, second, height)?;
+                cut_at(first, height, key, sides, pool)
             } else {
-                sides.low.put(sides.before, first, levels)?;
+                sides.low.put(sides.before, first, height)?;
                 sides.before = Some(low);
-                carve(second, levels, key, sides, spares)
+                cut_at(second, height, key, sides, pool)
             }
         }
-        Tree::Leaf | Tree::Block(_) | Tree::One(_) | Tree::Three(_) => unreachable!(),
+        Tree::Empty | Tree::Leaf(_) | Tree::Underfull(_) | Tree::Three(_) => unreachable!(),
     }
 }
 
 /// The same of a root with three sides.
-#[cycle(carving)]
-fn carve_three(
+#[cycle(cutting)]
+fn cut_three(
     tree: Tree,
-    levels: u64,
+    height: u64,
     key: u32,
-    sides: &mut Carving,
-    spares: &mut RowSpares,
+    sides: &mut ForestCut,
+    pool: &mut ForestPool,
 ) -> Result<(), AllocError>
     requires tree { IsTree tree }
     requires wide { IsWide tree }
     requires ascends { StrictlyAscends (keys tree) }
-    requires levels { levels ≡ depth tree }
-    requires sides { IsCarving key sides.old }
-    ensures { OnOk result (IsCarved key (whole_keys (keys tree) sides.old) sides.new) }
+    requires height { height ≡ depth tree }
+    requires sides { IsForestCut key sides.old }
+    ensures { OnOk result (IsCut key (whole_keys (keys tree) sides.old) sides.new) }
 {
     match tree {
         Tree::Three(mut node) => {
-            let levels = levels - 1;
+            let height = height - 1;
             let Node {
                 first,
                 low,
@@ -116,25 +116,25 @@ fn carve_three(
                 high,
                 third,
                 ..
-            } = mem::replace(&mut *node, bare());
-            spares.trees.keep(node);
+            } = mem::replace(&mut *node, empty_node());
+            pool.trees.give(node);
             if key <= high {
-                sides.high.push(high, third, levels)?;
+                sides.high.push(high, third, height)?;
                 if key <= low {
-                    sides.high.push(low, second, levels)?;
-                    carve(first, levels, key, sides, spares)
+                    sides.high.push(low, second, height)?;
+                    cut_at(first, height, key, sides, pool)
                 } else {
-                    sides.low.put(sides.before, first, levels)?;
+                    sides.low.put(sides.before, first, height)?;
                     sides.before = Some(low);
-                    carve(second, levels, key, sides, spares)
+                    cut_at(second, height, key, sides, pool)
                 }
             } else {
-                sides.low.put(sides.before, first, levels)?;
-                sides.low.push(low, second, levels)?;
+                sides.low.put(sides.before, first, height)?;
+                sides.low.push(low, second, height)?;
                 sides.before = Some(high);
-                carve(third, levels, key, sides, spares)
+                cut_at(third, height, key, sides, pool)
             }
         }
-        Tree::Leaf | Tree::Block(_) | Tree::One(_) | Tree::Two(_) => unreachable!(),
+        Tree::Empty | Tree::Leaf(_) | Tree::Underfull(_) | Tree::Two(_) => unreachable!(),
     }
 }

@@ -1,50 +1,50 @@
-//! What is left of a row while its keys are taken off from the least on.
+//! What is left of a forest while its keys are taken off from the least on.
 ghost use Rattle.std.specs.Prelude.{◌≡◌, ◌<◌, ◌≤◌, List, [], ◌∷◌, ◌++◌, slice_get, None, IfOk, IfSome, OnErr};
-ghost use Rattle.tree_forest.specs.declared.forest.trees.Entry.{Entry as EntryOf};
+ghost use Rattle.tree_forest.specs.declared.forest.trees.KeyedTree.{KeyedTree as KeyedTreeOf};
 ghost use Rattle.tree23.specs.Keys.{StrictlyAscends};
-ghost use Rattle.tree23.specs.Nodes.{keys, IsPart};
-ghost use Rattle.tree_forest.specs.Forests.{in_stack, whole_keys, IsForest, IsCarving, IsTakenOff};
+ghost use Rattle.tree23.specs.Nodes.{keys, IsRooted};
+ghost use Rattle.tree_forest.specs.Forests.{in_reverse, whole_keys, AreTrees, IsForestCut, IsTakenOff};
 ghost use Rattle.tree23.specs.Splits.{IsSplit};
 
-use crate::forest::Row;
-use crate::forest::cut::{Carving, carve};
-use crate::forest::trees::{Entry, Forest};
-use crate::pool::RowSpares;
+use crate::forest::Forest;
+use crate::forest::cut::{ForestCut, cut_at};
+use crate::forest::trees::{KeyedTree, Trees};
+use crate::pool::ForestPool;
 use std::alloc::{AllocError, Global};
 use std::marker::Model;
 use std::mem;
-use tree23::tree::node::Part;
+use tree23::tree::node::Rooted;
 use tree23::tree::search::first_in;
 
-/// A set of numbers from which rows are taken off. Contracts see it as the list of its keys, which strictly ascends.
+/// A set of numbers from which forests are taken off. Contracts see it as the list of its keys, which strictly ascends.
 #[derive(Drop)]
-pub struct Rest {
-    forest: Forest,
+pub struct Remaining {
+    trees: Trees,
     alloc: Global,
 }
 
-impl Model for Rest {
+impl Model for Remaining {
     ghost use Rattle.std.specs.Prelude.{ℕ, List};
 
     ghost Value = { List ℕ };
 
-    ghost use Rattle.tree_forest.specs.Forests.{in_stack, IsForest, IsKeySet};
+    ghost use Rattle.tree_forest.specs.Forests.{in_reverse, AreTrees, IsKeySet};
 
-    ghost view = { λ r. in_stack r.forest };
+    ghost view = { λ r. in_reverse r.trees };
 
-    ghost invariant = { λ r. IsForest r.forest × IsKeySet (in_stack r.forest) };
+    ghost invariant = { λ r. AreTrees r.trees × IsKeySet (in_reverse r.trees) };
 }
 
-impl Rest {
-    /// The keys of a row. It takes no memory.
-    pub fn new(row: Row) -> Rest
-        ensures { result ≡ row }
+impl Remaining {
+    /// The keys of a forest. It takes no memory.
+    pub fn new(forest: Forest) -> Remaining
+        ensures { result ≡ forest }
     {
-        let alloc = row.alloc;
-        let Forest { front, mut entries } = row.forest;
+        let alloc = forest.alloc;
+        let Trees { front, mut entries } = forest.trees;
         entries.reverse();
-        Rest {
-            forest: Forest { front, entries },
+        Remaining {
+            trees: Trees { front, entries },
             alloc,
         }
     }
@@ -53,9 +53,9 @@ impl Rest {
     pub fn least(&self) -> Option<u32>
         ensures { result ≡ slice_get self.now 0 }
     {
-        match first_in(&self.forest.front.tree) {
+        match first_in(&self.trees.front.tree) {
             Some(key) => Some(key),
-            None => match self.forest.entries.last() {
+            None => match self.trees.entries.last() {
                 Some(entry) => Some(entry.key),
                 None => None,
             },
@@ -64,58 +64,62 @@ impl Rest {
 
     /// Takes off the keys below `key`. The subtrees beside the way to the key move whole. Without memory all keys are
     /// lost.
-    pub fn take_below(&mut self, key: u32, spares: &mut RowSpares) -> Result<Row, AllocError>
-        ensures split { IfOk result (λ row. IsSplit key self.old row self.new) }
+    pub fn split_off_below(&mut self, key: u32, pool: &mut ForestPool) -> Result<Forest, AllocError>
+        ensures split { IfOk result (λ forest. IsSplit key self.old forest self.new) }
         ensures err { OnErr result (self.new ≡ []) }
     {
         let alloc = self.alloc;
-        let high = mem::replace(&mut self.forest, Forest::empty(alloc));
-        let (mut sides, part) = passed(high, key, spares)?;
-        carve(part.tree, part.levels, key, &mut sides, spares)?;
-        let Carving { low, high, .. } = sides;
-        self.forest = high;
-        Ok(Row::of(low, alloc))
+        let high = mem::replace(&mut self.trees, Trees::empty(alloc));
+        let (mut sides, rooted) = pass_below(high, key, pool)?;
+        cut_at(rooted.tree, rooted.height, key, &mut sides, pool)?;
+        let ForestCut { low, high, .. } = sides;
+        self.trees = high;
+        Ok(Forest::of(low, alloc))
     }
 
-    /// All that is left, as a row. It takes no memory.
-    pub fn into_row(self) -> Row
+    /// All that is left, as a forest. It takes no memory.
+    pub fn into_forest(self) -> Forest
         ensures { result ≡ self }
     {
         let alloc = self.alloc;
-        let Forest { front, mut entries } = self.forest;
+        let Trees { front, mut entries } = self.trees;
         entries.reverse();
-        Row::of(Forest { front, entries }, alloc)
+        Forest::of(Trees { front, entries }, alloc)
     }
 }
 
 /// Passes the trees that stand before a key to the low side, up to the tree in which the cut at the key lies, which is
 /// taken out.
-fn passed(mut high: Forest, key: u32, spares: &mut RowSpares) -> Result<(Carving, Part), AllocError>
-    requires forest { IsForest high }
-    requires set { StrictlyAscends (in_stack high) }
-    ensures sides { IfOk result (λ p. IsCarving key p.0) }
-    ensures keys { IfOk result (λ p. whole_keys (keys p.1.tree) p.0 ≡ in_stack high) }
-    ensures part { IfOk result (λ p. IsPart p.1) }
+fn pass_below(
+    mut high: Trees,
+    key: u32,
+    pool: &mut ForestPool,
+) -> Result<(ForestCut, Rooted), AllocError>
+    requires trees { AreTrees high }
+    requires set { StrictlyAscends (in_reverse high) }
+    ensures sides { IfOk result (λ p. IsForestCut key p.0) }
+    ensures keys { IfOk result (λ p. whole_keys (keys p.1.tree) p.0 ≡ in_reverse high) }
+    ensures rooted { IfOk result (λ p. IsRooted p.1) }
 {
-    let mut part = mem::replace(&mut high.front, Part::empty());
-    let mut low = Forest {
-        front: Part::empty(),
-        entries: spares.take_row()?,
+    let mut rooted = mem::replace(&mut high.front, Rooted::empty());
+    let mut low = Trees {
+        front: Rooted::empty(),
+        entries: pool.take_entries()?,
     };
     let mut before = None;
     while let Some(entry) = pop_below(&mut high.entries, key) {
-        low.put(before, part.tree, part.levels)?;
+        low.put(before, rooted.tree, rooted.height)?;
         before = Some(entry.key);
-        part = entry.part;
+        rooted = entry.rooted;
     }
-    Ok((Carving { low, before, high }, part))
+    Ok((ForestCut { low, before, high }, rooted))
 }
 
 /// Takes the last entry off, if its key is below.
-fn pop_below(entries: &mut Vec<Entry>, key: u32) -> Option<Entry>
+fn pop_below(entries: &mut Vec<KeyedTree>, key: u32) -> Option<KeyedTree>
     ensures taken { IsTakenOff entries.old.items entries.new.items result }
     ensures below { IfSome result (λ e. e.key < key) }
-    ensures stays { (e : EntryOf) (others : List EntryOf) → result ≡ None → entries.old.items ≡ others ++ e ∷ [] → key ≤ e.key }
+    ensures stays { (e : KeyedTreeOf) (others : List KeyedTreeOf) → result ≡ None → entries.old.items ≡ others ++ e ∷ [] → key ≤ e.key }
 {
     match entries.last() {
         Some(last) if last.key < key => entries.pop(),

@@ -1,71 +1,71 @@
-//! Trees in a row, with a key between each two: what a `Row` is made of.
+//! Trees in a forest, with a key between each two: what a `Forest` is made of.
 ghost use Rattle.std.specs.Prelude.{◌≡◌, ◌++◌, ◌∷◌, [], reverse, OnOk};
 ghost use Rattle.std.specs.Option.{option_to_list};
-ghost use Rattle.tree23.specs.declared.tree.node.Tree.TheVariants.{Leaf};
+ghost use Rattle.tree23.specs.declared.tree.node.Tree.TheVariants.{Empty};
 ghost use Rattle.tree23.specs.Nodes.{keys, depth, IsTree};
-ghost use Rattle.tree_forest.specs.Forests.{behind, in_row, in_stack, IsForest, CanStand};
+ghost use Rattle.tree_forest.specs.Forests.{entry_keys, in_order, in_reverse, AreTrees, CanStand};
 
 use std::alloc::{AllocError, Global};
-use tree23::tree::node::{Part, Tree};
+use tree23::tree::node::{Rooted, Tree};
 
-/// A key, and the tree behind it.
+/// A key, and the tree after it.
 #[derive(Drop)]
-pub struct Entry {
+pub struct KeyedTree {
     pub key: u32,
-    pub part: Part,
+    pub rooted: Rooted,
 }
 
-/// A tree in front, and further trees behind keys.
+/// A tree in front, and further trees after keys.
 #[derive(Drop)]
-pub struct Forest {
-    pub front: Part,
-    pub entries: Vec<Entry>,
+pub struct Trees {
+    pub front: Rooted,
+    pub entries: Vec<KeyedTree>,
 }
 
-impl Forest {
+impl Trees {
     /// No keys. It takes no memory.
     #[inline]
-    pub fn empty(alloc: Global) -> Forest
-        ensures forest { IsForest result }
-        ensures front { result.front.tree ≡ Leaf }
+    pub fn empty(alloc: Global) -> Trees
+        ensures trees { AreTrees result }
+        ensures front { result.front.tree ≡ Empty }
         ensures entries { result.entries.items ≡ [] }
     {
-        Forest {
-            front: Part::empty(),
+        Trees {
+            front: Rooted::empty(),
             entries: Vec::new(alloc),
         }
     }
 
-    /// Puts a key behind all, and a tree behind that.
+    /// Puts a key after all, and a tree after that.
     #[inline]
-    pub fn push(&mut self, key: u32, tree: Tree, levels: u64) -> Result<(), AllocError>
-        requires forest { IsForest self.old }
+    pub fn push(&mut self, key: u32, tree: Tree, height: u64) -> Result<(), AllocError>
+        requires trees { AreTrees self.old }
         requires tree { IsTree tree }
-        requires levels { levels ≡ depth tree }
-        ensures forest { OnOk result (IsForest self.new) }
-        ensures row { OnOk result (in_row self.new ≡ in_row self.old ++ key ∷ keys tree) }
-        ensures stack { OnOk result (in_stack self.new ≡ keys self.old.front.tree ++ key ∷ (keys tree ++ behind (reverse self.old.entries.items))) }
+        requires height { height ≡ depth tree }
+        ensures trees { OnOk result (AreTrees self.new) }
+        ensures forest { OnOk result (in_order self.new ≡ in_order self.old ++ key ∷ keys tree) }
+        ensures stack { OnOk result (in_reverse self.new ≡ keys self.old.front.tree ++ key ∷ (keys tree ++ entry_keys (reverse self.old.entries.items))) }
         ensures front { self.new.front ≡ self.old.front }
     {
-        let part = Part { tree, levels };
-        self.entries.push(Entry { key, part })?;
+        let rooted = Rooted { tree, height };
+        self.entries.push(KeyedTree { key, rooted })?;
         Ok(())
     }
 
-    /// Puts a tree behind all, behind a key unless nothing is there yet.
+    /// Puts a tree after all, after a key unless nothing is there yet.
     #[inline]
-    pub fn put(&mut self, before: Option<u32>, tree: Tree, levels: u64) -> Result<(), AllocError>
-        requires forest { IsForest self.old }
+    pub fn put(&mut self, before: Option<u32>, tree: Tree, height: u64) -> Result<(), AllocError>
+        requires trees { AreTrees self.old }
         requires tree { IsTree tree }
-        requires levels { levels ≡ depth tree }
+        requires height { height ≡ depth tree }
         requires stands { CanStand before self.old }
-        ensures forest { OnOk result (IsForest self.new) }
-        ensures row { OnOk result (in_row self.new ≡ in_row self.old ++ (option_to_list before ++ keys tree)) }
+        ensures trees { OnOk result (AreTrees self.new) }
+        ensures forest { OnOk result (in_order self.new ≡ in_order self.old ++ (option_to_list before ++ keys tree)) }
     {
         match before {
-            Some(key) => self.push(key, tree, levels),
+            Some(key) => self.push(key, tree, height),
             None => {
-                self.front = Part { tree, levels };
+                self.front = Rooted { tree, height };
                 Ok(())
             }
         }

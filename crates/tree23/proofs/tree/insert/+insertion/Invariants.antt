@@ -11,5 +11,5 @@ decreases-insert_in_two l = 3 * depth l.tree.now + 1
 abbrev pub decreases-insert_in_three : goal.decreases-insert_in_three
 decreases-insert_in_three l = 3 * depth l.tree.now + 1
 
-abbrev pub decreases-insert_behind_low : goal.decreases-insert_behind_low
-decreases-insert_behind_low l = 3 * depth l.tree.now
+abbrev pub decreases-insert_after_low : goal.decreases-insert_after_low
+decreases-insert_after_low l = 3 * depth l.tree.now

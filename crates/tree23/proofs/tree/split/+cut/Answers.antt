@@ -40,7 +40,7 @@ pub split_two-returns-in_ok-split-in-Two-clause-split : goal.split_two-returns-i
 split_two-returns-in_ok-split-in-Two-clause-split t c =
     let e : keys c.args.tree ≡ keys c.replace-first.result.first ++ c.replace-first.result.low ∷ keys c.replace-first.result.second = rw (c.replace-first.ensures.value, c.deref_mut.ensures.value) (ap keys c.in-Two.is) in
     let p = parts _ _ _ _ _ e c.requires.ascends c.requires.fits in
-    high_known _ _ _ _ _ _ c.put_behind.ensures.keys (split_left _ _ _ p c.if-key-low.true c.in_ok-split-in-Two.ensures.split)
+    high_known _ _ _ _ _ _ c.put_after.ensures.keys (split_left _ _ _ p c.if-key-low.true c.in_ok-split-in-Two.ensures.split)
 
 pub split_two-returns-in_ok-split-in-Two-2-clause-split : goal.split_two-returns-in_ok-split-in-Two-2-clause-split
 split_two-returns-in_ok-split-in-Two-2-clause-split t c =
@@ -53,7 +53,7 @@ split_three-returns-in_ok-split-in-Three-clause-split t c =
     let e : keys c.args.tree ≡ keys c.replace-first.result.first ++ c.replace-first.result.low ∷ (keys c.replace-first.result.second ++ c.replace-first.result.high ∷ keys c.replace-first.result.third) = rw (c.replace-first.ensures.value, c.deref_mut.ensures.value) (ap keys c.in-Three.is) in
     let p = parts _ _ _ _ _ e c.requires.ascends c.requires.fits in
     let z : IsSplit c.args.key (keys c.args.tree) (keys c.split.new.halves.low.tree) (keys c.split.new.halves.high.tree ++ c.replace-first.result.low ∷ keys c.two-tree.result) = rw c.two-tree.ensures.keys (split_left _ _ _ p c.if-key-low.true c.in_ok-split-in-Three.ensures.split) in
-    high_known _ _ _ _ _ _ c.put_behind.ensures.keys z
+    high_known _ _ _ _ _ _ c.put_after.ensures.keys z
 
 pub split_three-returns-in_ok-put_before-in-Three-clause-split : goal.split_three-returns-in_ok-put_before-in-Three-clause-split
 split_three-returns-in_ok-put_before-in-Three-clause-split t c =
@@ -61,7 +61,7 @@ split_three-returns-in_ok-put_before-in-Three-clause-split t c =
     let p = parts _ _ _ _ _ e c.requires.ascends c.requires.fits in
     let q = parts _ _ (keys c.replace-first.result.second) c.replace-first.result.high (keys c.replace-first.result.third) refl p.right p.right_fits in
     let z : IsSplit c.args.key (keys c.args.tree) (keys c.put_before.new.high.tree) (keys c.split-then-key-high.new.halves.high.tree ++ c.replace-first.result.high ∷ keys c.replace-first.result.third) = rw c.in_ok-put_before-in-Three.ensures.keys (split_right _ _ _ p c.if-key-low.false (split_left _ _ _ q c.if-key-high.true c.in_ok-split-in-Three-2.ensures.split)) in
-    high_known _ _ _ _ _ _ c.put_behind-then-key-high.ensures.keys z
+    high_known _ _ _ _ _ _ c.put_after-then-key-high.ensures.keys z
 
 pub split_three-returns-in_ok-split-in-Three-3-clause-split : goal.split_three-returns-in_ok-split-in-Three-3-clause-split
 split_three-returns-in_ok-split-in-Three-3-clause-split t c =

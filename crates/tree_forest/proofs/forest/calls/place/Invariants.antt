@@ -4,9 +4,9 @@ use Rattle.tree_forest.proofs.forest.calls.place.Given as goal
 
 abbrev pub invariant-loop-at : goal.invariant-loop-at
 invariant-loop-at l = record {
-  within : l.at ≤ length l.forest.entries.items;
-  not_above : AllByRecursion (λ e. e.key ≤ l.key) (take l.at l.forest.entries.items);
+  within : l.at ≤ length l.trees.entries.items;
+  not_above : AllByRecursion (λ e. e.key ≤ l.key) (take l.at l.trees.entries.items);
 }
 
 abbrev pub decreases-loop-at : goal.decreases-loop-at
-decreases-loop-at l = length l.forest.entries.items - l.at
+decreases-loop-at l = length l.trees.entries.items - l.at

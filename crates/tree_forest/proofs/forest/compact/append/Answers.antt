@@ -1,7 +1,7 @@
 use Rattle.std.proofs.Common.{◌++◌, ◌∙◌, ap, append_assoc, arith, length-append}
 use Rattle.std.proofs.lemmas.List.{reverse-reverse}
 use Rattle.tree23.specs.Nodes.{keys}
-use Rattle.tree_forest.specs.Forests.{behind, in_row}
+use Rattle.tree_forest.specs.Forests.{entry_keys, in_order}
 use Rattle.tree_forest.proofs.ForestLemmas.KeyedTrees.{taken}
 use Rattle.tree_forest.proofs.ForestLemmas.Compacting.{still_fits}
 use Rattle.tree_forest.proofs.ForestLemmas.Reversing.{turned, entries_turned}
@@ -9,19 +9,19 @@ use Rattle.tree_forest.proofs.forest.compact.append.Goals as goal
 
 pub loop-entry-init : goal.loop-entry-init
 loop-entry-init c = record {
-  forest = c.in_ok-add_front.ensures.forest;
+  trees = c.in_ok-add_front.ensures.trees;
   entries = rw c.reverse.ensures.items (entries_turned _ c.requires.high.entries_are);
   keys_are =
-      ap (λ z. in_row c.add_front.new.forest ++ behind z) (rw c.reverse.ensures.items (reverse-reverse _))
-      ∙ ap (λ z. z ++ behind c.args.high.entries.items) c.in_ok-add_front.ensures.keys
-      ∙ append_assoc (in_row c.args.low.now) (keys c.args.high.front.tree) (behind c.args.high.entries.items);
+      ap (λ z. in_order c.add_front.new.trees ++ entry_keys z) (rw c.reverse.ensures.items (reverse-reverse _))
+      ∙ ap (λ z. z ++ entry_keys c.args.high.entries.items) c.in_ok-add_front.ensures.keys
+      ∙ append_assoc (in_order c.args.low.now) (keys c.args.high.front.tree) (entry_keys c.args.high.entries.items);
 }
 
-pub add-requires-clause-part : goal.add-requires-clause-part
-add-requires-clause-part c = (taken _ _ _ c.loop-entry.invariant.entries c.in-Some.ensures.items).part
+pub add-requires-clause-rooted : goal.add-requires-clause-rooted
+add-requires-clause-rooted c = (taken _ _ _ c.loop-entry.invariant.entries c.in-Some.ensures.items).rooted
 
 pub add-requires-clause-fits : goal.add-requires-clause-fits
 add-requires-clause-fits c =
-    let low = in_row c.args.low.now in
-    let high = in_row c.args.high in
-    still_fits (in_row c.loop-entry.low) (low ++ high) c.in-Some.entry _ _ (turned _ _ _ c.in-Some.ensures.items) c.loop-entry.invariant.keys_are (omega (arith, length-append low high, c.requires.fits))
+    let low = in_order c.args.low.now in
+    let high = in_order c.args.high in
+    still_fits (in_order c.loop-entry.low) (low ++ high) c.in-Some.entry _ _ (turned _ _ _ c.in-Some.ensures.items) c.loop-entry.invariant.keys_are (omega (arith, length-append low high, c.requires.fits))

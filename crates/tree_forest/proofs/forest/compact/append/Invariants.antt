@@ -1,12 +1,12 @@
 use Rattle.std.proofs.Common.{◌≡◌, ◌++◌, length, reverse}
-use Rattle.tree_forest.specs.Forests.{behind, in_row, IsForest, AreEntries}
+use Rattle.tree_forest.specs.Forests.{entry_keys, in_order, AreTrees, AreKeyedTrees}
 use Rattle.tree_forest.proofs.forest.compact.append.Given as goal
 
 abbrev pub invariant-loop-entry : goal.invariant-loop-entry
 invariant-loop-entry l = record {
-  forest : IsForest l.low;
-  entries : AreEntries l.entries.items;
-  keys_are : in_row l.low ++ behind (reverse l.entries.items) ≡ in_row l.fn.low ++ in_row l.fn.high;
+  trees : AreTrees l.low;
+  entries : AreKeyedTrees l.entries.items;
+  keys_are : in_order l.low ++ entry_keys (reverse l.entries.items) ≡ in_order l.fn.low ++ in_order l.fn.high;
 }
 
 abbrev pub decreases-loop-entry : goal.decreases-loop-entry

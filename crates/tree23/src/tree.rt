@@ -4,15 +4,25 @@ ghost use Rattle.std.specs.List.{AllByRecursion};
 ghost use Rattle.tree23.specs.Keys.{StrictlyAscends, AllBelow, with_key, has, without_key, least_above};
 ghost use Rattle.tree23.specs.Splits.{IsSplit};
 
+#[doc(hidden)]
 pub mod insert;
+#[doc(hidden)]
 pub mod join;
+#[doc(hidden)]
 pub mod leaf;
+#[doc(hidden)]
 pub mod node;
+#[doc(hidden)]
 pub mod rebalance;
+#[doc(hidden)]
 pub mod remove;
+#[doc(hidden)]
 pub mod search;
+#[doc(hidden)]
 pub mod split;
+#[doc(hidden)]
 pub mod split_node;
+#[doc(hidden)]
 pub mod try_insert;
 
 use crate::pool::Pool;

@@ -3,6 +3,8 @@ ghost use Rattle.std.specs.Prelude.{◌≡◌, ◌+◌, ◌%◌, ◌<◌, ◌^�
 ghost use Rattle.tree23.specs.Nodes.{keys, depth, IsTree, IsRooted, IsLoose, IsNarrow};
 ghost use Rattle.tree23.specs.declared.tree.node.Tree.TheVariants.{Empty};
 
+use std::mem;
+
 /// A tree of nodes. What lies below the lowest nodes are leaves of keys.
 #[cycle(tree)]
 #[derive(Drop)]
@@ -79,6 +81,47 @@ impl Rooted {
             tree: Tree::Empty,
             height: 0,
         }
+    }
+}
+
+impl Node {
+    /// Takes the first side out.
+    #[inline]
+    pub fn take_first(&mut self) -> Tree
+        ensures { result ≡ self.old.first }
+    {
+        let Node { first, .. } = mem::replace(self, empty_node());
+        first
+    }
+
+    /// Takes the first two sides and the key between them out.
+    #[inline]
+    pub fn take_two(&mut self) -> (Tree, u32, Tree)
+        ensures { result ≡ (self.old.first, self.old.low, self.old.second) }
+    {
+        let Node {
+            first,
+            low,
+            second,
+            ..
+        } = mem::replace(self, empty_node());
+        (first, low, second)
+    }
+
+    /// Takes the three sides and the keys between them out.
+    #[inline]
+    pub fn take_three(&mut self) -> (Tree, u32, Tree, u32, Tree)
+        ensures { result ≡ (self.old.first, self.old.low, self.old.second, self.old.high, self.old.third) }
+    {
+        let Node {
+            first,
+            low,
+            second,
+            high,
+            third,
+            ..
+        } = mem::replace(self, empty_node());
+        (first, low, second, high, third)
     }
 }
 

@@ -3,7 +3,7 @@ ghost use Rattle.std.specs.Prelude.{◌≡◌, ◌+◌, ◌++◌, ◌∷◌};
 ghost use Rattle.tree23.specs.Nodes.{keys, depth, IsTree, IsLoose, IsNarrow};
 ghost use Rattle.tree23.specs.Code.Removals.{IsFirstLess, IsSecondLess, IsThirdLess};
 
-use crate::tree::node::{Node, Tree, empty_node, three, two, underfull};
+use crate::tree::node::{Node, Tree, three, two, underfull};
 use std::mem;
 
 /// Two sides around a key, of which the first may have one side.
@@ -18,26 +18,14 @@ fn join_first(node: Box<Node>, a: Tree, k: u32, b: Tree) -> Tree
 {
     match a {
         Tree::Underfull(mut left) => {
-            let Node { first: x, .. } = mem::replace(&mut *left, empty_node());
+            let x = left.take_first();
             match b {
                 Tree::Two(mut right) => {
-                    let Node {
-                        first,
-                        low,
-                        second,
-                        ..
-                    } = mem::replace(&mut *right, empty_node());
+                    let (first, low, second) = right.take_two();
                     underfull(node, three(right, x, k, first, low, second))
                 }
                 Tree::Three(mut right) => {
-                    let Node {
-                        first,
-                        low,
-                        second,
-                        high,
-                        third,
-                        ..
-                    } = mem::replace(&mut *right, empty_node());
+                    let (first, low, second, high, third) = right.take_three();
                     two(
                         node,
                         two(left, x, k, first),
@@ -64,26 +52,14 @@ fn join_second(node: Box<Node>, a: Tree, k: u32, b: Tree) -> Tree
 {
     match b {
         Tree::Underfull(mut right) => {
-            let Node { first: x, .. } = mem::replace(&mut *right, empty_node());
+            let x = right.take_first();
             match a {
                 Tree::Two(mut left) => {
-                    let Node {
-                        first,
-                        low,
-                        second,
-                        ..
-                    } = mem::replace(&mut *left, empty_node());
+                    let (first, low, second) = left.take_two();
                     underfull(node, three(left, first, low, second, k, x))
                 }
                 Tree::Three(mut left) => {
-                    let Node {
-                        first,
-                        low,
-                        second,
-                        high,
-                        third,
-                        ..
-                    } = mem::replace(&mut *left, empty_node());
+                    let (first, low, second, high, third) = left.take_three();
                     two(
                         node,
                         two(left, first, low, second),
@@ -110,16 +86,11 @@ fn after(rest: Tree, m: u32, c: Tree) -> Tree
 {
     match rest {
         Tree::Underfull(mut node) => {
-            let Node { first, .. } = mem::replace(&mut *node, empty_node());
+            let first = node.take_first();
             two(node, first, m, c)
         }
         Tree::Two(mut node) => {
-            let Node {
-                first,
-                low,
-                second,
-                ..
-            } = mem::replace(&mut *node, empty_node());
+            let (first, low, second) = node.take_two();
             three(node, first, low, second, m, c)
         }
         Tree::Empty | Tree::Leaf(_) | Tree::Three(_) => unreachable!(),
@@ -138,16 +109,11 @@ fn before(a: Tree, k: u32, rest: Tree) -> Tree
 {
     match rest {
         Tree::Underfull(mut node) => {
-            let Node { first, .. } = mem::replace(&mut *node, empty_node());
+            let first = node.take_first();
             two(node, a, k, first)
         }
         Tree::Two(mut node) => {
-            let Node {
-                first,
-                low,
-                second,
-                ..
-            } = mem::replace(&mut *node, empty_node());
+            let (first, low, second) = node.take_two();
             three(node, a, k, first, low, second)
         }
         Tree::Empty | Tree::Leaf(_) | Tree::Three(_) => unreachable!(),
@@ -167,12 +133,7 @@ pub fn rebalance_first(tree: &mut Tree)
                 let Tree::Two(mut node) = mem::replace(tree, Tree::Empty) else {
                     unreachable!()
                 };
-                let Node {
-                    first,
-                    low,
-                    second,
-                    ..
-                } = mem::replace(&mut *node, empty_node());
+                let (first, low, second) = node.take_two();
                 *tree = join_first(node, first, low, second);
             } else {
                 node.size = node.size.wrapping_sub(1);
@@ -183,14 +144,7 @@ pub fn rebalance_first(tree: &mut Tree)
                 let Tree::Three(mut node) = mem::replace(tree, Tree::Empty) else {
                     unreachable!()
                 };
-                let Node {
-                    first,
-                    low,
-                    second,
-                    high,
-                    third,
-                    ..
-                } = mem::replace(&mut *node, empty_node());
+                let (first, low, second, high, third) = node.take_three();
                 *tree = after(join_first(node, first, low, second), high, third);
             } else {
                 node.size = node.size.wrapping_sub(1);
@@ -213,12 +167,7 @@ pub fn rebalance_second(tree: &mut Tree)
                 let Tree::Two(mut node) = mem::replace(tree, Tree::Empty) else {
                     unreachable!()
                 };
-                let Node {
-                    first,
-                    low,
-                    second,
-                    ..
-                } = mem::replace(&mut *node, empty_node());
+                let (first, low, second) = node.take_two();
                 *tree = join_second(node, first, low, second);
             } else {
                 node.size = node.size.wrapping_sub(1);
@@ -229,14 +178,7 @@ pub fn rebalance_second(tree: &mut Tree)
                 let Tree::Three(mut node) = mem::replace(tree, Tree::Empty) else {
                     unreachable!()
                 };
-                let Node {
-                    first,
-                    low,
-                    second,
-                    high,
-                    third,
-                    ..
-                } = mem::replace(&mut *node, empty_node());
+                let (first, low, second, high, third) = node.take_three();
                 *tree = after(join_second(node, first, low, second), high, third);
             } else {
                 node.size = node.size.wrapping_sub(1);
@@ -259,14 +201,7 @@ pub fn rebalance_third(tree: &mut Tree)
                 let Tree::Three(mut node) = mem::replace(tree, Tree::Empty) else {
                     unreachable!()
                 };
-                let Node {
-                    first,
-                    low,
-                    second,
-                    high,
-                    third,
-                    ..
-                } = mem::replace(&mut *node, empty_node());
+                let (first, low, second, high, third) = node.take_three();
                 *tree = before(first, low, join_second(node, second, high, third));
             } else {
                 node.size = node.size.wrapping_sub(1);

@@ -7,7 +7,7 @@ ghost use Rattle.tree23.specs.Nodes.{keys, depth, IsTree, IsRooted, IsLoose, IsN
 ghost use Rattle.tree23.specs.Code.Removals.{IsRemoved, IsPopped, first_side, second_side, third_side, keys_but_low, keys_but_high};
 
 use crate::tree::leaf::{is_at, place};
-use crate::tree::node::{Node, Rooted, Tree, empty_node, two, underfull};
+use crate::tree::node::{Rooted, Tree, two, underfull};
 use crate::tree::rebalance::{rebalance_first, rebalance_second, rebalance_third};
 use std::mem;
 
@@ -22,18 +22,12 @@ fn drop_first(tree: &mut Tree) -> u32
 {
     match mem::replace(tree, Tree::Empty) {
         Tree::Two(mut node) => {
-            let Node { low, second, .. } = mem::replace(&mut *node, empty_node());
+            let (_, low, second) = node.take_two();
             *tree = underfull(node, second);
             low
         }
         Tree::Three(mut node) => {
-            let Node {
-                low,
-                second,
-                high,
-                third,
-                ..
-            } = mem::replace(&mut *node, empty_node());
+            let (_, low, second, high, third) = node.take_three();
             *tree = two(node, second, high, third);
             low
         }
@@ -52,16 +46,11 @@ fn drop_low(tree: &mut Tree)
 {
     match mem::replace(tree, Tree::Empty) {
         Tree::Two(mut node) => {
-            let Node { first, .. } = mem::replace(&mut *node, empty_node());
+            let first = node.take_first();
             *tree = underfull(node, first);
         }
         Tree::Three(mut node) => {
-            let Node {
-                first,
-                high,
-                third,
-                ..
-            } = mem::replace(&mut *node, empty_node());
+            let (first, _, _, high, third) = node.take_three();
             *tree = two(node, first, high, third);
         }
         Tree::Empty | Tree::Leaf(_) | Tree::Underfull(_) => unreachable!(),
@@ -79,12 +68,7 @@ fn drop_high(tree: &mut Tree)
 {
     match mem::replace(tree, Tree::Empty) {
         Tree::Three(mut node) => {
-            let Node {
-                first,
-                low,
-                second,
-                ..
-            } = mem::replace(&mut *node, empty_node());
+            let (first, low, second) = node.take_two();
             *tree = two(node, first, low, second);
         }
         Tree::Empty | Tree::Leaf(_) | Tree::Underfull(_) | Tree::Two(_) => unreachable!(),

@@ -3,7 +3,7 @@ ghost use Rattle.std.specs.Prelude.{◌≡◌, ◌+◌, ◌++◌, ◌∷◌};
 ghost use Rattle.tree23.specs.Nodes.{keys, depth, IsTree};
 ghost use Rattle.tree23.specs.Code.Insertions.{AreTwoSides, AreThreeSides, after_first, after_second, after_third};
 
-use crate::tree::node::{Node, Tree, empty_node, three, two};
+use crate::tree::node::{Node, Tree, three, two};
 use std::mem;
 
 /// Two sides, and one more after the first.
@@ -19,12 +19,7 @@ pub fn add_after_first(tree: &mut Tree, j: u32, right: Tree)
     let Tree::Two(mut node) = mem::replace(tree, Tree::Empty) else {
         unreachable!()
     };
-    let Node {
-        first,
-        low,
-        second,
-        ..
-    } = mem::replace(&mut *node, empty_node());
+    let (first, low, second) = node.take_two();
     *tree = three(node, first, j, right, low, second);
 }
 
@@ -41,12 +36,7 @@ pub fn add_after_second(tree: &mut Tree, j: u32, right: Tree)
     let Tree::Two(mut node) = mem::replace(tree, Tree::Empty) else {
         unreachable!()
     };
-    let Node {
-        first,
-        low,
-        second,
-        ..
-    } = mem::replace(&mut *node, empty_node());
+    let (first, low, second) = node.take_two();
     *tree = three(node, first, low, second, j, right);
 }
 
@@ -65,14 +55,7 @@ pub fn split_after_first(tree: &mut Tree, spare: Box<Node>, j: u32, right: Tree)
     let Tree::Three(mut node) = mem::replace(tree, Tree::Empty) else {
         unreachable!()
     };
-    let Node {
-        first,
-        low,
-        second,
-        high,
-        third,
-        ..
-    } = mem::replace(&mut *node, empty_node());
+    let (first, low, second, high, third) = node.take_three();
     *tree = two(node, first, j, right);
     (low, two(spare, second, high, third))
 }
@@ -92,14 +75,7 @@ pub fn split_after_second(tree: &mut Tree, spare: Box<Node>, j: u32, right: Tree
     let Tree::Three(mut node) = mem::replace(tree, Tree::Empty) else {
         unreachable!()
     };
-    let Node {
-        first,
-        low,
-        second,
-        high,
-        third,
-        ..
-    } = mem::replace(&mut *node, empty_node());
+    let (first, low, second, high, third) = node.take_three();
     *tree = two(node, first, low, second);
     (j, two(spare, right, high, third))
 }
@@ -119,14 +95,7 @@ pub fn split_after_third(tree: &mut Tree, spare: Box<Node>, j: u32, right: Tree)
     let Tree::Three(mut node) = mem::replace(tree, Tree::Empty) else {
         unreachable!()
     };
-    let Node {
-        first,
-        low,
-        second,
-        high,
-        third,
-        ..
-    } = mem::replace(&mut *node, empty_node());
+    let (first, low, second, high, third) = node.take_three();
     *tree = two(node, first, low, second);
     (high, two(spare, third, j, right))
 }

@@ -110,7 +110,7 @@ owed_replies set calls beyond piece out is meet = rw (is.keys_are, is.calls_are,
 
 owed_keys : (set : List ℕ) (calls : List Call) (beyond : Option ℕ) (piece : Piece) (out : Served)
     → IsCutPiece set calls beyond piece → Meets piece out
-    → out.forest ≡ (after_all (of_set set) calls).set
+    → out.forest.keys ≡ (after_all (of_set set) calls).set
 owed_keys set calls beyond piece out is meet = rw (is.keys_are, is.calls_are) at meet.keys
 
 pieces_replies : (starts set : List ℕ) (calls : List Call) (ins : List Piece) (outs : List Served)
@@ -145,7 +145,7 @@ pieces_after (b ∷ starts) set calls (piece ∷ ins) [] up tree pieces meet = a
 pieces_after [] set calls (piece ∷ ins) (out ∷ outs) up tree pieces meet =
     let none : outs ≡ [] = no_more ins outs pieces.1 meet.1 in
     let own = owed_keys set calls None piece out pieces.0 meet.0 in
-    let whole : joined_keys (out ∷ outs) ≡ (after_all (of_set set) calls).set = rw none (append-nil out.forest ∙ own) in
+    let whole : joined_keys (out ∷ outs) ≡ (after_all (of_set set) calls).set = rw none (append-nil out.forest.keys ∙ own) in
     set_after set calls tree ∙ ap of_set (sym whole)
 pieces_after (b ∷ starts) set calls (piece ∷ ins) (out ∷ outs) up tree pieces meet =
     let low = below b set in

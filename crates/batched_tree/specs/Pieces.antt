@@ -18,7 +18,7 @@ use Rattle.batched_tree.specs.Replies.{replies_within}
 -- the part of a group: the keys of the set in its range, the calls whose keys are in the group, and the least
 -- key of the set beyond the range, if there is one
 pub record IsPiece (set : List ℕ) (calls : List Call) (group : List ℕ) (start : ℕ) (end : Option ℕ) (piece : Piece) : Type 0 where
-  pub keys_are : piece.forest ≡ filter (is_in start end) set
+  pub keys_are : piece.forest.keys ≡ filter (is_in start end) set
   pub calls_are : piece.calls.items ≡ filter (λ call. has (key_of call) group) calls
   pub beyond_is : piece.beyond ≡ least_beyond end set
 
@@ -39,8 +39,8 @@ pub record Cut (objects : Objects) (calls : List Call) (ins : List Piece) : Type
 
 -- the out has the keys after the calls, and the replies to them
 pub record Meets (piece : Piece) (served : Served) : Type 0 where
-  pub keys : served.forest ≡ (after_all (of_set piece.forest) piece.calls.items).set
-  pub replies : served.replies.items ≡ replies_within piece.beyond (of_set piece.forest) piece.calls.items
+  pub keys : served.forest.keys ≡ (after_all (of_set piece.forest.keys) piece.calls.items).set
+  pub replies : served.replies.items ≡ replies_within piece.beyond (of_set piece.forest.keys) piece.calls.items
 
 -- what is kept is the number of the group of each call of the batch, which could be served and was cut so
 pub record IsContextOf (rest : Rest) (o : BatchContext (List ℕ) Piece) : Type 0 where

@@ -15,7 +15,7 @@ use tree_forest::{Forest, Remaining};
 
 /// A piece that has no calls yet.
 fn piece_of(forest: Forest, beyond: Option<u32>, pool: &mut Pool) -> Piece
-    ensures { IsCutPiece forest [] beyond result }
+    ensures { IsCutPiece forest.keys [] beyond result }
 {
     Piece {
         forest,
@@ -32,7 +32,7 @@ fn empty_pieces(
     starts: &[u32],
     pool: &mut Pool,
 ) -> Result<Vec<Piece>, AllocError>
-    ensures pieces { IfOk result (λ v. AreCutPieces set [] starts.now v.items) }
+    ensures pieces { IfOk result (λ v. AreCutPieces set.keys [] starts.now v.items) }
     ensures count { IfOk result (λ v. length v.items ≡ length starts.now + 1) }
 {
     let mut pieces = Vec::with_capacity(alloc, starts.len() + 1)?;
@@ -56,7 +56,7 @@ pub(crate) fn pieces_of(
 ) -> Result<Vec<Piece>, AllocError>
     requires of_tree { list_all (λ call. is_of_tree call.op) calls.now ≡ true }
     requires groups { groups.now ≡ map (λ call. group_of (key_of call) starts.now) calls.now }
-    ensures pieces { IfOk result (λ v. AreCutPieces set calls.now starts.now v.items) }
+    ensures pieces { IfOk result (λ v. AreCutPieces set.keys calls.now starts.now v.items) }
     ensures count { IfOk result (λ v. length v.items ≡ length starts.now + 1) }
 {
     let mut pieces = empty_pieces(alloc, set, starts, pool)?;

@@ -1,6 +1,7 @@
 //! Joining the forests of the pieces, and merging their replies.
-ghost use Rattle.std.specs.Prelude.{◌≡◌, ◌<◌, [], length, drop, slice_get, IfOk};
+ghost use Rattle.std.specs.Prelude.{◌≡◌, ◌<◌, ◌≤◌, [], length, drop, slice_get, IfOk};
 ghost use Rattle.std.specs.List.{AllByRecursion};
+ghost use Rattle.tree_forest.specs.Views.{most_trees};
 ghost use Rattle.batched_tree.specs.Code.End.{merged_replies, replies_of, joined_keys, CanJoin};
 
 use crate::piece::Served;
@@ -47,14 +48,15 @@ impl Replies {
     }
 }
 
-/// One forest of the forests of all pieces, and the replies of each piece.
+/// One forest of the forests of all pieces, with few trees, and the replies of each piece.
 pub(crate) fn join_pieces(
     alloc: Global,
     outs: Vec<Served>,
     pool: &mut Pool,
 ) -> Result<(Forest, Vec<Replies>), AllocError>
     requires { CanJoin [] outs.items }
-    ensures keys { IfOk result (λ p. p.0 ≡ joined_keys outs.items) }
+    ensures keys { IfOk result (λ p. p.0.keys ≡ joined_keys outs.items) }
+    ensures few { IfOk result (λ p. p.0.trees ≤ most_trees) }
     ensures replies { IfOk result (λ p. p.1.items ≡ replies_of outs.items) }
 {
     let mut replies = Vec::with_capacity(alloc, outs.len())?;

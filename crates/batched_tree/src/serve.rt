@@ -14,8 +14,8 @@ use tree_forest::Forest;
 /// Serves one operation on a forest, where `beyond` is the least key of the whole set beyond the forest's range.
 fn serve_one(forest: &mut Forest, beyond: Option<u32>, op: Op) -> Result<Reply, AllocError>
     requires { is_of_tree op ≡ true }
-    ensures reply { IfOk result (λ reply. reply ≡ reply_within beyond op (reply_to (of_set forest.old) op)) }
-    ensures after { OnOk result (of_set forest.new ≡ after (of_set forest.old) op) }
+    ensures reply { IfOk result (λ reply. reply ≡ reply_within beyond op (reply_to (of_set forest.old.keys) op)) }
+    ensures after { OnOk result (of_set forest.new.keys ≡ after (of_set forest.old.keys) op) }
 {
     let reply = match op {
         Op::TreeInsert(key) => Reply::yes_or_no(forest.insert(key)?),

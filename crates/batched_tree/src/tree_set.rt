@@ -18,7 +18,8 @@ use std::alloc::{AllocError, Global};
 use std::marker::Model;
 use tree_forest::Forest;
 
-/// A set of numbers. Contracts see it as the list of its keys, which strictly ascends.
+/// A set of numbers. Contracts see it as the list of its keys, which strictly ascends. Between batches its keys stand in
+/// at most 65 trees.
 #[derive(Drop)]
 pub struct TreeSet {
     forest: Forest,
@@ -30,7 +31,12 @@ impl Model for TreeSet {
 
     ghost Value = { List ℕ };
 
-    ghost view = { λ s. s.forest };
+    ghost view = { λ s. s.forest.keys };
+
+    ghost use Rattle.std.specs.Prelude.{◌≤◌};
+    ghost use Rattle.tree_forest.specs.Views.{most_trees};
+
+    ghost invariant = { λ s. s.forest.trees ≤ most_trees };
 }
 
 impl TreeSet {

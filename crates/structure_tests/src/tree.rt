@@ -61,7 +61,7 @@ fn a_tree_of_many_keys_is_not_deep(rt: HostRuntime) -> Result<(), Fail> {
 }
 
 #[test]
-fn a_row_is_cut_and_put_together(rt: HostRuntime) -> Result<(), Fail> {
+fn a_forest_is_cut_and_put_together(rt: HostRuntime) -> Result<(), Fail> {
     let mut forest = Forest::new(rt.alloc());
     for key in 0..2000 {
         assert!(rt; forest.insert(key * 5)?, "at {key}");

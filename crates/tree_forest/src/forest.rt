@@ -1,8 +1,9 @@
-//! A set as a forest of trees: cheap to cut at many keys, and to put together again.
-ghost use Rattle.std.specs.Prelude.{◌≡◌, ◌<◌, ◌^◌, [], ◌++◌, not, IfOk, OnOk, OnErr};
+//! The forest, seen as the list of its keys and the number of its trees.
+ghost use Rattle.std.specs.Prelude.{◌≡◌, ◌+◌, ◌<◌, ◌≤◌, ◌^◌, [], ◌++◌, not, IfOk, OnOk, OnErr};
 ghost use Rattle.std.specs.List.{AllByRecursion};
 ghost use Rattle.tree23.specs.Keys.{StrictlyAscends, AllBelow, with_key, has, without_key, least_above};
-ghost use Rattle.tree_forest.specs.Forests.{in_order, AreTrees, IsKeySet};
+ghost use Rattle.tree_forest.specs.Forests.{in_order, tree_count, AreTrees, IsKeySet};
+ghost use Rattle.tree_forest.specs.Views.{most_trees};
 
 pub(crate) mod calls;
 pub(crate) mod compact;
@@ -11,17 +12,15 @@ pub mod remaining;
 pub mod trees;
 
 use crate::forest::calls::{find_in_trees, insert_in_trees, next_in_trees, remove_in_trees};
-use crate::forest::compact::{append, compact};
+use crate::forest::compact::{MANY, append, compact};
 use crate::forest::trees::Trees;
 use crate::pool::ForestPool;
 use std::alloc::{AllocError, Global};
 use std::marker::Model;
 use std::mem;
 
-/// How many trees after keys a forest may have before they are compacted.
-const MANY: usize = 64;
-
-/// A set of numbers, as a forest of balanced trees. Contracts see it as the list of its keys, which strictly ascends.
+/// A set of numbers, as balanced trees side by side. Contracts see the list of its keys, which strictly ascends, and the
+/// number of its trees.
 #[derive(Drop)]
 pub struct Forest {
     pub(crate) trees: Trees,
@@ -29,21 +28,24 @@ pub struct Forest {
 }
 
 impl Model for Forest {
-    ghost use Rattle.std.specs.Prelude.{ℕ, List};
+    ghost use Rattle.tree_forest.specs.Views.{ForestView};
 
-    ghost Value = { List ℕ };
+    ghost Value = { ForestView };
 
-    ghost use Rattle.tree_forest.specs.Forests.{in_order, AreTrees, IsKeySet};
+    ghost use Rattle.tree_forest.specs.Forests.{in_order, tree_count, AreTrees, IsKeySet};
 
-    ghost view = { λ r. in_order r.trees };
+    ghost view = { λ f. record { keys = in_order f.trees; trees = tree_count f.trees } };
 
-    ghost invariant = { λ r. AreTrees r.trees × IsKeySet (in_order r.trees) };
+    ghost invariant = { λ f. AreTrees f.trees × IsKeySet (in_order f.trees) };
 }
 
 impl Forest {
-    /// The empty set. It takes no memory.
+    /// The empty set.
+    ///
+    /// Memory: none.
     pub fn new(alloc: Global) -> Forest
-        ensures { result ≡ [] }
+        ensures keys { result.keys ≡ [] }
+        ensures trees { result.trees ≡ 1 }
     {
         Forest {
             trees: Trees::empty(alloc),
@@ -54,29 +56,30 @@ impl Forest {
     pub(crate) fn of(trees: Trees, alloc: Global) -> Forest
         requires trees { AreTrees trees }
         requires set { IsKeySet (in_order trees) }
-        ensures { result ≡ in_order trees }
+        ensures keys { result.keys ≡ in_order trees }
+        ensures trees { result.trees ≡ tree_count trees }
     {
         Forest { trees, alloc }
     }
 
-    /// What is so of each forest: its keys are in order, without repeats, and have 32 bits. The call does nothing.
+    /// The keys of each forest are in order, without repeats, and have 32 bits. For proofs; does nothing.
     pub fn keys_ascend(&self)
-        ensures ascends { StrictlyAscends self.now }
-        ensures small { AllByRecursion (λ k. k < 2 ^ 32) self.now }
+        ensures ascends { StrictlyAscends self.now.keys }
+        ensures small { AllByRecursion (λ k. k < 2 ^ 32) self.now.keys }
     {
         let _front = &self.trees.front;
     }
 
     /// Whether the key is there.
     pub fn find(&self, key: u32) -> bool
-        ensures { result ≡ has key self.now }
+        ensures { result ≡ has key self.now.keys }
     {
         find_in_trees(&self.trees, key)
     }
 
     /// The least key that is greater, if there is one.
     pub fn next(&self, key: u32) -> Option<u32>
-        ensures { result ≡ least_above key self.now }
+        ensures { result ≡ least_above key self.now.keys }
     {
         next_in_trees(&self.trees, key)
     }
@@ -84,18 +87,22 @@ impl Forest {
     /// Puts the key in, and says whether it is new.
     #[tactic(auto, using(crate::proofs::ForestLemmas::KeySets::key_set_length, crate::proofs::ForestLemmas::KeySets::key_set_inserted, tree23::proofs::TreeLemmas::Inserting::inserted_keys, tree23::proofs::TreeLemmas::Inserting::inserted_answer))]
     pub fn insert(&mut self, key: u32) -> Result<bool, AllocError>
-        ensures answer { IfOk result (λ added. added ≡ not (has key self.old)) }
-        ensures keys { OnOk result (self.new ≡ with_key key self.old) }
-        ensures err { OnErr result (self.new ≡ self.old) }
+        ensures answer { IfOk result (λ added. added ≡ not (has key self.old.keys)) }
+        ensures keys { OnOk result (self.new.keys ≡ with_key key self.old.keys) }
+        ensures err { OnErr result (self.new.keys ≡ self.old.keys) }
+        ensures trees { self.new.trees ≡ self.old.trees }
     {
         let added = insert_in_trees(self.alloc, &mut self.trees, key)?;
         Ok(added)
     }
 
-    /// Takes the key out, and says whether it was there. It takes no memory.
+    /// Takes the key out, and says whether it was there.
+    ///
+    /// Memory: none.
     pub fn remove(&mut self, key: u32) -> bool
-        ensures answer { result ≡ has key self.old }
-        ensures keys { self.new ≡ without_key key self.old }
+        ensures answer { result ≡ has key self.old.keys }
+        ensures keys { self.new.keys ≡ without_key key self.old.keys }
+        ensures trees { self.new.trees ≤ self.old.trees }
     {
         remove_in_trees(&mut self.trees, key)
     }
@@ -103,9 +110,10 @@ impl Forest {
     /// Puts the keys of another forest after these. Low trees become one on the way. Without memory all keys are lost.
     #[tactic(auto, using(crate::proofs::ForestLemmas::KeySets::key_set_length))]
     pub fn append(&mut self, high: Forest, pool: &mut ForestPool) -> Result<(), AllocError>
-        requires { AllBelow self.old high }
-        ensures keys { OnOk result (self.new ≡ self.old ++ high) }
-        ensures err { OnErr result (self.new ≡ []) }
+        requires { AllBelow self.old.keys high.keys }
+        ensures keys { OnOk result (self.new.keys ≡ self.old.keys ++ high.keys) }
+        ensures trees { OnOk result (self.new.trees ≤ self.old.trees + high.trees) }
+        ensures err { OnErr result (self.new.keys ≡ []) }
     {
         let alloc = self.alloc;
         let mut trees = mem::replace(&mut self.trees, Trees::empty(alloc));
@@ -114,11 +122,12 @@ impl Forest {
         Ok(())
     }
 
-    /// Makes fewer trees, where there are many. Without memory all keys are lost.
+    /// Leaves at most 65 trees. Without memory all keys are lost.
     #[tactic(auto, using(crate::proofs::ForestLemmas::KeySets::key_set_length))]
     pub fn compact(&mut self, pool: &mut ForestPool) -> Result<(), AllocError>
-        ensures keys { OnOk result (self.new ≡ self.old) }
-        ensures err { OnErr result (self.new ≡ []) }
+        ensures keys { OnOk result (self.new.keys ≡ self.old.keys) }
+        ensures trees { OnOk result (self.new.trees ≤ most_trees) }
+        ensures err { OnErr result (self.new.keys ≡ []) }
     {
         if self.trees.entries.len() > MANY {
             let alloc = self.alloc;

@@ -1,53 +1,59 @@
-//! What is no longer in use while forests are cut and put together, for the next that are made.
+//! Memory of forests that is reused.
 ghost use Rattle.std.specs.Prelude.{◌≡◌, [], IfOk};
 
 use crate::forest::trees::KeyedTree;
 use std::alloc::{AllocError, Global};
 use tree23::Pool;
 
-/// How many vectors of forests are kept at most.
+/// How many vectors of entries are kept at most.
 const MOST: usize = 256;
 
-/// Boxes and vectors that are at hand. Nothing that contracts say of forests depends on them.
+/// How many entries a new vector has room for.
+const FIRST_ROOM: usize = 12;
+
+/// Boxes of nodes, leaves, and vectors of entries that are no longer in use, for the next that are made. Nothing that
+/// contracts say of forests depends on them.
 #[derive(Drop)]
 pub struct ForestPool {
     pub(crate) trees: Pool,
-    rows: Vec<Vec<KeyedTree>>,
+    entries: Vec<Vec<KeyedTree>>,
     alloc: Global,
 }
 
 impl ForestPool {
-    /// None. It takes no memory.
+    /// An empty pool.
+    ///
+    /// Memory: none.
     #[inline]
     pub fn new(alloc: Global) -> ForestPool {
         ForestPool {
             trees: Pool::new(alloc),
-            rows: Vec::new(alloc),
+            entries: Vec::new(alloc),
             alloc,
         }
     }
 
-    /// Keeps the vector of a forest, unless there are many, or there is no memory for its place here.
+    /// Keeps a vector of entries, unless there are many, or there is no memory for its place here.
     #[inline]
-    pub(crate) fn give_entries(&mut self, forest: Vec<KeyedTree>) {
-        if self.rows.len() < MOST {
-            if let Err(_) = self.rows.push(forest) {}
+    pub(crate) fn give_entries(&mut self, entries: Vec<KeyedTree>) {
+        if self.entries.len() < MOST {
+            if let Err(_) = self.entries.push(entries) {}
         }
     }
 
-    /// A vector for a forest, at hand or new.
+    /// An empty vector for entries: one of the pool, or a new one.
     #[inline]
     pub(crate) fn take_entries(&mut self) -> Result<Vec<KeyedTree>, AllocError>
-        ensures { IfOk result (λ forest. forest.items ≡ []) }
+        ensures { IfOk result (λ entries. entries.items ≡ []) }
     {
-        match self.rows.pop() {
-            Some(mut forest) => {
-                forest.clear();
-                Ok(forest)
+        match self.entries.pop() {
+            Some(mut entries) => {
+                entries.clear();
+                Ok(entries)
             }
             None => {
-                let forest = Vec::with_capacity(self.alloc, 12)?;
-                Ok(forest)
+                let entries = Vec::with_capacity(self.alloc, FIRST_ROOM)?;
+                Ok(entries)
             }
         }
     }

@@ -42,7 +42,7 @@ group_less starts calls groups i are less = rw are (omega (arith, group_at start
 
 -- a piece with one more call
 pub record HasMore (call : Call) (old new : Piece) : Type 0 where
-  pub forest : new.forest ≡ old.forest
+  pub forest : new.forest.keys ≡ old.forest.keys
   pub calls : new.calls.items ≡ old.calls.items ++ call ∷ []
   pub beyond : new.beyond ≡ old.beyond
 

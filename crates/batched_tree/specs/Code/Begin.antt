@@ -7,7 +7,7 @@ use Rattle.batched_tree.specs.Code.Sides.{below, from, calls_below, calls_from}
 
 -- a piece that has these keys and calls, and the least key beyond its range
 pub record IsCutPiece (keys : List ℕ) (calls : List Call) (beyond : Option ℕ) (piece : Piece) : Type 0 where
-  pub keys_are : piece.forest ≡ keys
+  pub keys_are : piece.forest.keys ≡ keys
   pub calls_are : piece.calls.items ≡ calls
   pub beyond_is : piece.beyond ≡ beyond
 

@@ -18,9 +18,9 @@ replies_of outs = map (λ served. served.replies.items) outs
 -- the keys of all pieces, in their order
 abbrev pub joined_keys : List Served → List ℕ
 joined_keys [] = []
-joined_keys (served ∷ outs) = served.forest ++ joined_keys outs
+joined_keys (served ∷ outs) = served.forest.keys ++ joined_keys outs
 
 -- the keys of each piece are above a set's and above those of the pieces before it
 abbrev pub CanJoin : List ℕ → List Served → Type 0
 CanJoin set [] = ⊤
-CanJoin set (served ∷ outs) = AllBelow set served.forest × CanJoin (set ++ served.forest) outs
+CanJoin set (served ∷ outs) = AllBelow set served.forest.keys × CanJoin (set ++ served.forest.keys) outs

@@ -12,6 +12,13 @@ pub together : (old others rest new : List KeyedTree) (low high : KeyedTree) →
 together old others rest new low high is is' is'' =
     is'' ∙ sym (append_assoc (entry_keys rest) (low.key ∷ keys low.rooted.tree) (high.key ∷ keys high.rooted.tree)) ∙ ap (λ z. z ++ high.key ∷ keys high.rooted.tree) (sym is') ∙ sym is
 
+-- the keys of the last two trees, which were taken off and put back as one
+pub put_back : (old others rest new : List KeyedTree) (low high e : KeyedTree) → entry_keys old ≡ entry_keys others ++ high.key ∷ keys high.rooted.tree → entry_keys others ≡ entry_keys rest ++ low.key ∷ keys low.rooted.tree
+    → new ≡ rest ++ e ∷ [] → e.key ≡ low.key → keys e.rooted.tree ≡ keys low.rooted.tree ++ high.key ∷ keys high.rooted.tree → entry_keys new ≡ entry_keys old
+put_back old others rest new low high e is is' at key merged =
+    together old others rest new low high is is'
+    (ap entry_keys at ∙ entry_keys_push rest e ∙ ap (λ z. entry_keys rest ++ z ∷ keys e.rooted.tree) key ∙ ap (λ z. entry_keys rest ++ low.key ∷ z) merged)
+
 -- a key and a tree after a list of keys, of which the last went before the tree
 pub gone_before : (front others old high part : List ℕ) (m k : ℕ) → old ≡ others ++ m ∷ high → (front ++ others) ++ m ∷ (high ++ k ∷ part) ≡ (front ++ old) ++ k ∷ part
 gone_before front others old high part m k is = rw is (simp append_assoc)

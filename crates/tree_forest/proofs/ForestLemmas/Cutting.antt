@@ -5,7 +5,8 @@ use Rattle.std.specs.Option.{option_to_list}
 use Rattle.tree_forest.specs.declared.forest.trees.Trees.{Trees}
 use Rattle.tree_forest.specs.declared.forest.cut.ForestCut.{ForestCut}
 use Rattle.tree23.specs.Nodes.{keys}
-use Rattle.tree_forest.specs.Forests.{entry_keys, in_order, in_reverse, low_keys, whole_keys, AreTrees, IsForestCut}
+use Rattle.tree_forest.specs.Forests.{entry_keys, in_order, in_reverse, AreTrees}
+use Rattle.tree_forest.specs.Code.Cuts.{low_keys, whole_keys, IsForestCut}
 use Rattle.tree23.specs.Keys.{StrictlyAscends}
 use Rattle.tree23.proofs.KeyLemmas.Ascending.{all_map, all_append}
 use Rattle.tree23.proofs.KeyLemmas.SidesOfAKey.{Parts, parts}

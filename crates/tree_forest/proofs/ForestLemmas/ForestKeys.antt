@@ -5,7 +5,8 @@ use Rattle.std.proofs.lemmas.List.{take-append-drop, take_more, drop_more, set_s
 use Rattle.tree_forest.specs.declared.forest.trees.KeyedTree.{KeyedTree}
 use Rattle.tree23.specs.Keys.{StrictlyAscends, has, without_key, least_above}
 use Rattle.tree23.specs.Nodes.{keys, IsRooted}
-use Rattle.tree_forest.specs.Forests.{entry_keys, or_first_key, AreKeyedTrees, IsBelowFirst, IsPlace}
+use Rattle.tree_forest.specs.Forests.{entry_keys, AreKeyedTrees}
+use Rattle.tree_forest.specs.Code.Places.{or_first_key, IsBelowFirst, IsPlace}
 use Rattle.tree23.specs.Code.Insertions.{IsInserted}
 use Rattle.tree23.proofs.TreeLemmas.Adding.{added_left, added_right, found_left, found_right}
 use Rattle.tree23.proofs.KeyLemmas.Ascending.{ascends_after}

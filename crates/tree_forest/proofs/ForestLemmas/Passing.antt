@@ -10,7 +10,8 @@ use Rattle.tree_forest.specs.declared.forest.trees.Trees.{Trees}
 use Rattle.tree_forest.specs.declared.forest.cut.ForestCut.{ForestCut}
 use Rattle.tree23.specs.Keys.{StrictlyAscends}
 use Rattle.tree23.specs.Nodes.{keys, IsRooted}
-use Rattle.tree_forest.specs.Forests.{entry_keys, in_order, in_reverse, low_keys, whole_keys, AreTrees, AreKeyedTrees, CanStand, IsForestCut}
+use Rattle.tree_forest.specs.Forests.{entry_keys, in_order, in_reverse, AreTrees, AreKeyedTrees}
+use Rattle.tree_forest.specs.Code.Cuts.{low_keys, whole_keys, CanStand, IsForestCut}
 use Rattle.tree23.proofs.KeyLemmas.Ascending.{all_map, all_append, all_below_key, ascends_back}
 use Rattle.tree_forest.proofs.ForestLemmas.Cutting.{trees_more, low_whole}
 use Rattle.tree_forest.proofs.ForestLemmas.KeyedTrees.{entries_front, entries_last}

@@ -1,7 +1,8 @@
-//! Keys looked up in, put into and taken out of trees in a forest: each in the one tree in whose range it is.
-ghost use Rattle.std.specs.Prelude.{◌≡◌, ◌<◌, ◌^◌, drop, length, IfOk, OnErr};
+//! Keys looked up in, put into and taken out of trees side by side: each in the one tree in whose range it is.
+ghost use Rattle.std.specs.Prelude.{◌≡◌, ◌<◌, ◌≤◌, ◌^◌, drop, length, IfOk, OnErr};
 ghost use Rattle.tree23.specs.Keys.{StrictlyAscends, has, without_key, least_above};
-ghost use Rattle.tree_forest.specs.Forests.{in_order, or_first_key, AreTrees, IsPlace};
+ghost use Rattle.tree_forest.specs.Forests.{in_order, tree_count, AreTrees};
+ghost use Rattle.tree_forest.specs.Code.Places.{or_first_key, IsPlace};
 ghost use Rattle.tree23.specs.Code.Insertions.{IsInserted};
 
 use crate::forest::trees::Trees;
@@ -10,8 +11,8 @@ use tree23::tree::insert::insert_at_root;
 use tree23::tree::remove::{pop_first, remove_in, shrink_root};
 use tree23::tree::search::{find_in, next_in};
 
-/// How many of the keys of a forest's entries, which ascend, are not above a key. They are looked at one after another: a
-/// forest that is compacted has few.
+/// How many of the keys between the trees, which ascend, are not above a key. Time: linear, since a forest that is
+/// compacted has few.
 #[inline]
 fn place(trees: &Trees, key: u32) -> usize
     ensures { IsPlace key trees.now.entries.items result }
@@ -24,7 +25,7 @@ fn place(trees: &Trees, key: u32) -> usize
 }
 
 /// Whether the key is there.
-pub fn find_in_trees(trees: &Trees, key: u32) -> bool
+pub(crate) fn find_in_trees(trees: &Trees, key: u32) -> bool
     requires trees { AreTrees trees.now }
     requires ascends { StrictlyAscends (in_order trees.now) }
     ensures { result ≡ has key (in_order trees.now) }
@@ -50,7 +51,7 @@ fn or_key_at(answer: Option<u32>, trees: &Trees, at: usize) -> Option<u32>
 }
 
 /// The least key above.
-pub fn next_in_trees(trees: &Trees, key: u32) -> Option<u32>
+pub(crate) fn next_in_trees(trees: &Trees, key: u32) -> Option<u32>
     requires trees { AreTrees trees.now }
     requires ascends { StrictlyAscends (in_order trees.now) }
     ensures { result ≡ least_above key (in_order trees.now) }
@@ -64,13 +65,18 @@ pub fn next_in_trees(trees: &Trees, key: u32) -> Option<u32>
 }
 
 /// Puts the key in, and says whether it is new.
-pub fn insert_in_trees(alloc: Global, trees: &mut Trees, key: u32) -> Result<bool, AllocError>
+pub(crate) fn insert_in_trees(
+    alloc: Global,
+    trees: &mut Trees,
+    key: u32,
+) -> Result<bool, AllocError>
     requires trees { AreTrees trees.old }
     requires ascends { StrictlyAscends (in_order trees.old) }
     requires fits { length (in_order trees.old) < 2 ^ 62 }
     ensures trees { AreTrees trees.new }
     ensures ok { IfOk result (λ added. IsInserted key (in_order trees.old) (in_order trees.new) added) }
     ensures err { OnErr result (in_order trees.new ≡ in_order trees.old) }
+    ensures count { tree_count trees.new ≡ tree_count trees.old }
 {
     let at = place(trees, key);
     if at == 0 {
@@ -84,12 +90,13 @@ pub fn insert_in_trees(alloc: Global, trees: &mut Trees, key: u32) -> Result<boo
 }
 
 /// Takes the key out, and says whether it was there.
-pub fn remove_in_trees(trees: &mut Trees, key: u32) -> bool
+pub(crate) fn remove_in_trees(trees: &mut Trees, key: u32) -> bool
     requires trees { AreTrees trees.old }
     requires ascends { StrictlyAscends (in_order trees.old) }
     ensures trees { AreTrees trees.new }
     ensures found { result ≡ has key (in_order trees.old) }
     ensures keys { in_order trees.new ≡ without_key key (in_order trees.old) }
+    ensures count { tree_count trees.new ≤ tree_count trees.old }
 {
     let at = place(trees, key);
     if at == 0 {

@@ -1,18 +1,25 @@
-//! Rows put together: where a higher tree comes after lower ones, these become one, or part of it. Where a forest has too
-//! many trees they are compacted: where a tree comes after three of its depth, these become one.
+//! Forests put together: where a higher tree comes after lower ones, these become one, or part of it. A forest with too
+//! many trees is compacted: where a tree comes after three of its height, these become one, and what is still too many
+//! after that is joined from the end.
 ghost use Rattle.std.specs.Prelude.{◌≡◌, ◌+◌, ◌<◌, ◌^◌, ◌≤◌, ◌++◌, ◌∷◌, true, None, length, IfOk, IfSome, OnOk};
 ghost use Rattle.tree23.specs.Nodes.{keys, depth, IsTree, IsLeaf, IsRooted};
-ghost use Rattle.tree_forest.specs.Forests.{entry_keys, in_order, if_merged, AreTrees, AreKeyedTrees, CanStand, IsTakenOff};
+ghost use Rattle.tree_forest.specs.Forests.{entry_keys, in_order, tree_count, AreTrees, AreKeyedTrees};
+ghost use Rattle.tree_forest.specs.Views.{most_trees};
+ghost use Rattle.tree_forest.specs.Code.Merges.{if_merged, IsTakenOff};
+ghost use Rattle.tree_forest.specs.Code.Cuts.{CanStand};
 
 use crate::forest::trees::{KeyedTree, Trees};
 use crate::pool::ForestPool;
 use std::alloc::AllocError;
-use tree23::tree::join::put_before;
+use tree23::tree::join::{put_after, put_before};
 use tree23::tree::leaf::ROOM;
 use tree23::tree::node::{Rooted, Tree, three, two};
 use tree23::tree::remove::{pop_first, shrink_root};
 
-/// Takes the last entry off, if its tree has fewer levels.
+/// How many trees a forest has beside the first when it is compacted, at most.
+pub(crate) const MANY: usize = 64;
+
+/// Takes the last entry off, if its tree is lower.
 #[inline]
 fn pop_lower(entries: &mut Vec<KeyedTree>, height: u64) -> Option<KeyedTree>
     ensures taken { IsTakenOff entries.old.items entries.new.items result }
@@ -24,7 +31,7 @@ fn pop_lower(entries: &mut Vec<KeyedTree>, height: u64) -> Option<KeyedTree>
     }
 }
 
-/// Takes the last entry off, if its tree has that many levels.
+/// Takes the last entry off, if its tree has this height.
 #[inline]
 fn pop_equal(entries: &mut Vec<KeyedTree>, height: u64) -> Option<KeyedTree>
     ensures taken { IsTakenOff entries.old.items entries.new.items result }
@@ -36,7 +43,7 @@ fn pop_equal(entries: &mut Vec<KeyedTree>, height: u64) -> Option<KeyedTree>
     }
 }
 
-/// Makes one entry of two with as many levels, and of the one before them if that has as many, and puts it back.
+/// Makes one entry of two whose trees are as high, and of the one before them if that is as high too, and puts it back.
 #[tactic(auto, using(crate::proofs::ForestLemmas::KeyedTrees::entries))]
 fn merge_equal(
     entries: &mut Vec<KeyedTree>,
@@ -73,7 +80,7 @@ fn merge_equal(
     Ok(())
 }
 
-/// Whether the last three entries have that many levels.
+/// Whether the trees of the last three entries have this height.
 #[inline]
 fn has_three_of(entries: &[KeyedTree], height: u64) -> bool {
     let count = entries.len();
@@ -83,8 +90,7 @@ fn has_three_of(entries: &[KeyedTree], height: u64) -> bool {
         && entries[count - 3].rooted.height == height
 }
 
-/// Takes trees off the end that have fewer levels than a tree that comes after them. They become trees with as many, or
-/// part of it.
+/// Takes trees off the end that are lower than a tree that comes after them. They become trees as high, or part of it.
 #[inline]
 fn merge_lower(
     trees: &mut Trees,
@@ -96,6 +102,7 @@ fn merge_lower(
     requires fits { length (in_order trees.old) + length (keys entry.rooted.tree) < 2 ^ 61 }
     ensures trees { OnOk result (AreTrees trees.new) }
     ensures rooted { IfOk result (λ e. IsRooted e.rooted) }
+    ensures count { OnOk result (length trees.new.entries.items ≤ length trees.old.entries.items) }
     ensures keys { IfOk result (λ e. in_order trees.new ++ e.key ∷ keys e.rooted.tree ≡ in_order trees.old ++ entry.key ∷ keys entry.rooted.tree) }
 {
     let KeyedTree {
@@ -121,13 +128,14 @@ fn add(trees: &mut Trees, entry: KeyedTree, pool: &mut ForestPool) -> Result<(),
     requires rooted { IsRooted entry.rooted }
     requires fits { length (in_order trees.old) + length (keys entry.rooted.tree) < 2 ^ 61 }
     ensures trees { OnOk result (AreTrees trees.new) }
+    ensures count { OnOk result (length trees.new.entries.items ≤ length trees.old.entries.items + 1) }
     ensures keys { OnOk result (in_order trees.new ≡ in_order trees.old ++ entry.key ∷ keys entry.rooted.tree) }
 {
     let KeyedTree { key, rooted } = merge_lower(trees, entry, pool)?;
     trees.push(key, rooted.tree, rooted.height)
 }
 
-/// Makes one of the last three entries, if each has that many levels.
+/// Makes one of the last three entries, if the tree of each has this height.
 #[tactic(auto, using(crate::proofs::ForestLemmas::KeyedTrees::entries))]
 fn merge_three(
     entries: &mut Vec<KeyedTree>,
@@ -177,6 +185,7 @@ fn merge_into_last(trees: &mut Trees, tree: &Tree) -> Result<bool, AllocError>
     requires tree { IsTree tree.now }
     ensures trees { OnOk result (AreTrees trees.new) }
     ensures bottom { IfOk result (λ merged. merged ≡ true → IsLeaf tree.now) }
+    ensures count { OnOk result (length trees.new.entries.items ≡ length trees.old.entries.items) }
     ensures keys { IfOk result (λ merged. in_order trees.new ≡ in_order trees.old ++ if_merged merged (keys tree.now)) }
 {
     match trees.entries.pop() {
@@ -206,6 +215,7 @@ fn add_front(trees: &mut Trees, front: Rooted, pool: &mut ForestPool) -> Result<
     requires front { IsRooted front }
     requires fits { length (in_order trees.old) + length (keys front.tree) < 2 ^ 61 }
     ensures trees { OnOk result (AreTrees trees.new) }
+    ensures count { OnOk result (length trees.new.entries.items ≤ length trees.old.entries.items + 1) }
     ensures keys { OnOk result (in_order trees.new ≡ in_order trees.old ++ keys front.tree) }
 {
     if is_empty(trees) {
@@ -226,12 +236,13 @@ fn add_front(trees: &mut Trees, front: Rooted, pool: &mut ForestPool) -> Result<
     }
 }
 
-/// Puts trees after others.
-pub fn append(low: &mut Trees, high: Trees, pool: &mut ForestPool) -> Result<(), AllocError>
+/// Puts trees after others. Time: linear in the trees that come after, and in the heights that are passed.
+pub(crate) fn append(low: &mut Trees, high: Trees, pool: &mut ForestPool) -> Result<(), AllocError>
     requires low { AreTrees low.old }
     requires high { AreTrees high }
     requires fits { length (in_order low.old) + length (in_order high) < 2 ^ 61 }
     ensures trees { OnOk result (AreTrees low.new) }
+    ensures count { OnOk result (tree_count low.new ≤ tree_count low.old + tree_count high) }
     ensures keys { OnOk result (in_order low.new ≡ in_order low.old ++ in_order high) }
 {
     let Trees { front, mut entries } = high;
@@ -244,9 +255,55 @@ pub fn append(low: &mut Trees, high: Trees, pool: &mut ForestPool) -> Result<(),
     Ok(())
 }
 
-/// Makes fewer trees of many: lower trees before a higher one become part of it, or trees as high, and three before
-/// another of their depth become one.
-pub fn compact(trees: Trees, pool: &mut ForestPool) -> Result<Trees, AllocError>
+/// Makes one of the last two entries.
+fn join_last(entries: &mut Vec<KeyedTree>, pool: &mut ForestPool) -> Result<(), AllocError>
+    requires some { 2 ≤ length entries.old.items }
+    requires entries { AreKeyedTrees entries.old.items }
+    requires fits { length (entry_keys entries.old.items) < 2 ^ 62 }
+    ensures entries { OnOk result (AreKeyedTrees entries.new.items) }
+    ensures count { OnOk result (length entries.new.items + 1 ≡ length entries.old.items) }
+    ensures keys { OnOk result (entry_keys entries.new.items ≡ entry_keys entries.old.items) }
+{
+    if let Some(high) = entries.pop() {
+        if let Some(low) = entries.pop() {
+            let KeyedTree { key, mut rooted } = low;
+            put_after(&mut rooted, high.key, high.rooted, &mut pool.trees)?;
+            entries.push(KeyedTree { key, rooted })?;
+        }
+    }
+    Ok(())
+}
+
+/// Joins the last entries until there are few.
+fn join_many(entries: &mut Vec<KeyedTree>, pool: &mut ForestPool) -> Result<(), AllocError>
+    requires entries { AreKeyedTrees entries.old.items }
+    requires fits { length (entry_keys entries.old.items) < 2 ^ 62 }
+    ensures entries { OnOk result (AreKeyedTrees entries.new.items) }
+    ensures count { OnOk result (length entries.new.items ≤ 64) }
+    ensures keys { OnOk result (entry_keys entries.new.items ≡ entry_keys entries.old.items) }
+{
+    while entries.len() > MANY {
+        join_last(entries, pool)?;
+    }
+    Ok(())
+}
+
+/// Makes few trees of many: lower trees before a higher one become part of it, or trees as high; three before another of
+/// their height become one; and the last become one while there are too many.
+pub(crate) fn compact(trees: Trees, pool: &mut ForestPool) -> Result<Trees, AllocError>
+    requires trees { AreTrees trees }
+    requires fits { length (in_order trees) < 2 ^ 61 }
+    ensures trees { IfOk result (λ compacted. AreTrees compacted) }
+    ensures count { IfOk result (λ compacted. tree_count compacted ≤ most_trees) }
+    ensures keys { IfOk result (λ compacted. in_order compacted ≡ in_order trees) }
+{
+    let mut compacted = merge_all(trees, pool)?;
+    join_many(&mut compacted.entries, pool)?;
+    Ok(compacted)
+}
+
+/// Merges each tree with those before it that are lower, and three that are as high as one that comes after them.
+fn merge_all(trees: Trees, pool: &mut ForestPool) -> Result<Trees, AllocError>
     requires trees { AreTrees trees }
     requires fits { length (in_order trees) < 2 ^ 61 }
     ensures trees { IfOk result (λ compacted. AreTrees compacted) }

@@ -1,8 +1,8 @@
-//! A tree cut at a key into forests of its subtrees, which move whole: only the nodes on the way to the key are opened.
+//! A tree cut at a key. Its subtrees move whole to either side: only the nodes on the path to the key are opened.
 ghost use Rattle.std.specs.Prelude.{◌≡◌, OnOk};
 ghost use Rattle.tree23.specs.Keys.{StrictlyAscends};
 ghost use Rattle.tree23.specs.Nodes.{keys, depth, IsTree, IsNarrow, IsWide};
-ghost use Rattle.tree_forest.specs.Forests.{whole_keys, IsForestCut, IsCut};
+ghost use Rattle.tree_forest.specs.Code.Cuts.{whole_keys, IsForestCut, IsCut};
 
 use crate::forest::trees::Trees;
 use crate::pool::ForestPool;
@@ -51,7 +51,7 @@ pub fn cut_at(
     }
 }
 
-/// The same of a root with two sides.
+/// The cut of a tree whose root has two sides.
 #[cycle(cutting)]
 fn cut_two(
     tree: Tree,
@@ -90,7 +90,7 @@ fn cut_two(
     }
 }
 
-/// The same of a root with three sides.
+/// The cut of a tree whose root has three sides.
 #[cycle(cutting)]
 fn cut_three(
     tree: Tree,

@@ -3,7 +3,9 @@ ghost use Rattle.std.specs.Prelude.{◌≡◌, ◌<◌, ◌≤◌, List, [], ◌
 ghost use Rattle.tree_forest.specs.declared.forest.trees.KeyedTree.{KeyedTree as KeyedTreeOf};
 ghost use Rattle.tree23.specs.Keys.{StrictlyAscends};
 ghost use Rattle.tree23.specs.Nodes.{keys, IsRooted};
-ghost use Rattle.tree_forest.specs.Forests.{in_reverse, whole_keys, AreTrees, IsForestCut, IsTakenOff};
+ghost use Rattle.tree_forest.specs.Forests.{in_reverse, AreTrees};
+ghost use Rattle.tree_forest.specs.Code.Cuts.{whole_keys, IsForestCut};
+ghost use Rattle.tree_forest.specs.Code.Merges.{IsTakenOff};
 ghost use Rattle.tree23.specs.Splits.{IsSplit};
 
 use crate::forest::Forest;
@@ -36,9 +38,11 @@ impl Model for Remaining {
 }
 
 impl Remaining {
-    /// The keys of a forest. It takes no memory.
+    /// The keys of a forest.
+    ///
+    /// Memory: none.
     pub fn new(forest: Forest) -> Remaining
-        ensures { result ≡ forest }
+        ensures { result ≡ forest.keys }
     {
         let alloc = forest.alloc;
         let Trees { front, mut entries } = forest.trees;
@@ -62,10 +66,10 @@ impl Remaining {
         }
     }
 
-    /// Takes off the keys below `key`. The subtrees beside the way to the key move whole. Without memory all keys are
+    /// Takes off the keys below `key`. The subtrees beside the path to the key move whole. Without memory all keys are
     /// lost.
     pub fn split_off_below(&mut self, key: u32, pool: &mut ForestPool) -> Result<Forest, AllocError>
-        ensures split { IfOk result (λ forest. IsSplit key self.old forest self.new) }
+        ensures split { IfOk result (λ forest. IsSplit key self.old forest.keys self.new) }
         ensures err { OnErr result (self.new ≡ []) }
     {
         let alloc = self.alloc;
@@ -77,9 +81,11 @@ impl Remaining {
         Ok(Forest::of(low, alloc))
     }
 
-    /// All that is left, as a forest. It takes no memory.
+    /// All that is left, as a forest.
+    ///
+    /// Memory: none.
     pub fn into_forest(self) -> Forest
-        ensures { result ≡ self }
+        ensures { result.keys ≡ self }
     {
         let alloc = self.alloc;
         let Trees { front, mut entries } = self.trees;

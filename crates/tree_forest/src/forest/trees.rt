@@ -1,9 +1,10 @@
-//! Trees in a forest, with a key between each two: what a `Forest` is made of.
-ghost use Rattle.std.specs.Prelude.{◌≡◌, ◌++◌, ◌∷◌, [], reverse, OnOk};
+//! Trees side by side, with a key between each two: what a `Forest` is made of.
+ghost use Rattle.std.specs.Prelude.{◌≡◌, ◌+◌, ◌++◌, ◌∷◌, [], length, reverse, OnOk};
 ghost use Rattle.std.specs.Option.{option_to_list};
 ghost use Rattle.tree23.specs.declared.tree.node.Tree.TheVariants.{Empty};
 ghost use Rattle.tree23.specs.Nodes.{keys, depth, IsTree};
-ghost use Rattle.tree_forest.specs.Forests.{entry_keys, in_order, in_reverse, AreTrees, CanStand};
+ghost use Rattle.tree_forest.specs.Forests.{entry_keys, in_order, in_reverse, AreTrees};
+ghost use Rattle.tree_forest.specs.Code.Cuts.{CanStand};
 
 use std::alloc::{AllocError, Global};
 use tree23::tree::node::{Rooted, Tree};
@@ -23,7 +24,9 @@ pub struct Trees {
 }
 
 impl Trees {
-    /// No keys. It takes no memory.
+    /// One tree without keys.
+    ///
+    /// Memory: none.
     #[inline]
     pub fn empty(alloc: Global) -> Trees
         ensures trees { AreTrees result }
@@ -46,6 +49,7 @@ impl Trees {
         ensures forest { OnOk result (in_order self.new ≡ in_order self.old ++ key ∷ keys tree) }
         ensures stack { OnOk result (in_reverse self.new ≡ keys self.old.front.tree ++ key ∷ (keys tree ++ entry_keys (reverse self.old.entries.items))) }
         ensures front { self.new.front ≡ self.old.front }
+        ensures count { OnOk result (length self.new.entries.items ≡ length self.old.entries.items + 1) }
     {
         let rooted = Rooted { tree, height };
         self.entries.push(KeyedTree { key, rooted })?;

@@ -7,6 +7,6 @@ use Rattle.batched_tree.proofs.begin.empty_pieces.Given as goal
 abbrev pub invariant-loop-start : goal.invariant-loop-start
 invariant-loop-start l = record {
   pieces : (more : List Piece) → AreCutPieces l.rest [] (drop l.start-index l.starts) more
-      → AreCutPieces l.fn.set [] l.starts (l.pieces.items ++ more);
+      → AreCutPieces l.fn.set.keys [] l.starts (l.pieces.items ++ more);
   count : length l.pieces.items ≡ l.start-index;
 }

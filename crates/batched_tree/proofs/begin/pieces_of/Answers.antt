@@ -13,7 +13,7 @@ pub loop-place-preserved : goal.loop-place-preserved
 loop-place-preserved c =
     let at = c.loop-place in
     record {
-      pieces = dealt_more c.args.starts.now c.args.set c.args.calls.now c.args.groups.now at.place _ at.pieces.items c.index_mut.result.now _ c.loop-place-test.true c.requires.groups at.invariant.pieces c.index_mut.ensures.value (record { forest = refl; calls = c.in_ok-push.ensures.items; beyond = refl });
+      pieces = dealt_more c.args.starts.now c.args.set.keys c.args.calls.now c.args.groups.now at.place _ at.pieces.items c.index_mut.result.now _ c.loop-place-test.true c.requires.groups at.invariant.pieces c.index_mut.ensures.value (record { forest = refl; calls = c.in_ok-push.ensures.items; beyond = refl });
       count = length-set at.pieces.items _ _ ∙ at.invariant.count;
       of_tree = grind (arith, common_steps, at.invariant.of_tree);
     }

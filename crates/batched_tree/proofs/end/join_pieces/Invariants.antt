@@ -4,7 +4,7 @@ use Rattle.batched_tree.proofs.end.join_pieces.Given as goal
 
 abbrev pub invariant-loop-served : goal.invariant-loop-served
 invariant-loop-served l = record {
-  keys : l.forest ++ joined_keys l.served-iterator.rest.items ≡ joined_keys l.fn.outs.items;
+  keys : l.forest.keys ++ joined_keys l.served-iterator.rest.items ≡ joined_keys l.fn.outs.items;
   replies : l.replies.items ++ replies_of l.served-iterator.rest.items ≡ replies_of l.fn.outs.items;
-  can : CanJoin l.forest l.served-iterator.rest.items;
+  can : CanJoin l.forest.keys l.served-iterator.rest.items;
 }

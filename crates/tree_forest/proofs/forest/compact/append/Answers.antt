@@ -1,5 +1,5 @@
 use Rattle.std.proofs.Common.{◌++◌, ◌∙◌, ap, append_assoc, arith, length-append}
-use Rattle.std.proofs.lemmas.List.{reverse-reverse}
+use Rattle.std.proofs.lemmas.List.{length-reverse, reverse-reverse}
 use Rattle.tree23.specs.Nodes.{keys}
 use Rattle.tree_forest.specs.Forests.{entry_keys, in_order}
 use Rattle.tree_forest.proofs.ForestLemmas.KeyedTrees.{taken}
@@ -11,6 +11,7 @@ pub loop-entry-init : goal.loop-entry-init
 loop-entry-init c = record {
   trees = c.in_ok-add_front.ensures.trees;
   entries = rw c.reverse.ensures.items (entries_turned _ c.requires.high.entries_are);
+  count = rw c.reverse.ensures.items (omega (arith, length-reverse c.args.high.entries.items, c.in_ok-add_front.ensures.count));
   keys_are =
       ap (λ z. in_order c.add_front.new.trees ++ entry_keys z) (rw c.reverse.ensures.items (reverse-reverse _))
       ∙ ap (λ z. z ++ entry_keys c.args.high.entries.items) c.in_ok-add_front.ensures.keys

@@ -1,4 +1,4 @@
-use Rattle.std.proofs.Common.{◌≡◌, ◌++◌, length, reverse}
+use Rattle.std.proofs.Common.{◌≡◌, ◌+◌, ◌≤◌, ◌++◌, length, reverse}
 use Rattle.tree_forest.specs.Forests.{entry_keys, in_order, AreTrees, AreKeyedTrees}
 use Rattle.tree_forest.proofs.forest.compact.append.Given as goal
 
@@ -6,6 +6,7 @@ abbrev pub invariant-loop-entry : goal.invariant-loop-entry
 invariant-loop-entry l = record {
   trees : AreTrees l.low;
   entries : AreKeyedTrees l.entries.items;
+  count : length l.low.entries.items + length l.entries.items ≤ length l.fn.low.entries.items + length l.fn.high.entries.items + 1;
   keys_are : in_order l.low ++ entry_keys (reverse l.entries.items) ≡ in_order l.fn.low ++ in_order l.fn.high;
 }
 

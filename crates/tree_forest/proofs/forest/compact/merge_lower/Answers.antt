@@ -43,6 +43,7 @@ loop-high-preserved-in-Continue-1 c =
     record {
       trees = record { front_is = c.loop-high.invariant.trees.front_is; entries_are = c.in_ok-merge_equal-in-Some-pop_equal.ensures.entries };
       rooted = c.loop-high.invariant.rooted;
+      count = omega (arith, high.fewer, low.fewer, c.in_ok-merge_equal-in-Some-pop_equal.ensures.count, c.loop-high.invariant.count);
       keys_are = ap (λ z. (keys c.loop-high.trees.front.tree ++ z) ++ c.loop-high.key ∷ keys c.loop-high.rooted.tree) same ∙ c.loop-high.invariant.keys_are;
     }
 
@@ -71,6 +72,7 @@ loop-high-preserved c =
     record {
       trees = record { front_is = c.loop-high.invariant.trees.front_is; entries_are = rw c.in-None.ensures.taken high.others };
       rooted = c.in_ok-put_before-in-None.ensures.rooted;
+      count = rw c.in-None.ensures.taken (omega (arith, high.fewer, c.loop-high.invariant.count));
       keys_are = rw (c.in-None.ensures.taken, c.in_ok-put_before-in-None.ensures.keys) (gone_before _ _ _ _ _ _ _ high.keys_are ∙ c.loop-high.invariant.keys_are);
     }
 
@@ -79,3 +81,6 @@ returns-clause-trees c = record { front_is = c.loop-high.invariant.trees.front_i
 
 pub returns-clause-keys : goal.returns-clause-keys
 returns-clause-keys c = ap (λ z. (keys c.loop-high.trees.front.tree ++ entry_keys z) ++ c.loop-high.key ∷ keys c.loop-high.rooted.tree) c.in_default.ensures.taken ∙ c.loop-high.invariant.keys_are
+
+pub returns-clause-count : goal.returns-clause-count
+returns-clause-count c = rw c.in_default.ensures.taken c.loop-high.invariant.count

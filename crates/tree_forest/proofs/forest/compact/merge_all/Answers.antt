@@ -5,7 +5,7 @@ use Rattle.tree_forest.specs.Forests.{entry_keys, in_order}
 use Rattle.tree_forest.proofs.ForestLemmas.KeyedTrees.{taken, entries_push}
 use Rattle.tree_forest.proofs.ForestLemmas.Compacting.{gone_over, in_hand, still_fits}
 use Rattle.tree_forest.proofs.ForestLemmas.Reversing.{turned, entries_turned}
-use Rattle.tree_forest.proofs.forest.compact.compact.Goals as goal
+use Rattle.tree_forest.proofs.forest.compact.merge_all.Goals as goal
 
 pub loop-entry-init : goal.loop-entry-init
 loop-entry-init c = record {

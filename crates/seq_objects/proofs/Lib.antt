@@ -3,5 +3,7 @@ pub mod CallOrder
 mod Classes
 pub mod Elements
 mod Keys
+mod Apart
+mod Filters
 mod Meets
 mod Members

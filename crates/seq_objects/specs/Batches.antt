@@ -1,5 +1,5 @@
 -- The calls of one batch, and the object that an operation is of.
-use Rattle.std.specs.Prelude.{◌≡◌, ◌<◌, List, length, map}
+use Rattle.std.specs.Prelude.{◌≡◌, ◌<◌, Bool, true, false, List, length, map, filter}
 use Rattle.std.specs.List.{AllByRecursion}
 use Rattle.seq_objects.specs.declared.op.Op.{Op}
 use Rattle.seq_objects.specs.declared.op.Op.TheVariants.{CounterAdd, Push, Pop, TreeInsert, TreeRemove, TreeFind, TreeNext, PqInsert, PqTake}
@@ -40,3 +40,15 @@ object_of PqTake = Queue
 -- all calls are of one object
 abbrev pub AreOf : Object → List Call → Type 0
 AreOf object calls = AllByRecursion (λ call. object_of call.op ≡ object) calls
+
+-- whether two objects are one
+abbrev pub same_object : Object → Object → Bool
+same_object Counter Counter = true
+same_object Stack Stack = true
+same_object Tree Tree = true
+same_object Queue Queue = true
+same_object _ _ = false
+
+-- the calls of one object, in their order
+abbrev pub calls_of : Object → List Call → List Call
+calls_of object calls = filter (λ call. same_object object (object_of call.op)) calls

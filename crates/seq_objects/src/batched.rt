@@ -13,12 +13,13 @@ use std::alloc::{AllocError, Global};
 /// A structure that serves a whole batch of calls in pieces, which any workers may work on side by side.
 ///
 /// `begin` takes the structure apart, `piece` works on one piece and knows nothing of the others, and `end`
-/// puts the structure together again. After out of memory in any of them the structure is given up.
+/// puts the structure together again. After out of memory in any of them the structure is given up. How many pieces
+/// there are follows from the content and the calls: each structure has a law that says the number of its `cut`.
 pub trait Batched: Sized + Drop {
-    /// What a piece is given.
-    type In: Drop;
-    /// What a piece answers.
-    type Out: Drop;
+    /// What a piece is given. It can be sent to another thread, and may carry memory beside what `meets` speaks of.
+    type In: Drop + Send;
+    /// What a piece answers. It can be sent to another thread, and may carry memory beside what `meets` speaks of.
+    type Out: Drop + Send;
     /// What is kept of the structure while its pieces are worked on.
     type Rest: Drop;
 

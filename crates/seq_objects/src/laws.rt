@@ -1,10 +1,12 @@
 //! The laws of the serial objects, each as the contract of a function that does nothing.
-ghost use Rattle.std.specs.Prelude.{◌≡◌, ℕ, ◌+◌, not, ◌&&◌, ◌||◌, ◌==◌, ◌++◌, nat_lt, filter, List, Some};
+ghost use Rattle.std.specs.Prelude.{◌≡◌, ℕ, ◌+◌, ◌<◌, Bool, not, ◌&&◌, ◌||◌, ◌==◌, ◌++◌, nat_lt, filter, length, List, Some};
 ghost use Rattle.seq_objects.specs.declared.call.Call.{Call};
 ghost use Rattle.seq_objects.specs.declared.op.Op.{Op};
+ghost use Rattle.seq_objects.specs.declared.reply.Reply.{Reply};
 ghost use Rattle.seq_objects.specs.Objects.{Objects, opening, after, has, with_key, without_key, least_above, with_item, least, without_least};
 ghost use Rattle.seq_objects.specs.BatchOrder.{class_of};
-ghost use Rattle.seq_objects.specs.Batches.{AreInBatchOrder};
+ghost use Rattle.seq_objects.specs.Batches.{Object, AreInBatchOrder, AreOneBatch, AreOf, calls_of};
+ghost use Rattle.seq_objects.specs.Serial.{after_all, replies_to_all, alone, with_object, replies_of, after_by_object};
 ghost use Rattle.seq_objects.specs.Orders.{StrictlyAscends, Ascends, AreInOrder, IsLeastAbove, copies, one_if, IsLeast};
 
 /// The set strictly ascends and the bag ascends, whatever operations are served.
@@ -31,4 +33,24 @@ pub fn bag_counts_its_copies()
 /// the pops, the queries of the tree before its updates, the queue's inserts before its takes.
 pub fn lower_classes_come_first()
     ensures { (class : ℕ) (calls : List Call) → AreInBatchOrder calls → calls ≡ filter (λ call. nat_lt (class_of call.op) class) calls ++ filter (λ call. not (nat_lt (class_of call.op) class)) calls }
+{}
+
+/// Some of the calls of a batch, in their order, are one batch too: those of one class, or those of one object.
+pub fn some_calls_of_a_batch_are_a_batch()
+    ensures batch { (passes : Call → Bool) (calls : List Call) → AreOneBatch calls → 0 < length (filter passes calls) → AreOneBatch (filter passes calls) }
+    ensures of { (object : Object) (calls : List Call) → AreOf object (calls_of object calls) }
+{}
+
+/// Calls of one object leave the others as they are, and reply what they would reply if these were as at the opening.
+pub fn objects_are_apart()
+    ensures replies { (object : Object) (objects : Objects) (calls : List Call) → AreOf object calls → replies_to_all objects calls ≡ replies_to_all (alone object objects) calls }
+    ensures content { (object : Object) (objects : Objects) (calls : List Call) → AreOf object calls → after_all objects calls ≡ with_object object objects (after_all (alone object objects) calls) }
+{}
+
+/// Calls of all objects, in any order, can be dealt to their objects, each of which serves its own alone: the replies to
+/// all are the list that has each object's replies at the places of its calls, and no other list has them so.
+pub fn each_object_serves_its_own_calls()
+    ensures replies { (object : Object) (objects : Objects) (calls : List Call) → replies_of object calls (replies_to_all objects calls) ≡ replies_to_all (alone object objects) (calls_of object calls) }
+    ensures one { (calls : List Call) (replies others : List Reply) → length replies ≡ length calls → length others ≡ length calls → ((object : Object) → replies_of object calls replies ≡ replies_of object calls others) → replies ≡ others }
+    ensures content { (objects : Objects) (calls : List Call) → after_all objects calls ≡ after_by_object objects calls }
 {}

@@ -1,0 +1,159 @@
+-- The objects are apart: what is done to one leaves the others alone, and does not depend on them.
+use Rattle.std.proofs.Common.{◌≡◌, Bool, true, false, cond, List, [], ◌∷◌, length, refl, ap, sym, subst, arith, ◌∙◌}
+use Rattle.seq_objects.specs.declared.op.Op.{Op}
+use Rattle.seq_objects.specs.declared.op.Op.TheVariants.{CounterAdd, Push, Pop, TreeInsert, TreeRemove, TreeFind, TreeNext, PqInsert, PqTake}
+use Rattle.seq_objects.specs.declared.call.Call.{Call}
+use Rattle.seq_objects.specs.declared.reply.Reply.{Reply}
+use Rattle.seq_objects.specs.Objects.{Objects, after, reply_to}
+use Rattle.seq_objects.specs.Batches.{Object, Counter, Stack, Tree, Queue, AreOf, object_of, same_object, calls_of}
+use Rattle.seq_objects.specs.Serial.{after_all, replies_to_all, alone, with_object, replies_of, after_by_object}
+use Rattle.seq_objects.proofs.Filters.{same_is}
+
+reply_alone : (op : Op) (objects : Objects) → reply_to objects op ≡ reply_to (alone (object_of op) objects) op
+reply_alone (CounterAdd addend) objects = refl
+reply_alone (Push item) objects = refl
+reply_alone Pop objects = refl
+reply_alone (TreeInsert key) objects = refl
+reply_alone (TreeRemove key) objects = refl
+reply_alone (TreeFind key) objects = refl
+reply_alone (TreeNext key) objects = refl
+reply_alone (PqInsert item) objects = refl
+reply_alone PqTake objects = refl
+
+after_alone : (op : Op) (objects : Objects) → after objects op ≡ with_object (object_of op) objects (after (alone (object_of op) objects) op)
+after_alone (CounterAdd addend) objects = refl
+after_alone (Push item) objects = refl
+after_alone Pop objects = refl
+after_alone (TreeInsert key) objects = refl
+after_alone (TreeRemove key) objects = refl
+after_alone (TreeFind key) objects = refl
+after_alone (TreeNext key) objects = refl
+after_alone (PqInsert item) objects = refl
+after_alone PqTake objects = refl
+
+alone_after : (op : Op) (objects : Objects) → alone (object_of op) (after objects op) ≡ after (alone (object_of op) objects) op
+alone_after (CounterAdd addend) objects = refl
+alone_after (Push item) objects = refl
+alone_after Pop objects = refl
+alone_after (TreeInsert key) objects = refl
+alone_after (TreeRemove key) objects = refl
+alone_after (TreeFind key) objects = refl
+alone_after (TreeNext key) objects = refl
+alone_after (PqInsert item) objects = refl
+alone_after PqTake objects = refl
+
+with_own : (object : Object) (objects : Objects) → objects ≡ with_object object objects (alone object objects)
+with_own Counter objects = refl
+with_own Stack objects = refl
+with_own Tree objects = refl
+with_own Queue objects = refl
+
+with_twice : (object : Object) (objects others more : Objects) → with_object object (with_object object objects others) more ≡ with_object object objects more
+with_twice Counter objects others more = refl
+with_twice Stack objects others more = refl
+with_twice Tree objects others more = refl
+with_twice Queue objects others more = refl
+
+-- calls of one object reply what they would reply if the others were as at the opening
+pub replies_alone : (object : Object) (objects : Objects) (calls : List Call) → AreOf object calls → replies_to_all objects calls ≡ replies_to_all (alone object objects) calls
+replies_alone object objects [] of = refl
+replies_alone object objects (call ∷ calls) of =
+    let rest = replies_alone object (after objects call.op) calls of.1 in
+    let reply : reply_to objects call.op ≡ reply_to (alone object objects) call.op = subst (λ o. reply_to objects call.op ≡ reply_to (alone o objects) call.op) of.0 (reply_alone call.op objects) in
+    let next : alone object (after objects call.op) ≡ after (alone object objects) call.op = subst (λ o. alone o (after objects call.op) ≡ after (alone o objects) call.op) of.0 (alone_after call.op objects) in
+    rw (reply, rest, next) refl
+
+-- and change this object alone
+pub content_alone : (object : Object) (objects : Objects) (calls : List Call) → AreOf object calls → after_all objects calls ≡ with_object object objects (after_all (alone object objects) calls)
+content_alone object objects [] of = with_own object objects
+content_alone object objects (call ∷ calls) of =
+    let rest = content_alone object (after objects call.op) calls of.1 in
+    let changed : after objects call.op ≡ with_object object objects (after (alone object objects) call.op) = subst (λ o. after objects call.op ≡ with_object o objects (after (alone o objects) call.op)) of.0 (after_alone call.op objects) in
+    let next : alone object (after objects call.op) ≡ after (alone object objects) call.op = subst (λ o. alone o (after objects call.op) ≡ after (alone o objects) call.op) of.0 (alone_after call.op objects) in
+    let last = after_all (after (alone object objects) call.op) calls in
+    rest ∙ ap (λ o. with_object object (after objects call.op) (after_all o calls)) next ∙ ap (λ o. with_object object o last) changed
+    ∙ with_twice object objects (after (alone object objects) call.op) last
+
+-- what is done to another object leaves this one
+other_kept : (object other : Object) (objects others : Objects) → same_object object other ≡ false → alone object (with_object other objects others) ≡ alone object objects
+other_kept Counter Counter objects others differ = absurd cc
+other_kept Counter Stack objects others differ = refl
+other_kept Counter Tree objects others differ = refl
+other_kept Counter Queue objects others differ = refl
+other_kept Stack Counter objects others differ = refl
+other_kept Stack Stack objects others differ = absurd cc
+other_kept Stack Tree objects others differ = refl
+other_kept Stack Queue objects others differ = refl
+other_kept Tree Counter objects others differ = refl
+other_kept Tree Stack objects others differ = refl
+other_kept Tree Tree objects others differ = absurd cc
+other_kept Tree Queue objects others differ = refl
+other_kept Queue Counter objects others differ = refl
+other_kept Queue Stack objects others differ = refl
+other_kept Queue Tree objects others differ = refl
+other_kept Queue Queue objects others differ = absurd cc
+
+same_self : (object : Object) → same_object object object ≡ true
+same_self Counter = refl
+same_self Stack = refl
+same_self Tree = refl
+same_self Queue = refl
+
+module _ (object : Object) where
+  -- one call, of this object or of another
+  own_next : (objects : Objects) (op : Op) → same_object object (object_of op) ≡ true → (alone object (after objects op) ≡ after (alone object objects) op) × (reply_to objects op ≡ reply_to (alone object objects) op)
+  own_next objects op own =
+      let is = same_is object (object_of op) own in
+      (subst (λ o. alone o (after objects op) ≡ after (alone o objects) op) is (alone_after op objects), subst (λ o. reply_to objects op ≡ reply_to (alone o objects) op) is (reply_alone op objects))
+
+  other_next : (objects : Objects) (op : Op) → same_object object (object_of op) ≡ false → alone object (after objects op) ≡ alone object objects
+  other_next objects op other = ap (alone object) (after_alone op objects) ∙ other_kept object (object_of op) objects (after (alone (object_of op) objects) op) other
+
+  -- among the replies to calls in any order, those to the calls of one object are its own
+  pub own_replies : (objects : Objects) (calls : List Call) → replies_of object calls (replies_to_all objects calls) ≡ replies_to_all (alone object objects) (calls_of object calls)
+  own_replies objects [] = refl
+  own_replies objects (call ∷ calls) = step (same_object object (object_of call.op)) refl (own_replies (after objects call.op) calls) where
+    rest : List Reply
+    rest = replies_of object calls (replies_to_all (after objects call.op) calls)
+
+    step : (b : Bool) → same_object object (object_of call.op) ≡ b → rest ≡ replies_to_all (alone object (after objects call.op)) (calls_of object calls)
+        → cond b (reply_to objects call.op ∷ rest) rest ≡ replies_to_all (alone object objects) (cond b (call ∷ calls_of object calls) (calls_of object calls))
+    step true own is = let next = own_next objects call.op own in rw (is, next.0, next.1) refl
+    step false other is = rw (is, other_next objects call.op other) refl
+
+  -- and the object is as after its own calls
+  pub own_content : (objects : Objects) (calls : List Call) → alone object (after_all objects calls) ≡ after_all (alone object objects) (calls_of object calls)
+  own_content objects [] = refl
+  own_content objects (call ∷ calls) = step (same_object object (object_of call.op)) refl (own_content (after objects call.op) calls) where
+    step : (b : Bool) → same_object object (object_of call.op) ≡ b → alone object (after_all (after objects call.op) calls) ≡ after_all (alone object (after objects call.op)) (calls_of object calls)
+        → alone object (after_all (after objects call.op) calls) ≡ after_all (alone object objects) (cond b (call ∷ calls_of object calls) (calls_of object calls))
+    step true own is = is ∙ ap (λ o. after_all o (calls_of object calls)) (own_next objects call.op own).0
+    step false other is = is ∙ ap (λ o. after_all o (calls_of object calls)) (other_next objects call.op other)
+
+pub each_content : (objects : Objects) (calls : List Call) → after_all objects calls ≡ after_by_object objects calls
+each_content objects calls =
+    rw (sym (own_content Counter objects calls), sym (own_content Stack objects calls), sym (own_content Tree objects calls), sym (own_content Queue objects calls)) refl
+
+-- no other replies have the same replies for each object
+pub same_replies : (calls : List Call) (replies others : List Reply) → length replies ≡ length calls → length others ≡ length calls
+    → ((object : Object) → replies_of object calls replies ≡ replies_of object calls others) → replies ≡ others
+same_replies [] [] [] count count' same = refl
+same_replies [] [] (o ∷ others) count count' same = absurd (omega (arith, count'))
+same_replies [] (r ∷ replies) others count count' same = absurd (omega (arith, count))
+same_replies (call ∷ calls) [] others count count' same = absurd (omega (arith, count))
+same_replies (call ∷ calls) (r ∷ replies) [] count count' same = absurd (omega (arith, count'))
+same_replies (call ∷ calls) (r ∷ replies) (o ∷ others) count count' same =
+    rw (first, same_replies calls replies others (omega (arith, count)) (omega (arith, count')) rest) refl where
+      first_of : (b : Bool) (xs ys : List Reply) → b ≡ true → cond b (r ∷ xs) xs ≡ cond b (o ∷ ys) ys → r ≡ o
+      first_of true xs ys own is = cc
+      first_of false xs ys own is = absurd cc
+
+      rest_of : (b : Bool) (xs ys : List Reply) → cond b (r ∷ xs) xs ≡ cond b (o ∷ ys) ys → xs ≡ ys
+      rest_of true xs ys is = cc
+      rest_of false xs ys is = is
+
+      first : r ≡ o
+      first = let own = object_of call.op in first_of (same_object own own) (replies_of own calls replies) (replies_of own calls others) (same_self own) (same own)
+
+      rest : (object : Object) → replies_of object calls replies ≡ replies_of object calls others
+      rest object = rest_of (same_object object (object_of call.op)) (replies_of object calls replies) (replies_of object calls others) (same object)

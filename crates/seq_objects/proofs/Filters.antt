@@ -1,0 +1,71 @@
+-- Some of the calls of a batch, in their order.
+use Rattle.std.proofs.Common.{◌≡◌, ◌≢◌, ℕ, ◌<◌, Bool, true, false, cond, List, [], ◌∷◌, length, filter, map, refl}
+use Rattle.std.specs.List.{AllByRecursion}
+use Rattle.seq_objects.specs.declared.call.Call.{Call}
+use Rattle.seq_objects.specs.BatchOrder.{ComesFirst}
+use Rattle.seq_objects.specs.Batches.{Object, Counter, Stack, Tree, Queue, AreOneBatch, AreOf, object_of, same_object, calls_of}
+use Rattle.seq_objects.specs.Pairs.{EachPair}
+
+-- what holds of each element holds of each that passes
+each_filter : {A : Type 0} (P : A → Type 0) (passes : A → Bool) (xs : List A) → AllByRecursion P xs → AllByRecursion P (filter passes xs)
+each_filter P passes [] each = tt
+each_filter P passes (x ∷ xs) each = step (passes x) (each_filter P passes xs each.1) where
+  step : (b : Bool) → AllByRecursion P (filter passes xs) → AllByRecursion P (cond b (x ∷ filter passes xs) (filter passes xs))
+  step true rest = (each.0, rest)
+  step false rest = rest
+
+pairs_filter : {A : Type 0} (R : A → A → Type 0) (passes : A → Bool) (xs : List A) → EachPair R xs → EachPair R (filter passes xs)
+pairs_filter R passes [] pairs = tt
+pairs_filter R passes (x ∷ xs) pairs = step (passes x) (pairs_filter R passes xs pairs.1) where
+  step : (b : Bool) → EachPair R (filter passes xs) → EachPair R (cond b (x ∷ filter passes xs) (filter passes xs))
+  step true rest = (each_filter (R x) passes xs pairs.0, rest)
+  step false rest = rest
+
+-- the same of what the elements are mapped to
+each_map_filter : {A B : Type 0} (f : A → B) (P : B → Type 0) (passes : A → Bool) (xs : List A) → AllByRecursion P (map f xs) → AllByRecursion P (map f (filter passes xs))
+each_map_filter f P passes [] each = tt
+each_map_filter f P passes (x ∷ xs) each = step (passes x) (each_map_filter f P passes xs each.1) where
+  step : (b : Bool) → AllByRecursion P (map f (filter passes xs)) → AllByRecursion P (map f (cond b (x ∷ filter passes xs) (filter passes xs)))
+  step true rest = (each.0, rest)
+  step false rest = rest
+
+pairs_map_filter : {A B : Type 0} (f : A → B) (R : B → B → Type 0) (passes : A → Bool) (xs : List A) → EachPair R (map f xs) → EachPair R (map f (filter passes xs))
+pairs_map_filter f R passes [] pairs = tt
+pairs_map_filter f R passes (x ∷ xs) pairs = step (passes x) (pairs_map_filter f R passes xs pairs.1) where
+  step : (b : Bool) → EachPair R (map f (filter passes xs)) → EachPair R (map f (cond b (x ∷ filter passes xs) (filter passes xs)))
+  step true rest = (each_map_filter f (R (f x)) passes xs pairs.0, rest)
+  step false rest = rest
+
+pub some_are_a_batch : (passes : Call → Bool) (calls : List Call) → AreOneBatch calls → 0 < length (filter passes calls) → AreOneBatch (filter passes calls)
+some_are_a_batch passes calls batch some = record {
+  some = some;
+  order = pairs_filter (λ (first : Call) (second : Call). ComesFirst first.op first.worker second.op second.worker) passes calls batch.order;
+  workers = pairs_map_filter (λ (call : Call). call.worker) (λ (m n : ℕ). m ≢ n) passes calls batch.workers;
+  below = each_filter (λ (call : Call). call.worker < 32) passes calls batch.below;
+}
+
+-- the objects
+pub same_is : (a b : Object) → same_object a b ≡ true → b ≡ a
+same_is Counter Counter is = refl
+same_is Counter Stack is = absurd cc
+same_is Counter Tree is = absurd cc
+same_is Counter Queue is = absurd cc
+same_is Stack Counter is = absurd cc
+same_is Stack Stack is = refl
+same_is Stack Tree is = absurd cc
+same_is Stack Queue is = absurd cc
+same_is Tree Counter is = absurd cc
+same_is Tree Stack is = absurd cc
+same_is Tree Tree is = refl
+same_is Tree Queue is = absurd cc
+same_is Queue Counter is = absurd cc
+same_is Queue Stack is = absurd cc
+same_is Queue Tree is = absurd cc
+same_is Queue Queue is = refl
+
+pub are_of : (object : Object) (calls : List Call) → AreOf object (calls_of object calls)
+are_of object [] = tt
+are_of object (call ∷ calls) = step (same_object object (object_of call.op)) refl (are_of object calls) where
+  step : (b : Bool) → same_object object (object_of call.op) ≡ b → AreOf object (calls_of object calls) → AreOf object (cond b (call ∷ calls_of object calls) (calls_of object calls))
+  step true is rest = (same_is object (object_of call.op) is, rest)
+  step false is rest = rest

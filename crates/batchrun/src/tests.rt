@@ -8,6 +8,7 @@ mod jobs;
 mod language;
 mod operations;
 mod schedules;
+mod turns;
 mod words;
 
 use crate::outcome::Outcome;

@@ -2,7 +2,7 @@
 ghost use Rattle.std.specs.Prelude.{◌≡◌};
 
 /// What a node is.
-#[derive(Clone, Copy, Debug, PartialEq, Eq)]
+#[derive(Clone, Copy)]
 pub enum Kind {
     /// A leaf, by its number among the leaves.
     LeafNode(u32),
@@ -13,7 +13,7 @@ pub enum Kind {
 }
 
 /// What is to be done once a node is done, with the number of its parent.
-#[derive(Clone, Copy, Debug, PartialEq, Eq)]
+#[derive(Clone, Copy, PartialEq)]
 pub enum Move {
     /// Nothing: it is the root, so the job is done.
     Root,

@@ -6,18 +6,18 @@ use std::alloc::{AllocError, Global};
 use std::test::Fail;
 
 /// One row an operation, with its reply after the rows before it.
-const CALLS: [(Op, Reply); 11] = [
-    (Op::CounterAdd(4294967295), Reply::Number(4294967295)),
-    (Op::CounterAdd(2), Reply::Number(4294967297)),
-    (Op::Push(7), Reply::Unit),
-    (Op::Pop, Reply::Number(7)),
-    (Op::Pop, Reply::Empty),
-    (Op::TreeInsert(5), Reply::Yes),
-    (Op::TreeFind(5), Reply::Yes),
-    (Op::TreeNext(4), Reply::Number(5)),
-    (Op::TreeRemove(5), Reply::Yes),
-    (Op::PqInsert(9), Reply::Unit),
-    (Op::PqTake, Reply::Number(9)),
+const CALLS: [(Op, &str); 11] = [
+    (Op::CounterAdd(4294967295), "4294967295"),
+    (Op::CounterAdd(2), "4294967297"),
+    (Op::Push(7), "ok"),
+    (Op::Pop, "7"),
+    (Op::Pop, "empty"),
+    (Op::TreeInsert(5), "yes"),
+    (Op::TreeFind(5), "yes"),
+    (Op::TreeNext(4), "5"),
+    (Op::TreeRemove(5), "yes"),
+    (Op::PqInsert(9), "ok"),
+    (Op::PqTake, "9"),
 ];
 
 /// Serves one operation where the counter is far from its end. The match has two arms alike, so that the range
@@ -33,13 +33,14 @@ fn serve_one(plain: &mut Plain, op: Op) -> Result<Reply, AllocError>
 }
 
 /// The place of the first call with another reply, if there is one.
-fn first_wrong(alloc: Global, calls: &[(Op, Reply)]) -> Result<Option<usize>, AllocError>
+fn first_wrong(alloc: Global, calls: &[(Op, &str)]) -> Result<Option<usize>, AllocError>
     requires { length calls.now < 1000 }
 {
     let mut plain = Plain::new(alloc);
     for (place, call) in calls.iter().enumerate() {
         let (op, reply) = *call;
-        if serve_one(&mut plain, op)? != reply {
+        let replied = serve_one(&mut plain, op)?;
+        if format!(in alloc; "{replied}")?.as_str() != reply {
             return Ok(Some(place));
         }
     }

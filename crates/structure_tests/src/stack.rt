@@ -1,58 +1,30 @@
 //! The stack and its rooms.
 ghost use Rattle.std.specs.Prelude.{◌<◌, ◌≤◌};
 
-use crate::batch::{are_of, calls_of};
+use crate::batch::{Row, are_of, calls_of, first_wrong};
 use batched_stack::Stack;
-use seq_objects::{Op, Reply, serve_batch};
+use seq_objects::{Op, serve_batch};
 use std::alloc::{AllocError, Global};
 use std::test::Fail;
 
-/// The operations of a batch, and the replies to its calls in batch order.
-type Row = (&'static [Op], &'static [Reply]);
-
 /// Pushes before pops, pops of later batches, and pops of an empty stack.
 const ROWS: [Row; 4] = [
-    (&[Op::Pop, Op::Pop], &[Reply::Empty, Reply::Empty]),
+    (&[Op::Pop, Op::Pop], "empty empty"),
     (
         &[Op::Pop, Op::Push(10), Op::Push(20), Op::Push(30)],
-        &[Reply::Unit, Reply::Unit, Reply::Unit, Reply::Number(30)],
+        "ok ok ok 30",
     ),
-    (&[Op::Push(4294967295)], &[Reply::Unit]),
+    (&[Op::Push(4294967295)], "ok"),
     (
         &[Op::Pop, Op::Pop, Op::Pop, Op::Pop],
-        &[
-            Reply::Number(4294967295),
-            Reply::Number(20),
-            Reply::Number(10),
-            Reply::Empty,
-        ],
+        "4294967295 20 10 empty",
     ),
 ];
 
-/// The place of the first batch with other replies, if there is one.
-fn first_wrong(alloc: Global, rows: &[Row]) -> Result<Option<usize>, AllocError> {
-    let mut stack = Stack::new(alloc)?;
-    for (place, row) in rows.iter().enumerate() {
-        let (ops, wanted) = *row;
-        if ops.is_empty() || ops.len() > 32 {
-            return Ok(Some(place));
-        }
-        let calls = calls_of(alloc, ops)?;
-        if !are_of(&calls, Op::Pop) {
-            return Ok(Some(place));
-        }
-        let (next, replies) = serve_batch(alloc, stack, &calls)?;
-        stack = next;
-        if replies.as_slice() != wanted {
-            return Ok(Some(place));
-        }
-    }
-    Ok(None)
-}
-
 #[test]
 fn pushes_come_before_pops(rt: HostRuntime) -> Result<(), Fail> {
-    assert_eq!(rt; first_wrong(rt.alloc(), &ROWS)?, None);
+    let stack = Stack::new(rt.alloc())?;
+    assert_eq!(rt; first_wrong(rt.alloc(), stack, Op::Pop, &ROWS)?, None);
     Ok(())
 }
 

@@ -1,6 +1,7 @@
 //! The 2-3 tree, and the forest of trees.
 
 use std::alloc::{AllocError, Global};
+use std::collections::BTreeSet;
 use std::test::Fail;
 use tree_forest::{Forest, ForestPool, Remaining};
 use tree23::Tree23;
@@ -57,6 +58,40 @@ fn a_tree_of_many_keys_is_not_deep(rt: HostRuntime) -> Result<(), Fail> {
         assert!(rt; tree.remove(key * 5), "at {key}");
     }
     assert_eq!(rt; (tree.len(), tree.depth()), (0, 0));
+    Ok(())
+}
+
+/// The next key of a sequence that looks random: below 5,000.
+fn next_key(state: &mut u32) -> u32
+    ensures { result < 5000 }
+{
+    *state = state.wrapping_mul(1_664_525).wrapping_add(1_013_904_223);
+    (*state >> 12) % 5000
+}
+
+/// Keys that look random are put in, cut at and taken out, beside the ordered set of std.
+#[test]
+fn a_tree_is_cut_inside_its_range(rt: HostRuntime) -> Result<(), Fail> {
+    let mut tree = Tree23::new(rt.alloc());
+    let mut set = BTreeSet::new(rt.alloc());
+    let mut state = 1;
+    for _ in 0..3000 {
+        let key = next_key(&mut state);
+        assert_eq!(rt; tree.insert(key)?, set.insert(key)?, "at {key}");
+    }
+    for _ in 0..300 {
+        let key = next_key(&mut state);
+        let (low, high) = tree.split_below(key)?;
+        assert_eq!(rt; low.next(key), None, "at {key}");
+        assert_eq!(rt; (low.find(key), high.find(key)), (false, set.contains(&key)));
+        tree = Tree23::concat(low, high)?;
+        assert_eq!(rt; tree.remove(key), set.remove(&key), "at {key}");
+    }
+    let keys = keys_of(rt.alloc(), &tree)?;
+    assert_eq!(rt; keys.len(), set.len());
+    for key in keys {
+        assert!(rt; set.contains(&key), "at {key}");
+    }
     Ok(())
 }
 

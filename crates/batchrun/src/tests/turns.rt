@@ -1,0 +1,68 @@
+//! A core, turn by turn.
+ghost use Rattle.std.specs.Prelude.{◌≡◌, ◌<◌, IfOk};
+
+use batcher_core::{Core, Spun, Turn};
+use job_lang::read_job;
+use std::alloc::{AllocError, Global};
+use std::test::Fail;
+
+/// The text of a job, the count of workers, and what each turn does until the job is done: `+` where an event happens
+/// and `-` where none does, worker by worker and round by round.
+const TURNS: [(&[u8], u32, &str); 2] = [
+    // Worker 0 waits while worker 1 serves both calls, and has no event once it has arrived.
+    (
+        b"par { counter add 1 counter add 2 }",
+        2,
+        "+- ++ ++ ++ ++ ++ -+ -+ -+ ++ ++ ++ ++ ++ -+ -+ -+",
+    ),
+    // A claim, a start, the work, an end and a finish.
+    (b"work 3", 1, "+ + + + +"),
+];
+
+/// One turn of a worker, and with it the work that is due.
+fn moves(core: &mut Core, worker: u32) -> Result<bool, AllocError>
+    requires { worker < core.old.workers }
+{
+    let turn = match core.turn(worker, None)? {
+        Turn::Spin(steps) => core.turn(worker, Some(Spun::of(steps)))?,
+        other => other,
+    };
+    Ok(matches!(turn, Turn::Moved))
+}
+
+/// What the turns did until the core was over, or for a hundred turns.
+fn trace(alloc: Global, core: &mut Core) -> Result<String, AllocError> {
+    let mut marks = String::new(alloc);
+    for turn in 0..100u32 {
+        if core.is_over() {
+            return Ok(marks);
+        }
+        let worker = turn % core.workers();
+        if worker == 0 && 0 < turn {
+            marks.push(' ')?;
+        }
+        marks.push(if moves(core, worker)? { '+' } else { '-' })?;
+    }
+    Ok(marks)
+}
+
+#[test]
+fn turns_do_these_events(rt: HostRuntime) -> Result<(), Fail> {
+    let alloc = rt.alloc();
+    for (text, workers, marks) in TURNS {
+        let Ok(job) = read_job(alloc, text) else {
+            return Ok(assert!(rt; false, "{text:?}"));
+        };
+        if job.shape().is_none() || workers == 0 || 32 < workers {
+            return Ok(assert!(rt; false, "{text:?}"));
+        }
+        let mut core = Core::start(alloc, &job, workers)?;
+        assert_eq!(rt; core.ready(0), [0].as_slice());
+        assert_eq!(rt; trace(alloc, &mut core)?.as_str(), marks);
+        assert_eq!(rt; core.ready(0).len(), 0);
+        if core.is_over() {
+            assert_eq!(rt; core.report(alloc)?.workers, workers);
+        }
+    }
+    Ok(())
+}

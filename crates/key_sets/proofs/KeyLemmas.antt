@@ -1,0 +1,7 @@
+pub mod Ascending
+pub mod Beside
+pub mod KeysAfter
+pub mod Members
+pub mod Places
+pub mod Sides
+pub mod SidesOfAKey

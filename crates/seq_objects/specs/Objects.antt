@@ -1,11 +1,12 @@
 -- The serial objects: those that one thread would have, and what each operation does to them and replies.
-use Rattle.std.specs.Prelude.{ℕ, ◌+◌, ◌-◌, ◌<◌, ◌^◌, Bool, true, false, not, ◌==◌, nat_lt, nat_le, if◌then◌else◌, List, [], ◌∷◌, ◌++◌, length, take, drop, slice_get, Some, None, ⊤}
+use Rattle.std.specs.Prelude.{ℕ, ◌+◌, ◌-◌, ◌<◌, ◌^◌, Bool, true, false, not, nat_le, if◌then◌else◌, List, [], ◌∷◌, ◌++◌, length, take, drop, slice_get, Some, None, ⊤}
 use Rattle.std.specs.declared.option.Option.{Option}
-use Rattle.std.specs.List.{list_any, find}
 use Rattle.seq_objects.specs.declared.op.Op.{Op}
 use Rattle.seq_objects.specs.declared.op.Op.TheVariants.{CounterAdd, Push, Pop, TreeInsert, TreeRemove, TreeFind, TreeNext, PqInsert, PqTake}
 use Rattle.seq_objects.specs.declared.reply.Reply.{Reply}
 use Rattle.seq_objects.specs.declared.reply.Reply.TheVariants as reply
+-- sets of keys: whether a set has the key; a set with the key, and without it; the least key of a set that is greater
+pub use Rattle.key_sets.specs.Keys.{has, with_key, without_key, least_above}
 
 -- a counter; a stack, whose last item is the top; a strictly ascending set; an ascending bag, with repeats
 pub record Objects : Type 0 where
@@ -25,24 +26,6 @@ top stack = slice_get stack (length stack - 1)
 -- a stack without its top
 abbrev pub without_top : List ℕ → List ℕ
 without_top stack = take (length stack - 1) stack
-
--- whether a set has the key
-abbrev pub has : ℕ → List ℕ → Bool
-has key set = list_any (λ k. key == k) set
-
--- a set with the key, at its place unless it is there
-abbrev pub with_key : ℕ → List ℕ → List ℕ
-with_key key [] = key ∷ []
-with_key key (k ∷ set) = if nat_lt key k then key ∷ k ∷ set else (if key == k then k ∷ set else k ∷ with_key key set)
-
--- a set without the key
-abbrev pub without_key : ℕ → List ℕ → List ℕ
-without_key key [] = []
-without_key key (k ∷ set) = if key == k then set else k ∷ without_key key set
-
--- the least key of a set that is greater, if there is one: the first such in a list that ascends
-abbrev pub least_above : ℕ → List ℕ → Option ℕ
-least_above key set = find (λ k. nat_lt key k) set
 
 -- a bag with one more copy of the item, at its place
 abbrev pub with_item : ℕ → List ℕ → List ℕ

@@ -5,7 +5,7 @@
 //! batch are served. `laws` says that the lists of the serial objects stay in order, and what is in them. The
 //! work of a leaf without a call is here too. `Batched` is what a structure owes that serves a whole batch in
 //! pieces: the replies and the content of serving its calls one after another; `serve_batch` shows that this
-//! is enough. The crate stands on nothing but std.
+//! is enough. The crate stands on `key_sets`, whose words it uses for the set.
 #![tactic(auto)]
 
 pub mod act;

@@ -1,4 +1,4 @@
-use Rattle.seq_objects.proofs.Members.{has_with, has_without, next_is_least}
+use Rattle.key_sets.proofs.KeyLemmas.Members.{has_with, has_without, next_is_least}
 use Rattle.seq_objects.proofs.laws.set_has_its_keys.Goals as goal
 
 pub returns-clause-insert : goal.returns-clause-insert

@@ -1,3 +1,4 @@
 pub mod BeginLemmas
 pub mod EndLemmas
 mod Law
+pub mod PieceCount

@@ -1,5 +1,6 @@
 -- The pieces of a batch: the addends of consecutive calls.
 use Rattle.std.specs.Prelude.{◌≡◌, ℕ, ◌+◌, ◌<◌, ◌/◌, List, [], ◌∷◌, length, take, drop}
+use Rattle.std.specs.Int.{div_ceil}
 use Rattle.seq_objects.specs.declared.call.Call.{Call}
 use Rattle.seq_objects.specs.Objects.{Objects}
 use Rattle.seq_objects.specs.Serial.{of_counter}
@@ -24,6 +25,10 @@ IsCutInto size xs (piece ∷ pieces) =
 -- each piece but the last has a sixteenth of the calls, rounded up
 abbrev pub Cut : Objects → List Call → List Piece → Type 0
 Cut objects calls ins = IsCutInto ((length calls + 15) / 16) (addends calls) (addends_in ins)
+
+-- how many pieces there are: the number of calls by the size of a piece, rounded up
+abbrev pub piece_count : Objects → List Call → ℕ
+piece_count objects calls = div_ceil (length calls) ((length calls + 15) / 16)
 
 -- the out has the sum of each front of the piece, and the sum of the piece
 pub record Meets (piece : Piece) (out : Served) : Type 0 where

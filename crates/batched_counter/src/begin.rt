@@ -19,12 +19,12 @@ fn addend_of(op: Op) -> u32
 }
 
 /// What calls add, in their order.
-fn addends_of(alloc: Global, calls: &[Call]) -> Result<Vec<u32>, AllocError>
+fn addends_of(alloc: Global, calls: &[Call]) -> Result<Vec<u64>, AllocError>
     ensures { IfOk result (λ v. v.items ≡ addends calls.now) }
 {
     let mut all = Vec::with_capacity(alloc, calls.len())?;
     for call in calls {
-        all.push(addend_of(call.op))?;
+        all.push(u64::from(addend_of(call.op)))?;
     }
     Ok(all)
 }
@@ -39,13 +39,11 @@ pub(crate) fn pieces_of(alloc: Global, calls: &[Call]) -> Result<Vec<Piece>, All
     let size = (calls.len() - 1) / 16 + 1;
     let mut pieces = Vec::with_capacity(alloc, calls.len().min(16))?;
     let mut at = 0;
-    'cuts: for _ in 0..16u32 {
-        if at < calls.len() {
-            let end = (at + size).min(calls.len());
-            let addends = addends_of(alloc, &calls[at..end])?;
-            pieces.push(Piece { addends })?;
-            at = end;
-        }
+    'cuts: while at < calls.len() {
+        let end = (at + size).min(calls.len());
+        let addends = addends_of(alloc, &calls[at..end])?;
+        pieces.push(Piece { addends })?;
+        at = end;
     }
     Ok(pieces)
 }

@@ -2,10 +2,10 @@
 ghost use Rattle.std.specs.Prelude.{◌<◌, ◌^◌};
 ghost use Rattle.batched_counter.specs.Sums.{total};
 
-/// The addends of consecutive calls.
+/// The addends of consecutive calls, in the room of their sums.
 #[derive(Drop)]
 pub struct Piece {
-    pub addends: Vec<u32>,
+    pub addends: Vec<u64>,
     ghost fits: { total addends.items < 2 ^ 64 },
 }
 

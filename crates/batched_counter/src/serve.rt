@@ -1,24 +1,32 @@
 //! Summing a piece.
-ghost use Rattle.std.specs.Prelude.{◌≡◌, ◌<◌, ◌^◌, IfOk};
+ghost use Rattle.std.specs.Prelude.{◌≡◌, ◌<◌, ◌^◌};
 ghost use Rattle.batched_counter.specs.Sums.{total, sums_from};
+ghost use Rattle.batched_counter.specs.Pieces.{Meets};
 
-use crate::piece::Served;
-use std::alloc::{AllocError, Global};
+use crate::piece::{Piece, Served};
 
-/// The sum of each front of the addends, and of all of them.
-pub(crate) fn serve_piece(alloc: Global, addends: &[u32]) -> Result<Served, AllocError>
-    requires { total addends.now < 2 ^ 64 }
-    ensures prefixes { IfOk result (λ s. s.prefixes.items ≡ sums_from 0 addends.now) }
-    ensures total { IfOk result (λ s. s.total ≡ total addends.now) }
+/// Puts the sum of each front of some addends in the place of its last one, and gives the sum of all.
+fn sum_up(addends: &mut [u64]) -> u64
+    requires { total addends.old < 2 ^ 64 }
+    ensures sums { addends.new ≡ sums_from 0 addends.old }
+    ensures total { result ≡ total addends.old }
 {
-    let mut prefixes = Vec::with_capacity(alloc, addends.len())?;
-    let mut sum: u64 = 0;
-    for addend in addends {
-        sum += u64::from(*addend);
-        prefixes.push(sum)?;
+    let mut sum = 0;
+    for i in 0..addends.len() {
+        sum += addends[i];
+        addends[i] = sum;
     }
-    Ok(Served {
-        prefixes,
-        total: sum,
-    })
+    sum
+}
+
+/// The sum of each front of a piece's addends, and of all of them.
+///
+/// Memory: none.
+pub(crate) fn serve_piece(piece: Piece) -> Served
+    ensures { Meets piece result }
+{
+    let Piece { addends } = piece;
+    let mut prefixes = addends;
+    let total = sum_up(&mut prefixes);
+    Served { prefixes, total }
 }

@@ -1,8 +1,7 @@
--- What the code keeps and looks up, and what it stands for. Only the contracts of the code cite these modules.
-
-pub mod Places
+-- What only the code and its proofs cite: what is stored keeps to, and what a turn looks up. No public contract speaks of it.
+pub mod ReadyLists
 pub mod Job
-pub mod Abstraction
+pub mod Sizes
 pub mod Lookups
 pub mod Batches
-pub mod Core
+pub mod Representation

@@ -1,3 +1,5 @@
+-- The rules of the core, over plain states, and the state that a core stands for, with what they take from the crates
+-- below. `Code` is what only the code cites.
 pub use Rattle.seq_objects.specs.Objects
 pub use Rattle.seq_objects.specs.Spin
 pub use Rattle.sp_order.specs.Precedence
@@ -22,4 +24,8 @@ pub mod Ranges
 pub mod Measure
 pub mod Waits
 pub mod Reports
+pub mod Places
+pub mod Abstraction
+pub mod WorkDue
+pub mod Cores
 pub mod Code

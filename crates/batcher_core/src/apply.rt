@@ -4,11 +4,12 @@ ghost use Rattle.sp_order.specs.Preorder.{nodes_of};
 ghost use Rattle.batcher_core.specs.Code.Job.{job_of};
 ghost use Rattle.batcher_core.specs.Events.{Needs, Does};
 ghost use Rattle.batcher_core.specs.Ranges.{IsInRange};
-ghost use Rattle.batcher_core.specs.Code.Places.{IsAtEnd};
-ghost use Rattle.batcher_core.specs.Code.Abstraction.{state_of, ready_of, SameSizes};
+ghost use Rattle.batcher_core.specs.Code.ReadyLists.{IsAtEnd};
+ghost use Rattle.batcher_core.specs.Abstraction.{state_of, ready_of};
+ghost use Rattle.batcher_core.specs.Code.Sizes.{SameSizes};
 ghost use Rattle.batcher_core.specs.Lists.{ready_after};
 ghost use Rattle.batcher_core.specs.declared.event.Event.TheVariants.{Claim};
-ghost use Rattle.batcher_core.specs.Code.Core.{Represents};
+ghost use Rattle.batcher_core.specs.Code.Representation.{Represents};
 
 mod gate;
 mod job;

@@ -2,7 +2,7 @@
 ghost use Rattle.std.specs.Prelude.{◌≡◌, ◌<◌};
 ghost use Rattle.batcher_core.specs.Code.Job.{job_of};
 ghost use Rattle.batcher_core.specs.Choice.{choice, choice_by, choice_free};
-ghost use Rattle.batcher_core.specs.Code.Abstraction.{state_of, core_state_of};
+ghost use Rattle.batcher_core.specs.Abstraction.{state_of, core_state_of};
 ghost use Rattle.batcher_core.specs.Code.Lookups.{CanChoose, IsWorkOf};
 
 mod gate;
@@ -19,7 +19,7 @@ use crate::state::task::Task;
 impl State {
     /// The event of a worker whose status is free, by its task. `work` is the value of the work that is due, if some
     /// is due.
-    #[tactic(auto, unfolding(crate::specs::Code::Abstraction::state_of, crate::specs::Code::Abstraction::ready_of))]
+    #[tactic(auto, unfolding(crate::specs::Abstraction::state_of, crate::specs::Abstraction::ready_of))]
     pub(crate) fn choose_free(&self, job: &CoreJob, worker: u32, work: Option<u64>) -> Option<Event>
         requires looks { CanChoose job.now self.now }
         requires worker_in { worker < job.now.workers }
@@ -42,7 +42,7 @@ impl State {
     }
 
     /// The event of a worker that does not hold the flag, by its status.
-    #[tactic(auto, unfolding(crate::specs::Code::Abstraction::state_of))]
+    #[tactic(auto, unfolding(crate::specs::Abstraction::state_of))]
     fn choose_by_status(&self, job: &CoreJob, worker: u32, work: Option<u64>) -> Option<Event>
         requires looks { CanChoose job.now self.now }
         requires worker_in { worker < job.now.workers }
@@ -60,7 +60,7 @@ impl State {
     /// The event of a worker's turn, or none where the worker can do nothing in this state.
     ///
     /// Memory: none.
-    #[tactic(auto, unfolding(crate::specs::Code::Abstraction::state_of))]
+    #[tactic(auto, unfolding(crate::specs::Abstraction::state_of))]
     pub(crate) fn choose(&self, job: &CoreJob, worker: u32, work: Option<u64>) -> Option<Event>
         requires looks { CanChoose job.now self.now }
         requires worker_in { worker < job.now.workers }

@@ -5,7 +5,7 @@ ghost use Rattle.sp_order.specs.Precedence.{leaves};
 ghost use Rattle.batch_history.specs.Lawful.{Lawful};
 ghost use Rattle.batcher_core.specs.State.{CoreState};
 ghost use Rattle.batcher_core.specs.Runs.{IsTurn, Drives};
-ghost use Rattle.batcher_core.specs.Code.Core.{job_in, state_in, is_over_in};
+ghost use Rattle.batcher_core.specs.Cores.{job_in, state_in, is_over_in};
 ghost use Rattle.batcher_core.specs.Reports.{IsDrivenFrom};
 
 use crate::scheduler::Core;

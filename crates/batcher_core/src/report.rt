@@ -5,7 +5,7 @@ ghost use Rattle.sp_order.specs.Precedence.{leaves};
 ghost use Rattle.sp_order.specs.Preorder.{nodes_of};
 ghost use Rattle.batch_history.specs.declared.row.Row.{Row};
 ghost use Rattle.batcher_core.specs.declared.state.progress.Progress.TheVariants.{Waiting};
-ghost use Rattle.batcher_core.specs.Code.Places.{at};
+ghost use Rattle.batcher_core.specs.Places.{at};
 ghost use Rattle.batcher_core.specs.Reports.{HasRun, IsRowFor, TellsLeaf};
 
 use crate::state::progress::Progress;

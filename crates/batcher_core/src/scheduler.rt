@@ -10,7 +10,8 @@ ghost use Rattle.batcher_core.specs.Invariant.{Invariant};
 ghost use Rattle.batcher_core.specs.Reports.{IsReportOf, TellsLeaf};
 ghost use Rattle.sp_order.specs.Preorder.{nodes_of};
 ghost use Rattle.std.specs.List.{AllByRecursion, range_with_len};
-ghost use Rattle.batcher_core.specs.Code.Core.{job_in, state_in, due_in, turn_answer, is_over_in, IsTurnResult, RepInvariant};
+ghost use Rattle.batcher_core.specs.Cores.{job_in, state_in, due_in, turn_answer, is_over_in, IsTurnResult};
+ghost use Rattle.batcher_core.specs.Code.Representation.{RepInvariant};
 
 use crate::event::Event;
 use crate::job::CoreJob;
@@ -39,7 +40,8 @@ impl Model for Core {
     ghost use Rattle.std.specs.Prelude.{◌≡◌, ◌<◌, false};
     ghost use Rattle.std.specs.Coded.{codes};
     ghost use Rattle.sp_order.specs.TreeEncoding.{coded_tree};
-    ghost use Rattle.batcher_core.specs.Code.Core.{CoreView, Represents};
+    ghost use Rattle.batcher_core.specs.Cores.{CoreView};
+    ghost use Rattle.batcher_core.specs.Code.Representation.{Represents};
 
     ghost Value = { CoreView };
 
@@ -152,7 +154,7 @@ impl Core {
     /// The ready nodes of a worker, the oldest first. Beyond the workers there are none.
     ///
     /// Memory: none.
-    #[tactic(auto, unfolding(crate::specs::Code::Abstraction::ready_of))]
+    #[tactic(auto, unfolding(crate::specs::Abstraction::ready_of))]
     pub fn ready(&self, worker: u32) -> &[u32]
         ensures { result.now ≡ (state_in self.now).ready worker }
     {

@@ -1,7 +1,7 @@
 //! The state of the core.
 
 ghost use Rattle.std.specs.Prelude.{◌≡◌, ◌<◌, length};
-ghost use Rattle.batcher_core.specs.Code.Abstraction.{state_of};
+ghost use Rattle.batcher_core.specs.Abstraction.{state_of};
 ghost use Rattle.batcher_core.specs.Tasks.{is_done as node_done};
 
 pub mod hold;
@@ -62,7 +62,7 @@ fn is_done(progress: Progress) -> bool
 
 impl State {
     /// Whether the root is done.
-    #[tactic(auto, unfolding(crate::specs::Code::Abstraction::state_of))]
+    #[tactic(auto, unfolding(crate::specs::Abstraction::state_of))]
     pub(crate) fn root_done(&self) -> bool
         requires { 0 < length self.now.nodes.items }
         ensures { result ≡ node_done ((state_of self.now).node 0) }

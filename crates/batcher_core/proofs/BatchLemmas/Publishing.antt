@@ -8,9 +8,10 @@ use Rattle.batcher_core.specs.declared.state.State.{State as StoredState}
 use Rattle.batcher_core.specs.Events.{Needs, IsBatchOf}
 use Rattle.batcher_core.specs.Invariant.Statuses.{IsAtCall, is_taken_by}
 use Rattle.batcher_core.specs.Code.Batches.{AreTakenCalls, AreEntriesOf}
-use Rattle.batcher_core.specs.Code.Places.{at}
-use Rattle.batcher_core.specs.Code.Abstraction.{hold_view, hold_of, state_of, CounterFits}
-use Rattle.batcher_core.specs.Code.Core.{RepInvariant}
+use Rattle.batcher_core.specs.Places.{at}
+use Rattle.batcher_core.specs.Abstraction.{hold_view, hold_of, state_of}
+use Rattle.batcher_core.specs.Code.Sizes.{CounterFits}
+use Rattle.batcher_core.specs.Code.Representation.{RepInvariant}
 use Rattle.batcher_core.proofs.BookLemmas.Room.{counter_room}
 use Rattle.batcher_core.proofs.BatchLemmas.Made.{taken_at_call, owed_before, few_calls, batch_made}
 use Rattle.batcher_core.proofs.BatchLemmas.History.{history_made}

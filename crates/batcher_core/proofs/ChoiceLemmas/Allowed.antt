@@ -7,9 +7,9 @@ use Rattle.batcher_core.specs.declared.state.State.{State as StoredState}
 use Rattle.batcher_core.specs.Events.{Needs}
 use Rattle.batcher_core.specs.Choice.{choice}
 use Rattle.batcher_core.specs.Ranges.{IsInRange}
-use Rattle.batcher_core.specs.Code.Places.{IsAtEnd}
-use Rattle.batcher_core.specs.Code.Abstraction.{state_of, ready_of, core_state_of, hold_of}
-use Rattle.batcher_core.specs.Code.Core.{RepInvariant}
+use Rattle.batcher_core.specs.Code.ReadyLists.{IsAtEnd}
+use Rattle.batcher_core.specs.Abstraction.{state_of, ready_of, core_state_of, hold_of}
+use Rattle.batcher_core.specs.Code.Representation.{RepInvariant}
 use Rattle.batcher_core.proofs.CodeLemmas.InRange.{event_in}
 use Rattle.batcher_core.proofs.CodeLemmas.TickRoom.{tick_most}
 use Rattle.batcher_core.proofs.ChoiceLemmas.ClaimEnds.{claim_ends}

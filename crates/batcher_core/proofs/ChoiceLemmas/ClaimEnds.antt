@@ -7,7 +7,7 @@ use Rattle.batcher_core.specs.Lists.{times}
 use Rattle.batcher_core.specs.Invariant.ReadyLists.{ReadyListsInvariant}
 use Rattle.batcher_core.proofs.Inductive.Parts.{InductiveParts}
 use Rattle.batcher_core.specs.Choice.{choice, LeavesAnEnd}
-use Rattle.batcher_core.specs.Code.Places.{IsOldest, IsNewest, IsAtEnd}
+use Rattle.batcher_core.specs.Code.ReadyLists.{IsOldest, IsNewest, IsAtEnd}
 use Rattle.batcher_core.proofs.ChoiceLemmas.Ends.{oldest_stands, newest_stands}
 use Rattle.batcher_core.proofs.ChoiceLemmas.Ready.{once_there, idle_leaves, choice_of_idle}
 

@@ -4,7 +4,8 @@ use Rattle.std.proofs.lemmas.Grind.{common_steps}
 use Rattle.std.proofs.lemmas.Bool.{cases_lt}
 use Rattle.std.proofs.lemmas.Bool.Decides.{nat_tests}
 use Rattle.batcher_core.specs.Lists.{without, times}
-use Rattle.batcher_core.specs.Code.Places.{at, IsOldest, IsNewest, IsAtEnd}
+use Rattle.batcher_core.specs.Places.{at}
+use Rattle.batcher_core.specs.Code.ReadyLists.{IsOldest, IsNewest, IsAtEnd}
 use Rattle.batcher_core.proofs.CodeLemmas.Written.{at_beyond, at_place, at_written}
 
 pub without_none : (n : ℕ) (xs : List ℕ) → times n xs ≡ 0 → without n xs ≡ xs

@@ -1,7 +1,7 @@
 -- Lists of one item again and again, as functions of places.
 use Rattle.std.proofs.Common.{ℕ, ◌≡◌, List, replicate, arith}
 use Rattle.std.proofs.lemmas.Grind.{common_steps}
-use Rattle.batcher_core.specs.Code.Places.{at}
+use Rattle.batcher_core.specs.Places.{at}
 
 same_at : {A : Type 0} (n : ℕ) (x : A) (m : ℕ) → at (replicate n x) x m ≡ x
 same_at n x m = grind (arith, common_steps)

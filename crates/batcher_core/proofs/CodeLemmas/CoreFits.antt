@@ -9,9 +9,9 @@ use Rattle.batcher_core.specs.declared.job.CoreJob.{CoreJob as StoredJob}
 use Rattle.batcher_core.proofs.ChoiceLemmas.Gate.{taken_row}
 use Rattle.batcher_core.specs.Operations.{IsLeaf}
 use Rattle.batcher_core.specs.Invariant.Tasks.{TaskFits}
-use Rattle.batcher_core.specs.Code.Abstraction.{state_of}
+use Rattle.batcher_core.specs.Abstraction.{state_of}
 use Rattle.batcher_core.specs.Code.Lookups.{MoveIn, CanChoose}
-use Rattle.batcher_core.specs.Code.Core.{Represents}
+use Rattle.batcher_core.specs.Code.Representation.{Represents}
 use Rattle.batcher_core.proofs.CodeLemmas.InRange.{parent_in, named_in}
 use Rattle.batcher_core.proofs.BookLemmas.Room.{book_room}
 use Rattle.batcher_core.proofs.Inductive.FromParts.{kept_parts}

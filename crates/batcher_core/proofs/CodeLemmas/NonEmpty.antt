@@ -3,7 +3,8 @@ use Rattle.std.proofs.Common.{ℕ, zero, suc, ◌≡◌, ◌<◌, ◌≤◌, ◌
 use Rattle.std.proofs.lemmas.List.{length-set}
 use Rattle.std.proofs.lemmas.Bool.{cases_eq, cases_lt}
 use Rattle.batcher_core.specs.State.{put}
-use Rattle.batcher_core.specs.Code.Places.{at, non_empty_in, one_if_non_empty}
+use Rattle.batcher_core.specs.Places.{at}
+use Rattle.batcher_core.specs.Code.ReadyLists.{non_empty_in, one_if_non_empty}
 use Rattle.batcher_core.specs.Measure.{total}
 use Rattle.batcher_core.specs.Choice.{choice_steal}
 use Rattle.batcher_core.specs.Code.Lookups.{claim_choice}

@@ -5,8 +5,9 @@ use Rattle.sp_order.specs.Precedence.{leaf_count}
 use Rattle.sp_order.specs.Preorder.{nodes_of}
 use Rattle.batcher_core.specs.declared.state.State.{State as StoredState}
 use Rattle.batcher_core.specs.State.{opening_state, opening_core}
-use Rattle.batcher_core.specs.Code.Abstraction.{state_of, ready_of, core_state_of, Sizes, CounterFits}
-use Rattle.batcher_core.specs.Code.Core.{RepInvariant}
+use Rattle.batcher_core.specs.Abstraction.{state_of, ready_of, core_state_of}
+use Rattle.batcher_core.specs.Code.Sizes.{Sizes, CounterFits}
+use Rattle.batcher_core.specs.Code.Representation.{RepInvariant}
 use Rattle.batcher_core.proofs.InvariantLemmas.Reached.{has_root}
 use Rattle.batcher_core.proofs.BookLemmas.LeavesIn.{leaves_in}
 use Rattle.batcher_core.proofs.BookLemmas.CallsIn.{calls_in}

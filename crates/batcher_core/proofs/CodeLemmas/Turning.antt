@@ -7,8 +7,10 @@ use Rattle.batcher_core.specs.declared.turn.Turn.TheVariants.{Moved, Idle}
 use Rattle.batcher_core.specs.Lists.{ready_after}
 use Rattle.batcher_core.specs.Events.{Does, Happens}
 use Rattle.batcher_core.specs.Choice.{choice}
-use Rattle.batcher_core.specs.Code.Abstraction.{state_of, ready_of, core_state_of, Sizes, SameSizes}
-use Rattle.batcher_core.specs.Code.Core.{RepInvariant, IsTurnResult}
+use Rattle.batcher_core.specs.Abstraction.{state_of, ready_of, core_state_of}
+use Rattle.batcher_core.specs.Code.Sizes.{Sizes, SameSizes}
+use Rattle.batcher_core.specs.Code.Representation.{RepInvariant}
+use Rattle.batcher_core.specs.Cores.{IsTurnResult}
 use Rattle.batcher_core.proofs.ChoiceLemmas.Choices.{none_has_no_event}
 use Rattle.batcher_core.proofs.ChoiceLemmas.Allowed.{chosen_needs}
 use Rattle.batcher_core.proofs.Inductive.FromParts.{kept_parts, event_keeps_all}

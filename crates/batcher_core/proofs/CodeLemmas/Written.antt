@@ -3,7 +3,7 @@ use Rattle.std.proofs.Common.{ℕ, ◌≡◌, ◌<◌, ◌≤◌, List, length, 
 use Rattle.std.proofs.lemmas.Grind.{common_steps}
 use Rattle.std.proofs.lemmas.Bool.Decides.{nat_tests}
 use Rattle.batcher_core.specs.State.{put}
-use Rattle.batcher_core.specs.Code.Places.{at}
+use Rattle.batcher_core.specs.Places.{at}
 
 at_set : {A : Type 0} (xs : List A) (n : ℕ) (x d : A) (m : ℕ) → n < length xs → at (slice_set xs n x) d m ≡ put (at xs d) n x m
 at_set xs n x d m below = grind (arith, nat_tests, common_steps)

@@ -7,8 +7,8 @@ use Rattle.seq_objects.specs.Objects.{value_of}
 use Rattle.batcher_core.proofs.Words.{Act, Work, Call, Kind, LeafNode, SeqNode, ParNode, Nodes, IsPlan, Entry, Progress, Waiting, Ready, Taken, Done, Ran, Task, Idle, Run, Half, Started, Kept, Ended, Whole, Handed, Status, Free, Pending, Executing, Served, CallState, NotCalled, Out, Got, Receipt, Tree, CoreJob, State, CoreState, core_job, is_done, names, Event}
 use Rattle.sp_order.specs.Plans.{itself}
 use Rattle.batcher_core.specs.declared.state.State.{State as StoredState}
-use Rattle.batcher_core.specs.Code.Abstraction.{state_of}
-use Rattle.batcher_core.specs.Code.Core.{RepInvariant}
+use Rattle.batcher_core.specs.Abstraction.{state_of}
+use Rattle.batcher_core.specs.Code.Representation.{RepInvariant}
 use Rattle.batcher_core.specs.Operations.{IsLeaf, op_of, Place, place_of}
 use Rattle.batcher_core.specs.Choice.{least_below}
 use Rattle.batcher_core.specs.Events.{Happens}

@@ -4,7 +4,7 @@ use Rattle.std.proofs.lemmas.List.{get_or_past}
 use Rattle.std.proofs.lemmas.Bool.{cases_lt}
 use Rattle.batch_history.specs.declared.row.Row.{Row}
 use Rattle.batcher_core.proofs.Words.{Progress, Waiting}
-use Rattle.batcher_core.specs.Code.Places.{at}
+use Rattle.batcher_core.specs.Places.{at}
 use Rattle.batcher_core.specs.Reports.{HasRun, IsRowFor, TellsLeaf}
 use Rattle.batcher_core.proofs.ReportLemmas.RowLists.{AreRowsOf}
 

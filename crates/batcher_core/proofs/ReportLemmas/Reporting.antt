@@ -5,7 +5,7 @@ use Rattle.batcher_core.proofs.Words.{Act, Tree, leaves, core_job}
 use Rattle.sp_order.specs.Preorder.{nodes_of}
 use Rattle.batch_history.specs.declared.row.Row.{Row}
 use Rattle.batcher_core.specs.declared.state.State.{State as StoredState}
-use Rattle.batcher_core.specs.Code.Abstraction.{state_of}
+use Rattle.batcher_core.specs.Abstraction.{state_of}
 use Rattle.batcher_core.specs.Reports.{TellsLeaf, IsReportOf}
 
 -- a core that is over is not spent, and its root is done

@@ -12,7 +12,8 @@ use Rattle.batcher_core.specs.Invariant.ReadyLists.{ReadyListsInvariant}
 use Rattle.batcher_core.specs.Measure.{measure}
 use Rattle.batcher_core.specs.Choice.{choice, least_below}
 use Rattle.batcher_core.specs.Runs.{IsTurnOf, IsTurn}
-use Rattle.batcher_core.specs.Code.Core.{CoreView, job_in, state_in, is_over_in, RepInvariant}
+use Rattle.batcher_core.specs.Cores.{CoreView, job_in, state_in, is_over_in}
+use Rattle.batcher_core.specs.Code.Representation.{RepInvariant}
 use Rattle.batcher_core.proofs.ChoiceLemmas.Searches.{least_stays, least_in}
 use Rattle.batcher_core.proofs.ChoiceLemmas.Search.{least_is_chosen, no_least}
 use Rattle.batcher_core.proofs.ChoiceLemmas.Progress.{some_turn}

@@ -6,7 +6,7 @@ use Rattle.batcher_core.proofs.Words.{Act, Tree, Event, CoreJob, CoreState, core
 use Rattle.batcher_core.specs.declared.turn.Turn.{Turn}
 use Rattle.batcher_core.specs.Choice.{choice}
 use Rattle.batcher_core.specs.Runs.{IsStep, IsTurnOf, IsTurn, Drives, over, by_schedule, by_robin}
-use Rattle.batcher_core.specs.Code.Core.{CoreView, job_in, state_in, due_in, is_over_in, moved_if, turn_answer, IsTurnResult}
+use Rattle.batcher_core.specs.Cores.{CoreView, job_in, state_in, due_in, is_over_in, moved_if, turn_answer, IsTurnResult}
 use Rattle.batcher_core.proofs.RunLemmas.OneRun.{over_or}
 
 made_of : (job : CoreJob) (old new : CoreState) (w : ℕ) (chosen : Option Event) → choice job old w ≡ chosen → IsTurnResult (moved_if chosen) job old w new → IsTurnOf job old w chosen new

@@ -1,29 +1,26 @@
--- What the choice of a turn looks up, and what the code of an event does.
+-- What the choice of a turn looks up, and what it chooses of that.
 use Rattle.batch_history.specs.Book.{flat}
+use Rattle.batcher_core.specs.Abstraction.{state_of}
 use Rattle.batcher_core.specs.Choice.{choice_arrive, choice_parent, choice_second, choice_steal, last_of}
-use Rattle.batcher_core.specs.Code.Abstraction.{Sizes, state_of}
 use Rattle.batcher_core.specs.Code.Job.{HasLeaf, LeafIn, TaskIn}
+use Rattle.batcher_core.specs.Code.Sizes.{Sizes}
 use Rattle.batcher_core.specs.Invariant.Statuses.{is_taken_by}
 use Rattle.batcher_core.specs.Operations.{IsLeaf}
+use Rattle.batcher_core.specs.WorkDue.{work_due}
 use Rattle.batcher_core.specs.declared.event.Event.{Event}
 use Rattle.batcher_core.specs.declared.event.Event.TheVariants.{Claim}
 use Rattle.batcher_core.specs.declared.job.CoreJob.{CoreJob as StoredJob}
 use Rattle.batcher_core.specs.declared.state.State.{State as StoredState}
-use Rattle.batcher_core.specs.declared.state.task.Task.{Task}
-use Rattle.batcher_core.specs.declared.state.task.Task.TheVariants.{Ended, Half, Handed, Idle, Kept, Run, Started, Whole}
+use Rattle.batcher_core.specs.declared.state.task.Task.TheVariants.{Started}
 use Rattle.seq_objects.specs.Pairs.{AreDistinct}
 use Rattle.seq_objects.specs.Spin.{spin_of}
-use Rattle.seq_objects.specs.declared.act.Act.{Act}
-use Rattle.seq_objects.specs.declared.act.Act.TheVariants.{Call, Work}
 use Rattle.sp_order.specs.Plans.{Nodes}
 use Rattle.sp_order.specs.Preorder.{nodes_of}
-use Rattle.sp_order.specs.declared.node.Kind.{Kind}
-use Rattle.sp_order.specs.declared.node.Kind.TheVariants.{LeafNode, ParNode, SeqNode}
 use Rattle.sp_order.specs.declared.node.Move.{Move}
 use Rattle.sp_order.specs.declared.node.Move.TheVariants.{Arrive as ArriveAt, FinishParent, OpenSecond, Root}
-use Rattle.std.specs.Prelude.{List, None, Option, Some, [], length, map, slice_index_or, true, ℕ, ◌+◌, ◌-◌, ◌<◌, ◌^◌, ◌∷◌, ◌≡◌, ◌≤◌}
+use Rattle.std.specs.Prelude.{List, None, Option, Some, [], length, map, true, ℕ, ◌+◌, ◌-◌, ◌<◌, ◌^◌, ◌∷◌, ◌≡◌, ◌≤◌}
 
--- and so is the parent that a move names
+-- the parent that a move names is below this number
 abbrev pub MoveIn : ℕ → Move → Type 0
 MoveIn nodes Root = Unit {0}
 MoveIn nodes (OpenSecond p) = p < nodes
@@ -56,28 +53,6 @@ whole_choice plan mark Root n = None
 whole_choice plan mark (OpenSecond p) n = choice_second (plan.kind p) p
 whole_choice plan mark (FinishParent p) n = choice_parent (plan.kind p) p
 whole_choice plan mark (ArriveAt p) n = choice_arrive (plan.kind p) p (mark p) n
-
--- how many steps of work an act is
-abbrev pub steps_of : Act → Option ℕ
-steps_of (Work steps) = Some steps
-steps_of (Call op) = None
-
-abbrev pub steps_at : List Act → Option Kind → Option ℕ
-steps_at acts None = None
-steps_at acts (Some (LeafNode u)) = steps_of (slice_index_or acts u (Work 0))
-steps_at acts (Some (SeqNode l r)) = None
-steps_at acts (Some (ParNode l r)) = None
-
--- how many steps of work the leaf has that a worker with this task has started
-abbrev pub work_due : Nodes → List Act → Task → Option ℕ
-work_due plan acts Idle = None
-work_due plan acts (Run n) = None
-work_due plan acts (Half n) = None
-work_due plan acts (Started n s) = steps_at acts (plan.kind n)
-work_due plan acts (Kept n s) = None
-work_due plan acts (Ended n s e) = None
-work_due plan acts (Whole n) = None
-work_due plan acts (Handed n) = None
 
 -- the value is that of the work that is due of the worker, if some is due
 abbrev pub IsWorkOf : StoredJob → StoredState → ℕ → Option ℕ → Type 0

@@ -1,7 +1,8 @@
 //! What the events of the gate write: post, win, take, answer, release and leave.
 ghost use Rattle.std.specs.Prelude.{◌≡◌, ◌<◌, length, None, Some, IfSome, IsSome, if◌then◌else◌};
 ghost use Rattle.batcher_core.specs.State.{put};
-ghost use Rattle.batcher_core.specs.Code.Abstraction.{state_of, ready_of, SameSizes};
+ghost use Rattle.batcher_core.specs.Abstraction.{state_of, ready_of};
+ghost use Rattle.batcher_core.specs.Code.Sizes.{SameSizes};
 ghost use Rattle.batcher_core.specs.Events.{is_pending as status_pending, new_hold, looked as hold_looked, answered as hold_answered};
 ghost use Rattle.batcher_core.specs.declared.state.status.Status.TheVariants.{Free, Pending, Executing, Served};
 ghost use Rattle.batcher_core.specs.declared.state.status.CallState.TheVariants.{Out, Got};
@@ -32,7 +33,7 @@ fn status_after_look(status: Status) -> Status
 
 impl State {
     /// The worker posts the call of the leaf that it has started.
-    #[tactic(auto, using(crate::proofs::CodeLemmas::Written::at_written), unfolding(crate::specs::Code::Abstraction::state_of, crate::specs::Code::Abstraction::ready_of))]
+    #[tactic(auto, using(crate::proofs::CodeLemmas::Written::at_written), unfolding(crate::specs::Abstraction::state_of, crate::specs::Abstraction::ready_of))]
     pub(crate) fn post(&mut self, worker: u32)
         requires status_in { worker < length self.old.statuses.items }
         requires call_in { worker < length self.old.calls.items }
@@ -48,7 +49,7 @@ impl State {
     }
 
     /// The worker wins the flag.
-    #[tactic(auto, unfolding(crate::specs::Code::Abstraction::state_of, crate::specs::Code::Abstraction::ready_of))]
+    #[tactic(auto, unfolding(crate::specs::Abstraction::state_of, crate::specs::Abstraction::ready_of))]
     pub(crate) fn win(&mut self, worker: u32)
         ensures sizes { SameSizes self.old self.new }
         ensures event { state_of self.new ≡ record (state_of self.old) { hold = Some (new_hold worker) } }
@@ -58,7 +59,7 @@ impl State {
     }
 
     /// The holder of the flag looks at the worker `other`, and takes its call if that is pending.
-    #[tactic(auto, using(crate::proofs::CodeLemmas::Written::at_written), unfolding(crate::specs::Code::Abstraction::state_of, crate::specs::Code::Abstraction::ready_of))]
+    #[tactic(auto, using(crate::proofs::CodeLemmas::Written::at_written), unfolding(crate::specs::Abstraction::state_of, crate::specs::Abstraction::ready_of))]
     pub(crate) fn take(&mut self, other: u32)
         requires status_in { other < length self.old.statuses.items }
         requires other_in { other < 32 }
@@ -81,7 +82,7 @@ impl State {
     }
 
     /// The worker `other` gets its receipt.
-    #[tactic(auto, using(crate::proofs::CodeLemmas::Written::at_written), unfolding(crate::specs::Code::Abstraction::state_of, crate::specs::Code::Abstraction::ready_of))]
+    #[tactic(auto, using(crate::proofs::CodeLemmas::Written::at_written), unfolding(crate::specs::Abstraction::state_of, crate::specs::Abstraction::ready_of))]
     pub(crate) fn answer(&mut self, other: u32, receipt: Receipt)
         requires status_in { other < length self.old.statuses.items }
         requires other_in { other < 32 }
@@ -101,7 +102,7 @@ impl State {
     }
 
     /// The flag is released.
-    #[tactic(auto, unfolding(crate::specs::Code::Abstraction::state_of, crate::specs::Code::Abstraction::ready_of))]
+    #[tactic(auto, unfolding(crate::specs::Abstraction::state_of, crate::specs::Abstraction::ready_of))]
     pub(crate) fn release(&mut self)
         ensures sizes { SameSizes self.old self.new }
         ensures event { state_of self.new ≡ record (state_of self.old) { hold = None } }
@@ -111,7 +112,7 @@ impl State {
     }
 
     /// The worker leaves its call with its receipt.
-    #[tactic(auto, using(crate::proofs::CodeLemmas::Written::at_written), unfolding(crate::specs::Code::Abstraction::state_of, crate::specs::Code::Abstraction::ready_of))]
+    #[tactic(auto, using(crate::proofs::CodeLemmas::Written::at_written), unfolding(crate::specs::Abstraction::state_of, crate::specs::Abstraction::ready_of))]
     pub(crate) fn leave(&mut self, worker: u32, receipt: Receipt)
         requires status_in { worker < length self.old.statuses.items }
         requires call_in { worker < length self.old.calls.items }

@@ -1,12 +1,13 @@
 //! What the events of leaves and blocks write: claim, start, open, keep, end, finish and arrive.
 ghost use Rattle.std.specs.Prelude.{◌≡◌, ◌<◌, ◌+◌, ◌^◌, length, Some, ◌++◌, ◌∷◌, [], ℕ, IfOk};
 ghost use Rattle.batcher_core.specs.State.{put};
-ghost use Rattle.batcher_core.specs.Code.Abstraction.{state_of, ready_of, SameSizes};
+ghost use Rattle.batcher_core.specs.Abstraction.{state_of, ready_of};
+ghost use Rattle.batcher_core.specs.Code.Sizes.{SameSizes};
 ghost use Rattle.batcher_core.specs.Events.{task_after as next_task};
 ghost use Rattle.batcher_core.specs.declared.state.progress.Progress.TheVariants.{Done, Ran, Ready, Taken};
 ghost use Rattle.batcher_core.specs.declared.state.task.Task.TheVariants.{Started, Kept, Ended, Run};
 ghost use Rattle.batcher_core.specs.declared.state.status.CallState.TheVariants.{NotCalled};
-ghost use Rattle.batcher_core.specs.Code.Places.{IsAtEnd};
+ghost use Rattle.batcher_core.specs.Code.ReadyLists.{IsAtEnd};
 ghost use Rattle.batcher_core.specs.Lists.{without};
 
 use crate::state::State;
@@ -28,7 +29,7 @@ fn task_after(node: u32) -> Task
 
 impl State {
     /// The worker takes a ready node, which stands at an end of a list.
-    #[tactic(auto, using(crate::proofs::CodeLemmas::Written::at_written), unfolding(crate::specs::Code::Abstraction::state_of, crate::specs::Code::Abstraction::ready_of))]
+    #[tactic(auto, using(crate::proofs::CodeLemmas::Written::at_written), unfolding(crate::specs::Abstraction::state_of, crate::specs::Abstraction::ready_of))]
     pub(crate) fn claim(&mut self, worker: u32, node: u32)
         requires worker_in { worker < length self.old.tasks.items }
         requires node_in { node < length self.old.nodes.items }
@@ -46,7 +47,7 @@ impl State {
     }
 
     /// The worker makes a node ready, and has the task `then` after it.
-    #[tactic(auto, using(crate::proofs::CodeLemmas::Written::at_written), unfolding(crate::specs::Code::Abstraction::state_of, crate::specs::Code::Abstraction::ready_of))]
+    #[tactic(auto, using(crate::proofs::CodeLemmas::Written::at_written), unfolding(crate::specs::Abstraction::state_of, crate::specs::Abstraction::ready_of))]
     pub(crate) fn open(&mut self, worker: u32, node: u32, then: Task) -> Result<(), AllocError>
         requires worker_in { worker < length self.old.tasks.items }
         requires node_in { node < length self.old.nodes.items }
@@ -66,7 +67,7 @@ impl State {
     }
 
     /// The worker starts a leaf.
-    #[tactic(auto, using(crate::proofs::CodeLemmas::Written::at_written), unfolding(crate::specs::Code::Abstraction::state_of, crate::specs::Code::Abstraction::ready_of))]
+    #[tactic(auto, using(crate::proofs::CodeLemmas::Written::at_written), unfolding(crate::specs::Abstraction::state_of, crate::specs::Abstraction::ready_of))]
     pub(crate) fn start(&mut self, worker: u32, node: u32)
         requires worker_in { worker < length self.old.tasks.items }
         requires room { self.old.tick + 1 < 2 ^ 64 }
@@ -85,7 +86,7 @@ impl State {
     }
 
     /// The worker keeps the value of the leaf that it has started.
-    #[tactic(auto, using(crate::proofs::CodeLemmas::Written::at_written), unfolding(crate::specs::Code::Abstraction::state_of, crate::specs::Code::Abstraction::ready_of))]
+    #[tactic(auto, using(crate::proofs::CodeLemmas::Written::at_written), unfolding(crate::specs::Abstraction::state_of, crate::specs::Abstraction::ready_of))]
     pub(crate) fn keep(&mut self, worker: u32, node: u32, start: u64, value: u64)
         requires worker_in { worker < length self.old.tasks.items }
         requires call_in { worker < length self.old.calls.items }
@@ -104,7 +105,7 @@ impl State {
     }
 
     /// The worker ends the leaf whose value it has kept.
-    #[tactic(auto, using(crate::proofs::CodeLemmas::Written::at_written), unfolding(crate::specs::Code::Abstraction::state_of, crate::specs::Code::Abstraction::ready_of))]
+    #[tactic(auto, using(crate::proofs::CodeLemmas::Written::at_written), unfolding(crate::specs::Abstraction::state_of, crate::specs::Abstraction::ready_of))]
     pub(crate) fn end(&mut self, worker: u32, node: u32, start: u64)
         requires worker_in { worker < length self.old.tasks.items }
         requires room { self.old.tick + 1 < 2 ^ 64 }
@@ -124,7 +125,7 @@ impl State {
     }
 
     /// The leaf that the worker has ended is done.
-    #[tactic(auto, using(crate::proofs::CodeLemmas::Written::at_written), unfolding(crate::specs::Code::Abstraction::state_of, crate::specs::Code::Abstraction::ready_of))]
+    #[tactic(auto, using(crate::proofs::CodeLemmas::Written::at_written), unfolding(crate::specs::Abstraction::state_of, crate::specs::Abstraction::ready_of))]
     pub(crate) fn finish_leaf(&mut self, worker: u32, node: u32, start: u64, end: u64)
         requires worker_in { worker < length self.old.tasks.items }
         requires node_in { node < length self.old.nodes.items }
@@ -140,7 +141,7 @@ impl State {
     }
 
     /// A block is done.
-    #[tactic(auto, using(crate::proofs::CodeLemmas::Written::at_written), unfolding(crate::specs::Code::Abstraction::state_of, crate::specs::Code::Abstraction::ready_of))]
+    #[tactic(auto, using(crate::proofs::CodeLemmas::Written::at_written), unfolding(crate::specs::Abstraction::state_of, crate::specs::Abstraction::ready_of))]
     pub(crate) fn finish_block(&mut self, worker: u32, node: u32)
         requires worker_in { worker < length self.old.tasks.items }
         requires node_in { node < length self.old.nodes.items }
@@ -157,7 +158,7 @@ impl State {
 
     /// A side of a parallel block arrives. `mark` is the number of sides that have arrived then, and `then` the
     /// worker's next task.
-    #[tactic(auto, using(crate::proofs::CodeLemmas::Written::at_written), unfolding(crate::specs::Code::Abstraction::state_of, crate::specs::Code::Abstraction::ready_of))]
+    #[tactic(auto, using(crate::proofs::CodeLemmas::Written::at_written), unfolding(crate::specs::Abstraction::state_of, crate::specs::Abstraction::ready_of))]
     pub(crate) fn arrive(&mut self, worker: u32, node: u32, mark: u32, then: Task)
         requires worker_in { worker < length self.old.tasks.items }
         requires node_in { node < length self.old.marks.items }

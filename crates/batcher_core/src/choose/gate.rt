@@ -7,7 +7,7 @@ ghost use Rattle.batcher_core.specs.Code.Job.{job_of, HasLeaf};
 ghost use Rattle.batcher_core.specs.Operations.{place_of};
 ghost use Rattle.batcher_core.specs.Tasks.{names};
 ghost use Rattle.batcher_core.specs.Choice.{leaf_named as leaf_at, answer_with, choice_pending, choice_holding};
-ghost use Rattle.batcher_core.specs.Code.Abstraction.{state_of, hold_of, hold_view};
+ghost use Rattle.batcher_core.specs.Abstraction.{state_of, hold_of, hold_view};
 ghost use Rattle.batcher_core.specs.Code.Lookups.{CanChoose};
 
 use crate::choose::receipt::receipt_of;
@@ -18,7 +18,7 @@ use crate::state::hold::Hold;
 
 impl State {
     /// The event of a worker whose call is pending: it wins the flag, if that is free.
-    #[tactic(auto, unfolding(crate::specs::Code::Abstraction::state_of))]
+    #[tactic(auto, unfolding(crate::specs::Abstraction::state_of))]
     pub(crate) fn choose_pending(&self) -> Option<Event>
         ensures { result ≡ choice_pending (state_of self.now).hold }
     {
@@ -29,7 +29,7 @@ impl State {
     }
 
     /// The event that answers a worker: it gets the receipt of its leaf's entry in the book.
-    #[tactic(auto, unfolding(crate::specs::Code::Abstraction::state_of))]
+    #[tactic(auto, unfolding(crate::specs::Abstraction::state_of))]
     fn choose_answer(&self, job: &CoreJob, other: u32) -> Option<Event>
         requires looks { CanChoose job.now self.now }
         requires other_in { other < job.now.workers }
@@ -48,7 +48,7 @@ impl State {
 
     /// The event of the worker that holds the flag: it looks at the workers one after another, publishes if it has
     /// taken a call, answers the workers whose calls it has taken, and releases the flag.
-    #[tactic(auto, unfolding(crate::specs::Code::Abstraction::state_of))]
+    #[tactic(auto, unfolding(crate::specs::Abstraction::state_of))]
     pub(crate) fn choose_holding(&self, job: &CoreJob, hold: Hold) -> Option<Event>
         requires looks { CanChoose job.now self.now }
         requires held { self.now.hold ≡ Some hold }

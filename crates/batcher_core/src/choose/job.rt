@@ -2,8 +2,9 @@
 ghost use Rattle.std.specs.Prelude.{◌≡◌, ◌<◌, ◌≤◌, ℕ, length, None, Some};
 ghost use Rattle.sp_order.specs.Preorder.{nodes_of};
 ghost use Rattle.batcher_core.specs.Choice.{choice_run, choice_half, choice_started, choice_second, choice_parent, choice_arrive, choice_handed};
-ghost use Rattle.batcher_core.specs.Code.Abstraction.{state_of, ready_of};
-ghost use Rattle.batcher_core.specs.Code.Lookups.{CanChoose, MoveIn, claim_choice, whole_choice, work_due, steps_of as act_steps};
+ghost use Rattle.batcher_core.specs.Abstraction.{state_of, ready_of};
+ghost use Rattle.batcher_core.specs.Code.Lookups.{CanChoose, MoveIn, claim_choice, whole_choice};
+ghost use Rattle.batcher_core.specs.WorkDue.{work_due, steps_of as act_steps};
 ghost use Rattle.seq_objects.specs.Spin.{spin_of};
 
 use crate::event::Event;
@@ -157,7 +158,7 @@ impl State {
     /// The event of a worker without a task: it claims the newest node of its own list or, where that is empty, the
     /// oldest of the next list that has a node, in the order of the workers' numbers. Where no list has a node it looks
     /// at none of them; else it looks at each list at most once.
-    #[tactic(auto, unfolding(crate::specs::Code::Abstraction::ready_of))]
+    #[tactic(auto, unfolding(crate::specs::Abstraction::ready_of))]
     pub(crate) fn choose_claim(&self, workers: u32, worker: u32) -> Option<Event>
         requires worker_in { worker < workers }
         requires few { workers ≤ 32 }
@@ -179,7 +180,7 @@ impl State {
     }
 
     /// The event of a worker whose node is done, by the move that the plan has after that node.
-    #[tactic(auto, unfolding(crate::specs::Code::Abstraction::state_of))]
+    #[tactic(auto, unfolding(crate::specs::Abstraction::state_of))]
     pub(crate) fn choose_whole(&self, job: &CoreJob, node: u32) -> Option<Event>
         requires node_in { node < (nodes_of job.now.plan).count }
         requires marks_in { length self.now.marks.items ≡ (nodes_of job.now.plan).count }
@@ -202,7 +203,7 @@ impl State {
     }
 
     /// The number of steps of the leaf that the worker has started, if it has started one that works.
-    #[tactic(auto, unfolding(crate::specs::Code::Abstraction::state_of))]
+    #[tactic(auto, unfolding(crate::specs::Abstraction::state_of))]
     pub(crate) fn work_due(&self, job: &CoreJob, worker: u32) -> Option<u32>
         requires looks { CanChoose job.now self.now }
         requires worker_in { worker < job.now.workers }

@@ -3,8 +3,8 @@ ghost use Rattle.std.specs.Prelude.{◌≡◌, ◌<◌, ◌≤◌, Some, true, f
 ghost use Rattle.batcher_core.specs.State.{put};
 ghost use Rattle.batcher_core.specs.Events.{new_hold, looked as hold_looked, published as hold_published, answered as hold_answered};
 ghost use Rattle.batcher_core.specs.Choice.{some_below, least_below, is_owed};
-ghost use Rattle.batcher_core.specs.Code.Places.{at};
-ghost use Rattle.batcher_core.specs.Code.Abstraction.{hold_view};
+ghost use Rattle.batcher_core.specs.Places.{at};
+ghost use Rattle.batcher_core.specs.Abstraction.{hold_view};
 
 /// The hold of the worker that has the flag: how far it has come with its batch. `taken` and `answered` have an item
 /// for each worker.

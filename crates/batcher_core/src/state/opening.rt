@@ -1,8 +1,9 @@
 //! The opening state.
 ghost use Rattle.std.specs.Prelude.{◌≡◌, ◌<◌, ℕ, length, IfOk, replicate};
 ghost use Rattle.batcher_core.specs.State.{opening_state, opening_core};
-ghost use Rattle.batcher_core.specs.Code.Places.{at};
-ghost use Rattle.batcher_core.specs.Code.Abstraction.{state_of, ready_of, Sizes};
+ghost use Rattle.batcher_core.specs.Places.{at};
+ghost use Rattle.batcher_core.specs.Abstraction.{state_of, ready_of};
+ghost use Rattle.batcher_core.specs.Code.Sizes.{Sizes};
 ghost use Rattle.batcher_core.specs.declared.state.progress.Progress.TheVariants.{Waiting};
 
 use crate::state::State;

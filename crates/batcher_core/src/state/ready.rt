@@ -2,7 +2,8 @@
 ghost use Rattle.std.specs.Prelude.{◌≡◌, ◌<◌, ◌≤◌, ◌-◌, ℕ, [], ◌∷◌, ◌++◌, length, take, drop, replicate, IfOk, IfErr, OnOk, OnErr, IsTrue, ◌↔◌};
 ghost use Rattle.batcher_core.specs.State.{put, opening_core};
 ghost use Rattle.batcher_core.specs.Lists.{without};
-ghost use Rattle.batcher_core.specs.Code.Places.{at, one_if_non_empty as count_of, IsNewest, IsOldest, IsAtEnd};
+ghost use Rattle.batcher_core.specs.Places.{at};
+ghost use Rattle.batcher_core.specs.Code.ReadyLists.{one_if_non_empty as count_of, IsNewest, IsOldest, IsAtEnd};
 
 use std::alloc::{AllocError, Global};
 use std::marker::Model;
@@ -136,7 +137,7 @@ pub(crate) struct ReadyLists {
 
 impl Model for ReadyLists {
     ghost use Rattle.std.specs.Prelude.{ℕ, List, ◌≡◌};
-    ghost use Rattle.batcher_core.specs.Code.Places.{non_empty_in};
+    ghost use Rattle.batcher_core.specs.Code.ReadyLists.{non_empty_in};
 
     ghost Value = { List (List ℕ) };
 

@@ -1,6 +1,6 @@
 use Rattle.std.proofs.Common.{◌+◌, sym, ◌∙◌}
 use Rattle.std.proofs.lemmas.Nat.{mod_below}
-use Rattle.batcher_core.specs.Code.Core.{state_in}
+use Rattle.batcher_core.specs.Cores.{state_in}
 use Rattle.batcher_core.specs.Runs.{over}
 use Rattle.batcher_core.proofs.ReportLemmas.Reporting.{over_is}
 use Rattle.batcher_core.proofs.RunLemmas.Taken.{same_since, robin_before}

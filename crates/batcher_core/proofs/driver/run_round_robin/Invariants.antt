@@ -1,7 +1,7 @@
 use Rattle.std.proofs.Common.{◌≡◌, ◌<◌, false, []}
 use Rattle.batcher_core.specs.State.{CoreState}
 use Rattle.batcher_core.specs.Runs.{Drives}
-use Rattle.batcher_core.specs.Code.Core.{job_in, state_in}
+use Rattle.batcher_core.specs.Cores.{job_in, state_in}
 use Rattle.batcher_core.proofs.RunLemmas.Taken.{SameJob}
 use Rattle.batcher_core.proofs.RunLemmas.Rounds.{turns_left}
 use Rattle.batcher_core.proofs.driver.run_round_robin.Given as goal

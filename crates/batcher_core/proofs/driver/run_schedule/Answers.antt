@@ -1,5 +1,5 @@
 use Rattle.std.proofs.Common.{[], drop, sym, ◌∙◌}
-use Rattle.batcher_core.specs.Code.Core.{job_in, state_in}
+use Rattle.batcher_core.specs.Cores.{job_in, state_in}
 use Rattle.batcher_core.proofs.ReportLemmas.Reporting.{over_is}
 use Rattle.batcher_core.proofs.RunLemmas.Taken.{same_since, over_before, scheduled_before}
 use Rattle.batcher_core.proofs.driver.run_schedule.Goals as goal

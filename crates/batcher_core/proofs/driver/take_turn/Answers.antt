@@ -1,6 +1,6 @@
 use Rattle.std.proofs.Common.{◌≡◌, subst}
 use Rattle.batcher_core.specs.declared.turn.Turn.{Turn}
-use Rattle.batcher_core.specs.Code.Core.{job_in, state_in, IsTurnResult}
+use Rattle.batcher_core.specs.Cores.{job_in, state_in, IsTurnResult}
 use Rattle.batcher_core.proofs.RunLemmas.Taken.{spun_turn}
 use Rattle.batcher_core.proofs.driver.take_turn.Goals as goal
 

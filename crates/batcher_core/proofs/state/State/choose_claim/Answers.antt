@@ -1,6 +1,6 @@
 use Rattle.std.proofs.Common.{refl, sym, ◌∙◌, ap, arith}
 use Rattle.std.specs.Option.{option_copied}
-use Rattle.batcher_core.specs.Code.Abstraction.{ready_of}
+use Rattle.batcher_core.specs.Abstraction.{ready_of}
 use Rattle.batcher_core.proofs.ChoiceLemmas.Steals.{newest_claim, no_newest, found, passed, nothing}
 use Rattle.batcher_core.proofs.CodeLemmas.NonEmpty.{none_to_claim}
 use Rattle.batcher_core.proofs.state.State.choose_claim.Goals as goal

@@ -1,6 +1,6 @@
 use Rattle.std.proofs.Common.{◌≡◌, ◌-◌, ◌+◌, []}
 use Rattle.batcher_core.specs.Choice.{choice_steal}
-use Rattle.batcher_core.specs.Code.Abstraction.{ready_of}
+use Rattle.batcher_core.specs.Abstraction.{ready_of}
 use Rattle.batcher_core.proofs.state.State.choose_claim.Given as goal
 
 abbrev pub invariant-loop-k : goal.invariant-loop-k

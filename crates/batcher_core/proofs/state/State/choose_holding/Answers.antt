@@ -1,6 +1,6 @@
 use Rattle.std.proofs.Common.{sym, ◌∙◌}
 use Rattle.batcher_core.specs.Choice.{is_owed}
-use Rattle.batcher_core.specs.Code.Abstraction.{hold_view, state_of}
+use Rattle.batcher_core.specs.Abstraction.{hold_view, state_of}
 use Rattle.batcher_core.proofs.ChoiceLemmas.Search.{least_is_chosen}
 use Rattle.batcher_core.proofs.ChoiceLemmas.Searches.{least_in}
 use Rattle.batcher_core.proofs.state.State.choose_holding.Goals as goal

@@ -1,6 +1,6 @@
 use Rattle.std.proofs.Common.{refl}
 use Rattle.batcher_core.specs.State.{opening_state}
-use Rattle.batcher_core.specs.Code.Abstraction.{state_of, ready_of}
+use Rattle.batcher_core.specs.Abstraction.{state_of, ready_of}
 use Rattle.batcher_core.proofs.CodeLemmas.Copies.{copied}
 use Rattle.batcher_core.proofs.state.State.opening.Goals as goal
 

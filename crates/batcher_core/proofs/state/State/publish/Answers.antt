@@ -1,5 +1,5 @@
 use Rattle.std.proofs.Common.{refl}
-use Rattle.batcher_core.specs.Code.Abstraction.{state_of, ready_of}
+use Rattle.batcher_core.specs.Abstraction.{state_of, ready_of}
 use Rattle.batcher_core.proofs.CodeLemmas.CoreFits.{looks}
 use Rattle.batcher_core.proofs.BookLemmas.Room.{counter_grows}
 use Rattle.batcher_core.proofs.BatchLemmas.Publishing.{at_call, room, taken_owed, is_batch, is_history, no_hold}

@@ -1,6 +1,6 @@
 use Rattle.std.proofs.Common.{refl, sym, ◌∙◌}
 use Rattle.batcher_core.specs.Choice.{some_below}
-use Rattle.batcher_core.specs.Code.Abstraction.{hold_view}
+use Rattle.batcher_core.specs.Abstraction.{hold_view}
 use Rattle.batcher_core.proofs.ChoiceLemmas.Searches.{some_here, some_passed}
 use Rattle.batcher_core.proofs.state.hold.Hold.has_taken.Goals as goal
 

@@ -1,6 +1,6 @@
 use Rattle.std.proofs.Common.{◌≡◌, false}
 use Rattle.batcher_core.specs.Choice.{some_below}
-use Rattle.batcher_core.specs.Code.Places.{at}
+use Rattle.batcher_core.specs.Places.{at}
 use Rattle.batcher_core.proofs.state.hold.Hold.has_taken.Given as goal
 
 abbrev pub invariant-loop-worker : goal.invariant-loop-worker

@@ -1,6 +1,6 @@
 use Rattle.std.proofs.Common.{[], ◌∙◌, ◌<◌, length, arith}
 use Rattle.std.proofs.lemmas.List.{length-set}
-use Rattle.batcher_core.specs.Code.Places.{at}
+use Rattle.batcher_core.specs.Places.{at}
 use Rattle.batcher_core.proofs.ChoiceLemmas.Ends.{dropped_before, dropped_after, dropped_all}
 use Rattle.batcher_core.proofs.CodeLemmas.NonEmpty.{counted, recounted, recounted_at_most}
 use Rattle.batcher_core.proofs.state.ready.ReadyLists.remove.Goals as goal

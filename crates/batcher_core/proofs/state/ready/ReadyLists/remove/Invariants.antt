@@ -1,6 +1,7 @@
 use Rattle.std.proofs.Common.{ℕ, ◌≡◌, ◌<◌, ◌≤◌, [], length}
 use Rattle.batcher_core.specs.Lists.{without}
-use Rattle.batcher_core.specs.Code.Places.{at, non_empty_in}
+use Rattle.batcher_core.specs.Places.{at}
+use Rattle.batcher_core.specs.Code.ReadyLists.{non_empty_in}
 use Rattle.batcher_core.proofs.state.ready.ReadyLists.remove.Given as goal
 
 abbrev pub invariant-loop-worker : goal.invariant-loop-worker

@@ -1,11 +1,8 @@
--- Lists as functions of their places, and the ends of the lists of ready nodes.
+-- How many lists of ready nodes are not empty, and at which end of one a number stands.
 use Rattle.batcher_core.specs.Lists.{times}
 use Rattle.batcher_core.specs.Measure.{total}
+use Rattle.batcher_core.specs.Places.{at}
 use Rattle.std.specs.Prelude.{List, [], get_or, length, ℕ, ◌-◌, ◌<◌, ◌∷◌, ◌≡◌, ◌≢◌, ◌≤◌, ◌⊎◌}
-
--- a list as a function of places, with a value beyond its end
-abbrev pub at : {A : Type 0} → List A → A → ℕ → A
-at xs d n = get_or xs n d
 
 -- 1 for a list that has a number, and 0 for the empty one
 abbrev pub one_if_non_empty : List ℕ → ℕ

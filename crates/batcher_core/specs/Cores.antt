@@ -1,23 +1,18 @@
--- What contracts see of a core, what its table keeps to, and what its turns answer.
+-- What callers see of a core: its job, its state, what is due, when it is over, and what its turns answer.
+use Rattle.batcher_core.specs.Abstraction.{core_state_of, state_of}
 use Rattle.batcher_core.specs.Choice.{choice}
-use Rattle.batcher_core.specs.Code.Abstraction.{CounterFits, Sizes, core_state_of, state_of}
-use Rattle.batcher_core.specs.Code.Job.{LeafIn}
-use Rattle.batcher_core.specs.Code.Lookups.{work_due}
-use Rattle.batcher_core.specs.Invariant.{Invariant}
-use Rattle.batcher_core.specs.Operations.{IsCall}
 use Rattle.batcher_core.specs.Runs.{IsStep}
 use Rattle.batcher_core.specs.State.{CoreJob, CoreState, core_job}
 use Rattle.batcher_core.specs.Tasks.{is_done}
+use Rattle.batcher_core.specs.WorkDue.{work_due}
 use Rattle.batcher_core.specs.declared.event.Event.{Event}
-use Rattle.batcher_core.specs.declared.job.CoreJob.{CoreJob as StoredJob}
 use Rattle.batcher_core.specs.declared.state.State.{State as StoredState}
 use Rattle.batcher_core.specs.declared.turn.Turn.{Turn}
 use Rattle.batcher_core.specs.declared.turn.Turn.TheVariants.{Idle, Moved, Spin}
 use Rattle.seq_objects.specs.declared.act.Act.{Act}
-use Rattle.sp_order.specs.Plans.{IsPlan}
-use Rattle.sp_order.specs.Precedence.{Tree, leaves}
+use Rattle.sp_order.specs.Precedence.{Tree}
 use Rattle.sp_order.specs.Preorder.{nodes_of}
-use Rattle.std.specs.Prelude.{Bool, List, None, Option, Some, length, not, ℕ, ◌&&◌, ◌<◌, ◌≡◌, ◌≤◌}
+use Rattle.std.specs.Prelude.{Bool, List, None, Option, Some, not, ℕ, ◌&&◌, ◌≡◌}
 
 -- what contracts see of a core
 pub record CoreView : Type 0 where
@@ -41,24 +36,6 @@ due_in c w = work_due (nodes_of c.tree) c.acts ((state_of c.table).task w)
 -- the root is done, and memory has not failed
 abbrev pub is_over_in : CoreView → Bool
 is_over_in c = not c.spent && is_done ((state_of c.table).node 0)
-
--- what the table of a core keeps to that is not spent
-pub record RepInvariant (tree : Tree) (acts : List Act) (workers : ℕ) (t : StoredState) : Type 0 where
-  pub some : 0 < workers
-  pub few : workers ≤ 32
-  pub laws : IsPlan (nodes_of tree)
-  pub most : (nodes_of tree).count < 40000
-  pub leaves : leaves tree ≡ length acts
-  pub leaves_in : (n : ℕ) → LeafIn (length acts) ((nodes_of tree).kind n)
-  -- a leaf that calls has a number below the nodes'
-  pub calls_in : (leaf : ℕ) → IsCall (core_job tree acts workers) leaf → leaf < (nodes_of tree).count
-  pub sizes : Sizes t (nodes_of tree).count workers
-  pub counter : CounterFits t
-  pub inv : Invariant (core_job tree acts workers) (core_state_of t)
-
--- and the same of a job as the code has it
-abbrev pub Represents : StoredJob → StoredState → Type 0
-Represents job t = RepInvariant job.plan job.acts.items job.workers t
 
 abbrev pub moved_if : Option Event → Turn
 moved_if None = Idle

@@ -1,0 +1,40 @@
+-- The state of the rules that the stored parts of a core stand for.
+use Rattle.batcher_core.specs.Places.{at}
+use Rattle.batcher_core.specs.State.{CoreState, Hold, State}
+use Rattle.batcher_core.specs.declared.state.State.{State as StoredState}
+use Rattle.batcher_core.specs.declared.state.hold.Hold.{Hold as StoredHold}
+use Rattle.batcher_core.specs.declared.state.progress.Progress.TheVariants.{Waiting}
+use Rattle.batcher_core.specs.declared.state.status.CallState.TheVariants.{NotCalled}
+use Rattle.batcher_core.specs.declared.state.status.Status.TheVariants.{Free}
+use Rattle.batcher_core.specs.declared.state.task.Task.TheVariants.{Idle}
+use Rattle.std.specs.Prelude.{List, None, Option, Some, [], false, ℕ}
+
+-- the hold that the parts of one show
+abbrev pub hold_view : StoredHold → Hold
+hold_view h = record { worker = h.worker; looks = h.looks; taken = at h.taken false; answered = at h.answered false; published = h.published }
+
+abbrev pub hold_of : Option StoredHold → Option Hold
+hold_of None = None
+hold_of (Some h) = Some (hold_view h)
+
+-- the state that a table shows
+unfoldable pub state_of : StoredState → State
+state_of t = record {
+  node = at t.nodes.items Waiting;
+  mark = at t.marks.items 0;
+  value = at t.values.items None;
+  task = at t.tasks.items Idle;
+  status = at t.statuses.items Free;
+  call = at t.calls.items NotCalled;
+  hold = hold_of t.hold;
+  tick = t.tick;
+  book = t.history;
+  objects = t.objects;
+}
+
+-- and the lists of ready nodes that it shows
+unfoldable pub ready_of : StoredState → ℕ → List ℕ
+ready_of t = at t.ready []
+
+abbrev pub core_state_of : StoredState → CoreState
+core_state_of t = record { state = state_of t; ready = ready_of t }

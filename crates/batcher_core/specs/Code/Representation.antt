@@ -1,0 +1,32 @@
+-- What the job and the table of a core keep to while memory has not failed.
+use Rattle.batcher_core.specs.Abstraction.{core_state_of}
+use Rattle.batcher_core.specs.Code.Job.{LeafIn}
+use Rattle.batcher_core.specs.Code.Sizes.{CounterFits, Sizes}
+use Rattle.batcher_core.specs.Invariant.{Invariant}
+use Rattle.batcher_core.specs.Operations.{IsCall}
+use Rattle.batcher_core.specs.State.{core_job}
+use Rattle.batcher_core.specs.declared.job.CoreJob.{CoreJob as StoredJob}
+use Rattle.batcher_core.specs.declared.state.State.{State as StoredState}
+use Rattle.seq_objects.specs.declared.act.Act.{Act}
+use Rattle.sp_order.specs.Plans.{IsPlan}
+use Rattle.sp_order.specs.Precedence.{Tree, leaves}
+use Rattle.sp_order.specs.Preorder.{nodes_of}
+use Rattle.std.specs.Prelude.{List, length, ℕ, ◌<◌, ◌≡◌, ◌≤◌}
+
+-- what the table of a core keeps to that is not spent
+pub record RepInvariant (tree : Tree) (acts : List Act) (workers : ℕ) (t : StoredState) : Type 0 where
+  pub some : 0 < workers
+  pub few : workers ≤ 32
+  pub laws : IsPlan (nodes_of tree)
+  pub most : (nodes_of tree).count < 40000
+  pub leaves : leaves tree ≡ length acts
+  pub leaves_in : (n : ℕ) → LeafIn (length acts) ((nodes_of tree).kind n)
+  -- a leaf that calls has a number below the nodes'
+  pub calls_in : (leaf : ℕ) → IsCall (core_job tree acts workers) leaf → leaf < (nodes_of tree).count
+  pub sizes : Sizes t (nodes_of tree).count workers
+  pub counter : CounterFits t
+  pub inv : Invariant (core_job tree acts workers) (core_state_of t)
+
+-- and the same of a job as the code has it
+abbrev pub Represents : StoredJob → StoredState → Type 0
+Represents job t = RepInvariant job.plan job.acts.items job.workers t

@@ -1,3 +1,4 @@
+-- Books, the reports that are lawful and their text, with what they take from seq_objects and sp_order.
 pub use Rattle.seq_objects.specs.Objects
 pub use Rattle.seq_objects.specs.BatchOrder
 pub use Rattle.seq_objects.specs.Spin

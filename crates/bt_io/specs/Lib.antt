@@ -1,3 +1,4 @@
+-- What shelves and sinks of bytes promise. `Code` is what only the code cites.
 pub mod Bytes
 pub mod Causes
 pub mod Memory

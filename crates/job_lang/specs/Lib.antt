@@ -1,3 +1,4 @@
+-- The job language, from the bytes of a text to the job that it stands for. `Code` is what only the code cites.
 pub mod Text
 pub mod Words
 pub mod Grammar

@@ -1,3 +1,4 @@
+-- Shapes, jobs, plans and the precedence of leaves, with what they take from seq_objects. `Code` is what only the code cites.
 pub use Rattle.seq_objects.specs.Objects
 pub mod Precedence
 pub mod Jobs

@@ -2,6 +2,7 @@
 pub mod ReadyLists
 pub mod Job
 pub mod Sizes
+pub mod Gate
 pub mod Lookups
 pub mod Batches
 pub mod Representation

@@ -4,6 +4,7 @@ ghost use Rattle.sp_order.specs.Preorder.{nodes_of};
 ghost use Rattle.batcher_core.specs.Code.Job.{job_of};
 ghost use Rattle.batcher_core.specs.Events.{Needs, Does};
 ghost use Rattle.batcher_core.specs.Ranges.{IsInRange};
+ghost use Rattle.batcher_core.specs.Code.Gate.{IsOfGate};
 ghost use Rattle.batcher_core.specs.Code.ReadyLists.{IsAtEnd};
 ghost use Rattle.batcher_core.specs.Abstraction.{state_of, ready_of};
 ghost use Rattle.batcher_core.specs.Code.Sizes.{SameSizes};
@@ -22,6 +23,41 @@ use crate::state::task::Task;
 use std::alloc::{AllocError, Global};
 
 impl State {
+    /// Does an event of a call or of the flag. After want of memory the state may be part of the way.
+    fn apply_to_gate(
+        &mut self,
+        alloc: Global,
+        job: &CoreJob,
+        worker: u32,
+        event: Event,
+    ) -> Result<(), AllocError>
+        requires kind { IsOfGate event }
+        requires fits { Represents job.now self.old }
+        requires worker_in { worker < job.now.workers }
+        requires in_range { IsInRange (nodes_of job.now.plan).count job.now.workers event }
+        requires needs { Needs (job_of job.now) (state_of self.old) worker event }
+        ensures sizes { IfOk result (λ _. SameSizes self.old self.new) }
+        ensures event { IfOk result
+            (λ _. Does (job_of job.now) (state_of self.old) worker event (state_of self.new)) }
+        ensures lists { IfOk result (λ _. ready_of self.new
+            ≡ ready_after worker event (ready_of self.old)) }
+    {
+        match event {
+            Event::Post { .. } => self.post(worker),
+            Event::Win => self.win(worker),
+            Event::Take(other) => self.take(other),
+            Event::Publish => self.publish(alloc, job, worker)?,
+            Event::Answer {
+                worker: other,
+                receipt,
+            } => self.answer(other, receipt),
+            Event::Release => self.release(),
+            Event::Leave(receipt) => self.leave(worker, receipt),
+            _ => unreachable!(),
+        }
+        Ok(())
+    }
+
     /// Does an event of a worker. After want of memory the state may be part of the way.
     pub(crate) fn apply(
         &mut self,
@@ -50,16 +86,6 @@ impl State {
             Event::OpenParLeft { left, .. } => self.open(worker, left, Task::Idle)?,
             Event::OpenSeqLeft { left, .. } => self.open(worker, left, Task::Idle)?,
             Event::OpenSeqRight { right, .. } => self.open(worker, right, Task::Idle)?,
-            Event::Post { .. } => self.post(worker),
-            Event::Win => self.win(worker),
-            Event::Take(other) => self.take(other),
-            Event::Publish => self.publish(alloc, job, worker)?,
-            Event::Answer {
-                worker: other,
-                receipt,
-            } => self.answer(other, receipt),
-            Event::Release => self.release(),
-            Event::Leave(receipt) => self.leave(worker, receipt),
             Event::Keep { node, start, value } => self.keep(worker, node, start, value),
             Event::End { node, start } => self.end(worker, node, start),
             Event::FinishLeaf { node, start, end } => self.finish_leaf(worker, node, start, end),
@@ -69,6 +95,7 @@ impl State {
             Event::ArriveSecond { parent, .. } => {
                 self.arrive(worker, parent, 2, Task::Handed(parent));
             }
+            _ => self.apply_to_gate(alloc, job, worker, event)?,
         }
         Ok(())
     }

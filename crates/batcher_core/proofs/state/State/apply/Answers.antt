@@ -1,17 +1,8 @@
-use Rattle.batcher_core.proofs.ChoiceLemmas.Allowed.{held_by_needs, room, take_room}
+use Rattle.batcher_core.proofs.ChoiceLemmas.Allowed.{room}
 use Rattle.batcher_core.proofs.state.State.apply.Goals as goal
 
 pub start-requires-clause-room : goal.start-requires-clause-room
 start-requires-clause-room c = room _ _ _ _ c.args.worker c.requires.fits
 
-pub take-requires-clause-room : goal.take-requires-clause-room
-take-requires-clause-room c = take_room _ _ _ _ c.args.worker c.requires.fits c.in-Take.other (rw c.in-Take.is at c.requires.needs)
-
 pub end-requires-clause-room : goal.end-requires-clause-room
 end-requires-clause-room c = room _ _ _ _ c.args.worker c.requires.fits
-
-pub take-requires-clause-held : goal.take-requires-clause-held
-take-requires-clause-held c = held_by_needs _ _ (rw c.in-Take.is at c.requires.needs).1.0
-
-pub answer-requires-clause-held : goal.answer-requires-clause-held
-answer-requires-clause-held c = held_by_needs _ _ (rw c.in-Answer.is at c.requires.needs).1.0

@@ -11,7 +11,13 @@ use Rattle.std.specs.Prelude.{List, None, Option, Some, [], false, ℕ}
 
 -- the hold that the parts of one show
 abbrev pub hold_view : StoredHold → Hold
-hold_view h = record { worker = h.worker; looks = h.looks; taken = at h.taken false; answered = at h.answered false; published = h.published }
+hold_view h = record {
+  worker = h.worker;
+  looks = h.looks;
+  taken = at h.taken false;
+  answered = at h.answered false;
+  published = h.published;
+}
 
 abbrev pub hold_of : Option StoredHold → Option Hold
 hold_of None = None

@@ -94,7 +94,8 @@ abbrev pub choice_arrive : Option Kind → ℕ → ℕ → ℕ → Option Event
 choice_arrive None p mark n = None
 choice_arrive (Some (LeafNode leaf)) p mark n = None
 choice_arrive (Some (SeqNode left right)) p mark n = None
-choice_arrive (Some (ParNode left right)) p mark n = Some (if mark == 0 then ArriveFirst p left right n else ArriveSecond p left right n)
+choice_arrive (Some (ParNode left right)) p mark n =
+    Some (if mark == 0 then ArriveFirst p left right n else ArriveSecond p left right n)
 
 -- of a worker whose task is whole: its node is done; by the move after it
 abbrev pub choice_whole : CoreJob → State → Move → ℕ → Option Event

@@ -71,22 +71,30 @@ Needs job s w (OpenParRight p l r) = (s.status w ≡ Free) × (s.task w ≡ Run 
 Needs job s w (OpenParLeft p l r) = (s.status w ≡ Free) × (s.task w ≡ Half p) × (job.plan.kind p ≡ Some (ParNode l r))
 Needs job s w (OpenSeqLeft p l r) = (s.status w ≡ Free) × (s.task w ≡ Run p) × (job.plan.kind p ≡ Some (SeqNode l r))
 Needs job s w (OpenSeqRight p l r) = (s.status w ≡ Free) × (s.task w ≡ Whole l) × (job.plan.kind p ≡ Some (SeqNode l r))
-Needs job s w (Post n t) = (s.status w ≡ Free) × (s.task w ≡ Started n t) × IsCall job (leaf_of (job.plan.kind n)) × (s.call w ≡ NotCalled)
+Needs job s w (Post n t) =
+    (s.status w ≡ Free) × (s.task w ≡ Started n t) × IsCall job (leaf_of (job.plan.kind n)) × (s.call w ≡ NotCalled)
 Needs job s w Win = (s.status w ≢ Free) × (s.call w ≡ Out) × (s.hold ≡ None)
 Needs job s w (Take u) = (h : Hold) × Holds s w h × (u ≡ h.looks) × (u < job.workers)
-Needs job s w Publish = (h : Hold) × Holds s w h × (h.looks ≡ job.workers) × ((u : ℕ) × (h.taken u ≡ true)) × (h.published ≡ false)
+Needs job s w Publish =
+    (h : Hold) × Holds s w h × (h.looks ≡ job.workers) × ((u : ℕ) × (h.taken u ≡ true)) × (h.published ≡ false)
 Needs job s w (Answer u receipt) =
     (h : Hold) × Holds s w h × (h.published ≡ true) × (h.taken u ≡ true) × (h.answered u ≡ false)
     × ((n : ℕ) × (leaf : ℕ) × HasStarted job s u n leaf × IsReceipt (place_of s.book leaf) receipt)
-Needs job s w Release = (h : Hold) × Holds s w h × (h.looks ≡ job.workers) × ((u : ℕ) → h.taken u ≡ true → h.answered u ≡ true)
+Needs job s w Release =
+    (h : Hold) × Holds s w h × (h.looks ≡ job.workers) × ((u : ℕ) → h.taken u ≡ true → h.answered u ≡ true)
 Needs job s w (Leave receipt) = (s.status w ≡ Served receipt) × ((h : Hold) → s.hold ≡ Some h → h.worker ≢ w)
-Needs job s w (Keep n t v) = (s.status w ≡ Free) × (s.task w ≡ Started n t) × (value_in (job.act (leaf_of (job.plan.kind n))) (s.call w) ≡ Some v)
+Needs job s w (Keep n t v) =
+    (s.status w ≡ Free) × (s.task w ≡ Started n t) × (value_in (job.act (leaf_of (job.plan.kind n))) (s.call w) ≡ Some v)
 Needs job s w (End n t) = (s.status w ≡ Free) × (s.task w ≡ Kept n t)
 Needs job s w (FinishLeaf n t e) = (s.status w ≡ Free) × (s.task w ≡ Ended n t e)
 Needs job s w (FinishSeq p l r) = (s.status w ≡ Free) × (s.task w ≡ Whole r) × (job.plan.kind p ≡ Some (SeqNode l r))
 Needs job s w (FinishPar p l r) = (s.status w ≡ Free) × (s.task w ≡ Handed p) × (job.plan.kind p ≡ Some (ParNode l r))
-Needs job s w (ArriveFirst p l r n) = (s.status w ≡ Free) × (s.task w ≡ Whole n) × (job.plan.kind p ≡ Some (ParNode l r)) × IsSide job.plan p n × (s.mark p ≡ 0)
-Needs job s w (ArriveSecond p l r n) = (s.status w ≡ Free) × (s.task w ≡ Whole n) × (job.plan.kind p ≡ Some (ParNode l r)) × IsSide job.plan p n × (s.mark p ≡ 1)
+Needs job s w (ArriveFirst p l r n) =
+    (s.status w ≡ Free) × (s.task w ≡ Whole n) × (job.plan.kind p ≡ Some (ParNode l r))
+    × IsSide job.plan p n × (s.mark p ≡ 0)
+Needs job s w (ArriveSecond p l r n) =
+    (s.status w ≡ Free) × (s.task w ≡ Whole n) × (job.plan.kind p ≡ Some (ParNode l r))
+    × IsSide job.plan p n × (s.mark p ≡ 1)
 
 -- the task of a worker that has finished a node: none for the root
 abbrev pub task_after : ℕ → Task
@@ -145,12 +153,16 @@ made s w (OpenSeqRight p l r) = record s { node = put s.node r Ready; task = put
 made s w (Post n t) = record s { status = put s.status w Pending; call = put s.call w Out }
 made s w Win = record s { hold = Some (new_hold w) }
 made s w (Take u) =
-    record s { status = if is_pending (s.status u) then put s.status u Executing else s.status; hold = looked s.hold (is_pending (s.status u)) u }
+    record s {
+      status = if is_pending (s.status u) then put s.status u Executing else s.status;
+      hold = looked s.hold (is_pending (s.status u)) u;
+    }
 made s w Publish = s
 made s w (Answer u receipt) = record s { status = put s.status u (Served receipt); hold = answered s.hold u }
 made s w Release = record s { hold = None }
 made s w (Leave receipt) = record s { status = put s.status w Free; call = put s.call w (Got receipt) }
-made s w (Keep n t v) = record s { value = put s.value n (Some v); call = put s.call w NotCalled; task = put s.task w (Kept n t) }
+made s w (Keep n t v) =
+    record s { value = put s.value n (Some v); call = put s.call w NotCalled; task = put s.task w (Kept n t) }
 made s w (End n t) = record s { tick = s.tick + 1; task = put s.task w (Ended n t s.tick) }
 made s w (FinishLeaf n t e) = record s { node = put s.node n (Ran w t e); task = put s.task w (task_after n) }
 made s w (FinishSeq p l r) = record s { node = put s.node p Done; task = put s.task w (task_after p) }

@@ -36,7 +36,8 @@ pub record Place : Type 0 where
 abbrev pub place_in : ℕ → ℕ → List Entry → ℕ → Option Place
 place_in batch place [] leaf = None
 place_in batch place (entry ∷ entries) leaf =
-    if entry.leaf == leaf then Some (record { batch = batch; place = place; entry = entry }) else place_in batch (place + 1) entries leaf
+    if entry.leaf == leaf then Some (record { batch = batch; place = place; entry = entry })
+    else place_in batch (place + 1) entries leaf
 
 abbrev pub or_else : Option Place → Option Place → Option Place
 or_else (Some place) other = Some place

@@ -40,7 +40,8 @@ pub record IsDrivenFrom (job : CoreJob) (leaf_total : ℕ) (first : CoreState) (
 
 abbrev pub IsDrivenShape : Option Tree → List Act → ℕ → List ℕ → Report → Type 0
 IsDrivenShape None acts workers schedule report = report ≡ record { workers = workers; history = []; rows = [] }
-IsDrivenShape (Some tree) acts workers schedule report = IsDrivenFrom (core_job tree acts workers) (leaves tree) opening_core schedule report
+IsDrivenShape (Some tree) acts workers schedule report =
+    IsDrivenFrom (core_job tree acts workers) (leaves tree) opening_core schedule report
 
 -- the report of a job that a schedule drives from its opening state. That of a job without leaves has no rows and no batches
 abbrev pub IsDrivenReport : JobValue → ℕ → List ℕ → Report → Type 0

@@ -20,7 +20,8 @@ pub record Step : Type 0 where
 -- these steps, one after another, take the first state to the last
 abbrev pub ReachesFrom : CoreJob → CoreState → List Step → CoreState → Type 0
 ReachesFrom job first [] last = last ≡ first
-ReachesFrom job first (step ∷ steps) last = (next : CoreState) × IsStep job first step.worker step.event next × ReachesFrom job next steps last
+ReachesFrom job first (step ∷ steps) last =
+    (next : CoreState) × IsStep job first step.worker step.event next × ReachesFrom job next steps last
 
 -- these steps lead from the opening state to this one
 abbrev pub Reaches : CoreJob → List Step → CoreState → Type 0
@@ -42,7 +43,8 @@ IsTurn job old worker new = IsTurnOf job old worker (choice job old worker) new
 abbrev pub TurnsReach : CoreJob → CoreState → List Step → CoreState → Type 0
 TurnsReach job first [] last = last ≡ first
 TurnsReach job first (step ∷ steps) last =
-    (next : CoreState) × (choice job first step.worker ≡ Some step.event) × IsStep job first step.worker step.event next × TurnsReach job next steps last
+    (next : CoreState) × (choice job first step.worker ≡ Some step.event) × IsStep job first step.worker step.event next
+    × TurnsReach job next steps last
 
 -- Turns go by the workers of a schedule, and then round robin from a worker on. The last state is the first one whose
 -- root is done.
@@ -59,7 +61,8 @@ step_of worker None = []
 step_of worker (Some event) = record { worker = worker; event = event } ∷ []
 
 -- the steps of such turns, in order
-abbrev pub steps_of : (job : CoreJob) (first last : CoreState) (schedule : List ℕ) (robin : ℕ) → Drives job first schedule robin last → List Step
+abbrev pub steps_of : (job : CoreJob) (first last : CoreState) (schedule : List ℕ) (robin : ℕ)
+    → Drives job first schedule robin last → List Step
 steps_of job first last schedule robin (over done) = []
 steps_of job first last schedule robin (by_schedule {next = next} {worker = worker} {robin = on} {schedule = rest} going turn drives) =
     step_of worker (choice job first worker) ++ steps_of job next last rest on drives

@@ -62,5 +62,5 @@ WaitsSince job s w since = StatusWaits (s.status w) (length s.book) s.hold (task
 -- events take the first state to the last, and the worker is trapped in both and in each state between them
 pub data StaysTrapped (job : CoreJob) (w : ℕ) (first : State) : State → Type 0 where
   at_once : IsTrapped first w → StaysTrapped job w first first
-  by_event : {old new : State} {worker : ℕ} {event : Event} → StaysTrapped job w first old → Happens job old worker event new → IsTrapped new w
-      → StaysTrapped job w first new
+  by_event : {old new : State} {worker : ℕ} {event : Event} → StaysTrapped job w first old
+      → Happens job old worker event new → IsTrapped new w → StaysTrapped job w first new

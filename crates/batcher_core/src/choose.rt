@@ -24,7 +24,8 @@ impl State {
         requires looks { CanChoose job.now self.now }
         requires worker_in { worker < job.now.workers }
         requires work { IsWorkOf job.now self.now worker work }
-        ensures { result ≡ choice_free (job_of job.now) (core_state_of self.now) worker ((state_of self.now).task worker) }
+        ensures { result ≡ choice_free (job_of job.now) (core_state_of self.now) worker
+            ((state_of self.now).task worker) }
     {
         match self.tasks[worker as usize] {
             Task::Idle => self.choose_claim(job.workers, worker),
@@ -47,7 +48,8 @@ impl State {
         requires looks { CanChoose job.now self.now }
         requires worker_in { worker < job.now.workers }
         requires work { IsWorkOf job.now self.now worker work }
-        ensures { result ≡ choice_by (job_of job.now) (core_state_of self.now) worker ((state_of self.now).status worker) }
+        ensures { result ≡ choice_by (job_of job.now) (core_state_of self.now) worker
+            ((state_of self.now).status worker) }
     {
         match self.statuses[worker as usize] {
             Status::Free => self.choose_free(job, worker, work),

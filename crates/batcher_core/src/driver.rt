@@ -89,9 +89,11 @@ fn run(core: &mut Core, schedule: &[u32]) -> Result<(), AllocError>
 pub fn drive(alloc: Global, core: Core, schedule: &[u32]) -> Result<Report, AllocError>
     requires { AllByRecursion (λ worker. worker < core.workers) schedule.now }
     ensures driven { IfOk result
-        (λ report. IsDrivenFrom (job_in core) (leaves core.tree) (state_in core) schedule.now report) }
+        (λ report. IsDrivenFrom (job_in core) (leaves core.tree) (state_in core)
+        schedule.now report) }
     ensures lawful { IfOk result
-        (λ report. Lawful (record { shape = Some core.tree; acts = core.acts }) core.workers report) }
+        (λ report. Lawful (record { shape = Some core.tree; acts = core.acts })
+        core.workers report) }
     ensures spent { IfOk result (λ _. core.spent ≡ false) }
 {
     let mut core = core;

@@ -49,7 +49,8 @@ pub(crate) fn rows_of(
     ensures leaves { IfOk result (λ rows. map (λ row. row.leaf) rows.items
         ≡ range_with_len 0 leaf_total) }
     ensures rows { IfOk result (λ rows. AllByRecursion
-        (λ row. TellsLeaf (nodes_of plan.now).node_of (at nodes.now Waiting) (at values.now None) row) rows.items) }
+        (λ row. TellsLeaf (nodes_of plan.now).node_of (at nodes.now Waiting)
+        (at values.now None) row) rows.items) }
 {
     let mut rows = Vec::with_capacity(alloc, leaf_total as usize)?;
     for leaf in 0..leaf_total {

@@ -7,7 +7,7 @@ ghost use Rattle.batcher_core.specs.Choice.{choice};
 ghost use Rattle.sp_order.specs.Precedence.{leaves};
 ghost use Rattle.batch_history.specs.Lawful.{Lawful};
 ghost use Rattle.batcher_core.specs.Invariant.{Invariant};
-ghost use Rattle.batcher_core.specs.Reports.{IsReportOf, TellsLeaf};
+ghost use Rattle.batcher_core.specs.Reports.{IsReportOf, IsRowOf};
 ghost use Rattle.sp_order.specs.Preorder.{nodes_of};
 ghost use Rattle.std.specs.List.{AllByRecursion, range_with_len};
 ghost use Rattle.batcher_core.specs.Cores.{job_in, state_in, due_in, turn_answer, is_over_in, IsTurnResult};
@@ -47,7 +47,13 @@ impl Model for Core {
 
     ghost coded = { Prim.hlevel (codes, coded_tree) };
 
-    ghost view = { λ c. record { tree = c.job.plan; acts = c.job.acts.items; workers = c.job.workers; table = c.table; spent = c.spent } };
+    ghost view = { λ c. record {
+      tree = c.job.plan;
+      acts = c.job.acts.items;
+      workers = c.job.workers;
+      table = c.table;
+      spent = c.spent;
+    } };
 
     ghost invariant = { λ c. (0 < c.job.workers) × (c.spent ≡ false → Represents c.job c.table) };
 }
@@ -123,7 +129,8 @@ impl Core {
         requires work { IfSome spun (λ s. (steps : ℕ) → due_in self.old worker ≡ Some steps
             → s ≡ steps) }
         ensures turn { IfOk result (λ t. t
-            ≡ turn_answer (due_in self.old worker) spun (choice (job_in self.old) (state_in self.old) worker)) }
+            ≡ turn_answer (due_in self.old worker) spun
+            (choice (job_in self.old) (state_in self.old) worker)) }
         ensures event { IfOk result
             (λ t. IsTurnResult t (job_in self.old) (state_in self.old) worker (state_in self.new)) }
         ensures failed { IfErr result (λ _. self.new.spent ≡ true) }
@@ -199,7 +206,7 @@ impl Core {
         ensures leaves { IfOk result (λ rows. map (λ row. row.leaf) rows.items
             ≡ range_with_len 0 (leaves self.now.tree)) }
         ensures rows { IfOk result (λ rows. AllByRecursion
-            (λ row. TellsLeaf (nodes_of self.now.tree).node_of (state_in self.now).state.node (state_in self.now).state.value row) rows.items) }
+            (IsRowOf (job_in self.now) (state_in self.now).state) rows.items) }
     {
         plan_stands_for_tree();
         done_leaves_have_run();
@@ -219,7 +226,8 @@ impl Core {
         ensures report { IfOk result
             (λ report. IsReportOf (job_in self) (leaves self.tree) (state_in self).state report) }
         ensures lawful { IfOk result
-            (λ report. Lawful (record { shape = Some self.tree; acts = self.acts }) self.workers report) }
+            (λ report. Lawful (record { shape = Some self.tree; acts = self.acts })
+            self.workers report) }
     {
         plan_stands_for_tree();
         done_report_is_lawful();

@@ -69,9 +69,12 @@ IsUnlessMemory status wanted = (status ≡ wanted) ⊎ (status ≡ Memory)
 
 -- Which status comes where the file's bytes are told and no fault comes in between: the one that they call for.
 pub record Completes (status : Status) (held : Option (List ℕ)) (ReadsFailed WritesFailed : Type 0) : Type 0 where
-  pub too_long : (bytes : List ℕ) → held ≡ Some bytes → ¬ ReadsFailed → 1048576 < length bytes → IsUnlessMemory status (Refused TooLong)
-  pub refused : (bytes : List ℕ) (fault : JobFault) → held ≡ Some bytes → ¬ ReadsFailed → length bytes ≤ 1048576 → IsFaultOf bytes fault → IsUnlessMemory status (Refused (Job fault))
-  pub accepted : (bytes : List ℕ) (job : JobValue) → held ≡ Some bytes → ¬ ReadsFailed → ¬ WritesFailed → length bytes ≤ 1048576 → IsJobOf bytes job → IsUnlessMemory status Done
+  pub too_long : (bytes : List ℕ) → held ≡ Some bytes → ¬ ReadsFailed
+      → 1048576 < length bytes → IsUnlessMemory status (Refused TooLong)
+  pub refused : (bytes : List ℕ) (fault : JobFault) → held ≡ Some bytes → ¬ ReadsFailed
+      → length bytes ≤ 1048576 → IsFaultOf bytes fault → IsUnlessMemory status (Refused (Job fault))
+  pub accepted : (bytes : List ℕ) (job : JobValue) → held ≡ Some bytes → ¬ ReadsFailed → ¬ WritesFailed
+      → length bytes ≤ 1048576 → IsJobOf bytes job → IsUnlessMemory status Done
 
 -- a write fault comes only where the text of this report is longer than the room that out has left
 abbrev pub FailsPast : Status → Option Report → ℕ → Type 0

@@ -59,7 +59,8 @@ fn is_schedule(word: &[u8], workers: u32) -> bool
 fn decode_schedule(alloc: Global, word: &[u8], workers: u32) -> Result<Vec<u32>, AllocError>
     requires { IsTrue (is_schedule workers word.now) }
     ensures schedule { IfOk result (λ schedule. schedule.items ≡ workers_named word.now) }
-    ensures workers { IfOk result (λ schedule. AllByRecursion (λ worker. worker < workers) schedule.items) }
+    ensures workers { IfOk result
+        (λ schedule. AllByRecursion (λ worker. worker < workers) schedule.items) }
 {
     let mut schedule = Vec::with_capacity(alloc, word.len())?;
     for byte in word {
@@ -76,11 +77,17 @@ fn parse_step<'a>(
     workers: &str,
     schedule: &str,
 ) -> Result<Option<StepCommand<'a>>, AllocError>
-    ensures some { IfOk result (λ command. IfSome command (λ c. step_command name.now file.now workers.now schedule.now ≡ Some (step c.file.now c.workers c.schedule.items))) }
-    ensures named { IfOk result (λ command. IfSome command (λ c. AllByRecursion (λ worker. worker < c.workers) c.schedule.items)) }
-    ensures few { IfOk result (λ command. IfSome command (λ c. (0 < c.workers) × (c.workers ≤ 32))) }
-    ensures none { IfOk result (λ command. IfNone command (step_command name.now file.now workers.now schedule.now ≡ None)) }
-    ensures err { IfErr result (λ _. IsSome (step_command name.now file.now workers.now schedule.now)) }
+    ensures some { IfOk result (λ command. IfSome command
+        (λ c. step_command name.now file.now workers.now schedule.now
+        ≡ Some (step c.file.now c.workers c.schedule.items))) }
+    ensures named { IfOk result (λ command. IfSome command
+        (λ c. AllByRecursion (λ worker. worker < c.workers) c.schedule.items)) }
+    ensures few { IfOk result (λ command. IfSome command
+        (λ c. (0 < c.workers) × (c.workers ≤ 32))) }
+    ensures none { IfOk result (λ command. IfNone command
+        (step_command name.now file.now workers.now schedule.now ≡ None)) }
+    ensures err { IfErr result
+        (λ _. IsSome (step_command name.now file.now workers.now schedule.now)) }
 {
     if name != "step" || file == "" {
         return Ok(None);
@@ -101,9 +108,12 @@ fn parse_step<'a>(
 
 /// The command that the words are, if they are one. Memory is taken only where they are.
 pub fn parse(alloc: Global, words: &[String]) -> Result<Option<StepCommand<'_>>, AllocError>
-    ensures some { IfOk result (λ command. IfSome command (λ c. command_of (spelled words.now) ≡ Some (step c.file.now c.workers c.schedule.items))) }
-    ensures named { IfOk result (λ command. IfSome command (λ c. AllByRecursion (λ worker. worker < c.workers) c.schedule.items)) }
-    ensures few { IfOk result (λ command. IfSome command (λ c. (0 < c.workers) × (c.workers ≤ 32))) }
+    ensures some { IfOk result (λ command. IfSome command
+        (λ c. command_of (spelled words.now) ≡ Some (step c.file.now c.workers c.schedule.items))) }
+    ensures named { IfOk result (λ command. IfSome command
+        (λ c. AllByRecursion (λ worker. worker < c.workers) c.schedule.items)) }
+    ensures few { IfOk result (λ command. IfSome command
+        (λ c. (0 < c.workers) × (c.workers ≤ 32))) }
     ensures none { IfOk result (λ command. IfNone command (command_of (spelled words.now) ≡ None)) }
     ensures err { IfErr result (λ _. IsSome (command_of (spelled words.now))) }
 {

@@ -25,13 +25,18 @@ pub fn step_in_memory(
     requires command { IsSome (command_of (spelled words.now)) }
     requires no_read_fails { shelf.old.fails ≡ [] }
     requires no_write_fails { out.old.fails ≡ [] }
-    ensures answer { ForSome (command_of (spelled words.now)) (λ c. HoldsJob (file_named shelf.old.files (file_of c))
-        → TextFits result.report (out.old.room - length out.old.taken) → IsUnlessMemory result.status Status.Done) }
+    ensures answer { ForSome (command_of (spelled words.now))
+        (λ c. HoldsJob (file_named shelf.old.files (file_of c))
+        → TextFits result.report (out.old.room - length out.old.taken)
+        → IsUnlessMemory result.status Status.Done) }
     ensures writes { FailsPast result.status result.report (out.old.room - length out.old.taken) }
-    ensures headline { Headline (λ report. ForSome (command_of (spelled words.now)) (λ c. HasRun (file_named shelf.old.files (file_of c)) (workers_of c) report))
+    ensures headline { Headline (λ report. ForSome (command_of (spelled words.now))
+        (λ c. HasRun (file_named shelf.old.files (file_of c)) (workers_of c) report))
         result.status result.report (Some out.old.taken) (Some out.new.taken) }
-    ensures driven { IfSome result.report (λ report. ForSome (command_of (spelled words.now)) (λ c. HasDriven (file_named shelf.old.files (file_of c)) (workers_of c) (schedule_of c) report)) }
-    ensures tells { Tells (fault_line result.status) (Some err.old.taken) (Some err.new.taken) (Rose err.old.faults err.new.faults) }
+    ensures driven { IfSome result.report (λ report. ForSome (command_of (spelled words.now))
+        (λ c. HasDriven (file_named shelf.old.files (file_of c)) (workers_of c) (schedule_of c) report)) }
+    ensures tells { Tells (fault_line result.status) (Some err.old.taken) (Some err.new.taken)
+        (Rose err.old.faults err.new.faults) }
 {
     run_step(alloc, words, shelf, out, err)
 }

@@ -28,9 +28,13 @@ const MOST_BYTES: usize = 1_048_576;
 fn read_file<I: Shelf>(alloc: Global, shelf: &mut I, file: &str) -> Result<Vec<u8>, Status>
     requires { IsTrue (I.may shelf.old file.now) }
     ensures ok { IfOk result (λ bytes. WasRead (I.held shelf.old file.now) bytes.items) }
-    ensures err { IfErr result (λ status. StopsReading status (I.held shelf.old file.now) (Rose (I.faults shelf.old) (I.faults shelf.new))) }
+    ensures err { IfErr result (λ status. StopsReading status (I.held shelf.old file.now)
+        (Rose (I.faults shelf.old) (I.faults shelf.new))) }
     ensures later { I.faults shelf.old ≤ I.faults shelf.new }
-    ensures sure { IsTrue (I.never_fails shelf.old) → IsSome (I.held shelf.old file.now) → result ≡ Err Status.ReadFault → ⊥ }
+    ensures sure { IsTrue (I.never_fails shelf.old)
+        → IsSome (I.held shelf.old file.now)
+        → result ≡ Err Status.ReadFault
+        → ⊥ }
 {
     if shelf.choose(file).is_err() {
         return Err(Status::ReadFault);
@@ -52,11 +56,19 @@ fn run_command<I: Shelf, O: Sink>(
 ) -> Outcome
     requires may { IsTrue (I.may shelf.old command.now.file.now) }
     requires few_workers { (0 < command.now.workers) × (command.now.workers ≤ 32) }
-    requires named { AllByRecursion (λ worker. worker < command.now.workers) command.now.schedule.items }
-    ensures headline { Headline (HasRun (I.held shelf.old command.now.file.now) command.now.workers) result.status result.report (O.taken out.old) (O.taken out.new) }
-    ensures driven { IfSome result.report (HasDriven (I.held shelf.old command.now.file.now) command.now.workers command.now.schedule.items) }
-    ensures cause { HasCause result.status (I.held shelf.old command.now.file.now) (Rose (I.faults shelf.old) (I.faults shelf.new)) (Rose (O.faults out.old) (O.faults out.new)) }
-    ensures reads { IsTrue (I.never_fails shelf.old) → IsSome (I.held shelf.old command.now.file.now) → result.status ≡ Status.ReadFault → ⊥ }
+    requires named { AllByRecursion (λ worker. worker < command.now.workers)
+        command.now.schedule.items }
+    ensures headline { Headline (HasRun (I.held shelf.old command.now.file.now) command.now.workers)
+        result.status result.report (O.taken out.old) (O.taken out.new) }
+    ensures driven { IfSome result.report (HasDriven (I.held shelf.old command.now.file.now)
+        command.now.workers command.now.schedule.items) }
+    ensures cause { HasCause result.status (I.held shelf.old command.now.file.now)
+        (Rose (I.faults shelf.old) (I.faults shelf.new))
+        (Rose (O.faults out.old) (O.faults out.new)) }
+    ensures reads { IsTrue (I.never_fails shelf.old)
+        → IsSome (I.held shelf.old command.now.file.now)
+        → result.status ≡ Status.ReadFault
+        → ⊥ }
     ensures writes { FailsPast result.status result.report (O.room_left out.old) }
 {
     let bytes = match read_file(alloc, shelf, command.file) {
@@ -92,18 +104,26 @@ fn run_words<I: Shelf, O: Sink>(
     shelf: &mut I,
     out: &mut O,
 ) -> Outcome
-    requires may { ForSome (command_of (spelled words.now)) (λ c. IsTrue (I.may shelf.old (file_of c))) }
+    requires may { ForSome (command_of (spelled words.now))
+        (λ c. IsTrue (I.may shelf.old (file_of c))) }
 
-    ensures headline { Headline (λ report. ForSome (command_of (spelled words.now)) (λ c. HasRun (I.held shelf.old (file_of c)) (workers_of c) report))
+    ensures headline { Headline (λ report. ForSome (command_of (spelled words.now))
+        (λ c. HasRun (I.held shelf.old (file_of c)) (workers_of c) report))
         result.status result.report (O.taken out.old) (O.taken out.new) }
-    ensures driven { IfSome result.report (λ report. ForSome (command_of (spelled words.now)) (λ c. HasDriven (I.held shelf.old (file_of c)) (workers_of c) (schedule_of c) report)) }
+    ensures driven { IfSome result.report (λ report. ForSome (command_of (spelled words.now))
+        (λ c. HasDriven (I.held shelf.old (file_of c)) (workers_of c) (schedule_of c) report)) }
     ensures usage { (result.status ≡ Status.Usage) ↔ IsNone (command_of (spelled words.now)) }
-    ensures cause { ForSome (command_of (spelled words.now)) (λ c. HasCause result.status (I.held shelf.old (file_of c))
-        (Rose (I.faults shelf.old) (I.faults shelf.new)) (Rose (O.faults out.old) (O.faults out.new))) }
-    ensures completes { ForSome (command_of (spelled words.now)) (λ c. Completes result.status (I.held shelf.old (file_of c))
-        (Rose (I.faults shelf.old) (I.faults shelf.new)) (Rose (O.faults out.old) (O.faults out.new))) }
+    ensures cause { ForSome (command_of (spelled words.now))
+        (λ c. HasCause result.status (I.held shelf.old (file_of c))
+        (Rose (I.faults shelf.old) (I.faults shelf.new))
+        (Rose (O.faults out.old) (O.faults out.new))) }
+    ensures completes { ForSome (command_of (spelled words.now))
+        (λ c. Completes result.status (I.held shelf.old (file_of c))
+        (Rose (I.faults shelf.old) (I.faults shelf.new))
+        (Rose (O.faults out.old) (O.faults out.new))) }
     ensures writes { FailsPast result.status result.report (O.room_left out.old) }
-    ensures assured { ForSome (command_of (spelled words.now)) (λ c. IsAssured result.status result.report (I.held shelf.old (file_of c))
+    ensures assured { ForSome (command_of (spelled words.now))
+        (λ c. IsAssured result.status result.report (I.held shelf.old (file_of c))
         (I.never_fails shelf.old) (O.room_left out.old)) }
 {
     texts_have_one_job_or_fault();
@@ -127,19 +147,28 @@ pub fn run_step<I: Shelf, O: Sink, E: Sink>(
     err: &mut E,
 ) -> Outcome
     requires command { IsSome (command_of (spelled words.now)) }
-    requires may { ForSome (command_of (spelled words.now)) (λ c. IsTrue (I.may shelf.old (file_of c))) }
+    requires may { ForSome (command_of (spelled words.now))
+        (λ c. IsTrue (I.may shelf.old (file_of c))) }
 
-    ensures headline { Headline (λ report. ForSome (command_of (spelled words.now)) (λ c. HasRun (I.held shelf.old (file_of c)) (workers_of c) report))
+    ensures headline { Headline (λ report. ForSome (command_of (spelled words.now))
+        (λ c. HasRun (I.held shelf.old (file_of c)) (workers_of c) report))
         result.status result.report (O.taken out.old) (O.taken out.new) }
-    ensures driven { IfSome result.report (λ report. ForSome (command_of (spelled words.now)) (λ c. HasDriven (I.held shelf.old (file_of c)) (workers_of c) (schedule_of c) report)) }
-    ensures cause { ForSome (command_of (spelled words.now)) (λ c. HasCause result.status (I.held shelf.old (file_of c))
-        (Rose (I.faults shelf.old) (I.faults shelf.new)) (Rose (O.faults out.old) (O.faults out.new))) }
-    ensures completes { ForSome (command_of (spelled words.now)) (λ c. Completes result.status (I.held shelf.old (file_of c))
-        (Rose (I.faults shelf.old) (I.faults shelf.new)) (Rose (O.faults out.old) (O.faults out.new))) }
+    ensures driven { IfSome result.report (λ report. ForSome (command_of (spelled words.now))
+        (λ c. HasDriven (I.held shelf.old (file_of c)) (workers_of c) (schedule_of c) report)) }
+    ensures cause { ForSome (command_of (spelled words.now))
+        (λ c. HasCause result.status (I.held shelf.old (file_of c))
+        (Rose (I.faults shelf.old) (I.faults shelf.new))
+        (Rose (O.faults out.old) (O.faults out.new))) }
+    ensures completes { ForSome (command_of (spelled words.now))
+        (λ c. Completes result.status (I.held shelf.old (file_of c))
+        (Rose (I.faults shelf.old) (I.faults shelf.new))
+        (Rose (O.faults out.old) (O.faults out.new))) }
     ensures writes { FailsPast result.status result.report (O.room_left out.old) }
-    ensures assured { ForSome (command_of (spelled words.now)) (λ c. IsAssured result.status result.report (I.held shelf.old (file_of c))
+    ensures assured { ForSome (command_of (spelled words.now))
+        (λ c. IsAssured result.status result.report (I.held shelf.old (file_of c))
         (I.never_fails shelf.old) (O.room_left out.old)) }
-    ensures tells { Tells (fault_line result.status) (E.taken err.old) (E.taken err.new) (Rose (E.faults err.old) (E.faults err.new)) }
+    ensures tells { Tells (fault_line result.status) (E.taken err.old) (E.taken err.new)
+        (Rose (E.faults err.old) (E.faults err.new)) }
 {
     let outcome = run_words(alloc, words, shelf, out);
     write_status(err, outcome.status);
@@ -158,20 +187,29 @@ pub fn batchrun<R: Threads + Wait + Sync, I: Shelf, O: Sink, E: Sink, G: Pause +
     err: &mut E,
     _pause: &G,
 ) -> Outcome
-    requires may { ForSome (command_of (spelled words.now)) (λ c. IsTrue (I.may shelf.old (file_of c))) }
+    requires may { ForSome (command_of (spelled words.now))
+        (λ c. IsTrue (I.may shelf.old (file_of c))) }
 
-    ensures headline { Headline (λ report. ForSome (command_of (spelled words.now)) (λ c. HasRun (I.held shelf.old (file_of c)) (workers_of c) report))
+    ensures headline { Headline (λ report. ForSome (command_of (spelled words.now))
+        (λ c. HasRun (I.held shelf.old (file_of c)) (workers_of c) report))
         result.status result.report (O.taken out.old) (O.taken out.new) }
-    ensures driven { IfSome result.report (λ report. ForSome (command_of (spelled words.now)) (λ c. HasDriven (I.held shelf.old (file_of c)) (workers_of c) (schedule_of c) report)) }
+    ensures driven { IfSome result.report (λ report. ForSome (command_of (spelled words.now))
+        (λ c. HasDriven (I.held shelf.old (file_of c)) (workers_of c) (schedule_of c) report)) }
     ensures usage { (result.status ≡ Status.Usage) ↔ IsNone (command_of (spelled words.now)) }
-    ensures cause { ForSome (command_of (spelled words.now)) (λ c. HasCause result.status (I.held shelf.old (file_of c))
-        (Rose (I.faults shelf.old) (I.faults shelf.new)) (Rose (O.faults out.old) (O.faults out.new))) }
-    ensures completes { ForSome (command_of (spelled words.now)) (λ c. Completes result.status (I.held shelf.old (file_of c))
-        (Rose (I.faults shelf.old) (I.faults shelf.new)) (Rose (O.faults out.old) (O.faults out.new))) }
+    ensures cause { ForSome (command_of (spelled words.now))
+        (λ c. HasCause result.status (I.held shelf.old (file_of c))
+        (Rose (I.faults shelf.old) (I.faults shelf.new))
+        (Rose (O.faults out.old) (O.faults out.new))) }
+    ensures completes { ForSome (command_of (spelled words.now))
+        (λ c. Completes result.status (I.held shelf.old (file_of c))
+        (Rose (I.faults shelf.old) (I.faults shelf.new))
+        (Rose (O.faults out.old) (O.faults out.new))) }
     ensures writes { FailsPast result.status result.report (O.room_left out.old) }
-    ensures assured { ForSome (command_of (spelled words.now)) (λ c. IsAssured result.status result.report (I.held shelf.old (file_of c))
+    ensures assured { ForSome (command_of (spelled words.now))
+        (λ c. IsAssured result.status result.report (I.held shelf.old (file_of c))
         (I.never_fails shelf.old) (O.room_left out.old)) }
-    ensures tells { Tells (fault_line result.status) (E.taken err.old) (E.taken err.new) (Rose (E.faults err.old) (E.faults err.new)) }
+    ensures tells { Tells (fault_line result.status) (E.taken err.old) (E.taken err.new)
+        (Rose (E.faults err.old) (E.faults err.new)) }
 {
     let outcome = run_words(alloc, words, shelf, out);
     write_status(err, outcome.status);

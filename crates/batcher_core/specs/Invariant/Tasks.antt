@@ -30,7 +30,8 @@ TaskFits plan node mark (Kept n s) = IsLeaf (plan.kind n) × (node n ≡ Taken)
 TaskFits plan node mark (Ended n s e) = IsLeaf (plan.kind n) × (node n ≡ Taken)
 -- it is done and is not the root, its parent is taken, and where it is the left side of a series the right side waits
 TaskFits plan node mark (Whole n) =
-    (is_done (node n) ≡ true) × (p : ℕ) × IsSide plan p n × (node p ≡ Taken) × ((r : ℕ) → plan.kind p ≡ Some (SeqNode n r) → node r ≡ Waiting)
+    (is_done (node n) ≡ true) × (p : ℕ) × IsSide plan p n × (node p ≡ Taken)
+    × ((r : ℕ) → plan.kind p ≡ Some (SeqNode n r) → node r ≡ Waiting)
 -- it is a parallel block that is taken, and both its sides have arrived
 TaskFits plan node mark (Handed p) = (l : ℕ) × (r : ℕ) × (plan.kind p ≡ Some (ParNode l r)) × (node p ≡ Taken) × (mark p ≡ 2)
 

@@ -52,7 +52,8 @@ impl State {
     #[tactic(auto, unfolding(crate::specs::Abstraction::state_of, crate::specs::Abstraction::ready_of))]
     pub(crate) fn win(&mut self, worker: u32)
         ensures sizes { SameSizes self.old self.new }
-        ensures event { state_of self.new ≡ record (state_of self.old) { hold = Some (new_hold worker) } }
+        ensures event { state_of self.new
+            ≡ record (state_of self.old) { hold = Some (new_hold worker) } }
         ensures lists { ready_of self.new ≡ ready_of self.old }
     {
         self.hold = Some(Hold::of(worker));
@@ -69,7 +70,8 @@ impl State {
         ensures event { state_of self.new ≡ record (state_of self.old) {
           status = if status_pending ((state_of self.old).status other)
               then put (state_of self.old).status other Executing else (state_of self.old).status;
-          hold = hold_looked (state_of self.old).hold (status_pending ((state_of self.old).status other)) other;
+          hold = hold_looked (state_of self.old).hold
+              (status_pending ((state_of self.old).status other)) other;
         } }
         ensures lists { ready_of self.new ≡ ready_of self.old }
     {

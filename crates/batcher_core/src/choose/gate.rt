@@ -34,7 +34,8 @@ impl State {
         requires looks { CanChoose job.now self.now }
         requires other_in { other < job.now.workers }
         requires started { HasLeaf (nodes_of job.now.plan) ((state_of self.now).task other) }
-        ensures { result ≡ answer_with other (place_of (state_of self.now).book (leaf_at (nodes_of job.now.plan) (names ((state_of self.now).task other)))) }
+        ensures { result ≡ answer_with other (place_of (state_of self.now).book
+            (leaf_at (nodes_of job.now.plan) (names ((state_of self.now).task other)))) }
     {
         let leaf = job.started_leaf(self.tasks[other as usize]);
         match receipt_of(self.history.batches(), leaf) {

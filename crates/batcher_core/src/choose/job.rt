@@ -162,7 +162,8 @@ impl State {
     pub(crate) fn choose_claim(&self, workers: u32, worker: u32) -> Option<Event>
         requires worker_in { worker < workers }
         requires few { workers ≤ 32 }
-        ensures { result ≡ claim_choice workers (ready_of self.now) worker (ready_of self.now worker) }
+        ensures { result
+            ≡ claim_choice workers (ready_of self.now) worker (ready_of self.now worker) }
     {
         if self.ready.are_empty() {
             return None;
@@ -185,7 +186,8 @@ impl State {
         requires node_in { node < (nodes_of job.now.plan).count }
         requires marks_in { length self.now.marks.items ≡ (nodes_of job.now.plan).count }
         requires moves_in { MoveIn (nodes_of job.now.plan).count ((nodes_of job.now.plan).after node) }
-        ensures { result ≡ whole_choice (nodes_of job.now.plan) (state_of self.now).mark ((nodes_of job.now.plan).after node) node }
+        ensures { result ≡ whole_choice (nodes_of job.now.plan) (state_of self.now).mark
+            ((nodes_of job.now.plan).after node) node }
     {
         match job.plan.after(node) {
             Move::Root => None,
@@ -207,7 +209,8 @@ impl State {
     pub(crate) fn work_due(&self, job: &CoreJob, worker: u32) -> Option<u32>
         requires looks { CanChoose job.now self.now }
         requires worker_in { worker < job.now.workers }
-        ensures { result ≡ work_due (nodes_of job.now.plan) job.now.acts.items ((state_of self.now).task worker) }
+        ensures { result
+            ≡ work_due (nodes_of job.now.plan) job.now.acts.items ((state_of self.now).task worker) }
     {
         match self.tasks[worker as usize] {
             Task::Started { node, .. } => steps_of(job.act_at(node)),

@@ -36,7 +36,8 @@ pub fn event_keeps_parts()
         → Parts job old
         → Happens job old worker event new
         → Parts job new }
-    ensures kind { (job : CoreJob) (old new : State) (worker : ℕ) (kind : EventKind) → IsPlan job.plan
+    ensures kind { (job : CoreJob) (old new : State) (worker : ℕ) (kind : EventKind)
+        → IsPlan job.plan
         → Parts job old
         → IsEvent job old worker kind new
         → Parts job new }
@@ -117,7 +118,8 @@ pub fn entries_are_at_most_the_calls()
         → ((leaf : ℕ) → IsCall job leaf → (n : ℕ) × (job.plan.kind n ≡ Some (LeafNode leaf)))
         → Parts job state
         → length (flat state.book) ≤ call_count job }
-    ensures tree { (tree : Tree) (acts : List Act) (workers : ℕ) (state : State) → length acts ≡ leaves tree
+    ensures tree { (tree : Tree) (acts : List Act) (workers : ℕ) (state : State)
+        → length acts ≡ leaves tree
         → Parts (core_job tree acts workers) state
         → length (flat state.book) ≤ call_count (core_job tree acts workers) }
 {

@@ -43,7 +43,8 @@ pub fn done_leaves_have_run()
 
 /// The report of a state whose root is done is lawful.
 pub fn done_report_is_lawful()
-    ensures { (tree : Tree) (acts : List Act) (workers : ℕ) (state : State) (report : Report) → length acts ≡ leaves tree
+    ensures { (tree : Tree) (acts : List Act) (workers : ℕ) (state : State) (report : Report)
+        → length acts ≡ leaves tree
         → Parts (core_job tree acts workers) state
         → is_done (state.node 0) ≡ true
         → IsReportOf (core_job tree acts workers) (leaves tree) state report
@@ -57,7 +58,8 @@ pub fn done_report_is_lawful()
 
 /// A state has one report at most.
 pub fn report_is_one()
-    ensures { (job : CoreJob) (leaf_total : ℕ) (state : State) (a b : Report) → IsReportOf job leaf_total state a
+    ensures { (job : CoreJob) (leaf_total : ℕ) (state : State) (a b : Report)
+        → IsReportOf job leaf_total state a
         → IsReportOf job leaf_total state b
         → a ≡ b }
 {}

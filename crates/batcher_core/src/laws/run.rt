@@ -38,16 +38,19 @@ pub fn schedule_drives_to_one_state()
 
 /// A schedule drives the job to a state that can be reached, and whose root is done.
 pub fn driven_is_reached()
-    ensures reached { (job : CoreJob) (schedule : List ℕ) (state : CoreState) → driven job schedule state
+    ensures reached { (job : CoreJob) (schedule : List ℕ) (state : CoreState)
+        → driven job schedule state
         → IsReached job state }
-    ensures done { (job : CoreJob) (schedule : List ℕ) (state : CoreState) → driven job schedule state
+    ensures done { (job : CoreJob) (schedule : List ℕ) (state : CoreState)
+        → driven job schedule state
         → is_done (state.state.node 0) ≡ true }
 {}
 
 /// A run by turns from the opening has at most six events for each node, and for each leaf that calls six more and one
 /// for each worker.
 pub fn runs_by_turns_are_short()
-    ensures { (job : CoreJob) (tree : Tree) (steps : List Step) (state : CoreState) → IsPlanOf job.plan tree
+    ensures { (job : CoreJob) (tree : Tree) (steps : List Step) (state : CoreState)
+        → IsPlanOf job.plan tree
         → 0 < job.workers
         → TurnsReach job opening_core steps state
         → length steps ≤ 6 * job.plan.count + call_count job * (job.workers + 6) }
@@ -57,7 +60,8 @@ pub fn runs_by_turns_are_short()
 
 /// The events that a schedule drives the job through are those of its workers' turns, and they are no more than that.
 pub fn driven_runs_are_short()
-    ensures { (job : CoreJob) (tree : Tree) (schedule : List ℕ) (state : CoreState) → IsPlanOf job.plan tree
+    ensures { (job : CoreJob) (tree : Tree) (schedule : List ℕ) (state : CoreState)
+        → IsPlanOf job.plan tree
         → 0 < job.workers
         → (drives : driven job schedule state)
         → TurnsReach job opening_core (steps_of job opening_core state schedule 0 drives) state

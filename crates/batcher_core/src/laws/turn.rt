@@ -57,7 +57,8 @@ pub fn claimed_node_leaves_an_end()
 /// At the opening worker 0 claims the root; of two workers the other one steals it.
 pub fn opening_choices()
     ensures own { (job : CoreJob) → choice job opening_core 0 ≡ Some (Claim 0) }
-    ensures stolen { (job : CoreJob) → job.workers ≡ 2 → choice job opening_core 1 ≡ Some (Claim 0) }
+    ensures stolen { (job : CoreJob)
+        → job.workers ≡ 2 → choice job opening_core 1 ≡ Some (Claim 0) }
 {}
 
 /// An event whose needs are met happens: there is a state that it makes.
@@ -70,7 +71,8 @@ pub fn event_with_its_needs_happens()
 
 /// An event makes one state only of a state.
 pub fn event_makes_one_state()
-    ensures { (job : CoreJob) (state a b : State) (worker : ℕ) (event : Event) → Does job state worker event a
+    ensures { (job : CoreJob) (state a b : State) (worker : ℕ) (event : Event)
+        → Does job state worker event a
         → Does job state worker event b
         → a ≡ b }
 {}
@@ -91,7 +93,8 @@ pub fn some_turn_makes_an_event()
 /// Where some workers have stopped, each without a task, and the root is not done, the turn of one that goes on makes
 /// an event. One at least must go on.
 pub fn some_live_turn_makes_an_event()
-    ensures { (job : CoreJob) (tree : Tree) (state : CoreState) (live : ℕ → Bool) (one : ℕ) → IsPlanOf job.plan tree
+    ensures { (job : CoreJob) (tree : Tree) (state : CoreState) (live : ℕ → Bool) (one : ℕ)
+        → IsPlanOf job.plan tree
         → Invariant job state
         → is_done (state.state.node 0) ≡ false
         → one < job.workers → live one ≡ true
@@ -105,7 +108,8 @@ pub fn some_live_turn_makes_an_event()
 
 /// The event of a turn lowers the count of the events that are left.
 pub fn turns_lower_measure()
-    ensures { (job : CoreJob) (state : CoreState) (worker : ℕ) (event : Event) (new : State) → IsPlan job.plan
+    ensures { (job : CoreJob) (state : CoreState) (worker : ℕ) (event : Event) (new : State)
+        → IsPlan job.plan
         → worker < job.workers
         → Invariant job state
         → choice job state worker ≡ Some event

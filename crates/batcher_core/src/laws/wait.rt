@@ -23,7 +23,8 @@ pub fn trapped_waits_from_now()
 
 /// Each event of a worker keeps what is said of a worker that waits, as long as that one stays trapped.
 pub fn event_keeps_waits()
-    ensures { (job : CoreJob) (old new : State) (worker : ℕ) (event : Event) (waiter since : ℕ) → IsPlan job.plan
+    ensures { (job : CoreJob) (old new : State) (worker : ℕ) (event : Event) (waiter since : ℕ)
+        → IsPlan job.plan
         → Parts job old
         → Happens job old worker event new
         → IsTrapped new waiter
@@ -37,7 +38,9 @@ pub fn trapped_waits_since_then()
         → Parts job first
         → StaysTrapped job worker first last
         → WaitsSince job last worker (length first.book) }
-    ensures reached { (tree : Tree) (acts : List Act) (workers worker : ℕ) (first : CoreState) (last : State) → 0 < workers
+    ensures reached { (tree : Tree) (acts : List Act) (workers worker : ℕ)
+        (first : CoreState) (last : State)
+        → 0 < workers
         → IsReached (core_job tree acts workers) first
         → StaysTrapped (core_job tree acts workers) worker first.state last
         → WaitsSince (core_job tree acts workers) last worker (length first.state.book) }
@@ -49,7 +52,9 @@ pub fn trapped_waits_since_then()
 /// Where a worker stays trapped until its call is served, the receipt's batch is one of those that there were at the
 /// beginning, or one of the next two.
 pub fn two_batches_at_most()
-    ensures { (tree : Tree) (acts : List Act) (workers worker : ℕ) (first : CoreState) (last : State) (receipt : Receipt) → 0 < workers
+    ensures { (tree : Tree) (acts : List Act) (workers worker : ℕ)
+        (first : CoreState) (last : State) (receipt : Receipt)
+        → 0 < workers
         → IsReached (core_job tree acts workers) first
         → StaysTrapped (core_job tree acts workers) worker first.state last
         → last.status worker ≡ Served receipt
@@ -61,7 +66,9 @@ pub fn two_batches_at_most()
 
 /// Where the worker's call is pending at the beginning, it is served in one of the next two batches.
 pub fn pending_call_is_in_next_two()
-    ensures { (tree : Tree) (acts : List Act) (workers worker : ℕ) (first : CoreState) (last : State) (receipt : Receipt) → 0 < workers
+    ensures { (tree : Tree) (acts : List Act) (workers worker : ℕ)
+        (first : CoreState) (last : State) (receipt : Receipt)
+        → 0 < workers
         → IsReached (core_job tree acts workers) first
         → first.state.status worker ≡ Pending
         → StaysTrapped (core_job tree acts workers) worker first.state last

@@ -61,7 +61,8 @@ fn write_line<E: Sink>(err: &mut E, status: Status) -> Result<(), Failed>
 
 /// Writes the line of a status on err, if it has one. A write that fails changes nothing else. Memory: none.
 pub fn write_status<E: Sink>(err: &mut E, status: Status)
-    ensures { Tells (fault_line status) (E.taken err.old) (E.taken err.new) (Rose (E.faults err.old) (E.faults err.new)) }
+    ensures { Tells (fault_line status) (E.taken err.old) (E.taken err.new)
+        (Rose (E.faults err.old) (E.faults err.new)) }
 {
     let _ = write_line(err, status);
 }

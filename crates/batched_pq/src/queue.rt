@@ -40,7 +40,8 @@ impl Queue {
     {
         let mut shards = Vec::with_capacity(alloc, 8)?;
         for _ in 0..8u32 {
-            shards.push(Shard::new(alloc))?;
+            let shard = Shard::new(alloc)?;
+            shards.push(shard)?;
         }
         Ok(Queue { shards })
     }

@@ -8,5 +8,5 @@ loop-preserved c =
     let i = c.loop.invariant in
     record {
       count = grind (arith, common_steps, i.count);
-      empty = rw c.in_ok-push.ensures.items (items_push c.loop.shards.items c.new.result i.empty (rw c.new.ensures refl));
+      empty = rw c.in_ok-push.ensures.items (items_push c.loop.shards.items c.in_ok-shard.shard i.empty (rw c.in_ok-shard.ensures refl));
     }

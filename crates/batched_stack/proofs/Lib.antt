@@ -6,3 +6,4 @@ mod BeginLemmas
 mod ServeLemmas
 mod EndLemmas
 mod Law
+pub mod PieceCount

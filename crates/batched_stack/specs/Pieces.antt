@@ -55,6 +55,11 @@ pub record Cut (objects : Objects) (calls : List Call) (pieces : List Piece) : T
   pub numbers : numbers_in pieces ≡ piece_numbers (length objects.stack) (pushes_of calls) (pops_of calls)
   pub each : AllByRecursion (IsPieceOf objects.stack (pushes_of calls) (pops_of calls)) pieces
 
+-- how many pieces there are: as many as stripes that get one
+abbrev pub piece_count : Objects → List Call → ℕ
+piece_count objects calls =
+    length (piece_numbers (length objects.stack) (pushes_of calls) (pops_of calls))
+
 -- the pushes were put on the stripe, and then the pops took its last items; the room is the next one
 pub record Meets (piece : Piece) (served : Served) : Type 0 where
   pub number : served.number ≡ piece.number

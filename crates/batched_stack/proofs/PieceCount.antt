@@ -1,0 +1,11 @@
+-- How many pieces a batch is cut into.
+use Rattle.std.proofs.Common.{◌≡◌, List, length, sym, ap, ◌∙◌}
+use Rattle.std.proofs.lemmas.List.{length-map}
+use Rattle.seq_objects.specs.declared.call.Call.{Call}
+use Rattle.seq_objects.specs.Objects.{Objects}
+use Rattle.batched_stack.specs.declared.piece.Piece.{Piece}
+use Rattle.batched_stack.specs.Pieces.{Cut, piece_count}
+
+pub pieces_counted : (objects : Objects) (calls : List Call) (pieces : List Piece)
+    → Cut objects calls pieces → length pieces ≡ piece_count objects calls
+pieces_counted objects calls pieces cut = sym (length-map pieces (λ (piece : Piece). piece.number)) ∙ ap length cut.numbers

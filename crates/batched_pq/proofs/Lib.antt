@@ -5,3 +5,4 @@ mod BeginLemmas
 mod ServeLemmas
 mod EndLemmas
 mod Law
+pub mod PieceCount

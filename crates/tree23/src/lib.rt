@@ -9,6 +9,8 @@
 pub mod laws;
 pub mod pool;
 pub mod tree;
+#[doc(hidden)]
+pub mod trees;
 
 pub use pool::Pool;
 pub use tree::Tree23;

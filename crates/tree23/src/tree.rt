@@ -19,8 +19,6 @@ pub mod remove;
 #[doc(hidden)]
 pub mod search;
 #[doc(hidden)]
-pub mod split;
-#[doc(hidden)]
 pub mod split_node;
 #[doc(hidden)]
 pub mod try_insert;
@@ -31,7 +29,9 @@ use crate::tree::join::concat;
 use crate::tree::node::Rooted;
 use crate::tree::remove::{remove_in, shrink_root};
 use crate::tree::search::{find_in, next_in};
-use crate::tree::split::{Halves, split};
+use crate::trees::Trees;
+use crate::trees::cut::{Cut, cut_at};
+use crate::trees::join::{join_many, join_reversed};
 use std::alloc::{AllocError, Global};
 use std::marker::Model;
 
@@ -135,15 +135,21 @@ impl Tree23 {
         ensures { IfOk result (λ p. IsSplit key self p.0 p.1) }
     {
         let alloc = self.alloc;
-        let mut halves = Halves {
-            low: Rooted::empty(),
-            high: Rooted::empty(),
-        };
         let mut pool = Pool::new(alloc);
-        let Rooted { tree, height } = self.root;
-        split(tree, height, key, &mut halves, &mut pool)?;
-        let Halves { low, high } = halves;
-        Ok((Tree23 { root: low, alloc }, Tree23 { root: high, alloc }))
+        let mut sides = Cut {
+            low: Trees::empty(alloc),
+            before: None,
+            high: Trees::empty(alloc),
+        };
+        cut_at(self.root, key, &mut sides, &mut pool)?;
+        let Cut { mut low, high, .. } = sides;
+        join_many(&mut low, 0, &mut pool)?;
+        let root = join_reversed(high, &mut pool)?;
+        let low = Tree23 {
+            root: low.front,
+            alloc,
+        };
+        Ok((low, Tree23 { root, alloc }))
     }
 
     /// The keys of both. The less deep tree moves whole to the edge of the other.

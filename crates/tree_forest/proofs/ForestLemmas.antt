@@ -1,5 +1,3 @@
-pub mod Cutting
-pub mod KeyedTrees
 pub mod Compacting
 pub mod KeySets
 pub mod Passing

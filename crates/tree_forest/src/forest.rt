@@ -2,22 +2,21 @@
 ghost use Rattle.std.specs.Prelude.{◌≡◌, ◌+◌, ◌<◌, ◌≤◌, ◌^◌, [], ◌++◌, not, IfOk, OnOk, OnErr};
 ghost use Rattle.std.specs.List.{AllByRecursion};
 ghost use Rattle.tree23.specs.Keys.{StrictlyAscends, AllBelow, with_key, has, without_key, least_above};
-ghost use Rattle.tree_forest.specs.Forests.{in_order, tree_count, AreTrees, IsKeySet};
+ghost use Rattle.tree23.specs.SideBySide.{in_order, AreTrees};
+ghost use Rattle.tree_forest.specs.Forests.{tree_count, IsKeySet};
 ghost use Rattle.tree_forest.specs.Views.{most_trees};
 
 pub(crate) mod calls;
 pub(crate) mod compact;
-pub mod cut;
 pub mod remaining;
-pub mod trees;
 
 use crate::forest::calls::{find_in_trees, insert_in_trees, next_in_trees, remove_in_trees};
 use crate::forest::compact::{MANY, append, compact};
-use crate::forest::trees::Trees;
 use crate::pool::ForestPool;
 use std::alloc::{AllocError, Global};
 use std::marker::Model;
 use std::mem;
+use tree23::trees::Trees;
 
 /// A set of numbers, as balanced trees side by side. Contracts see the list of its keys, which strictly ascends, and the
 /// number of its trees.
@@ -32,7 +31,8 @@ impl Model for Forest {
 
     ghost Value = { ForestView };
 
-    ghost use Rattle.tree_forest.specs.Forests.{in_order, tree_count, AreTrees, IsKeySet};
+    ghost use Rattle.tree23.specs.SideBySide.{in_order, AreTrees};
+    ghost use Rattle.tree_forest.specs.Forests.{tree_count, IsKeySet};
 
     ghost view = { λ f. record { keys = in_order f.trees; trees = tree_count f.trees } };
 

@@ -1,9 +1,9 @@
 //! Memory of forests that is reused.
 ghost use Rattle.std.specs.Prelude.{◌≡◌, [], IfOk};
 
-use crate::forest::trees::KeyedTree;
 use std::alloc::{AllocError, Global};
 use tree23::Pool;
+use tree23::trees::KeyedTree;
 
 /// How many vectors of entries are kept at most.
 const MOST: usize = 256;

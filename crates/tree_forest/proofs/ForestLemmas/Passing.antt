@@ -1,23 +1,21 @@
 -- Trees that stand before a key pass to the low side of a cut.
 use Rattle.std.proofs.Common.{◌≡◌, ℕ, ◌<◌, ◌≤◌, List, [], ◌∷◌, ◌++◌, reverse, Some, None, refl, sym, ap, ◌∙◌, subst, append_assoc, arith}
 use Rattle.std.specs.List.{AllByRecursion}
-use Rattle.std.specs.Option.{option_to_list}
 use Rattle.std.proofs.lemmas.List.{reverse-append, reverse-reverse}
 use Rattle.tree23.specs.declared.tree.node.Rooted.{Rooted}
 use Rattle.tree23.specs.declared.tree.node.Tree.TheVariants.{Empty}
-use Rattle.tree_forest.specs.declared.forest.trees.KeyedTree.{KeyedTree}
-use Rattle.tree_forest.specs.declared.forest.trees.Trees.{Trees}
-use Rattle.tree_forest.specs.declared.forest.cut.ForestCut.{ForestCut}
+use Rattle.tree23.specs.declared.trees.KeyedTree.{KeyedTree}
+use Rattle.tree23.specs.declared.trees.Trees.{Trees}
+use Rattle.tree23.specs.declared.trees.cut.Cut.{Cut}
 use Rattle.tree23.specs.Keys.{StrictlyAscends}
 use Rattle.tree23.specs.Nodes.{keys, IsRooted}
-use Rattle.tree_forest.specs.Forests.{entry_keys, in_order, in_reverse, AreTrees, AreKeyedTrees}
-use Rattle.tree_forest.specs.Code.Cuts.{low_keys, whole_keys, CanStand, IsForestCut}
+use Rattle.tree23.specs.SideBySide.{entry_keys, in_order, in_reverse, AreTrees, AreKeyedTrees}
+use Rattle.tree23.specs.Code.Cuts.{low_keys, whole_keys, CanStand, IsOpenCut}
 use Rattle.tree23.proofs.KeyLemmas.Ascending.{all_map, all_append, all_below_key, ascends_back}
-use Rattle.tree_forest.proofs.ForestLemmas.Cutting.{trees_more, low_whole}
-use Rattle.tree_forest.proofs.ForestLemmas.KeyedTrees.{entries_front, entries_last}
+use Rattle.tree23.proofs.SideBySideLemmas.KeyedTrees.{entries_front, entries_last}
 
 -- some trees have passed, and one is in hand
-pub record IsPassing (key : ℕ) (whole : List ℕ) (rooted : Rooted) (c : ForestCut) : Type 0 where
+pub record IsPassing (key : ℕ) (whole : List ℕ) (rooted : Rooted) (c : Cut) : Type 0 where
   pub part_is : IsRooted rooted
   pub low_trees : AreTrees c.low
   pub high_trees : AreTrees c.high
@@ -53,30 +51,31 @@ stack_less high left e empty empty' is =
     ∙ ap (λ z. e.key ∷ (keys e.rooted.tree ++ (z ++ entry_keys (reverse left.entries.items)))) (sym empty')
 
 -- one more tree passes
-pub pass_one : (key : ℕ) (whole : List ℕ) (rooted : Rooted) (c : ForestCut) (e : KeyedTree) (low high : Trees) → StrictlyAscends whole → IsPassing key whole rooted c
+pub pass_one : (key : ℕ) (whole : List ℕ) (rooted : Rooted) (c new : Cut) (e : KeyedTree) (high : Trees) → StrictlyAscends whole → IsPassing key whole rooted c
     → high.front ≡ c.high.front → c.high.entries.items ≡ high.entries.items ++ e ∷ [] → e.key < key
-    → AreTrees low → in_order low ≡ in_order c.low ++ (option_to_list c.before ++ keys rooted.tree)
-    → IsPassing key whole e.rooted (record { low = low; before = Some e.key; high = high })
-pass_one key whole rooted c e low high up i front taken less trees forest =
+    → AreTrees new.low → low_keys new ≡ low_keys c ++ (keys rooted.tree ++ e.key ∷ []) → new.before ≡ Some e.key → new.high ≡ high
+    → IsPassing key whole e.rooted new
+pass_one key whole rooted c new e high up i front taken less trees lows before highs =
     let a = keys rooted.tree in
     let b = keys e.rooted.tree in
     let empty : keys high.front.tree ≡ [] = ap (λ f. keys f.tree) front ∙ i.empty in
     let entries : AreKeyedTrees (high.entries.items ++ e ∷ []) = subst AreKeyedTrees taken i.high_trees.entries_are in
     let all : whole ≡ (low_keys c ++ a) ++ e.key ∷ (b ++ in_reverse high) =
     sym i.is ∙ ap (λ z. low_keys c ++ (a ++ z)) (stack_less c.high high e i.empty empty taken) ∙ sym (append_assoc (low_keys c) a (e.key ∷ (b ++ in_reverse high))) in
+    let low : low_keys new ≡ (low_keys c ++ a) ++ e.key ∷ [] = lows ∙ sym (append_assoc (low_keys c) a (e.key ∷ [])) in
     record {
       part_is = entries_last high.entries.items e entries;
       low_trees = trees;
-      high_trees = record { front_is = rw front i.high_trees.front_is; entries_are = entries_front high.entries.items (e ∷ []) entries };
-      stands = tt;
-      empty = empty;
-      below = rw (trees_more e.key a c low forest ∙ sym (append_assoc (low_keys c) a (e.key ∷ [])))
+      high_trees = rw highs (record { front_is = rw front i.high_trees.front_is; entries_are = entries_front high.entries.items (e ∷ []) entries });
+      stands = rw before tt;
+      empty = rw highs empty;
+      below = rw low
           (all_append (λ k. k < key) (low_keys c ++ a) (e.key ∷ [])
           (all_map (λ k. k < e.key) (λ k. k < key) (λ k h. omega arith) (low_keys c ++ a) (all_below_key (low_keys c ++ a) e.key (b ++ in_reverse high) (subst StrictlyAscends all up)))
           (less, tt));
-      is = low_whole a e.key b (record { low = c.low; before = c.before; high = high }) low forest
-          ∙ ap (λ z. low_keys c ++ z) (append_assoc a (e.key ∷ b) (in_reverse high))
-          ∙ sym (append_assoc (low_keys c) a (e.key ∷ (b ++ in_reverse high)))
+      is = ap (λ z. z ++ (b ++ in_reverse new.high)) low
+          ∙ ap (λ h. ((low_keys c ++ a) ++ e.key ∷ []) ++ (b ++ in_reverse h)) highs
+          ∙ append_assoc (low_keys c ++ a) (e.key ∷ []) (b ++ in_reverse high)
           ∙ sym all;
     }
 
@@ -94,9 +93,9 @@ above_stack key items up stays = step (reverse items) refl up where
 same_stack : (high left : Trees) → left.front ≡ high.front → left.entries.items ≡ high.entries.items → in_reverse left ≡ in_reverse high
 same_stack high left front same = ap (λ f. keys f.tree ++ entry_keys (reverse left.entries.items)) front ∙ ap (λ z. keys high.front.tree ++ entry_keys (reverse z)) same
 
-pub pass_all : (key : ℕ) (whole : List ℕ) (rooted : Rooted) (c : ForestCut) (high : Trees) → StrictlyAscends whole → IsPassing key whole rooted c
+pub pass_all : (key : ℕ) (whole : List ℕ) (rooted : Rooted) (c : Cut) (high : Trees) → StrictlyAscends whole → IsPassing key whole rooted c
     → high.front ≡ c.high.front → high.entries.items ≡ c.high.entries.items → ((e : KeyedTree) (others : List KeyedTree) → c.high.entries.items ≡ others ++ e ∷ [] → key ≤ e.key)
-    → IsForestCut key (record { low = c.low; before = c.before; high = high })
+    → IsOpenCut key (record { low = c.low; before = c.before; high = high })
 pass_all key whole rooted c high up i front same stays =
     let stack : in_reverse c.high ≡ entry_keys (reverse c.high.entries.items) = ap (λ z. z ++ entry_keys (reverse c.high.entries.items)) i.empty in
     let ascends : StrictlyAscends (in_reverse c.high) = ascends_back (keys rooted.tree) (in_reverse c.high) (ascends_back (low_keys c) (keys rooted.tree ++ in_reverse c.high) (subst StrictlyAscends (sym i.is) up)) in
@@ -109,6 +108,6 @@ pass_all key whole rooted c high up i front same stays =
       above = rw (same_stack c.high high front same ∙ stack) (above_stack key c.high.entries.items (subst StrictlyAscends stack ascends) stays);
     }
 
-pub pass_keys : (key : ℕ) (whole : List ℕ) (rooted : Rooted) (c : ForestCut) (high : Trees) → IsPassing key whole rooted c
+pub pass_keys : (key : ℕ) (whole : List ℕ) (rooted : Rooted) (c : Cut) (high : Trees) → IsPassing key whole rooted c
     → high.front ≡ c.high.front → high.entries.items ≡ c.high.entries.items → whole_keys (keys rooted.tree) (record { low = c.low; before = c.before; high = high }) ≡ whole
 pass_keys key whole rooted c high i front same = ap (λ z. low_keys c ++ (keys rooted.tree ++ z)) (same_stack c.high high front same) ∙ i.is

@@ -2,14 +2,11 @@
 use Rattle.std.proofs.Common.{◌≡◌, ℕ, ◌-◌, List, [], ◌∷◌, ◌++◌, length, reverse, Some, None, Option, refl, sym, ap, ◌∙◌, subst, arith, length-append}
 use Rattle.std.specs.Prelude.{slice_get}
 use Rattle.std.proofs.lemmas.List.{reverse-append, reverse-reverse}
-use Rattle.tree_forest.specs.declared.forest.trees.KeyedTree.{KeyedTree}
-use Rattle.tree_forest.specs.Forests.{entry_keys, AreKeyedTrees}
-use Rattle.tree_forest.proofs.ForestLemmas.KeyedTrees.{entries_push}
+use Rattle.tree23.specs.declared.trees.KeyedTree.{KeyedTree}
+use Rattle.tree23.specs.SideBySide.{entry_keys, AreKeyedTrees}
+use Rattle.tree23.proofs.SideBySideLemmas.KeyedTrees.{entries_push}
 
 -- entries turned around
-pub turned : (entries left : List KeyedTree) (e : KeyedTree) → entries ≡ left ++ e ∷ [] → reverse entries ≡ e ∷ reverse left
-turned entries left e is = ap reverse is ∙ reverse-append left (e ∷ [])
-
 pub entries_turned : (entries : List KeyedTree) → AreKeyedTrees entries → AreKeyedTrees (reverse entries)
 entries_turned [] each = tt
 entries_turned (e ∷ entries) each = subst AreKeyedTrees (sym (reverse-append (e ∷ []) entries)) (entries_push (reverse entries) e (entries_turned entries each.1) each.0)

@@ -1,7 +1,7 @@
 -- Trees that are put together.
 use Rattle.std.specs.Prelude.{◌≡◌, ℕ, List, [], ◌∷◌, ◌++◌, Some, None, Bool, true, false}
 use Rattle.std.specs.declared.option.Option.{Option}
-use Rattle.tree_forest.specs.declared.forest.trees.KeyedTree.{KeyedTree}
+use Rattle.tree23.specs.declared.trees.KeyedTree.{KeyedTree}
 
 -- the last entry was taken off, or nothing was changed
 abbrev pub IsTakenOff : List KeyedTree → List KeyedTree → Option KeyedTree → Type 0

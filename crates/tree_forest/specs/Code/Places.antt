@@ -2,7 +2,7 @@
 use Rattle.std.specs.Prelude.{ℕ, ◌<◌, ◌≤◌, List, [], ◌∷◌, take, drop, length, Some, None, ⊤}
 use Rattle.std.specs.declared.option.Option.{Option}
 use Rattle.std.specs.List.{AllByRecursion}
-use Rattle.tree_forest.specs.declared.forest.trees.KeyedTree.{KeyedTree}
+use Rattle.tree23.specs.declared.trees.KeyedTree.{KeyedTree}
 
 -- a key is below that of the first entry, if there is one
 abbrev pub IsBelowFirst : ℕ → List KeyedTree → Type 0

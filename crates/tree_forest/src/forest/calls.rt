@@ -1,15 +1,16 @@
 //! Keys looked up in, put into and taken out of trees side by side: each in the one tree in whose range it is.
 ghost use Rattle.std.specs.Prelude.{◌≡◌, ◌<◌, ◌≤◌, ◌^◌, drop, length, IfOk, OnErr};
 ghost use Rattle.tree23.specs.Keys.{StrictlyAscends, has, without_key, least_above};
-ghost use Rattle.tree_forest.specs.Forests.{in_order, tree_count, AreTrees};
+ghost use Rattle.tree23.specs.SideBySide.{in_order, AreTrees};
+ghost use Rattle.tree_forest.specs.Forests.{tree_count};
 ghost use Rattle.tree_forest.specs.Code.Places.{or_first_key, IsPlace};
 ghost use Rattle.tree23.specs.Code.Insertions.{IsInserted};
 
-use crate::forest::trees::Trees;
 use std::alloc::{AllocError, Global};
 use tree23::tree::insert::insert_at_root;
 use tree23::tree::remove::{pop_first, remove_in, shrink_root};
 use tree23::tree::search::{find_in, next_in};
+use tree23::trees::Trees;
 
 /// How many of the keys between the trees, which ascend, are not above a key. Time: linear, since a forest that is
 /// compacted has few.

@@ -3,18 +3,20 @@
 //! after that is joined from the end.
 ghost use Rattle.std.specs.Prelude.{◌≡◌, ◌+◌, ◌<◌, ◌^◌, ◌≤◌, ◌++◌, ◌∷◌, true, None, length, IfOk, IfSome, OnOk};
 ghost use Rattle.tree23.specs.Nodes.{keys, depth, IsTree, IsLeaf, IsRooted};
-ghost use Rattle.tree_forest.specs.Forests.{entry_keys, in_order, tree_count, AreTrees, AreKeyedTrees};
+ghost use Rattle.tree23.specs.SideBySide.{entry_keys, in_order, AreTrees, AreKeyedTrees};
+ghost use Rattle.tree_forest.specs.Forests.{tree_count};
 ghost use Rattle.tree_forest.specs.Views.{most_trees};
 ghost use Rattle.tree_forest.specs.Code.Merges.{if_merged, IsTakenOff};
-ghost use Rattle.tree_forest.specs.Code.Cuts.{CanStand};
+ghost use Rattle.tree23.specs.Code.Cuts.{CanStand};
 
-use crate::forest::trees::{KeyedTree, Trees};
 use crate::pool::ForestPool;
 use std::alloc::AllocError;
-use tree23::tree::join::{put_after, put_before};
+use tree23::tree::join::put_after;
 use tree23::tree::leaf::ROOM;
 use tree23::tree::node::{Rooted, Tree, three, two};
 use tree23::tree::remove::{pop_first, shrink_root};
+use tree23::trees::join::join_many;
+use tree23::trees::{KeyedTree, Trees};
 
 /// How many trees a forest has beside the first when it is compacted, at most.
 pub(crate) const MANY: usize = 64;
@@ -44,7 +46,7 @@ fn pop_equal(entries: &mut Vec<KeyedTree>, height: u64) -> Option<KeyedTree>
 }
 
 /// Makes one entry of two whose trees are as high, and of the one before them if that is as high too, and puts it back.
-#[tactic(auto, using(crate::proofs::ForestLemmas::KeyedTrees::entries))]
+#[tactic(auto, using(tree23::proofs::SideBySideLemmas::KeyedTrees::entries))]
 fn merge_equal(
     entries: &mut Vec<KeyedTree>,
     low: KeyedTree,
@@ -105,20 +107,22 @@ fn merge_lower(
     ensures count { OnOk result (length trees.new.entries.items ≤ length trees.old.entries.items) }
     ensures keys { IfOk result (λ e. in_order trees.new ++ e.key ∷ keys e.rooted.tree ≡ in_order trees.old ++ entry.key ∷ keys entry.rooted.tree) }
 {
-    let KeyedTree {
-        mut key,
-        mut rooted,
-    } = entry;
-    while let Some(high) = pop_lower(&mut trees.entries, rooted.height) {
-        match pop_equal(&mut trees.entries, high.rooted.height) {
-            Some(low) => merge_equal(&mut trees.entries, low, high, pool)?,
+    let mut merged = entry;
+    while let Some(mut lower) = pop_lower(&mut trees.entries, merged.rooted.height) {
+        match pop_equal(&mut trees.entries, lower.rooted.height) {
+            Some(low) => merge_equal(&mut trees.entries, low, lower, pool)?,
             None => {
-                put_before(high.rooted, key, &mut rooted, &mut pool.trees)?;
-                key = high.key;
+                put_after(
+                    &mut lower.rooted,
+                    merged.key,
+                    merged.rooted,
+                    &mut pool.trees,
+                )?;
+                merged = lower;
             }
         }
     }
-    Ok(KeyedTree { key, rooted })
+    Ok(merged)
 }
 
 /// Puts a key and a tree after all.
@@ -136,7 +140,7 @@ fn add(trees: &mut Trees, entry: KeyedTree, pool: &mut ForestPool) -> Result<(),
 }
 
 /// Makes one of the last three entries, if the tree of each has this height.
-#[tactic(auto, using(crate::proofs::ForestLemmas::KeyedTrees::entries))]
+#[tactic(auto, using(tree23::proofs::SideBySideLemmas::KeyedTrees::entries))]
 fn merge_three(
     entries: &mut Vec<KeyedTree>,
     height: u64,
@@ -255,39 +259,6 @@ pub(crate) fn append(low: &mut Trees, high: Trees, pool: &mut ForestPool) -> Res
     Ok(())
 }
 
-/// Makes one of the last two entries.
-fn join_last(entries: &mut Vec<KeyedTree>, pool: &mut ForestPool) -> Result<(), AllocError>
-    requires some { 2 ≤ length entries.old.items }
-    requires entries { AreKeyedTrees entries.old.items }
-    requires fits { length (entry_keys entries.old.items) < 2 ^ 62 }
-    ensures entries { OnOk result (AreKeyedTrees entries.new.items) }
-    ensures count { OnOk result (length entries.new.items + 1 ≡ length entries.old.items) }
-    ensures keys { OnOk result (entry_keys entries.new.items ≡ entry_keys entries.old.items) }
-{
-    if let Some(high) = entries.pop() {
-        if let Some(low) = entries.pop() {
-            let KeyedTree { key, mut rooted } = low;
-            put_after(&mut rooted, high.key, high.rooted, &mut pool.trees)?;
-            entries.push(KeyedTree { key, rooted })?;
-        }
-    }
-    Ok(())
-}
-
-/// Joins the last entries until there are few.
-fn join_many(entries: &mut Vec<KeyedTree>, pool: &mut ForestPool) -> Result<(), AllocError>
-    requires entries { AreKeyedTrees entries.old.items }
-    requires fits { length (entry_keys entries.old.items) < 2 ^ 62 }
-    ensures entries { OnOk result (AreKeyedTrees entries.new.items) }
-    ensures count { OnOk result (length entries.new.items ≤ 64) }
-    ensures keys { OnOk result (entry_keys entries.new.items ≡ entry_keys entries.old.items) }
-{
-    while entries.len() > MANY {
-        join_last(entries, pool)?;
-    }
-    Ok(())
-}
-
 /// Makes few trees of many: lower trees before a higher one become part of it, or trees as high; three before another of
 /// their height become one; and the last become one while there are too many.
 pub(crate) fn compact(trees: Trees, pool: &mut ForestPool) -> Result<Trees, AllocError>
@@ -295,18 +266,6 @@ pub(crate) fn compact(trees: Trees, pool: &mut ForestPool) -> Result<Trees, Allo
     requires fits { length (in_order trees) < 2 ^ 61 }
     ensures trees { IfOk result (λ compacted. AreTrees compacted) }
     ensures count { IfOk result (λ compacted. tree_count compacted ≤ most_trees) }
-    ensures keys { IfOk result (λ compacted. in_order compacted ≡ in_order trees) }
-{
-    let mut compacted = merge_all(trees, pool)?;
-    join_many(&mut compacted.entries, pool)?;
-    Ok(compacted)
-}
-
-/// Merges each tree with those before it that are lower, and three that are as high as one that comes after them.
-fn merge_all(trees: Trees, pool: &mut ForestPool) -> Result<Trees, AllocError>
-    requires trees { AreTrees trees }
-    requires fits { length (in_order trees) < 2 ^ 61 }
-    ensures trees { IfOk result (λ compacted. AreTrees compacted) }
     ensures keys { IfOk result (λ compacted. in_order compacted ≡ in_order trees) }
 {
     let Trees { front, mut entries } = trees;
@@ -321,5 +280,6 @@ fn merge_all(trees: Trees, pool: &mut ForestPool) -> Result<Trees, AllocError>
         compacted.entries.push(entry)?;
     }
     pool.give_entries(entries);
+    join_many(&mut compacted, MANY, &mut pool.trees)?;
     Ok(compacted)
 }

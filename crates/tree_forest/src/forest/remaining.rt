@@ -1,22 +1,22 @@
 //! What is left of a forest while its keys are taken off from the least on.
 ghost use Rattle.std.specs.Prelude.{◌≡◌, ◌<◌, ◌≤◌, List, [], ◌∷◌, ◌++◌, slice_get, None, IfOk, IfSome, OnErr};
-ghost use Rattle.tree_forest.specs.declared.forest.trees.KeyedTree.{KeyedTree as KeyedTreeOf};
+ghost use Rattle.tree23.specs.declared.trees.KeyedTree.{KeyedTree as KeyedTreeOf};
 ghost use Rattle.tree23.specs.Keys.{StrictlyAscends};
 ghost use Rattle.tree23.specs.Nodes.{keys, IsRooted};
-ghost use Rattle.tree_forest.specs.Forests.{in_reverse, AreTrees};
-ghost use Rattle.tree_forest.specs.Code.Cuts.{whole_keys, IsForestCut};
+ghost use Rattle.tree23.specs.SideBySide.{in_reverse, AreTrees};
+ghost use Rattle.tree23.specs.Code.Cuts.{whole_keys, IsOpenCut};
 ghost use Rattle.tree_forest.specs.Code.Merges.{IsTakenOff};
 ghost use Rattle.tree23.specs.Splits.{IsSplit};
 
 use crate::forest::Forest;
-use crate::forest::cut::{ForestCut, cut_at};
-use crate::forest::trees::{KeyedTree, Trees};
 use crate::pool::ForestPool;
 use std::alloc::{AllocError, Global};
 use std::marker::Model;
 use std::mem;
 use tree23::tree::node::Rooted;
 use tree23::tree::search::first_in;
+use tree23::trees::cut::{Cut, cut_at};
+use tree23::trees::{KeyedTree, Trees};
 
 /// A set of numbers from which forests are taken off. Contracts see it as the list of its keys, which strictly ascends.
 #[derive(Drop)]
@@ -30,7 +30,8 @@ impl Model for Remaining {
 
     ghost Value = { List ℕ };
 
-    ghost use Rattle.tree_forest.specs.Forests.{in_reverse, AreTrees, IsKeySet};
+    ghost use Rattle.tree23.specs.SideBySide.{in_reverse, AreTrees};
+    ghost use Rattle.tree_forest.specs.Forests.{IsKeySet};
 
     ghost view = { λ r. in_reverse r.trees };
 
@@ -75,8 +76,8 @@ impl Remaining {
         let alloc = self.alloc;
         let high = mem::replace(&mut self.trees, Trees::empty(alloc));
         let (mut sides, rooted) = pass_below(high, key, pool)?;
-        cut_at(rooted.tree, rooted.height, key, &mut sides, pool)?;
-        let ForestCut { low, high, .. } = sides;
+        cut_at(rooted, key, &mut sides, &mut pool.trees)?;
+        let Cut { low, high, .. } = sides;
         self.trees = high;
         Ok(Forest::of(low, alloc))
     }
@@ -96,29 +97,25 @@ impl Remaining {
 
 /// Passes the trees that stand before a key to the low side, up to the tree in which the cut at the key lies, which is
 /// taken out.
-fn pass_below(
-    mut high: Trees,
-    key: u32,
-    pool: &mut ForestPool,
-) -> Result<(ForestCut, Rooted), AllocError>
+fn pass_below(mut high: Trees, key: u32, pool: &mut ForestPool) -> Result<(Cut, Rooted), AllocError>
     requires trees { AreTrees high }
     requires set { StrictlyAscends (in_reverse high) }
-    ensures sides { IfOk result (λ p. IsForestCut key p.0) }
+    ensures sides { IfOk result (λ p. IsOpenCut key p.0) }
     ensures keys { IfOk result (λ p. whole_keys (keys p.1.tree) p.0 ≡ in_reverse high) }
     ensures rooted { IfOk result (λ p. IsRooted p.1) }
 {
     let mut rooted = mem::replace(&mut high.front, Rooted::empty());
-    let mut low = Trees {
+    let low = Trees {
         front: Rooted::empty(),
         entries: pool.take_entries()?,
     };
-    let mut before = None;
-    while let Some(entry) = pop_below(&mut high.entries, key) {
-        low.put(before, rooted.tree, rooted.height)?;
-        before = Some(entry.key);
+    let before = None;
+    let mut sides = Cut { low, before, high };
+    while let Some(entry) = pop_below(&mut sides.high.entries, key) {
+        sides.put_low(rooted.tree, rooted.height, entry.key)?;
         rooted = entry.rooted;
     }
-    Ok((ForestCut { low, before, high }, rooted))
+    Ok((sides, rooted))
 }
 
 /// Takes the last entry off, if its key is below.

@@ -1,5 +1,5 @@
 use Rattle.std.proofs.Common.{ap, ◌∙◌}
-use Rattle.tree_forest.specs.Forests.{in_order}
+use Rattle.tree23.specs.SideBySide.{in_order}
 use Rattle.tree_forest.specs.Views.{ForestView}
 use Rattle.tree_forest.proofs.ForestLemmas.KeySets.{key_set_as, key_set_both, all_below_as}
 use Rattle.tree_forest.proofs.forest.Forest.append.Goals as goal

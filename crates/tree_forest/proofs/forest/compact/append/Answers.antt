@@ -1,10 +1,11 @@
-use Rattle.std.proofs.Common.{◌++◌, ◌∙◌, ap, append_assoc, arith, length-append}
+use Rattle.std.proofs.Common.{◌^◌, ◌++◌, ◌∙◌, ap, append_assoc, arith, length-append}
 use Rattle.std.proofs.lemmas.List.{length-reverse, reverse-reverse}
 use Rattle.tree23.specs.Nodes.{keys}
-use Rattle.tree_forest.specs.Forests.{entry_keys, in_order}
-use Rattle.tree_forest.proofs.ForestLemmas.KeyedTrees.{taken}
-use Rattle.tree_forest.proofs.ForestLemmas.Compacting.{still_fits}
-use Rattle.tree_forest.proofs.ForestLemmas.Reversing.{turned, entries_turned}
+use Rattle.tree23.specs.SideBySide.{entry_keys, in_order}
+use Rattle.tree23.proofs.SideBySideLemmas.KeyedTrees.{taken}
+use Rattle.tree23.proofs.SideBySideLemmas.Joining.{still_fits}
+use Rattle.tree23.proofs.SideBySideLemmas.Joining.{turned}
+use Rattle.tree_forest.proofs.ForestLemmas.Reversing.{entries_turned}
 use Rattle.tree_forest.proofs.forest.compact.append.Goals as goal
 
 pub loop-entry-init : goal.loop-entry-init
@@ -25,4 +26,4 @@ pub add-requires-clause-fits : goal.add-requires-clause-fits
 add-requires-clause-fits c =
     let low = in_order c.args.low.now in
     let high = in_order c.args.high in
-    still_fits (in_order c.loop-entry.low) (low ++ high) c.in-Some.entry _ _ (turned _ _ _ c.in-Some.ensures.items) c.loop-entry.invariant.keys_are (omega (arith, length-append low high, c.requires.fits))
+    still_fits (2 ^ 61) (in_order c.loop-entry.low) (low ++ high) c.in-Some.entry _ _ (turned _ _ _ c.in-Some.ensures.items) c.loop-entry.invariant.keys_are (omega (arith, length-append low high, c.requires.fits))

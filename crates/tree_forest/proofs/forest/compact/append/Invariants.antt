@@ -1,5 +1,5 @@
 use Rattle.std.proofs.Common.{◌≡◌, ◌+◌, ◌≤◌, ◌++◌, length, reverse}
-use Rattle.tree_forest.specs.Forests.{entry_keys, in_order, AreTrees, AreKeyedTrees}
+use Rattle.tree23.specs.SideBySide.{entry_keys, in_order, AreTrees, AreKeyedTrees}
 use Rattle.tree_forest.proofs.forest.compact.append.Given as goal
 
 abbrev pub invariant-loop-entry : goal.invariant-loop-entry

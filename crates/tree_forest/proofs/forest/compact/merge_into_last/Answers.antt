@@ -1,7 +1,7 @@
 use Rattle.std.proofs.Common.{◌∷◌, ◌++◌, ap, ◌∙◌}
 use Rattle.tree23.specs.Nodes.{keys}
-use Rattle.tree_forest.specs.Forests.{entry_keys}
-use Rattle.tree_forest.proofs.ForestLemmas.KeyedTrees.{entry_keys_push}
+use Rattle.tree23.specs.SideBySide.{entry_keys}
+use Rattle.tree23.proofs.SideBySideLemmas.KeyedTrees.{entry_keys_push}
 use Rattle.tree_forest.proofs.ForestLemmas.Compacting.{entry_keys_last}
 use Rattle.tree_forest.proofs.forest.compact.merge_into_last.Goals as goal
 

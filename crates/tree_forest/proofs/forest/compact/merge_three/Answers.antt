@@ -1,5 +1,5 @@
 use Rattle.std.proofs.Common.{arith}
-use Rattle.tree_forest.proofs.ForestLemmas.KeyedTrees.{taken}
+use Rattle.tree23.proofs.SideBySideLemmas.KeyedTrees.{taken}
 use Rattle.tree_forest.proofs.forest.compact.merge_three.Goals as goal
 
 pub merge_equal-requires-clause-fits : goal.merge_equal-requires-clause-fits

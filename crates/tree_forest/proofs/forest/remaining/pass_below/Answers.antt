@@ -1,6 +1,5 @@
 use Rattle.std.proofs.Common.{refl, ap, ◌∙◌}
-use Rattle.tree_forest.specs.declared.forest.cut.ForestCut.{ForestCut}
-use Rattle.tree_forest.specs.declared.forest.trees.Trees.{Trees}
+use Rattle.tree23.specs.declared.trees.Trees.{Trees}
 use Rattle.tree_forest.proofs.ForestLemmas.Passing.{pass_none, pass_one, pass_all, pass_keys}
 use Rattle.tree_forest.proofs.forest.remaining.pass_below.Goals as goal
 
@@ -15,17 +14,16 @@ loop-entry-init c =
 pub loop-entry-preserved : goal.loop-entry-preserved
 loop-entry-preserved c =
     let l = c.loop-entry in
-    pass_one _ _ l.rooted (record { low = l.low; before = l.before; high = l.high }) c.in-Some.entry c.put.new.self
-    (record { front = l.high.front; entries = c.pop_below.new.entries })
-    c.requires.set l.invariant refl c.in-Some.ensures.taken c.in-Some.ensures.below c.in_ok-put.ensures.trees c.in_ok-put.ensures.forest
+    let done = c.in_ok-put_low.ensures in
+    pass_one _ _ l.rooted l.sides c.put_low.new.self c.in-Some.entry (record { front = l.sides.high.front; entries = c.pop_below.new.entries })
+    c.requires.set l.invariant refl c.in-Some.ensures.taken c.in-Some.ensures.below done.trees done.keys done.before done.high
 
 pub returns : goal.returns
 returns c =
     let l = c.loop-entry in
-    let sides : ForestCut = record { low = l.low; before = l.before; high = l.high } in
-    let left : Trees = record { front = l.high.front; entries = c.pop_below.new.entries } in
+    let left : Trees = record { front = l.sides.high.front; entries = c.pop_below.new.entries } in
     record {
-      sides = pass_all _ _ l.rooted sides left c.requires.set l.invariant refl c.in_default.ensures.taken (λ e others is. c.pop_below.ensures.stays e others c.in_default.is is);
-      keys = pass_keys _ _ l.rooted sides left l.invariant refl c.in_default.ensures.taken;
+      sides = pass_all _ _ l.rooted l.sides left c.requires.set l.invariant refl c.in_default.ensures.taken (λ e others is. c.pop_below.ensures.stays e others c.in_default.is is);
+      keys = pass_keys _ _ l.rooted l.sides left l.invariant refl c.in_default.ensures.taken;
       rooted = l.invariant.part_is;
     }

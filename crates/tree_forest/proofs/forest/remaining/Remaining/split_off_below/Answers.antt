@@ -1,7 +1,8 @@
 use Rattle.std.proofs.Common.{ap, ◌∙◌}
 use Rattle.tree23.specs.Nodes.{keys}
-use Rattle.tree_forest.specs.Forests.{in_reverse, IsKeySet}
-use Rattle.tree_forest.specs.Code.Cuts.{low_keys, whole_keys}
+use Rattle.tree23.specs.SideBySide.{in_reverse}
+use Rattle.tree_forest.specs.Forests.{IsKeySet}
+use Rattle.tree23.specs.Code.Cuts.{low_keys, whole_keys}
 use Rattle.tree_forest.proofs.ForestLemmas.KeySets.{key_set_as, key_set_low, key_set_high, ascends_inside}
 use Rattle.tree_forest.proofs.forest.remaining.Remaining.split_off_below.Goals as goal
 

@@ -1,11 +1,13 @@
-use Rattle.std.proofs.Common.{◌++◌, ap, ◌∙◌, append-nil, arith, reverse}
+use Rattle.std.proofs.Common.{◌^◌, ◌++◌, ap, ◌∙◌, append-nil, arith, reverse}
 use Rattle.std.proofs.lemmas.List.{reverse-reverse}
 use Rattle.tree23.specs.Nodes.{keys}
-use Rattle.tree_forest.specs.Forests.{entry_keys, in_order}
-use Rattle.tree_forest.proofs.ForestLemmas.KeyedTrees.{taken, entries_push}
-use Rattle.tree_forest.proofs.ForestLemmas.Compacting.{gone_over, in_hand, still_fits}
-use Rattle.tree_forest.proofs.ForestLemmas.Reversing.{turned, entries_turned}
-use Rattle.tree_forest.proofs.forest.compact.merge_all.Goals as goal
+use Rattle.tree23.specs.SideBySide.{entry_keys, in_order}
+use Rattle.tree23.proofs.SideBySideLemmas.KeyedTrees.{taken, entries_push}
+use Rattle.tree23.proofs.SideBySideLemmas.Joining.{still_fits}
+use Rattle.tree_forest.proofs.ForestLemmas.Compacting.{gone_over, in_hand}
+use Rattle.tree23.proofs.SideBySideLemmas.Joining.{turned}
+use Rattle.tree_forest.proofs.ForestLemmas.Reversing.{entries_turned}
+use Rattle.tree_forest.proofs.forest.compact.compact.Goals as goal
 
 pub loop-entry-init : goal.loop-entry-init
 loop-entry-init c = record {
@@ -23,11 +25,11 @@ pub merge_lower-requires-clause-rooted : goal.merge_lower-requires-clause-rooted
 merge_lower-requires-clause-rooted c = (taken _ _ _ c.loop-entry.invariant.entries c.in-Some.ensures.items).rooted
 
 pub merge_lower-requires-clause-fits : goal.merge_lower-requires-clause-fits
-merge_lower-requires-clause-fits c = still_fits (in_order c.loop-entry.compacted) _ c.in-Some.entry _ _ (turned _ _ _ c.in-Some.ensures.items) c.loop-entry.invariant.keys_are c.requires.fits
+merge_lower-requires-clause-fits c = still_fits (2 ^ 61) (in_order c.loop-entry.compacted) _ c.in-Some.entry _ _ (turned _ _ _ c.in-Some.ensures.items) c.loop-entry.invariant.keys_are c.requires.fits
 
 pub merge_three-requires-clause-fits : goal.merge_three-requires-clause-fits
 merge_three-requires-clause-fits c =
-    let less = still_fits (in_order c.loop-entry.compacted) _ c.in-Some.entry _ _ (turned _ _ _ c.in-Some.ensures.items) c.loop-entry.invariant.keys_are c.requires.fits in
+    let less = still_fits (2 ^ 61) (in_order c.loop-entry.compacted) _ c.in-Some.entry _ _ (turned _ _ _ c.in-Some.ensures.items) c.loop-entry.invariant.keys_are c.requires.fits in
     let fits = in_hand _ (entry_keys c.merge_lower.new.trees.entries.items) _ _ _ _ _ c.in_ok-entry.ensures.keys less in
     omega (arith, fits)
 

@@ -1,6 +1,6 @@
 use Rattle.std.proofs.Common.{◌≡◌, ◌++◌, length, reverse}
-use Rattle.tree_forest.specs.Forests.{entry_keys, in_order, AreTrees, AreKeyedTrees}
-use Rattle.tree_forest.proofs.forest.compact.merge_all.Given as goal
+use Rattle.tree23.specs.SideBySide.{entry_keys, in_order, AreTrees, AreKeyedTrees}
+use Rattle.tree_forest.proofs.forest.compact.compact.Given as goal
 
 abbrev pub invariant-loop-entry : goal.invariant-loop-entry
 invariant-loop-entry l = record {

@@ -2,5 +2,5 @@ pub mod Adding
 pub mod Depths
 pub mod Inserting
 pub mod Removing
-pub mod Sizes
+pub mod Sides
 pub mod Trees

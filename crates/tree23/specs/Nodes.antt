@@ -1,5 +1,5 @@
 -- What a tree of nodes holds, and when it is balanced.
-use Rattle.std.specs.Prelude.{◌≡◌, ℕ, ◌+◌, ◌%◌, ◌<◌, ◌≤◌, ◌^◌, List, [], ◌∷◌, ◌++◌, length, ⊤}
+use Rattle.std.specs.Prelude.{◌≡◌, ℕ, ◌+◌, ◌<◌, ◌≤◌, ◌^◌, List, [], ◌∷◌, ◌++◌, length, ⊤}
 use Rattle.std.specs.List.{AllByRecursion}
 use Rattle.tree23.specs.declared.tree.node.Tree.{Tree}
 use Rattle.tree23.specs.declared.tree.node.Tree.TheVariants.{Empty, Leaf, Underfull', Two', Three'}
@@ -16,29 +16,25 @@ room = 256
 abbrev pub keys : Tree → List ℕ
 keys Empty = []
 keys (Leaf b) = b.value.items
-keys (Underfull' p n a k b m c) = keys a
-keys (Two' p n a k b m c) = keys a ++ k ∷ keys b
-keys (Three' p n a k b m c) = keys a ++ k ∷ (keys b ++ m ∷ keys c)
+keys (Underfull' p a k b m c) = keys a
+keys (Two' p a k b m c) = keys a ++ k ∷ keys b
+keys (Three' p a k b m c) = keys a ++ k ∷ (keys b ++ m ∷ keys c)
 
 -- the levels of nodes above the leaves, along the left edge
 abbrev pub depth : Tree → ℕ
 depth Empty = 0
 depth (Leaf b) = 0
-depth (Underfull' p n a k b m c) = depth a + 1
-depth (Two' p n a k b m c) = depth a + 1
-depth (Three' p n a k b m c) = depth a + 1
+depth (Underfull' p a k b m c) = depth a + 1
+depth (Two' p a k b m c) = depth a + 1
+depth (Three' p a k b m c) = depth a + 1
 
--- the number with 64 bits that a node keeps of its keys
-abbrev pub IsSize : ℕ → List ℕ → Type 0
-IsSize n set = n ≡ length set % 2 ^ 64
-
--- each node has two or three sides of one depth, and tells its size; no leaf is too long
+-- each node has two or three sides of one depth, and no leaf is too long
 abbrev pub IsTree : Tree → Type 0
 IsTree Empty = ⊤
 IsTree (Leaf b) = length b.value.items ≤ room
-IsTree (Underfull' p n a k b m c) = ⊥
-IsTree (Two' p n a k b m c) = IsTree a × IsTree b × (depth b ≡ depth a) × IsSize n (keys a ++ k ∷ keys b)
-IsTree (Three' p n a k b m c) = IsTree a × IsTree b × IsTree c × (depth b ≡ depth a) × (depth c ≡ depth a) × IsSize n (keys a ++ k ∷ (keys b ++ m ∷ keys c))
+IsTree (Underfull' p a k b m c) = ⊥
+IsTree (Two' p a k b m c) = IsTree a × IsTree b × (depth b ≡ depth a)
+IsTree (Three' p a k b m c) = IsTree a × IsTree b × IsTree c × (depth b ≡ depth a) × (depth c ≡ depth a)
 
 -- the tree's root, and its keys
 pub record IsSet (root : Tree) : Type 0 where
@@ -70,30 +66,30 @@ IsTreeWithSplit d tree (Splits k right) = IsTree tree × IsTree right × (depth 
 abbrev pub IsLoose : Tree → Type 0
 IsLoose Empty = ⊤
 IsLoose (Leaf b) = IsTree (Leaf b)
-IsLoose (Underfull' p n a k b m c) = IsTree a
-IsLoose (Two' p n a k b m c) = IsTree (Two' p n a k b m c)
-IsLoose (Three' p n a k b m c) = IsTree (Three' p n a k b m c)
+IsLoose (Underfull' p a k b m c) = IsTree a
+IsLoose (Two' p a k b m c) = IsTree (Two' p a k b m c)
+IsLoose (Three' p a k b m c) = IsTree (Three' p a k b m c)
 
 -- the root has one side or two
 abbrev pub IsNarrow : Tree → Type 0
 IsNarrow Empty = ⊥
 IsNarrow (Leaf b) = ⊥
-IsNarrow (Underfull' p n a k b m c) = ⊤
-IsNarrow (Two' p n a k b m c) = ⊤
-IsNarrow (Three' p n a k b m c) = ⊥
+IsNarrow (Underfull' p a k b m c) = ⊤
+IsNarrow (Two' p a k b m c) = ⊤
+IsNarrow (Three' p a k b m c) = ⊥
 
 -- the root has three sides
 abbrev pub IsWide : Tree → Type 0
 IsWide Empty = ⊥
 IsWide (Leaf b) = ⊥
-IsWide (Underfull' p n a k b m c) = ⊥
-IsWide (Two' p n a k b m c) = ⊥
-IsWide (Three' p n a k b m c) = ⊤
+IsWide (Underfull' p a k b m c) = ⊥
+IsWide (Two' p a k b m c) = ⊥
+IsWide (Three' p a k b m c) = ⊤
 
 -- the tree is a leaf alone
 abbrev pub IsLeaf : Tree → Type 0
 IsLeaf Empty = ⊤
 IsLeaf (Leaf b) = ⊤
-IsLeaf (Underfull' p n a k b m c) = ⊥
-IsLeaf (Two' p n a k b m c) = ⊥
-IsLeaf (Three' p n a k b m c) = ⊥
+IsLeaf (Underfull' p a k b m c) = ⊥
+IsLeaf (Two' p a k b m c) = ⊥
+IsLeaf (Three' p a k b m c) = ⊥

@@ -75,7 +75,9 @@ impl Tree23 {
         let _root = &self.root.tree;
     }
 
-    /// How many keys there are. They are not counted: each subtree keeps its number.
+    /// How many keys there are. They are counted.
+    ///
+    /// Time: linear in the number of leaves.
     pub fn len(&self) -> u64
         ensures keys { result ≡ length self.now }
         ensures small { result ≤ 2 ^ 32 }

@@ -8,21 +8,21 @@ use Rattle.tree23.specs.Nodes.{keys, depth, IsTree}
 pub depth_within : (tree : Tree) → IsTree tree → depth tree ≤ length (keys tree)
 depth_within Empty t = omega arith
 depth_within (Leaf b) t = omega arith
-depth_within (Underfull' p n a k b m c) t = absurd t
-depth_within (Two' p n a k b m c) t = omega (arith, depth_within a t.0, length-append (keys a) (k ∷ keys b))
-depth_within (Three' p n a k b m c) t = omega (arith, depth_within a t.0, length-append (keys a) (k ∷ (keys b ++ m ∷ keys c)))
+depth_within (Underfull' p a k b m c) t = absurd t
+depth_within (Two' p a k b m c) t = omega (arith, depth_within a t.0, length-append (keys a) (k ∷ keys b))
+depth_within (Three' p a k b m c) t = omega (arith, depth_within a t.0, length-append (keys a) (k ∷ (keys b ++ m ∷ keys c)))
 
 -- a tree of depth d holds at least 2 ^ d - 1 keys
 pub keys_at_least : (tree : Tree) → IsTree tree → 2 ^ depth tree ≤ length (keys tree) + 1
 keys_at_least Empty t = omega arith
 keys_at_least (Leaf b) t = omega arith
-keys_at_least (Underfull' p n a k b m c) t = absurd t
-keys_at_least (Two' p n a k b m c) t =
+keys_at_least (Underfull' p a k b m c) t = absurd t
+keys_at_least (Two' p a k b m c) t =
     let level = t.2 in
     let x = keys_at_least a t.0 in
     let y = rw level at (keys_at_least b t.1) in
     rw pow_more (omega (arith, x, y, length-append (keys a) (k ∷ keys b)))
-keys_at_least (Three' p n a k b m c) t =
+keys_at_least (Three' p a k b m c) t =
     let level = t.3 in
     let x = keys_at_least a t.0 in
     let y = rw level at (keys_at_least b t.1) in
@@ -32,13 +32,13 @@ keys_at_least (Three' p n a k b m c) t =
 pub keys_at_most : (tree : Tree) → IsTree tree → length (keys tree) < 257 * 3 ^ depth tree
 keys_at_most Empty t = omega arith
 keys_at_most (Leaf b) t = omega arith
-keys_at_most (Underfull' p n a k b m c) t = absurd t
-keys_at_most (Two' p n a k b m c) t =
+keys_at_most (Underfull' p a k b m c) t = absurd t
+keys_at_most (Two' p a k b m c) t =
     let level = t.2 in
     let x = keys_at_most a t.0 in
     let y = rw level at (keys_at_most b t.1) in
     rw pow_more (omega (arith, x, y, length-append (keys a) (k ∷ keys b)))
-keys_at_most (Three' p n a k b m c) t =
+keys_at_most (Three' p a k b m c) t =
     let level = t.3 in
     let level' = t.4 in
     let x = keys_at_most a t.0 in

@@ -4,35 +4,35 @@ use Rattle.std.specs.List.{remove}
 use Rattle.tree23.specs.declared.tree.node.Tree.{Tree}
 use Rattle.tree23.specs.Keys.{StrictlyAscends, has, without_key}
 use Rattle.tree23.specs.Code.Removals.{IsTaken, IsRemoved}
-use Rattle.tree23.specs.Nodes.{keys, IsTree}
+use Rattle.tree23.specs.Nodes.{keys}
 use Rattle.tree23.specs.Splits.{IsSplit}
 use Rattle.tree23.proofs.KeyLemmas.Ascending.{ascends_front, ascends_after}
 use Rattle.tree23.proofs.KeyLemmas.Beside.{without_left, without_right, without_here, has_left, has_right, has_here}
 use Rattle.tree23.proofs.KeyLemmas.Places.{without_at, within_present, key_present}
 
-pub taken_left : (key k : ℕ) (a b a' : List ℕ) → StrictlyAscends (a ++ k ∷ b) → key < k → IsTaken key a a' → IsTaken key (a ++ k ∷ b) (a' ++ k ∷ b)
-taken_left key k a b a' s lt i = record {
-  is = ap (λ z. z ++ k ∷ b) i.is ∙ sym (without_left key k a b lt s);
-  present = has_left key k a b lt s ∙ i.present;
+pub taken_left : (key k : ℕ) (a b a' new : List ℕ) (found : Bool) → StrictlyAscends (a ++ k ∷ b) → key < k → IsTaken key a a' found → new ≡ a' ++ k ∷ b → IsTaken key (a ++ k ∷ b) new found
+taken_left key k a b a' new found s lt i is = record {
+  is = is ∙ ap (λ z. z ++ k ∷ b) i.is ∙ sym (without_left key k a b lt s);
+  answer = i.answer ∙ sym (has_left key k a b lt s);
 }
 
-pub taken_right : (key k : ℕ) (a b b' : List ℕ) → StrictlyAscends (a ++ k ∷ b) → k < key → IsTaken key b b' → IsTaken key (a ++ k ∷ b) (a ++ k ∷ b')
-taken_right key k a b b' s lt i = record {
-  is = ap (λ z. a ++ k ∷ z) i.is ∙ sym (without_right key k a b lt s);
-  present = has_right key k a b lt s ∙ i.present;
+pub taken_right : (key k : ℕ) (a b b' new : List ℕ) (found : Bool) → StrictlyAscends (a ++ k ∷ b) → k < key → IsTaken key b b' found → new ≡ a ++ k ∷ b' → IsTaken key (a ++ k ∷ b) new found
+taken_right key k a b b' new found s lt i is = record {
+  is = is ∙ ap (λ z. a ++ k ∷ z) i.is ∙ sym (without_right key k a b lt s);
+  answer = i.answer ∙ sym (has_right key k a b lt s);
 }
 
-pub taken_middle : (key k m : ℕ) (a b c b' : List ℕ) → StrictlyAscends (a ++ k ∷ (b ++ m ∷ c)) → k < key → key < m → IsTaken key b b' → IsTaken key (a ++ k ∷ (b ++ m ∷ c)) (a ++ k ∷ (b' ++ m ∷ c))
-taken_middle key k m a b c b' s gt lt i = taken_right key k a (b ++ m ∷ c) (b' ++ m ∷ c) s gt (taken_left key m b c b' (ascends_after a k (b ++ m ∷ c) s) lt i)
+pub taken_middle : (key k m : ℕ) (a b c b' new : List ℕ) (found : Bool) → StrictlyAscends (a ++ k ∷ (b ++ m ∷ c)) → k < key → key < m → IsTaken key b b' found → new ≡ a ++ k ∷ (b' ++ m ∷ c) → IsTaken key (a ++ k ∷ (b ++ m ∷ c)) new found
+taken_middle key k m a b c b' new found s gt lt i is = taken_right key k a (b ++ m ∷ c) (b' ++ m ∷ c) new found s gt (taken_left key m b c b' (b' ++ m ∷ c) found (ascends_after a k (b ++ m ∷ c) s) lt i refl) is
 
-pub taken_last : (key k m : ℕ) (a b c c' : List ℕ) → StrictlyAscends (a ++ k ∷ (b ++ m ∷ c)) → k < key → m < key → IsTaken key c c' → IsTaken key (a ++ k ∷ (b ++ m ∷ c)) (a ++ k ∷ (b ++ m ∷ c'))
-taken_last key k m a b c c' s gt gt' i = taken_right key k a (b ++ m ∷ c) (b ++ m ∷ c') s gt (taken_right key m b c c' (ascends_after a k (b ++ m ∷ c) s) gt' i)
+pub taken_last : (key k m : ℕ) (a b c c' new : List ℕ) (found : Bool) → StrictlyAscends (a ++ k ∷ (b ++ m ∷ c)) → k < key → m < key → IsTaken key c c' found → new ≡ a ++ k ∷ (b ++ m ∷ c') → IsTaken key (a ++ k ∷ (b ++ m ∷ c)) new found
+taken_last key k m a b c c' new found s gt gt' i is = taken_right key k a (b ++ m ∷ c) (b ++ m ∷ c') new found s gt (taken_right key m b c c' (b ++ m ∷ c') found (ascends_after a k (b ++ m ∷ c) s) gt' i refl) is
 
-pub taken_here : (key k : ℕ) (a b : List ℕ) → StrictlyAscends (a ++ k ∷ b) → key ≡ k → IsTaken key (a ++ k ∷ b) (a ++ b)
-taken_here key k a b s e = record { is = sym (without_here key k a b e s); present = has_here key k a b e }
+pub taken_here : (key k : ℕ) (a b new : List ℕ) → StrictlyAscends (a ++ k ∷ b) → key ≡ k → new ≡ a ++ b → IsTaken key (a ++ k ∷ b) new true
+taken_here key k a b new s e is = record { is = is ∙ sym (without_here key k a b e s); answer = sym (has_here key k a b e) }
 
-pub taken_high : (key k m : ℕ) (a b c : List ℕ) → StrictlyAscends (a ++ k ∷ (b ++ m ∷ c)) → k < key → key ≡ m → IsTaken key (a ++ k ∷ (b ++ m ∷ c)) (a ++ k ∷ (b ++ c))
-taken_high key k m a b c s gt e = taken_right key k a (b ++ m ∷ c) (b ++ c) s gt (taken_here key m b c (ascends_after a k (b ++ m ∷ c) s) e)
+pub taken_high : (key k m : ℕ) (a b c new : List ℕ) → StrictlyAscends (a ++ k ∷ (b ++ m ∷ c)) → k < key → key ≡ m → new ≡ a ++ k ∷ (b ++ c) → IsTaken key (a ++ k ∷ (b ++ m ∷ c)) new true
+taken_high key k m a b c new s gt e is = taken_right key k a (b ++ m ∷ c) (b ++ c) new true s gt (taken_here key m b c (b ++ c) (ascends_after a k (b ++ m ∷ c) s) e refl) is
 
 pub without_absent : (key : ℕ) (xs : List ℕ) → has key xs ≡ false → without_key key xs ≡ xs
 without_absent key [] none = refl
@@ -44,11 +44,6 @@ without_absent key (x ∷ xs) none = insertion (key == x) none (without_absent k
 -- a key taken out of a leaf at its place
 pub taken_at : (key at : ℕ) (xs : List ℕ) → StrictlyAscends xs → IsSplit key xs (take at xs) (drop at xs) → has key xs ≡ true → remove xs at ≡ without_key key xs
 taken_at key at xs up cut there = sym (without_at key at xs up (within_present key at xs cut there) (key_present key at xs up cut there))
-
--- a removal from a leaf, which is no longer after it than before
-pub removed_of_keys : (key : ℕ) (old new : Tree) (found : Bool) → IsTree new → found ≡ has key (keys old) → keys new ≡ without_key key (keys old) → IsRemoved key old new found
-removed_of_keys key old new true tree there is = record { is = is; present = sym there }
-removed_of_keys key old new false tree there is = (tree, is ∙ without_absent key (keys old) (sym there), sym there)
 
 length_without : (key : ℕ) (xs : List ℕ) → length (without_key key xs) ≤ length xs
 length_without key [] = omega arith
@@ -62,12 +57,10 @@ fits_without key limit old new is fits = rw is (omega (arith, fits, length_witho
 
 -- what a removal says of the keys and of the key
 pub removed_keys : (key : ℕ) (old new : Tree) (found : Bool) → IsRemoved key old new found → keys new ≡ without_key key (keys old)
-removed_keys key old new true taken = taken.is
-removed_keys key old new false kept = kept.1 ∙ sym (without_absent key (keys old) kept.2)
+removed_keys key old new found removed = removed.is
 
 pub removed_found : (key : ℕ) (old new : Tree) (found : Bool) → IsRemoved key old new found → found ≡ has key (keys old)
-removed_found key old new true taken = sym taken.present
-removed_found key old new false kept = sym kept.2
+removed_found key old new found removed = removed.answer
 
 pub ruleset sides_ascend = (ascends_front, ascends_after)
 

@@ -1,86 +1,82 @@
 -- A node from one of whose sides a key was taken.
-use Rattle.std.specs.Prelude.{◌≡◌, ℕ, ◌+◌, ◌%◌, ◌^◌, List, [], ◌∷◌, ◌++◌, length, Option, Some, None, Bool, true, false}
+use Rattle.std.specs.Prelude.{◌≡◌, ℕ, List, [], ◌∷◌, ◌++◌, Option, Some, None, Bool, true, false}
 use Rattle.tree23.specs.declared.tree.node.Tree.{Tree}
 use Rattle.tree23.specs.declared.tree.node.Tree.TheVariants.{Empty, Leaf, Underfull', Two', Three'}
 use Rattle.tree23.specs.Keys.{has, without_key}
 use Rattle.tree23.specs.Nodes.{keys, depth, IsTree, IsLoose}
 
--- the number that the node still keeps counts one key more
-abbrev pub IsSizeWithOneMore : ℕ → List ℕ → Type 0
-IsSizeWithOneMore n set = n ≡ (length set + 1) % 2 ^ 64
+-- whether a root has one side alone
+abbrev pub has_one_side : Tree → Bool
+has_one_side Empty = false
+has_one_side (Leaf b) = false
+has_one_side (Underfull' p a k b m c) = true
+has_one_side (Two' p a k b m c) = false
+has_one_side (Three' p a k b m c) = false
 
--- the first side may have one side of its own
-abbrev pub IsFirstLess : Tree → Type 0
-IsFirstLess Empty = ⊥
-IsFirstLess (Leaf b) = ⊥
-IsFirstLess (Underfull' p n a k b m c) = ⊥
-IsFirstLess (Two' p n a k b m c) = IsLoose a × IsTree b × (depth b ≡ depth a) × IsSizeWithOneMore n (keys a ++ k ∷ keys b)
-IsFirstLess (Three' p n a k b m c) = IsLoose a × IsTree b × IsTree c × (depth b ≡ depth a) × (depth c ≡ depth a) × IsSizeWithOneMore n (keys a ++ k ∷ (keys b ++ m ∷ keys c))
+-- two trees, of which one may have one side alone
+abbrev pub IsPair : Tree → Tree → Type 0
+IsPair Empty b = IsLoose b
+IsPair (Leaf a) b = IsTree (Leaf a) × IsLoose b
+IsPair (Underfull' p x k y m z) b = IsTree x × IsTree b
+IsPair (Two' p x k y m z) b = IsTree (Two' p x k y m z) × IsLoose b
+IsPair (Three' p x k y m z) b = IsTree (Three' p x k y m z) × IsLoose b
 
--- the second side may
-abbrev pub IsSecondLess : Tree → Type 0
-IsSecondLess Empty = ⊥
-IsSecondLess (Leaf b) = ⊥
-IsSecondLess (Underfull' p n a k b m c) = ⊥
-IsSecondLess (Two' p n a k b m c) = IsTree a × IsLoose b × (depth b ≡ depth a) × IsSizeWithOneMore n (keys a ++ k ∷ keys b)
-IsSecondLess (Three' p n a k b m c) = IsTree a × IsLoose b × IsTree c × (depth b ≡ depth a) × (depth c ≡ depth a) × IsSizeWithOneMore n (keys a ++ k ∷ (keys b ++ m ∷ keys c))
+-- three trees, of which one may
+abbrev pub IsTriple : Tree → Tree → Tree → Type 0
+IsTriple a b Empty = IsPair a b
+IsTriple a b (Leaf c) = IsPair a b × IsTree (Leaf c)
+IsTriple a b (Underfull' p x k y m z) = IsTree a × IsTree b × IsTree x
+IsTriple a b (Two' p x k y m z) = IsPair a b × IsTree (Two' p x k y m z)
+IsTriple a b (Three' p x k y m z) = IsPair a b × IsTree (Three' p x k y m z)
 
--- the third side may
-abbrev pub IsThirdLess : Tree → Type 0
-IsThirdLess Empty = ⊥
-IsThirdLess (Leaf b) = ⊥
-IsThirdLess (Underfull' p n a k b m c) = ⊥
-IsThirdLess (Two' p n a k b m c) = ⊥
-IsThirdLess (Three' p n a k b m c) = IsTree a × IsTree b × IsLoose c × (depth b ≡ depth a) × (depth c ≡ depth a) × IsSizeWithOneMore n (keys a ++ k ∷ (keys b ++ m ∷ keys c))
+-- a node of which one side may have one side of its own
+abbrev pub IsShort : Tree → Type 0
+IsShort Empty = ⊥
+IsShort (Leaf b) = ⊥
+IsShort (Underfull' p a k b m c) = ⊥
+IsShort (Two' p a k b m c) = IsPair a b × (depth b ≡ depth a)
+IsShort (Three' p a k b m c) = IsTriple a b c × (depth b ≡ depth a) × (depth c ≡ depth a)
 
--- the sides of a node
+-- sides of a node
 abbrev pub first_side : Tree → Tree
 first_side Empty = Empty
 first_side (Leaf b) = Empty
-first_side (Underfull' p n a k b m c) = a
-first_side (Two' p n a k b m c) = a
-first_side (Three' p n a k b m c) = a
+first_side (Underfull' p a k b m c) = a
+first_side (Two' p a k b m c) = a
+first_side (Three' p a k b m c) = a
 
 abbrev pub second_side : Tree → Tree
 second_side Empty = Empty
 second_side (Leaf b) = Empty
-second_side (Underfull' p n a k b m c) = Empty
-second_side (Two' p n a k b m c) = b
-second_side (Three' p n a k b m c) = b
-
-abbrev pub third_side : Tree → Tree
-third_side Empty = Empty
-third_side (Leaf b) = Empty
-third_side (Underfull' p n a k b m c) = Empty
-third_side (Two' p n a k b m c) = Empty
-third_side (Three' p n a k b m c) = c
+second_side (Underfull' p a k b m c) = Empty
+second_side (Two' p a k b m c) = b
+second_side (Three' p a k b m c) = b
 
 -- the keys of a tree without one of the root's own
 abbrev pub keys_but_low : Tree → List ℕ
 keys_but_low Empty = []
 keys_but_low (Leaf b) = []
-keys_but_low (Underfull' p n a k b m c) = keys a
-keys_but_low (Two' p n a k b m c) = keys a ++ keys b
-keys_but_low (Three' p n a k b m c) = keys a ++ (keys b ++ m ∷ keys c)
+keys_but_low (Underfull' p a k b m c) = keys a
+keys_but_low (Two' p a k b m c) = keys a ++ keys b
+keys_but_low (Three' p a k b m c) = keys a ++ (keys b ++ m ∷ keys c)
 
 abbrev pub keys_but_high : Tree → List ℕ
 keys_but_high Empty = []
 keys_but_high (Leaf b) = []
-keys_but_high (Underfull' p n a k b m c) = keys a
-keys_but_high (Two' p n a k b m c) = keys a ++ k ∷ keys b
-keys_but_high (Three' p n a k b m c) = keys a ++ k ∷ (keys b ++ keys c)
+keys_but_high (Underfull' p a k b m c) = keys a
+keys_but_high (Two' p a k b m c) = keys a ++ k ∷ keys b
+keys_but_high (Three' p a k b m c) = keys a ++ k ∷ (keys b ++ keys c)
 
 -- the first key of a tree was taken out, unless there was none
 abbrev pub IsPopped : Tree → Tree → Option ℕ → Type 0
 IsPopped old new None = (keys old ≡ []) × (new ≡ old)
 IsPopped old new (Some k) = keys old ≡ k ∷ keys new
 
--- the key was there, and now it is not
-pub record IsTaken (key : ℕ) (old new : List ℕ) : Type 0 where
+-- a list without a key, and whether the key was there
+pub record IsTaken (key : ℕ) (old new : List ℕ) (found : Bool) : Type 0 where
   pub is : new ≡ without_key key old
-  pub present : has key old ≡ true
+  pub answer : found ≡ has key old
 
--- whether a key was taken out
+-- the same of trees
 abbrev pub IsRemoved : ℕ → Tree → Tree → Bool → Type 0
-IsRemoved key old new true = IsTaken key (keys old) (keys new)
-IsRemoved key old new false = IsTree new × (keys new ≡ keys old) × (has key (keys old) ≡ false)
+IsRemoved key old new found = IsTaken key (keys old) (keys new) found

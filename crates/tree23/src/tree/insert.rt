@@ -1,6 +1,5 @@
 //! A key put into a tree, of which a leaf may be split.
-ghost use Rattle.std.specs.Prelude.{◌≡◌, length, ◌≤◌, ◌+◌, ◌%◌, ◌<◌, ◌^◌, IfOk, OnOk, OnErr, false};
-ghost use Rattle.tree23.specs.declared.tree.insert.Insertion.TheVariants.{Added};
+ghost use Rattle.std.specs.Prelude.{◌≡◌, length, ◌≤◌, ◌<◌, ◌^◌, IfOk, OnOk, OnErr, false};
 ghost use Rattle.tree23.specs.Keys.{StrictlyAscends, has};
 ghost use Rattle.tree23.specs.Nodes.{room, keys, depth, IsTree, IsRooted, IsNarrow, IsWide};
 ghost use Rattle.tree23.specs.Code.Insertions.{IsAdded, IsAfterLow, IsInserted, IsSpare, IsInsertion, IsLeafInsertion};
@@ -36,15 +35,6 @@ pub fn spare_for(alloc: Global, tree: &Tree) -> Result<Option<Box<Node>>, AllocE
             Ok(Some(spare))
         }
     }
-}
-
-/// Counts a key that was added below a node.
-fn counted(size: &mut u64) -> Insertion
-    ensures size { size.new ≡ (size.old + 1) % 2 ^ 64 }
-    ensures added { result ≡ Added }
-{
-    *size = size.wrapping_add(1);
-    Insertion::Added
 }
 
 /// Puts the key into a whole tree, and says whether it is new.
@@ -159,7 +149,7 @@ fn insert_in_two(alloc: Global, tree: &mut Tree, key: u32) -> Insertion
                         add_after_first(tree, j, right);
                         Insertion::Added
                     }
-                    Insertion::Added => counted(&mut node.size),
+                    Insertion::Added => Insertion::Added,
                     Insertion::Memory => Insertion::Memory,
                 }
             } else if node.low < key {
@@ -168,7 +158,7 @@ fn insert_in_two(alloc: Global, tree: &mut Tree, key: u32) -> Insertion
                         add_after_second(tree, j, right);
                         Insertion::Added
                     }
-                    Insertion::Added => counted(&mut node.size),
+                    Insertion::Added => Insertion::Added,
                     Insertion::Memory => Insertion::Memory,
                 }
             } else {
@@ -203,7 +193,7 @@ fn insert_in_three(alloc: Global, tree: &mut Tree, key: u32) -> Insertion
                         let (k, rest) = split_after_first(tree, spare, j, right);
                         Insertion::Splits(k, rest)
                     }
-                    Insertion::Added => counted(&mut node.size),
+                    Insertion::Added => Insertion::Added,
                     Insertion::Memory => Insertion::Memory,
                 }
             } else if node.low < key {
@@ -241,7 +231,7 @@ fn insert_after_low(alloc: Global, tree: &mut Tree, key: u32) -> Insertion
                         let (k, rest) = split_after_second(tree, spare, j, right);
                         Insertion::Splits(k, rest)
                     }
-                    Insertion::Added => counted(&mut node.size),
+                    Insertion::Added => Insertion::Added,
                     Insertion::Memory => Insertion::Memory,
                 }
             } else if node.high < key {
@@ -254,7 +244,7 @@ fn insert_after_low(alloc: Global, tree: &mut Tree, key: u32) -> Insertion
                         let (k, rest) = split_after_third(tree, spare, j, right);
                         Insertion::Splits(k, rest)
                     }
-                    Insertion::Added => counted(&mut node.size),
+                    Insertion::Added => Insertion::Added,
                     Insertion::Memory => Insertion::Memory,
                 }
             } else {

@@ -1,5 +1,5 @@
 //! Trees joined around a key: the lower one moves whole to the edge of the other, at its own height (2-3 tree join).
-ghost use Rattle.std.specs.Prelude.{◌≡◌, ◌+◌, ◌%◌, ◌<◌, ◌^◌, ◌++◌, ◌∷◌, true, length, IfOk, OnOk};
+ghost use Rattle.std.specs.Prelude.{◌≡◌, ◌+◌, ◌<◌, ◌^◌, ◌++◌, ◌∷◌, true, length, IfOk, OnOk};
 ghost use Rattle.tree23.specs.Nodes.{room, keys, depth, IsTree, IsLeaf, IsRooted, keys_with_split, IsTreeWithSplit};
 
 use crate::pool::Pool;
@@ -75,20 +75,17 @@ fn join_equal(low: &mut Tree, key: u32, high: Tree, pool: &mut Pool) -> Result<S
     }
 }
 
-/// Puts a key and `high` after a tree at its right edge, `levels` below its root. `added` is the number of keys that
-/// come to it.
+/// Puts a key and `high` after a tree at its right edge, `levels` below its root.
 pub fn join_right(
     low: &mut Tree,
     levels: u64,
     key: u32,
     high: Tree,
-    added: u64,
     pool: &mut Pool,
 ) -> Result<Split, AllocError>
     requires low { IsTree low.old }
     requires high { IsTree high }
     requires levels { depth low.old ≡ depth high + levels }
-    requires added { added ≡ (length (keys high) + 1) % 2 ^ 64 }
     ensures keys { IfOk result (λ g. keys_with_split low.new g ≡ keys low.old ++ key ∷ keys high) }
     ensures split { IfOk result (λ g. IsTreeWithSplit (depth low.old) low.new g) }
 {
@@ -97,18 +94,15 @@ pub fn join_right(
     }
     match low {
         Tree::Two(node) => {
-            match join_right(&mut node.second, levels - 1, key, high, added, pool)? {
-                Split::Fits => node.size = node.size.wrapping_add(added),
+            match join_right(&mut node.second, levels - 1, key, high, pool)? {
+                Split::Fits => {}
                 Split::Splits(k, right) => add_after_second(low, k, right),
             }
             Ok(Split::Fits)
         }
         Tree::Three(node) => {
-            match join_right(&mut node.third, levels - 1, key, high, added, pool)? {
-                Split::Fits => {
-                    node.size = node.size.wrapping_add(added);
-                    Ok(Split::Fits)
-                }
+            match join_right(&mut node.third, levels - 1, key, high, pool)? {
+                Split::Fits => Ok(Split::Fits),
                 Split::Splits(k, right) => {
                     let spare = pool.take()?;
                     let (m, rest) = split_after_third(low, spare, k, right);
@@ -120,20 +114,17 @@ pub fn join_right(
     }
 }
 
-/// Puts `low` and a key before a tree at its left edge, `levels` below its root. `added` is the number of keys that come
-/// to it.
+/// Puts `low` and a key before a tree at its left edge, `levels` below its root.
 pub fn join_left(
     low: Tree,
     key: u32,
     high: &mut Tree,
     levels: u64,
-    added: u64,
     pool: &mut Pool,
 ) -> Result<Split, AllocError>
     requires low { IsTree low }
     requires high { IsTree high.old }
     requires levels { depth high.old ≡ depth low + levels }
-    requires added { added ≡ (length (keys low) + 1) % 2 ^ 64 }
     ensures keys { IfOk result (λ g. keys_with_split high.new g ≡ keys low ++ key ∷ keys high.old) }
     ensures split { IfOk result (λ g. IsTreeWithSplit (depth high.old) high.new g) }
 {
@@ -143,18 +134,15 @@ pub fn join_left(
     }
     match high {
         Tree::Two(node) => {
-            match join_left(low, key, &mut node.first, levels - 1, added, pool)? {
-                Split::Fits => node.size = node.size.wrapping_add(added),
+            match join_left(low, key, &mut node.first, levels - 1, pool)? {
+                Split::Fits => {}
                 Split::Splits(k, right) => add_after_first(high, k, right),
             }
             Ok(Split::Fits)
         }
         Tree::Three(node) => {
-            match join_left(low, key, &mut node.first, levels - 1, added, pool)? {
-                Split::Fits => {
-                    node.size = node.size.wrapping_add(added);
-                    Ok(Split::Fits)
-                }
+            match join_left(low, key, &mut node.first, levels - 1, pool)? {
+                Split::Fits => Ok(Split::Fits),
                 Split::Splits(k, right) => {
                     let spare = pool.take()?;
                     let (m, rest) = split_after_first(high, spare, k, right);
@@ -198,15 +186,13 @@ pub fn put_after(
     ensures rooted { OnOk result (IsRooted low.new) }
 {
     if low.height >= high.height {
-        let added = high.tree.size().wrapping_add(1);
         let levels = low.height - high.height;
-        let split = join_right(&mut low.tree, levels, key, high.tree, added, pool)?;
+        let split = join_right(&mut low.tree, levels, key, high.tree, pool)?;
         under_one_root(low, split, pool)
     } else {
-        let added = low.tree.size().wrapping_add(1);
         let levels = high.height - low.height;
         let left = mem::replace(&mut low.tree, Tree::Empty);
-        let split = join_left(left, key, &mut high.tree, levels, added, pool)?;
+        let split = join_left(left, key, &mut high.tree, levels, pool)?;
         *low = high;
         under_one_root(low, split, pool)
     }
@@ -227,16 +213,14 @@ pub fn put_before(
     ensures rooted { OnOk result (IsRooted high.new) }
 {
     if low.height >= high.height {
-        let added = high.tree.size().wrapping_add(1);
         let levels = low.height - high.height;
         let right = mem::replace(&mut high.tree, Tree::Empty);
-        let split = join_right(&mut low.tree, levels, key, right, added, pool)?;
+        let split = join_right(&mut low.tree, levels, key, right, pool)?;
         *high = low;
         under_one_root(high, split, pool)
     } else {
-        let added = low.tree.size().wrapping_add(1);
         let levels = high.height - low.height;
-        let split = join_left(low.tree, key, &mut high.tree, levels, added, pool)?;
+        let split = join_left(low.tree, key, &mut high.tree, levels, pool)?;
         under_one_root(high, split, pool)
     }
 }

@@ -1,5 +1,5 @@
 //! The nodes of a 2-3 tree, and how they are made of their sides.
-ghost use Rattle.std.specs.Prelude.{◌≡◌, ◌+◌, ◌%◌, ◌<◌, ◌^◌, ◌++◌, ◌∷◌, length};
+ghost use Rattle.std.specs.Prelude.{◌≡◌, ◌+◌, ◌<◌, ◌^◌, ◌++◌, ◌∷◌, length};
 ghost use Rattle.tree23.specs.Nodes.{keys, depth, IsTree, IsRooted, IsLoose, IsNarrow};
 ghost use Rattle.tree23.specs.declared.tree.node.Tree.TheVariants.{Empty};
 
@@ -26,8 +26,6 @@ pub enum Tree {
 #[cycle(tree)]
 #[derive(Drop)]
 pub struct Node {
-    /// How many keys there are here and below.
-    pub size: u64,
     pub first: Tree,
     pub low: u32,
     pub second: Tree,
@@ -52,17 +50,19 @@ pub enum Split {
 }
 
 impl Tree {
-    /// How many keys there are, without counting them.
-    #[inline]
+    /// How many keys there are. They are counted, leaf by leaf.
     pub fn size(&self) -> u64
-        requires { IsTree self.now }
-        ensures { result ≡ length (keys self.now) % 2 ^ 64 }
+        requires tree { IsTree self.now }
+        requires fits { length (keys self.now) < 2 ^ 64 }
+        ensures { result ≡ length (keys self.now) }
     {
         match self {
             Tree::Empty => 0,
             Tree::Leaf(leaf) => leaf.len() as u64,
-            Tree::Two(node) => node.size,
-            Tree::Three(node) => node.size,
+            Tree::Two(node) => node.first.size() + 1 + node.second.size(),
+            Tree::Three(node) => {
+                node.first.size() + 1 + node.second.size() + 1 + node.third.size()
+            }
             Tree::Underfull(_) => unreachable!(),
         }
     }
@@ -129,7 +129,6 @@ impl Node {
 #[inline]
 pub fn empty_node() -> Node {
     Node {
-        size: 0,
         first: Tree::Empty,
         low: 0,
         second: Tree::Empty,
@@ -165,9 +164,7 @@ pub fn two(mut node: Box<Node>, a: Tree, k: u32, b: Tree) -> Tree
     ensures narrow { IsNarrow result }
     ensures depth { depth result ≡ depth a + 1 }
 {
-    let size = a.size().wrapping_add(b.size()).wrapping_add(1);
     *node = Node {
-        size,
         first: a,
         low: k,
         second: b,
@@ -190,13 +187,7 @@ pub fn three(mut node: Box<Node>, a: Tree, k: u32, b: Tree, m: u32, c: Tree) -> 
     ensures loose { IsLoose result }
     ensures depth { depth result ≡ depth a + 1 }
 {
-    let size = a
-        .size()
-        .wrapping_add(b.size())
-        .wrapping_add(c.size())
-        .wrapping_add(2);
     *node = Node {
-        size,
         first: a,
         low: k,
         second: b,

@@ -3,12 +3,12 @@
 //! Memory: none.
 ghost use Rattle.std.specs.Prelude.{◌≡◌, ◌<◌, [], ◌∷◌};
 ghost use Rattle.tree23.specs.Keys.{StrictlyAscends, has, without_key};
-ghost use Rattle.tree23.specs.Nodes.{keys, depth, IsTree, IsRooted, IsLoose, IsNarrow, IsWide};
-ghost use Rattle.tree23.specs.Code.Removals.{IsRemoved, IsPopped, first_side, second_side, third_side, keys_but_low, keys_but_high};
+ghost use Rattle.tree23.specs.Nodes.{keys, depth, IsTree, IsRooted, IsLoose, IsWide};
+ghost use Rattle.tree23.specs.Code.Removals.{IsRemoved, IsPopped, first_side, second_side, keys_but_low, keys_but_high};
 
 use crate::tree::leaf::{is_at, place};
 use crate::tree::node::{Rooted, Tree, two, underfull};
-use crate::tree::rebalance::{rebalance_first, rebalance_second, rebalance_third};
+use crate::tree::rebalance::rebalance;
 use std::mem;
 
 /// Takes the first side, which has no keys, and the key after it off a node.
@@ -44,38 +44,21 @@ fn drop_low(tree: &mut Tree)
     ensures loose { IsLoose tree.new }
     ensures depth { depth tree.new ≡ depth tree.old }
 {
-    match mem::replace(tree, Tree::Empty) {
+    *tree = match mem::replace(tree, Tree::Empty) {
         Tree::Two(mut node) => {
             let first = node.take_first();
-            *tree = underfull(node, first);
+            underfull(node, first)
         }
         Tree::Three(mut node) => {
             let (first, _, _, high, third) = node.take_three();
-            *tree = two(node, first, high, third);
+            two(node, first, high, third)
         }
         Tree::Empty | Tree::Leaf(_) | Tree::Underfull(_) => unreachable!(),
-    }
-}
-
-/// Takes the key after the second of three sides off a node, and the third side, which has no keys.
-fn drop_high(tree: &mut Tree)
-    requires tree { IsTree tree.old }
-    requires wide { IsWide tree.old }
-    requires empty { keys (third_side tree.old) ≡ [] }
-    ensures keys { keys tree.new ≡ keys_but_high tree.old }
-    ensures loose { IsLoose tree.new }
-    ensures depth { depth tree.new ≡ depth tree.old }
-{
-    match mem::replace(tree, Tree::Empty) {
-        Tree::Three(mut node) => {
-            let (first, low, second) = node.take_two();
-            *tree = two(node, first, low, second);
-        }
-        Tree::Empty | Tree::Leaf(_) | Tree::Underfull(_) | Tree::Two(_) => unreachable!(),
-    }
+    };
 }
 
 /// Takes the first key out, if there is one.
+#[tactic(auto, using(crate::proofs::TreeLemmas::Sides::short))]
 pub fn pop_first(tree: &mut Tree) -> Option<u32>
     requires tree { IsTree tree.old }
     ensures popped { IsPopped tree.old tree.new result }
@@ -93,14 +76,14 @@ pub fn pop_first(tree: &mut Tree) -> Option<u32>
         }
         Tree::Two(node) => match pop_first(&mut node.first) {
             Some(key) => {
-                rebalance_first(tree);
+                rebalance(tree);
                 Some(key)
             }
             None => Some(drop_first(tree)),
         },
         Tree::Three(node) => match pop_first(&mut node.first) {
             Some(key) => {
-                rebalance_first(tree);
+                rebalance(tree);
                 Some(key)
             }
             None => Some(drop_first(tree)),
@@ -123,7 +106,8 @@ pub fn shrink_root(rooted: &mut Rooted)
 }
 
 /// Takes the low key out of a node.
-pub fn remove_low(tree: &mut Tree)
+#[tactic(auto, using(crate::proofs::TreeLemmas::Sides::short))]
+fn remove_low(tree: &mut Tree)
     requires tree { IsTree tree.old }
     requires some { 0 < depth tree.old }
     ensures keys { keys tree.new ≡ keys_but_low tree.old }
@@ -134,14 +118,14 @@ pub fn remove_low(tree: &mut Tree)
         Tree::Two(node) => match pop_first(&mut node.second) {
             Some(next) => {
                 node.low = next;
-                rebalance_second(tree);
+                rebalance(tree);
             }
             None => drop_low(tree),
         },
         Tree::Three(node) => match pop_first(&mut node.second) {
             Some(next) => {
                 node.low = next;
-                rebalance_second(tree);
+                rebalance(tree);
             }
             None => drop_low(tree),
         },
@@ -150,22 +134,29 @@ pub fn remove_low(tree: &mut Tree)
 }
 
 /// Takes the high key out of a node with three sides.
-pub fn remove_high(tree: &mut Tree)
+#[tactic(auto, using(crate::proofs::TreeLemmas::Sides::short))]
+fn remove_high(tree: &mut Tree)
     requires tree { IsTree tree.old }
     requires wide { IsWide tree.old }
     ensures keys { keys tree.new ≡ keys_but_high tree.old }
     ensures loose { IsLoose tree.new }
     ensures depth { depth tree.new ≡ depth tree.old }
 {
-    match tree {
-        Tree::Three(node) => match pop_first(&mut node.third) {
-            Some(next) => {
-                node.high = next;
-                rebalance_third(tree);
-            }
-            None => drop_high(tree),
-        },
-        Tree::Empty | Tree::Leaf(_) | Tree::Underfull(_) | Tree::Two(_) => unreachable!(),
+    let Tree::Three(node) = tree else {
+        unreachable!()
+    };
+    match pop_first(&mut node.third) {
+        Some(next) => {
+            node.high = next;
+            rebalance(tree);
+        }
+        None => {
+            let Tree::Three(mut node) = mem::replace(tree, Tree::Empty) else {
+                unreachable!()
+            };
+            let (first, low, second) = node.take_two();
+            *tree = two(node, first, low, second);
+        }
     }
 }
 
@@ -186,8 +177,7 @@ fn remove_in_leaf(leaf: &mut Vec<u32>, key: u32) -> bool
 }
 
 /// Takes the key out, and says whether it was there. The root may be left with one side.
-#[cycle(removal)]
-#[tactic(auto, using(crate::proofs::TreeLemmas::Removing::sides_ascend))]
+#[tactic(auto, using(crate::proofs::TreeLemmas::Removing::sides_ascend, crate::proofs::TreeLemmas::Sides::short))]
 pub fn remove_in(tree: &mut Tree, key: u32) -> bool
     requires tree { IsTree tree.old }
     requires ascends { StrictlyAscends (keys tree.old) }
@@ -198,95 +188,41 @@ pub fn remove_in(tree: &mut Tree, key: u32) -> bool
     match tree {
         Tree::Empty => false,
         Tree::Leaf(leaf) => remove_in_leaf(leaf, key),
-        Tree::Two(_) => remove_in_two(tree, key),
-        Tree::Three(_) => remove_in_three(tree, key),
-        Tree::Underfull(_) => unreachable!(),
-    }
-}
-
-/// The removal from a tree whose root has two sides.
-#[cycle(removal)]
-#[tactic(auto, using(crate::proofs::TreeLemmas::Removing::sides_ascend))]
-fn remove_in_two(tree: &mut Tree, key: u32) -> bool
-    requires tree { IsTree tree.old }
-    requires narrow { IsNarrow tree.old }
-    requires ascends { StrictlyAscends (keys tree.old) }
-    ensures removed { IsRemoved key tree.old tree.new result }
-    ensures loose { IsLoose tree.new }
-    ensures depth { depth tree.new ≡ depth tree.old }
-{
-    match tree {
         Tree::Two(node) => {
             if key < node.low {
-                match remove_in(&mut node.first, key) {
-                    true => {
-                        rebalance_first(tree);
-                        true
-                    }
-                    false => false,
-                }
+                let found = remove_in(&mut node.first, key);
+                rebalance(tree);
+                found
             } else if node.low < key {
-                match remove_in(&mut node.second, key) {
-                    true => {
-                        rebalance_second(tree);
-                        true
-                    }
-                    false => false,
-                }
+                let found = remove_in(&mut node.second, key);
+                rebalance(tree);
+                found
             } else {
                 remove_low(tree);
                 true
             }
         }
-        Tree::Empty | Tree::Leaf(_) | Tree::Underfull(_) | Tree::Three(_) => unreachable!(),
-    }
-}
-
-/// The removal from a tree whose root has three sides.
-#[cycle(removal)]
-#[tactic(auto, using(crate::proofs::TreeLemmas::Removing::sides_ascend))]
-fn remove_in_three(tree: &mut Tree, key: u32) -> bool
-    requires tree { IsTree tree.old }
-    requires wide { IsWide tree.old }
-    requires ascends { StrictlyAscends (keys tree.old) }
-    ensures removed { IsRemoved key tree.old tree.new result }
-    ensures loose { IsLoose tree.new }
-    ensures depth { depth tree.new ≡ depth tree.old }
-{
-    match tree {
         Tree::Three(node) => {
             if key < node.low {
-                match remove_in(&mut node.first, key) {
-                    true => {
-                        rebalance_first(tree);
-                        true
-                    }
-                    false => false,
-                }
+                let found = remove_in(&mut node.first, key);
+                rebalance(tree);
+                found
             } else if key == node.low {
                 remove_low(tree);
                 true
             } else if key < node.high {
-                match remove_in(&mut node.second, key) {
-                    true => {
-                        rebalance_second(tree);
-                        true
-                    }
-                    false => false,
-                }
+                let found = remove_in(&mut node.second, key);
+                rebalance(tree);
+                found
             } else if key == node.high {
                 remove_high(tree);
                 true
             } else {
-                match remove_in(&mut node.third, key) {
-                    true => {
-                        rebalance_third(tree);
-                        true
-                    }
-                    false => false,
-                }
+                let found = remove_in(&mut node.third, key);
+                rebalance(tree);
+                found
             }
         }
-        Tree::Empty | Tree::Leaf(_) | Tree::Underfull(_) | Tree::Two(_) => unreachable!(),
+        Tree::Underfull(_) => unreachable!(),
     }
 }

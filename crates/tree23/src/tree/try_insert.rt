@@ -2,7 +2,7 @@
 ghost use Rattle.std.specs.Prelude.{◌≡◌, ◌≤◌, length};
 ghost use Rattle.tree23.specs.Keys.{StrictlyAscends};
 ghost use Rattle.tree23.specs.Nodes.{room, keys, depth, IsTree};
-ghost use Rattle.tree23.specs.Code.Insertions.{IsAttempt, size_after};
+ghost use Rattle.tree23.specs.Code.Insertions.{IsAttempt};
 
 use crate::tree::leaf::{ROOM, is_at, leaf_of, place};
 use crate::tree::node::Tree;
@@ -17,18 +17,6 @@ pub enum Attempt {
     OutOfMemory,
     Found,
     Done,
-}
-
-/// Counts a key that an attempt added below a node.
-#[inline]
-fn counted(attempt: Attempt, size: &mut u64) -> Attempt
-    ensures attempt { result ≡ attempt }
-    ensures size { size.new ≡ size_after attempt size.old }
-{
-    if let Attempt::Done = attempt {
-        *size = size.wrapping_add(1);
-    }
-    attempt
 }
 
 /// Puts the key into a leaf of the tree, in place, unless that has no room.
@@ -51,22 +39,22 @@ pub fn try_insert_in(alloc: Global, tree: &mut Tree, key: u32) -> Attempt
         Tree::Leaf(leaf) => try_insert_in_leaf(leaf, key),
         Tree::Two(node) => {
             if key < node.low {
-                counted(try_insert_in(alloc, &mut node.first, key), &mut node.size)
+                try_insert_in(alloc, &mut node.first, key)
             } else if node.low < key {
-                counted(try_insert_in(alloc, &mut node.second, key), &mut node.size)
+                try_insert_in(alloc, &mut node.second, key)
             } else {
                 Attempt::Found
             }
         }
         Tree::Three(node) => {
             if key < node.low {
-                counted(try_insert_in(alloc, &mut node.first, key), &mut node.size)
+                try_insert_in(alloc, &mut node.first, key)
             } else if key == node.low || key == node.high {
                 Attempt::Found
             } else if key < node.high {
-                counted(try_insert_in(alloc, &mut node.second, key), &mut node.size)
+                try_insert_in(alloc, &mut node.second, key)
             } else {
-                counted(try_insert_in(alloc, &mut node.third, key), &mut node.size)
+                try_insert_in(alloc, &mut node.third, key)
             }
         }
         Tree::Underfull(_) => unreachable!(),

@@ -4,7 +4,6 @@ use Rattle.tree23.specs.Nodes.{keys}
 use Rattle.tree23.proofs.TreeLemmas.Adding.{added_left, added_right, added_mid, two_left, three_mid, three_right}
 use Rattle.tree23.proofs.KeyLemmas.Ascending.{ascends_after}
 use Rattle.tree23.proofs.KeyLemmas.Beside.{has_right}
-use Rattle.tree23.proofs.TreeLemmas.Sizes.{size_of_added}
 use Rattle.tree23.proofs.tree.insert.+insertion.Goals as goal
 
 pub insert_in_two-returns-in-Added-clause-insertion : goal.insert_in_two-returns-in-Added-clause-insertion
@@ -13,17 +12,7 @@ insert_in_two-returns-in-Added-clause-insertion t c =
     let lt : c.args.key < c.in-Two.node.value.low = rw c.deref.ensures at c.if-key-deref.true in
     let i = rw c.deref_mut.ensures.value at c.in-Added.ensures.insertion in
     let a = added_left _ _ _ _ _ s lt i in
-    rw (c.in-Two.is, c.counted.ensures.added) (record { is = search (rules, a.is); absent = a.absent })
-
-pub insert_in_two-returns-in-Added-clause-tree : goal.insert_in_two-returns-in-Added-clause-tree
-insert_in_two-returns-in-Added-clause-tree t c =
-    let s : StrictlyAscends (keys c.in-Two.node.value.first ++ c.in-Two.node.value.low ∷ keys c.in-Two.node.value.second) = rw c.in-Two.is at c.requires.ascends in
-    let lt : c.args.key < c.in-Two.node.value.low = rw c.deref.ensures at c.if-key-deref.true in
-    let i = rw c.deref_mut.ensures.value at c.in-Added.ensures.insertion in
-    let a = added_left _ _ _ _ _ s lt i in
-    let u = rw c.in-Two.is at c.requires.tree in
-    let n = size_of_added c.args.key c.in-Two.node.value.size _ _ a u.3 in
-    (search rules, search rules, search rules, search (rules, n))
+    rw c.in-Two.is (record { is = search (rules, a.is); absent = a.absent })
 
 pub insert_in_two-returns-in-Splits-clause-insertion : goal.insert_in_two-returns-in-Splits-clause-insertion
 insert_in_two-returns-in-Splits-clause-insertion t c =
@@ -40,17 +29,7 @@ insert_in_two-returns-in-Added-insert_in-clause-insertion t c =
     let gt : c.in-Two.node.value.low < c.args.key = rw c.deref-else-key-deref.ensures at c.if-deref-key.true in
     let i = rw c.deref_mut-then-deref-key.ensures.value at c.in-Added-insert_in.ensures.insertion in
     let a = added_right _ _ _ _ _ s gt i in
-    rw (c.in-Two.is, c.counted-in-Added-insert_in.ensures.added) (record { is = search (rules, a.is); absent = a.absent })
-
-pub insert_in_two-returns-in-Added-insert_in-clause-tree : goal.insert_in_two-returns-in-Added-insert_in-clause-tree
-insert_in_two-returns-in-Added-insert_in-clause-tree t c =
-    let s : StrictlyAscends (keys c.in-Two.node.value.first ++ c.in-Two.node.value.low ∷ keys c.in-Two.node.value.second) = rw c.in-Two.is at c.requires.ascends in
-    let gt : c.in-Two.node.value.low < c.args.key = rw c.deref-else-key-deref.ensures at c.if-deref-key.true in
-    let i = rw c.deref_mut-then-deref-key.ensures.value at c.in-Added-insert_in.ensures.insertion in
-    let a = added_right _ _ _ _ _ s gt i in
-    let u = rw c.in-Two.is at c.requires.tree in
-    let n = size_of_added c.args.key c.in-Two.node.value.size _ _ a u.3 in
-    (search rules, search rules, search rules, search (rules, n))
+    rw c.in-Two.is (record { is = search (rules, a.is); absent = a.absent })
 
 pub insert_in_two-returns-in-Splits-insert_in-clause-insertion : goal.insert_in_two-returns-in-Splits-insert_in-clause-insertion
 insert_in_two-returns-in-Splits-insert_in-clause-insertion t c =
@@ -67,17 +46,7 @@ insert_in_three-returns-in-Added-clause-insertion t c =
     let lt : c.args.key < c.in-Three.node.value.low = rw c.deref.ensures at c.if-key-deref.true in
     let i = rw c.deref_mut.ensures.value at c.in-Added.ensures.insertion in
     let a = added_left _ _ _ _ _ s lt i in
-    rw (c.in-Three.is, c.counted.ensures.added) (record { is = search (rules, a.is); absent = a.absent })
-
-pub insert_in_three-returns-in-Added-clause-tree : goal.insert_in_three-returns-in-Added-clause-tree
-insert_in_three-returns-in-Added-clause-tree t c =
-    let s : StrictlyAscends (keys c.in-Three.node.value.first ++ c.in-Three.node.value.low ∷ (keys c.in-Three.node.value.second ++ c.in-Three.node.value.high ∷ keys c.in-Three.node.value.third)) = rw c.in-Three.is at c.requires.ascends in
-    let lt : c.args.key < c.in-Three.node.value.low = rw c.deref.ensures at c.if-key-deref.true in
-    let i = rw c.deref_mut.ensures.value at c.in-Added.ensures.insertion in
-    let a = added_left _ _ _ _ _ s lt i in
-    let u = rw c.in-Three.is at c.requires.tree in
-    let n = size_of_added c.args.key c.in-Three.node.value.size _ _ a u.5 in
-    (search rules, search rules, search rules, search rules, search rules, search (rules, n))
+    rw c.in-Three.is (record { is = search (rules, a.is); absent = a.absent })
 
 pub insert_in_three-returns-in-Some-clause-insertion : goal.insert_in_three-returns-in-Some-clause-insertion
 insert_in_three-returns-in-Some-clause-insertion t c =
@@ -95,18 +64,7 @@ insert_after_low-returns-in-Added-clause-insertion t c =
     let lt : c.args.key < c.in-Three.node.value.high = grind arith in
     let i = rw c.deref_mut.ensures.value at c.in-Added.ensures.insertion in
     let a = added_mid _ _ _ _ _ _ _ s gt lt i in
-    rw (c.in-Three.is, c.counted.ensures.added) (record { is = search (rules, a.is); absent = a.absent })
-
-pub insert_after_low-returns-in-Added-clause-tree : goal.insert_after_low-returns-in-Added-clause-tree
-insert_after_low-returns-in-Added-clause-tree t c =
-    let s : StrictlyAscends (keys c.in-Three.node.value.first ++ c.in-Three.node.value.low ∷ (keys c.in-Three.node.value.second ++ c.in-Three.node.value.high ∷ keys c.in-Three.node.value.third)) = rw c.in-Three.is at c.requires.ascends in
-    let gt : c.in-Three.node.value.low < c.args.key = rw c.in-Three.is at c.requires.after in
-    let lt : c.args.key < c.in-Three.node.value.high = grind arith in
-    let i = rw c.deref_mut.ensures.value at c.in-Added.ensures.insertion in
-    let a = added_mid _ _ _ _ _ _ _ s gt lt i in
-    let u = rw c.in-Three.is at c.requires.tree in
-    let n = size_of_added c.args.key c.in-Three.node.value.size _ _ a u.5 in
-    (search rules, search rules, search rules, search rules, search rules, search (rules, n))
+    rw c.in-Three.is (record { is = search (rules, a.is); absent = a.absent })
 
 pub insert_after_low-returns-in-Some-clause-insertion : goal.insert_after_low-returns-in-Some-clause-insertion
 insert_after_low-returns-in-Some-clause-insertion t c =
@@ -125,18 +83,7 @@ insert_after_low-returns-in-Added-insert_in-clause-insertion t c =
     let gt' : c.in-Three.node.value.high < c.args.key = grind arith in
     let i = rw c.deref_mut-then-deref-key.ensures.value at c.in-Added-insert_in.ensures.insertion in
     let a = added_right _ _ _ _ _ s gt (added_right _ _ _ _ _ (ascends_after _ _ _ s) gt' i) in
-    rw (c.in-Three.is, c.counted-in-Added-insert_in.ensures.added) (record { is = search (rules, a.is); absent = a.absent })
-
-pub insert_after_low-returns-in-Added-insert_in-clause-tree : goal.insert_after_low-returns-in-Added-insert_in-clause-tree
-insert_after_low-returns-in-Added-insert_in-clause-tree t c =
-    let s : StrictlyAscends (keys c.in-Three.node.value.first ++ c.in-Three.node.value.low ∷ (keys c.in-Three.node.value.second ++ c.in-Three.node.value.high ∷ keys c.in-Three.node.value.third)) = rw c.in-Three.is at c.requires.ascends in
-    let gt : c.in-Three.node.value.low < c.args.key = rw c.in-Three.is at c.requires.after in
-    let gt' : c.in-Three.node.value.high < c.args.key = grind arith in
-    let i = rw c.deref_mut-then-deref-key.ensures.value at c.in-Added-insert_in.ensures.insertion in
-    let a = added_right _ _ _ _ _ s gt (added_right _ _ _ _ _ (ascends_after _ _ _ s) gt' i) in
-    let u = rw c.in-Three.is at c.requires.tree in
-    let n = size_of_added c.args.key c.in-Three.node.value.size _ _ a u.5 in
-    (search rules, search rules, search rules, search rules, search rules, search (rules, n))
+    rw c.in-Three.is (record { is = search (rules, a.is); absent = a.absent })
 
 pub insert_after_low-returns-in-Some-spare-clause-insertion : goal.insert_after_low-returns-in-Some-spare-clause-insertion
 insert_after_low-returns-in-Some-spare-clause-insertion t c =

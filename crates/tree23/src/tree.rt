@@ -20,8 +20,6 @@ pub mod remove;
 pub mod search;
 #[doc(hidden)]
 pub mod split_node;
-#[doc(hidden)]
-pub mod try_insert;
 
 use crate::pool::Pool;
 use crate::tree::insert::insert_at_root;

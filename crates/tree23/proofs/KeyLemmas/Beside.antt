@@ -1,5 +1,5 @@
 -- What is said of a key in a list that ascends is said of the part that lies on the key's side of another key.
-use Rattle.std.proofs.Common.{◌≡◌, ℕ, ◌<◌, ◌≤◌, Bool, true, false, ◌==◌, ◌||◌, nat_lt, if◌then◌else◌, List, [], ◌∷◌, ◌++◌, Some, None, refl, ap, ◌∙◌, append_assoc, append-nil, arith}
+use Rattle.std.proofs.Common.{◌≡◌, ℕ, ◌<◌, ◌≤◌, Bool, true, false, ◌==◌, ◌||◌, nat_lt, if◌then◌else◌, List, [], ◌∷◌, ◌++◌, Some, None, refl, ap, ◌∙◌, append_assoc, arith}
 use Rattle.std.specs.List.{AllByRecursion}
 use Rattle.std.proofs.lemmas.Bool.Decides.{nat_tests}
 use Rattle.tree23.specs.Keys.{StrictlyAscends, has, with_key, without_key, least_above}
@@ -122,9 +122,6 @@ without_here key k (x ∷ xs) ys is up =
     let before : x < k = all_at (λ y. x < y) xs k ys up.0 in
     without_past key x (xs ++ k ∷ ys) (omega arith) ∙ ap (λ zs. x ∷ zs) (without_here key k xs ys is up.1)
 
-pub without_last : (key k : ℕ) (xs ys : List ℕ) → key ≡ k → ys ≡ [] → StrictlyAscends (xs ++ k ∷ ys) → without_key key (xs ++ k ∷ ys) ≡ xs
-without_last key k xs ys is none up = without_here key k xs ys is up ∙ rw none (append-nil xs)
-
 -- the least key above a key
 pub least_left : (key k : ℕ) (xs ys : List ℕ) (found : ℕ) → least_above key xs ≡ Some found → least_above key (xs ++ k ∷ ys) ≡ Some found
 least_left key k [] ys found is = absurd (cc)
@@ -158,8 +155,6 @@ least_right key k [] ys le up = least_past key k ys le
 least_right key k (x ∷ xs) ys le up =
     let before : x < k = all_at (λ y. x < y) xs k ys up.0 in
     least_past key x (xs ++ k ∷ ys) (omega arith) ∙ least_right key k xs ys le up.1
-
-pub ruleset removing = (append_around, without_last, without_left, without_right, without_here, has_left, has_right, has_here, ascends_front, ascends_after)
 
 pub ruleset looking = (has_left, has_right, has_here, ascends_front, ascends_after)
 

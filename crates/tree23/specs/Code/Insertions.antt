@@ -1,13 +1,13 @@
 -- What an insertion into a tree comes to.
-use Rattle.std.specs.Prelude.{◌≡◌, ℕ, ◌<◌, ◌≤◌, length, Bool, true, false, List, [], ◌∷◌, ◌++◌, Option, Some, None, ⊤}
+use Rattle.std.specs.Prelude.{◌≡◌, ℕ, ◌+◌, ◌≤◌, Bool, true, false, List, [], ◌∷◌, ◌++◌, Result, Ok, Err, ⊤}
 use Rattle.tree23.specs.declared.tree.node.Tree.{Tree}
 use Rattle.tree23.specs.declared.tree.node.Tree.TheVariants.{Empty, Leaf, Underfull', Two', Three'}
-use Rattle.tree23.specs.declared.tree.try_insert.Attempt.{Attempt}
-use Rattle.tree23.specs.declared.tree.try_insert.Attempt.TheVariants.{Full, OutOfMemory, Found, Done}
-use Rattle.tree23.specs.declared.tree.insert.Insertion.{Insertion}
-use Rattle.tree23.specs.declared.tree.insert.Insertion.TheVariants.{Memory, Added, Splits}
+use Rattle.tree23.specs.declared.tree.node.Split.{Split}
+use Rattle.tree23.specs.declared.tree.node.Split.TheVariants.{Fits, Splits}
+use Rattle.tree23.specs.declared.tree.insert.Outcome.{Outcome}
+use Rattle.tree23.specs.declared.tree.insert.Outcome.TheVariants.{Found, Added, Full, OutOfMemory}
 use Rattle.tree23.specs.Keys.{with_key, has}
-use Rattle.tree23.specs.Nodes.{room, keys, depth, IsTree}
+use Rattle.tree23.specs.Nodes.{keys, depth, IsTree, keys_with_split, IsTreeWithSplit}
 
 -- the key was not there, and now it is
 pub record IsAdded (key : ℕ) (old new : List ℕ) : Type 0 where
@@ -19,56 +19,83 @@ pub record IsFound (key : ℕ) (old new : List ℕ) : Type 0 where
   pub same : new ≡ old
   pub present : has key old ≡ true
 
--- the key is not there, and the leaf where it belongs has no room: nothing was changed
-pub record IsHeldUp (key : ℕ) (old new : List ℕ) : Type 0 where
-  pub same : new ≡ old
-  pub absent : has key old ≡ false
-  pub many : room ≤ length old
-
 -- whether a key is new
 abbrev pub IsInserted : ℕ → List ℕ → List ℕ → Bool → Type 0
 IsInserted key old new true = IsAdded key old new
 IsInserted key old new false = IsFound key old new
 
--- a tree whose root has no room for one key or one side more
-abbrev pub IsFull : Tree → Type 0
-IsFull Empty = ⊥
-IsFull (Leaf b) = room ≤ length b.value.items
-IsFull (Underfull' p a k b m c) = ⊥
-IsFull (Two' p a k b m c) = ⊥
-IsFull (Three' p a k b m c) = ⊤
+-- what an insertion comes to
+abbrev pub IsOutcome : ℕ → List ℕ → List ℕ → Outcome → Type 0
+IsOutcome key old new Found = IsFound key old new
+IsOutcome key old new Added = IsAdded key old new
+IsOutcome key old new Full = new ≡ old
+IsOutcome key old new OutOfMemory = new ≡ old
 
--- what the first attempt comes to, which puts a key into a leaf with room
-abbrev pub IsAttempt : ℕ → List ℕ → List ℕ → Attempt → Type 0
-IsAttempt key old new Full = IsHeldUp key old new
-IsAttempt key old new OutOfMemory = new ≡ old
-IsAttempt key old new Found = IsFound key old new
-IsAttempt key old new Done = IsAdded key old new
+-- what is answered of it
+abbrev pub IsAnswer : {E : Type 0} → Outcome → Result Bool E → Type 0
+IsAnswer Found (Ok added) = added ≡ false
+IsAnswer Added (Ok added) = added ≡ true
+IsAnswer Full (Ok added) = ⊥
+IsAnswer OutOfMemory (Ok added) = ⊥
+IsAnswer Found (Err e) = ⊥
+IsAnswer Added (Err e) = ⊥
+IsAnswer Full (Err e) = ⊤
+IsAnswer OutOfMemory (Err e) = ⊤
 
--- what an insertion comes to. A tree comes apart only where its root is full
-abbrev pub IsInsertion : ℕ → Tree → Tree → Insertion → Type 0
-IsInsertion key old new Memory = keys new ≡ keys old
-IsInsertion key old new Added = IsAdded key (keys old) (keys new)
-IsInsertion key old new (Splits k right) = IsAdded key (keys old) (keys new ++ k ∷ keys right) × IsTree right × (depth right ≡ depth old) × IsFull old
+-- what holds where a part was split off
+abbrev pub OnSplits : Split → Type 0 → Type 0
+OnSplits Fits P = ⊤
+OnSplits (Splits k right) P = P
 
--- the same at a leaf
-abbrev pub IsLeafInsertion : ℕ → List ℕ → List ℕ → Insertion → Type 0
-IsLeafInsertion key old new Memory = new ≡ old
-IsLeafInsertion key old new Added = IsAdded key old new
-IsLeafInsertion key old new (Splits k right) = IsAdded key old (new ++ k ∷ keys right) × IsTree right × (depth right ≡ 0) × (room ≤ length old)
+-- one box at most is taken, and none where nothing was split off below
+abbrev pub IsSpent : Split → Split → ℕ → ℕ → Type 0
+IsSpent Fits Fits old new = ⊤
+IsSpent Fits (Splits k right) old new = ⊥
+IsSpent (Splits j part) split old new = old ≤ new + 1
 
--- a key is after the low key of a tree's root
-abbrev pub IsAfterLow : ℕ → Tree → Type 0
-IsAfterLow key Empty = ⊥
-IsAfterLow key (Leaf b) = ⊥
-IsAfterLow key (Underfull' p a k b m c) = ⊥
-IsAfterLow key (Two' p a k b m c) = k < key
-IsAfterLow key (Three' p a k b m c) = k < key
+-- a node, of one of whose sides a part may have been split off
+abbrev pub HasSplitFirst : Split → Tree → Type 0
+HasSplitFirst split Empty = ⊥
+HasSplitFirst split (Leaf b) = ⊥
+HasSplitFirst split (Underfull' p a k b m c) = ⊥
+HasSplitFirst split (Two' p a k b m c) = IsTreeWithSplit (depth b) a split × IsTree b
+HasSplitFirst split (Three' p a k b m c) = IsTreeWithSplit (depth b) a split × IsTree b × IsTree c × (depth c ≡ depth b)
 
--- a box is there for a tree whose root has no room
-abbrev pub IsSpare : {A : Type 0} → Option A → Tree → Type 0
-IsSpare None tree = IsFull tree → ⊥
-IsSpare (Some box) tree = ⊤
+abbrev pub HasSplitSecond : Split → Tree → Type 0
+HasSplitSecond split Empty = ⊥
+HasSplitSecond split (Leaf b) = ⊥
+HasSplitSecond split (Underfull' p a k b m c) = ⊥
+HasSplitSecond split (Two' p a k b m c) = IsTree a × IsTreeWithSplit (depth a) b split
+HasSplitSecond split (Three' p a k b m c) = IsTree a × IsTreeWithSplit (depth a) b split × IsTree c × (depth c ≡ depth a)
+
+abbrev pub HasSplitThird : Split → Tree → Type 0
+HasSplitThird split Empty = ⊥
+HasSplitThird split (Leaf b) = ⊥
+HasSplitThird split (Underfull' p a k b m c) = ⊥
+HasSplitThird split (Two' p a k b m c) = ⊥
+HasSplitThird split (Three' p a k b m c) = IsTree a × IsTree b × (depth b ≡ depth a) × IsTreeWithSplit (depth a) c split
+
+-- the keys of a node, with that part
+abbrev pub with_first_split : Split → Tree → List ℕ
+with_first_split split Empty = []
+with_first_split split (Leaf b) = []
+with_first_split split (Underfull' p a k b m c) = []
+with_first_split split (Two' p a k b m c) = keys_with_split a split ++ k ∷ keys b
+with_first_split split (Three' p a k b m c) = keys_with_split a split ++ k ∷ (keys b ++ m ∷ keys c)
+
+abbrev pub with_second_split : Split → Tree → List ℕ
+with_second_split split Empty = []
+with_second_split split (Leaf b) = []
+with_second_split split (Underfull' p a k b m c) = []
+with_second_split split (Two' p a k b m c) = keys a ++ k ∷ keys_with_split b split
+with_second_split split (Three' p a k b m c) = keys a ++ k ∷ (keys_with_split b split ++ m ∷ keys c)
+
+abbrev pub with_third_split : Split → Tree → List ℕ
+with_third_split split Empty = []
+with_third_split split (Leaf b) = []
+with_third_split split (Underfull' p a k b m c) = []
+with_third_split split (Two' p a k b m c) = []
+with_third_split split (Three' p a k b m c) = keys a ++ k ∷ (keys b ++ m ∷ keys_with_split c split)
 
 -- a node of two or of three trees of one depth
 abbrev pub AreTwoSides : Tree → Type 0

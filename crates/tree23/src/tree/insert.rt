@@ -1,38 +1,38 @@
-//! A key put into a tree, of which a leaf may be split.
-ghost use Rattle.std.specs.Prelude.{◌≡◌, length, ◌≤◌, ◌<◌, ◌^◌, IfOk, OnOk, OnErr, false};
-ghost use Rattle.tree23.specs.Keys.{StrictlyAscends, has};
-ghost use Rattle.tree23.specs.Nodes.{room, keys, depth, IsTree, IsRooted, IsNarrow, IsWide};
-ghost use Rattle.tree23.specs.Code.Insertions.{IsAdded, IsAfterLow, IsInserted, IsSpare, IsInsertion, IsLeafInsertion};
+//! A key put into a tree, in place: one descent, which takes no memory for nodes where the key's leaf has room. Where
+//! that is full, boxes for the nodes that may be split are made first, and the descent is made again.
+ghost use Rattle.std.specs.Prelude.{◌≡◌, length, ◌+◌, ◌<◌, ◌≤◌, ◌^◌, IfOk, OnErr};
+ghost use Rattle.tree23.specs.declared.tree.node.Tree.TheVariants.{Empty};
+ghost use Rattle.tree23.specs.Keys.{StrictlyAscends};
+ghost use Rattle.tree23.specs.Nodes.{keys, depth, IsTree, IsLeaf, IsRooted, keys_with_split, IsTreeWithSplit};
+ghost use Rattle.tree23.specs.Code.Insertions.{IsInserted, IsOutcome, IsAnswer, OnSplits};
 
-use crate::tree::leaf::{ROOM, insert_in_halves, leaf_of, place};
-use crate::tree::node::{Node, Rooted, Tree, empty_node, two};
-use crate::tree::split_node::{
-    add_after_first, add_after_second, split_after_first, split_after_second, split_after_third,
-};
-use crate::tree::try_insert::{Attempt, try_insert_in};
+use crate::tree::leaf::{ROOM, insert_in_halves, is_at, leaf_of, place};
+use crate::tree::node::{Node, Rooted, Split, Tree, empty_node, two};
+use crate::tree::split_node::{grow_first, grow_second, grow_third};
 use std::alloc::{AllocError, Global};
 use std::mem;
 
 /// What an insertion came to.
 #[derive(Drop)]
-pub enum Insertion {
-    /// Nothing was changed.
-    Memory,
+pub enum Outcome {
+    /// The key was there.
+    Found,
     Added,
-    /// The rest of the keys, after a key.
-    Splits(u32, Tree),
+    /// Nothing was changed: the leaf where the key belongs has no room, and there are too few boxes to split it.
+    Full,
+    /// Nothing was changed.
+    OutOfMemory,
 }
 
-/// A box for a node, where the root of the tree may be split when a key is put in.
-pub fn spare_for(alloc: Global, tree: &Tree) -> Result<Option<Box<Node>>, AllocError>
-    ensures { IfOk result (λ spare. IsSpare spare tree.now) }
-{
-    match tree {
-        Tree::Empty | Tree::Two(_) | Tree::Underfull(_) => Ok(None),
-        Tree::Leaf(leaf) if leaf.len() < ROOM => Ok(None),
-        Tree::Leaf(_) | Tree::Three(_) => {
-            let spare = Box::new(alloc, empty_node())?;
-            Ok(Some(spare))
+impl Outcome {
+    /// Whether the key is new.
+    fn answer(self) -> Result<bool, AllocError>
+        ensures { IsAnswer self result }
+    {
+        match self {
+            Outcome::Found => Ok(false),
+            Outcome::Added => Ok(true),
+            Outcome::Full | Outcome::OutOfMemory => Err(AllocError),
         }
     }
 }
@@ -46,211 +46,143 @@ pub fn insert_at_root(alloc: Global, root: &mut Rooted, key: u32) -> Result<bool
     ensures ok { IfOk result (λ added. IsInserted key (keys root.old.tree) (keys root.new.tree) added) }
     ensures err { OnErr result (keys root.new.tree ≡ keys root.old.tree) }
 {
-    match try_insert_in(alloc, &mut root.tree, key) {
-        Attempt::Done => Ok(true),
-        Attempt::Found => Ok(false),
-        Attempt::OutOfMemory => Err(AllocError),
-        Attempt::Full => {
-            insert_where_full(alloc, root, key)?;
-            Ok(true)
-        }
+    let outcome = insert_with(alloc, root, key, Vec::new(alloc));
+    if let Outcome::Full = &outcome {
+        let boxes = boxes(alloc, root.height + 1)?;
+        insert_with(alloc, root, key, boxes).answer()
+    } else {
+        outcome.answer()
     }
 }
 
-/// Puts in a key that is not there, where its leaf has no room.
-fn insert_where_full(alloc: Global, root: &mut Rooted, key: u32) -> Result<(), AllocError>
+/// So many boxes for nodes.
+fn boxes(alloc: Global, count: u64) -> Result<Vec<Box<Node>>, AllocError> {
+    let mut boxes = Vec::new(alloc);
+    for _ in 0..count {
+        let node = Box::new(alloc, empty_node())?;
+        boxes.push(node)?;
+    }
+    Ok(boxes)
+}
+
+/// The insertion into a whole tree with these boxes.
+#[tactic(auto, using(crate::proofs::TreeLemmas::Inserting::growing))]
+fn insert_with(alloc: Global, root: &mut Rooted, key: u32, mut boxes: Vec<Box<Node>>) -> Outcome
     requires rooted { IsRooted root.old }
     requires ascends { StrictlyAscends (keys root.old.tree) }
-    requires absent { has key (keys root.old.tree) ≡ false }
-    requires fits { root.old.height < 2 ^ 63 }
+    requires fits { root.old.height ≤ 2 ^ 63 }
     ensures rooted { IsRooted root.new }
-    ensures ok { OnOk result (IsAdded key (keys root.old.tree) (keys root.new.tree)) }
-    ensures err { OnErr result (keys root.new.tree ≡ keys root.old.tree) }
+    ensures height { root.new.height ≤ root.old.height + 1 }
+    ensures outcome { IsOutcome key (keys root.old.tree) (keys root.new.tree) result }
 {
-    let spare = spare_for(alloc, &root.tree)?;
-    match insert_in(alloc, &mut root.tree, key) {
-        Insertion::Memory => Err(AllocError),
-        Insertion::Added => Ok(()),
-        Insertion::Splits(k, right) => {
-            let Some(spare) = spare else { unreachable!() };
-            let left = mem::replace(&mut root.tree, Tree::Empty);
-            root.tree = two(spare, left, k, right);
-            root.height += 1;
-            Ok(())
-        }
+    let (outcome, split) = insert_in(alloc, &mut root.tree, key, 0, &mut boxes);
+    if let Split::Splits(k, right) = split {
+        let Some(node) = boxes.pop() else {
+            unreachable!()
+        };
+        let left = mem::replace(&mut root.tree, Tree::Empty);
+        root.tree = two(node, left, k, right);
+        root.height += 1;
     }
+    outcome
 }
 
-/// Puts a key that is not there into the tree, in place.
-#[cycle(insertion)]
-#[tactic(auto, using(crate::proofs::TreeLemmas::Adding::adding))]
-pub fn insert_in(alloc: Global, tree: &mut Tree, key: u32) -> Insertion
+/// The insertion into a tree, of which a part may be split off. `above` is how many nodes are above it: one more box
+/// must be there for each of these, where a part is.
+#[tactic(auto, using(crate::proofs::TreeLemmas::Inserting::growing))]
+pub fn insert_in(
+    alloc: Global,
+    tree: &mut Tree,
+    key: u32,
+    above: usize,
+    boxes: &mut Vec<Box<Node>>,
+) -> (Outcome, Split)
     requires tree { IsTree tree.old }
     requires ascends { StrictlyAscends (keys tree.old) }
-    requires absent { has key (keys tree.old) ≡ false }
-    ensures tree { IsTree tree.new }
-    ensures depth { depth tree.new ≡ depth tree.old }
-    ensures insertion { IsInsertion key tree.old tree.new result }
+    requires fits { above + depth tree.old < 2 ^ 64 }
+    ensures outcome { IsOutcome key (keys tree.old) (keys_with_split tree.new result.1) result.0 }
+    ensures split { IsTreeWithSplit (depth tree.old) tree.new result.1 }
+    ensures boxes { OnSplits result.1 (above < length boxes.new.items) }
 {
     match tree {
-        Tree::Empty => match leaf_of(alloc, key) {
-            Ok(leaf) => {
-                *tree = Tree::Leaf(leaf);
-                Insertion::Added
+        Tree::Empty | Tree::Leaf(_) => insert_in_leaf(alloc, tree, key, above, boxes.len()),
+        Tree::Two(node) => {
+            if key < node.low {
+                let (outcome, split) = insert_in(alloc, &mut node.first, key, above + 1, boxes);
+                (outcome, grow_first(tree, split, boxes))
+            } else if node.low < key {
+                let (outcome, split) = insert_in(alloc, &mut node.second, key, above + 1, boxes);
+                (outcome, grow_second(tree, split, boxes))
+            } else {
+                (Outcome::Found, Split::Fits)
             }
-            Err(_) => Insertion::Memory,
-        },
-        Tree::Leaf(leaf) => insert_in_leaf(alloc, leaf, key),
-        Tree::Two(_) => insert_in_two(alloc, tree, key),
-        Tree::Three(_) => insert_in_three(alloc, tree, key),
+        }
+        Tree::Three(node) => {
+            if key < node.low {
+                let (outcome, split) = insert_in(alloc, &mut node.first, key, above + 1, boxes);
+                (outcome, grow_first(tree, split, boxes))
+            } else if key == node.low || key == node.high {
+                (Outcome::Found, Split::Fits)
+            } else if key < node.high {
+                let (outcome, split) = insert_in(alloc, &mut node.second, key, above + 1, boxes);
+                (outcome, grow_second(tree, split, boxes))
+            } else {
+                let (outcome, split) = insert_in(alloc, &mut node.third, key, above + 1, boxes);
+                (outcome, grow_third(tree, split, boxes))
+            }
+        }
         Tree::Underfull(_) => unreachable!(),
     }
 }
 
-/// The insertion into a leaf.
-fn insert_in_leaf(alloc: Global, leaf: &mut Vec<u32>, key: u32) -> Insertion
-    requires fits { length leaf.old.items ≤ room }
-    requires ascends { StrictlyAscends leaf.old.items }
-    requires absent { has key leaf.old.items ≡ false }
-    ensures fits { length leaf.new.items ≤ room }
-    ensures insertion { IsLeafInsertion key leaf.old.items leaf.new.items result }
+/// The insertion into a tree without nodes, which is split only where there are boxes enough.
+fn insert_in_leaf(
+    alloc: Global,
+    tree: &mut Tree,
+    key: u32,
+    above: usize,
+    boxes: usize,
+) -> (Outcome, Split)
+    requires bottom { IsLeaf tree.old }
+    requires tree { IsTree tree.old }
+    requires ascends { StrictlyAscends (keys tree.old) }
+    ensures outcome { IsOutcome key (keys tree.old) (keys_with_split tree.new result.1) result.0 }
+    ensures split { IsTreeWithSplit 0 tree.new result.1 }
+    ensures boxes { OnSplits result.1 (above < boxes) }
 {
+    let Tree::Leaf(leaf) = tree else {
+        return (insert_first(alloc, tree, key), Split::Fits);
+    };
     let at = place(leaf, key);
-    if leaf.len() < ROOM {
+    if is_at(leaf, at, key) {
+        (Outcome::Found, Split::Fits)
+    } else if leaf.len() < ROOM {
         match leaf.insert(at, key) {
-            Ok(()) => Insertion::Added,
-            Err(_) => Insertion::Memory,
+            Ok(()) => (Outcome::Added, Split::Fits),
+            Err(_) => (Outcome::OutOfMemory, Split::Fits),
+        }
+    } else if above < boxes {
+        match insert_in_halves(alloc, leaf, at, key) {
+            Ok((middle, after)) => (Outcome::Added, Split::Splits(middle, Tree::Leaf(after))),
+            Err(_) => (Outcome::OutOfMemory, Split::Fits),
         }
     } else {
-        match insert_in_halves(alloc, leaf, at, key) {
-            Ok((middle, after)) => Insertion::Splits(middle, Tree::Leaf(after)),
-            Err(_) => Insertion::Memory,
-        }
+        (Outcome::Full, Split::Fits)
     }
 }
 
-/// The insertion into a tree whose root has two sides.
-#[cycle(insertion)]
-#[tactic(auto, using(crate::proofs::TreeLemmas::Adding::adding))]
-fn insert_in_two(alloc: Global, tree: &mut Tree, key: u32) -> Insertion
-    requires tree { IsTree tree.old }
-    requires narrow { IsNarrow tree.old }
-    requires ascends { StrictlyAscends (keys tree.old) }
-    requires absent { has key (keys tree.old) ≡ false }
+/// Makes a leaf of one key of a tree that has none.
+fn insert_first(alloc: Global, tree: &mut Tree, key: u32) -> Outcome
+    requires empty { tree.old ≡ Empty }
+    ensures outcome { IsOutcome key (keys tree.old) (keys tree.new) result }
     ensures tree { IsTree tree.new }
-    ensures depth { depth tree.new ≡ depth tree.old }
-    ensures insertion { IsInsertion key tree.old tree.new result }
+    ensures depth { depth tree.new ≡ 0 }
 {
-    match tree {
-        Tree::Two(node) => {
-            if key < node.low {
-                match insert_in(alloc, &mut node.first, key) {
-                    Insertion::Splits(j, right) => {
-                        add_after_first(tree, j, right);
-                        Insertion::Added
-                    }
-                    Insertion::Added => Insertion::Added,
-                    Insertion::Memory => Insertion::Memory,
-                }
-            } else if node.low < key {
-                match insert_in(alloc, &mut node.second, key) {
-                    Insertion::Splits(j, right) => {
-                        add_after_second(tree, j, right);
-                        Insertion::Added
-                    }
-                    Insertion::Added => Insertion::Added,
-                    Insertion::Memory => Insertion::Memory,
-                }
-            } else {
-                unreachable!()
-            }
+    match leaf_of(alloc, key) {
+        Ok(leaf) => {
+            *tree = Tree::Leaf(leaf);
+            Outcome::Added
         }
-        Tree::Empty | Tree::Leaf(_) | Tree::Underfull(_) | Tree::Three(_) => unreachable!(),
-    }
-}
-
-/// The insertion into a tree whose root has three sides.
-#[cycle(insertion)]
-#[tactic(auto, using(crate::proofs::TreeLemmas::Adding::adding))]
-fn insert_in_three(alloc: Global, tree: &mut Tree, key: u32) -> Insertion
-    requires tree { IsTree tree.old }
-    requires wide { IsWide tree.old }
-    requires ascends { StrictlyAscends (keys tree.old) }
-    requires absent { has key (keys tree.old) ≡ false }
-    ensures tree { IsTree tree.new }
-    ensures depth { depth tree.new ≡ depth tree.old }
-    ensures insertion { IsInsertion key tree.old tree.new result }
-{
-    match tree {
-        Tree::Three(node) => {
-            if key < node.low {
-                let Ok(spare) = spare_for(alloc, &node.first) else {
-                    return Insertion::Memory;
-                };
-                match insert_in(alloc, &mut node.first, key) {
-                    Insertion::Splits(j, right) => {
-                        let Some(spare) = spare else { unreachable!() };
-                        let (k, rest) = split_after_first(tree, spare, j, right);
-                        Insertion::Splits(k, rest)
-                    }
-                    Insertion::Added => Insertion::Added,
-                    Insertion::Memory => Insertion::Memory,
-                }
-            } else if node.low < key {
-                insert_after_low(alloc, tree, key)
-            } else {
-                unreachable!()
-            }
-        }
-        Tree::Empty | Tree::Leaf(_) | Tree::Underfull(_) | Tree::Two(_) => unreachable!(),
-    }
-}
-
-/// The insertion of a key above the low one of a root with three sides.
-#[cycle(insertion)]
-#[tactic(auto, using(crate::proofs::TreeLemmas::Adding::adding))]
-fn insert_after_low(alloc: Global, tree: &mut Tree, key: u32) -> Insertion
-    requires tree { IsTree tree.old }
-    requires wide { IsWide tree.old }
-    requires after { IsAfterLow key tree.old }
-    requires ascends { StrictlyAscends (keys tree.old) }
-    requires absent { has key (keys tree.old) ≡ false }
-    ensures tree { IsTree tree.new }
-    ensures depth { depth tree.new ≡ depth tree.old }
-    ensures insertion { IsInsertion key tree.old tree.new result }
-{
-    match tree {
-        Tree::Three(node) => {
-            if key < node.high {
-                let Ok(spare) = spare_for(alloc, &node.second) else {
-                    return Insertion::Memory;
-                };
-                match insert_in(alloc, &mut node.second, key) {
-                    Insertion::Splits(j, right) => {
-                        let Some(spare) = spare else { unreachable!() };
-                        let (k, rest) = split_after_second(tree, spare, j, right);
-                        Insertion::Splits(k, rest)
-                    }
-                    Insertion::Added => Insertion::Added,
-                    Insertion::Memory => Insertion::Memory,
-                }
-            } else if node.high < key {
-                let Ok(spare) = spare_for(alloc, &node.third) else {
-                    return Insertion::Memory;
-                };
-                match insert_in(alloc, &mut node.third, key) {
-                    Insertion::Splits(j, right) => {
-                        let Some(spare) = spare else { unreachable!() };
-                        let (k, rest) = split_after_third(tree, spare, j, right);
-                        Insertion::Splits(k, rest)
-                    }
-                    Insertion::Added => Insertion::Added,
-                    Insertion::Memory => Insertion::Memory,
-                }
-            } else {
-                unreachable!()
-            }
-        }
-        Tree::Empty | Tree::Leaf(_) | Tree::Underfull(_) | Tree::Two(_) => unreachable!(),
+        Err(_) => Outcome::OutOfMemory,
     }
 }

@@ -1,6 +1,9 @@
-use Rattle.std.proofs.Common.{rules}
+use Rattle.std.proofs.Common.{◌≡◌, false, rules}
+use Rattle.tree23.specs.Keys.{has}
 use Rattle.tree23.proofs.TreeLemmas.Adding.{added_at}
 use Rattle.tree23.proofs.tree.insert.insert_in_leaf.Goals as goal
 
-pub returns-in-Ok-clause-insertion : goal.returns-in-Ok-clause-insertion
-returns-in-Ok-clause-insertion c = added_at _ _ _ _ (rw c.deref.ensures.value at c.place-at.ensures.split) (search rules) c.in-Ok.ensures.items
+pub returns-in-Ok-clause-outcome : goal.returns-in-Ok-clause-outcome
+returns-in-Ok-clause-outcome c =
+    let none : has c.args.key c.in-Leaf.leaf.value.items ≡ false = search rules in
+    rw c.in-Leaf.is (added_at _ _ _ _ (rw (c.deref-2.ensures.value, c.deref.ensures) at c.place-at.ensures.split) none (search (rules, c.in-Ok.ensures.items)))

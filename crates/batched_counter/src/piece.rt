@@ -2,7 +2,7 @@
 ghost use Rattle.std.specs.Prelude.{◌<◌, ◌^◌};
 ghost use Rattle.batched_counter.specs.Sums.{total};
 
-/// The addends of consecutive calls, in the room of their sums.
+/// The addends of consecutive calls, as wide as their sums, so that these can take their places.
 #[derive(Drop)]
 pub struct Piece {
     pub addends: Vec<u64>,

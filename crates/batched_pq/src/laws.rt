@@ -5,7 +5,7 @@ ghost use Rattle.seq_objects.specs.Objects.{Objects};
 ghost use Rattle.batched_pq.specs.declared.piece.Piece.{Piece};
 ghost use Rattle.batched_pq.specs.Pieces.{Cut, piece_count};
 
-/// Each batch is cut into as many pieces.
+/// Every batch is cut into as many pieces as there are shards.
 pub fn cut_fixes_the_number_of_pieces()
     ensures { (objects : Objects) (calls : List Call) (pieces : List Piece) → Cut objects calls pieces
         → length pieces ≡ piece_count objects calls }

@@ -1,5 +1,5 @@
 //! Memory of nodes and leaves that is reused.
-ghost use Rattle.std.specs.Prelude.{◌≡◌, [], IfOk};
+ghost use Rattle.std.specs.Prelude.{◌≡◌, ◌≤◌, [], length, IfOk, OnOk};
 ghost use Rattle.tree23.specs.Nodes.{IsLeaf};
 
 use crate::tree::leaf::empty_leaf;
@@ -9,11 +9,10 @@ use std::alloc::{AllocError, Global};
 /// How many boxes of nodes and how many leaves are kept at most.
 const MOST: usize = 256;
 
-/// Boxes of nodes and leaves that are no longer in use while trees are cut and joined, for the next that are made.
-/// Nothing that contracts say of trees depends on them.
+/// Boxes of nodes and leaves that are not in use, for the next that are made. The keys of no tree depend on them.
 #[derive(Drop)]
 pub struct Pool {
-    nodes: Vec<Box<Node>>,
+    pub(crate) nodes: Vec<Box<Node>>,
     leaves: Vec<Box<Vec<u32>>>,
     alloc: Global,
 }
@@ -49,6 +48,18 @@ impl Pool {
                 Ok(node)
             }
         }
+    }
+
+    /// Makes boxes for nodes, until there are `count` here.
+    #[inline]
+    pub fn hold(&mut self, count: u64) -> Result<(), AllocError>
+        ensures { OnOk result (count ≤ length self.new.nodes.items) }
+    {
+        while (self.nodes.len() as u64) < count {
+            let node = Box::new(self.alloc, empty_node())?;
+            self.nodes.push(node)?;
+        }
+        Ok(())
     }
 
     /// Keeps the memory of a leaf, unless there are many, or there is no memory for its place here.

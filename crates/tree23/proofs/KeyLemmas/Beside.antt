@@ -1,12 +1,9 @@
 -- What is said of a key in a list that ascends is said of the part that lies on the key's side of another key.
-use Rattle.std.proofs.Common.{◌≡◌, ℕ, ◌<◌, ◌≤◌, Bool, true, false, ◌==◌, ◌||◌, nat_lt, if◌then◌else◌, List, [], ◌∷◌, ◌++◌, Some, None, refl, ap, ◌∙◌, append_assoc, arith}
+use Rattle.std.proofs.Common.{◌≡◌, ℕ, ◌<◌, ◌≤◌, Bool, true, false, ◌==◌, ◌||◌, nat_lt, if◌then◌else◌, List, [], ◌∷◌, ◌++◌, Some, None, refl, ap, ◌∙◌, arith}
 use Rattle.std.specs.List.{AllByRecursion}
 use Rattle.std.proofs.lemmas.Bool.Decides.{nat_tests}
 use Rattle.tree23.specs.Keys.{StrictlyAscends, has, with_key, without_key, least_above}
 use Rattle.tree23.proofs.KeyLemmas.Ascending.{all_at, all_above, ascends_front, ascends_after}
-
-pub append_around : (xs : List ℕ) (j : ℕ) (ys : List ℕ) (k : ℕ) (zs : List ℕ) → (xs ++ j ∷ ys) ++ k ∷ zs ≡ xs ++ j ∷ (ys ++ k ∷ zs)
-append_around xs j ys k zs = append_assoc xs (j ∷ ys) (k ∷ zs)
 
 -- a key that is below all keys of a list
 pub has_none : (key : ℕ) (xs : List ℕ) → AllByRecursion (λ x. key < x) xs → has key xs ≡ false

@@ -6,11 +6,11 @@ ghost use Rattle.tree23.specs.Keys.{StrictlyAscends};
 ghost use Rattle.tree23.specs.Nodes.{keys, depth, IsTree, IsLeaf, IsRooted, keys_with_split, IsTreeWithSplit};
 ghost use Rattle.tree23.specs.Code.Insertions.{IsInserted, IsOutcome, IsAnswer, OnSplits};
 
+use crate::pool::Pool;
 use crate::tree::leaf::{ROOM, insert_in_halves, is_at, leaf_of, place};
-use crate::tree::node::{Node, Rooted, Split, Tree, empty_node, two};
-use crate::tree::split_node::{grow_first, grow_second, grow_third};
+use crate::tree::node::{Node, Rooted, Split, Tree};
+use crate::tree::split_node::{grow_first, grow_root, grow_second, grow_third};
 use std::alloc::{AllocError, Global};
-use std::mem;
 
 /// What an insertion came to.
 #[derive(Drop)]
@@ -46,28 +46,19 @@ pub fn insert_at_root(alloc: Global, root: &mut Rooted, key: u32) -> Result<bool
     ensures ok { IfOk result (λ added. IsInserted key (keys root.old.tree) (keys root.new.tree) added) }
     ensures err { OnErr result (keys root.new.tree ≡ keys root.old.tree) }
 {
-    let outcome = insert_with(alloc, root, key, Vec::new(alloc));
+    let mut pool = Pool::new(alloc);
+    let outcome = insert_with(alloc, root, key, &mut pool.nodes);
     if let Outcome::Full = &outcome {
-        let boxes = boxes(alloc, root.height + 1)?;
-        insert_with(alloc, root, key, boxes).answer()
+        pool.hold(root.height + 1)?;
+        insert_with(alloc, root, key, &mut pool.nodes).answer()
     } else {
         outcome.answer()
     }
 }
 
-/// So many boxes for nodes.
-fn boxes(alloc: Global, count: u64) -> Result<Vec<Box<Node>>, AllocError> {
-    let mut boxes = Vec::new(alloc);
-    for _ in 0..count {
-        let node = Box::new(alloc, empty_node())?;
-        boxes.push(node)?;
-    }
-    Ok(boxes)
-}
-
 /// The insertion into a whole tree with these boxes.
 #[tactic(auto, using(crate::proofs::TreeLemmas::Inserting::growing))]
-fn insert_with(alloc: Global, root: &mut Rooted, key: u32, mut boxes: Vec<Box<Node>>) -> Outcome
+fn insert_with(alloc: Global, root: &mut Rooted, key: u32, boxes: &mut Vec<Box<Node>>) -> Outcome
     requires rooted { IsRooted root.old }
     requires ascends { StrictlyAscends (keys root.old.tree) }
     requires fits { root.old.height ≤ 2 ^ 63 }
@@ -75,15 +66,8 @@ fn insert_with(alloc: Global, root: &mut Rooted, key: u32, mut boxes: Vec<Box<No
     ensures height { root.new.height ≤ root.old.height + 1 }
     ensures outcome { IsOutcome key (keys root.old.tree) (keys root.new.tree) result }
 {
-    let (outcome, split) = insert_in(alloc, &mut root.tree, key, 0, &mut boxes);
-    if let Split::Splits(k, right) = split {
-        let Some(node) = boxes.pop() else {
-            unreachable!()
-        };
-        let left = mem::replace(&mut root.tree, Tree::Empty);
-        root.tree = two(node, left, k, right);
-        root.height += 1;
-    }
+    let (outcome, split) = insert_in(alloc, &mut root.tree, key, 0, boxes);
+    grow_root(root, split, boxes);
     outcome
 }
 

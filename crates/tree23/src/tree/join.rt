@@ -4,11 +4,9 @@ ghost use Rattle.tree23.specs.Nodes.{room, keys, depth, IsTree, IsLeaf, IsRooted
 
 use crate::pool::Pool;
 use crate::tree::leaf::ROOM;
-use crate::tree::node::{Rooted, Split, Tree, two};
+use crate::tree::node::{Rooted, Split, Tree};
 use crate::tree::remove::{pop_first, shrink_root};
-use crate::tree::split_node::{
-    add_after_first, add_after_second, split_after_first, split_after_third,
-};
+use crate::tree::split_node::{grow_first, grow_root, grow_second, grow_third};
 use std::alloc::{AllocError, Global};
 use std::mem;
 
@@ -94,21 +92,14 @@ pub fn join_right(
     }
     match low {
         Tree::Two(node) => {
-            match join_right(&mut node.second, levels - 1, key, high, pool)? {
-                Split::Fits => {}
-                Split::Splits(k, right) => add_after_second(low, k, right),
-            }
-            Ok(Split::Fits)
+            let split = join_right(&mut node.second, levels - 1, key, high, pool)?;
+            pool.hold(1)?;
+            Ok(grow_second(low, split, &mut pool.nodes))
         }
         Tree::Three(node) => {
-            match join_right(&mut node.third, levels - 1, key, high, pool)? {
-                Split::Fits => Ok(Split::Fits),
-                Split::Splits(k, right) => {
-                    let spare = pool.take()?;
-                    let (m, rest) = split_after_third(low, spare, k, right);
-                    Ok(Split::Splits(m, rest))
-                }
-            }
+            let split = join_right(&mut node.third, levels - 1, key, high, pool)?;
+            pool.hold(1)?;
+            Ok(grow_third(low, split, &mut pool.nodes))
         }
         Tree::Empty | Tree::Leaf(_) | Tree::Underfull(_) => unreachable!(),
     }
@@ -134,41 +125,17 @@ pub fn join_left(
     }
     match high {
         Tree::Two(node) => {
-            match join_left(low, key, &mut node.first, levels - 1, pool)? {
-                Split::Fits => {}
-                Split::Splits(k, right) => add_after_first(high, k, right),
-            }
-            Ok(Split::Fits)
+            let split = join_left(low, key, &mut node.first, levels - 1, pool)?;
+            pool.hold(1)?;
+            Ok(grow_first(high, split, &mut pool.nodes))
         }
         Tree::Three(node) => {
-            match join_left(low, key, &mut node.first, levels - 1, pool)? {
-                Split::Fits => Ok(Split::Fits),
-                Split::Splits(k, right) => {
-                    let spare = pool.take()?;
-                    let (m, rest) = split_after_first(high, spare, k, right);
-                    Ok(Split::Splits(m, rest))
-                }
-            }
+            let split = join_left(low, key, &mut node.first, levels - 1, pool)?;
+            pool.hold(1)?;
+            Ok(grow_first(high, split, &mut pool.nodes))
         }
         Tree::Empty | Tree::Leaf(_) | Tree::Underfull(_) => unreachable!(),
     }
-}
-
-/// Puts a tree and what was split off it under one root.
-#[inline]
-fn under_one_root(rooted: &mut Rooted, split: Split, pool: &mut Pool) -> Result<(), AllocError>
-    requires split { IsTreeWithSplit rooted.old.height rooted.old.tree split }
-    requires fits { rooted.old.height < 2 ^ 63 }
-    ensures keys { OnOk result (keys rooted.new.tree ≡ keys_with_split rooted.old.tree split) }
-    ensures rooted { OnOk result (IsRooted rooted.new) }
-{
-    if let Split::Splits(k, right) = split {
-        let root = pool.take()?;
-        let left = mem::replace(&mut rooted.tree, Tree::Empty);
-        rooted.tree = two(root, left, k, right);
-        rooted.height += 1;
-    }
-    Ok(())
 }
 
 /// Puts a key and a tree of any depth after another.
@@ -188,41 +155,17 @@ pub fn put_after(
     if low.height >= high.height {
         let levels = low.height - high.height;
         let split = join_right(&mut low.tree, levels, key, high.tree, pool)?;
-        under_one_root(low, split, pool)
+        pool.hold(1)?;
+        grow_root(low, split, &mut pool.nodes);
     } else {
         let levels = high.height - low.height;
         let left = mem::replace(&mut low.tree, Tree::Empty);
         let split = join_left(left, key, &mut high.tree, levels, pool)?;
+        pool.hold(1)?;
         *low = high;
-        under_one_root(low, split, pool)
+        grow_root(low, split, &mut pool.nodes);
     }
-}
-
-/// Puts a tree of any depth and a key before another.
-#[tactic(auto, using(crate::proofs::TreeLemmas::Depths::depth_within))]
-pub fn put_before(
-    mut low: Rooted,
-    key: u32,
-    high: &mut Rooted,
-    pool: &mut Pool,
-) -> Result<(), AllocError>
-    requires low { IsRooted low }
-    requires high { IsRooted high.old }
-    requires fits { length (keys low.tree) + length (keys high.old.tree) < 2 ^ 63 }
-    ensures keys { OnOk result (keys high.new.tree ≡ keys low.tree ++ key ∷ keys high.old.tree) }
-    ensures rooted { OnOk result (IsRooted high.new) }
-{
-    if low.height >= high.height {
-        let levels = low.height - high.height;
-        let right = mem::replace(&mut high.tree, Tree::Empty);
-        let split = join_right(&mut low.tree, levels, key, right, pool)?;
-        *high = low;
-        under_one_root(high, split, pool)
-    } else {
-        let levels = high.height - low.height;
-        let split = join_left(low.tree, key, &mut high.tree, levels, pool)?;
-        under_one_root(high, split, pool)
-    }
+    Ok(())
 }
 
 /// Puts the keys of a tree of any depth after those of another.

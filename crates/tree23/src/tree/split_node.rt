@@ -1,106 +1,12 @@
-//! Nodes of which one side was split into two.
-ghost use Rattle.std.specs.Prelude.{◌≡◌, ◌+◌, ◌<◌, ◌++◌, ◌∷◌, length};
-ghost use Rattle.tree23.specs.Nodes.{keys, depth, IsTree, keys_with_split, IsTreeWithSplit};
-ghost use Rattle.tree23.specs.Code.Insertions.{AreTwoSides, AreThreeSides, after_first, after_second, after_third, OnSplits, HasSplitFirst, HasSplitSecond, HasSplitThird, with_first_split, with_second_split, with_third_split, IsSpent};
+//! Nodes of which one side was split into two, and a new root over a tree that was.
+ghost use Rattle.std.specs.Prelude.{◌≡◌, ◌+◌, ◌<◌, ◌≤◌, ◌^◌, length};
+ghost use Rattle.tree23.specs.Nodes.{keys, depth, IsRooted, keys_with_split, IsTreeWithSplit};
+ghost use Rattle.tree23.specs.Code.Insertions.{OnSplits, HasSplitFirst, HasSplitSecond, HasSplitThird, with_first_split, with_second_split, with_third_split, IsSpent};
 
-use crate::tree::node::{Node, Split, Tree, three, two};
+use crate::tree::node::{Node, Rooted, Split, Tree, three, two};
 use std::mem;
 
-/// Two sides, and one more after the first.
-#[inline]
-pub fn add_after_first(tree: &mut Tree, j: u32, right: Tree)
-    requires sides { AreTwoSides tree.old }
-    requires right { IsTree right }
-    requires level { depth tree.old ≡ depth right + 1 }
-    ensures keys { keys tree.new ≡ after_first j (keys right) tree.old }
-    ensures tree { IsTree tree.new }
-    ensures depth { depth tree.new ≡ depth tree.old }
-{
-    let Tree::Two(mut node) = mem::replace(tree, Tree::Empty) else {
-        unreachable!()
-    };
-    let (first, low, second) = node.take_two();
-    *tree = three(node, first, j, right, low, second);
-}
-
-/// Two sides, and one more after the second.
-#[inline]
-pub fn add_after_second(tree: &mut Tree, j: u32, right: Tree)
-    requires sides { AreTwoSides tree.old }
-    requires right { IsTree right }
-    requires level { depth tree.old ≡ depth right + 1 }
-    ensures keys { keys tree.new ≡ after_second j (keys right) tree.old }
-    ensures tree { IsTree tree.new }
-    ensures depth { depth tree.new ≡ depth tree.old }
-{
-    let Tree::Two(mut node) = mem::replace(tree, Tree::Empty) else {
-        unreachable!()
-    };
-    let (first, low, second) = node.take_two();
-    *tree = three(node, first, low, second, j, right);
-}
-
-/// Three sides, and one more after the first. The first two of the four stay, and the last two are split off.
-#[inline]
-pub fn split_after_first(tree: &mut Tree, spare: Box<Node>, j: u32, right: Tree) -> (u32, Tree)
-    requires sides { AreThreeSides tree.old }
-    requires right { IsTree right }
-    requires level { depth tree.old ≡ depth right + 1 }
-    ensures keys { keys tree.new ++ result.0 ∷ keys result.1 ≡ after_first j (keys right) tree.old }
-    ensures tree { IsTree tree.new }
-    ensures rest { IsTree result.1 }
-    ensures depth { depth tree.new ≡ depth tree.old }
-    ensures level { depth result.1 ≡ depth tree.old }
-{
-    let Tree::Three(mut node) = mem::replace(tree, Tree::Empty) else {
-        unreachable!()
-    };
-    let (first, low, second, high, third) = node.take_three();
-    *tree = two(node, first, j, right);
-    (low, two(spare, second, high, third))
-}
-
-/// Three sides, and one more after the second.
-#[inline]
-pub fn split_after_second(tree: &mut Tree, spare: Box<Node>, j: u32, right: Tree) -> (u32, Tree)
-    requires sides { AreThreeSides tree.old }
-    requires right { IsTree right }
-    requires level { depth tree.old ≡ depth right + 1 }
-    ensures keys { keys tree.new ++ result.0 ∷ keys result.1 ≡ after_second j (keys right) tree.old }
-    ensures tree { IsTree tree.new }
-    ensures rest { IsTree result.1 }
-    ensures depth { depth tree.new ≡ depth tree.old }
-    ensures level { depth result.1 ≡ depth tree.old }
-{
-    let Tree::Three(mut node) = mem::replace(tree, Tree::Empty) else {
-        unreachable!()
-    };
-    let (first, low, second, high, third) = node.take_three();
-    *tree = two(node, first, low, second);
-    (j, two(spare, right, high, third))
-}
-
-/// Three sides, and one more after the third.
-#[inline]
-pub fn split_after_third(tree: &mut Tree, spare: Box<Node>, j: u32, right: Tree) -> (u32, Tree)
-    requires sides { AreThreeSides tree.old }
-    requires right { IsTree right }
-    requires level { depth tree.old ≡ depth right + 1 }
-    ensures keys { keys tree.new ++ result.0 ∷ keys result.1 ≡ after_third j (keys right) tree.old }
-    ensures tree { IsTree tree.new }
-    ensures rest { IsTree result.1 }
-    ensures depth { depth tree.new ≡ depth tree.old }
-    ensures level { depth result.1 ≡ depth tree.old }
-{
-    let Tree::Three(mut node) = mem::replace(tree, Tree::Empty) else {
-        unreachable!()
-    };
-    let (first, low, second, high, third) = node.take_three();
-    *tree = two(node, first, low, second);
-    (high, two(spare, third, j, right))
-}
-
-/// Puts what was split off the first side after it. A node of three sides takes a box, and is split itself.
+/// Puts what was split off the first side after it. A node with three sides takes a box for the last two of the four.
 pub fn grow_first(tree: &mut Tree, split: Split, boxes: &mut Vec<Box<Node>>) -> Split
     requires tree { HasSplitFirst split tree.old }
     requires boxes { OnSplits split (0 < length boxes.old.items) }
@@ -111,15 +17,22 @@ pub fn grow_first(tree: &mut Tree, split: Split, boxes: &mut Vec<Box<Node>>) -> 
     let Split::Splits(j, right) = split else {
         return Split::Fits;
     };
-    if let Tree::Two(_) = tree {
-        add_after_first(tree, j, right);
-        return Split::Fits;
+    match mem::replace(tree, Tree::Empty) {
+        Tree::Two(mut node) => {
+            let (first, low, second) = node.take_two();
+            *tree = three(node, first, j, right, low, second);
+            Split::Fits
+        }
+        Tree::Three(mut node) => {
+            let Some(spare) = boxes.pop() else {
+                unreachable!()
+            };
+            let (first, low, second, high, third) = node.take_three();
+            *tree = two(node, first, j, right);
+            Split::Splits(low, two(spare, second, high, third))
+        }
+        Tree::Empty | Tree::Leaf(_) | Tree::Underfull(_) => unreachable!(),
     }
-    let Some(spare) = boxes.pop() else {
-        unreachable!()
-    };
-    let (k, rest) = split_after_first(tree, spare, j, right);
-    Split::Splits(k, rest)
 }
 
 /// Puts what was split off the second side after it.
@@ -133,15 +46,22 @@ pub fn grow_second(tree: &mut Tree, split: Split, boxes: &mut Vec<Box<Node>>) ->
     let Split::Splits(j, right) = split else {
         return Split::Fits;
     };
-    if let Tree::Two(_) = tree {
-        add_after_second(tree, j, right);
-        return Split::Fits;
+    match mem::replace(tree, Tree::Empty) {
+        Tree::Two(mut node) => {
+            let (first, low, second) = node.take_two();
+            *tree = three(node, first, low, second, j, right);
+            Split::Fits
+        }
+        Tree::Three(mut node) => {
+            let Some(spare) = boxes.pop() else {
+                unreachable!()
+            };
+            let (first, low, second, high, third) = node.take_three();
+            *tree = two(node, first, low, second);
+            Split::Splits(j, two(spare, right, high, third))
+        }
+        Tree::Empty | Tree::Leaf(_) | Tree::Underfull(_) => unreachable!(),
     }
-    let Some(spare) = boxes.pop() else {
-        unreachable!()
-    };
-    let (k, rest) = split_after_second(tree, spare, j, right);
-    Split::Splits(k, rest)
 }
 
 /// Puts what was split off the third side after it.
@@ -155,9 +75,35 @@ pub fn grow_third(tree: &mut Tree, split: Split, boxes: &mut Vec<Box<Node>>) -> 
     let Split::Splits(j, right) = split else {
         return Split::Fits;
     };
-    let Some(spare) = boxes.pop() else {
-        unreachable!()
-    };
-    let (k, rest) = split_after_third(tree, spare, j, right);
-    Split::Splits(k, rest)
+    match mem::replace(tree, Tree::Empty) {
+        Tree::Three(mut node) => {
+            let Some(spare) = boxes.pop() else {
+                unreachable!()
+            };
+            let (first, low, second, high, third) = node.take_three();
+            *tree = two(node, first, low, second);
+            Split::Splits(high, two(spare, third, j, right))
+        }
+        Tree::Empty | Tree::Leaf(_) | Tree::Underfull(_) | Tree::Two(_) => unreachable!(),
+    }
+}
+
+/// Puts a tree and what was split off it under one root.
+#[inline]
+pub fn grow_root(rooted: &mut Rooted, split: Split, boxes: &mut Vec<Box<Node>>)
+    requires split { IsTreeWithSplit rooted.old.height rooted.old.tree split }
+    requires boxes { OnSplits split (0 < length boxes.old.items) }
+    requires fits { rooted.old.height ≤ 2 ^ 63 }
+    ensures keys { keys rooted.new.tree ≡ keys_with_split rooted.old.tree split }
+    ensures rooted { IsRooted rooted.new }
+    ensures height { rooted.new.height ≤ rooted.old.height + 1 }
+{
+    if let Split::Splits(k, right) = split {
+        let Some(root) = boxes.pop() else {
+            unreachable!()
+        };
+        let left = mem::replace(&mut rooted.tree, Tree::Empty);
+        rooted.tree = two(root, left, k, right);
+        rooted.height += 1;
+    }
 }

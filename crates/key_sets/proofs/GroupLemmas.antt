@@ -1,0 +1,5 @@
+pub mod Counting
+pub mod Cutting
+pub mod Distinct
+pub mod Placing
+pub mod Starts

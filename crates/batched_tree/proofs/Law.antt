@@ -4,35 +4,36 @@ use Rattle.std.proofs.Math.ListN.{set}
 use Rattle.std.specs.List.{AllByRecursion}
 use Rattle.std.specs.declared.option.Option.{Option}
 use Rattle.std.proofs.lemmas.Bool.Decides.{nat_tests}
+use Rattle.key_sets.specs.Keys.{StrictlyAscends, AllBelow}
+use Rattle.key_sets.specs.Splits.{below, from}
+use Rattle.key_sets.specs.Groups.{starts_of, group_of}
+use Rattle.key_sets.proofs.Filters.{all_filter, all_passed}
+use Rattle.key_sets.proofs.KeyLemmas.Ascending.{all_map}
+use Rattle.key_sets.proofs.KeyLemmas.Sides.{less_or_not, is_less, is_not_less, all_below, all_from, both_sides, ascends_from}
 use Rattle.seq_objects.specs.declared.op.Op.{Op}
+use Rattle.batched_tree.specs.Code.Sides.{calls_below, calls_from}
 use Rattle.seq_objects.specs.declared.op.Op.TheVariants.{CounterAdd, Push, Pop, TreeInsert, TreeRemove, TreeFind, TreeNext, PqInsert, PqTake}
 use Rattle.seq_objects.specs.declared.call.Call.{Call}
 use Rattle.seq_objects.specs.declared.reply.Reply.{Reply}
 use Rattle.seq_objects.specs.declared.reply.Reply.TheVariants.{Number, Unit as Done, Empty, Yes, No}
 use Rattle.seq_objects.specs.Objects.{Objects, after, reply_to, argument_of}
-use Rattle.seq_objects.specs.Orders.{StrictlyAscends}
 use Rattle.seq_objects.specs.BatchOrder.{ComesFirst}
 use Rattle.seq_objects.specs.Pairs.{EachPair}
 use Rattle.seq_objects.specs.Batches.{AreInBatchOrder, AreOf, object_of, Tree}
 use Rattle.seq_objects.specs.Serial.{of_set, after_all, replies_to_all}
 use Rattle.seq_objects.specs.Pieces.{AllMeet, BatchContext}
-use Rattle.tree23.specs.Keys.{AllBelow}
 use Rattle.batched_tree.specs.declared.piece.Piece.{Piece}
 use Rattle.batched_tree.specs.declared.piece.Served.{Served}
 use Rattle.batched_tree.specs.declared.piece.Rest.{Rest}
 use Rattle.batched_tree.specs.Calls.{key_of}
-use Rattle.batched_tree.specs.Code.Sides.{below, from, calls_below, calls_from}
-use Rattle.batched_tree.specs.Groups.{starts_of, group_of}
 use Rattle.batched_tree.specs.Replies.{or_beyond, reply_within, replies_within}
 use Rattle.batched_tree.specs.Pieces.{Meets, IsContextOf}
 use Rattle.batched_tree.specs.Code.Begin.{IsCutPiece, AreCutPieces}
 use Rattle.batched_tree.specs.Code.End.{merged_replies, replies_of, joined_keys, CanJoin}
-use Rattle.batched_tree.proofs.ServeLemmas.Sides.{all_filter, all_passed, is_less, is_not_less, all_below, all_from, both_sides, ascends_from}
 use Rattle.batched_tree.proofs.BeginLemmas.Cuts.{some_key}
-use Rattle.batched_tree.proofs.Filters.{all_map}
 use Rattle.batched_tree.proofs.BeginLemmas.Dealing.{groups_within}
 use Rattle.batched_tree.proofs.BeginLemmas.Ranges.{cut_pieces}
-use Rattle.batched_tree.proofs.ServeLemmas.Halves.{shared, less_or_not, halves_replies, halves_after, set_after, kept}
+use Rattle.batched_tree.proofs.ServeLemmas.Halves.{shared, halves_replies, halves_after, set_after, kept}
 
 -- the first piece has the calls below the first start, and the other pieces have the others
 merged_split : (b : ℕ) (starts : List ℕ) (calls : List Call) (q : List Reply) (qs : List (List Reply))
@@ -227,6 +228,22 @@ pub law_replies : (rest : Rest) (o : BatchContext (List ℕ) Piece) (outs : List
     → IsContextOf rest o → AllMeet Meets o.ins outs
     → merged_replies rest.groups.items (replies_of outs) ≡ replies_to_all (of_set o.before) o.calls
 law_replies rest o outs r meet = rw r.groups (pieces_replies (starts_of r.cut.groups) o.before o.calls o.ins outs r.ascends r.may r.batch.order (pieces_of rest o r) meet)
+
+-- the only piece has the replies to all calls
+single_replies : (starts set : List ℕ) (calls : List Call) (ins : List Piece) (out : Served)
+    → AreCutPieces set calls starts ins → AllMeet Meets ins (out ∷ []) → out.replies.items ≡ replies_to_all (of_set set) calls
+single_replies [] set calls [] out pieces meet = absurd pieces
+single_replies (b ∷ starts) set calls [] out pieces meet = absurd pieces
+single_replies [] set calls (piece ∷ ins) out pieces meet =
+    owed_replies set calls None piece out pieces.0 meet.0 ∙ replies_none (of_set set) calls
+single_replies (b ∷ starts) set calls (piece ∷ []) out pieces meet = absurd pieces.1
+single_replies (b ∷ starts) set calls (piece ∷ other ∷ ins) out pieces meet = absurd meet.1
+
+pub law_single : (rest : Rest) (o : BatchContext (List ℕ) Piece) (outs : List Served)
+    → IsContextOf rest o → AllMeet Meets o.ins outs → (out : Served) → outs ≡ out ∷ []
+    → out.replies.items ≡ merged_replies rest.groups.items (replies_of outs)
+law_single rest o outs r meet out is =
+    single_replies (starts_of r.cut.groups) o.before o.calls o.ins out (pieces_of rest o r) (rw is at meet) ∙ sym (law_replies rest o outs r meet)
 
 pub law_content : (rest : Rest) (o : BatchContext (List ℕ) Piece) (outs : List Served)
     → IsContextOf rest o → AllMeet Meets o.ins outs

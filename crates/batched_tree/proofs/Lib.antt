@@ -1,5 +1,4 @@
-mod Filters
 mod BeginLemmas
-mod ServeLemmas
 mod EndLemmas
 mod Law
+mod ServeLemmas

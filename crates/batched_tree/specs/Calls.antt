@@ -1,9 +1,10 @@
 -- The calls of a batch of the tree: their keys, and which can be served.
-use Rattle.std.specs.Prelude.{ℕ, Bool, true, false, List, [], ◌∷◌}
+use Rattle.std.specs.Prelude.{ℕ, Bool, true, false, List, map}
+use Rattle.key_sets.specs.Groups.{distinct}
 use Rattle.seq_objects.specs.declared.op.Op.{Op}
 use Rattle.seq_objects.specs.declared.op.Op.TheVariants.{TreeInsert, TreeRemove, TreeFind, TreeNext}
 use Rattle.seq_objects.specs.declared.call.Call.{Call}
-use Rattle.seq_objects.specs.Objects.{Objects, with_key, argument_of}
+use Rattle.seq_objects.specs.Objects.{Objects, argument_of}
 use Rattle.seq_objects.specs.Batches.{AreOf, Tree}
 
 -- whether an operation is one of the tree
@@ -18,14 +19,13 @@ is_of_tree _ = false
 abbrev pub key_of : Call → ℕ
 key_of call = argument_of call.op
 
--- a set into which the keys of the calls were put
-abbrev pub with_keys : List ℕ → List Call → List ℕ
-with_keys set [] = set
-with_keys set (call ∷ calls) = with_keys (with_key (key_of call) set) calls
+-- the keys of calls, in their order
+abbrev pub keys_of : List Call → List ℕ
+keys_of calls = map (λ call. key_of call) calls
 
 -- the distinct keys of the calls, ascending
 abbrev pub distinct_keys : List Call → List ℕ
-distinct_keys calls = with_keys [] calls
+distinct_keys calls = distinct (keys_of calls)
 
 -- all calls are of the tree
 abbrev pub MayServe : Objects → List Call → Type 0

@@ -1,5 +1,4 @@
 pub mod Calls
-pub mod Groups
-pub mod Replies
-pub mod Pieces
 pub mod Code
+pub mod Pieces
+pub mod Replies

@@ -1,5 +1,5 @@
 -- The pieces of a batch: a part of the set and of the calls for each group of the calls' keys.
-use Rattle.std.specs.Prelude.{◌≡◌, ℕ, ◌+◌, ◌/◌, List, [], ◌∷◌, length, filter, map}
+use Rattle.std.specs.Prelude.{◌≡◌, ℕ, List, [], ◌∷◌, length, filter, map}
 use Rattle.std.specs.declared.option.Option.{Option}
 use Rattle.std.specs.Option.{unwrap_or}
 use Rattle.seq_objects.specs.declared.call.Call.{Call}
@@ -12,7 +12,7 @@ use Rattle.batched_tree.specs.declared.piece.Piece.{Piece}
 use Rattle.batched_tree.specs.declared.piece.Served.{Served}
 use Rattle.batched_tree.specs.declared.piece.Rest.{Rest}
 use Rattle.batched_tree.specs.Calls.{MayServe, key_of, distinct_keys}
-use Rattle.batched_tree.specs.Groups.{AreGroups, least_of, starts_of, is_in, least_beyond, group_of}
+use Rattle.key_sets.specs.Groups.{AreGroups, least_of, starts_of, is_in, least_beyond, group_of, group_size, group_count}
 use Rattle.batched_tree.specs.Replies.{replies_within}
 
 -- the part of a group: the keys of the set in its range, the calls whose keys are in the group, and the least
@@ -34,8 +34,12 @@ ArePieces set calls start (group ∷ groups) (piece ∷ pieces) =
 -- a group has a sixteenth of the distinct keys of the calls, rounded up, and the first range begins at 0
 pub record Cut (objects : Objects) (calls : List Call) (ins : List Piece) : Type 0 where
   pub groups : List (List ℕ)
-  pub groups_are : AreGroups ((length (distinct_keys calls) + 15) / 16) (distinct_keys calls) groups
+  pub groups_are : AreGroups (group_size (length (distinct_keys calls))) (distinct_keys calls) groups
   pub pieces : ArePieces objects.set calls 0 groups ins
+
+-- how many pieces there are: as many as the calls have distinct keys, up to 16, and above half of these, rounded up
+abbrev pub piece_count : Objects → List Call → ℕ
+piece_count objects calls = group_count (length (distinct_keys calls))
 
 -- the out has the keys after the calls, and the replies to them
 pub record Meets (piece : Piece) (served : Served) : Type 0 where

@@ -1,8 +1,8 @@
 //! Cutting a set into pieces, and dealing the calls of a batch to them.
 ghost use Rattle.std.specs.Prelude.{◌≡◌, ◌+◌, true, [], length, map, IfOk};
 ghost use Rattle.std.specs.List.{list_all};
+ghost use Rattle.key_sets.specs.Groups.{group_of};
 ghost use Rattle.batched_tree.specs.Calls.{is_of_tree, key_of};
-ghost use Rattle.batched_tree.specs.Groups.{group_of};
 ghost use Rattle.batched_tree.specs.Code.Begin.{IsCutPiece, AreCutPieces};
 
 pub(crate) mod groups;
@@ -23,6 +23,24 @@ fn piece_of(forest: Forest, beyond: Option<u32>, pool: &mut Pool) -> Piece
         replies: pool.take_replies(),
         beyond,
     }
+}
+
+/// The piece of a batch with one group, to which the whole forest moves, as it is.
+fn whole_piece(
+    alloc: Global,
+    set: Forest,
+    calls: &[Call],
+    pool: &mut Pool,
+) -> Result<Vec<Piece>, AllocError>
+    requires { list_all (λ call. is_of_tree call.op) calls.now ≡ true }
+    ensures pieces { IfOk result (λ v. AreCutPieces set.keys calls.now [] v.items) }
+    ensures count { IfOk result (λ v. length v.items ≡ 1) }
+{
+    let mut pieces = Vec::with_capacity(alloc, 1)?;
+    let mut piece = piece_of(set, None, pool);
+    piece.calls.extend_from_slice(calls)?;
+    pieces.push(piece)?;
+    Ok(pieces)
 }
 
 /// The pieces whose ranges but the first begin with the starts, before they have calls.
@@ -59,6 +77,9 @@ pub(crate) fn pieces_of(
     ensures pieces { IfOk result (λ v. AreCutPieces set.keys calls.now starts.now v.items) }
     ensures count { IfOk result (λ v. length v.items ≡ length starts.now + 1) }
 {
+    if starts.is_empty() {
+        return whole_piece(alloc, set, calls, pool);
+    }
     let mut pieces = empty_pieces(alloc, set, starts, pool)?;
     for (place, call) in calls.iter().enumerate() {
         pieces[groups[place]].calls.push(*call)?;

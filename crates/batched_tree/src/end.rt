@@ -1,7 +1,7 @@
 //! Joining the forests of the pieces, and merging their replies.
-ghost use Rattle.std.specs.Prelude.{◌≡◌, ◌<◌, ◌≤◌, [], length, drop, slice_get, IfOk};
+ghost use Rattle.std.specs.Prelude.{◌≡◌, ◌<◌, [], ◌∷◌, length, drop, slice_get, IfOk};
 ghost use Rattle.std.specs.List.{AllByRecursion};
-ghost use Rattle.tree_forest.specs.Views.{most_trees};
+ghost use Rattle.batched_tree.specs.declared.piece.Served.{Served as ServedOf};
 ghost use Rattle.batched_tree.specs.Code.End.{merged_replies, replies_of, joined_keys, CanJoin};
 
 use crate::piece::Served;
@@ -48,15 +48,14 @@ impl Replies {
     }
 }
 
-/// One forest of the forests of all pieces, with few trees, and the replies of each piece.
-pub(crate) fn join_pieces(
+/// One forest of the forests of all pieces, and the replies of each piece.
+fn join_pieces(
     alloc: Global,
     outs: Vec<Served>,
     pool: &mut Pool,
 ) -> Result<(Forest, Vec<Replies>), AllocError>
     requires { CanJoin [] outs.items }
     ensures keys { IfOk result (λ p. p.0.keys ≡ joined_keys outs.items) }
-    ensures few { IfOk result (λ p. p.0.trees ≤ most_trees) }
     ensures replies { IfOk result (λ p. p.1.items ≡ replies_of outs.items) }
 {
     let mut replies = Vec::with_capacity(alloc, outs.len())?;
@@ -74,12 +73,11 @@ pub(crate) fn join_pieces(
         replies.push(Replies::new(served.replies))?;
         pool.keep_calls(served.calls);
     }
-    forest.compact(&mut pool.trees)?;
     Ok((forest, replies))
 }
 
 /// The replies in the order of the calls, where `groups` has the group of each call.
-pub(crate) fn merge_replies(
+fn merge_replies(
     alloc: Global,
     groups: &[usize],
     pieces: Vec<Replies>,
@@ -98,4 +96,31 @@ pub(crate) fn merge_replies(
         pool.keep_replies(piece.all);
     }
     Ok(replies)
+}
+
+/// One forest of the forests of all pieces, and the replies in the order of the calls, where `groups` has the group of
+/// each call. A piece that is the only one has both as they are.
+pub(crate) fn join_outs(
+    alloc: Global,
+    groups: &[usize],
+    outs: Vec<Served>,
+    pool: &mut Pool,
+) -> Result<(Forest, Vec<Reply>), AllocError>
+    requires can { CanJoin [] outs.items }
+    requires groups { AllByRecursion (λ group. group < length (replies_of outs.items)) groups.now }
+    requires single { (out : ServedOf) → outs.items ≡ out ∷ []
+        → out.replies.items ≡ merged_replies groups.now (replies_of outs.items) }
+    ensures keys { IfOk result (λ p. p.0.keys ≡ joined_keys outs.items) }
+    ensures replies { IfOk result (λ p. p.1.items ≡ merged_replies groups.now (replies_of outs.items)) }
+{
+    let mut outs = outs;
+    if outs.len() == 1 {
+        if let Some(only) = outs.pop() {
+            pool.keep_calls(only.calls);
+            return Ok((only.forest, only.replies));
+        }
+    }
+    let (forest, pieces) = join_pieces(alloc, outs, pool)?;
+    let replies = merge_replies(alloc, groups, pieces, pool)?;
+    Ok((forest, replies))
 }

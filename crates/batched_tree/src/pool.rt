@@ -3,6 +3,7 @@ ghost use Rattle.std.specs.Prelude.{◌≡◌, []};
 
 use seq_objects::{Call, Reply};
 use std::alloc::Global;
+use std::mem;
 use tree_forest::ForestPool;
 
 /// Boxes and vectors for reuse. Nothing that contracts say of a set depends on them.
@@ -11,6 +12,9 @@ pub struct Pool {
     pub trees: ForestPool,
     calls: Vec<Vec<Call>>,
     replies: Vec<Vec<Reply>>,
+    keys: Vec<u32>,
+    starts: Vec<u32>,
+    groups: Vec<usize>,
     alloc: Global,
 }
 
@@ -23,6 +27,9 @@ impl Pool {
             trees: ForestPool::new(alloc),
             calls: Vec::new(alloc),
             replies: Vec::new(alloc),
+            keys: Vec::new(alloc),
+            starts: Vec::new(alloc),
+            groups: Vec::new(alloc),
             alloc,
         }
     }
@@ -56,5 +63,29 @@ impl Pool {
     /// Keeps the vector, unless there is no memory for its place here.
     pub fn keep_replies(&mut self, replies: Vec<Reply>) {
         if let Err(_) = self.replies.push(replies) {}
+    }
+
+    /// The vectors for the keys of a batch and for the starts of its groups, with stale content.
+    pub fn take_keys(&mut self) -> (Vec<u32>, Vec<u32>) {
+        (
+            mem::replace(&mut self.keys, Vec::new(self.alloc)),
+            mem::replace(&mut self.starts, Vec::new(self.alloc)),
+        )
+    }
+
+    /// Keeps the vectors.
+    pub fn keep_keys(&mut self, keys: Vec<u32>, starts: Vec<u32>) {
+        self.keys = keys;
+        self.starts = starts;
+    }
+
+    /// The vector for the groups of the calls, with stale content.
+    pub fn take_groups(&mut self) -> Vec<usize> {
+        mem::replace(&mut self.groups, Vec::new(self.alloc))
+    }
+
+    /// Keeps the vector.
+    pub fn keep_groups(&mut self, groups: Vec<usize>) {
+        self.groups = groups;
     }
 }

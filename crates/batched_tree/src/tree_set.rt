@@ -7,12 +7,13 @@ ghost use Rattle.batched_tree.specs.declared.piece.Piece.{Piece as PieceOf};
 ghost use Rattle.batched_tree.specs.Calls.{MayServe};
 ghost use Rattle.batched_tree.specs.Pieces.{Meets, Cut, IsContextOf};
 
-use crate::begin::groups::{groups_of, keys_of, starts_of};
+use crate::begin::groups::{find_groups, find_keys};
 use crate::begin::pieces_of;
-use crate::end::{join_pieces, merge_replies};
+use crate::end::join_outs;
 use crate::piece::{Piece, Rest, Served};
 use crate::pool::Pool;
 use crate::serve::serve_piece;
+use key_sets::find_starts;
 use seq_objects::{Batched, Call, Reply};
 use std::alloc::{AllocError, Global};
 use std::marker::Model;
@@ -84,11 +85,14 @@ impl Batched for TreeSet {
 
     fn begin(self, alloc: Global, calls: &[Call]) -> Result<(Rest, Vec<Piece>), AllocError> {
         self.forest.keys_ascend();
-        let keys = keys_of(alloc, calls)?;
-        let starts = starts_of(alloc, &keys)?;
-        let groups = groups_of(alloc, &starts, calls)?;
         let mut pool = self.pool;
+        let (mut keys, mut starts) = pool.take_keys();
+        let mut groups = pool.take_groups();
+        find_keys(calls, &mut keys)?;
+        find_starts(&keys, &mut starts)?;
+        find_groups(&starts, calls, &mut groups)?;
         let pieces = pieces_of(alloc, self.forest, &starts, calls, &groups, &mut pool)?;
+        pool.keep_keys(keys, starts);
         Ok((Rest { groups, pool }, pieces))
     }
 
@@ -109,8 +113,9 @@ impl Batched for TreeSet {
             → AllMeet Meets o.ins outs.items → of_set p.0 ≡ after_all (of_set o.before) o.calls) }
     {
         let mut pool = rest.pool;
-        let (forest, pieces) = join_pieces(alloc, outs, &mut pool)?;
-        let replies = merge_replies(alloc, &rest.groups, pieces, &mut pool)?;
+        let (mut forest, replies) = join_outs(alloc, &rest.groups, outs, &mut pool)?;
+        forest.compact(&mut pool.trees)?;
+        pool.keep_groups(rest.groups);
         Ok((TreeSet { forest, pool }, replies))
     }
 }

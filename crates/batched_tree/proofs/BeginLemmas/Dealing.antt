@@ -1,29 +1,22 @@
 -- One more call goes to the piece of its group.
-use Rattle.std.proofs.Common.{◌≡◌, ℕ, zero, suc, ◌+◌, ◌<◌, ◌≤◌, inl, inr, Bool, true, false, cond, nat_lt, List, [], ◌∷◌, ◌++◌, map, length, get_or, take, ap, ◌∙◌, append-nil, arith}
+use Rattle.std.proofs.Common.{◌≡◌, ℕ, zero, suc, ◌+◌, ◌<◌, ◌≤◌, inl, inr, true, false, nat_lt, List, [], ◌∷◌, ◌++◌, map, length, get_or, take, ap, ◌∙◌, append-nil, arith}
 use Rattle.std.proofs.Math.ListN.{set}
 use Rattle.std.specs.List.{AllByRecursion}
 use Rattle.std.specs.declared.option.Option.{Option}
 use Rattle.std.proofs.lemmas.Bool.Decides.{nat_tests}
 use Rattle.std.proofs.lemmas.List.{get_or-map, take_more}
 use Rattle.std.proofs.lemmas.List.Elements.{filter-append}
+use Rattle.key_sets.specs.Groups.{group_of}
+use Rattle.key_sets.proofs.KeyLemmas.Sides.{less_or_not}
+use Rattle.key_sets.proofs.GroupLemmas.Counting.{group_within}
 use Rattle.seq_objects.specs.declared.call.Call.{Call}
 use Rattle.seq_objects.specs.Objects.{argument_of}
 use Rattle.batched_tree.specs.declared.piece.Piece.{Piece}
 use Rattle.batched_tree.specs.Calls.{key_of}
 use Rattle.batched_tree.specs.Code.Sides.{calls_below, calls_from}
-use Rattle.batched_tree.specs.Groups.{group_of}
 use Rattle.batched_tree.specs.Code.Begin.{IsCutPiece, AreCutPieces}
-use Rattle.batched_tree.proofs.ServeLemmas.Halves.{less_or_not}
 
 -- each group has a piece
-group_within : (key : ℕ) (starts : List ℕ) → group_of key starts ≤ length starts
-group_within key [] = omega arith
-group_within key (start ∷ starts) = step (nat_lt key start) (group_within key starts) where
-  step : (t : Bool) → group_of key starts ≤ length starts
-      → cond t 0 (suc (group_of key starts)) ≤ suc (length starts)
-  step true le = omega arith
-  step false le = omega arith
-
 pub groups_within : (n : ℕ) (starts : List ℕ) (calls : List Call) → length starts < n
     → AllByRecursion (λ group. group < n) (map (λ call. group_of (key_of call) starts) calls)
 groups_within n starts [] less = tt

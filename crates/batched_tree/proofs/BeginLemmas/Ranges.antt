@@ -1,28 +1,33 @@
 -- The pieces that are cut off one after another are the parts of the groups.
-use Rattle.std.proofs.Common.{◌≡◌, ℕ, zero, suc, ◌+◌, ◌/◌, ◌<◌, ◌≤◌, ◌⊎◌, inl, inr, Bool, true, false, not, ◌==◌, ◌||◌, ◌&&◌, nat_lt, nat_le, List, [], ◌∷◌, ◌++◌, filter, length, map, get_or, take, drop, slice_get, Some, None, refl, sym, ap, ◌∙◌, subst, append-nil, arith}
+use Rattle.std.proofs.Common.{◌≡◌, ℕ, suc, ◌<◌, ◌≤◌, ◌⊎◌, inl, inr, Bool, true, false, not, ◌&&◌, nat_lt, nat_le, List, [], ◌∷◌, ◌++◌, filter, length, map, get_or, take, drop, slice_get, Some, None, refl, sym, ap, ◌∙◌, subst, arith}
 use Rattle.std.specs.List.{AllByRecursion}
 use Rattle.std.specs.declared.option.Option.{Option}
 use Rattle.std.specs.Option.{unwrap_or}
 use Rattle.std.proofs.lemmas.Bool.Decides.{nat_tests}
 use Rattle.std.proofs.lemmas.Grind.{common_steps}
+use Rattle.key_sets.specs.Keys.{StrictlyAscends, has}
+use Rattle.key_sets.specs.Splits.{below, from}
+use Rattle.key_sets.specs.Groups.{group_of, group_size, AreGroups, AreStarts, least_of, starts_of, is_in, least_beyond}
+use Rattle.key_sets.proofs.Filters.{filter_where, each_of, filter_all, filter_both, first_found, find_where}
+use Rattle.key_sets.proofs.KeyLemmas.Ascending.{all_map}
+use Rattle.key_sets.proofs.KeyLemmas.Beside.{absent, has_low, has_high}
+use Rattle.key_sets.proofs.KeyLemmas.Members.{holds}
+use Rattle.key_sets.proofs.KeyLemmas.Sides.{less_or_not}
+use Rattle.key_sets.proofs.GroupLemmas.Distinct.{distinct_ascends}
+use Rattle.key_sets.proofs.GroupLemmas.Cutting.{all_get, absent_above, AreApart, apart, take_drop, all_take, get_drop, get_less, groups_by, groups_are, least_is, starts_up, next_start, starts_again, all_from_0}
+use Rattle.key_sets.proofs.GroupLemmas.Placing.{last_whole}
 use Rattle.seq_objects.specs.declared.call.Call.{Call}
-use Rattle.seq_objects.specs.Objects.{Objects, has}
-use Rattle.seq_objects.specs.Orders.{StrictlyAscends}
+use Rattle.seq_objects.specs.Objects.{Objects}
 use Rattle.batched_tree.specs.declared.piece.Piece.{Piece}
-use Rattle.batched_tree.specs.Calls.{key_of, distinct_keys}
-use Rattle.batched_tree.specs.Code.Sides.{below, from, calls_below, calls_from}
+use Rattle.batched_tree.specs.Calls.{key_of, keys_of, distinct_keys}
+use Rattle.batched_tree.specs.Code.Sides.{calls_below, calls_from}
 use Rattle.seq_objects.specs.Batches.{AreOneBatch, AreOf, Tree}
 use Rattle.seq_objects.specs.Serial.{of_set}
 use Rattle.batched_tree.specs.declared.piece.Rest.{Rest}
 use Rattle.batched_tree.proofs.BeginLemmas.Cuts.{some_key}
-use Rattle.batched_tree.specs.Groups.{group_of, AreGroups, least_of, starts_of, is_in, least_beyond}
-use Rattle.batched_tree.specs.Code.Begin.{AreStarts}
 use Rattle.batched_tree.specs.Pieces.{IsPiece, ArePieces, Cut, IsContextOf}
 use Rattle.batched_tree.specs.Code.Begin.{IsCutPiece, AreCutPieces}
-use Rattle.batched_tree.proofs.ServeLemmas.Sides.{absent, has_low, has_high, above_too}
-use Rattle.batched_tree.proofs.ServeLemmas.Halves.{less_or_not}
-use Rattle.batched_tree.proofs.Filters.{filter_where, each_of, filter_all, filter_both, first_found, find_where, all_map}
-use Rattle.batched_tree.proofs.BeginLemmas.Asked.{AreAsked, keys_ascend, all_asked}
+use Rattle.batched_tree.proofs.BeginLemmas.Asked.{AreAsked, all_asked}
 
 -- tests of a key
 not_less : (m n : ℕ) → not (nat_lt m n) ≡ nat_le n m
@@ -51,119 +56,6 @@ not_less_further start b k le = elim (less_or_not k b) [
   false_behind : (t : Bool) → (t && false) ≡ false
   false_behind true = refl
   false_behind false = refl
-
--- what holds of each key of a set
-holds : (P : ℕ → Type 0) (q : ℕ) (set : List ℕ) → AllByRecursion P set → has q set ≡ true → P q
-holds P q [] each there = absurd (cc)
-holds P q (k ∷ set) each there = step (q == k) refl there (holds P q set each.1) where
-  step : (same : Bool) → (q == k) ≡ same → (same || has q set) ≡ true → (has q set ≡ true → P q)
-      → P q
-  step true is there rest = let one : q ≡ k = grind (arith, nat_tests) in rw one each.0
-  step false is there rest = rest there
-
-all_get : (P : ℕ → Type 0) (xs : List ℕ) (i x : ℕ) → AllByRecursion P xs → slice_get xs i ≡ Some x
-    → P x
-all_get P [] i x each is = absurd (cc)
-all_get P (y ∷ xs) zero x each is = let same : y ≡ x = cc in subst P same each.0
-all_get P (y ∷ xs) (suc i) x each is = all_get P xs i x each.1 is
-
-absent_above : (key b : ℕ) (low : List ℕ) → b ≤ key → AllByRecursion (λ k. k < b) low
-    → has key low ≡ false
-absent_above key b low le down = let whole = has_high key b low [] le down in rw append-nil at whole
-
--- keys that ascend, cut at a place
-record AreApart (b : ℕ) (low high : List ℕ) : Type 0 where
-  down : AllByRecursion (λ k. k < b) low
-  up : AllByRecursion (λ k. b ≤ k) high
-  ascends : StrictlyAscends high
-
-apart : (size b : ℕ) (keys : List ℕ) → StrictlyAscends keys → slice_get keys size ≡ Some b
-    → AreApart b (take size keys) (drop size keys)
-apart size b [] up is = absurd (cc)
-apart zero b (k ∷ keys) up is =
-    let same : k ≡ b = cc in
-    record { down = tt; up = (omega (arith, same), above_too b k keys (omega (arith, same)) up.0); ascends = up }
-apart (suc size) b (k ∷ keys) up is =
-    let rest = apart size b keys up.1 is in
-    record { down = (all_get (λ j. k < j) keys size b up.0 is, rest.down); up = rest.up; ascends = rest.ascends }
-
-take_drop : (size : ℕ) (keys : List ℕ) → take size keys ++ drop size keys ≡ keys
-take_drop size keys = grind (arith, common_steps)
-
-all_take : (P : ℕ → Type 0) (size : ℕ) (keys : List ℕ) → AllByRecursion P keys
-    → AllByRecursion P (take size keys)
-all_take P zero keys each = tt
-all_take P (suc size) [] each = tt
-all_take P (suc size) (k ∷ keys) each = (each.0, all_take P size keys each.1)
-
-get_drop : (size : ℕ) (keys : List ℕ) → slice_get (drop size keys) 0 ≡ slice_get keys size
-get_drop zero keys = refl
-get_drop (suc size) [] = refl
-get_drop (suc size) (k ∷ keys) = get_drop size keys
-
-get_take : (size : ℕ) (keys : List ℕ) → 0 < size → slice_get (take size keys) 0 ≡ slice_get keys 0
-get_take zero keys some = absurd (omega arith)
-get_take (suc size) [] some = refl
-get_take (suc size) (k ∷ keys) some = refl
-
-get_less : (keys : List ℕ) (i x : ℕ) → slice_get keys i ≡ Some x → i < length keys
-get_less [] i x is = absurd (cc)
-get_less (k ∷ keys) zero x is = omega arith
-get_less (k ∷ keys) (suc i) x is = omega (arith, get_less keys i x is)
-
-first_index : (b : ℕ) (keys : List ℕ) → slice_get keys 0 ≡ Some b → get_or keys 0 0 ≡ b
-first_index b [] is = absurd (cc)
-first_index b (k ∷ keys) is = cc
-
--- the groups of which the starts are the least keys
-abbrev pub groups_by : ℕ → List ℕ → List ℕ → List (List ℕ)
-groups_by size keys [] = keys ∷ []
-groups_by size keys (start ∷ starts) = take size keys ∷ groups_by size (drop size keys) starts
-
-groups_are : (size : ℕ) (keys starts : List ℕ) → 0 < length keys → AreStarts size keys starts
-    → AreGroups size keys (groups_by size keys starts)
-groups_are size keys [] some short =
-    let all : keys ≡ take size keys = grind (arith, common_steps) in
-    let none : drop size keys ≡ [] = grind (arith, common_steps) in
-    (some, all, none)
-groups_are size keys (start ∷ starts) some are =
-    let less : size < length keys = get_less keys size start are.0 in
-    let left : 0 < length (drop size keys) = grind (arith, common_steps) in
-    (some, refl, groups_are size (drop size keys) starts left are.1)
-
-least_is : (size b : ℕ) (keys starts : List ℕ) → 0 < size → slice_get keys 0 ≡ Some b
-    → least_of (groups_by size keys starts) ≡ Some b
-least_is size b keys [] some is = is
-least_is size b keys (start ∷ starts) some is = get_take size keys some ∙ is
-
--- what begins the groups ascends, as the keys do
-all_drop : (P : ℕ → Type 0) (size : ℕ) (keys : List ℕ) → AllByRecursion P keys
-    → AllByRecursion P (drop size keys)
-all_drop P zero keys each = each
-all_drop P (suc size) [] each = tt
-all_drop P (suc size) (k ∷ keys) each = all_drop P size keys each.1
-
-all_starts : (P : ℕ → Type 0) (size : ℕ) (keys starts : List ℕ) → AllByRecursion P keys
-    → AreStarts size keys starts → AllByRecursion P starts
-all_starts P size keys [] each are = tt
-all_starts P size keys (b ∷ starts) each are = (all_get P keys size b each are.0, all_starts P size (drop size keys) starts (all_drop P size keys each) are.1)
-
-starts_above : (size b : ℕ) (keys starts : List ℕ) → 0 < size → slice_get keys 0 ≡ Some b
-    → StrictlyAscends keys → AreStarts size keys starts → AllByRecursion (λ k. b < k) starts
-starts_above size b keys [] some is up are = tt
-starts_above zero b keys (c ∷ starts) some is up are = absurd (omega arith)
-starts_above (suc size) b [] (c ∷ starts) some is up are = absurd (cc)
-starts_above (suc size) b (k ∷ keys) (c ∷ starts) some is up are =
-    let same : k ≡ b = cc in
-    let above = subst (λ x. AllByRecursion (λ j. x < j) keys) same up.0 in
-    (all_get (λ j. b < j) keys size c above are.0, all_starts (λ j. b < j) (suc size) (drop size keys) starts (all_drop (λ j. b < j) size keys above) are.1)
-
-starts_up : (size : ℕ) (keys starts : List ℕ) → 0 < size → StrictlyAscends keys
-    → AreStarts size keys starts → StrictlyAscends starts
-starts_up size keys [] some up are = tt
-starts_up size keys (b ∷ starts) some up are =
-    let cut = apart size b keys up are.0 in
-    (starts_above size b (drop size keys) starts some (get_drop size keys ∙ are.0) cut.ascends are.1, starts_up size (drop size keys) starts some cut.ascends are.1)
 
 in_last : (start key : ℕ) (keys : List ℕ) → AllByRecursion (λ k. start ≤ k) keys
     → (key < start) ⊎ (has key keys ≡ true) → not (nat_lt key start) ≡ has key keys
@@ -296,19 +188,6 @@ parts_are size (b ∷ starts) keys start set calls (piece ∷ pieces) some are a
     rw next (own, parts_are size starts (drop size keys) b set calls pieces some are.1 s.next others)
 
 -- and back
-first_is : (keys : List ℕ) → 0 < length keys → slice_get keys 0 ≡ Some (get_or keys 0 0)
-first_is [] some = absurd (omega arith)
-first_is (k ∷ keys) some = refl
-
-next_start : (size : ℕ) (keys next : List ℕ) → 0 < size → 0 < length (drop size keys)
-    → next ≡ take size (drop size keys)
-    → (slice_get next 0 ≡ Some (get_or next 0 0)) × (slice_get keys size ≡ Some (get_or next 0 0))
-next_start size keys next some left is =
-    let long : 0 < length next = rw is (grind (arith, common_steps)) in
-    let first = first_is next long in
-    let same : slice_get next 0 ≡ slice_get keys size = rw is (get_take size (drop size keys) some ∙ get_drop size keys) in
-    (first, sym same ∙ first)
-
 pieces_are : (size : ℕ) (groups : List (List ℕ)) (keys : List ℕ) (start : ℕ) (set : List ℕ) (calls : List Call) (pieces : List Piece)
     → 0 < size → AreGroups size keys groups → IsAt start keys calls
     → ArePieces set calls start groups pieces → AreCutPieces (from start set) (calls_from start calls) (starts_of groups) pieces
@@ -320,7 +199,7 @@ pieces_are size (group ∷ next ∷ groups) keys start set calls [] some are at 
 pieces_are size (group ∷ []) keys start set calls (piece ∷ pieces) some are at each =
     let is = each.0 in
     let none : drop size keys ≡ [] = are.2 in
-    let whole : group ≡ keys = are.1 ∙ sym (append-nil (take size keys)) ∙ ap (λ rest. take size keys ++ rest) (sym none) ∙ take_drop size keys in
+    let whole : group ≡ keys = last_whole size keys group are.1 none in
     let calls_are = rw whole at is.calls_are in
     (record { keys_are = is.keys_are ∙ sym (last_keys start set); calls_are = calls_are ∙ sym (last_calls start keys calls at.least at.asked); beyond_is = is.beyond_is }, each.1)
 pieces_are size (group ∷ next ∷ groups) keys start set calls (piece ∷ pieces) some are at each =
@@ -335,27 +214,11 @@ pieces_are size (group ∷ next ∷ groups) keys start set calls (piece ∷ piec
     let rest = pieces_are size (next ∷ groups) (drop size keys) b set calls pieces some are.2 s.next each_rest in
     (own, rw (s.others, s.later) rest)
 
-starts_again : (size : ℕ) (keys starts : List ℕ) → 0 < size → AreStarts size keys starts
-    → starts_of (groups_by size keys starts) ≡ starts
-starts_again size keys [] some are = refl
-starts_again size keys (b ∷ starts) some are =
-    let next = least_is size b (drop size keys) starts some (get_drop size keys ∙ are.0) in
-    begun starts next (starts_again size (drop size keys) starts some are.1) where
-      begun : (starts : List ℕ) → least_of (groups_by size (drop size keys) starts) ≡ Some b
-          → starts_of (groups_by size (drop size keys) starts) ≡ starts
-          → map (λ next. get_or next 0 0) (groups_by size (drop size keys) starts) ≡ b ∷ starts
-      begun [] next rest = ap (λ k. k ∷ []) (first_index b (drop size keys) next)
-      begun (c ∷ starts) next rest = rw (first_index b (take size (drop size keys)) next, rest) refl
-
-all_from_0 : (xs : List ℕ) → AllByRecursion (λ k. 0 ≤ k) xs
-all_from_0 [] = tt
-all_from_0 (x ∷ xs) = (omega arith, all_from_0 xs)
-
 not_below_0 : (k : ℕ) → not (nat_lt k 0) ≡ true
 not_below_0 k = not_less k 0 ∙ let test : nat_le 0 k ≡ true = grind (arith, nat_tests) in test
 
 at_all : (calls : List Call) → 0 < length (distinct_keys calls) → IsAt 0 (distinct_keys calls) calls
-at_all calls some = record { some = some; ascends = keys_ascend [] calls tt; least = all_from_0 (distinct_keys calls); asked = all_asked 0 [] calls }
+at_all calls some = record { some = some; ascends = distinct_ascends (keys_of calls); least = all_from_0 (distinct_keys calls); asked = all_asked 0 calls }
 
 from_0 : (set : List ℕ) → from 0 set ≡ set
 from_0 set = filter_all (λ k. not (nat_lt k 0)) not_below_0 set
@@ -366,10 +229,10 @@ calls_from_0 calls = filter_all (λ call. not (nat_lt (key_of call) 0)) (λ call
 -- the pieces that are cut off are the parts of the batch, and the other way
 pub pieces_cut : (objects : Objects) (calls : List Call) (starts : List ℕ) (pieces : List Piece)
     → 0 < length (distinct_keys calls)
-    → AreStarts ((length (distinct_keys calls) + 15) / 16) (distinct_keys calls) starts → AreCutPieces objects.set calls starts pieces → (cut : Cut objects calls pieces) × (starts_of cut.groups ≡ starts)
+    → AreStarts (group_size (length (distinct_keys calls))) (distinct_keys calls) starts → AreCutPieces objects.set calls starts pieces → (cut : Cut objects calls pieces) × (starts_of cut.groups ≡ starts)
 pieces_cut objects calls starts pieces some are are_pieces =
     let keys = distinct_keys calls in
-    let size = (length keys + 15) / 16 in
+    let size = group_size (length keys) in
     let are_pieces' : AreCutPieces (from 0 objects.set) (calls_from 0 calls) starts pieces = rw (from_0 objects.set, calls_from_0 calls) are_pieces in (
       record {
         groups = groups_by size keys starts;
@@ -384,23 +247,31 @@ pub cut_pieces : (objects : Objects) (calls : List Call) (pieces : List Piece)
     → AreCutPieces objects.set calls (starts_of cut.groups) pieces
 cut_pieces objects calls pieces some cut =
     let keys = distinct_keys calls in
-    let are_pieces = pieces_are ((length keys + 15) / 16) cut.groups keys 0 objects.set calls pieces (omega arith) cut.groups_are (at_all calls some) cut.pieces in
+    let are_pieces = pieces_are (group_size (length keys)) cut.groups keys 0 objects.set calls pieces (omega arith) cut.groups_are (at_all calls some) cut.pieces in
     rw (from_0 objects.set, calls_from_0 calls) at are_pieces
 
 pub starts_ascend : (calls : List Call) (keys starts : List ℕ) → 0 < length calls
-    → keys ≡ distinct_keys calls → AreStarts ((length keys + 15) / 16) keys starts
+    → keys ≡ distinct_keys calls → AreStarts (group_size (length keys)) keys starts
     → StrictlyAscends starts
 starts_ascend calls keys starts some is are =
     let are' = rw is at are in
     let some' = some_key calls some in
-    starts_up ((length (distinct_keys calls) + 15) / 16) (distinct_keys calls) starts (omega arith) (keys_ascend [] calls tt) are'
+    starts_up (group_size (length (distinct_keys calls))) (distinct_keys calls) starts (omega arith) (distinct_ascends (keys_of calls)) are'
 
 -- how a batch was opened, by what the code tells of it
 pub remembered : (set : List ℕ) (calls : List Call) (keys starts : List ℕ) (pieces : List Piece) (rest : Rest)
     → StrictlyAscends set → AreOneBatch calls → AreOf Tree calls → keys ≡ distinct_keys calls
-    → AreStarts ((length keys + 15) / 16) keys starts → AreCutPieces set calls starts pieces → rest.groups.items ≡ map (λ call. group_of (key_of call) starts) calls
+    → AreStarts (group_size (length keys)) keys starts → AreCutPieces set calls starts pieces → rest.groups.items ≡ map (λ call. group_of (key_of call) starts) calls
     → IsContextOf rest (record { before = set; calls = calls; ins = pieces })
 remembered set calls keys starts pieces rest up batch tree is are are_pieces groups =
     let are' = rw is at are in
     let cut = pieces_cut (of_set set) calls starts pieces (some_key calls batch.some) are' are_pieces in
     record { ascends = up; batch = batch; may = tree; cut = cut.0; groups = rw cut.1 groups }
+
+-- each group has a piece
+pub piece_each : (set : List ℕ) (calls : List Call) (start : ℕ) (groups : List (List ℕ)) (pieces : List Piece)
+    → ArePieces set calls start groups pieces → length pieces ≡ length groups
+piece_each set calls start [] pieces are = rw are refl
+piece_each set calls start (group ∷ groups) [] are = absurd are
+piece_each set calls start (group ∷ groups) (piece ∷ pieces) are =
+    ap suc (piece_each set calls (unwrap_or (least_of groups) 0) groups pieces are.1)

@@ -1,22 +1,23 @@
 -- Calls that are served on a set are served on the two sides of a key apart from one another.
-use Rattle.std.proofs.Common.{◌≡◌, ℕ, ◌<◌, ◌≤◌, ◌⊎◌, inl, inr, true, false, not, nat_lt, if◌then◌else◌, List, [], ◌∷◌, ◌++◌, get_or, drop, slice_get, refl, ap, sym, subst, ◌∙◌, arith}
+use Rattle.std.proofs.Common.{◌≡◌, ℕ, ◌<◌, ◌≤◌, ◌⊎◌, inl, inr, true, false, not, nat_lt, if◌then◌else◌, List, [], ◌∷◌, ◌++◌, get_or, drop, slice_get, Some, Bool, refl, ap, sym, subst, ◌∙◌, arith}
 use Rattle.std.specs.declared.option.Option.{Option}
 use Rattle.std.specs.List.{AllByRecursion}
-use Rattle.std.proofs.lemmas.Bool.{cases_order}
 use Rattle.std.proofs.lemmas.Bool.Decides.{nat_tests}
+use Rattle.key_sets.proofs.KeyLemmas.Ascending.{all_with, all_without}
+use Rattle.key_sets.proofs.KeyLemmas.Beside.{has_low, has_high, with_low, with_high, without_low, without_high, next_high}
+use Rattle.key_sets.proofs.KeyLemmas.Sides.{less_or_not}
 use Rattle.seq_objects.specs.declared.op.Op.{Op}
 use Rattle.seq_objects.specs.declared.op.Op.TheVariants.{CounterAdd, Push, Pop, TreeInsert, TreeRemove, TreeFind, TreeNext, PqInsert, PqTake}
 use Rattle.seq_objects.specs.declared.call.Call.{Call}
 use Rattle.seq_objects.specs.declared.reply.Reply.{Reply}
 use Rattle.seq_objects.specs.declared.reply.Reply.TheVariants.{Empty}
-use Rattle.seq_objects.specs.Objects.{Objects, after, reply_to, argument_of, with_key, without_key, yes_or_no, number_or_empty}
+use Rattle.seq_objects.specs.Objects.{Objects, after, reply_to, argument_of, with_key, without_key, least_above, yes_or_no, number_or_empty}
 use Rattle.seq_objects.specs.BatchOrder.{ComesFirst, class_of}
 use Rattle.seq_objects.specs.Batches.{AreInBatchOrder, AreOf, object_of, Tree}
 use Rattle.seq_objects.specs.Serial.{of_set, after_all, replies_to_all}
 use Rattle.batched_tree.specs.Calls.{key_of}
 use Rattle.batched_tree.specs.Code.Sides.{calls_below, calls_from}
-use Rattle.batched_tree.specs.Replies.{reply_within, replies_within}
-use Rattle.batched_tree.proofs.ServeLemmas.Sides.{has_low, has_high, with_low, with_high, without_low, without_high, next_low, next_high, all_with, all_without}
+use Rattle.batched_tree.specs.Replies.{or_beyond, reply_within, replies_within}
 
 -- the replies of both sides, in the order of the calls
 abbrev pub shared : ℕ → List Call → List Reply → List Reply → List Reply
@@ -66,6 +67,22 @@ pub record IsLow (beyond : Option ℕ) (low high : List ℕ) (op : Op) (new : Li
 
 abbrev IsBeyond : Option ℕ → List ℕ → Op → Type 0
 IsBeyond beyond high op = (beyond ≡ slice_get high 0) ⊎ (4 ≤ class_of op)
+
+-- the next key: that of the lower part, or the first of the upper part
+next_low : (key b : ℕ) (low high : List ℕ) → key < b → AllByRecursion (λ k. b ≤ k) high
+    → number_or_empty (least_above key (low ++ high)) ≡ or_beyond (number_or_empty (least_above key low)) (slice_get high 0)
+next_low key b [] [] less up = refl
+next_low key b [] (y ∷ high) less up = step (nat_lt key y) (grind (arith, nat_tests, less, up.0)) where
+  step : (more : Bool) → more ≡ true
+      → number_or_empty (if more then Some y else least_above key high) ≡ number_or_empty (Some y)
+  step true is = refl
+  step false is = cc
+next_low key b (x ∷ low) high less up = step (nat_lt key x) (next_low key b low high less up) where
+  step : (more : Bool)
+      → number_or_empty (least_above key (low ++ high)) ≡ or_beyond (number_or_empty (least_above key low)) (slice_get high 0)
+      → number_or_empty (if more then Some x else least_above key (low ++ high)) ≡ or_beyond (number_or_empty (if more then Some x else least_above key low)) (slice_get high 0)
+  step true rest = refl
+  step false rest = rest
 
 low_next : (beyond : Option ℕ) (key b : ℕ) (low high : List ℕ) → key < b
     → AllByRecursion (λ k. b ≤ k) high → IsBeyond beyond high (TreeNext key)
@@ -149,13 +166,6 @@ knows_high : (beyond : Option ℕ) (high new : List ℕ) (op : Op) (worker : ℕ
 knows_high beyond high new op worker calls change later (inr updates) = inr updates.1
 knows_high beyond high new op worker calls (inr update) later (inl is) = inr (updates_last op worker calls update later)
 knows_high beyond high new op worker calls (inl same) later (inl is) = inl (rw same is)
-
-pub less_or_not : (m n : ℕ) → (m < n) ⊎ (n ≤ m)
-less_or_not m n = elim (cases_order m n) [
-  | inl same ↦ inr (omega arith)
-  | inr (inl less) ↦ inl less
-  | inr (inr more) ↦ inr (omega arith)
-]
 
 pub halves_replies : (b : ℕ) (calls : List Call) (low high : List ℕ) (beyond : Option ℕ)
     → AreOf Tree calls → AreInBatchOrder calls

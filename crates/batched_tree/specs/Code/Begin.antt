@@ -1,9 +1,10 @@
--- The pieces of a batch as they are cut off one after another, and where the groups of keys begin.
-use Rattle.std.specs.Prelude.{◌≡◌, ℕ, ◌≤◌, List, [], ◌∷◌, length, drop, slice_get, Some, None}
+-- The pieces of a batch as they are cut off one after another.
+use Rattle.std.specs.Prelude.{◌≡◌, ℕ, List, [], ◌∷◌, slice_get, None}
 use Rattle.std.specs.declared.option.Option.{Option}
+use Rattle.key_sets.specs.Splits.{below, from}
 use Rattle.seq_objects.specs.declared.call.Call.{Call}
 use Rattle.batched_tree.specs.declared.piece.Piece.{Piece}
-use Rattle.batched_tree.specs.Code.Sides.{below, from, calls_below, calls_from}
+use Rattle.batched_tree.specs.Code.Sides.{calls_below, calls_from}
 
 -- a piece that has these keys and calls, and the least key beyond its range
 pub record IsCutPiece (keys : List ℕ) (calls : List Call) (beyond : Option ℕ) (piece : Piece) : Type 0 where
@@ -19,9 +20,3 @@ AreCutPieces set calls [] (piece ∷ pieces) = IsCutPiece set calls None piece �
 AreCutPieces set calls (start ∷ starts) (piece ∷ pieces) =
     IsCutPiece (below start set) (calls_below start calls) (slice_get (from start set) 0) piece
     × AreCutPieces (from start set) (calls_from start calls) starts pieces
-
--- the keys with which the groups but the first begin, where a group has `size` keys, and the last may have fewer
-abbrev pub AreStarts : ℕ → List ℕ → List ℕ → Type 0
-AreStarts size keys [] = length keys ≤ size
-AreStarts size keys (start ∷ starts) =
-    (slice_get keys size ≡ Some start) × AreStarts size (drop size keys) starts

@@ -2,7 +2,7 @@
 use Rattle.std.specs.Prelude.{ℕ, List, [], ◌∷◌, ◌++◌, map, drop, slice_index_or, slice_set, ⊤}
 use Rattle.seq_objects.specs.declared.reply.Reply.{Reply}
 use Rattle.seq_objects.specs.declared.reply.Reply.TheVariants.{Empty}
-use Rattle.tree23.specs.Keys.{AllBelow}
+use Rattle.key_sets.specs.Keys.{AllBelow}
 use Rattle.batched_tree.specs.declared.piece.Served.{Served}
 
 -- each call has the next reply of its group's piece

@@ -1,15 +1,7 @@
--- The keys and the calls on each side of a key.
+-- The calls on each side of a key.
 use Rattle.std.specs.Prelude.{ℕ, not, nat_lt, List, filter}
 use Rattle.seq_objects.specs.declared.call.Call.{Call}
 use Rattle.batched_tree.specs.Calls.{key_of}
-
--- the keys below a key
-abbrev pub below : ℕ → List ℕ → List ℕ
-below key set = filter (λ k. nat_lt k key) set
-
--- the keys that are not below a key
-abbrev pub from : ℕ → List ℕ → List ℕ
-from key set = filter (λ k. not (nat_lt k key)) set
 
 -- the calls whose keys are below a key
 abbrev pub calls_below : ℕ → List Call → List Call

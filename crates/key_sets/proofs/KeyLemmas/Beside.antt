@@ -8,6 +8,10 @@ use Rattle.key_sets.proofs.KeyLemmas.Ascending.{all_map, all_at, all_above, all_
 pub append_around : (xs : List ℕ) (j : ℕ) (ys : List ℕ) (k : ℕ) (zs : List ℕ) → (xs ++ j ∷ ys) ++ k ∷ zs ≡ xs ++ j ∷ (ys ++ k ∷ zs)
 append_around xs j ys k zs = append_assoc xs (j ∷ ys) (k ∷ zs)
 
+-- more keys after both sides
+pub around : (x y low a b : List ℕ) (m key j : ℕ) → x ++ m ∷ y ≡ low ++ key ∷ a → x ++ m ∷ (y ++ j ∷ b) ≡ low ++ key ∷ (a ++ j ∷ b)
+around x y low a b m key j e = sym (append_assoc x (m ∷ y) (j ∷ b)) ∙ ap (λ z. z ++ j ∷ b) e ∙ append_assoc low (key ∷ a) (j ∷ b)
+
 -- a key that is below all keys of a list
 pub has_none : (key : ℕ) (xs : List ℕ) → AllByRecursion (λ x. key < x) xs → has key xs ≡ false
 has_none key [] below = refl
@@ -151,9 +155,6 @@ without_here key k (x ∷ xs) ys is up =
     let before : x < k = all_at (λ y. x < y) xs k ys up.0 in
     without_past key x (xs ++ k ∷ ys) (omega arith) ∙ ap (λ zs. x ∷ zs) (without_here key k xs ys is up.1)
 
-pub without_last : (key k : ℕ) (xs ys : List ℕ) → key ≡ k → ys ≡ [] → StrictlyAscends (xs ++ k ∷ ys) → without_key key (xs ++ k ∷ ys) ≡ xs
-without_last key k xs ys is none up = without_here key k xs ys is up ∙ rw none (append-nil xs)
-
 -- the least key above a key
 pub least_left : (key k : ℕ) (xs ys : List ℕ) (found : ℕ) → least_above key xs ≡ Some found → least_above key (xs ++ k ∷ ys) ≡ Some found
 least_left key k [] ys found is = absurd (cc)
@@ -189,8 +190,6 @@ next_high key b (x ∷ low) high le down = least_past key x (low ++ high) (omega
 
 pub least_right : (key k : ℕ) (xs ys : List ℕ) → k ≤ key → StrictlyAscends (xs ++ k ∷ ys) → least_above key (xs ++ k ∷ ys) ≡ least_above key ys
 least_right key k xs ys le up = next_high key k xs (k ∷ ys) le (all_below_key xs k ys up) ∙ least_past key k ys le
-
-pub ruleset removing = (append_around, without_last, without_left, without_right, without_here, has_left, has_right, has_here, ascends_front, ascends_after)
 
 pub ruleset looking = (has_left, has_right, has_here, ascends_front, ascends_after)
 

@@ -3,9 +3,10 @@ use Rattle.std.proofs.Common.{◌≡◌, ℕ, ◌<◌, ◌≤◌, ◌⊎◌, inl
 use Rattle.std.specs.List.{AllByRecursion}
 use Rattle.std.proofs.lemmas.Bool.{cases_order}
 use Rattle.std.proofs.lemmas.Bool.Decides.{nat_tests}
-use Rattle.key_sets.specs.Keys.{StrictlyAscends}
+use Rattle.key_sets.specs.Keys.{StrictlyAscends, AllBelow}
 use Rattle.key_sets.specs.Splits.{IsSplit, below, from}
 use Rattle.key_sets.proofs.Filters.{all_filter, all_passed}
+use Rattle.key_sets.proofs.KeyLemmas.Ascending.{all_map}
 
 -- tests of a key
 pub less_or_not : (m n : ℕ) → (m < n) ⊎ (n ≤ m)
@@ -73,3 +74,10 @@ sides_of key (x ∷ low) high down up =
 pub split_sides : (key : ℕ) (whole low high : List ℕ) → IsSplit key whole low high
     → (below key whole ≡ low) × (from key whole ≡ high)
 split_sides key whole low high cut = rw cut.is (sides_of key low high cut.below cut.above)
+
+-- the keys on both sides of a cut
+below_all : (n key : ℕ) (high : List ℕ) → n < key → AllByRecursion (λ k. key ≤ k) high → AllByRecursion (λ k. n < k) high
+below_all n key high less above = all_map (λ k. key ≤ k) (λ k. n < k) (λ k le. omega (arith, less, le)) high above
+
+pub sides_apart : (key : ℕ) (whole low high : List ℕ) → IsSplit key whole low high → AllBelow low high
+sides_apart key whole low high cut = all_map (λ k. k < key) (λ k. AllByRecursion (λ j. k < j) high) (λ k less. below_all k key high less cut.above) low cut.below

@@ -23,9 +23,9 @@ pub mod split_node;
 
 use crate::pool::Pool;
 use crate::tree::insert::insert_at_root;
-use crate::tree::join::concat;
+use crate::tree::join::put_after;
 use crate::tree::node::Rooted;
-use crate::tree::remove::{remove_in, shrink_root};
+use crate::tree::remove::{pop_first, remove_in, shrink_root};
 use crate::tree::search::{find_in, next_in};
 use crate::trees::Trees;
 use crate::trees::cut::{Cut, cut_at};
@@ -157,11 +157,13 @@ impl Tree23 {
         requires { AllBelow low high }
         ensures { IfOk result (λ tree. tree ≡ low ++ high) }
     {
+        let alloc = low.alloc;
         let mut root = low.root;
-        concat(low.alloc, &mut root, high.root)?;
-        Ok(Tree23 {
-            root,
-            alloc: low.alloc,
-        })
+        let mut rest = high.root;
+        if let Some(key) = pop_first(&mut rest.tree) {
+            shrink_root(&mut rest);
+            put_after(&mut root, key, rest, &mut Pool::new(alloc))?;
+        }
+        Ok(Tree23 { root, alloc })
     }
 }

@@ -1,3 +1,5 @@
+-- The rules of the batched stack: its calls, its stripes and their rooms, and its pieces. `Code` is what only the code
+-- cites.
 pub mod Calls
 pub mod Stripes
 pub mod Lists

@@ -1,6 +1,7 @@
-//! The laws of groups, each as the contract of a function that does nothing.
+//! The laws of sets and of groups, each as the contract of a function that does nothing.
 ghost use Rattle.std.specs.Prelude.{◌≡◌, ℕ, ◌<◌, ◌≤◌, true, List, [], length, slice_index_or};
-ghost use Rattle.key_sets.specs.Keys.{StrictlyAscends, has};
+ghost use Rattle.key_sets.specs.Keys.{StrictlyAscends, AllBelow, has};
+ghost use Rattle.key_sets.specs.Splits.{IsSplit};
 ghost use Rattle.key_sets.specs.Groups.{AreGroups, AreInRanges, AreStarts, starts_of, group_of, group_size, group_count};
 
 /// There are as many groups as the count of the keys says, and at most 16. Starts are those of groups.
@@ -21,4 +22,10 @@ pub fn groups_have_their_keys()
     ensures below { (key : ℕ) (starts : List ℕ) → group_of key starts ≤ length starts }
     ensures ranges { (size : ℕ) (keys : List ℕ) (groups : List (List ℕ)) → 0 < size → StrictlyAscends keys
         → AreGroups size keys groups → AreInRanges 0 groups }
+{}
+
+/// The two sides of a cut can be put together again.
+#[tactic(auto, using(crate::proofs::KeyLemmas::Sides::sides_apart))]
+pub fn sides_of_a_cut_are_apart()
+    ensures { (key : ℕ) (whole low high : List ℕ) → IsSplit key whole low high → AllBelow low high }
 {}

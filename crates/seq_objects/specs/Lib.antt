@@ -1,3 +1,5 @@
+-- The serial objects, the calls of a batch and their order, work, and the words of a report. `Code` is what only the
+-- code cites.
 pub mod Objects
 pub mod BatchOrder
 pub mod Batches

@@ -1,3 +1,2 @@
 pub mod SideBySideLemmas
 pub mod TreeLemmas
-pub mod KeyLemmas

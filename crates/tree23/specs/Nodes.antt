@@ -6,7 +6,7 @@ use Rattle.tree23.specs.declared.tree.node.Tree.TheVariants.{Empty, Leaf, Underf
 use Rattle.tree23.specs.declared.tree.node.Rooted.{Rooted}
 use Rattle.tree23.specs.declared.tree.node.Split.{Split}
 use Rattle.tree23.specs.declared.tree.node.Split.TheVariants.{Fits, Splits}
-use Rattle.tree23.specs.Keys.{StrictlyAscends}
+use Rattle.key_sets.specs.Keys.{StrictlyAscends}
 
 -- the most keys of a leaf
 abbrev pub room : ℕ

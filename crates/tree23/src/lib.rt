@@ -3,10 +3,9 @@
 //!
 //! Contracts see the tree as the list of its keys, which strictly ascends, and each call is exact on that
 //! list. A tree of depth d holds at least 2 ^ d - 1 keys, also after a cut and after two trees are put
-//! together, for which whole subtrees move. The crate stands on nothing but std.
+//! together, for which whole subtrees move. The crate stands on `key_sets`, which has the words for sets of keys.
 #![tactic(auto)]
 
-pub mod laws;
 pub mod pool;
 pub mod tree;
 #[doc(hidden)]

@@ -1,8 +1,8 @@
 //! The tree, seen as the list of its keys.
 ghost use Rattle.std.specs.Prelude.{◌≡◌, ◌+◌, ◌*◌, ◌<◌, ◌≤◌, ◌^◌, [], ◌++◌, length, not, IfOk, OnOk, OnErr};
 ghost use Rattle.std.specs.List.{AllByRecursion};
-ghost use Rattle.tree23.specs.Keys.{StrictlyAscends, AllBelow, with_key, has, without_key, least_above};
-ghost use Rattle.tree23.specs.Splits.{IsSplit};
+ghost use Rattle.key_sets.specs.Keys.{StrictlyAscends, AllBelow, with_key, has, without_key, least_above};
+ghost use Rattle.key_sets.specs.Splits.{IsSplit};
 
 #[doc(hidden)]
 pub mod insert;

@@ -2,7 +2,7 @@
 use Rattle.std.specs.Prelude.{ℕ, ◌+◌, ◌<◌, ◌^◌, List, length}
 use Rattle.std.specs.List.{AllByRecursion}
 use Rattle.tree23.specs.declared.trees.Trees.{Trees}
-use Rattle.tree23.specs.Keys.{StrictlyAscends}
+use Rattle.key_sets.specs.Keys.{StrictlyAscends}
 
 -- the keys of a set
 pub record IsKeySet (set : List ℕ) : Type 0 where

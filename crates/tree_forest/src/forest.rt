@@ -1,7 +1,7 @@
 //! The forest, seen as the list of its keys and the number of its trees.
 ghost use Rattle.std.specs.Prelude.{◌≡◌, ◌+◌, ◌<◌, ◌≤◌, ◌^◌, [], ◌++◌, not, IfOk, OnOk, OnErr};
 ghost use Rattle.std.specs.List.{AllByRecursion};
-ghost use Rattle.tree23.specs.Keys.{StrictlyAscends, AllBelow, with_key, has, without_key, least_above};
+ghost use Rattle.key_sets.specs.Keys.{StrictlyAscends, AllBelow, with_key, has, without_key, least_above};
 ghost use Rattle.tree23.specs.SideBySide.{in_order, AreTrees};
 ghost use Rattle.tree_forest.specs.Forests.{tree_count, IsKeySet};
 ghost use Rattle.tree_forest.specs.Views.{most_trees};

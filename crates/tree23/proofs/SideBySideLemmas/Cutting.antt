@@ -4,12 +4,12 @@ use Rattle.tree23.specs.declared.tree.node.Tree.TheVariants.{Empty}
 use Rattle.tree23.specs.declared.trees.KeyedTree.{KeyedTree}
 use Rattle.tree23.specs.declared.trees.Trees.{Trees}
 use Rattle.tree23.specs.declared.trees.cut.Cut.{Cut}
-use Rattle.tree23.specs.Keys.{StrictlyAscends}
+use Rattle.key_sets.specs.Keys.{StrictlyAscends}
 use Rattle.tree23.specs.Nodes.{keys}
 use Rattle.tree23.specs.SideBySide.{entry_keys, in_order, in_reverse, AreTrees}
-use Rattle.tree23.specs.Splits.{IsSplit}
+use Rattle.key_sets.specs.Splits.{IsSplit}
 use Rattle.tree23.specs.Code.Cuts.{low_keys, whole_keys, IsOpenCut, IsLeft, IsCut}
-use Rattle.tree23.proofs.KeyLemmas.Ascending.{all_map, all_append, all_at, all_below_key, all_above_key, ascends_front, ascends_after}
+use Rattle.key_sets.proofs.KeyLemmas.Ascending.{all_map, all_append, all_at, all_below_key, all_above_key, ascends_front, ascends_after}
 
 -- a key and the keys after it, before those of the high side
 stack_more : (k : ℕ) (b : List ℕ) (c : Cut) (high : Trees) → keys c.high.front.tree ≡ []

@@ -1,11 +1,11 @@
 -- A key put beside another.
 use Rattle.std.proofs.Common.{◌≡◌, ℕ, ◌<◌, List, ◌∷◌, ◌++◌, take, drop, false, sym, ap, ◌∙◌}
 use Rattle.std.specs.List.{insert}
-use Rattle.tree23.specs.Keys.{StrictlyAscends, has}
+use Rattle.key_sets.specs.Keys.{StrictlyAscends, has}
 use Rattle.tree23.specs.Code.Insertions.{IsAdded, IsFound}
-use Rattle.tree23.specs.Splits.{IsSplit}
-use Rattle.tree23.proofs.KeyLemmas.Places.{with_at}
-use Rattle.tree23.proofs.KeyLemmas.Beside.{with_left, with_right, has_left, has_right}
+use Rattle.key_sets.specs.Splits.{IsSplit}
+use Rattle.key_sets.proofs.KeyLemmas.Places.{with_at}
+use Rattle.key_sets.proofs.KeyLemmas.Beside.{with_left, with_right, has_left, has_right}
 
 pub added_left : (key k : ℕ) (a b a' : List ℕ) → StrictlyAscends (a ++ k ∷ b) → key < k → IsAdded key a a' → IsAdded key (a ++ k ∷ b) (a' ++ k ∷ b)
 added_left key k a b a' s lt i = record {

@@ -1,16 +1,16 @@
 -- What an insertion says of the keys and of the answer.
 use Rattle.std.proofs.Common.{◌≡◌, ℕ, ◌+◌, ◌<◌, ◌^◌, List, ◌∷◌, ◌++◌, Bool, true, false, not, refl, ap, sym, ◌∙◌, arith}
 use Rattle.tree23.specs.declared.tree.node.Tree.{Tree}
-use Rattle.tree23.specs.Keys.{StrictlyAscends, has, with_key}
+use Rattle.key_sets.specs.Keys.{StrictlyAscends, has, with_key}
 use Rattle.tree23.specs.Nodes.{keys, depth, IsTree, IsSet, IsTreeWithSplit}
 use Rattle.tree23.specs.Code.Insertions.{IsInserted, IsOutcome, OnSplits, IsSpent}
 use Rattle.tree23.specs.declared.tree.node.Split.{Split}
 use Rattle.tree23.specs.declared.tree.node.Split.TheVariants.{Fits, Splits}
 use Rattle.tree23.specs.declared.tree.insert.Outcome.{Outcome}
 use Rattle.tree23.specs.declared.tree.insert.Outcome.TheVariants.{Found, Added, Full, OutOfMemory}
-use Rattle.tree23.proofs.KeyLemmas.Ascending.{ascends_front, ascends_after}
+use Rattle.key_sets.proofs.KeyLemmas.Ascending.{ascends_front, ascends_after}
 use Rattle.tree23.proofs.TreeLemmas.Adding.{added_left, added_right, found_left, found_right}
-use Rattle.tree23.proofs.KeyLemmas.Beside.{with_present}
+use Rattle.key_sets.proofs.KeyLemmas.Beside.{with_present}
 use Rattle.tree23.proofs.TreeLemmas.Trees.{set_with}
 
 pub inserted_keys : (key : ℕ) (old new : List ℕ) (added : Bool) → StrictlyAscends old → IsInserted key old new added → new ≡ with_key key old

@@ -2,13 +2,13 @@
 use Rattle.std.proofs.Common.{◌≡◌, ℕ, ◌<◌, ◌≤◌, List, [], ◌∷◌, ◌++◌, length, take, drop, Bool, true, false, ◌||◌, ◌==◌, if◌then◌else◌, refl, sym, ap, ◌∙◌, arith}
 use Rattle.std.specs.List.{remove}
 use Rattle.tree23.specs.declared.tree.node.Tree.{Tree}
-use Rattle.tree23.specs.Keys.{StrictlyAscends, has, without_key}
+use Rattle.key_sets.specs.Keys.{StrictlyAscends, has, without_key}
 use Rattle.tree23.specs.Code.Removals.{IsTaken, IsRemoved}
 use Rattle.tree23.specs.Nodes.{keys}
-use Rattle.tree23.specs.Splits.{IsSplit}
-use Rattle.tree23.proofs.KeyLemmas.Ascending.{ascends_front, ascends_after}
-use Rattle.tree23.proofs.KeyLemmas.Beside.{without_left, without_right, without_here, has_left, has_right, has_here}
-use Rattle.tree23.proofs.KeyLemmas.Places.{without_at, within_present, key_present}
+use Rattle.key_sets.specs.Splits.{IsSplit}
+use Rattle.key_sets.proofs.KeyLemmas.Ascending.{ascends_front, ascends_after}
+use Rattle.key_sets.proofs.KeyLemmas.Beside.{without_left, without_right, without_here, has_left, has_right, has_here}
+use Rattle.key_sets.proofs.KeyLemmas.Places.{without_at, within_present, key_present}
 
 pub taken_left : (key k : ℕ) (a b a' new : List ℕ) (found : Bool) → StrictlyAscends (a ++ k ∷ b) → key < k → IsTaken key a a' found → new ≡ a' ++ k ∷ b → IsTaken key (a ++ k ∷ b) new found
 taken_left key k a b a' new found s lt i is = record {

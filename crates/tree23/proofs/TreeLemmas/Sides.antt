@@ -3,7 +3,7 @@ use Rattle.std.proofs.Common.{◌≡◌, true, false}
 use Rattle.tree23.specs.declared.tree.node.Tree.{Tree}
 use Rattle.tree23.specs.declared.tree.node.Tree.TheVariants.{Empty, Leaf, Underfull', Two', Three'}
 use Rattle.tree23.specs.Nodes.{IsTree, IsLoose}
-use Rattle.tree23.proofs.KeyLemmas.KeysAfter.{around}
+use Rattle.key_sets.proofs.KeyLemmas.Beside.{around}
 use Rattle.tree23.specs.Code.Removals.{has_one_side, IsPair, IsTriple}
 
 pub loose_of_tree : (a : Tree) → IsTree a → IsLoose a

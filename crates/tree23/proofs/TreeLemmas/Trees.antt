@@ -4,10 +4,10 @@ use Rattle.std.specs.List.{AllByRecursion}
 use Rattle.std.proofs.lemmas.Bool.{cases_order}
 use Rattle.std.proofs.Math.Nat.{pow-le-pow_right}
 use Rattle.tree23.specs.declared.tree.node.Tree.{Tree}
-use Rattle.tree23.specs.Keys.{StrictlyAscends, with_key, without_key, AllBelow}
+use Rattle.key_sets.specs.Keys.{StrictlyAscends, with_key, without_key, AllBelow}
 use Rattle.tree23.specs.Nodes.{keys, depth, IsTree, IsSet}
-use Rattle.tree23.specs.Splits.{IsSplit}
-use Rattle.tree23.proofs.KeyLemmas.Ascending.{all_append, all_front, all_back, all_with, all_without, ascends_front, ascends_back, ascends_both, ascends_with, ascends_without, length_in_range}
+use Rattle.key_sets.specs.Splits.{IsSplit}
+use Rattle.key_sets.proofs.KeyLemmas.Ascending.{all_append, all_front, all_back, all_with, all_without, ascends_front, ascends_back, ascends_both, ascends_with, ascends_without, length_in_range}
 use Rattle.tree23.proofs.TreeLemmas.Depths.{depth_within, keys_at_least}
 
 all_from_0 : (xs : List ℕ) → AllByRecursion (λ k. 0 ≤ k) xs

@@ -5,10 +5,10 @@ use Rattle.std.specs.List.{AllByRecursion}
 use Rattle.std.specs.Option.{option_to_list}
 use Rattle.tree23.specs.declared.trees.Trees.{Trees}
 use Rattle.tree23.specs.declared.trees.cut.Cut.{Cut}
-use Rattle.tree23.specs.Keys.{StrictlyAscends}
+use Rattle.key_sets.specs.Keys.{StrictlyAscends}
 use Rattle.tree23.specs.Nodes.{keys}
 use Rattle.tree23.specs.SideBySide.{in_order, in_reverse, AreTrees}
-use Rattle.tree23.specs.Splits.{IsSplit}
+use Rattle.key_sets.specs.Splits.{IsSplit}
 
 -- a tree can stand after a key, and without one where there is nothing yet
 abbrev pub CanStand : Option ℕ → Trees → Type 0

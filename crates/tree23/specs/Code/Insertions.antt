@@ -6,7 +6,7 @@ use Rattle.tree23.specs.declared.tree.node.Split.{Split}
 use Rattle.tree23.specs.declared.tree.node.Split.TheVariants.{Fits, Splits}
 use Rattle.tree23.specs.declared.tree.insert.Outcome.{Outcome}
 use Rattle.tree23.specs.declared.tree.insert.Outcome.TheVariants.{Found, Added, Full, OutOfMemory}
-use Rattle.tree23.specs.Keys.{with_key, has}
+use Rattle.key_sets.specs.Keys.{with_key, has}
 use Rattle.tree23.specs.Nodes.{keys, depth, IsTree, keys_with_split, IsTreeWithSplit}
 
 -- the key was not there, and now it is

@@ -2,7 +2,7 @@
 use Rattle.std.specs.Prelude.{◌≡◌, ℕ, List, [], ◌∷◌, ◌++◌, Option, Some, None, Bool, true, false}
 use Rattle.tree23.specs.declared.tree.node.Tree.{Tree}
 use Rattle.tree23.specs.declared.tree.node.Tree.TheVariants.{Empty, Leaf, Underfull', Two', Three'}
-use Rattle.tree23.specs.Keys.{has, without_key}
+use Rattle.key_sets.specs.Keys.{has, without_key}
 use Rattle.tree23.specs.Nodes.{keys, depth, IsTree, IsLoose}
 
 -- whether a root has one side alone

@@ -2,7 +2,7 @@
 //! that is full, boxes for the nodes that may be split are made first, and the descent is made again.
 ghost use Rattle.std.specs.Prelude.{◌≡◌, length, ◌+◌, ◌<◌, ◌≤◌, ◌^◌, IfOk, OnErr};
 ghost use Rattle.tree23.specs.declared.tree.node.Tree.TheVariants.{Empty};
-ghost use Rattle.tree23.specs.Keys.{StrictlyAscends};
+ghost use Rattle.key_sets.specs.Keys.{StrictlyAscends};
 ghost use Rattle.tree23.specs.Nodes.{keys, depth, IsTree, IsLeaf, IsRooted, keys_with_split, IsTreeWithSplit};
 ghost use Rattle.tree23.specs.Code.Insertions.{IsInserted, IsOutcome, IsAnswer, OnSplits};
 

@@ -1,8 +1,8 @@
 //! The keys at the bottom of a tree, which stand in leaves.
 ghost use Rattle.std.specs.Prelude.{◌≡◌, ◌<◌, ◌≤◌, ◌++◌, ◌∷◌, [], take, drop, length, IfOk, OnOk, OnErr, false};
-ghost use Rattle.tree23.specs.Keys.{StrictlyAscends, has, with_key};
+ghost use Rattle.key_sets.specs.Keys.{StrictlyAscends, has, with_key};
 ghost use Rattle.tree23.specs.Nodes.{room};
-ghost use Rattle.tree23.specs.Splits.{IsSplit};
+ghost use Rattle.key_sets.specs.Splits.{IsSplit};
 
 use std::alloc::{AllocError, Global};
 

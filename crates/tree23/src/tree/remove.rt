@@ -2,7 +2,7 @@
 //!
 //! Memory: none.
 ghost use Rattle.std.specs.Prelude.{◌≡◌, ◌<◌, [], ◌∷◌};
-ghost use Rattle.tree23.specs.Keys.{StrictlyAscends, has, without_key};
+ghost use Rattle.key_sets.specs.Keys.{StrictlyAscends, has, without_key};
 ghost use Rattle.tree23.specs.Nodes.{keys, depth, IsTree, IsRooted, IsLoose, IsWide};
 ghost use Rattle.tree23.specs.Code.Removals.{IsRemoved, IsPopped, first_side, second_side, keys_but_low, keys_but_high};
 

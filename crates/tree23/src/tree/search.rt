@@ -1,13 +1,13 @@
 //! Search in a tree: a key, the next key, and the first.
 ghost use Rattle.std.specs.Prelude.{◌≡◌, slice_get};
-ghost use Rattle.tree23.specs.Keys.{StrictlyAscends, has, least_above};
+ghost use Rattle.key_sets.specs.Keys.{StrictlyAscends, has, least_above};
 ghost use Rattle.tree23.specs.Nodes.{keys, IsTree};
 
 use crate::tree::leaf::{is_at, place};
 use crate::tree::node::Tree;
 
 /// Whether the key is there.
-#[tactic(auto, using(crate::proofs::KeyLemmas::Beside::looking))]
+#[tactic(auto, using(key_sets::proofs::KeyLemmas::Beside::looking))]
 pub fn find_in(tree: &Tree, key: u32) -> bool
     requires tree { IsTree tree.now }
     requires ascends { StrictlyAscends (keys tree.now) }
@@ -56,7 +56,7 @@ fn next_in_leaf(leaf: &[u32], key: u32) -> Option<u32>
 }
 
 /// The least key that is greater.
-#[tactic(auto, using(crate::proofs::KeyLemmas::Beside::nexts))]
+#[tactic(auto, using(key_sets::proofs::KeyLemmas::Beside::nexts))]
 pub fn next_in(tree: &Tree, key: u32) -> Option<u32>
     requires tree { IsTree tree.now }
     requires ascends { StrictlyAscends (keys tree.now) }

@@ -1,6 +1,6 @@
 //! A tree cut at a key. Its subtrees move whole to either side: only the nodes on the path to the key are opened.
 ghost use Rattle.std.specs.Prelude.{◌≡◌, ◌+◌, ◌++◌, ◌∷◌, [], Some, IfOk, OnOk};
-ghost use Rattle.tree23.specs.Keys.{StrictlyAscends};
+ghost use Rattle.key_sets.specs.Keys.{StrictlyAscends};
 ghost use Rattle.tree23.specs.Nodes.{keys, depth, IsTree, IsRooted};
 ghost use Rattle.tree23.specs.SideBySide.{AreTrees};
 ghost use Rattle.tree23.specs.Code.Cuts.{CanStand, low_keys, whole_keys, IsOpenCut, IsLeft, IsCut};

@@ -1,10 +1,10 @@
 -- Lists that ascend, of keys of 32 bits.
 use Rattle.std.proofs.Common.{◌≡◌, ℕ, ◌<◌, ◌≤◌, ◌^◌, Bool, List, ◌++◌, length, subst, arith}
-use Rattle.tree23.specs.Keys.{StrictlyAscends, with_key, without_key, AllBelow}
+use Rattle.key_sets.specs.Keys.{StrictlyAscends, with_key, without_key, AllBelow}
 use Rattle.tree_forest.specs.Forests.{IsKeySet}
-use Rattle.tree23.specs.Splits.{IsSplit}
+use Rattle.key_sets.specs.Splits.{IsSplit}
 use Rattle.tree23.specs.Code.Insertions.{IsInserted}
-use Rattle.tree23.proofs.KeyLemmas.Ascending.{all_map, all_append, all_front, all_back, all_with, all_without, ascends_front, ascends_back, ascends_both, ascends_with, ascends_without, length_in_range}
+use Rattle.key_sets.proofs.KeyLemmas.Ascending.{all_map, all_append, all_front, all_back, all_with, all_without, ascends_front, ascends_back, ascends_both, ascends_with, ascends_without, length_in_range}
 use Rattle.tree23.proofs.TreeLemmas.Inserting.{inserted_keys}
 
 -- an equal list

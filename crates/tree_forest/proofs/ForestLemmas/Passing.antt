@@ -7,11 +7,11 @@ use Rattle.tree23.specs.declared.tree.node.Tree.TheVariants.{Empty}
 use Rattle.tree23.specs.declared.trees.KeyedTree.{KeyedTree}
 use Rattle.tree23.specs.declared.trees.Trees.{Trees}
 use Rattle.tree23.specs.declared.trees.cut.Cut.{Cut}
-use Rattle.tree23.specs.Keys.{StrictlyAscends}
+use Rattle.key_sets.specs.Keys.{StrictlyAscends}
 use Rattle.tree23.specs.Nodes.{keys, IsRooted}
 use Rattle.tree23.specs.SideBySide.{entry_keys, in_order, in_reverse, AreTrees, AreKeyedTrees}
 use Rattle.tree23.specs.Code.Cuts.{low_keys, whole_keys, CanStand, IsOpenCut}
-use Rattle.tree23.proofs.KeyLemmas.Ascending.{all_map, all_append, all_below_key, ascends_back}
+use Rattle.key_sets.proofs.KeyLemmas.Ascending.{all_map, all_append, all_below_key, ascends_back}
 use Rattle.tree23.proofs.SideBySideLemmas.KeyedTrees.{entries_front, entries_last}
 
 -- some trees have passed, and one is in hand

@@ -1,6 +1,6 @@
 //! Keys looked up in, put into and taken out of trees side by side: each in the one tree in whose range it is.
 ghost use Rattle.std.specs.Prelude.{◌≡◌, ◌<◌, ◌≤◌, ◌^◌, drop, length, IfOk, OnErr};
-ghost use Rattle.tree23.specs.Keys.{StrictlyAscends, has, without_key, least_above};
+ghost use Rattle.key_sets.specs.Keys.{StrictlyAscends, has, without_key, least_above};
 ghost use Rattle.tree23.specs.SideBySide.{in_order, AreTrees};
 ghost use Rattle.tree_forest.specs.Forests.{tree_count};
 ghost use Rattle.tree_forest.specs.Code.Places.{or_first_key, IsPlace};

@@ -1,12 +1,12 @@
 //! What is left of a forest while its keys are taken off from the least on.
 ghost use Rattle.std.specs.Prelude.{◌≡◌, ◌<◌, ◌≤◌, List, [], ◌∷◌, ◌++◌, slice_get, None, IfOk, IfSome, OnErr};
 ghost use Rattle.tree23.specs.declared.trees.KeyedTree.{KeyedTree as KeyedTreeOf};
-ghost use Rattle.tree23.specs.Keys.{StrictlyAscends};
+ghost use Rattle.key_sets.specs.Keys.{StrictlyAscends};
 ghost use Rattle.tree23.specs.Nodes.{keys, IsRooted};
 ghost use Rattle.tree23.specs.SideBySide.{in_reverse, AreTrees};
 ghost use Rattle.tree23.specs.Code.Cuts.{whole_keys, IsOpenCut};
 ghost use Rattle.tree_forest.specs.Code.Merges.{IsTakenOff};
-ghost use Rattle.tree23.specs.Splits.{IsSplit};
+ghost use Rattle.key_sets.specs.Splits.{IsSplit};
 
 use crate::forest::Forest;
 use crate::pool::ForestPool;

@@ -1,5 +1,5 @@
 use Rattle.std.proofs.Common.{◌++◌, ◌∷◌, ◌<◌, ◌≡◌, arith, rules}
-use Rattle.tree23.specs.Keys.{StrictlyAscends}
+use Rattle.key_sets.specs.Keys.{StrictlyAscends}
 use Rattle.tree23.specs.Nodes.{keys, keys_with_split}
 use Rattle.tree23.proofs.TreeLemmas.Inserting.{outcome_left, outcome_right, outcome_middle, outcome_last}
 use Rattle.tree23.proofs.tree.insert.+insert_in.Goals as goal

@@ -1,5 +1,5 @@
 use Rattle.std.proofs.Common.{◌≡◌, false, rules}
-use Rattle.tree23.specs.Keys.{has}
+use Rattle.key_sets.specs.Keys.{has}
 use Rattle.tree23.proofs.TreeLemmas.Adding.{added_at}
 use Rattle.tree23.proofs.tree.insert.insert_in_leaf.Goals as goal
 

@@ -1,6 +1,6 @@
 use Rattle.std.proofs.Common.{◌≡◌, ℕ, ◌∙◌, ◌-◌, ◌<◌, List, [], ◌++◌, sym, ap, arith, take, drop, length, get_or}
 use Rattle.std.proofs.lemmas.List.{get_or_read, take_rest}
-use Rattle.tree23.proofs.KeyLemmas.Places.{around_place, with_at}
+use Rattle.key_sets.proofs.KeyLemmas.Places.{around_place, with_at}
 use Rattle.tree23.proofs.tree.leaf.insert_in_halves.Goals as goal
 
 rest_copied : (n : ℕ) (new old from xs : List ℕ) → new ≡ old ++ take (length from - n) (drop n from) → old ≡ [] → from ≡ xs → new ≡ drop n xs

@@ -1,6 +1,6 @@
 use Rattle.std.proofs.Common.{sym, arith}
 use Rattle.std.proofs.lemmas.Bool.Decides.{nat_tests}
-use Rattle.tree23.proofs.KeyLemmas.Places.{has_at, has_nowhere}
+use Rattle.key_sets.proofs.KeyLemmas.Places.{has_at, has_nowhere}
 use Rattle.tree23.proofs.tree.leaf.is_at.Goals as goal
 
 pub returns-then-at-leaf : goal.returns-then-at-leaf

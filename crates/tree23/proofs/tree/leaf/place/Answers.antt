@@ -1,5 +1,5 @@
 use Rattle.std.proofs.Common.{arith}
-use Rattle.tree23.proofs.KeyLemmas.Places.{below_up_to, above_from}
+use Rattle.key_sets.proofs.KeyLemmas.Places.{below_up_to, above_from}
 use Rattle.tree23.proofs.tree.leaf.place.Goals as goal
 
 pub loop-low-preserved-then-leaf-middle : goal.loop-low-preserved-then-leaf-middle

@@ -1,5 +1,5 @@
 use Rattle.std.proofs.Common.{◌++◌, ◌∷◌, ◌<◌, ◌≡◌, arith, rules}
-use Rattle.tree23.specs.Keys.{StrictlyAscends}
+use Rattle.key_sets.specs.Keys.{StrictlyAscends}
 use Rattle.tree23.specs.Nodes.{keys}
 use Rattle.tree23.proofs.TreeLemmas.Removing.{taken_left, taken_right, taken_middle, taken_last, taken_here, taken_high, fits_without}
 use Rattle.tree23.proofs.tree.remove.+remove_in.Goals as goal

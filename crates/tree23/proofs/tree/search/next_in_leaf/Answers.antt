@@ -1,5 +1,5 @@
 use Rattle.std.proofs.Common.{sym, rules}
-use Rattle.tree23.proofs.KeyLemmas.Places.{IsAfter, after_absent, after_present, least_at, least_nowhere}
+use Rattle.key_sets.proofs.KeyLemmas.Places.{IsAfter, after_absent, after_present, least_at, least_nowhere}
 use Rattle.tree23.proofs.tree.search.next_in_leaf.Goals as goal
 use Rattle.tree23.proofs.tree.search.next_in_leaf.Goals.{then-is_at, else-is_at}
 

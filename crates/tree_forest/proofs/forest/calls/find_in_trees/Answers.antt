@@ -1,6 +1,6 @@
 use Rattle.std.proofs.Common.{◌∙◌, sym, arith}
 use Rattle.std.proofs.lemmas.Bool.Decides.{nat_tests}
-use Rattle.tree23.proofs.KeyLemmas.Ascending.{ascends_front}
+use Rattle.key_sets.proofs.KeyLemmas.Ascending.{ascends_front}
 use Rattle.tree_forest.proofs.ForestLemmas.ForestKeys.{in_entry, ascends_in_entry, has_in_front, has_in_entry, has_entry}
 use Rattle.tree_forest.proofs.forest.calls.find_in_trees.Goals as goal
 

@@ -1,5 +1,5 @@
 use Rattle.std.proofs.Common.{◌∙◌, sym}
-use Rattle.tree23.proofs.KeyLemmas.Ascending.{ascends_front}
+use Rattle.key_sets.proofs.KeyLemmas.Ascending.{ascends_front}
 use Rattle.tree_forest.proofs.ForestLemmas.ForestKeys.{in_entry, ascends_in_entry, least_in_front, least_in_entry}
 use Rattle.tree_forest.proofs.forest.calls.next_in_trees.Goals as goal
 

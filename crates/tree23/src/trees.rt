@@ -50,7 +50,8 @@ impl Trees {
         requires height { height ≡ depth tree }
         ensures trees { OnOk result (AreTrees self.new) }
         ensures forest { OnOk result (in_order self.new ≡ in_order self.old ++ key ∷ keys tree) }
-        ensures stack { OnOk result (in_reverse self.new ≡ keys self.old.front.tree ++ key ∷ (keys tree ++ entry_keys (reverse self.old.entries.items))) }
+        ensures stack { OnOk result (in_reverse self.new
+            ≡ keys self.old.front.tree ++ key ∷ (keys tree ++ entry_keys (reverse self.old.entries.items))) }
         ensures front { self.new.front ≡ self.old.front }
         ensures count { OnOk result (length self.new.entries.items ≡ length self.old.entries.items + 1) }
     {

@@ -1,13 +1,12 @@
 //! Forests put together: where a higher tree comes after lower ones, these become one, or part of it. A forest with too
 //! many trees is compacted: where a tree comes after three of its height, these become one, and what is still too many
 //! after that is joined from the end.
-ghost use Rattle.std.specs.Prelude.{◌≡◌, ◌+◌, ◌<◌, ◌^◌, ◌≤◌, ◌++◌, ◌∷◌, true, None, length, IfOk, IfSome, OnOk};
+ghost use Rattle.std.specs.Prelude.{◌≡◌, ◌+◌, ◌<◌, ◌^◌, ◌≤◌, ◌++◌, ◌∷◌, true, length, IfOk, IfSome, OnOk};
 ghost use Rattle.tree23.specs.Nodes.{keys, depth, IsTree, IsLeaf, IsRooted};
 ghost use Rattle.tree23.specs.SideBySide.{entry_keys, in_order, AreTrees, AreKeyedTrees};
 ghost use Rattle.tree_forest.specs.Forests.{tree_count};
 ghost use Rattle.tree_forest.specs.Views.{most_trees};
 ghost use Rattle.tree_forest.specs.Code.Merges.{if_merged, IsTakenOff};
-ghost use Rattle.tree23.specs.Code.Cuts.{CanStand};
 
 use crate::pool::ForestPool;
 use std::alloc::AllocError;
@@ -59,7 +58,8 @@ fn merge_equal(
     requires height { high.rooted.height ≡ low.rooted.height }
     requires fits { low.rooted.height < 2 ^ 62 }
     ensures entries { OnOk result (AreKeyedTrees entries.new.items) }
-    ensures keys { OnOk result (entry_keys entries.new.items ≡ entry_keys entries.old.items ++ low.key ∷ (keys low.rooted.tree ++ high.key ∷ keys high.rooted.tree)) }
+    ensures keys { OnOk result (entry_keys entries.new.items
+        ≡ entry_keys entries.old.items ++ low.key ∷ (keys low.rooted.tree ++ high.key ∷ keys high.rooted.tree)) }
     ensures count { OnOk result (length entries.new.items ≤ length entries.old.items + 1) }
 {
     let node = pool.trees.take()?;
@@ -105,7 +105,8 @@ fn merge_lower(
     ensures trees { OnOk result (AreTrees trees.new) }
     ensures rooted { IfOk result (λ e. IsRooted e.rooted) }
     ensures count { OnOk result (length trees.new.entries.items ≤ length trees.old.entries.items) }
-    ensures keys { IfOk result (λ e. in_order trees.new ++ e.key ∷ keys e.rooted.tree ≡ in_order trees.old ++ entry.key ∷ keys entry.rooted.tree) }
+    ensures keys { IfOk result (λ e. in_order trees.new ++ e.key ∷ keys e.rooted.tree
+        ≡ in_order trees.old ++ entry.key ∷ keys entry.rooted.tree) }
 {
     let mut merged = entry;
     while let Some(mut lower) = pop_lower(&mut trees.entries, merged.rooted.height) {
@@ -202,17 +203,6 @@ fn merge_into_last(trees: &mut Trees, tree: &Tree) -> Result<bool, AllocError>
     }
 }
 
-/// Whether no tree was put here yet. An empty leaf counts as one.
-#[inline]
-fn is_empty(trees: &Trees) -> bool
-    ensures { result ≡ true → CanStand None trees.now }
-{
-    match trees.front.tree {
-        Tree::Empty => trees.entries.is_empty(),
-        Tree::Leaf(_) | Tree::Underfull(_) | Tree::Two(_) | Tree::Three(_) => false,
-    }
-}
-
 /// Puts a tree after all, with no key before it.
 fn add_front(trees: &mut Trees, front: Rooted, pool: &mut ForestPool) -> Result<(), AllocError>
     requires trees { AreTrees trees.old }
@@ -222,9 +212,11 @@ fn add_front(trees: &mut Trees, front: Rooted, pool: &mut ForestPool) -> Result<
     ensures count { OnOk result (length trees.new.entries.items ≤ length trees.old.entries.items + 1) }
     ensures keys { OnOk result (in_order trees.new ≡ in_order trees.old ++ keys front.tree) }
 {
-    if is_empty(trees) {
-        trees.front = front;
-        return Ok(());
+    if let Tree::Empty = trees.front.tree {
+        if trees.entries.is_empty() {
+            trees.front = front;
+            return Ok(());
+        }
     }
     if merge_into_last(trees, &front.tree)? {
         pool.trees.give_leaf(front.tree);

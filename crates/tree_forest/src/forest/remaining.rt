@@ -122,7 +122,8 @@ fn pass_below(mut high: Trees, key: u32, pool: &mut ForestPool) -> Result<(Cut, 
 fn pop_below(entries: &mut Vec<KeyedTree>, key: u32) -> Option<KeyedTree>
     ensures taken { IsTakenOff entries.old.items entries.new.items result }
     ensures below { IfSome result (λ e. e.key < key) }
-    ensures stays { (e : KeyedTreeOf) (others : List KeyedTreeOf) → result ≡ None → entries.old.items ≡ others ++ e ∷ [] → key ≤ e.key }
+    ensures stays { (e : KeyedTreeOf) (others : List KeyedTreeOf)
+        → result ≡ None → entries.old.items ≡ others ++ e ∷ [] → key ≤ e.key }
 {
     match entries.last() {
         Some(last) if last.key < key => entries.pop(),

@@ -1,2 +1,1 @@
 pub mod SideBySideLemmas
-pub mod TreeLemmas

@@ -1,4 +1,2 @@
--- The definitions of the code's own: what cuts, insertions and removals have done so far.
+-- The definitions of the code's own: what a cut has done so far.
 pub mod Cuts
-pub mod Insertions
-pub mod Removals

@@ -3,7 +3,7 @@ use Rattle.std.specs.Prelude.{List, ℕ, [], ◌∷◌, ◌++◌, reverse}
 use Rattle.std.specs.List.{AllByRecursion}
 use Rattle.tree23.specs.declared.trees.KeyedTree.{KeyedTree}
 use Rattle.tree23.specs.declared.trees.Trees.{Trees}
-use Rattle.tree23.specs.Nodes.{keys, IsRooted}
+use Rattle.tree_nodes.specs.Nodes.{keys, IsRooted}
 
 -- the keys of trees that stand after keys
 abbrev pub entry_keys : List KeyedTree → List ℕ

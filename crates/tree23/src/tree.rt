@@ -5,28 +5,14 @@ ghost use Rattle.key_sets.specs.Keys.{StrictlyAscends, AllBelow, with_key, has, 
 ghost use Rattle.key_sets.specs.Splits.{IsSplit};
 
 #[doc(hidden)]
-pub mod insert;
-#[doc(hidden)]
 pub mod join;
-#[doc(hidden)]
-pub mod leaf;
-#[doc(hidden)]
-pub mod node;
-#[doc(hidden)]
-pub mod rebalance;
-#[doc(hidden)]
-pub mod remove;
-#[doc(hidden)]
-pub mod search;
-#[doc(hidden)]
-pub mod split_node;
 
-use crate::pool::Pool;
-use crate::tree::insert::insert_at_root;
+use tree_nodes::Pool;
+use tree_nodes::insert::insert_at_root;
 use crate::tree::join::put_after;
-use crate::tree::node::Rooted;
-use crate::tree::remove::{pop_first, remove_in, shrink_root};
-use crate::tree::search::{find_in, next_in};
+use tree_nodes::node::Rooted;
+use tree_nodes::remove::{pop_first, remove_in, shrink_root};
+use tree_nodes::search::{find_in, next_in};
 use crate::trees::Trees;
 use crate::trees::cut::{Cut, cut_at};
 use crate::trees::join::{join_many, join_reversed};
@@ -45,7 +31,7 @@ impl Model for Tree23 {
 
     ghost Value = { List ℕ };
 
-    ghost use Rattle.tree23.specs.Nodes.{keys, IsRootedSet};
+    ghost use Rattle.tree_nodes.specs.Nodes.{keys, IsRootedSet};
 
     ghost view = { λ t. keys t.root.tree };
 
@@ -107,7 +93,7 @@ impl Tree23 {
     }
 
     /// Puts the key in, and says whether it is new.
-    #[tactic(auto, using(crate::proofs::TreeLemmas::Inserting::set_inserted, crate::proofs::TreeLemmas::Inserting::inserted_keys, crate::proofs::TreeLemmas::Inserting::inserted_answer))]
+    #[tactic(auto, using(tree_nodes::proofs::TreeLemmas::Inserting::set_inserted, tree_nodes::proofs::TreeLemmas::Inserting::inserted_keys, tree_nodes::proofs::TreeLemmas::Inserting::inserted_answer))]
     pub fn insert(&mut self, key: u32) -> Result<bool, AllocError>
         ensures answer { IfOk result (λ added. added ≡ not (has key self.old)) }
         ensures keys { OnOk result (self.new ≡ with_key key self.old) }
@@ -120,7 +106,7 @@ impl Tree23 {
     /// Takes the key out, and says whether it was there.
     ///
     /// Memory: none.
-    #[tactic(auto, using(crate::proofs::TreeLemmas::Trees::set_without, crate::proofs::TreeLemmas::Removing::removed_keys, crate::proofs::TreeLemmas::Removing::removed_found))]
+    #[tactic(auto, using(tree_nodes::proofs::TreeLemmas::Trees::set_without, tree_nodes::proofs::TreeLemmas::Removing::removed_keys, tree_nodes::proofs::TreeLemmas::Removing::removed_found))]
     pub fn remove(&mut self, key: u32) -> bool
         ensures answer { result ≡ has key self.old }
         ensures keys { self.new ≡ without_key key self.old }

@@ -1,15 +1,15 @@
 //! Trees side by side, with a key between each two: what a tree is cut into, and what a forest is made of.
 ghost use Rattle.std.specs.Prelude.{◌≡◌, ◌+◌, ◌++◌, ◌∷◌, [], length, reverse, OnOk};
 ghost use Rattle.std.specs.Option.{option_to_list};
-ghost use Rattle.tree23.specs.declared.tree.node.Tree.TheVariants.{Empty};
-ghost use Rattle.tree23.specs.Nodes.{keys, depth, IsTree};
+ghost use Rattle.tree_nodes.specs.declared.node.Tree.TheVariants.{Empty};
+ghost use Rattle.tree_nodes.specs.Nodes.{keys, depth, IsTree};
 ghost use Rattle.tree23.specs.SideBySide.{entry_keys, in_order, in_reverse, AreTrees};
 ghost use Rattle.tree23.specs.Code.Cuts.{CanStand};
 
 pub mod cut;
 pub mod join;
 
-use crate::tree::node::{Rooted, Tree};
+use tree_nodes::node::{Rooted, Tree};
 use std::alloc::{AllocError, Global};
 
 /// A key, and the tree after it.

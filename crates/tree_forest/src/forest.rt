@@ -85,7 +85,7 @@ impl Forest {
     }
 
     /// Puts the key in, and says whether it is new.
-    #[tactic(auto, using(crate::proofs::ForestLemmas::KeySets::key_set_length, crate::proofs::ForestLemmas::KeySets::key_set_inserted, tree23::proofs::TreeLemmas::Inserting::inserted_keys, tree23::proofs::TreeLemmas::Inserting::inserted_answer))]
+    #[tactic(auto, using(crate::proofs::ForestLemmas::KeySets::key_set_length, crate::proofs::ForestLemmas::KeySets::key_set_inserted, tree_nodes::proofs::TreeLemmas::Inserting::inserted_keys, tree_nodes::proofs::TreeLemmas::Inserting::inserted_answer))]
     pub fn insert(&mut self, key: u32) -> Result<bool, AllocError>
         ensures answer { IfOk result (λ added. added ≡ not (has key self.old.keys)) }
         ensures keys { OnOk result (self.new.keys ≡ with_key key self.old.keys) }

@@ -2,7 +2,7 @@
 ghost use Rattle.std.specs.Prelude.{◌≡◌, [], IfOk};
 
 use std::alloc::{AllocError, Global};
-use tree23::Pool;
+use tree_nodes::Pool;
 use tree23::trees::KeyedTree;
 
 /// How many vectors of entries are kept at most.

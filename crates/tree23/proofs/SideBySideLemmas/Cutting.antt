@@ -1,11 +1,11 @@
 -- A tree cut at a key into trees side by side.
 use Rattle.std.proofs.Common.{◌≡◌, ℕ, ◌<◌, ◌≤◌, List, [], ◌∷◌, ◌++◌, length, reverse, Some, None, refl, sym, ap, ◌∙◌, subst, append_assoc, append-nil, arith}
-use Rattle.tree23.specs.declared.tree.node.Tree.TheVariants.{Empty}
+use Rattle.tree_nodes.specs.declared.node.Tree.TheVariants.{Empty}
 use Rattle.tree23.specs.declared.trees.KeyedTree.{KeyedTree}
 use Rattle.tree23.specs.declared.trees.Trees.{Trees}
 use Rattle.tree23.specs.declared.trees.cut.Cut.{Cut}
 use Rattle.key_sets.specs.Keys.{StrictlyAscends}
-use Rattle.tree23.specs.Nodes.{keys}
+use Rattle.tree_nodes.specs.Nodes.{keys}
 use Rattle.tree23.specs.SideBySide.{entry_keys, in_order, in_reverse, AreTrees}
 use Rattle.key_sets.specs.Splits.{IsSplit}
 use Rattle.tree23.specs.Code.Cuts.{low_keys, whole_keys, IsOpenCut, IsLeft, IsCut}

@@ -2,7 +2,7 @@
 use Rattle.std.proofs.Common.{◌≡◌, ℕ, ◌+◌, ◌<◌, List, [], ◌∷◌, ◌++◌, length, reverse, sym, ap, ◌∙◌, append_assoc, arith, length-append}
 use Rattle.std.proofs.lemmas.List.{reverse-append}
 use Rattle.tree23.specs.declared.trees.KeyedTree.{KeyedTree}
-use Rattle.tree23.specs.Nodes.{keys}
+use Rattle.tree_nodes.specs.Nodes.{keys}
 use Rattle.tree23.specs.SideBySide.{entry_keys}
 use Rattle.tree23.proofs.SideBySideLemmas.KeyedTrees.{entry_keys_push}
 

@@ -1,10 +1,10 @@
 -- The keys of trees that stand after keys, and how many there are.
 use Rattle.std.proofs.Common.{◌≡◌, ◌+◌, ◌≤◌, List, [], ◌∷◌, ◌++◌, length, refl, sym, ap, ◌∙◌, subst, append_assoc, append-nil, arith, length-append}
 use Rattle.tree23.specs.declared.trees.KeyedTree.{KeyedTree}
-use Rattle.tree23.specs.declared.tree.node.Rooted.{Rooted}
-use Rattle.tree23.specs.Nodes.{keys, IsRooted}
+use Rattle.tree_nodes.specs.declared.node.Rooted.{Rooted}
+use Rattle.tree_nodes.specs.Nodes.{keys, IsRooted}
 use Rattle.tree23.specs.SideBySide.{entry_keys, AreKeyedTrees}
-use Rattle.tree23.proofs.TreeLemmas.Depths.{depth_within}
+use Rattle.tree_nodes.proofs.TreeLemmas.Depths.{depth_within}
 
 pub entry_keys_append : (xs ys : List KeyedTree) → entry_keys (xs ++ ys) ≡ entry_keys xs ++ entry_keys ys
 entry_keys_append [] ys = refl

@@ -6,7 +6,7 @@ use Rattle.std.specs.Option.{option_to_list}
 use Rattle.tree23.specs.declared.trees.Trees.{Trees}
 use Rattle.tree23.specs.declared.trees.cut.Cut.{Cut}
 use Rattle.key_sets.specs.Keys.{StrictlyAscends}
-use Rattle.tree23.specs.Nodes.{keys}
+use Rattle.tree_nodes.specs.Nodes.{keys}
 use Rattle.tree23.specs.SideBySide.{in_order, in_reverse, AreTrees}
 use Rattle.key_sets.specs.Splits.{IsSplit}
 

@@ -1,11 +1,11 @@
 //! Trees joined around a key: the lower one moves whole to the edge of the other, at its own height (2-3 tree join).
 ghost use Rattle.std.specs.Prelude.{◌≡◌, ◌+◌, ◌<◌, ◌^◌, ◌++◌, ◌∷◌, length, IfOk, OnOk};
-ghost use Rattle.tree23.specs.Nodes.{keys, depth, IsTree, IsRooted, keys_with_split, IsTreeWithSplit};
+ghost use Rattle.tree_nodes.specs.Nodes.{keys, depth, IsTree, IsRooted, keys_with_split, IsTreeWithSplit};
 
-use crate::pool::Pool;
-use crate::tree::leaf::ROOM;
-use crate::tree::node::{Rooted, Split, Tree};
-use crate::tree::split_node::{grow_first, grow_root, grow_second, grow_third};
+use tree_nodes::Pool;
+use tree_nodes::leaf::ROOM;
+use tree_nodes::node::{Rooted, Split, Tree};
+use tree_nodes::split_node::{grow_first, grow_root, grow_second, grow_third};
 use std::alloc::AllocError;
 use std::mem;
 
@@ -100,7 +100,7 @@ fn join_left(
 }
 
 /// Puts a key and a tree of any depth after another.
-#[tactic(auto, using(crate::proofs::TreeLemmas::Depths::depth_within))]
+#[tactic(auto, using(tree_nodes::proofs::TreeLemmas::Depths::depth_within))]
 pub fn put_after(
     low: &mut Rooted,
     key: u32,

@@ -1,13 +1,13 @@
 //! A tree cut at a key. Its subtrees move whole to either side: only the nodes on the path to the key are opened.
 ghost use Rattle.std.specs.Prelude.{◌≡◌, ◌+◌, ◌++◌, ◌∷◌, [], Some, IfOk, OnOk};
 ghost use Rattle.key_sets.specs.Keys.{StrictlyAscends};
-ghost use Rattle.tree23.specs.Nodes.{keys, depth, IsTree, IsRooted};
+ghost use Rattle.tree_nodes.specs.Nodes.{keys, depth, IsTree, IsRooted};
 ghost use Rattle.tree23.specs.SideBySide.{AreTrees};
 ghost use Rattle.tree23.specs.Code.Cuts.{CanStand, low_keys, whole_keys, IsOpenCut, IsLeft, IsCut};
 
-use crate::pool::Pool;
-use crate::tree::leaf::cut_leaf;
-use crate::tree::node::{Rooted, Tree};
+use tree_nodes::Pool;
+use tree_nodes::leaf::cut_leaf;
+use tree_nodes::node::{Rooted, Tree};
 use crate::trees::Trees;
 use std::alloc::AllocError;
 

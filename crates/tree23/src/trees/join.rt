@@ -1,11 +1,11 @@
 //! Trees side by side joined, until there are few of them, or one.
 ghost use Rattle.std.specs.Prelude.{◌≡◌, ◌+◌, ◌<◌, ◌≤◌, ◌^◌, length, IfOk, OnOk};
-ghost use Rattle.tree23.specs.Nodes.{keys, IsRooted};
+ghost use Rattle.tree_nodes.specs.Nodes.{keys, IsRooted};
 ghost use Rattle.tree23.specs.SideBySide.{in_order, in_reverse, AreTrees};
 
-use crate::pool::Pool;
+use tree_nodes::Pool;
 use crate::tree::join::put_after;
-use crate::tree::node::Rooted;
+use tree_nodes::node::Rooted;
 use crate::trees::Trees;
 use std::alloc::AllocError;
 

@@ -1,7 +1,7 @@
 -- Entries put together, one after another: the keys of all that is in hand stay what they were.
 use Rattle.std.proofs.Common.{◌≡◌, ℕ, ◌+◌, ◌<◌, ◌^◌, List, [], ◌∷◌, ◌++◌, length, reverse, sym, ap, ◌∙◌, append_assoc, arith, length-append}
 use Rattle.tree23.specs.declared.trees.KeyedTree.{KeyedTree}
-use Rattle.tree23.specs.Nodes.{keys}
+use Rattle.tree_nodes.specs.Nodes.{keys}
 use Rattle.tree23.specs.SideBySide.{entry_keys}
 use Rattle.tree23.proofs.SideBySideLemmas.KeyedTrees.{entry_keys_push}
 use Rattle.tree23.proofs.SideBySideLemmas.Joining.{turned}

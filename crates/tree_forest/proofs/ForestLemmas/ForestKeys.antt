@@ -4,11 +4,11 @@ use Rattle.std.specs.List.{AllByRecursion}
 use Rattle.std.proofs.lemmas.List.{take-append-drop, take_more, drop_more, set_split, take-set, drop-set-lt}
 use Rattle.tree23.specs.declared.trees.KeyedTree.{KeyedTree}
 use Rattle.key_sets.specs.Keys.{StrictlyAscends, has, without_key, least_above}
-use Rattle.tree23.specs.Nodes.{keys, IsRooted}
+use Rattle.tree_nodes.specs.Nodes.{keys, IsRooted}
 use Rattle.tree23.specs.SideBySide.{entry_keys, AreKeyedTrees}
 use Rattle.tree_forest.specs.Code.Places.{or_first_key, IsBelowFirst, IsPlace}
-use Rattle.tree23.specs.Code.Insertions.{IsInserted}
-use Rattle.tree23.proofs.TreeLemmas.Adding.{added_left, added_right, found_left, found_right}
+use Rattle.tree_nodes.specs.Code.Insertions.{IsInserted}
+use Rattle.tree_nodes.proofs.TreeLemmas.Adding.{added_left, added_right, found_left, found_right}
 use Rattle.key_sets.proofs.KeyLemmas.Ascending.{ascends_after}
 use Rattle.key_sets.proofs.KeyLemmas.Beside.{has_left, has_right, has_here, without_left, without_right, without_here, least_left, least_here, least_right}
 use Rattle.tree23.proofs.SideBySideLemmas.KeyedTrees.{entry_keys_append, entries_back, height_within}

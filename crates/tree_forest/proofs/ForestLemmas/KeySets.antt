@@ -3,9 +3,9 @@ use Rattle.std.proofs.Common.{◌≡◌, ℕ, ◌<◌, ◌≤◌, ◌^◌, Bool,
 use Rattle.key_sets.specs.Keys.{StrictlyAscends, with_key, without_key, AllBelow}
 use Rattle.tree_forest.specs.Forests.{IsKeySet}
 use Rattle.key_sets.specs.Splits.{IsSplit}
-use Rattle.tree23.specs.Code.Insertions.{IsInserted}
+use Rattle.tree_nodes.specs.Code.Insertions.{IsInserted}
 use Rattle.key_sets.proofs.KeyLemmas.Ascending.{all_map, all_append, all_front, all_back, all_with, all_without, ascends_front, ascends_back, ascends_both, ascends_with, ascends_without, length_in_range}
-use Rattle.tree23.proofs.TreeLemmas.Inserting.{inserted_keys}
+use Rattle.tree_nodes.proofs.TreeLemmas.Inserting.{inserted_keys}
 
 -- an equal list
 pub key_set_as : (old new : List ℕ) → IsKeySet old → new ≡ old → IsKeySet new

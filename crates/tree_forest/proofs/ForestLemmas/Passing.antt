@@ -2,13 +2,13 @@
 use Rattle.std.proofs.Common.{◌≡◌, ℕ, ◌<◌, ◌≤◌, List, [], ◌∷◌, ◌++◌, reverse, Some, None, refl, sym, ap, ◌∙◌, subst, append_assoc, arith}
 use Rattle.std.specs.List.{AllByRecursion}
 use Rattle.std.proofs.lemmas.List.{reverse-append, reverse-reverse}
-use Rattle.tree23.specs.declared.tree.node.Rooted.{Rooted}
-use Rattle.tree23.specs.declared.tree.node.Tree.TheVariants.{Empty}
+use Rattle.tree_nodes.specs.declared.node.Rooted.{Rooted}
+use Rattle.tree_nodes.specs.declared.node.Tree.TheVariants.{Empty}
 use Rattle.tree23.specs.declared.trees.KeyedTree.{KeyedTree}
 use Rattle.tree23.specs.declared.trees.Trees.{Trees}
 use Rattle.tree23.specs.declared.trees.cut.Cut.{Cut}
 use Rattle.key_sets.specs.Keys.{StrictlyAscends}
-use Rattle.tree23.specs.Nodes.{keys, IsRooted}
+use Rattle.tree_nodes.specs.Nodes.{keys, IsRooted}
 use Rattle.tree23.specs.SideBySide.{entry_keys, in_order, in_reverse, AreTrees, AreKeyedTrees}
 use Rattle.tree23.specs.Code.Cuts.{low_keys, whole_keys, CanStand, IsOpenCut}
 use Rattle.key_sets.proofs.KeyLemmas.Ascending.{all_map, all_append, all_below_key, ascends_back}

@@ -4,12 +4,12 @@ ghost use Rattle.key_sets.specs.Keys.{StrictlyAscends, has, without_key, least_a
 ghost use Rattle.tree23.specs.SideBySide.{in_order, AreTrees};
 ghost use Rattle.tree_forest.specs.Forests.{tree_count};
 ghost use Rattle.tree_forest.specs.Code.Places.{or_first_key, IsPlace};
-ghost use Rattle.tree23.specs.Code.Insertions.{IsInserted};
+ghost use Rattle.tree_nodes.specs.Code.Insertions.{IsInserted};
 
 use std::alloc::{AllocError, Global};
-use tree23::tree::insert::insert_at_root;
-use tree23::tree::remove::{pop_first, remove_in, shrink_root};
-use tree23::tree::search::{find_in, next_in};
+use tree_nodes::insert::insert_at_root;
+use tree_nodes::remove::{pop_first, remove_in, shrink_root};
+use tree_nodes::search::{find_in, next_in};
 use tree23::trees::Trees;
 
 /// How many of the keys between the trees, which ascend, are not above a key. Time: linear, since a forest that is

@@ -2,7 +2,7 @@
 //! many trees is compacted: where a tree comes after three of its height, these become one, and what is still too many
 //! after that is joined from the end.
 ghost use Rattle.std.specs.Prelude.{◌≡◌, ◌+◌, ◌<◌, ◌^◌, ◌≤◌, ◌++◌, ◌∷◌, true, length, IfOk, IfSome, OnOk};
-ghost use Rattle.tree23.specs.Nodes.{keys, depth, IsTree, IsLeaf, IsRooted};
+ghost use Rattle.tree_nodes.specs.Nodes.{keys, depth, IsTree, IsLeaf, IsRooted};
 ghost use Rattle.tree23.specs.SideBySide.{entry_keys, in_order, AreTrees, AreKeyedTrees};
 ghost use Rattle.tree_forest.specs.Forests.{tree_count};
 ghost use Rattle.tree_forest.specs.Views.{most_trees};
@@ -11,9 +11,9 @@ ghost use Rattle.tree_forest.specs.Code.Merges.{if_merged, IsTakenOff};
 use crate::pool::ForestPool;
 use std::alloc::AllocError;
 use tree23::tree::join::put_after;
-use tree23::tree::leaf::ROOM;
-use tree23::tree::node::{Rooted, Tree, three, two};
-use tree23::tree::remove::{pop_first, shrink_root};
+use tree_nodes::leaf::ROOM;
+use tree_nodes::node::{Rooted, Tree, three, two};
+use tree_nodes::remove::{pop_first, shrink_root};
 use tree23::trees::join::join_many;
 use tree23::trees::{KeyedTree, Trees};
 

@@ -2,7 +2,7 @@
 ghost use Rattle.std.specs.Prelude.{◌≡◌, ◌<◌, ◌≤◌, List, [], ◌∷◌, ◌++◌, slice_get, None, IfOk, IfSome, OnErr};
 ghost use Rattle.tree23.specs.declared.trees.KeyedTree.{KeyedTree as KeyedTreeOf};
 ghost use Rattle.key_sets.specs.Keys.{StrictlyAscends};
-ghost use Rattle.tree23.specs.Nodes.{keys, IsRooted};
+ghost use Rattle.tree_nodes.specs.Nodes.{keys, IsRooted};
 ghost use Rattle.tree23.specs.SideBySide.{in_reverse, AreTrees};
 ghost use Rattle.tree23.specs.Code.Cuts.{whole_keys, IsOpenCut};
 ghost use Rattle.tree_forest.specs.Code.Merges.{IsTakenOff};
@@ -13,8 +13,8 @@ use crate::pool::ForestPool;
 use std::alloc::{AllocError, Global};
 use std::marker::Model;
 use std::mem;
-use tree23::tree::node::Rooted;
-use tree23::tree::search::first_in;
+use tree_nodes::node::Rooted;
+use tree_nodes::search::first_in;
 use tree23::trees::cut::{Cut, cut_at};
 use tree23::trees::{KeyedTree, Trees};
 

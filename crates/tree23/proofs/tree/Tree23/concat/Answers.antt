@@ -1,6 +1,6 @@
 use Rattle.std.proofs.Common.{length, sym, ap, ◌++◌, ◌∷◌, ◌≡◌, ◌∙◌, subst, arith}
-use Rattle.tree23.specs.Nodes.{keys, IsRootedSet}
-use Rattle.tree23.proofs.TreeLemmas.Trees.{set_length, set_both}
+use Rattle.tree_nodes.specs.Nodes.{keys, IsRootedSet}
+use Rattle.tree_nodes.proofs.TreeLemmas.Trees.{set_length, set_both}
 use Rattle.tree23.proofs.tree.Tree23.concat.Goals as goal
 use Rattle.tree23.proofs.tree.Tree23.concat.Goals.{in-Some+in_ok-put_after, in_default}
 

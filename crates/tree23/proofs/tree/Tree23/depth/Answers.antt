@@ -1,6 +1,6 @@
 use Rattle.std.proofs.Common.{arith}
-use Rattle.tree23.proofs.TreeLemmas.Depths.{keys_at_least, keys_at_most}
-use Rattle.tree23.proofs.TreeLemmas.Trees.{set_depth_small}
+use Rattle.tree_nodes.proofs.TreeLemmas.Depths.{keys_at_least, keys_at_most}
+use Rattle.tree_nodes.proofs.TreeLemmas.Trees.{set_depth_small}
 use Rattle.tree23.proofs.tree.Tree23.depth.Goals as goal
 
 pub overflow_cast-result : goal.overflow_cast-result

@@ -1,5 +1,5 @@
 use Rattle.std.proofs.Common.{arith}
-use Rattle.tree23.proofs.TreeLemmas.Trees.{set_length}
+use Rattle.tree_nodes.proofs.TreeLemmas.Trees.{set_length}
 use Rattle.tree23.proofs.tree.Tree23.len.Goals as goal
 
 pub size-requires-clause-fits : goal.size-requires-clause-fits

@@ -1,9 +1,9 @@
 use Rattle.std.proofs.Common.{sym, ap, ◌∙◌, subst, length, arith, length-append}
-use Rattle.tree23.specs.Nodes.{keys}
+use Rattle.tree_nodes.specs.Nodes.{keys}
 use Rattle.tree23.specs.SideBySide.{in_order, in_reverse}
 use Rattle.key_sets.specs.Splits.{IsSplit}
 use Rattle.tree23.proofs.SideBySideLemmas.Cutting.{split_alone, front_alone}
-use Rattle.tree23.proofs.TreeLemmas.Trees.{set_length, set_low, set_high}
+use Rattle.tree_nodes.proofs.TreeLemmas.Trees.{set_length, set_low, set_high}
 use Rattle.tree23.proofs.tree.Tree23.split_below.Goals as goal
 
 pub join_many-requires-clause-fits : goal.join_many-requires-clause-fits

@@ -1,5 +1,5 @@
 use Rattle.std.proofs.Common.{◌++◌, ap, sym, ◌∙◌, append_assoc}
-use Rattle.tree23.specs.Nodes.{keys}
+use Rattle.tree_nodes.specs.Nodes.{keys}
 use Rattle.tree23.specs.SideBySide.{entry_keys}
 use Rattle.tree23.proofs.SideBySideLemmas.KeyedTrees.{entry_keys_push}
 use Rattle.tree23.proofs.trees.Trees.push.Goals as goal

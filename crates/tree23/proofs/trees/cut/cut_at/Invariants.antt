@@ -1,5 +1,5 @@
 use Rattle.std.proofs.Common.{◌≡◌}
-use Rattle.tree23.specs.Nodes.{keys, depth, IsTree}
+use Rattle.tree_nodes.specs.Nodes.{keys, depth, IsTree}
 use Rattle.tree23.specs.Code.Cuts.{whole_keys, IsLeft}
 use Rattle.tree23.proofs.trees.cut.cut_at.Given as goal
 

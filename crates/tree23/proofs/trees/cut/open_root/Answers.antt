@@ -1,5 +1,5 @@
 use Rattle.std.proofs.Common.{◌≡◌, ◌++◌, ◌∷◌, refl, ap, append_assoc}
-use Rattle.tree23.specs.Nodes.{keys}
+use Rattle.tree_nodes.specs.Nodes.{keys}
 use Rattle.tree23.proofs.SideBySideLemmas.Cutting.{left_first, left_first_of_three, left_second, left_again}
 use Rattle.tree23.proofs.trees.cut.open_root.Goals as goal
 

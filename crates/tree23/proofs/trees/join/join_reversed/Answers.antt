@@ -1,5 +1,5 @@
 use Rattle.std.proofs.Common.{◌^◌, ◌∙◌, arith}
-use Rattle.tree23.specs.Nodes.{keys}
+use Rattle.tree_nodes.specs.Nodes.{keys}
 use Rattle.tree23.proofs.SideBySideLemmas.KeyedTrees.{taken}
 use Rattle.tree23.proofs.SideBySideLemmas.Joining.{turned, still_fits, gone_after}
 use Rattle.tree23.proofs.trees.join.join_reversed.Goals as goal

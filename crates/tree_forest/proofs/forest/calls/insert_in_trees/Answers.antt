@@ -1,8 +1,8 @@
 use Rattle.std.proofs.Common.{◌≡◌, ℕ, ◌<◌, ◌++◌, List, ◌∙◌, sym, subst, arith, length-append}
 use Rattle.std.proofs.lemmas.Result.{IfOk-weaker, on_err_weaker}
-use Rattle.tree23.specs.Nodes.{keys}
+use Rattle.tree_nodes.specs.Nodes.{keys}
 use Rattle.tree23.specs.SideBySide.{entry_keys}
-use Rattle.tree23.specs.Code.Insertions.{IsInserted}
+use Rattle.tree_nodes.specs.Code.Insertions.{IsInserted}
 use Rattle.key_sets.proofs.KeyLemmas.Ascending.{ascends_front}
 use Rattle.tree23.proofs.SideBySideLemmas.KeyedTrees.{height_within}
 use Rattle.tree_forest.proofs.ForestLemmas.ForestKeys.{part_at, in_entry, ascends_in_entry, has_entry, inserted_in_front, inserted_in_entry, trees_set, entry_fits}

@@ -1,7 +1,7 @@
 use Rattle.std.proofs.Common.{◌++◌, ◌∙◌, sym, ap, arith}
 use Rattle.tree23.specs.SideBySide.{entry_keys}
 use Rattle.key_sets.proofs.KeyLemmas.Ascending.{ascends_front}
-use Rattle.tree23.proofs.TreeLemmas.Removing.{removed_keys, removed_found}
+use Rattle.tree_nodes.proofs.TreeLemmas.Removing.{removed_keys, removed_found}
 use Rattle.tree_forest.proofs.ForestLemmas.ForestKeys.{in_entry, ascends_in_entry, has_in_front, has_in_entry, has_entry, without_in_front, without_in_entry, without_entry, trees_set, trees_but}
 use Rattle.tree_forest.proofs.forest.calls.remove_in_trees.Goals as goal
 

@@ -1,6 +1,6 @@
 use Rattle.std.proofs.Common.{◌^◌, ◌++◌, ap, ◌∙◌, append-nil, arith, reverse}
 use Rattle.std.proofs.lemmas.List.{reverse-reverse}
-use Rattle.tree23.specs.Nodes.{keys}
+use Rattle.tree_nodes.specs.Nodes.{keys}
 use Rattle.tree23.specs.SideBySide.{entry_keys, in_order}
 use Rattle.tree23.proofs.SideBySideLemmas.KeyedTrees.{taken, entries_push}
 use Rattle.tree23.proofs.SideBySideLemmas.Joining.{still_fits}

@@ -1,5 +1,5 @@
 use Rattle.std.proofs.Common.{◌∷◌, ◌++◌, ap, ◌∙◌}
-use Rattle.tree23.specs.Nodes.{keys}
+use Rattle.tree_nodes.specs.Nodes.{keys}
 use Rattle.tree23.specs.SideBySide.{entry_keys}
 use Rattle.tree23.proofs.SideBySideLemmas.KeyedTrees.{entry_keys_push}
 use Rattle.tree_forest.proofs.ForestLemmas.Compacting.{entry_keys_last}

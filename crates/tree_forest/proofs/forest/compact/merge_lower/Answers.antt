@@ -1,5 +1,5 @@
 use Rattle.std.proofs.Common.{◌∷◌, ◌++◌, ap, ◌∙◌, arith}
-use Rattle.tree23.specs.Nodes.{keys}
+use Rattle.tree_nodes.specs.Nodes.{keys}
 use Rattle.tree23.specs.SideBySide.{entry_keys}
 use Rattle.tree23.proofs.SideBySideLemmas.KeyedTrees.{taken}
 use Rattle.tree23.proofs.SideBySideLemmas.Joining.{together}

@@ -1,5 +1,5 @@
 use Rattle.std.proofs.Common.{◌≡◌, ◌++◌, ◌∷◌, ◌≤◌, length}
-use Rattle.tree23.specs.Nodes.{keys, IsRooted}
+use Rattle.tree_nodes.specs.Nodes.{keys, IsRooted}
 use Rattle.tree23.specs.SideBySide.{in_order, AreTrees}
 use Rattle.tree_forest.proofs.forest.compact.merge_lower.Given as goal
 

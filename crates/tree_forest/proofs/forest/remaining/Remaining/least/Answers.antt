@@ -1,6 +1,6 @@
 use Rattle.std.proofs.Common.{◌≡◌, ◌-◌, Some, None, length, reverse, sym, subst}
 use Rattle.std.specs.Prelude.{slice_get}
-use Rattle.tree23.specs.Nodes.{keys}
+use Rattle.tree_nodes.specs.Nodes.{keys}
 use Rattle.tree23.specs.SideBySide.{entry_keys}
 use Rattle.tree_forest.proofs.ForestLemmas.Reversing.{first_here, first_past, first_after, none_after}
 use Rattle.tree_forest.proofs.forest.remaining.Remaining.least.Goals as goal

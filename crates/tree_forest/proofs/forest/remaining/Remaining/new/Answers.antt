@@ -1,6 +1,6 @@
 use Rattle.std.proofs.Common.{◌++◌, ap}
 use Rattle.std.proofs.lemmas.List.{reverse-reverse}
-use Rattle.tree23.specs.Nodes.{keys}
+use Rattle.tree_nodes.specs.Nodes.{keys}
 use Rattle.tree23.specs.SideBySide.{entry_keys}
 use Rattle.tree_forest.proofs.ForestLemmas.KeySets.{key_set_as}
 use Rattle.tree_forest.proofs.ForestLemmas.Reversing.{entries_turned}

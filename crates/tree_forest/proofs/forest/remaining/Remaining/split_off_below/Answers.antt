@@ -1,5 +1,5 @@
 use Rattle.std.proofs.Common.{ap, ◌∙◌}
-use Rattle.tree23.specs.Nodes.{keys}
+use Rattle.tree_nodes.specs.Nodes.{keys}
 use Rattle.tree23.specs.SideBySide.{in_reverse}
 use Rattle.tree_forest.specs.Forests.{IsKeySet}
 use Rattle.tree23.specs.Code.Cuts.{low_keys, whole_keys}

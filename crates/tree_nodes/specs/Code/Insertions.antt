@@ -1,0 +1,98 @@
+-- What an insertion into a tree comes to.
+use Rattle.std.specs.Prelude.{◌≡◌, ℕ, ◌+◌, ◌≤◌, Bool, true, false, List, [], ◌∷◌, ◌++◌, Result, Ok, Err, ⊤}
+use Rattle.tree_nodes.specs.declared.node.Tree.{Tree}
+use Rattle.tree_nodes.specs.declared.node.Tree.TheVariants.{Empty, Leaf, Underfull', Two', Three'}
+use Rattle.tree_nodes.specs.declared.node.Split.{Split}
+use Rattle.tree_nodes.specs.declared.node.Split.TheVariants.{Fits, Splits}
+use Rattle.tree_nodes.specs.declared.insert.Outcome.{Outcome}
+use Rattle.tree_nodes.specs.declared.insert.Outcome.TheVariants.{Found, Added, Full, OutOfMemory}
+use Rattle.key_sets.specs.Keys.{with_key, has}
+use Rattle.tree_nodes.specs.Nodes.{keys, depth, IsTree, keys_with_split, IsTreeWithSplit}
+
+-- the key was not there, and now it is
+pub record IsAdded (key : ℕ) (old new : List ℕ) : Type 0 where
+  pub is : new ≡ with_key key old
+  pub absent : has key old ≡ false
+
+-- the key was there, and nothing was changed
+pub record IsFound (key : ℕ) (old new : List ℕ) : Type 0 where
+  pub same : new ≡ old
+  pub present : has key old ≡ true
+
+-- whether a key is new
+abbrev pub IsInserted : ℕ → List ℕ → List ℕ → Bool → Type 0
+IsInserted key old new true = IsAdded key old new
+IsInserted key old new false = IsFound key old new
+
+-- what an insertion comes to
+abbrev pub IsOutcome : ℕ → List ℕ → List ℕ → Outcome → Type 0
+IsOutcome key old new Found = IsFound key old new
+IsOutcome key old new Added = IsAdded key old new
+IsOutcome key old new Full = new ≡ old
+IsOutcome key old new OutOfMemory = new ≡ old
+
+-- what is answered of it
+abbrev pub IsAnswer : {E : Type 0} → Outcome → Result Bool E → Type 0
+IsAnswer Found (Ok added) = added ≡ false
+IsAnswer Added (Ok added) = added ≡ true
+IsAnswer Full (Ok added) = ⊥
+IsAnswer OutOfMemory (Ok added) = ⊥
+IsAnswer Found (Err e) = ⊥
+IsAnswer Added (Err e) = ⊥
+IsAnswer Full (Err e) = ⊤
+IsAnswer OutOfMemory (Err e) = ⊤
+
+-- what holds where a part was split off
+abbrev pub OnSplits : Split → Type 0 → Type 0
+OnSplits Fits P = ⊤
+OnSplits (Splits k right) P = P
+
+-- one box at most is taken, and none where nothing was split off below
+abbrev pub IsSpent : Split → Split → ℕ → ℕ → Type 0
+IsSpent Fits Fits old new = ⊤
+IsSpent Fits (Splits k right) old new = ⊥
+IsSpent (Splits j part) split old new = old ≤ new + 1
+
+-- a node, of one of whose sides a part may have been split off
+abbrev pub HasSplitFirst : Split → Tree → Type 0
+HasSplitFirst split Empty = ⊥
+HasSplitFirst split (Leaf b) = ⊥
+HasSplitFirst split (Underfull' p a k b m c) = ⊥
+HasSplitFirst split (Two' p a k b m c) = IsTreeWithSplit (depth b) a split × IsTree b
+HasSplitFirst split (Three' p a k b m c) = IsTreeWithSplit (depth b) a split × IsTree b × IsTree c × (depth c ≡ depth b)
+
+abbrev pub HasSplitSecond : Split → Tree → Type 0
+HasSplitSecond split Empty = ⊥
+HasSplitSecond split (Leaf b) = ⊥
+HasSplitSecond split (Underfull' p a k b m c) = ⊥
+HasSplitSecond split (Two' p a k b m c) = IsTree a × IsTreeWithSplit (depth a) b split
+HasSplitSecond split (Three' p a k b m c) = IsTree a × IsTreeWithSplit (depth a) b split × IsTree c × (depth c ≡ depth a)
+
+abbrev pub HasSplitThird : Split → Tree → Type 0
+HasSplitThird split Empty = ⊥
+HasSplitThird split (Leaf b) = ⊥
+HasSplitThird split (Underfull' p a k b m c) = ⊥
+HasSplitThird split (Two' p a k b m c) = ⊥
+HasSplitThird split (Three' p a k b m c) = IsTree a × IsTree b × (depth b ≡ depth a) × IsTreeWithSplit (depth a) c split
+
+-- the keys of a node, with that part
+abbrev pub with_first_split : Split → Tree → List ℕ
+with_first_split split Empty = []
+with_first_split split (Leaf b) = []
+with_first_split split (Underfull' p a k b m c) = []
+with_first_split split (Two' p a k b m c) = keys_with_split a split ++ k ∷ keys b
+with_first_split split (Three' p a k b m c) = keys_with_split a split ++ k ∷ (keys b ++ m ∷ keys c)
+
+abbrev pub with_second_split : Split → Tree → List ℕ
+with_second_split split Empty = []
+with_second_split split (Leaf b) = []
+with_second_split split (Underfull' p a k b m c) = []
+with_second_split split (Two' p a k b m c) = keys a ++ k ∷ keys_with_split b split
+with_second_split split (Three' p a k b m c) = keys a ++ k ∷ (keys_with_split b split ++ m ∷ keys c)
+
+abbrev pub with_third_split : Split → Tree → List ℕ
+with_third_split split Empty = []
+with_third_split split (Leaf b) = []
+with_third_split split (Underfull' p a k b m c) = []
+with_third_split split (Two' p a k b m c) = []
+with_third_split split (Three' p a k b m c) = keys a ++ k ∷ (keys b ++ m ∷ keys_with_split c split)

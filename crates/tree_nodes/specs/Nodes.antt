@@ -1,0 +1,95 @@
+-- What a tree of nodes holds, and when it is balanced.
+use Rattle.std.specs.Prelude.{◌≡◌, ℕ, ◌+◌, ◌<◌, ◌≤◌, ◌^◌, List, [], ◌∷◌, ◌++◌, length, ⊤}
+use Rattle.std.specs.List.{AllByRecursion}
+use Rattle.tree_nodes.specs.declared.node.Tree.{Tree}
+use Rattle.tree_nodes.specs.declared.node.Tree.TheVariants.{Empty, Leaf, Underfull', Two', Three'}
+use Rattle.tree_nodes.specs.declared.node.Rooted.{Rooted}
+use Rattle.tree_nodes.specs.declared.node.Split.{Split}
+use Rattle.tree_nodes.specs.declared.node.Split.TheVariants.{Fits, Splits}
+use Rattle.key_sets.specs.Keys.{StrictlyAscends}
+
+-- the most keys of a leaf
+abbrev pub room : ℕ
+room = 256
+
+-- the keys in order
+abbrev pub keys : Tree → List ℕ
+keys Empty = []
+keys (Leaf b) = b.value.items
+keys (Underfull' p a k b m c) = keys a
+keys (Two' p a k b m c) = keys a ++ k ∷ keys b
+keys (Three' p a k b m c) = keys a ++ k ∷ (keys b ++ m ∷ keys c)
+
+-- the levels of nodes above the leaves, along the left edge
+abbrev pub depth : Tree → ℕ
+depth Empty = 0
+depth (Leaf b) = 0
+depth (Underfull' p a k b m c) = depth a + 1
+depth (Two' p a k b m c) = depth a + 1
+depth (Three' p a k b m c) = depth a + 1
+
+-- each node has two or three sides of one depth, and no leaf is too long
+abbrev pub IsTree : Tree → Type 0
+IsTree Empty = ⊤
+IsTree (Leaf b) = length b.value.items ≤ room
+IsTree (Underfull' p a k b m c) = ⊥
+IsTree (Two' p a k b m c) = IsTree a × IsTree b × (depth b ≡ depth a)
+IsTree (Three' p a k b m c) = IsTree a × IsTree b × IsTree c × (depth b ≡ depth a) × (depth c ≡ depth a)
+
+-- the tree's root, and its keys
+pub record IsSet (root : Tree) : Type 0 where
+  pub tree : IsTree root
+  pub ascends : StrictlyAscends (keys root)
+  pub small : AllByRecursion (λ k. k < 2 ^ 32) (keys root)
+
+-- a tree's root, and how many levels it has
+pub record IsRootedSet (root : Rooted) : Type 0 where
+  pub set : IsSet root.tree
+  pub height_is : root.height ≡ depth root.tree
+
+-- a tree, and how many levels it has
+pub record IsRooted (rooted : Rooted) : Type 0 where
+  pub tree_is : IsTree rooted.tree
+  pub height_is : rooted.height ≡ depth rooted.tree
+
+-- the keys of a tree and of what came off it
+abbrev pub keys_with_split : Tree → Split → List ℕ
+keys_with_split tree Fits = keys tree
+keys_with_split tree (Splits k right) = keys tree ++ k ∷ keys right
+
+-- a tree of this depth, and what came off it is one too
+abbrev pub IsTreeWithSplit : ℕ → Tree → Split → Type 0
+IsTreeWithSplit d tree Fits = IsTree tree × (depth tree ≡ d)
+IsTreeWithSplit d tree (Splits k right) = IsTree tree × IsTree right × (depth tree ≡ d) × (depth right ≡ d)
+
+-- a tree, but the root may have one side
+abbrev pub IsLoose : Tree → Type 0
+IsLoose Empty = ⊤
+IsLoose (Leaf b) = IsTree (Leaf b)
+IsLoose (Underfull' p a k b m c) = IsTree a
+IsLoose (Two' p a k b m c) = IsTree (Two' p a k b m c)
+IsLoose (Three' p a k b m c) = IsTree (Three' p a k b m c)
+
+-- the root has one side or two
+abbrev pub IsNarrow : Tree → Type 0
+IsNarrow Empty = ⊥
+IsNarrow (Leaf b) = ⊥
+IsNarrow (Underfull' p a k b m c) = ⊤
+IsNarrow (Two' p a k b m c) = ⊤
+IsNarrow (Three' p a k b m c) = ⊥
+
+-- the root has three sides
+abbrev pub IsWide : Tree → Type 0
+IsWide Empty = ⊥
+IsWide (Leaf b) = ⊥
+IsWide (Underfull' p a k b m c) = ⊥
+IsWide (Two' p a k b m c) = ⊥
+IsWide (Three' p a k b m c) = ⊤
+
+-- the tree is a leaf alone
+abbrev pub IsLeaf : Tree → Type 0
+IsLeaf Empty = ⊤
+IsLeaf (Leaf b) = ⊤
+IsLeaf (Underfull' p a k b m c) = ⊥
+IsLeaf (Two' p a k b m c) = ⊥
+IsLeaf (Three' p a k b m c) = ⊥

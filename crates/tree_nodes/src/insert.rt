@@ -1,0 +1,172 @@
+//! A key put into a tree, in place: one descent, which takes no memory for nodes where the key's leaf has room. Where
+//! that is full, boxes for the nodes that may be split are made first, and the descent is made again.
+ghost use Rattle.std.specs.Prelude.{◌≡◌, length, ◌+◌, ◌<◌, ◌≤◌, ◌^◌, IfOk, OnErr};
+ghost use Rattle.tree_nodes.specs.declared.node.Tree.TheVariants.{Empty};
+ghost use Rattle.key_sets.specs.Keys.{StrictlyAscends};
+ghost use Rattle.tree_nodes.specs.Nodes.{keys, depth, IsTree, IsLeaf, IsRooted, keys_with_split, IsTreeWithSplit};
+ghost use Rattle.tree_nodes.specs.Code.Insertions.{IsInserted, IsOutcome, IsAnswer, OnSplits};
+
+use crate::leaf::{ROOM, insert_in_halves, is_at, leaf_of, place};
+use crate::node::{Node, Rooted, Split, Tree};
+use crate::pool::Pool;
+use crate::split_node::{grow_first, grow_root, grow_second, grow_third};
+use std::alloc::{AllocError, Global};
+
+/// What an insertion came to.
+#[derive(Drop)]
+pub enum Outcome {
+    /// The key was there.
+    Found,
+    Added,
+    /// Nothing was changed: the leaf where the key belongs has no room, and there are too few boxes to split it.
+    Full,
+    /// Nothing was changed.
+    OutOfMemory,
+}
+
+impl Outcome {
+    /// Whether the key is new.
+    fn answer(self) -> Result<bool, AllocError>
+        ensures { IsAnswer self result }
+    {
+        match self {
+            Outcome::Found => Ok(false),
+            Outcome::Added => Ok(true),
+            Outcome::Full | Outcome::OutOfMemory => Err(AllocError),
+        }
+    }
+}
+
+/// Puts the key into a whole tree, and says whether it is new.
+pub fn insert_at_root(alloc: Global, root: &mut Rooted, key: u32) -> Result<bool, AllocError>
+    requires rooted { IsRooted root.old }
+    requires ascends { StrictlyAscends (keys root.old.tree) }
+    requires fits { root.old.height < 2 ^ 63 }
+    ensures rooted { IsRooted root.new }
+    ensures ok { IfOk result (λ added. IsInserted key (keys root.old.tree) (keys root.new.tree) added) }
+    ensures err { OnErr result (keys root.new.tree ≡ keys root.old.tree) }
+{
+    let mut pool = Pool::new(alloc);
+    let outcome = insert_with(alloc, root, key, &mut pool.nodes);
+    if let Outcome::Full = &outcome {
+        pool.hold(root.height + 1)?;
+        insert_with(alloc, root, key, &mut pool.nodes).answer()
+    } else {
+        outcome.answer()
+    }
+}
+
+/// The insertion into a whole tree with these boxes.
+#[tactic(auto, using(crate::proofs::TreeLemmas::Inserting::growing))]
+fn insert_with(alloc: Global, root: &mut Rooted, key: u32, boxes: &mut Vec<Box<Node>>) -> Outcome
+    requires rooted { IsRooted root.old }
+    requires ascends { StrictlyAscends (keys root.old.tree) }
+    requires fits { root.old.height ≤ 2 ^ 63 }
+    ensures rooted { IsRooted root.new }
+    ensures height { root.new.height ≤ root.old.height + 1 }
+    ensures outcome { IsOutcome key (keys root.old.tree) (keys root.new.tree) result }
+{
+    let (outcome, split) = insert_in(alloc, &mut root.tree, key, 0, boxes);
+    grow_root(root, split, boxes);
+    outcome
+}
+
+/// The insertion into a tree, of which a part may be split off. `above` is how many nodes are above it: one more box
+/// must be there for each of these, where a part is.
+#[tactic(auto, using(crate::proofs::TreeLemmas::Inserting::growing))]
+pub fn insert_in(
+    alloc: Global,
+    tree: &mut Tree,
+    key: u32,
+    above: usize,
+    boxes: &mut Vec<Box<Node>>,
+) -> (Outcome, Split)
+    requires tree { IsTree tree.old }
+    requires ascends { StrictlyAscends (keys tree.old) }
+    requires fits { above + depth tree.old < 2 ^ 64 }
+    ensures outcome { IsOutcome key (keys tree.old) (keys_with_split tree.new result.1) result.0 }
+    ensures split { IsTreeWithSplit (depth tree.old) tree.new result.1 }
+    ensures boxes { OnSplits result.1 (above < length boxes.new.items) }
+{
+    match tree {
+        Tree::Empty | Tree::Leaf(_) => insert_in_leaf(alloc, tree, key, above, boxes.len()),
+        Tree::Two(node) => {
+            if key < node.low {
+                let (outcome, split) = insert_in(alloc, &mut node.first, key, above + 1, boxes);
+                (outcome, grow_first(tree, split, boxes))
+            } else if node.low < key {
+                let (outcome, split) = insert_in(alloc, &mut node.second, key, above + 1, boxes);
+                (outcome, grow_second(tree, split, boxes))
+            } else {
+                (Outcome::Found, Split::Fits)
+            }
+        }
+        Tree::Three(node) => {
+            if key < node.low {
+                let (outcome, split) = insert_in(alloc, &mut node.first, key, above + 1, boxes);
+                (outcome, grow_first(tree, split, boxes))
+            } else if key == node.low || key == node.high {
+                (Outcome::Found, Split::Fits)
+            } else if key < node.high {
+                let (outcome, split) = insert_in(alloc, &mut node.second, key, above + 1, boxes);
+                (outcome, grow_second(tree, split, boxes))
+            } else {
+                let (outcome, split) = insert_in(alloc, &mut node.third, key, above + 1, boxes);
+                (outcome, grow_third(tree, split, boxes))
+            }
+        }
+        Tree::Underfull(_) => unreachable!(),
+    }
+}
+
+/// The insertion into a tree without nodes, which is split only where there are boxes enough.
+fn insert_in_leaf(
+    alloc: Global,
+    tree: &mut Tree,
+    key: u32,
+    above: usize,
+    boxes: usize,
+) -> (Outcome, Split)
+    requires bottom { IsLeaf tree.old }
+    requires tree { IsTree tree.old }
+    requires ascends { StrictlyAscends (keys tree.old) }
+    ensures outcome { IsOutcome key (keys tree.old) (keys_with_split tree.new result.1) result.0 }
+    ensures split { IsTreeWithSplit 0 tree.new result.1 }
+    ensures boxes { OnSplits result.1 (above < boxes) }
+{
+    let Tree::Leaf(leaf) = tree else {
+        return (insert_first(alloc, tree, key), Split::Fits);
+    };
+    let at = place(leaf, key);
+    if is_at(leaf, at, key) {
+        (Outcome::Found, Split::Fits)
+    } else if leaf.len() < ROOM {
+        match leaf.insert(at, key) {
+            Ok(()) => (Outcome::Added, Split::Fits),
+            Err(_) => (Outcome::OutOfMemory, Split::Fits),
+        }
+    } else if above < boxes {
+        match insert_in_halves(alloc, leaf, at, key) {
+            Ok((middle, after)) => (Outcome::Added, Split::Splits(middle, Tree::Leaf(after))),
+            Err(_) => (Outcome::OutOfMemory, Split::Fits),
+        }
+    } else {
+        (Outcome::Full, Split::Fits)
+    }
+}
+
+/// Makes a leaf of one key of a tree that has none.
+fn insert_first(alloc: Global, tree: &mut Tree, key: u32) -> Outcome
+    requires empty { tree.old ≡ Empty }
+    ensures outcome { IsOutcome key (keys tree.old) (keys tree.new) result }
+    ensures tree { IsTree tree.new }
+    ensures depth { depth tree.new ≡ 0 }
+{
+    match leaf_of(alloc, key) {
+        Ok(leaf) => {
+            *tree = Tree::Leaf(leaf);
+            Outcome::Added
+        }
+        Err(_) => Outcome::OutOfMemory,
+    }
+}

@@ -59,21 +59,24 @@ HasSplitFirst split Empty = ⊥
 HasSplitFirst split (Leaf b) = ⊥
 HasSplitFirst split (Underfull' p a k b m c) = ⊥
 HasSplitFirst split (Two' p a k b m c) = IsTreeWithSplit (depth b) a split × IsTree b
-HasSplitFirst split (Three' p a k b m c) = IsTreeWithSplit (depth b) a split × IsTree b × IsTree c × (depth c ≡ depth b)
+HasSplitFirst split (Three' p a k b m c) =
+    IsTreeWithSplit (depth b) a split × IsTree b × IsTree c × (depth c ≡ depth b)
 
 abbrev pub HasSplitSecond : Split → Tree → Type 0
 HasSplitSecond split Empty = ⊥
 HasSplitSecond split (Leaf b) = ⊥
 HasSplitSecond split (Underfull' p a k b m c) = ⊥
 HasSplitSecond split (Two' p a k b m c) = IsTree a × IsTreeWithSplit (depth a) b split
-HasSplitSecond split (Three' p a k b m c) = IsTree a × IsTreeWithSplit (depth a) b split × IsTree c × (depth c ≡ depth a)
+HasSplitSecond split (Three' p a k b m c) =
+    IsTree a × IsTreeWithSplit (depth a) b split × IsTree c × (depth c ≡ depth a)
 
 abbrev pub HasSplitThird : Split → Tree → Type 0
 HasSplitThird split Empty = ⊥
 HasSplitThird split (Leaf b) = ⊥
 HasSplitThird split (Underfull' p a k b m c) = ⊥
 HasSplitThird split (Two' p a k b m c) = ⊥
-HasSplitThird split (Three' p a k b m c) = IsTree a × IsTree b × (depth b ≡ depth a) × IsTreeWithSplit (depth a) c split
+HasSplitThird split (Three' p a k b m c) =
+    IsTree a × IsTree b × (depth b ≡ depth a) × IsTreeWithSplit (depth a) c split
 
 -- the keys of a node, with that part
 abbrev pub with_first_split : Split → Tree → List ℕ

@@ -7,17 +7,17 @@ ghost use Rattle.key_sets.specs.Splits.{IsSplit};
 #[doc(hidden)]
 pub mod join;
 
-use tree_nodes::Pool;
-use tree_nodes::insert::insert_at_root;
 use crate::tree::join::put_after;
-use tree_nodes::node::Rooted;
-use tree_nodes::remove::{pop_first, remove_in, shrink_root};
-use tree_nodes::search::{find_in, next_in};
 use crate::trees::Trees;
 use crate::trees::cut::{Cut, cut_at};
 use crate::trees::join::{join_many, join_reversed};
 use std::alloc::{AllocError, Global};
 use std::marker::Model;
+use tree_nodes::Pool;
+use tree_nodes::insert::insert_at_root;
+use tree_nodes::node::Rooted;
+use tree_nodes::remove::{pop_first, remove_in, shrink_root};
+use tree_nodes::search::{find_in, next_in};
 
 /// A set of numbers, as a balanced tree. Contracts see it as the list of its keys, which strictly ascends.
 #[derive(Drop)]

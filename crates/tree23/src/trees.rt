@@ -9,8 +9,8 @@ ghost use Rattle.tree23.specs.Code.Cuts.{CanStand};
 pub mod cut;
 pub mod join;
 
-use tree_nodes::node::{Rooted, Tree};
 use std::alloc::{AllocError, Global};
+use tree_nodes::node::{Rooted, Tree};
 
 /// A key, and the tree after it.
 #[derive(Drop)]

@@ -2,12 +2,12 @@
 ghost use Rattle.std.specs.Prelude.{◌≡◌, ◌+◌, ◌<◌, ◌^◌, ◌++◌, ◌∷◌, length, IfOk, OnOk};
 ghost use Rattle.tree_nodes.specs.Nodes.{keys, depth, IsTree, IsRooted, keys_with_split, IsTreeWithSplit};
 
+use std::alloc::AllocError;
+use std::mem;
 use tree_nodes::Pool;
 use tree_nodes::leaf::ROOM;
 use tree_nodes::node::{Rooted, Split, Tree};
 use tree_nodes::split_node::{grow_first, grow_root, grow_second, grow_third};
-use std::alloc::AllocError;
-use std::mem;
 
 /// Puts a key and a tree after one of the same depth. Two leaves become one where one has room for both and the key.
 fn join_equal(low: &mut Tree, key: u32, high: Tree, pool: &mut Pool) -> Result<Split, AllocError>

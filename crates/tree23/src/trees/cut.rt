@@ -5,11 +5,11 @@ ghost use Rattle.tree_nodes.specs.Nodes.{keys, depth, IsTree, IsRooted};
 ghost use Rattle.tree23.specs.SideBySide.{AreTrees};
 ghost use Rattle.tree23.specs.Code.Cuts.{CanStand, low_keys, whole_keys, IsOpenCut, IsLeft, IsCut};
 
+use crate::trees::Trees;
+use std::alloc::AllocError;
 use tree_nodes::Pool;
 use tree_nodes::leaf::cut_leaf;
 use tree_nodes::node::{Rooted, Tree};
-use crate::trees::Trees;
-use std::alloc::AllocError;
 
 /// The sides of a cut, and the key before the tree that is being cut, if there is one. On the high side the
 /// entries stand from the last to the first.

@@ -3,11 +3,11 @@ ghost use Rattle.std.specs.Prelude.{◌≡◌, ◌+◌, ◌<◌, ◌≤◌, ◌^
 ghost use Rattle.tree_nodes.specs.Nodes.{keys, IsRooted};
 ghost use Rattle.tree23.specs.SideBySide.{in_order, in_reverse, AreTrees};
 
-use tree_nodes::Pool;
 use crate::tree::join::put_after;
-use tree_nodes::node::Rooted;
 use crate::trees::Trees;
 use std::alloc::AllocError;
+use tree_nodes::Pool;
+use tree_nodes::node::Rooted;
 
 /// Makes one of the last two trees.
 fn join_last(trees: &mut Trees, pool: &mut Pool) -> Result<(), AllocError>

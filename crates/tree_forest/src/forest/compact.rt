@@ -10,10 +10,10 @@ ghost use Rattle.tree_forest.specs.Code.Merges.{if_merged, IsTakenOff};
 
 use crate::pool::ForestPool;
 use std::alloc::AllocError;
-use tree23::tree::join::put_after;
 use tree_nodes::leaf::ROOM;
 use tree_nodes::node::{Rooted, Tree, three, two};
 use tree_nodes::remove::{pop_first, shrink_root};
+use tree23::tree::join::put_after;
 use tree23::trees::join::join_many;
 use tree23::trees::{KeyedTree, Trees};
 

@@ -7,5 +7,6 @@ pub use Rattle.seq_objects.specs.Pairs
 pub use Rattle.sp_order.specs.Precedence
 pub use Rattle.sp_order.specs.Jobs
 pub mod Book
+pub mod Serving
 pub mod Lawful
 pub mod Text

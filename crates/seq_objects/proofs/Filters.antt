@@ -7,7 +7,7 @@ use Rattle.seq_objects.specs.Batches.{Object, Counter, Stack, Tree, Queue, AreOn
 use Rattle.seq_objects.specs.Pairs.{EachPair}
 
 -- what holds of each element holds of each that passes
-each_filter : {A : Type 0} (P : A → Type 0) (passes : A → Bool) (xs : List A) → AllByRecursion P xs → AllByRecursion P (filter passes xs)
+pub each_filter : {A : Type 0} (P : A → Type 0) (passes : A → Bool) (xs : List A) → AllByRecursion P xs → AllByRecursion P (filter passes xs)
 each_filter P passes [] each = tt
 each_filter P passes (x ∷ xs) each = step (passes x) (each_filter P passes xs each.1) where
   step : (b : Bool) → AllByRecursion P (filter passes xs) → AllByRecursion P (cond b (x ∷ filter passes xs) (filter passes xs))

@@ -3,7 +3,7 @@ pub mod CallOrder
 mod Classes
 pub mod Elements
 mod Keys
-mod Apart
-mod Filters
-mod Meets
+pub mod Apart
+pub mod Filters
+pub mod Meets
 mod Members

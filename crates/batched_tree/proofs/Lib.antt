@@ -1,4 +1,5 @@
 mod BeginLemmas
 mod EndLemmas
 mod Law
+pub mod PieceCount
 mod ServeLemmas

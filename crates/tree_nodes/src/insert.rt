@@ -14,7 +14,7 @@ use std::alloc::{AllocError, Global};
 
 /// What an insertion came to.
 #[derive(Drop)]
-pub enum Outcome {
+pub(crate) enum Outcome {
     /// The key was there.
     Found,
     Added,
@@ -74,7 +74,7 @@ fn insert_with(alloc: Global, root: &mut Rooted, key: u32, boxes: &mut Vec<Box<N
 /// The insertion into a tree, of which a part may be split off. `above` is how many nodes are above it: one more box
 /// must be there for each of these, where a part is.
 #[tactic(auto, using(crate::proofs::TreeLemmas::Inserting::growing))]
-pub fn insert_in(
+pub(crate) fn insert_in(
     alloc: Global,
     tree: &mut Tree,
     key: u32,

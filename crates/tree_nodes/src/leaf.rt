@@ -33,7 +33,7 @@ pub fn place(leaf: &[u32], key: u32) -> usize
 
 /// Whether a leaf has the key, where `at` is the number of its keys below.
 #[inline]
-pub fn is_at(leaf: &[u32], at: usize, key: u32) -> bool
+pub(crate) fn is_at(leaf: &[u32], at: usize, key: u32) -> bool
     requires ascends { StrictlyAscends leaf.now }
     requires split { IsSplit key leaf.now (take at leaf.now) (drop at leaf.now) }
     ensures { result ≡ has key leaf.now }
@@ -43,7 +43,7 @@ pub fn is_at(leaf: &[u32], at: usize, key: u32) -> bool
 
 /// A leaf without keys, in which there is memory for one key too many.
 #[inline]
-pub fn empty_leaf(alloc: Global) -> Result<Box<Vec<u32>>, AllocError>
+pub(crate) fn empty_leaf(alloc: Global) -> Result<Box<Vec<u32>>, AllocError>
     ensures empty { IfOk result (λ b. b.value.items ≡ []) }
     ensures memory { IfOk result (λ b. room < b.value.cap) }
 {
@@ -53,7 +53,7 @@ pub fn empty_leaf(alloc: Global) -> Result<Box<Vec<u32>>, AllocError>
 }
 
 /// A leaf with one key.
-pub fn leaf_of(alloc: Global, key: u32) -> Result<Box<Vec<u32>>, AllocError>
+pub(crate) fn leaf_of(alloc: Global, key: u32) -> Result<Box<Vec<u32>>, AllocError>
     ensures { IfOk result (λ b. b.value.items ≡ key ∷ []) }
 {
     let mut leaf = empty_leaf(alloc)?;
@@ -63,7 +63,7 @@ pub fn leaf_of(alloc: Global, key: u32) -> Result<Box<Vec<u32>>, AllocError>
 
 /// Puts a key that is not there into a full leaf, and splits the key in the middle and a leaf of the keys after it off.
 /// Nothing is changed where there is no memory.
-pub fn insert_in_halves(
+pub(crate) fn insert_in_halves(
     alloc: Global,
     leaf: &mut Vec<u32>,
     at: usize,

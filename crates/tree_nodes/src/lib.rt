@@ -8,7 +8,7 @@ pub mod insert;
 pub mod leaf;
 pub mod node;
 pub mod pool;
-pub mod rebalance;
+mod rebalance;
 pub mod remove;
 pub mod search;
 pub mod split_node;

@@ -87,7 +87,7 @@ impl Rooted {
 impl Node {
     /// Takes the first side out.
     #[inline]
-    pub fn take_first(&mut self) -> Tree
+    pub(crate) fn take_first(&mut self) -> Tree
         ensures { result ≡ self.old.first }
     {
         let Node { first, .. } = mem::replace(self, empty_node());
@@ -127,7 +127,7 @@ impl Node {
 
 /// A node with nothing in it.
 #[inline]
-pub fn empty_node() -> Node {
+pub(crate) fn empty_node() -> Node {
     Node {
         first: Tree::Empty,
         low: 0,
@@ -138,7 +138,7 @@ pub fn empty_node() -> Node {
 }
 
 /// One side alone, in a node that is there.
-pub fn underfull(mut node: Box<Node>, a: Tree) -> Tree
+pub(crate) fn underfull(mut node: Box<Node>, a: Tree) -> Tree
     requires a { IsTree a }
     ensures keys { keys result ≡ keys a }
     ensures loose { IsLoose result }

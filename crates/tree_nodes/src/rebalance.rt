@@ -65,7 +65,7 @@ fn is_short(tree: &Tree) -> bool
 
 /// Rebalances a node one side of which lost a key.
 #[tactic(auto, using(crate::proofs::TreeLemmas::Sides::whole))]
-pub fn rebalance(tree: &mut Tree)
+pub(crate) fn rebalance(tree: &mut Tree)
     requires { IsShort tree.old }
     ensures keys { keys tree.new ≡ keys tree.old }
     ensures loose { IsLoose tree.new }

@@ -1,0 +1,5 @@
+pub mod Serial
+pub mod Histories
+pub mod Beginning
+pub mod Ending
+pub mod Whole

@@ -1,0 +1,86 @@
+-- A history with one more batch is a history.
+use Rattle.std.proofs.Common.{ℕ, ◌≡◌, ◌≢◌, ◌<◌, ◌+◌, ◌^◌, List, [], ◌∷◌, ◌++◌, length, map, arith, refl, sym, ap, subst, ◌∙◌, append-nil, append_assoc, length-append}
+use Rattle.std.specs.List.{AllByRecursion}
+use Rattle.seq_objects.specs.declared.call.Call.{Call}
+use Rattle.seq_objects.specs.BatchOrder.{ComesFirst}
+use Rattle.seq_objects.specs.Objects.{Objects, opening, after}
+use Rattle.seq_objects.specs.Pairs.{EachPair, AreDistinct}
+use Rattle.batch_history.specs.declared.batch.Entry.{Entry}
+use Rattle.batch_history.specs.Book.{flat, IsLegalFrom, IsBatch, IsHistory}
+use Rattle.batch_history.specs.Serving.{served, call_in, calls_in}
+use Rattle.launch_batch.specs.Calls.{MayServe, IsServiceOf}
+use Rattle.launch_batch.specs.Code.Contents.{IsNarrow}
+use Rattle.seq_objects.proofs.Elements.{each_append}
+use Rattle.launch_batch.proofs.ListLemmas.Elements.{each_mapped, each_unmapped, distinct_append, apart_turned, map_append}
+use Rattle.launch_batch.proofs.ListLemmas.Same.{each_same, distinct_same, length_same}
+
+pub flat_append : (book : List (List Entry)) (batch : List Entry) → flat (book ++ batch ∷ []) ≡ flat book ++ batch
+flat_append [] batch = append-nil batch
+flat_append (first ∷ book) batch = ap (λ l. first ++ l) (flat_append book batch) ∙ sym (append_assoc first (flat book) batch)
+
+pub served_append : (o : Objects) (xs ys : List Entry) → served o (xs ++ ys) ≡ served (served o xs) ys
+served_append o [] ys = refl
+served_append o (e ∷ xs) ys = served_append (after o e.op) xs ys
+
+legal_append : (o : Objects) (xs ys : List Entry) → IsLegalFrom o xs → IsLegalFrom (served o xs) ys → IsLegalFrom o (xs ++ ys)
+legal_append o [] ys h g = g
+legal_append o (e ∷ xs) ys h g = (h.0, legal_append (after o e.op) xs ys h.1 g)
+
+pairs_unmapped : {A B : Type 0} (f : A → B) (R : B → B → Type 0) (xs : List A) → EachPair R (map f xs) → EachPair (λ a b. R (f a) (f b)) xs
+pairs_unmapped f R [] h = tt
+pairs_unmapped f R (x ∷ xs) h = (each_unmapped f (R (f x)) xs h.0, pairs_unmapped f R xs h.1)
+
+workers_are : (batch : List Entry) → map (λ (c : Call). c.worker) (calls_in batch) ≡ map (λ (e : Entry). e.worker) batch
+workers_are [] = refl
+workers_are (e ∷ batch) = ap (λ l. e.worker ∷ l) (workers_are batch)
+
+leaves_are : (batch : List Entry) → map (λ (c : Call). c.leaf) (calls_in batch) ≡ map (λ (e : Entry). e.leaf) batch
+leaves_are [] = refl
+leaves_are (e ∷ batch) = ap (λ l. e.leaf ∷ l) (leaves_are batch)
+
+pub length_calls : (batch : List Entry) → length (calls_in batch) ≡ length batch
+length_calls [] = refl
+length_calls (e ∷ batch) = omega (arith, length_calls batch)
+
+not_empty : (batch : List Entry) → 0 < length batch → batch ≢ []
+not_empty [] some e = absurd (omega (arith, some))
+not_empty (b ∷ batch) some e = cc
+
+module _ (book : List (List Entry)) (calls : List Call) (batch : List Entry) (may : MayServe book calls) (is : IsServiceOf book calls batch) where
+  -- there are as many entries as calls
+  pub many : length batch ≡ length calls
+  many = sym (length_calls batch) ∙ length_same calls (calls_in batch) is.same
+
+  is_batch : IsBatch batch
+  is_batch = record {
+    some = not_empty batch (let n = many in omega (arith, n, may.some));
+    order = pairs_unmapped call_in (λ (a b : Call). ComesFirst a.op a.worker b.op b.worker) batch is.order;
+    workers = subst AreDistinct (workers_are batch) (distinct_same (λ (c : Call). c.worker) calls (calls_in batch) is.same may.workers);
+  }
+
+  abbrev earlier : List ℕ
+  earlier = map (λ (e : Entry). e.leaf) (flat book)
+
+  apart : AllByRecursion (λ leaf. AllByRecursion (λ other. leaf ≢ other) earlier) (map (λ (e : Entry). e.leaf) batch)
+  apart = subst (AllByRecursion (λ leaf. AllByRecursion (λ other. leaf ≢ other) earlier)) (leaves_are batch)
+      (each_mapped (λ (c : Call). c.leaf) (λ (c : Call). AllByRecursion (λ other. c.leaf ≢ other) earlier) (λ leaf. AllByRecursion (λ other. leaf ≢ other) earlier) (λ c other. other) (calls_in batch)
+      (each_same (λ (c : Call). AllByRecursion (λ other. c.leaf ≢ other) earlier) calls (calls_in batch) is.same
+      (each_unmapped (λ (c : Call). c.leaf) (λ leaf. AllByRecursion (λ other. leaf ≢ other) earlier) calls may.new)))
+
+  pub history_made : IsHistory book → AllByRecursion IsNarrow (calls_in batch) → IsHistory (book ++ batch ∷ [])
+  history_made h narrow = record {
+    legal = subst (IsLegalFrom opening) (sym (flat_append book batch)) (legal_append opening (flat book) batch h.legal is.replies);
+    batches = each_append IsBatch book (batch ∷ []) h.batches (is_batch, tt);
+    workers = subst (AllByRecursion (λ (e : Entry). e.worker < 32)) (sym (flat_append book batch)) (each_append (λ (e : Entry). e.worker < 32) (flat book) batch h.workers
+        (each_unmapped call_in (λ (c : Call). c.worker < 32) batch (each_same (λ (c : Call). c.worker < 32) calls (calls_in batch) is.same may.below)));
+    leaves = subst (λ l. AreDistinct (map (λ (e : Entry). e.leaf) l)) (sym (flat_append book batch)) (subst AreDistinct (sym (map_append (λ (e : Entry). e.leaf) (flat book) batch))
+        (distinct_append earlier (map (λ (e : Entry). e.leaf) batch) h.leaves (subst AreDistinct (leaves_are batch) (distinct_same (λ (c : Call). c.leaf) calls (calls_in batch) is.same may.leaves))
+        (apart_turned (map (λ (e : Entry). e.leaf) batch) earlier apart)));
+    numbers = subst (λ l. AllByRecursion (λ leaf. leaf < 2 ^ 32) (map (λ (e : Entry). e.leaf) l)) (sym (flat_append book batch)) (subst (AllByRecursion (λ leaf. leaf < 2 ^ 32)) (sym (map_append (λ (e : Entry). e.leaf) (flat book) batch))
+        (each_append (λ leaf. leaf < 2 ^ 32) earlier (map (λ (e : Entry). e.leaf) batch) h.numbers
+        (subst (AllByRecursion (λ leaf. leaf < 2 ^ 32)) (leaves_are batch) (each_mapped (λ (c : Call). c.leaf) IsNarrow (λ leaf. leaf < 2 ^ 32) (λ c n. n.0) (calls_in batch) narrow))));
+  }
+
+-- how long the book is then
+pub length_book : (book : List (List Entry)) (batch : List Entry) → length (flat (book ++ batch ∷ [])) ≡ length (flat book) + length batch
+length_book book batch = ap length (flat_append book batch) ∙ length-append (flat book) batch

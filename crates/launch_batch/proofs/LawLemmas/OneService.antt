@@ -1,0 +1,74 @@
+-- Calls have one batch order, and one service.
+use Rattle.std.proofs.Common.{◌≡◌, inl, inr, List, [], ◌∷◌, refl, sym, ap, subst, ◌∙◌}
+use Rattle.seq_objects.specs.declared.call.Call.{Call}
+use Rattle.seq_objects.specs.declared.reply.Reply.{Reply}
+use Rattle.seq_objects.specs.Objects.{Objects, after, reply_to}
+use Rattle.seq_objects.specs.Batches.{AreInBatchOrder}
+use Rattle.seq_objects.proofs.CallOrder.{IsFirst, one_way}
+use Rattle.batch_history.specs.declared.batch.Entry.{Entry}
+use Rattle.batch_history.specs.Book.{IsLegalFrom}
+use Rattle.batch_history.specs.Serving.{served_book, call_in, calls_in}
+use Rattle.launch_batch.specs.Calls.{IsServiceOf}
+use Rattle.launch_batch.proofs.LawLemmas.Among.{Among, each_among, among_same, same_among}
+
+not_both : (x y : Call) → IsFirst x y → IsFirst y x → ⊥
+not_both x y first second = one_way x.op y.op x.worker y.worker first second
+
+-- two lists in batch order with the same calls are one
+one_order : (xs ys : List Call) → AreInBatchOrder xs → AreInBatchOrder ys → ((z : Call) → Among z xs → Among z ys) → ((z : Call) → Among z ys → Among z xs) → xs ≡ ys
+one_order [] [] up up' to from = refl
+one_order [] (y ∷ ys) up up' to from = absurd (from y (inl refl))
+one_order (x ∷ xs) [] up up' to from = absurd (to x (inl refl))
+one_order (x ∷ xs) (y ∷ ys) up up' to from = rw (first, one_order xs ys up.1 up'.1 to_rest from_rest) refl where
+  first : x ≡ y
+  first = elim (to x (inl refl)) [
+    | inl is ↦ is
+    | inr later ↦ elim (from y (inl refl)) [
+      | inl is ↦ sym is
+      | inr later' ↦ absurd (not_both x y (each_among (IsFirst x) xs y up.0 later') (each_among (IsFirst y) ys x up'.0 later))
+    ]
+  ]
+
+  to_rest : (z : Call) → Among z xs → Among z ys
+  to_rest z there = elim (to z (inr there)) [
+    | inl is ↦ let before : IsFirst x z = each_among (IsFirst x) xs z up.0 there in absurd (not_both x x (subst (IsFirst x) (is ∙ sym first) before) (subst (IsFirst x) (is ∙ sym first) before))
+    | inr more ↦ more
+  ]
+
+  from_rest : (z : Call) → Among z ys → Among z xs
+  from_rest z there = elim (from z (inr there)) [
+    | inl is ↦ let before : IsFirst y z = each_among (IsFirst y) ys z up'.0 there in absurd (not_both y y (subst (IsFirst y) (is ∙ first) before) (subst (IsFirst y) (is ∙ first) before))
+    | inr more ↦ more
+  ]
+
+abbrev make : Call → Reply → Entry
+make call reply = record { leaf = call.leaf; worker = call.worker; op = call.op; reply = reply }
+
+entry_same : (e f : Entry) → call_in e ≡ call_in f → e.reply ≡ f.reply → e ≡ f
+entry_same e f calls replies = ap (λ c. make c e.reply) calls ∙ ap (make (call_in f)) replies
+
+first_call : (a b : Call) (xs ys : List Call) → a ∷ xs ≡ b ∷ ys → a ≡ b
+first_call a b xs ys is = cc
+
+other_calls : (a b : Call) (xs ys : List Call) → a ∷ xs ≡ b ∷ ys → xs ≡ ys
+other_calls a b xs ys is = cc
+
+-- the calls and the objects before them fix the replies
+one_reply_each : (objects : Objects) (batch other : List Entry) → calls_in batch ≡ calls_in other → IsLegalFrom objects batch → IsLegalFrom objects other → batch ≡ other
+one_reply_each objects [] [] same legal legal' = refl
+one_reply_each objects [] (f ∷ other) same legal legal' = absurd cc
+one_reply_each objects (e ∷ batch) [] same legal legal' = absurd cc
+one_reply_each objects (e ∷ batch) (f ∷ other) same legal legal' =
+    let call = first_call (call_in e) (call_in f) (calls_in batch) (calls_in other) same in
+    let op = ap (λ (c : Call). c.op) call in
+    let reply : e.reply ≡ f.reply = legal.0 ∙ ap (reply_to objects) op ∙ sym legal'.0 in
+    let later = subst (λ o. IsLegalFrom (after objects o) batch) op legal.1 in
+    let rest = one_reply_each (after objects f.op) batch other (other_calls (call_in e) (call_in f) (calls_in batch) (calls_in other) same) later legal'.1 in
+    ap (λ g. g ∷ batch) (entry_same e f call reply) ∙ ap (λ l. f ∷ l) rest
+
+pub one_service : (book : List (List Entry)) (calls : List Call) (batch other : List Entry) → IsServiceOf book calls batch → IsServiceOf book calls other → batch ≡ other
+one_service book calls batch other is is' =
+    let order = one_order (calls_in batch) (calls_in other) is.order is'.order
+    (λ z there. among_same calls (calls_in other) is'.same z (same_among calls (calls_in batch) is.same z there))
+    (λ z there. among_same calls (calls_in batch) is.same z (same_among calls (calls_in other) is'.same z there)) in
+    one_reply_each (served_book book) batch other order is.replies is'.replies

@@ -1,0 +1,5 @@
+mod ListLemmas
+mod MergeLemmas
+mod PieceLemmas
+mod BatchLemmas
+mod LawLemmas

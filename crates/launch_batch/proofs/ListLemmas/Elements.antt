@@ -1,0 +1,32 @@
+-- What holds of the elements of lists, and of what they are mapped to.
+use Rattle.std.proofs.Common.{ℕ, ◌≡◌, ◌≢◌, List, [], ◌∷◌, ◌++◌, map, refl, sym, ap}
+use Rattle.std.specs.List.{AllByRecursion}
+use Rattle.seq_objects.specs.Pairs.{AreDistinct}
+use Rattle.seq_objects.proofs.Elements.{each_append, each_so}
+
+-- what follows of what each element is mapped to
+pub each_mapped : {A B : Type 0} (f : A → B) (P : A → Type 0) (Q : B → Type 0) → ((a : A) → P a → Q (f a)) → (xs : List A) → AllByRecursion P xs → AllByRecursion Q (map f xs)
+each_mapped f P Q g [] h = tt
+each_mapped f P Q g (x ∷ xs) h = (g x h.0, each_mapped f P Q g xs h.1)
+
+-- and the other way round
+pub each_unmapped : {A B : Type 0} (f : A → B) (Q : B → Type 0) (xs : List A) → AllByRecursion Q (map f xs) → AllByRecursion (λ a. Q (f a)) xs
+each_unmapped f Q [] h = tt
+each_unmapped f Q (x ∷ xs) h = (h.0, each_unmapped f Q xs h.1)
+
+-- two lists of distinct numbers, with none in common
+pub distinct_append : (xs ys : List ℕ) → AreDistinct xs → AreDistinct ys → AllByRecursion (λ x. AllByRecursion (λ y. x ≢ y) ys) xs → AreDistinct (xs ++ ys)
+distinct_append [] ys h g apart = g
+distinct_append (x ∷ xs) ys h g apart = (each_append (λ y. x ≢ y) xs ys h.0 apart.0, distinct_append xs ys h.1 g apart.1)
+
+-- the other way round
+pub apart_turned : (xs ys : List ℕ) → AllByRecursion (λ x. AllByRecursion (λ y. x ≢ y) ys) xs → AllByRecursion (λ y. AllByRecursion (λ x. y ≢ x) xs) ys
+apart_turned xs [] h = tt
+apart_turned xs (y ∷ ys) h = (
+  each_so (λ x. AllByRecursion (λ z. x ≢ z) (y ∷ ys)) (λ x. y ≢ x) (λ x all same. all.0 (sym same)) xs h,
+  apart_turned xs ys (each_so (λ x. AllByRecursion (λ z. x ≢ z) (y ∷ ys)) (λ x. AllByRecursion (λ z. x ≢ z) ys) (λ x all. all.1) xs h),
+)
+
+pub map_append : {A B : Type 0} (f : A → B) (xs ys : List A) → map f (xs ++ ys) ≡ map f xs ++ map f ys
+map_append f [] ys = refl
+map_append f (x ∷ xs) ys = ap (λ l. f x ∷ l) (map_append f xs ys)

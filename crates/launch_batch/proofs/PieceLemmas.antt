@@ -1,0 +1,5 @@
+pub mod Placing
+pub mod Meeting
+pub mod Outs
+pub mod Ascending
+pub mod Counting

@@ -1,0 +1,56 @@
+-- The places of the pieces are those of the batch.
+use Rattle.std.proofs.Common.{◌≡◌, ℕ, List, [], ◌∷◌, ◌++◌, length, refl, ap, ◌∙◌}
+use Rattle.std.specs.List.{range_with_len}
+use Rattle.seq_objects.specs.declared.call.Call.{Call}
+use Rattle.seq_objects.specs.Objects.{Objects}
+use Rattle.seq_objects.specs.Batches.{Counter, Stack, Tree, Queue, calls_of}
+use Rattle.seq_objects.specs.Serial.{of_counter, of_stack, of_set, of_bag}
+use Rattle.batched_counter.specs.declared.piece.Piece.{Piece as CounterPiece}
+use Rattle.batched_counter.specs.Pieces.{Cut as CounterCut, piece_count as counter_count}
+use Rattle.batched_counter.proofs.PieceCount.{pieces_counted as counter_counted}
+use Rattle.batched_stack.specs.declared.piece.Piece.{Piece as StackPiece}
+use Rattle.batched_stack.specs.Pieces.{Cut as StackCut, piece_count as stack_count}
+use Rattle.batched_stack.specs.Stripes.{StackView}
+use Rattle.batched_stack.proofs.PieceCount.{pieces_counted as stack_counted}
+use Rattle.batched_tree.specs.declared.piece.Piece.{Piece as TreePiece}
+use Rattle.batched_tree.specs.Pieces.{Cut as TreeCut, piece_count as tree_count}
+use Rattle.batched_tree.proofs.PieceCount.{pieces_counted as tree_counted}
+use Rattle.batched_pq.specs.declared.piece.Piece.{Piece as QueuePiece}
+use Rattle.batched_pq.specs.Pieces.{Cut as QueueCut, piece_count as queue_count}
+use Rattle.batched_pq.proofs.PieceCount.{pieces_counted as queue_counted}
+use Rattle.batch_history.specs.declared.batch.Entry.{Entry}
+use Rattle.launch_batch.specs.Places.{row, places}
+use Rattle.launch_batch.specs.Code.Contents.{IsKept, contents}
+use Rattle.launch_batch.specs.Code.Halves.{IsCutIfCalled}
+
+-- the pieces of one structure
+row_is : {In : Type 0} (cut : Objects → List Call → List In → Type 0) (count : Objects → List Call → ℕ)
+    → ((objects : Objects) (calls : List Call) (ins : List In) → cut objects calls ins → length ins ≡ count objects calls)
+    → (first : ℕ) (objects : Objects) (calls : List Call) (ins : List In) → IsCutIfCalled cut objects calls ins
+    → range_with_len first (length ins) ≡ row first calls (count objects calls)
+row_is cut count counted first objects [] ins is = ap (λ (l : List _). range_with_len first (length l)) is
+row_is cut count counted first objects (call ∷ calls) ins is = ap (range_with_len first) (counted objects (call ∷ calls) ins is)
+
+abbrev places_by : Objects → List Call → List ℕ
+places_by objects calls =
+    row 0 (calls_of Counter calls) (counter_count objects (calls_of Counter calls))
+    ++ row 16 (calls_of Stack calls) (stack_count objects (calls_of Stack calls))
+    ++ row 32 (calls_of Tree calls) (tree_count objects (calls_of Tree calls))
+    ++ row 48 (calls_of Queue calls) (queue_count objects (calls_of Queue calls))
+
+four_same : (p q r s t u v w : List ℕ) → p ≡ t → q ≡ u → r ≡ v → s ≡ w → p ++ q ++ r ++ s ≡ t ++ u ++ v ++ w
+four_same p q r s t u v w i j k l = rw (i, j, k, l) refl
+
+pub rows_are : (book : List (List Entry)) (ordered : List Call) (number : ℕ) (view : StackView) (keys bag : List ℕ)
+    (counter : List CounterPiece) (stack : List StackPiece) (tree : List TreePiece) (queue : List QueuePiece) → IsKept number view keys bag book
+    → IsCutIfCalled CounterCut (of_counter number) (calls_of Counter ordered) counter → IsCutIfCalled StackCut (of_stack view.items) (calls_of Stack ordered) stack
+    → IsCutIfCalled TreeCut (of_set keys) (calls_of Tree ordered) tree → IsCutIfCalled QueueCut (of_bag bag) (calls_of Queue ordered) queue
+    → range_with_len 0 (length counter) ++ range_with_len 16 (length stack) ++ range_with_len 32 (length tree) ++ range_with_len 48 (length queue) ≡ places book ordered
+rows_are book ordered number view keys bag counter stack tree queue kept i j k l =
+    let rows : range_with_len 0 (length counter) ++ range_with_len 16 (length stack) ++ range_with_len 32 (length tree) ++ range_with_len 48 (length queue) ≡ places_by (contents number view keys bag) ordered =
+    four_same (range_with_len 0 (length counter)) (range_with_len 16 (length stack)) (range_with_len 32 (length tree)) (range_with_len 48 (length queue)) _ _ _ _
+    (row_is CounterCut counter_count counter_counted 0 (of_counter number) (calls_of Counter ordered) counter i)
+    (row_is StackCut stack_count stack_counted 16 (of_stack view.items) (calls_of Stack ordered) stack j)
+    (row_is TreeCut tree_count tree_counted 32 (of_set keys) (calls_of Tree ordered) tree k)
+    (row_is QueueCut queue_count queue_counted 48 (of_bag bag) (calls_of Queue ordered) queue l) in
+    rows ∙ ap (λ objects. places_by objects ordered) kept.contents

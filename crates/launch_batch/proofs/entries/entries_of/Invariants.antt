@@ -1,0 +1,10 @@
+use Rattle.std.proofs.Common.{◌≡◌, ◌++◌, take, drop}
+use Rattle.batch_history.specs.Serving.{calls_in, replies_in}
+use Rattle.launch_batch.specs.Code.Merging.{merged_replies}
+use Rattle.launch_batch.proofs.entries.entries_of.Given as goal
+
+abbrev pub invariant-loop-place : goal.invariant-loop-place
+invariant-loop-place l = record {
+  calls : calls_in l.entries.items ≡ take l.place l.calls;
+  told : replies_in l.entries.items ++ merged_replies (drop l.place l.calls) l.remaining ≡ merged_replies l.calls l.fn.remaining;
+}

@@ -1,0 +1,11 @@
+use Rattle.std.proofs.Common.{◌≡◌, ◌+◌, ◌++◌, length}
+use Rattle.launch_batch.specs.declared.piece.PieceIn.TheVariants as piece
+use Rattle.launch_batch.specs.Code.ByStructure.{placed}
+use Rattle.launch_batch.proofs.pieces.put_counter.Given as goal
+
+abbrev pub invariant-loop-input : goal.invariant-loop-input
+invariant-loop-input l = record {
+  put : l.pieces.items ≡ l.initial.pieces.items ++ placed piece.Counter 0 l.yielded;
+  place : l.place ≡ 0 + length l.yielded;
+  all : l.yielded ++ l.input-iterator.rest.items ≡ l.initial.input-iterator.rest.items;
+}

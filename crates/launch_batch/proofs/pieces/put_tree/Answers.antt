@@ -1,0 +1,14 @@
+use Rattle.std.proofs.Common.{arith, ◌∷◌, [], length-append}
+use Rattle.std.proofs.lemmas.Grind.{common_steps}
+use Rattle.launch_batch.specs.declared.piece.PieceIn.TheVariants as piece
+use Rattle.launch_batch.proofs.PieceLemmas.Placing.{put_more}
+use Rattle.launch_batch.proofs.pieces.put_tree.Goals as goal
+
+pub loop-input-preserved : goal.loop-input-preserved
+loop-input-preserved c =
+    let before = c.loop-input.invariant in
+    record {
+      put = rw c.in_ok-push.ensures.items (put_more piece.Tree c.args.pieces.now.items c.loop-input.pieces.items _ c.loop-input.place c.loop-input.yielded c.in-Some.input before.put before.place);
+      place = omega (arith, before.place, length-append c.loop-input.yielded (c.in-Some.input ∷ []));
+      all = grind (arith, common_steps, c.in-Some.ensures.steps, before.all);
+    }

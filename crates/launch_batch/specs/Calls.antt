@@ -1,0 +1,30 @@
+-- The calls that a shop can serve as one batch, and that batch.
+use Rattle.std.specs.Prelude.{◌≡◌, ◌≢◌, ◌<◌, ◌≤◌, ◌+◌, List, [], ◌∷◌, ◌++◌, length, map}
+use Rattle.std.specs.List.{AllByRecursion}
+use Rattle.seq_objects.specs.declared.call.Call.{Call}
+use Rattle.seq_objects.specs.Pairs.{AreDistinct}
+use Rattle.seq_objects.specs.Batches.{AreInBatchOrder}
+use Rattle.batch_history.specs.declared.batch.Entry.{Entry}
+use Rattle.batch_history.specs.Book.{flat, IsLegalFrom}
+use Rattle.batch_history.specs.Serving.{served_book, calls_in}
+
+-- at least one call, of distinct workers below 32; of distinct leaves, none of which is in the book; and no more
+-- calls than 20,000 with those of the book
+pub record MayServe (book : List (List Entry)) (calls : List Call) : Type 0 where
+  pub some : 0 < length calls
+  pub workers : AreDistinct (map (λ call. call.worker) calls)
+  pub below : AllByRecursion (λ call. call.worker < 32) calls
+  pub leaves : AreDistinct (map (λ call. call.leaf) calls)
+  pub new : AllByRecursion (λ leaf. AllByRecursion (λ other. leaf ≢ other) (map (λ entry. entry.leaf) (flat book))) (map (λ call. call.leaf) calls)
+  pub most : length (flat book) + length calls ≤ 20000
+
+-- the elements of the first list, each once, are those of the second, in whatever order
+abbrev pub AreSame : {X : Type 0} → List X → List X → Type 0
+AreSame {X} [] others = others ≡ []
+AreSame {X} (x ∷ xs) others = (before : List X) × (later : List X) × (others ≡ before ++ x ∷ later) × AreSame xs (before ++ later)
+
+-- exactly these calls, in batch order, with the replies of serving them one after another after the book
+pub record IsServiceOf (book : List (List Entry)) (calls : List Call) (batch : List Entry) : Type 0 where
+  pub same : AreSame calls (calls_in batch)
+  pub order : AreInBatchOrder (calls_in batch)
+  pub replies : IsLegalFrom (served_book book) batch

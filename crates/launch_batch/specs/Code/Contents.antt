@@ -1,0 +1,21 @@
+-- What the structures of a shop contain together, and numbers of calls.
+use Rattle.std.specs.Prelude.{ℕ, ◌≡◌, ◌<◌, ◌≤◌, ◌*◌, ◌^◌, List, length}
+use Rattle.seq_objects.specs.declared.call.Call.{Call}
+use Rattle.seq_objects.specs.Objects.{Objects, argument_of}
+use Rattle.batched_stack.specs.Stripes.{StackView}
+use Rattle.batch_history.specs.declared.batch.Entry.{Entry}
+use Rattle.batch_history.specs.Book.{flat}
+use Rattle.batch_history.specs.Serving.{served_book}
+
+-- the serial objects with what the four structures contain
+abbrev pub contents : ℕ → StackView → List ℕ → List ℕ → Objects
+contents counter stack tree queue = record { counter = counter; stack = stack.items; set = tree; bag = queue }
+
+-- the structures contain what serving the history gives, and the counter is no greater than its calls can make it
+pub record IsKept (counter : ℕ) (stack : StackView) (tree queue : List ℕ) (history : List (List Entry)) : Type 0 where
+  pub contents : contents counter stack tree queue ≡ served_book history
+  pub room : counter ≤ length (flat history) * 2 ^ 32
+
+-- the leaf and the operation's argument fit 32 bits
+abbrev pub IsNarrow : Call → Type 0
+IsNarrow call = (call.leaf < 2 ^ 32) × (argument_of call.op < 2 ^ 32)

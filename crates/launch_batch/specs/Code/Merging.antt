@@ -1,0 +1,36 @@
+-- Calls that are dealt to their structures, and the structures' replies put together again.
+use Rattle.std.specs.Prelude.{List, [], ◌∷◌, drop, slice_index_or}
+use Rattle.seq_objects.specs.declared.call.Call.{Call}
+use Rattle.seq_objects.specs.declared.reply.Reply.{Reply}
+use Rattle.seq_objects.specs.declared.reply.Reply.TheVariants.{Empty}
+use Rattle.seq_objects.specs.Batches.{Object, Counter, Stack, Tree, Queue, object_of}
+use Rattle.launch_batch.specs.declared.deal.Structure.{Structure}
+use Rattle.launch_batch.specs.declared.deal.Structure.TheVariants as structure
+use Rattle.launch_batch.specs.declared.merge.Remaining.{Remaining}
+
+-- the object that a structure serves
+abbrev pub object_served : Structure → Object
+object_served structure.Counter = Counter
+object_served structure.Stack = Stack
+object_served structure.Tree = Tree
+object_served structure.Queue = Queue
+
+-- the replies of one object's structure that are left
+abbrev pub left_of : Object → Remaining → List Reply
+left_of Counter remaining = remaining.counter
+left_of Stack remaining = remaining.stack
+left_of Tree remaining = remaining.tree
+left_of Queue remaining = remaining.queue
+
+-- the first of one object's replies is taken
+abbrev pub without_first : Object → Remaining → Remaining
+without_first Counter remaining = record remaining { counter = drop 1 remaining.counter }
+without_first Stack remaining = record remaining { stack = drop 1 remaining.stack }
+without_first Tree remaining = record remaining { tree = drop 1 remaining.tree }
+without_first Queue remaining = record remaining { queue = drop 1 remaining.queue }
+
+-- each call has the next reply of its object
+abbrev pub merged_replies : List Call → Remaining → List Reply
+merged_replies [] remaining = []
+merged_replies (call ∷ calls) remaining =
+    slice_index_or (left_of (object_of call.op) remaining) 0 Empty ∷ merged_replies calls (without_first (object_of call.op) remaining)

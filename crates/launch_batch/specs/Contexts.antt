@@ -1,0 +1,35 @@
+-- The context of a batch over all structures, and what is kept of it until it ends.
+use Rattle.std.specs.Prelude.{ℕ, ◌≡◌, List}
+use Rattle.std.specs.List.{AllByRecursion}
+use Rattle.seq_objects.specs.Batches.{AreInBatchOrder, Counter, Stack, Tree, Queue, calls_of}
+use Rattle.seq_objects.specs.Pieces.{BatchContext}
+use Rattle.batched_counter.specs.Pieces.{IsContextOf as IsCounterContext}
+use Rattle.batched_stack.specs.Stripes.{StackView}
+use Rattle.batched_stack.specs.Pieces.{IsContextOf as IsStackContext}
+use Rattle.batched_tree.specs.Pieces.{IsContextOf as IsTreeContext}
+use Rattle.batched_pq.specs.Pieces.{IsContextOf as IsQueueContext}
+use Rattle.batch_history.specs.declared.batch.Entry.{Entry}
+use Rattle.launch_batch.specs.declared.opened.Opened.{Opened}
+use Rattle.launch_batch.specs.declared.piece.PieceIn.{PieceIn}
+use Rattle.launch_batch.specs.Calls.{MayServe, AreSame}
+use Rattle.launch_batch.specs.Code.Contents.{IsKept, IsNarrow}
+use Rattle.launch_batch.specs.Code.Halves.{IsHalfContextOf}
+use Rattle.launch_batch.specs.Code.ByStructure.{counter_pieces, stack_pieces, tree_pieces, queue_pieces}
+
+-- The structures before the batch had the contents of the book. The calls are kept in batch order, and each
+-- structure was opened with its own of them.
+pub record IsContextOf (opened : Opened) (o : BatchContext (List (List Entry)) PieceIn) : Type 0 where
+  pub book : opened.history ≡ o.before
+  pub may : MayServe o.before o.calls
+  pub same : AreSame o.calls opened.calls.items
+  pub order : AreInBatchOrder opened.calls.items
+  pub narrow : AllByRecursion IsNarrow opened.calls.items
+  pub number : ℕ
+  pub view : StackView
+  pub keys : List ℕ
+  pub bag : List ℕ
+  pub kept : IsKept number view keys bag o.before
+  pub counter : IsHalfContextOf IsCounterContext opened.counter (record { before = number; calls = calls_of Counter opened.calls.items; ins = counter_pieces o.ins })
+  pub stack : IsHalfContextOf IsStackContext opened.stack (record { before = view; calls = calls_of Stack opened.calls.items; ins = stack_pieces o.ins })
+  pub tree : IsHalfContextOf IsTreeContext opened.tree (record { before = keys; calls = calls_of Tree opened.calls.items; ins = tree_pieces o.ins })
+  pub queue : IsHalfContextOf IsQueueContext opened.queue (record { before = bag; calls = calls_of Queue opened.calls.items; ins = queue_pieces o.ins })

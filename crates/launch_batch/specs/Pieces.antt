@@ -1,0 +1,51 @@
+-- The pieces of a batch, what each owes, and outs that are put back at the places of their pieces.
+use Rattle.std.specs.Prelude.{ℕ, ◌≡◌, ◌⊎◌, List, [], ◌∷◌}
+use Rattle.seq_objects.specs.Pieces.{AllMeet}
+use Rattle.batched_counter.specs.Pieces.{Meets as CounterMeets}
+use Rattle.batched_stack.specs.Pieces.{Meets as StackMeets}
+use Rattle.batched_tree.specs.Pieces.{Meets as TreeMeets}
+use Rattle.batched_pq.specs.Pieces.{Meets as QueueMeets}
+use Rattle.launch_batch.specs.declared.piece.PieceIn.{PieceIn}
+use Rattle.launch_batch.specs.declared.piece.PieceIn.TheVariants as piece
+use Rattle.launch_batch.specs.declared.piece.PieceOut.{PieceOut}
+use Rattle.launch_batch.specs.declared.piece.PieceOut.TheVariants as done
+
+-- the place of a piece
+abbrev pub place_of : PieceIn → ℕ
+place_of (piece.Counter place input) = place
+place_of (piece.Stack place input) = place
+place_of (piece.Tree place input) = place
+place_of (piece.Queue place input) = place
+
+-- the out is of the piece's structure, and is what that structure's pieces owe
+abbrev pub Meets : PieceIn → PieceOut → Type 0
+Meets (piece.Counter place input) (done.Counter out) = CounterMeets input out
+Meets (piece.Stack place input) (done.Stack out) = StackMeets input out
+Meets (piece.Tree place input) (done.Tree out) = TreeMeets input out
+Meets (piece.Queue place input) (done.Queue out) = QueueMeets input out
+Meets (piece.Counter place input) (done.Stack out) = ⊥
+Meets (piece.Counter place input) (done.Tree out) = ⊥
+Meets (piece.Counter place input) (done.Queue out) = ⊥
+Meets (piece.Stack place input) (done.Counter out) = ⊥
+Meets (piece.Stack place input) (done.Tree out) = ⊥
+Meets (piece.Stack place input) (done.Queue out) = ⊥
+Meets (piece.Tree place input) (done.Counter out) = ⊥
+Meets (piece.Tree place input) (done.Stack out) = ⊥
+Meets (piece.Tree place input) (done.Queue out) = ⊥
+Meets (piece.Queue place input) (done.Counter out) = ⊥
+Meets (piece.Queue place input) (done.Stack out) = ⊥
+Meets (piece.Queue place input) (done.Tree out) = ⊥
+
+-- a piece that was run, and its out
+pub record Run : Type 0 where
+  pub input : PieceIn
+  pub out : PieceOut
+
+-- the out is that of a run of a piece with this place
+abbrev pub IsOutAt : List Run → ℕ → PieceOut → Type 0
+IsOutAt [] place out = ⊥
+IsOutAt (run ∷ runs) place out = ((place_of run.input ≡ place) × (run.out ≡ out)) ⊎ IsOutAt runs place out
+
+-- the outs of the runs, in whatever order these were, stand in the order of the places
+abbrev pub ArePutBack : List Run → List ℕ → List PieceOut → Type 0
+ArePutBack runs places outs = AllMeet (IsOutAt runs) places outs

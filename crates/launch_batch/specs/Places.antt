@@ -1,0 +1,25 @@
+-- The places of the pieces of a batch, of which each structure has a row: the counter from 0 on, the stack from 16 on,
+-- the tree from 32 on, the queue from 48 on.
+use Rattle.std.specs.Prelude.{ℕ, List, [], ◌∷◌, ◌++◌}
+use Rattle.std.specs.List.{range_with_len}
+use Rattle.seq_objects.specs.declared.call.Call.{Call}
+use Rattle.seq_objects.specs.Batches.{Counter, Stack, Tree, Queue, calls_of}
+use Rattle.batched_counter.specs.Pieces.{piece_count as counter_count}
+use Rattle.batched_stack.specs.Pieces.{piece_count as stack_count}
+use Rattle.batched_tree.specs.Pieces.{piece_count as tree_count}
+use Rattle.batched_pq.specs.Pieces.{piece_count as queue_count}
+use Rattle.batch_history.specs.declared.batch.Entry.{Entry}
+use Rattle.batch_history.specs.Serving.{served_book}
+
+-- consecutive places, one for each piece; none where a structure has no calls
+abbrev pub row : ℕ → List Call → ℕ → List ℕ
+row first [] count = []
+row first (call ∷ calls) count = range_with_len first count
+
+-- the places of the pieces of a batch of these calls, in batch order, after this book
+abbrev pub places : List (List Entry) → List Call → List ℕ
+places book calls =
+    row 0 (calls_of Counter calls) (counter_count (served_book book) (calls_of Counter calls))
+    ++ row 16 (calls_of Stack calls) (stack_count (served_book book) (calls_of Stack calls))
+    ++ row 32 (calls_of Tree calls) (tree_count (served_book book) (calls_of Tree calls))
+    ++ row 48 (calls_of Queue calls) (queue_count (served_book book) (calls_of Queue calls))

@@ -1,0 +1,70 @@
+//! The replies of the four structures, of which each call takes the next one of its own.
+ghost use Rattle.std.specs.Prelude.{◌≡◌, drop, slice_get};
+ghost use Rattle.seq_objects.specs.Batches.{object_of};
+ghost use Rattle.launch_batch.specs.Code.Merging.{left_of, without_first};
+
+use seq_objects::{Op, Reply};
+use std::marker::Model;
+
+/// The replies of a structure that are left. Contracts see them as a list.
+#[derive(Drop)]
+pub(crate) struct Replies {
+    all: Vec<Reply>,
+    at: usize,
+}
+
+impl Model for Replies {
+    ghost use Rattle.std.specs.Prelude.{List, drop};
+    ghost use Rattle.seq_objects.specs.declared.reply.Reply.{Reply};
+
+    ghost Value = { List Reply };
+
+    ghost view = { λ r. drop r.at r.all.items };
+}
+
+impl Replies {
+    pub(crate) fn new(all: Vec<Reply>) -> Replies
+        ensures { result ≡ all.items }
+    {
+        Replies { all, at: 0 }
+    }
+
+    fn next(&mut self) -> Option<Reply>
+        ensures reply { result ≡ slice_get self.old 0 }
+        ensures rest { self.new ≡ drop 1 self.old }
+    {
+        if self.at < self.all.len() {
+            let reply = self.all[self.at];
+            self.at += 1;
+            Some(reply)
+        } else {
+            None
+        }
+    }
+}
+
+/// The replies of the four structures that are left.
+#[derive(Drop)]
+pub(crate) struct Remaining {
+    pub(crate) counter: Replies,
+    pub(crate) stack: Replies,
+    pub(crate) tree: Replies,
+    pub(crate) queue: Replies,
+}
+
+impl Remaining {
+    /// The next reply of the structure that an operation is of.
+    pub(crate) fn next(&mut self, op: Op) -> Option<Reply>
+        ensures reply { result ≡ slice_get (left_of (object_of op) self.old) 0 }
+        ensures rest { self.new ≡ without_first (object_of op) self.old }
+    {
+        match op {
+            Op::CounterAdd(_) => self.counter.next(),
+            Op::Push(_) | Op::Pop => self.stack.next(),
+            Op::TreeInsert(_) | Op::TreeRemove(_) | Op::TreeFind(_) | Op::TreeNext(_) => {
+                self.tree.next()
+            }
+            Op::PqInsert(_) | Op::PqTake => self.queue.next(),
+        }
+    }
+}

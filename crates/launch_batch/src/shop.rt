@@ -1,0 +1,125 @@
+//! The shop, and the opening of a batch.
+ghost use Rattle.std.specs.Prelude.{◌≡◌, ◌<◌, ◌≤◌, [], length, map, List, IfOk};
+ghost use Rattle.std.specs.List.{AllByRecursion};
+ghost use Rattle.seq_objects.specs.declared.call.Call.{Call as CallOf};
+ghost use Rattle.seq_objects.specs.Orders.{StrictlyAscends};
+ghost use Rattle.seq_objects.specs.Batches.{AreInBatchOrder};
+ghost use Rattle.seq_objects.specs.Pieces.{BatchContext};
+ghost use Rattle.launch_batch.specs.Calls.{MayServe, AreSame};
+ghost use Rattle.launch_batch.specs.Pieces.{place_of};
+ghost use Rattle.launch_batch.specs.Places.{places};
+ghost use Rattle.launch_batch.specs.Contexts.{IsContextOf};
+
+use crate::deal::Structure;
+use crate::half::open_own;
+use crate::opened::Opened;
+use crate::order::in_batch_order;
+use crate::piece::PieceIn;
+use crate::pieces::pieces_of;
+use batch_history::History;
+use batched_counter::Counter;
+use batched_pq::Queue;
+use batched_stack::Stack;
+use batched_tree::TreeSet;
+use seq_objects::Call;
+use std::alloc::{AllocError, Global};
+use std::marker::Model;
+
+/// The four structures, and the history of the batches that they served. Contracts see it as this history.
+#[derive(Drop)]
+pub struct Shop {
+    pub(crate) counter: Counter,
+    pub(crate) stack: Stack,
+    pub(crate) tree: TreeSet,
+    pub(crate) queue: Queue,
+    pub(crate) history: History,
+}
+
+impl Model for Shop {
+    ghost use Rattle.std.specs.Prelude.{List};
+    ghost use Rattle.batch_history.specs.declared.batch.Entry.{Entry};
+    ghost use Rattle.launch_batch.specs.Code.Contents.{IsKept};
+
+    ghost Value = { List (List Entry) };
+
+    ghost view = { λ s. s.history };
+
+    ghost invariant = { λ s. IsKept s.counter s.stack s.tree s.queue s.history };
+}
+
+impl Shop {
+    /// The opening structures, and no batch.
+    pub fn new(alloc: Global) -> Result<Shop, AllocError>
+        ensures { IfOk result (λ s. s ≡ []) }
+    {
+        Ok(Shop {
+            counter: Counter::new(alloc)?,
+            stack: Stack::new(alloc)?,
+            tree: TreeSet::new(alloc)?,
+            queue: Queue::new(alloc)?,
+            history: History::new(alloc),
+        })
+    }
+
+    /// The batches that were served.
+    ///
+    /// Memory: none.
+    pub fn history(&self) -> &History
+        ensures { result.now ≡ self.now }
+    {
+        &self.history
+    }
+
+    /// The batches that were served, when the structures are given up.
+    ///
+    /// Memory: none.
+    pub fn into_history(self) -> History
+        ensures { result ≡ self }
+    {
+        self.history
+    }
+
+    /// Opens a batch of these calls, in whatever order they are given. Its pieces are for the structures that are
+    /// called, and stand in ascending order of place. The shop is given up when memory runs out.
+    pub fn begin(
+        self,
+        alloc: Global,
+        calls: Vec<Call>,
+    ) -> Result<(Opened, Vec<PieceIn>), AllocError>
+        requires { MayServe self calls.items }
+        ensures count { IfOk result (λ p. (1 ≤ length p.1.items) × (length p.1.items ≤ 56)) }
+        ensures below { IfOk result (λ p. AllByRecursion (λ input. place_of input < 56) p.1.items) }
+        ensures places { IfOk result (λ p. (ordered : List CallOf) × AreSame calls.items ordered × AreInBatchOrder ordered × (map place_of p.1.items ≡ places self ordered)) }
+        ensures ascend { IfOk result (λ p. StrictlyAscends (map place_of p.1.items)) }
+        ensures context { IfOk result (λ p. IsContextOf p.0 (record { before = self; calls = calls.items; ins = p.1.items })) }
+    {
+        let Shop {
+            counter,
+            stack,
+            tree,
+            queue,
+            history,
+        } = self;
+        let calls = in_batch_order(alloc, &calls)?;
+        let (counter, counter_pieces) = open_own(alloc, counter, &calls, Structure::Counter)?;
+        let (stack, stack_pieces) = open_own(alloc, stack, &calls, Structure::Stack)?;
+        let (tree, tree_pieces) = open_own(alloc, tree, &calls, Structure::Tree)?;
+        let (queue, queue_pieces) = open_own(alloc, queue, &calls, Structure::Queue)?;
+        let pieces = pieces_of(
+            alloc,
+            counter_pieces,
+            stack_pieces,
+            tree_pieces,
+            queue_pieces,
+        )?;
+        let opened = Opened {
+            counter,
+            stack,
+            tree,
+            queue,
+            history,
+            calls,
+        };
+        Ok((opened, pieces))
+    }
+}

@@ -15,13 +15,15 @@ pub record MayServe (book : List (List Entry)) (calls : List Call) : Type 0 wher
   pub workers : AreDistinct (map (λ call. call.worker) calls)
   pub below : AllByRecursion (λ call. call.worker < 32) calls
   pub leaves : AreDistinct (map (λ call. call.leaf) calls)
-  pub new : AllByRecursion (λ leaf. AllByRecursion (λ other. leaf ≢ other) (map (λ entry. entry.leaf) (flat book))) (map (λ call. call.leaf) calls)
+  pub new : AllByRecursion (λ leaf. AllByRecursion (λ other. leaf ≢ other) (map (λ entry. entry.leaf) (flat book)))
+      (map (λ call. call.leaf) calls)
   pub most : length (flat book) + length calls ≤ 20000
 
 -- the elements of the first list, each once, are those of the second, in whatever order
 abbrev pub AreSame : {X : Type 0} → List X → List X → Type 0
 AreSame {X} [] others = others ≡ []
-AreSame {X} (x ∷ xs) others = (before : List X) × (later : List X) × (others ≡ before ++ x ∷ later) × AreSame xs (before ++ later)
+AreSame {X} (x ∷ xs) others =
+    (before : List X) × (later : List X) × (others ≡ before ++ x ∷ later) × AreSame xs (before ++ later)
 
 -- exactly these calls, in batch order, with the replies of serving them one after another after the book
 pub record IsServiceOf (book : List (List Entry)) (calls : List Call) (batch : List Entry) : Type 0 where

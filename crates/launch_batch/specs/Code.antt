@@ -1,5 +1,2 @@
--- The code's own definitions: what a stored form stands for, and how far a call has come.
-pub mod Halves
-pub mod ByStructure
-pub mod Contents
+-- The definitions of the code's own: how calls are dealt to their structures, and replies put together again.
 pub mod Merging

@@ -12,9 +12,9 @@ use Rattle.batch_history.specs.declared.batch.Entry.{Entry}
 use Rattle.launch_batch.specs.declared.opened.Opened.{Opened}
 use Rattle.launch_batch.specs.declared.piece.PieceIn.{PieceIn}
 use Rattle.launch_batch.specs.Calls.{MayServe, AreSame}
-use Rattle.launch_batch.specs.Code.Contents.{IsKept, IsNarrow}
-use Rattle.launch_batch.specs.Code.Halves.{IsHalfContextOf}
-use Rattle.launch_batch.specs.Code.ByStructure.{counter_pieces, stack_pieces, tree_pieces, queue_pieces}
+use Rattle.launch_batch.specs.Contents.{IsKept, IsNarrow}
+use Rattle.launch_batch.specs.Halves.{IsHalfContextOf}
+use Rattle.launch_batch.specs.ByStructure.{counter_pieces, stack_pieces, tree_pieces, queue_pieces}
 
 -- The structures before the batch had the contents of the book. The calls are kept in batch order, and each
 -- structure was opened with its own of them.
@@ -29,7 +29,11 @@ pub record IsContextOf (opened : Opened) (o : BatchContext (List (List Entry)) P
   pub keys : List ℕ
   pub bag : List ℕ
   pub kept : IsKept number view keys bag o.before
-  pub counter : IsHalfContextOf IsCounterContext opened.counter (record { before = number; calls = calls_of Counter opened.calls.items; ins = counter_pieces o.ins })
-  pub stack : IsHalfContextOf IsStackContext opened.stack (record { before = view; calls = calls_of Stack opened.calls.items; ins = stack_pieces o.ins })
-  pub tree : IsHalfContextOf IsTreeContext opened.tree (record { before = keys; calls = calls_of Tree opened.calls.items; ins = tree_pieces o.ins })
-  pub queue : IsHalfContextOf IsQueueContext opened.queue (record { before = bag; calls = calls_of Queue opened.calls.items; ins = queue_pieces o.ins })
+  pub counter : IsHalfContextOf IsCounterContext opened.counter
+      (record { before = number; calls = calls_of Counter opened.calls.items; ins = counter_pieces o.ins })
+  pub stack : IsHalfContextOf IsStackContext opened.stack
+      (record { before = view; calls = calls_of Stack opened.calls.items; ins = stack_pieces o.ins })
+  pub tree : IsHalfContextOf IsTreeContext opened.tree
+      (record { before = keys; calls = calls_of Tree opened.calls.items; ins = tree_pieces o.ins })
+  pub queue : IsHalfContextOf IsQueueContext opened.queue
+      (record { before = bag; calls = calls_of Queue opened.calls.items; ins = queue_pieces o.ins })

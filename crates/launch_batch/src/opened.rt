@@ -39,8 +39,10 @@ impl Opened {
     /// another. The shop is given up when memory runs out.
     pub fn end(self, alloc: Global, outs: Vec<PieceOut>) -> Result<(Shop, Batch), AllocError>
         requires { (o : BatchContext (List (List EntryOf)) Input) × IsContextOf self o × AllMeet Meets o.ins outs.items }
-        ensures batch { IfOk result (λ p. (o : BatchContext (List (List EntryOf)) Input) → IsContextOf self o → AllMeet Meets o.ins outs.items → IsServiceOf o.before o.calls p.1) }
-        ensures history { IfOk result (λ p. (o : BatchContext (List (List EntryOf)) Input) → IsContextOf self o → AllMeet Meets o.ins outs.items → p.0 ≡ o.before ++ p.1 ∷ []) }
+        ensures batch { IfOk result (λ p. (o : BatchContext (List (List EntryOf)) Input) → IsContextOf self o
+            → AllMeet Meets o.ins outs.items → IsServiceOf o.before o.calls p.1) }
+        ensures history { IfOk result (λ p. (o : BatchContext (List (List EntryOf)) Input) → IsContextOf self o
+            → AllMeet Meets o.ins outs.items → p.0 ≡ o.before ++ p.1 ∷ []) }
     {
         let outs = outs_of(alloc, outs)?;
         let Opened {

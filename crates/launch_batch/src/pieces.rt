@@ -1,6 +1,6 @@
 //! The pieces of the four structures, at their places.
 ghost use Rattle.std.specs.Prelude.{◌≡◌, ◌≤◌, ◌++◌, length, IfOk, OnOk};
-ghost use Rattle.launch_batch.specs.Code.ByStructure.{placed};
+ghost use Rattle.launch_batch.specs.ByStructure.{placed};
 ghost use Rattle.launch_batch.specs.declared.piece.PieceIn.TheVariants as piece;
 
 use crate::piece::PieceIn;
@@ -74,7 +74,8 @@ pub(crate) fn pieces_of(
     requires stack { length stack.items ≤ 16 }
     requires tree { length tree.items ≤ 16 }
     requires queue { length queue.items ≤ 8 }
-    ensures { IfOk result (λ v. v.items ≡ placed piece.Counter 0 counter.items ++ placed piece.Stack 16 stack.items ++ placed piece.Tree 32 tree.items ++ placed piece.Queue 48 queue.items) }
+    ensures { IfOk result (λ v. v.items ≡ placed piece.Counter 0 counter.items ++ placed piece.Stack 16 stack.items
+        ++ placed piece.Tree 32 tree.items ++ placed piece.Queue 48 queue.items) }
 {
     let count = counter.len() + stack.len() + tree.len() + queue.len();
     let mut pieces = Vec::with_capacity(alloc, count)?;

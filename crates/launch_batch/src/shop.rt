@@ -38,7 +38,7 @@ pub struct Shop {
 impl Model for Shop {
     ghost use Rattle.std.specs.Prelude.{List};
     ghost use Rattle.batch_history.specs.declared.batch.Entry.{Entry};
-    ghost use Rattle.launch_batch.specs.Code.Contents.{IsKept};
+    ghost use Rattle.launch_batch.specs.Contents.{IsKept};
 
     ghost Value = { List (List Entry) };
 
@@ -89,9 +89,11 @@ impl Shop {
         requires { MayServe self calls.items }
         ensures count { IfOk result (λ p. (1 ≤ length p.1.items) × (length p.1.items ≤ 56)) }
         ensures below { IfOk result (λ p. AllByRecursion (λ input. place_of input < 56) p.1.items) }
-        ensures places { IfOk result (λ p. (ordered : List CallOf) × AreSame calls.items ordered × AreInBatchOrder ordered × (map place_of p.1.items ≡ places self ordered)) }
+        ensures places { IfOk result (λ p. (ordered : List CallOf) × AreSame calls.items ordered
+            × AreInBatchOrder ordered × (map place_of p.1.items ≡ places self ordered)) }
         ensures ascend { IfOk result (λ p. StrictlyAscends (map place_of p.1.items)) }
-        ensures context { IfOk result (λ p. IsContextOf p.0 (record { before = self; calls = calls.items; ins = p.1.items })) }
+        ensures context { IfOk result (λ p. IsContextOf p.0
+            (record { before = self; calls = calls.items; ins = p.1.items })) }
     {
         let Shop {
             counter,

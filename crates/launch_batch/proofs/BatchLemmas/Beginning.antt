@@ -9,7 +9,7 @@ use Rattle.batched_counter.specs.Calls.{MayServe as MayAdd}
 use Rattle.batch_history.specs.declared.batch.Entry.{Entry}
 use Rattle.batch_history.specs.Book.{flat}
 use Rattle.launch_batch.specs.Calls.{MayServe, AreSame}
-use Rattle.launch_batch.specs.Code.Contents.{IsNarrow}
+use Rattle.launch_batch.specs.Contents.{IsNarrow}
 use Rattle.launch_batch.proofs.ListLemmas.Same.{each_same, distinct_same, length_same}
 use Rattle.launch_batch.proofs.MergeLemmas.Dealing.{few_own, all_dealt}
 use Rattle.launch_batch.proofs.BatchLemmas.Serial.{total_small}

@@ -17,7 +17,7 @@ use Rattle.launch_batch.specs.declared.merge.Remaining.{Remaining}
 use Rattle.launch_batch.specs.declared.piece.PieceIn.{PieceIn}
 use Rattle.launch_batch.specs.Calls.{AreSame, IsServiceOf}
 use Rattle.launch_batch.specs.Contexts.{IsContextOf}
-use Rattle.launch_batch.specs.Code.Contents.{contents, IsKept, IsNarrow}
+use Rattle.launch_batch.specs.Contents.{contents, IsKept, IsNarrow}
 use Rattle.launch_batch.specs.Code.Merging.{left_of, merged_replies}
 use Rattle.launch_batch.proofs.MergeLemmas.Dealing.{few_own}
 use Rattle.launch_batch.proofs.MergeLemmas.Merging.{merged_serial}

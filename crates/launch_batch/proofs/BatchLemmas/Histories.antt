@@ -9,7 +9,7 @@ use Rattle.batch_history.specs.declared.batch.Entry.{Entry}
 use Rattle.batch_history.specs.Book.{flat, IsLegalFrom, IsBatch, IsHistory}
 use Rattle.batch_history.specs.Serving.{served, call_in, calls_in}
 use Rattle.launch_batch.specs.Calls.{MayServe, IsServiceOf}
-use Rattle.launch_batch.specs.Code.Contents.{IsNarrow}
+use Rattle.launch_batch.specs.Contents.{IsNarrow}
 use Rattle.seq_objects.proofs.Elements.{each_append}
 use Rattle.launch_batch.proofs.ListLemmas.Elements.{each_mapped, each_unmapped, distinct_append, apart_turned, map_append}
 use Rattle.launch_batch.proofs.ListLemmas.Same.{each_same, distinct_same, length_same}

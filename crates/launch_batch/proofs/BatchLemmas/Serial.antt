@@ -12,7 +12,7 @@ use Rattle.batched_counter.specs.Calls.{addend_of, addends}
 use Rattle.batch_history.specs.declared.batch.Entry.{Entry}
 use Rattle.batch_history.specs.Book.{IsLegalFrom}
 use Rattle.batch_history.specs.Serving.{served, calls_in, replies_in}
-use Rattle.launch_batch.specs.Code.Contents.{IsNarrow}
+use Rattle.launch_batch.specs.Contents.{IsNarrow}
 
 -- entries whose replies are those of serving their calls are legal
 same_head : (x y : Reply) (xs ys : List Reply) → x ∷ xs ≡ y ∷ ys → x ≡ y

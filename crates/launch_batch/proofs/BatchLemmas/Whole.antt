@@ -3,7 +3,7 @@ use Rattle.std.proofs.Common.{◌≡◌, List, [], ◌∷◌, refl, subst}
 use Rattle.seq_objects.specs.Pieces.{AllMeet, BatchContext}
 use Rattle.launch_batch.specs.declared.half.Half.{Half}
 use Rattle.launch_batch.specs.declared.half.Half.TheVariants.{Whole, Open}
-use Rattle.launch_batch.specs.Code.Halves.{IsHalfContextOf, HasNoOutsIfWhole}
+use Rattle.launch_batch.specs.Halves.{IsHalfContextOf, HasNoOutsIfWhole}
 
 none_met : {In Out : Type 0} (meets : In → Out → Type 0) (outs : List Out) → AllMeet meets [] outs → outs ≡ []
 none_met meets [] met = refl

@@ -10,7 +10,7 @@ use Rattle.batched_pq.specs.declared.piece.Piece.{Piece as QueuePiece}
 use Rattle.launch_batch.specs.declared.piece.PieceIn.{PieceIn}
 use Rattle.launch_batch.specs.declared.piece.PieceIn.TheVariants as piece
 use Rattle.launch_batch.specs.Pieces.{place_of}
-use Rattle.launch_batch.specs.Code.ByStructure.{placed}
+use Rattle.launch_batch.specs.ByStructure.{placed}
 use Rattle.launch_batch.proofs.ListLemmas.Elements.{map_append, each_unmapped}
 use Rattle.launch_batch.proofs.PieceLemmas.Placing.{length_placed, places_placed}
 

@@ -20,8 +20,8 @@ use Rattle.batched_pq.specs.Pieces.{Cut as QueueCut, piece_count as queue_count}
 use Rattle.batched_pq.proofs.PieceCount.{pieces_counted as queue_counted}
 use Rattle.batch_history.specs.declared.batch.Entry.{Entry}
 use Rattle.launch_batch.specs.Places.{row, places}
-use Rattle.launch_batch.specs.Code.Contents.{IsKept, contents}
-use Rattle.launch_batch.specs.Code.Halves.{IsCutIfCalled}
+use Rattle.launch_batch.specs.Contents.{IsKept, contents}
+use Rattle.launch_batch.specs.Halves.{IsCutIfCalled}
 
 -- the pieces of one structure
 row_is : {In : Type 0} (cut : Objects → List Call → List In → Type 0) (count : Objects → List Call → ℕ)

@@ -3,7 +3,7 @@ use Rattle.std.proofs.Common.{◌≡◌, ℕ, ◌+◌, List, [], ◌∷◌, ◌+
 use Rattle.std.specs.List.{range_with_len}
 use Rattle.launch_batch.specs.declared.piece.PieceIn.{PieceIn}
 use Rattle.launch_batch.specs.Pieces.{place_of}
-use Rattle.launch_batch.specs.Code.ByStructure.{placed}
+use Rattle.launch_batch.specs.ByStructure.{placed}
 
 placed_more : {In : Type 0} (make : ℕ → In → PieceIn) (place n : ℕ) (xs : List In) (x : In) → n ≡ place + length xs → placed make place (xs ++ x ∷ []) ≡ placed make place xs ++ make n x ∷ []
 placed_more make place n [] x is = let e : place ≡ n = omega (arith, is) in ap (λ p. make p x ∷ []) e

@@ -33,4 +33,5 @@ without_first Queue remaining = record remaining { queue = drop 1 remaining.queu
 abbrev pub merged_replies : List Call → Remaining → List Reply
 merged_replies [] remaining = []
 merged_replies (call ∷ calls) remaining =
-    slice_index_or (left_of (object_of call.op) remaining) 0 Empty ∷ merged_replies calls (without_first (object_of call.op) remaining)
+    slice_index_or (left_of (object_of call.op) remaining) 0 Empty
+    ∷ merged_replies calls (without_first (object_of call.op) remaining)

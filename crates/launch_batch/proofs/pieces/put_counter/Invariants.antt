@@ -1,6 +1,6 @@
 use Rattle.std.proofs.Common.{◌≡◌, ◌+◌, ◌++◌, length}
 use Rattle.launch_batch.specs.declared.piece.PieceIn.TheVariants as piece
-use Rattle.launch_batch.specs.Code.ByStructure.{placed}
+use Rattle.launch_batch.specs.ByStructure.{placed}
 use Rattle.launch_batch.proofs.pieces.put_counter.Given as goal
 
 abbrev pub invariant-loop-input : goal.invariant-loop-input

@@ -13,7 +13,7 @@ use Rattle.batched_pq.specs.Pieces.{Meets as QueueMeets, IsContextOf as IsQueueC
 use Rattle.batch_history.specs.Book.{IsHistory}
 use Rattle.launch_batch.specs.declared.merge.Remaining.{Remaining}
 use Rattle.launch_batch.specs.Code.Merging.{merged_replies}
-use Rattle.launch_batch.specs.Code.ByStructure.{counter_pieces, stack_pieces, tree_pieces, queue_pieces}
+use Rattle.launch_batch.specs.ByStructure.{counter_pieces, stack_pieces, tree_pieces, queue_pieces}
 use Rattle.launch_batch.proofs.PieceLemmas.Meeting.{counter_meets, stack_meets, tree_meets, queue_meets}
 use Rattle.launch_batch.proofs.BatchLemmas.Ending.{replies_are, service, history, kept}
 use Rattle.launch_batch.proofs.BatchLemmas.Whole.{whole_has_none}

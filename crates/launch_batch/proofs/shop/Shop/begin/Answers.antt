@@ -1,8 +1,8 @@
 use Rattle.std.proofs.Common.{◌∙◌, ap, sym, subst}
 use Rattle.seq_objects.specs.Batches.{Stack, Tree, Queue}
 use Rattle.seq_objects.proofs.Filters.{are_of}
-use Rattle.launch_batch.specs.Code.Contents.{IsKept}
-use Rattle.launch_batch.specs.Code.ByStructure.{counter_pieces, stack_pieces, tree_pieces, queue_pieces}
+use Rattle.launch_batch.specs.Contents.{IsKept}
+use Rattle.launch_batch.specs.ByStructure.{counter_pieces, stack_pieces, tree_pieces, queue_pieces}
 use Rattle.launch_batch.proofs.PieceLemmas.Meeting.{counter_are, stack_are, tree_are, queue_are}
 use Rattle.launch_batch.proofs.PieceLemmas.Ascending.{some_and_few, places_are, places_below, places_ascend}
 use Rattle.launch_batch.proofs.PieceLemmas.Counting.{rows_are}

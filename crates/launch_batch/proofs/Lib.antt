@@ -1,5 +1,5 @@
-mod ListLemmas
+pub mod ListLemmas
 mod MergeLemmas
 mod PieceLemmas
-mod BatchLemmas
+pub mod BatchLemmas
 mod LawLemmas

@@ -1,4 +1,4 @@
-//! Tests of the serial objects and of the batched structures, through their public calls alone.
+//! Tests of the serial objects, of the batched structures and of the shop over them, through their public calls alone.
 //!
 //! What a call replies and leaves is proved for every input; the rows here are worked by hand, and show that the
 //! clauses say what is meant, and that the calls succeed with ample memory.
@@ -12,6 +12,8 @@ mod counter;
 mod plain;
 #[cfg(test)]
 mod queue;
+#[cfg(test)]
+mod shop;
 #[cfg(test)]
 mod stack;
 #[cfg(test)]

@@ -7,10 +7,7 @@ use std::test::Fail;
 
 /// Inserts before takes, equal items in several shards, and takes of an empty queue.
 const ROWS: [Row; 5] = [
-    (
-        &[Op::PqTake, Op::PqTake, Op::PqTake],
-        "empty empty empty",
-    ),
+    (&[Op::PqTake, Op::PqTake, Op::PqTake], "empty empty empty"),
     (
         &[Op::PqTake, Op::PqInsert(9), Op::PqInsert(4294967295)],
         "ok ok 9",
@@ -23,10 +20,7 @@ const ROWS: [Row; 5] = [
         &[Op::PqTake, Op::PqTake, Op::PqInsert(3), Op::PqTake],
         "ok 3 3 3",
     ),
-    (
-        &[Op::PqTake, Op::PqTake, Op::PqTake],
-        "7 4294967295 empty",
-    ),
+    (&[Op::PqTake, Op::PqTake, Op::PqTake], "7 4294967295 empty"),
 ];
 
 #[test]

@@ -1,4 +1,5 @@
 //! The 2-3 tree, and the forest of trees.
+ghost use Rattle.std.specs.Prelude.{◌<◌};
 
 use std::alloc::{AllocError, Global};
 use std::collections::BTreeSet;
@@ -83,7 +84,10 @@ fn a_tree_is_cut_inside_its_range(rt: HostRuntime) -> Result<(), Fail> {
         let key = next_key(&mut state);
         let (low, high) = tree.split_below(key)?;
         assert_eq!(rt; low.next(key), None, "at {key}");
-        assert_eq!(rt; (low.find(key), high.find(key)), (false, set.contains(&key)));
+        assert_eq!(rt;
+            (low.find(key), high.find(key)),
+            (false, set.contains(&key))
+        );
         tree = Tree23::concat(low, high)?;
         assert_eq!(rt; tree.remove(key), set.remove(&key), "at {key}");
     }

@@ -34,10 +34,7 @@ const ROWS: [Row; 5] = [
         ],
         "yes no yes yes",
     ),
-    (
-        &[Op::TreeFind(15), Op::TreeNext(15)],
-        "yes 20",
-    ),
+    (&[Op::TreeFind(15), Op::TreeNext(15)], "yes 20"),
 ];
 
 #[test]

@@ -1,0 +1,200 @@
+//! The shop, which serves batches over all structures.
+ghost use Rattle.std.specs.Prelude.{◌+◌, ◌<◌, ◌≤◌, length, IfOk};
+ghost use Rattle.seq_objects.specs.Pieces.{AllMeet};
+ghost use Rattle.launch_batch.specs.Pieces.{Meets};
+ghost use Rattle.structure_tests.specs.Shops.{AreFrom, IsBelow};
+
+use crate::batch::Row;
+use batch_history::Batch;
+use launch_batch::{PieceIn, PieceOut, Shop, run_piece, serve};
+use seq_objects::{Call, Op};
+use std::alloc::{AllocError, Global};
+use std::fmt::Write;
+use std::test::Fail;
+
+/// The calls of workers 0, 1, .., at consecutive leaves.
+fn calls_from(alloc: Global, first: u32, ops: &[Op]) -> Result<Vec<Call>, AllocError>
+    requires low { first ≤ 1000 }
+    requires few { length ops.now ≤ 32 }
+    ensures { IfOk result (λ v. AreFrom first (length ops.now) v.items) }
+{
+    let mut calls = Vec::with_capacity(alloc, ops.len())?;
+    let mut worker = 0;
+    for op in ops {
+        calls.push(Call {
+            worker,
+            leaf: first + worker,
+            op: *op,
+        })?;
+        worker += 1;
+    }
+    Ok(calls)
+}
+
+/// The shop after a batch of these operations, and the batch.
+fn serve_ops(alloc: Global, shop: Shop, first: u32, ops: &[Op]) -> Result<(Shop, Batch), AllocError>
+    requires some { 0 < length ops.now }
+    requires low { first ≤ 1000 }
+    requires few { length ops.now ≤ 32 }
+    requires below { IsBelow first shop }
+    ensures { IfOk result (λ p. IsBelow (first + 32) p.0) }
+{
+    let calls = calls_from(alloc, first, ops)?;
+    let (next, batch) = serve(alloc, shop, calls)?;
+    Ok((next, batch))
+}
+
+/// Each entry's worker and reply.
+fn words_of(alloc: Global, batch: &Batch) -> Result<String, AllocError> {
+    let mut words = String::new(alloc);
+    for entry in batch.entries() {
+        if !words.is_empty() {
+            words.push(' ')?;
+        }
+        write!(words, "{}:{}", entry.worker, entry.reply)?;
+    }
+    Ok(words)
+}
+
+/// The place of the first batch that has other entries, if there is one.
+fn first_wrong(alloc: Global, rows: &[Row]) -> Result<Option<usize>, AllocError> {
+    let mut shop = Shop::new(alloc)?;
+    let mut first = 0;
+    for (place, row) in rows.iter().enumerate() {
+        let (ops, wanted) = *row;
+        if ops.is_empty() || ops.len() > 32 || first > 1000 {
+            return Ok(Some(place));
+        }
+        let (next, batch) = serve_ops(alloc, shop, first, ops)?;
+        shop = next;
+        first += 32;
+        if words_of(alloc, &batch)?.as_str() != wanted {
+            return Ok(Some(place));
+        }
+    }
+    Ok(None)
+}
+
+/// The operations of workers 0, 1, .. in each batch, and its entries: the worker and the reply of each.
+const ROWS: [Row; 4] = [
+    (
+        &[
+            Op::Pop,
+            Op::Pop,
+            Op::Pop,
+            Op::Pop,
+            Op::Push(10),
+            Op::Push(20),
+        ],
+        "4:ok 5:ok 0:20 1:10 2:empty 3:empty",
+    ),
+    (
+        &[Op::TreeInsert(10), Op::TreeInsert(20), Op::TreeInsert(30)],
+        "0:yes 1:yes 2:yes",
+    ),
+    (
+        &[Op::TreeNext(10), Op::TreeInsert(15), Op::TreeNext(30)],
+        "0:20 2:empty 1:yes",
+    ),
+    (
+        &[
+            Op::TreeNext(0),
+            Op::TreeNext(10),
+            Op::TreeNext(15),
+            Op::TreeNext(20),
+            Op::TreeNext(30),
+        ],
+        "0:10 1:15 2:20 3:30 4:empty",
+    ),
+];
+
+#[test]
+fn batches_have_these_entries(rt: HostRuntime) -> Result<(), Fail> {
+    assert_eq!(rt; first_wrong(rt.alloc(), &ROWS)?, None);
+    Ok(())
+}
+
+/// The outs of pieces that are run from the last to the first, in the order of the pieces.
+fn run_backwards(alloc: Global, pieces: Vec<PieceIn>) -> Result<Vec<PieceOut>, AllocError>
+    ensures { IfOk result (λ outs. AllMeet Meets pieces.items outs.items) }
+{
+    let mut pieces = pieces;
+    match pieces.pop() {
+        None => Ok(Vec::new(alloc)),
+        Some(last) => {
+            let out = run_piece(alloc, last)?;
+            let mut outs = run_backwards(alloc, pieces)?;
+            outs.push(out)?;
+            Ok(outs)
+        }
+    }
+}
+
+/// The places of the pieces of a first batch, and its entries, where the pieces are run from the last to the first.
+fn serve_backwards(alloc: Global, ops: &[Op]) -> Result<(String, String), AllocError>
+    requires some { 0 < length ops.now }
+    requires few { length ops.now ≤ 32 }
+{
+    let shop = Shop::new(alloc)?;
+    let calls = calls_from(alloc, 0, ops)?;
+    let (opened, pieces) = shop.begin(alloc, calls)?;
+    let mut places = String::new(alloc);
+    for piece in &pieces {
+        write!(places, "{} ", piece.place())?;
+    }
+    let outs = run_backwards(alloc, pieces)?;
+    let (shop, batch) = opened.end(alloc, outs)?;
+    let kept = shop.into_history().batches().len();
+    write!(places, "in batch {kept}")?;
+    let words = words_of(alloc, &batch)?;
+    Ok((places, words))
+}
+
+/// A batch that calls all structures, and one of 32 takes.
+const BACKWARDS: [(&[Op], &str, &str); 2] = [
+    (
+        &[
+            Op::PqTake,
+            Op::TreeFind(7),
+            Op::Pop,
+            Op::CounterAdd(5),
+            Op::TreeInsert(7),
+            Op::PqInsert(9),
+            Op::Push(3),
+            Op::CounterAdd(2),
+        ],
+        "0 1 16 32 48 49 50 51 52 53 54 55 in batch 1",
+        "3:5 7:7 6:ok 2:3 1:no 4:yes 5:ok 0:9",
+    ),
+    (
+        &[Op::PqTake; 32],
+        "48 49 50 51 52 53 54 55 in batch 1",
+        "0:empty 1:empty 2:empty 3:empty 4:empty 5:empty 6:empty 7:empty 8:empty 9:empty \
+10:empty 11:empty 12:empty 13:empty 14:empty 15:empty 16:empty 17:empty 18:empty 19:empty 20:empty \
+21:empty 22:empty 23:empty 24:empty 25:empty 26:empty 27:empty 28:empty 29:empty 30:empty 31:empty",
+    ),
+];
+
+/// The place of the first batch that has other pieces or entries, if there is one.
+fn first_wrong_backwards(
+    alloc: Global,
+    rows: &[(&[Op], &str, &str)],
+) -> Result<Option<usize>, AllocError> {
+    for (place, row) in rows.iter().enumerate() {
+        let (ops, places, entries) = *row;
+        if ops.is_empty() || ops.len() > 32 {
+            return Ok(Some(place));
+        }
+        let (at, served) = serve_backwards(alloc, ops)?;
+        if at.as_str() != places || served.as_str() != entries {
+            return Ok(Some(place));
+        }
+    }
+    Ok(None)
+}
+
+#[test]
+fn pieces_may_be_run_backwards(rt: HostRuntime) -> Result<(), Fail> {
+    assert_eq!(rt; first_wrong_backwards(rt.alloc(), &BACKWARDS)?, None);
+    Ok(())
+}

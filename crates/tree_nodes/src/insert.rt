@@ -26,6 +26,7 @@ pub(crate) enum Outcome {
 
 impl Outcome {
     /// Whether the key is new.
+    #[inline]
     fn answer(self) -> Result<bool, AllocError>
         ensures { IsAnswer self result }
     {
@@ -46,9 +47,10 @@ pub fn insert_at_root(alloc: Global, root: &mut Rooted, key: u32) -> Result<bool
     ensures ok { IfOk result (λ added. IsInserted key (keys root.old.tree) (keys root.new.tree) added) }
     ensures err { OnErr result (keys root.new.tree ≡ keys root.old.tree) }
 {
-    let mut pool = Pool::new(alloc);
-    let outcome = insert_with(alloc, root, key, &mut pool.nodes);
+    let mut no_boxes = Vec::new(alloc);
+    let outcome = insert_with(alloc, root, key, &mut no_boxes);
     if let Outcome::Full = &outcome {
+        let mut pool = Pool::new(alloc);
         pool.hold(root.height + 1)?;
         insert_with(alloc, root, key, &mut pool.nodes).answer()
     } else {
@@ -57,6 +59,7 @@ pub fn insert_at_root(alloc: Global, root: &mut Rooted, key: u32) -> Result<bool
 }
 
 /// The insertion into a whole tree with these boxes.
+#[inline]
 #[tactic(auto, using(crate::proofs::TreeLemmas::Inserting::growing))]
 fn insert_with(alloc: Global, root: &mut Rooted, key: u32, boxes: &mut Vec<Box<Node>>) -> Outcome
     requires rooted { IsRooted root.old }

@@ -64,16 +64,26 @@ fn is_short(tree: &Tree) -> bool
 }
 
 /// Rebalances a node one side of which lost a key.
-#[tactic(auto, using(crate::proofs::TreeLemmas::Sides::whole))]
+#[inline]
 pub(crate) fn rebalance(tree: &mut Tree)
     requires { IsShort tree.old }
     ensures keys { keys tree.new ≡ keys tree.old }
     ensures loose { IsLoose tree.new }
     ensures depth { depth tree.new ≡ depth tree.old }
 {
-    if !is_short(tree) {
-        return;
+    if is_short(tree) {
+        repair(tree);
     }
+}
+
+/// Gives the sides of a node back what one of them lacks.
+#[tactic(auto, using(crate::proofs::TreeLemmas::Sides::whole))]
+fn repair(tree: &mut Tree)
+    requires { IsShort tree.old }
+    ensures keys { keys tree.new ≡ keys tree.old }
+    ensures loose { IsLoose tree.new }
+    ensures depth { depth tree.new ≡ depth tree.old }
+{
     match mem::replace(tree, Tree::Empty) {
         Tree::Two(mut node) => {
             let (first, low, second) = node.take_two();

@@ -7,6 +7,7 @@ use crate::node::{Node, Rooted, Split, Tree, three, two};
 use std::mem;
 
 /// Puts what was split off the first side after it. A node with three sides takes a box for the last two of the four.
+#[inline]
 pub fn grow_first(tree: &mut Tree, split: Split, boxes: &mut Vec<Box<Node>>) -> Split
     requires tree { HasSplitFirst split tree.old }
     requires boxes { OnSplits split (0 < length boxes.old.items) }
@@ -36,6 +37,7 @@ pub fn grow_first(tree: &mut Tree, split: Split, boxes: &mut Vec<Box<Node>>) -> 
 }
 
 /// Puts what was split off the second side after it.
+#[inline]
 pub fn grow_second(tree: &mut Tree, split: Split, boxes: &mut Vec<Box<Node>>) -> Split
     requires tree { HasSplitSecond split tree.old }
     requires boxes { OnSplits split (0 < length boxes.old.items) }
@@ -65,6 +67,7 @@ pub fn grow_second(tree: &mut Tree, split: Split, boxes: &mut Vec<Box<Node>>) ->
 }
 
 /// Puts what was split off the third side after it.
+#[inline]
 pub fn grow_third(tree: &mut Tree, split: Split, boxes: &mut Vec<Box<Node>>) -> Split
     requires tree { HasSplitThird split tree.old }
     requires boxes { OnSplits split (0 < length boxes.old.items) }

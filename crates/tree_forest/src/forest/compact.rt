@@ -126,6 +126,15 @@ fn merge_lower(
     Ok(merged)
 }
 
+/// Whether the last entry's tree is lower.
+#[inline]
+fn ends_lower(entries: &[KeyedTree], height: u64) -> bool {
+    match entries.last() {
+        Some(last) => last.rooted.height < height,
+        None => false,
+    }
+}
+
 /// Puts a key and a tree after all.
 #[inline]
 fn add(trees: &mut Trees, entry: KeyedTree, pool: &mut ForestPool) -> Result<(), AllocError>
@@ -136,7 +145,11 @@ fn add(trees: &mut Trees, entry: KeyedTree, pool: &mut ForestPool) -> Result<(),
     ensures count { OnOk result (length trees.new.entries.items ≤ length trees.old.entries.items + 1) }
     ensures keys { OnOk result (in_order trees.new ≡ in_order trees.old ++ entry.key ∷ keys entry.rooted.tree) }
 {
-    let KeyedTree { key, rooted } = merge_lower(trees, entry, pool)?;
+    let KeyedTree { key, rooted } = if ends_lower(&trees.entries, entry.rooted.height) {
+        merge_lower(trees, entry, pool)?
+    } else {
+        entry
+    };
     trees.push(key, rooted.tree, rooted.height)
 }
 

@@ -1,12 +1,13 @@
 //! What is left of a forest while its keys are taken off from the least on.
-ghost use Rattle.std.specs.Prelude.{◌≡◌, ◌<◌, ◌≤◌, List, [], ◌∷◌, ◌++◌, slice_get, None, IfOk, IfSome, OnErr};
+ghost use Rattle.std.specs.Prelude.{◌≡◌, ◌<◌, ◌≤◌, List, [], ◌∷◌, ◌++◌, slice_get, None, IfOk, IfSome, OnOk, OnErr};
 ghost use Rattle.tree23.specs.declared.trees.KeyedTree.{KeyedTree as KeyedTreeOf};
 ghost use Rattle.key_sets.specs.Keys.{StrictlyAscends};
 ghost use Rattle.tree_nodes.specs.Nodes.{keys, IsRooted};
-ghost use Rattle.tree23.specs.SideBySide.{in_reverse, AreTrees};
+ghost use Rattle.tree23.specs.SideBySide.{in_order, in_reverse, AreTrees};
 ghost use Rattle.tree23.specs.Code.Cuts.{whole_keys, IsOpenCut};
 ghost use Rattle.tree_forest.specs.Code.Merges.{IsTakenOff};
 ghost use Rattle.key_sets.specs.Splits.{IsSplit};
+ghost use Rattle.tree_forest.specs.Forests.{IsKeySet};
 
 use crate::forest::Forest;
 use crate::pool::ForestPool;
@@ -18,10 +19,11 @@ use tree_nodes::search::first_in;
 use tree23::trees::cut::{Cut, cut_at};
 use tree23::trees::{KeyedTree, Trees};
 
-/// A set of numbers from which forests are taken off. Contracts see it as the list of its keys, which strictly ascends.
+/// A set of numbers from which forests are taken off. Contracts see it as the list of its keys, which strictly ascends:
+/// those of the high side. The low side is in use only while a forest is taken off.
 #[derive(Drop)]
 pub struct Remaining {
-    trees: Trees,
+    sides: Cut,
     alloc: Global,
 }
 
@@ -33,9 +35,9 @@ impl Model for Remaining {
     ghost use Rattle.tree23.specs.SideBySide.{in_reverse, AreTrees};
     ghost use Rattle.tree_forest.specs.Forests.{IsKeySet};
 
-    ghost view = { λ r. in_reverse r.trees };
+    ghost view = { λ r. in_reverse r.sides.high };
 
-    ghost invariant = { λ r. AreTrees r.trees × IsKeySet (in_reverse r.trees) };
+    ghost invariant = { λ r. AreTrees r.sides.high × IsKeySet (in_reverse r.sides.high) };
 }
 
 impl Remaining {
@@ -49,7 +51,11 @@ impl Remaining {
         let Trees { front, mut entries } = forest.trees;
         entries.reverse();
         Remaining {
-            trees: Trees { front, entries },
+            sides: Cut {
+                low: Trees::empty(alloc),
+                before: None,
+                high: Trees { front, entries },
+            },
             alloc,
         }
     }
@@ -58,9 +64,9 @@ impl Remaining {
     pub fn least(&self) -> Option<u32>
         ensures { result ≡ slice_get self.now 0 }
     {
-        match first_in(&self.trees.front.tree) {
+        match first_in(&self.sides.high.front.tree) {
             Some(key) => Some(key),
-            None => match self.trees.entries.last() {
+            None => match self.sides.high.entries.last() {
                 Some(entry) => Some(entry.key),
                 None => None,
             },
@@ -74,11 +80,10 @@ impl Remaining {
         ensures err { OnErr result (self.new ≡ []) }
     {
         let alloc = self.alloc;
-        let high = mem::replace(&mut self.trees, Trees::empty(alloc));
-        let (mut sides, rooted) = pass_below(high, key, pool)?;
-        cut_at(rooted, key, &mut sides, &mut pool.trees)?;
-        let Cut { low, high, .. } = sides;
-        self.trees = high;
+        let Ok(low) = take_below(alloc, &mut self.sides, key, pool) else {
+            self.sides.high = Trees::empty(alloc);
+            return Err(AllocError);
+        };
         Ok(Forest::of(low, alloc))
     }
 
@@ -89,33 +94,54 @@ impl Remaining {
         ensures { result.keys ≡ self }
     {
         let alloc = self.alloc;
-        let Trees { front, mut entries } = self.trees;
+        let Trees { front, mut entries } = self.sides.high;
         entries.reverse();
         Forest::of(Trees { front, entries }, alloc)
     }
 }
 
-/// Passes the trees that stand before a key to the low side, up to the tree in which the cut at the key lies, which is
-/// taken out.
-fn pass_below(mut high: Trees, key: u32, pool: &mut ForestPool) -> Result<(Cut, Rooted), AllocError>
-    requires trees { AreTrees high }
-    requires set { StrictlyAscends (in_reverse high) }
-    ensures sides { IfOk result (λ p. IsOpenCut key p.0) }
-    ensures keys { IfOk result (λ p. whole_keys (keys p.1.tree) p.0 ≡ in_reverse high) }
-    ensures rooted { IfOk result (λ p. IsRooted p.1) }
+/// Takes off the keys of the high side that are below `key`.
+#[inline]
+fn take_below(
+    alloc: Global,
+    sides: &mut Cut,
+    key: u32,
+    pool: &mut ForestPool,
+) -> Result<Trees, AllocError>
+    requires trees { AreTrees sides.old.high }
+    requires set { IsKeySet (in_reverse sides.old.high) }
+    ensures low_trees { IfOk result (λ low. AreTrees low) }
+    ensures high_trees { OnOk result (AreTrees sides.new.high) }
+    ensures split { IfOk result (λ low. IsSplit key (in_reverse sides.old.high) (in_order low)
+        (in_reverse sides.new.high)) }
 {
-    let mut rooted = mem::replace(&mut high.front, Rooted::empty());
-    let low = Trees {
+    let rooted = pass_below(sides, key, pool)?;
+    cut_at(rooted, key, sides, &mut pool.trees)?;
+    Ok(mem::replace(&mut sides.low, Trees::empty(alloc)))
+}
+
+/// Passes the trees of the high side that stand before a key to a new low side, up to the tree in which the cut at the
+/// key lies, which is taken out.
+#[inline]
+fn pass_below(sides: &mut Cut, key: u32, pool: &mut ForestPool) -> Result<Rooted, AllocError>
+    requires trees { AreTrees sides.old.high }
+    requires set { StrictlyAscends (in_reverse sides.old.high) }
+    ensures sides { OnOk result (IsOpenCut key sides.new) }
+    ensures keys { IfOk result (λ rooted. whole_keys (keys rooted.tree) sides.new
+        ≡ in_reverse sides.old.high) }
+    ensures rooted { IfOk result (λ rooted. IsRooted rooted) }
+{
+    sides.low = Trees {
         front: Rooted::empty(),
         entries: pool.take_entries()?,
     };
-    let before = None;
-    let mut sides = Cut { low, before, high };
+    sides.before = None;
+    let mut rooted = mem::replace(&mut sides.high.front, Rooted::empty());
     while let Some(entry) = pop_below(&mut sides.high.entries, key) {
         sides.put_low(rooted.tree, rooted.height, entry.key)?;
         rooted = entry.rooted;
     }
-    Ok((sides, rooted))
+    Ok(rooted)
 }
 
 /// Takes the last entry off, if its key is below.

@@ -5,11 +5,11 @@ use Rattle.tree_forest.proofs.forest.remaining.pass_below.Goals as goal
 
 pub loop-entry-init : goal.loop-entry-init
 loop-entry-init c =
-    pass_none c.args.key c.args.high c.replace-rooted.result
-    (record { front = c.empty-2.result; entries = c.in_ok-take_entries.field-0 })
-    (record { front = c.replace-rooted.new.dest; entries = c.args.high.entries })
-    c.requires.trees c.replace-rooted.ensures.value c.empty-2.ensures.rooted c.empty-2.ensures.keys c.in_ok-take_entries.ensures
-    (rw c.replace-rooted.ensures.after c.empty.ensures.rooted) (ap (λ p. p.tree) c.replace-rooted.ensures.after ∙ c.empty.ensures.keys) refl
+    pass_none c.args.key c.args.sides.now.high c.replace-rooted.result
+    (record { front = c.empty.result; entries = c.in_ok-take_entries.field-0 })
+    (record { front = c.replace-rooted.new.dest; entries = c.args.sides.now.high.entries })
+    c.requires.trees c.replace-rooted.ensures.value c.empty.ensures.rooted c.empty.ensures.keys c.in_ok-take_entries.ensures
+    (rw c.replace-rooted.ensures.after c.empty-2.ensures.rooted) (ap (λ p. p.tree) c.replace-rooted.ensures.after ∙ c.empty-2.ensures.keys) refl
 
 pub loop-entry-preserved : goal.loop-entry-preserved
 loop-entry-preserved c =

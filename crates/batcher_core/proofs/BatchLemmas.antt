@@ -1,6 +1,7 @@
 pub mod TakenCalls
-pub mod ServedCalls
+pub mod Replied
 pub mod Made
-pub mod History
+pub mod SameCalls
+pub mod Serving
 pub mod Publishing
 pub mod Existence

@@ -7,6 +7,8 @@ use Rattle.batcher_core.specs.declared.state.progress.Progress.TheVariants.{Wait
 use Rattle.batcher_core.specs.declared.state.status.CallState.TheVariants.{NotCalled}
 use Rattle.batcher_core.specs.declared.state.status.Status.TheVariants.{Free}
 use Rattle.batcher_core.specs.declared.state.task.Task.TheVariants.{Idle}
+use Rattle.batch_history.specs.Serving.{served_book}
+use Rattle.batch_history.specs.declared.batch.Entry.{Entry}
 use Rattle.std.specs.Prelude.{List, None, Option, Some, [], false, ℕ}
 
 -- the hold that the parts of one show
@@ -23,7 +25,12 @@ abbrev pub hold_of : Option StoredHold → Option Hold
 hold_of None = None
 hold_of (Some h) = Some (hold_view h)
 
--- the state that a table shows
+-- the batches that a shop has served, which is there unless memory has failed
+abbrev pub book_of : Option (List (List Entry)) → List (List Entry)
+book_of None = []
+book_of (Some book) = book
+
+-- the state that a table shows: its objects are those after the calls of its book
 unfoldable pub state_of : StoredState → State
 state_of t = record {
   node = at t.nodes.items Waiting;
@@ -34,8 +41,8 @@ state_of t = record {
   call = at t.calls.items NotCalled;
   hold = hold_of t.hold;
   tick = t.tick;
-  book = t.history;
-  objects = t.objects;
+  book = book_of t.shop;
+  objects = served_book (book_of t.shop);
 }
 
 -- and the lists of ready nodes that it shows

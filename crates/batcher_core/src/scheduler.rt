@@ -18,7 +18,7 @@ use crate::job::CoreJob;
 use crate::laws::report::{done_leaves_have_run, done_report_is_lawful};
 use crate::report::rows_of;
 use crate::spun::Spun;
-use crate::state::State;
+use crate::state::{State, history_of};
 use crate::turn::Turn;
 use batch_history::{Report, Row, Rows};
 use sp_order::laws::{plan_has_sides, plan_stands_for_tree};
@@ -236,7 +236,7 @@ impl Core {
         let table = self.table;
         Ok(Report {
             workers,
-            history: table.history,
+            history: history_of(table.shop),
             rows: Rows::of(rows),
         })
     }

@@ -1,7 +1,7 @@
 //! The state of the core.
 
-ghost use Rattle.std.specs.Prelude.{◌≡◌, ◌<◌, length};
-ghost use Rattle.batcher_core.specs.Abstraction.{state_of};
+ghost use Rattle.std.specs.Prelude.{◌≡◌, ◌<◌, length, IsSome};
+ghost use Rattle.batcher_core.specs.Abstraction.{book_of, state_of};
 ghost use Rattle.batcher_core.specs.Tasks.{is_done as node_done};
 
 pub mod hold;
@@ -17,7 +17,7 @@ use crate::state::ready::ReadyLists;
 use crate::state::status::{CallState, Status};
 use crate::state::task::Task;
 use batch_history::History;
-use seq_objects::Plain;
+use launch_batch::Shop;
 
 /// The state of a core. `nodes`, `marks` and `values` have an item for each node, and `tasks`, `statuses`, `calls` and
 /// `ready` one for each worker.
@@ -41,10 +41,8 @@ pub struct State {
     pub(crate) hold: Option<Hold>,
     /// The tick that the next start or end of a leaf draws: the number of those that there were.
     pub(crate) tick: u64,
-    /// The batches that were served.
-    pub(crate) history: History,
-    /// The shared objects, after all these batches.
-    pub(crate) objects: Plain,
+    /// The shared structures, with the batches that they have served. It is not there once memory has failed in a batch.
+    pub(crate) shop: Option<Shop>,
 }
 
 /// Whether a node with this progress is done.
@@ -57,6 +55,17 @@ fn is_done(progress: Progress) -> bool
         Progress::Taken => false,
         Progress::Done => true,
         Progress::Ran { .. } => true,
+    }
+}
+
+/// The batches that a shop has served. The shop is there.
+pub(crate) fn history_of(shop: Option<Shop>) -> History
+    requires { IsSome shop }
+    ensures { result ≡ book_of shop }
+{
+    match shop {
+        Some(shop) => shop.into_history(),
+        None => unreachable!(),
     }
 }
 

@@ -1,22 +1,27 @@
--- The calls that are taken make a batch: each goes to its place in batch order, one worker after another.
-use Rattle.std.proofs.Common.{ℕ, zero, suc, ◌≡◌, ◌≢◌, ◌<◌, ◌⊎◌, Bool, true, false, Option, Some, None, List, [], ◌∷◌, ◌++◌, arith, refl, inl, inr, subst, sym, ap}
+-- The calls that are taken make a batch: they are gathered, one worker after another, and each is put at its place in
+-- batch order.
+use Rattle.std.proofs.Common.{ℕ, zero, suc, ◌≡◌, ◌≢◌, ◌<◌, ◌⊎◌, Bool, true, false, Option, Some, None, List, [], ◌∷◌, ◌++◌, map, arith, refl, inl, inr, subst, sym, ap}
 use Rattle.std.specs.List.{AllByRecursion}
 use Rattle.std.proofs.lemmas.Bool.{cases_eq, cases_lt, cases_Bool}
-use Rattle.seq_objects.specs.Objects.{Objects, after, reply_to}
 use Rattle.seq_objects.specs.Batches.{AreInBatchOrder}
 use Rattle.seq_objects.specs.declared.call.Call.{Call}
+use Rattle.seq_objects.specs.Pairs.{AreDistinct}
+use Rattle.launch_batch.specs.Calls.{AreSame}
+use Rattle.launch_batch.proofs.ListLemmas.Elements.{each_unmapped}
+use Rattle.launch_batch.proofs.ListLemmas.Same.{each_same}
 use Rattle.batcher_core.proofs.Words.{Op, Kind, Entry, Publish, Task, Started, CoreJob, State}
-use Rattle.batch_history.specs.Book.{IsLegalFrom}
 use Rattle.batcher_core.specs.Operations.{IsCall, IsLeaf, leaf_of, op_in}
 use Rattle.batcher_core.specs.Events.{Needs, IsBatchOf}
 use Rattle.batcher_core.specs.Invariant.Statuses.{IsAtCall}
 use Rattle.batcher_core.specs.Invariant.Tasks.{TaskFits}
-use Rattle.batcher_core.specs.Code.Batches.{IsCallOf, AreEntriesOf}
+use Rattle.batcher_core.specs.Code.Batches.{IsCallOf, AreTakenCalls}
 use Rattle.batcher_core.proofs.Inductive.Parts.{InductiveParts}
 use Rattle.batcher_core.proofs.BookLemmas.EntryLists.{each_append, each_front, each_so}
 use Rattle.seq_objects.specs.BatchOrder.{ComesFirst, class_of, key_of}
 use Rattle.seq_objects.proofs.CallOrder.{IsFirst, first_through, first_or_second}
-use Rattle.batcher_core.proofs.BatchLemmas.TakenCalls.{at_call_started, TakenOf, between}
+use Rattle.batcher_core.proofs.BatchLemmas.TakenCalls.{at_call_started, TakenOf, one_more}
+use Rattle.batcher_core.proofs.BatchLemmas.SameCalls.{taken_too}
+use Rattle.batcher_core.proofs.BatchLemmas.Replied.{replied, replied_are, replied_legal}
 use Rattle.batcher_core.proofs.BatchLemmas.Made.{taken_at_call, batch_made}
 
 -- a class, a key and a worker come before others
@@ -75,19 +80,20 @@ place call (y ∷ ys) apart order = elim (first_or_not call.op y.op call.worker 
       }
 ]
 
--- the entries of calls that are served one after another
-abbrev replied : Objects → List Call → List Entry
-replied objects [] = []
-replied objects (call ∷ calls) =
-    record { worker = call.worker; leaf = call.leaf; op = call.op; reply = reply_to objects call.op } ∷ replied (after objects call.op) calls
+-- calls of distinct workers, in batch order
+record Ordered (calls : List Call) : Type 0 where
+  others : List Call
+  same : AreSame calls others
+  order : AreInBatchOrder others
 
-replied_are : (objects : Objects) (calls : List Call) → AreEntriesOf calls (replied objects calls)
-replied_are objects [] = refl
-replied_are objects (call ∷ calls) = ap (λ l. call ∷ l) (replied_are (after objects call.op) calls)
-
-replied_legal : (objects : Objects) (calls : List Call) → IsLegalFrom objects (replied objects calls)
-replied_legal objects [] = tt
-replied_legal objects (call ∷ calls) = (refl, replied_legal (after objects call.op) calls)
+put_in_order : (calls : List Call) → AreDistinct (map (λ (call : Call). call.worker) calls) → Ordered calls
+put_in_order [] distinct = record { others = []; same = refl; order = tt }
+put_in_order (call ∷ calls) distinct =
+    let rest = put_in_order calls distinct.1 in
+    let others = each_same (λ (other : Call). call.worker ≢ other.worker) calls rest.others rest.same (each_unmapped (λ (other : Call). other.worker) (λ w. call.worker ≢ w) calls distinct.0) in
+    let apart = each_so (λ (other : Call). call.worker ≢ other.worker) (λ (other : Call). other.worker ≢ call.worker) (λ other is e. is (sym e)) rest.others others in
+    let parts = place call rest.others apart rest.order in
+    record { others = parts.before ++ call ∷ parts.later; same = (parts.before, parts.later, refl, subst (AreSame calls) parts.whole rest.same); order = parts.order }
 
 some_op : (o : Option Op) → o ≢ None → (op : Op) × (o ≡ Some op)
 some_op None some = absurd (some refl)
@@ -116,21 +122,18 @@ record TakenUpTo (job : CoreJob) (task : ℕ → Task) (taken : ℕ → Bool) (b
   are : TakenOf job task taken bound calls
 
 module _ (job : CoreJob) (task : ℕ → Task) (taken : ℕ → Bool) where
-  -- one more worker is taken, and its call goes between two parts of the others
+  -- one more worker is taken
   with_call : (bound : ℕ) → TakenUpTo job task taken bound → (call : Call) → call.worker ≡ bound → IsCallOf job (task bound) call → taken bound ≡ true
       → TakenUpTo job task taken (suc bound)
   with_call bound h call at is took =
-      let apart = each_so (λ (a : Call). a.worker < bound) (λ (a : Call). a.worker ≢ call.worker) (λ a less same. absurd (omega (arith, less, same, at))) h.calls h.are.below in
-      let parts = place call h.calls apart h.are.taken.order in
-      let more = between job task taken bound parts.before call parts.later at is took (subst (TakenOf job task taken bound) parts.whole h.are) parts.order in
-      record { calls = parts.before ++ call ∷ parts.later; are = subst (λ (n : ℕ). TakenOf job task taken n (parts.before ++ call ∷ parts.later)) (omega arith) more }
+      let more = one_more job task taken bound h.calls call at is took h.are in
+      record { calls = h.calls ++ call ∷ []; are = subst (λ (n : ℕ). TakenOf job task taken n (h.calls ++ call ∷ [])) (omega arith) more }
 
   without_call : (bound : ℕ) → TakenUpTo job task taken bound → taken bound ≡ false → TakenUpTo job task taken (suc bound)
   without_call bound h not = record {
     calls = h.calls;
     are = record {
       taken = record {
-        order = h.are.taken.order;
         distinct = h.are.taken.distinct;
         only = h.are.taken.only;
         each = λ w below took. elim (cases_eq w bound) [
@@ -146,7 +149,7 @@ module _ (job : CoreJob) (task : ℕ → Task) (taken : ℕ → Bool) where
   taken_up_to : ((w : ℕ) → taken w ≡ true → (call : Call) × (call.worker ≡ w) × IsCallOf job (task w) call) → (bound : ℕ) → TakenUpTo job task taken bound
   taken_up_to has zero = record {
     calls = [];
-    are = record { taken = record { order = tt; distinct = tt; only = tt; each = λ w below took. absurd (omega (arith, below)) }; below = tt };
+    are = record { taken = record { distinct = tt; only = tt; each = λ w below took. absurd (omega (arith, below)) }; below = tt };
   }
   taken_up_to has (suc bound) = elim (cases_Bool (taken bound)) [
     | inl took ↦ (let found = has bound took in with_call bound (taken_up_to has bound) found.0 found.1 found.2 took)
@@ -157,7 +160,11 @@ module _ (job : CoreJob) (task : ℕ → Task) (taken : ℕ → Bool) where
 pub batch_exists : (job : CoreJob) (s : State) (w : ℕ) → InductiveParts job s → Needs job s w Publish → (batch : List Entry) × IsBatchOf job s batch
 batch_exists job s w h needs =
     let all = taken_up_to job s.task needs.0.taken
-    (λ v took. call_at job (s.task v) v (taken_at_call job s needs.0 h needs.1.0 needs.4 v took) (started_leaf job s h v)) job.workers in (
-      replied s.objects all.calls,
-      batch_made job s needs.0 h needs.1.0 all.calls (replied s.objects all.calls) needs.3 all.are.taken (replied_are s.objects all.calls) (replied_legal s.objects all.calls),
+    (λ v took. call_at job (s.task v) v (taken_at_call job s needs.0 h needs.1.0 needs.4 v took) (started_leaf job s h v)) job.workers in
+    let put = put_in_order all.calls all.are.taken.distinct in
+    let entries = replied s.objects put.others in
+    let are = sym (replied_are s.objects put.others) in (
+      entries,
+      batch_made job s needs.0 h needs.1.0 entries needs.3 (subst (AreTakenCalls job s.task needs.0.taken) are (taken_too job s.task needs.0.taken all.calls put.others put.same all.are.taken))
+          (subst AreInBatchOrder are put.order) (replied_legal s.objects put.others),
     )

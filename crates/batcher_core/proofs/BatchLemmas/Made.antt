@@ -1,10 +1,10 @@
 -- The entries of the calls that were taken, once served, make the batch that is to be published.
-use Rattle.std.proofs.Common.{ℕ, ◌≡◌, ◌≢◌, ◌<◌, ◌≤◌, Bool, true, false, Some, List, [], ◌∷◌, map, length, arith, refl, ◌∙◌, ap}
+use Rattle.std.proofs.Common.{ℕ, ◌≡◌, ◌≢◌, ◌<◌, Bool, true, false, Some, List, [], ◌∷◌, map, arith, refl, ◌∙◌, ap}
 use Rattle.std.specs.Prelude.{Contains}
 use Rattle.std.specs.List.{AllByRecursion}
-use Rattle.std.proofs.lemmas.List.{length-map}
 use Rattle.std.proofs.lemmas.Simd.{map-map}
 use Rattle.seq_objects.specs.BatchOrder.{ComesFirst}
+use Rattle.seq_objects.specs.Batches.{AreInBatchOrder}
 use Rattle.seq_objects.specs.declared.call.Call.{Call}
 use Rattle.batcher_core.proofs.Words.{Entry, Task, Status, Executing, CallState, CoreJob, Hold, State}
 use Rattle.seq_objects.specs.Pairs.{EachPair}
@@ -14,10 +14,10 @@ use Rattle.batcher_core.specs.Invariant.Statuses.{IsAtCall, is_taken_by}
 use Rattle.batcher_core.specs.Invariant.Hold.{HoldInvariant}
 use Rattle.batcher_core.proofs.Inductive.Book.{StatusFits}
 use Rattle.batcher_core.proofs.Inductive.Parts.{InductiveParts}
-use Rattle.batcher_core.specs.Code.Batches.{IsCallOf, AreTakenCalls, call_in, AreEntriesOf}
-use Rattle.batcher_core.proofs.BookLemmas.EntryLists.{each_so, each_mapped}
+use Rattle.batch_history.specs.Serving.{call_in, calls_in}
+use Rattle.batcher_core.specs.Code.Batches.{IsCallOf, AreTakenCalls}
+use Rattle.batcher_core.proofs.BookLemmas.EntryLists.{each_so}
 use Rattle.batcher_core.proofs.InvariantLemmas.BatchFacts.{executing}
-use Rattle.batcher_core.proofs.BookLemmas.Room.{distinct_few}
 
 -- what holds of what each element is mapped to
 unmapped : {A B : Type 0} (f : A → B) (P : B → Type 0) (xs : List A) → AllByRecursion P (map f xs) → AllByRecursion (λ a. P (f a)) xs
@@ -59,17 +59,8 @@ module _ (job : CoreJob) (s : State) (hd : Hold) (h : InductiveParts job s) (the
       let answered : hd.answered w ≡ false = grind (arith, hold_stands.6 w) in
       let owed : is_taken_by (Some hd) w ≡ true = rw (took, answered) refl in rw there owed
 
-  -- there are no more calls than workers
-  pub few_calls : (calls : List Call) → AreTakenCalls job s.task hd.taken calls → length calls ≤ job.workers
-  few_calls calls taken =
-      let few = distinct_few (map (λ (call : Call). call.worker) calls) job.workers
-      taken.distinct
-      (each_mapped (λ (call : Call). call.worker) (λ (call : Call). (hd.taken call.worker ≡ true) × IsCallOf job (s.task call.worker) call)
-      (λ w. w < job.workers) (λ call is. taken_below call.worker is.0) calls taken.only) in
-      rw length-map at few
-
-  module _ (entries : List Entry) (taken : AreTakenCalls job s.task hd.taken (map call_in entries)) where
-    workers_same : map (λ (call : Call). call.worker) (map call_in entries) ≡ map (λ (e : Entry). e.worker) entries
+  module _ (entries : List Entry) (taken : AreTakenCalls job s.task hd.taken (calls_in entries)) where
+    workers_same : map (λ (call : Call). call.worker) (calls_in entries) ≡ map (λ (e : Entry). e.worker) entries
     workers_same = map-map (λ (call : Call). call.worker) call_in entries
 
     each_taken : (w : ℕ) → hd.taken w ≡ true → Contains (map (λ (e : Entry). e.worker) entries) w
@@ -83,20 +74,23 @@ module _ (job : CoreJob) (s : State) (hd : Hold) (h : InductiveParts job s) (the
       operation = is.1.4;
     }
 
-    made : (u : ℕ) × (hd.taken u ≡ true) → IsLegalFrom s.objects entries → IsBatchOf job s entries
-    made some legal = record {
+    pub only_taken : AllByRecursion (IsTakenCall job s) entries
+    only_taken = each_so (λ (e : Entry). (hd.taken e.worker ≡ true) × IsCallOf job (s.task e.worker) (call_in e)) (IsTakenCall job s) taken_call entries
+        (unmapped call_in (λ (call : Call). (hd.taken call.worker ≡ true) × IsCallOf job (s.task call.worker) call) entries taken.only)
+
+    made : (u : ℕ) × (hd.taken u ≡ true) → AreInBatchOrder (calls_in entries) → IsLegalFrom s.objects entries → IsBatchOf job s entries
+    made some order legal = record {
       is_batch = record {
         some = some_in (λ (e : Entry). e.worker) entries some.0 (each_taken some.0 some.1);
-        order = pairs_unmapped call_in (λ (a b : Call). ComesFirst a.op a.worker b.op b.worker) entries taken.order;
+        order = pairs_unmapped call_in (λ (a b : Call). ComesFirst a.op a.worker b.op b.worker) entries order;
         workers = rw workers_same at taken.distinct;
       };
-      only = each_so (λ (e : Entry). (hd.taken e.worker ≡ true) × IsCallOf job (s.task e.worker) (call_in e)) (IsTakenCall job s) taken_call entries
-          (unmapped call_in (λ (call : Call). (hd.taken call.worker ≡ true) × IsCallOf job (s.task call.worker) call) entries taken.only);
+      only = only_taken;
       each = λ w took. each_taken w (rw there at took);
       replies = legal;
     }
 
-  -- the entries of the calls that were taken make a batch
-  pub batch_made : (calls : List Call) (entries : List Entry) → (u : ℕ) × (hd.taken u ≡ true) → AreTakenCalls job s.task hd.taken calls
-      → AreEntriesOf calls entries → IsLegalFrom s.objects entries → IsBatchOf job s entries
-  batch_made calls entries some taken are legal = made entries (rw (← are) at taken) some legal
+  -- the entries of the calls that were taken make a batch, where they are in batch order
+  pub batch_made : (entries : List Entry) → (u : ℕ) × (hd.taken u ≡ true) → AreTakenCalls job s.task hd.taken (calls_in entries)
+      → AreInBatchOrder (calls_in entries) → IsLegalFrom s.objects entries → IsBatchOf job s entries
+  batch_made entries some taken order legal = made entries taken some order legal

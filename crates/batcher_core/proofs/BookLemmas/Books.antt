@@ -1,13 +1,14 @@
 -- Where entries stand in a book, and what a longer book is.
 use Rattle.std.proofs.Common.{ℕ, ◌≡◌, ◌≢◌, ◌<◌, ◌+◌, ◌==◌, Bool, true, false, if◌then◌else◌, Option, Some, None, List, [], ◌⊎◌, inl, inr, ◌∷◌, ◌++◌, length, arith, refl, inl, inr, subst, sym, ◌∙◌, ap, add-zero, zero-add}
 use Rattle.std.proofs.Common.{append-nil, append_assoc}
-use Rattle.seq_objects.specs.Objects.{Objects, after}
+use Rattle.seq_objects.specs.Objects.{Objects, opening, after}
 use Rattle.std.specs.List.{AllByRecursion}
 use Rattle.std.proofs.lemmas.Bool.Decides.{nat_tests}
 use Rattle.std.proofs.lemmas.Bool.{cases_eq}
 use Rattle.batch_history.specs.declared.batch.Entry.{Entry}
 use Rattle.batch_history.specs.Book.{flat, IsLegalFrom}
 use Rattle.batcher_core.specs.Operations.{Place, place_in, or_else, place_from, place_of}
+use Rattle.batch_history.specs.Serving.{served_book}
 use Rattle.batcher_core.specs.Serving.{served}
 use Rattle.batcher_core.proofs.BookLemmas.EntryLists.{each_append, each_front, each_so}
 
@@ -147,6 +148,10 @@ found_from P k (b ∷ bs) u p h e =
 pub found_in_book : (P : Entry → Type 0) (bs : List (List Entry)) (u : ℕ) (p : Place) → AllByRecursion P (flat bs) → place_of bs u ≡ Some p → P p.entry × (p.entry.leaf ≡ u)
 unfolding place_of
 found_in_book P bs u p h e = found_from P 0 bs u p h e
+
+-- one more batch is served after those before it
+pub served_then : (book : List (List Entry)) (batch : List Entry) → served_book (book ++ batch ∷ []) ≡ served (served_book book) batch
+served_then book batch = ap (served opening) (flat_append book batch) ∙ served_append opening (flat book) batch
 
 -- what is found in the batches from a number on has a number below their end
 place_from_below : (k : ℕ) (bs : List (List Entry)) (u : ℕ) (p : Place) → place_from k bs u ≡ Some p → p.batch < k + length bs

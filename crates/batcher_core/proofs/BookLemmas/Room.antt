@@ -1,19 +1,15 @@
--- There is at most one entry for each leaf that calls, so the numbers of batches, of places and of the counter have room.
-use Rattle.std.proofs.Common.{ℕ, ◌≡◌, ◌<◌, ◌≤◌, ◌+◌, ◌*◌, ◌^◌, Some, List, [], ◌∷◌, ◌++◌, length, map, arith, refl, sym, ◌∙◌, ap, eqb-true, length-append}
+-- There is at most one entry for each leaf that calls, so the numbers of batches and of places have room.
+use Rattle.std.proofs.Common.{ℕ, ◌≡◌, ◌<◌, ◌≤◌, Some, List, [], ◌∷◌, length, map, arith, refl, eqb-true, length-append}
 use Rattle.std.proofs.lemmas.List.{length-map}
 use Rattle.std.specs.List.{AllByRecursion}
 use Rattle.std.proofs.lemmas.Map.Steps.{length-le_from_distinct_below}
 use Rattle.std.proofs.lemmas.Map.Views.{Contains-from_any}
-use Rattle.seq_objects.specs.Objects.{Objects}
-use Rattle.seq_objects.specs.declared.call.Call.{Call as Asked}
 use Rattle.batcher_core.proofs.Words.{Entry, CoreJob, State}
 use Rattle.seq_objects.specs.Pairs.{AreDistinct}
 use Rattle.batch_history.specs.Book.{flat, IsBatch}
 use Rattle.batcher_core.specs.Operations.{op_in, IsCall}
 use Rattle.batcher_core.proofs.Inductive.Parts.{InductiveParts}
-use Rattle.batcher_core.specs.Code.Batches.{call_in, AreEntriesOf}
 use Rattle.batcher_core.proofs.BookLemmas.EntryLists.{each_so, each_mapped, each_at, distinct_tests}
-use Rattle.batcher_core.proofs.BookLemmas.Books.{flat_append}
 
 -- there are no more distinct numbers than numbers below their bound
 pub distinct_few : (xs : List ℕ) (most : ℕ) → AreDistinct xs → AllByRecursion (λ x. x < most) xs → length xs ≤ most
@@ -25,13 +21,6 @@ pub few_batches : (book : List (List Entry)) → AllByRecursion IsBatch book →
 few_batches [] h = omega arith
 few_batches ([] ∷ book) h = absurd (h.0.some refl)
 few_batches ((e ∷ es) ∷ book) h = let more = few_batches book h.1 in omega (arith, length-append es (flat book), more)
-
--- the counter stays so, if a batch makes it no greater than that
-pub counter_grows : (book : List (List Entry)) (calls : List Asked) (batch : List Entry) (old new : Objects) → AreEntriesOf calls batch
-    → new.counter ≤ old.counter + length calls * 2 ^ 32 → old.counter ≤ length (flat book) * 2 ^ 32 → new.counter ≤ length (flat (book ++ batch ∷ [])) * 2 ^ 32
-counter_grows book calls batch old new are grown most =
-    let len : length batch ≡ length calls = sym (length-map batch call_in) ∙ ap length are in
-    rw (flat_append book batch) (omega (arith, grown, most, len, length-append (flat book) batch))
 
 module _ (job : CoreJob) (s : State) (h : InductiveParts job s) where
   -- the leaves that are in the book call
@@ -48,8 +37,3 @@ module _ (job : CoreJob) (s : State) (h : InductiveParts job s) where
   -- so batches and places have numbers below that of the nodes
   pub book_room : ((leaf : ℕ) → IsCall job leaf → leaf < job.plan.count) → (length (flat s.book) ≤ job.plan.count) × (length s.book ≤ length (flat s.book))
   book_room below = (few_entries job.plan.count below, few_batches s.book h.book.batches)
-
-  -- a counter that has grown so has room for 32 more operations
-  pub counter_room : ((leaf : ℕ) → IsCall job leaf → leaf < job.plan.count) → job.plan.count < 40000 → s.objects.counter ≤ length (flat s.book) * 2 ^ 32
-      → s.objects.counter + 32 * 2 ^ 32 ≤ 2 ^ 64
-  counter_room below few most = let entries = few_entries job.plan.count below in omega (arith, entries, few, most)

@@ -9,7 +9,7 @@ use Rattle.batcher_core.specs.declared.job.CoreJob.{CoreJob as StoredJob}
 use Rattle.batcher_core.proofs.ChoiceLemmas.Gate.{taken_row}
 use Rattle.batcher_core.specs.Operations.{IsLeaf}
 use Rattle.batcher_core.specs.Invariant.Tasks.{TaskFits}
-use Rattle.batcher_core.specs.Abstraction.{state_of}
+use Rattle.batcher_core.specs.Abstraction.{book_of, state_of}
 use Rattle.batcher_core.specs.Code.Lookups.{MoveIn, CanChoose}
 use Rattle.batcher_core.specs.Code.Representation.{Represents}
 use Rattle.batcher_core.proofs.CodeLemmas.InRange.{parent_in, named_in}
@@ -35,9 +35,9 @@ move_in plan laws n (Arrive p) e = parent_in plan laws p n (rw e refl)
 started_leaf : (plan : Nodes) (node : ℕ → Progress) (mark : ℕ → ℕ) (task : Task) (n start : ℕ) → TaskFits plan node mark task → task ≡ Started n start → IsLeaf (plan.kind n)
 started_leaf plan node mark task n start h e = (rw e at h).0
 
-book_of : (t : StoredState) → (state_of t).book ≡ t.history
+book_is : (t : StoredState) → (state_of t).book ≡ book_of t.shop
 unfolding state_of
-book_of t = refl
+book_is t = refl
 
 -- a worker that is at a call has started a leaf
 has_leaf : (job : CoreJob) (node : ℕ → Progress) (mark : ℕ → ℕ) (task : Task) → TaskFits job.plan node mark task → IsAtCall job task → HasLeaf job.plan task
@@ -53,7 +53,7 @@ has_leaf job node mark (Handed n) fits call = absurd call
 pub looks : (job : StoredJob) (t : StoredState) → Represents job t → CanChoose job t
 looks job t h =
     let kept = kept_parts job.plan job.acts.items job.workers t h in
-    let room = rw (book_of t) at (book_room (job_of job) (state_of t) kept h.calls_in) in
+    let room = rw (book_is t) at (book_room (job_of job) (state_of t) kept h.calls_in) in
     let most = h.most in
     record {
       few = h.few;
@@ -64,7 +64,8 @@ looks job t h =
       leaves_in = h.leaves_in;
       owed = λ w taken. has_leaf (job_of job) (state_of t).node (state_of t).mark ((state_of t).task w) (kept.tasks.fits w)
           (taken_row (job_of job) (state_of t).book ((state_of t).task w) ((state_of t).status w) ((state_of t).call w) (is_taken_by (state_of t).hold w) taken (kept.statuses w)).1;
-      leaves = rw (book_of t) at kept.book.leaves;
+      shop = h.shop;
+      leaves = rw (book_is t) at kept.book.leaves;
       few_batches = omega (arith, room.0, room.1, most);
       few_entries = omega (arith, room.0, most);
     }

@@ -1,23 +1,18 @@
 -- The opening table of a job has what a core keeps to.
-use Rattle.std.proofs.Common.{ℕ, ◌≡◌, ◌<◌, ◌≤◌, Option, Some, List, length, arith, refl, sym, ap, subst}
-use Rattle.batcher_core.proofs.Words.{Act, Tree, IsPlan, IsPlanOf, State, core_job}
+use Rattle.std.proofs.Common.{ℕ, ◌≡◌, ◌<◌, ◌≤◌, Option, Some, List, length, refl, sym, subst}
+use Rattle.batcher_core.proofs.Words.{Act, Tree, IsPlan, IsPlanOf, core_job}
 use Rattle.sp_order.specs.Precedence.{leaf_count}
 use Rattle.sp_order.specs.Preorder.{nodes_of}
 use Rattle.batcher_core.specs.declared.state.State.{State as StoredState}
 use Rattle.batcher_core.specs.State.{opening_state, opening_core}
 use Rattle.batcher_core.specs.Abstraction.{state_of, ready_of, core_state_of}
-use Rattle.batcher_core.specs.Code.Sizes.{Sizes, CounterFits}
+use Rattle.batcher_core.specs.Code.Sizes.{HasShop, Sizes}
 use Rattle.batcher_core.specs.Code.Representation.{RepInvariant}
 use Rattle.batcher_core.proofs.InvariantLemmas.Reached.{has_root}
 use Rattle.batcher_core.proofs.BookLemmas.LeavesIn.{leaves_in}
 use Rattle.batcher_core.proofs.BookLemmas.CallsIn.{calls_in}
 use Rattle.batcher_core.specs.Invariant.{Invariant}
 use Rattle.batcher_core.proofs.InvariantLemmas.Reached.{opening_invariant}
-
--- the counter starts at 0
-counter_opens : (t : StoredState) → state_of t ≡ opening_state → CounterFits t
-unfolding state_of opening_state
-counter_opens t e = let zero : t.objects.counter ≡ 0 = ap (λ (s : State). s.objects.counter) e in omega (arith, zero)
 
 pub root_in : (tree : Tree) → IsPlanOf (nodes_of tree) tree → IsPlan (nodes_of tree) → 0 < (nodes_of tree).count
 root_in tree stands laws = laws.within 0 (has_root (nodes_of tree) tree stands)
@@ -27,9 +22,9 @@ unfolding opening_core
 shown_opening t state ready = rw (state, ready) refl
 
 pub opening_fits : (tree : Tree) (shape : Option Tree) (acts : List Act) (workers : ℕ) (t : StoredState) → 0 < workers → workers ≤ 32 → IsPlanOf (nodes_of tree) tree → IsPlan (nodes_of tree)
-    → (nodes_of tree).count < 40000 → Some tree ≡ shape → leaf_count shape ≡ length acts → Sizes t (nodes_of tree).count workers
+    → (nodes_of tree).count < 40000 → Some tree ≡ shape → leaf_count shape ≡ length acts → length acts ≤ 20000 → HasShop t → Sizes t (nodes_of tree).count workers
     → state_of t ≡ opening_state → ready_of t ≡ opening_core.ready → RepInvariant tree acts workers t
-opening_fits tree shape acts workers t some few stands laws most is leaves sizes state lists = record {
+opening_fits tree shape acts workers t some few stands laws most is leaves few_acts shop sizes state lists = record {
   some = some;
   few = few;
   laws = laws;
@@ -38,7 +33,8 @@ opening_fits tree shape acts workers t some few stands laws most is leaves sizes
   leaves_in = leaves_in (nodes_of tree) tree (length acts) stands (rw (sym is) at leaves);
   calls_in = calls_in tree acts workers stands (sym (rw (sym is) at leaves));
   sizes = sizes;
-  counter = counter_opens t state;
+  few_acts = few_acts;
+  shop = shop;
   inv = subst (Invariant (core_job tree acts workers)) (sym (shown_opening t state lists))
       (opening_invariant (core_job tree acts workers) laws (has_root (nodes_of tree) tree stands) some);
 }

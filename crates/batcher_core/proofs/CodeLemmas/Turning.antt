@@ -43,7 +43,8 @@ module _ (tree : Tree) (acts : List Act) (workers : ℕ) (old new : StoredState)
     leaves_in = h.leaves_in;
     calls_in = h.calls_in;
     sizes = sizes_kept old new (nodes_of tree).count workers h.sizes same;
-    counter = same.counter_same h.counter;
+    few_acts = h.few_acts;
+    shop = same.shop_same h.shop;
     inv = event_keeps_all (core_job tree acts workers) (core_state_of old) (core_state_of new) w event h.laws h.inv
         (record { happens = happens; lists = lists });
   }

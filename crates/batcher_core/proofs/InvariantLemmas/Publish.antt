@@ -1,6 +1,7 @@
 -- Publishing keeps all that is carried.
 use Rattle.std.proofs.Common.{ℕ, ◌≡◌, ◌≢◌, ◌<◌, Bool, true, false, Option, Some, None, List, [], ◌∷◌, ◌++◌, length, map, arith, refl, inl, inr, subst, sym, ◌∙◌, ap}
 use Rattle.std.proofs.lemmas.List.{map-append}
+use Rattle.std.specs.List.{AllByRecursion}
 use Rattle.batcher_core.proofs.Words.{Op, Act, Work, Call, LeafNode, IsPlan, Entry, Progress, Taken, Task, Started, Status, Executing, CallState, Out, Publish, CoreJob, Hold, State, names}
 use Rattle.seq_objects.specs.Objects.{opening}
 use Rattle.seq_objects.specs.Pairs.{AreDistinct}
@@ -97,15 +98,15 @@ not_in_book job s hd e h there unpublished call =
     ∙ not_booked (s.node call.node) (h.holder call.node) s.task s.status s.call e.worker call.node call.started.1 fits.1 held call.started.2 ex (took_it job s hd e.worker rows ex).1)
 
 -- the leaves of the book stay distinct
-leaves_apart : (job : CoreJob) (s : State) (hd : Hold) (b : List Entry) (h : InductiveParts job s) → IsPlan job.plan → s.hold ≡ Some hd → hd.published ≡ false → IsBatchOf job s b
-    → AreDistinct (map (λ (e : Entry). e.leaf) (flat (s.book ++ b ∷ [])))
-leaves_apart job s hd b h laws there unpublished batch =
+pub leaves_apart : (job : CoreJob) (s : State) (hd : Hold) (b : List Entry) (h : InductiveParts job s) → IsPlan job.plan → s.hold ≡ Some hd → hd.published ≡ false
+    → AllByRecursion (IsTakenCall job s) b → AreDistinct (map (λ (e : Entry). e.worker) b) → AreDistinct (map (λ (e : Entry). e.leaf) (flat (s.book ++ b ∷ [])))
+leaves_apart job s hd b h laws there unpublished only workers =
     rw (flat_append s.book b, map-append)
     (distinct_append (map (λ (e : Entry). e.leaf) (flat s.book)) (map (λ (e : Entry). e.leaf) b) h.book.leaves
-    (distinct_leaves (IsTakenCall job s) (one_worker job s h.holder laws h.tasks.holders) b batch.only batch.is_batch.workers)
+    (distinct_leaves (IsTakenCall job s) (one_worker job s h.holder laws h.tasks.holders) b only workers)
     (apart_by (λ l. place_of s.book l ≢ None) (map (λ (e : Entry). e.leaf) (flat s.book)) (map (λ (e : Entry). e.leaf) b)
     (each_mapped (λ (e : Entry). e.leaf) (λ (e : Entry). place_of s.book e.leaf ≢ None) (λ l. place_of s.book l ≢ None) (λ e p. p) (flat s.book) (each_in_book s.book))
-    (each_mapped (λ (e : Entry). e.leaf) (IsTakenCall job s) (λ l. (place_of s.book l ≢ None) → ⊥) (λ e p there'. there' (not_in_book job s hd e h there unpublished p)) b batch.only)))
+    (each_mapped (λ (e : Entry). e.leaf) (IsTakenCall job s) (λ l. (place_of s.book l ≢ None) → ⊥) (λ e p there'. there' (not_in_book job s hd e h there unpublished p)) b only)))
 
 -- the value that is due stays the same
 still_due : (a : Act) (p q : Option Place) → (op_in a ≢ None → p ≢ None) → value_due a p ≡ value_due a (or_else p q)
@@ -143,7 +144,7 @@ publish_keeps job s w b laws h needs batch =
         legal = rw (flat_append s.book b) (legal_append opening (flat s.book) b h.book.legal (rw h.book.objects_after at batch.replies));
         objects_after = rw (flat_append s.book b) (ap (λ o. served o b) h.book.objects_after ∙ sym (served_append opening (flat s.book) b));
         batches = each_append IsBatch s.book (b ∷ []) h.book.batches (batch.is_batch, tt);
-        leaves = leaves_apart job s hd b h laws there unpublished batch;
+        leaves = leaves_apart job s hd b h laws there unpublished batch.only batch.is_batch.workers;
         among = rw (flat_append s.book b) (each_append (λ (e : Entry). e.worker < job.workers) (flat s.book) b h.book.among
             (each_so (IsTakenCall job s) (λ (e : Entry). e.worker < job.workers) (λ e c. omega (arith, hold.2 e.worker (rw there at c.taken), needs.2)) b batch.only));
         operations = rw (flat_append s.book b) (each_append (λ (e : Entry). op_of job (s.book ++ b ∷ []) e.leaf ≡ Some e.op) (flat s.book) b

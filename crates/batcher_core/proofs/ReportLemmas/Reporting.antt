@@ -5,7 +5,7 @@ use Rattle.batcher_core.proofs.Words.{Act, Tree, leaves, core_job}
 use Rattle.sp_order.specs.Preorder.{nodes_of}
 use Rattle.batch_history.specs.declared.row.Row.{Row}
 use Rattle.batcher_core.specs.declared.state.State.{State as StoredState}
-use Rattle.batcher_core.specs.Abstraction.{state_of}
+use Rattle.batcher_core.specs.Abstraction.{book_of, state_of}
 use Rattle.batcher_core.specs.Reports.{TellsLeaf, IsReportOf}
 
 -- a core that is over is not spent, and its root is done
@@ -16,6 +16,6 @@ over_is true done h = absurd cc
 -- the report of the rows of all leaves
 pub reported : (tree : Tree) (acts : List Act) (workers : ℕ) (t : StoredState) (rows : List Row) → map (λ (row : Row). row.leaf) rows ≡ range_with_len 0 (leaves tree)
     → AllByRecursion (λ (row : Row). TellsLeaf (nodes_of tree).node_of (state_of t).node (state_of t).value row) rows
-    → IsReportOf (core_job tree acts workers) (leaves tree) (state_of t) (record { workers = workers; history = t.history; rows = rows })
+    → IsReportOf (core_job tree acts workers) (leaves tree) (state_of t) (record { workers = workers; history = book_of t.shop; rows = rows })
 unfolding state_of
 reported tree acts workers t rows order tell = record { workers = refl; leaves = order; rows = tell; history = refl }

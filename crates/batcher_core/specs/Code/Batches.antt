@@ -1,11 +1,9 @@
--- The calls of which a batch is made, its entries, and the receipt for an entry.
-use Rattle.batch_history.specs.declared.batch.Entry.{Entry}
+-- The calls of which a batch is made, and the receipt for an entry.
 use Rattle.batcher_core.specs.Operations.{Place, op_in, receipt_for}
 use Rattle.batcher_core.specs.State.{CoreJob}
 use Rattle.batcher_core.specs.declared.state.status.Receipt.{Receipt}
 use Rattle.batcher_core.specs.declared.state.task.Task.{Task}
 use Rattle.batcher_core.specs.declared.state.task.Task.TheVariants.{Started}
-use Rattle.seq_objects.specs.Batches.{AreInBatchOrder}
 use Rattle.seq_objects.specs.Pairs.{AreDistinct}
 use Rattle.seq_objects.specs.declared.call.Call.{Call}
 use Rattle.sp_order.specs.declared.node.Kind.TheVariants.{LeafNode}
@@ -18,20 +16,11 @@ IsCallOf job task call =
     (node : ℕ) × (start : ℕ) × (job.plan.kind node ≡ Some (LeafNode call.leaf)) × (task ≡ Started node start)
     × (op_in (job.act call.leaf) ≡ Some call.op)
 
--- the calls of the workers that are taken, each once, in batch order
+-- the calls of the workers that are taken, each once
 pub record AreTakenCalls (job : CoreJob) (task : ℕ → Task) (took : ℕ → Bool) (calls : List Call) : Type 0 where
-  pub order : AreInBatchOrder calls
   pub distinct : AreDistinct (map (λ call. call.worker) calls)
   pub only : AllByRecursion (λ call. (took call.worker ≡ true) × IsCallOf job (task call.worker) call) calls
   pub each : (w : ℕ) → w < job.workers → took w ≡ true → Contains (map (λ call. call.worker) calls) w
-
--- the call of an entry
-abbrev pub call_in : Entry → Call
-call_in entry = record { worker = entry.worker; leaf = entry.leaf; op = entry.op }
-
--- the entries are for these calls, in their order
-abbrev pub AreEntriesOf : List Call → List Entry → Type 0
-AreEntriesOf calls entries = map call_in entries ≡ calls
 
 -- the receipt for the entry at a place, if there is one
 abbrev pub receipt_at : Option Place → Option Receipt

@@ -1,9 +1,9 @@
 -- What the choice of a turn looks up, and what it chooses of that.
 use Rattle.batch_history.specs.Book.{flat}
-use Rattle.batcher_core.specs.Abstraction.{state_of}
+use Rattle.batcher_core.specs.Abstraction.{book_of, state_of}
 use Rattle.batcher_core.specs.Choice.{choice_arrive, choice_parent, choice_second, choice_steal, last_of}
 use Rattle.batcher_core.specs.Code.Job.{HasLeaf, LeafIn, TaskIn}
-use Rattle.batcher_core.specs.Code.Sizes.{Sizes}
+use Rattle.batcher_core.specs.Code.Sizes.{HasShop, Sizes}
 use Rattle.batcher_core.specs.Invariant.Statuses.{is_taken_by}
 use Rattle.batcher_core.specs.Operations.{IsLeaf}
 use Rattle.batcher_core.specs.WorkDue.{work_due}
@@ -37,10 +37,11 @@ pub record CanChoose (job : StoredJob) (t : StoredState) : Type 0 where
   pub leaves_in : (n : ℕ) → LeafIn (length job.acts.items) ((nodes_of job.plan).kind n)
   -- a worker that is to be answered has started a leaf
   pub owed : (w : ℕ) → is_taken_by (state_of t).hold w ≡ true → HasLeaf (nodes_of job.plan) ((state_of t).task w)
-  -- the receipts are looked up in the book, in which no leaf stands twice
-  pub leaves : AreDistinct (map (λ entry. entry.leaf) (flat t.history))
-  pub few_batches : length t.history < 2 ^ 32
-  pub few_entries : length (flat t.history) < 2 ^ 32
+  -- the receipts are looked up in the book of the shop, in which no leaf stands twice
+  pub shop : HasShop t
+  pub leaves : AreDistinct (map (λ entry. entry.leaf) (flat (book_of t.shop)))
+  pub few_batches : length (book_of t.shop) < 2 ^ 32
+  pub few_entries : length (flat (book_of t.shop)) < 2 ^ 32
 
 -- the choice of a worker whose task is idle, by its own list
 abbrev pub claim_choice : ℕ → (ℕ → List ℕ) → ℕ → List ℕ → Option Event

@@ -1,7 +1,7 @@
 -- What the job and the table of a core keep to while memory has not failed.
 use Rattle.batcher_core.specs.Abstraction.{core_state_of}
 use Rattle.batcher_core.specs.Code.Job.{LeafIn}
-use Rattle.batcher_core.specs.Code.Sizes.{CounterFits, Sizes}
+use Rattle.batcher_core.specs.Code.Sizes.{HasShop, Sizes}
 use Rattle.batcher_core.specs.Invariant.{Invariant}
 use Rattle.batcher_core.specs.Operations.{IsCall}
 use Rattle.batcher_core.specs.State.{core_job}
@@ -24,7 +24,8 @@ pub record RepInvariant (tree : Tree) (acts : List Act) (workers : ℕ) (t : Sto
   -- a leaf that calls has a number below the nodes'
   pub calls_in : (leaf : ℕ) → IsCall (core_job tree acts workers) leaf → leaf < (nodes_of tree).count
   pub sizes : Sizes t (nodes_of tree).count workers
-  pub counter : CounterFits t
+  pub few_acts : length acts ≤ 20000
+  pub shop : HasShop t
   pub inv : Invariant (core_job tree acts workers) (core_state_of t)
 
 -- and the same of a job as the code has it

@@ -1,7 +1,6 @@
--- How long the lists of a table are, how great its counter may be, and what a step keeps of both.
-use Rattle.batch_history.specs.Book.{flat}
+-- How long the lists of a table are, whether its shop is there, and what a step keeps of both.
 use Rattle.batcher_core.specs.declared.state.State.{State as StoredState}
-use Rattle.std.specs.Prelude.{length, ℕ, ◌*◌, ◌^◌, ◌≡◌, ◌≤◌}
+use Rattle.std.specs.Prelude.{IsSome, length, ℕ, ◌≡◌}
 
 -- how long the lists of a table are
 pub record Sizes (t : StoredState) (nodes workers : ℕ) : Type 0 where
@@ -13,11 +12,11 @@ pub record Sizes (t : StoredState) (nodes workers : ℕ) : Type 0 where
   pub calls_len : length t.calls.items ≡ workers
   pub ready_len : length t.ready ≡ workers
 
--- the counter is no greater than the calls of the book can make it
-abbrev pub CounterFits : StoredState → Type 0
-CounterFits t = t.objects.counter ≤ length (flat t.history) * 2 ^ 32
+-- memory has not failed in a batch, so the shop is there
+abbrev pub HasShop : StoredState → Type 0
+HasShop t = IsSome t.shop
 
--- the lists keep their lengths, and the counter its bound
+-- the lists keep their lengths, and the shop stays there
 pub record SameSizes (old new : StoredState) : Type 0 where
   pub nodes_same : length new.nodes.items ≡ length old.nodes.items
   pub marks_same : length new.marks.items ≡ length old.marks.items
@@ -26,4 +25,4 @@ pub record SameSizes (old new : StoredState) : Type 0 where
   pub statuses_same : length new.statuses.items ≡ length old.statuses.items
   pub calls_same : length new.calls.items ≡ length old.calls.items
   pub ready_same : length new.ready ≡ length old.ready
-  pub counter_same : CounterFits old → CounterFits new
+  pub shop_same : HasShop old → HasShop new

@@ -38,7 +38,10 @@ impl State {
             (leaf_at (nodes_of job.now.plan) (names ((state_of self.now).task other)))) }
     {
         let leaf = job.started_leaf(self.tasks[other as usize]);
-        match receipt_of(self.history.batches(), leaf) {
+        let Some(shop) = &self.shop else {
+            unreachable!()
+        };
+        match receipt_of(shop.history().batches(), leaf) {
             None => None,
             Some(receipt) => Some(Event::Answer {
                 worker: other,

@@ -3,7 +3,7 @@ ghost use Rattle.std.specs.Prelude.{◌≡◌, ◌<◌, ℕ, length, IfOk, repli
 ghost use Rattle.batcher_core.specs.State.{opening_state, opening_core};
 ghost use Rattle.batcher_core.specs.Places.{at};
 ghost use Rattle.batcher_core.specs.Abstraction.{state_of, ready_of};
-ghost use Rattle.batcher_core.specs.Code.Sizes.{Sizes};
+ghost use Rattle.batcher_core.specs.Code.Sizes.{HasShop, Sizes};
 ghost use Rattle.batcher_core.specs.declared.state.progress.Progress.TheVariants.{Waiting};
 
 use crate::state::State;
@@ -11,8 +11,7 @@ use crate::state::progress::Progress;
 use crate::state::ready::ReadyLists;
 use crate::state::status::{CallState, Status};
 use crate::state::task::Task;
-use batch_history::History;
-use seq_objects::Plain;
+use launch_batch::Shop;
 use std::alloc::{AllocError, Global};
 
 /// A list of `count` copies of an item.
@@ -45,6 +44,7 @@ impl State {
         ensures sizes { IfOk result (λ t. Sizes t nodes workers) }
         ensures state { IfOk result (λ t. state_of t ≡ opening_state) }
         ensures lists { IfOk result (λ t. ready_of t ≡ opening_core.ready) }
+        ensures shop { IfOk result HasShop }
     {
         Ok(State {
             nodes: opening_nodes(alloc, nodes)?,
@@ -56,8 +56,7 @@ impl State {
             ready: ReadyLists::opening(alloc, workers)?,
             hold: None,
             tick: 0,
-            history: History::new(alloc),
-            objects: Plain::new(alloc),
+            shop: Some(Shop::new(alloc)?),
         })
     }
 }

@@ -3,11 +3,16 @@ use Rattle.batcher_core.specs.Abstraction.{state_of}
 use Rattle.batcher_core.proofs.ReportLemmas.Reporting.{over_is, reported}
 use Rattle.batcher_core.proofs.scheduler.Core.report.Goals as goal
 
+pub history_of-requires : goal.history_of-requires
+history_of-requires c =
+    let over = over_is _ _ (rw (← c.self.view_is) at c.requires) in
+    (c.self.invariant.1 over.0).shop
+
 pub returns-clause-report : goal.returns-clause-report
 returns-clause-report c =
     let order = rw (← c.self.view_is) at c.in_ok-rows.ensures.leaves in
     let tell = rw (← c.self.view_is) at c.in_ok-rows.ensures.rows in
-    rw (← c.self.view_is, c.of.ensures) (reported c.self.inside.job.plan c.self.inside.job.acts.items c.self.inside.job.workers c.self.inside.table c.in_ok-rows.rows.items order tell)
+    rw (← c.self.view_is, c.of.ensures, c.history_of.ensures) (reported c.self.inside.job.plan c.self.inside.job.acts.items c.self.inside.job.workers c.self.inside.table c.in_ok-rows.rows.items order tell)
 
 pub returns-clause-lawful : goal.returns-clause-lawful
 returns-clause-lawful c =

@@ -18,7 +18,7 @@ invariant_of-result c =
       c.requires.some_workers,
       λ unspent. rw (c.in_ok-extend_from_slice.ensures.items, c.new-acts.ensures.items, c.acts.ensures.acts)
           (opening_fits c.in_ok-plan.plan c.args.job.now.shape c.args.job.now.acts c.args.workers c.in_ok-table.table c.requires.some_workers c.requires.few_workers stands laws most
-          c.in_ok-plan.ensures c.acts.ensures.job.leaves sizes c.in_ok-table.ensures.state c.in_ok-table.ensures.lists),
+          c.in_ok-plan.ensures c.acts.ensures.job.leaves c.acts.ensures.job.most c.in_ok-table.ensures.shop sizes c.in_ok-table.ensures.state c.in_ok-table.ensures.lists),
     )
 
 pub returns-clause-opening : goal.returns-clause-opening

@@ -1,0 +1,89 @@
+-- The shop can serve the calls that are taken: no leaf of theirs is in the book.
+use Rattle.std.proofs.Common.{ℕ, ◌≡◌, ◌≢◌, ◌<◌, ◌≤◌, ◌+◌, true, false, Some, List, [], ◌∷◌, ◌++◌, length, map, arith, sym, subst, ◌∙◌, ap, length-append}
+use Rattle.std.specs.Prelude.{Contains}
+use Rattle.std.specs.List.{AllByRecursion}
+use Rattle.std.proofs.lemmas.List.{length-map, map-append}
+use Rattle.std.proofs.lemmas.Simd.{map-map}
+use Rattle.seq_objects.specs.Pairs.{AreDistinct}
+use Rattle.seq_objects.specs.declared.call.Call.{Call}
+use Rattle.batch_history.specs.Book.{flat}
+use Rattle.batch_history.specs.Serving.{call_in, calls_in}
+use Rattle.launch_batch.specs.Calls.{MayServe}
+use Rattle.launch_batch.proofs.ListLemmas.Elements.{apart_turned}
+use Rattle.batcher_core.proofs.Words.{IsPlan, Entry, CoreJob, Hold, State}
+use Rattle.batcher_core.specs.Operations.{IsCall}
+use Rattle.batcher_core.specs.Events.{IsTakenCall}
+use Rattle.batcher_core.specs.Code.Batches.{IsCallOf, AreTakenCalls}
+use Rattle.batcher_core.proofs.Inductive.Parts.{InductiveParts}
+use Rattle.batcher_core.proofs.BookLemmas.EntryLists.{each_append, each_front, each_so, each_mapped, distinct_back}
+use Rattle.batcher_core.proofs.BookLemmas.Books.{flat_append}
+use Rattle.batcher_core.proofs.BookLemmas.Room.{distinct_few, leaves_call}
+use Rattle.batcher_core.proofs.InvariantLemmas.Publish.{leaves_apart}
+use Rattle.batcher_core.proofs.BatchLemmas.Replied.{replied, replied_are}
+use Rattle.batcher_core.proofs.BatchLemmas.Made.{taken_below, only_taken}
+
+-- of two lists that are distinct together, no number of the first is in the second
+across : (xs ys : List ℕ) → AreDistinct (xs ++ ys) → AllByRecursion (λ x. AllByRecursion (λ y. x ≢ y) ys) xs
+across [] ys h = tt
+across (x ∷ xs) ys h = ((each_front (λ y. x ≢ y) xs ys h.0).1, across xs ys h.1)
+
+-- where there is a worker, there is a call
+some_call : (calls : List Call) (w : ℕ) → Contains (map (λ (call : Call). call.worker) calls) w → 0 < length calls
+some_call [] w there = absurd (omega (arith, there.1))
+some_call (call ∷ calls) w there = omega arith
+
+module _ (job : CoreJob) (s : State) (hd : Hold) (laws : IsPlan job.plan) (h : InductiveParts job s) (there : s.hold ≡ Some hd) (unpublished : hd.published ≡ false)
+    (calls : List Call) (taken : AreTakenCalls job s.task hd.taken calls) where
+  -- the entries that they would have
+  abbrev entries : List Entry
+  entries = replied s.objects calls
+
+  are : calls_in entries ≡ calls
+  are = replied_are s.objects calls
+
+  leaves_are : map (λ (e : Entry). e.leaf) entries ≡ map (λ (call : Call). call.leaf) calls
+  leaves_are = sym (map-map (λ (call : Call). call.leaf) call_in entries) ∙ ap (map (λ (call : Call). call.leaf)) are
+
+  workers_are : map (λ (e : Entry). e.worker) entries ≡ map (λ (call : Call). call.worker) calls
+  workers_are = sym (map-map (λ (call : Call). call.worker) call_in entries) ∙ ap (map (λ (call : Call). call.worker)) are
+
+  only : AllByRecursion (IsTakenCall job s) entries
+  only = only_taken job s hd h there entries (subst (AreTakenCalls job s.task hd.taken) (sym are) taken)
+
+  abbrev book_leaves : List ℕ
+  book_leaves = map (λ (e : Entry). e.leaf) (flat s.book)
+
+  -- no leaf of theirs stands twice, nor in the book
+  distinct : AreDistinct (book_leaves ++ map (λ (e : Entry). e.leaf) entries)
+  distinct =
+      let apart = leaves_apart job s hd entries h laws there unpublished only (subst AreDistinct (sym workers_are) taken.distinct) in
+      subst AreDistinct (map-append (λ (e : Entry). e.leaf) (flat s.book) entries)
+      (subst (λ l. AreDistinct (map (λ (e : Entry). e.leaf) l)) (flat_append s.book entries) apart)
+
+  all_call : AllByRecursion (λ (e : Entry). IsCall job e.leaf) (flat s.book ++ entries)
+  all_call =
+      each_append (λ (e : Entry). IsCall job e.leaf) (flat s.book) entries (leaves_call job s h)
+      (each_so (IsTakenCall job s) (λ (e : Entry). IsCall job e.leaf) (λ e call none. let is = call.operation in cc) entries only)
+
+  -- so there are no more of both than leaves that call
+  few : (most : ℕ) → ((leaf : ℕ) → IsCall job leaf → leaf < most) → length (flat s.book) + length calls ≤ most
+  few most below =
+      let leaf = λ (e : Entry). e.leaf in
+      let all = subst AreDistinct (sym (map-append leaf (flat s.book) entries)) distinct in
+      let least = distinct_few (map leaf (flat s.book ++ entries)) most all
+      (each_mapped leaf (λ (e : Entry). IsCall job e.leaf) (λ u. u < most) (λ e is. below e.leaf is) (flat s.book ++ entries) all_call) in
+      let long = length-append (flat s.book) entries in
+      let same : length entries ≡ length calls = sym (length-map entries call_in) ∙ ap length are in
+      omega (arith, (rw length-map at least), long, same)
+
+  pub may_serve : (u : ℕ) × (hd.taken u ≡ true) → job.workers ≤ 32 → ((leaf : ℕ) → IsCall job leaf → leaf < 20000) → MayServe s.book calls
+  may_serve some workers below = record {
+    some = some_call calls some.0 (taken.each some.0 (taken_below job s hd h there some.0 some.1) some.1);
+    workers = taken.distinct;
+    below = each_so (λ (call : Call). (hd.taken call.worker ≡ true) × IsCallOf job (s.task call.worker) call) (λ (call : Call). call.worker < 32)
+        (λ call is. let low = taken_below job s hd h there call.worker is.0 in omega (arith, low, workers)) calls taken.only;
+    leaves = subst AreDistinct leaves_are (distinct_back book_leaves (map (λ (e : Entry). e.leaf) entries) distinct);
+    new = subst (AllByRecursion (λ leaf. AllByRecursion (λ other. leaf ≢ other) book_leaves)) leaves_are
+        (apart_turned book_leaves (map (λ (e : Entry). e.leaf) entries) (across book_leaves (map (λ (e : Entry). e.leaf) entries) distinct));
+    most = few 20000 below;
+  }

@@ -41,7 +41,8 @@ pub struct State {
     pub(crate) hold: Option<Hold>,
     /// The tick that the next start or end of a leaf draws: the number of those that there were.
     pub(crate) tick: u64,
-    /// The shared structures, with the batches that they have served. It is not there once memory has failed in a batch.
+    /// The shared structures, with the batches that they have served. It is not there once memory has failed in
+    /// a batch.
     pub(crate) shop: Option<Shop>,
 }
 

@@ -28,4 +28,5 @@ pub mod Places
 pub mod Abstraction
 pub mod WorkDue
 pub mod Cores
+pub mod Doings
 pub mod Code

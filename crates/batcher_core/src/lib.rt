@@ -9,6 +9,7 @@
 
 mod apply;
 mod choose;
+pub mod doing;
 pub mod driver;
 pub mod event;
 mod job;
@@ -19,6 +20,7 @@ pub mod spun;
 pub mod state;
 pub mod turn;
 
+pub use doing::Doing;
 pub use driver::drive;
 pub use event::Event;
 pub use scheduler::Core;

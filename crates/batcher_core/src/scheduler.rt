@@ -12,7 +12,9 @@ ghost use Rattle.sp_order.specs.Preorder.{nodes_of};
 ghost use Rattle.std.specs.List.{AllByRecursion, range_with_len};
 ghost use Rattle.batcher_core.specs.Cores.{job_in, state_in, due_in, turn_answer, is_over_in, IsTurnResult};
 ghost use Rattle.batcher_core.specs.Code.Representation.{RepInvariant};
+ghost use Rattle.batcher_core.specs.Doings.{doing_in};
 
+use crate::doing::Doing;
 use crate::event::Event;
 use crate::job::CoreJob;
 use crate::laws::report::{done_leaves_have_run, done_report_is_lawful};
@@ -166,6 +168,19 @@ impl Core {
         ensures { result.now ≡ (state_in self.now).ready worker }
     {
         self.table.ready.of(worker)
+    }
+
+    /// What a worker is doing. In a core that is spent that is always `Doing::Other`.
+    ///
+    /// Memory: none.
+    pub fn doing(&self, worker: u32) -> Doing
+        requires { worker < self.now.workers }
+        ensures { result ≡ doing_in self.now worker }
+    {
+        if self.spent {
+            return Doing::Other;
+        }
+        self.table.doing(&self.job, worker)
     }
 
     /// The number of workers.

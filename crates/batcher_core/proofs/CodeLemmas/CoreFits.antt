@@ -1,6 +1,6 @@
 -- What the choice of a turn looks up is there, in what a core keeps to.
-use Rattle.std.proofs.Common.{ℕ, ◌≡◌, ◌<◌, Some, arith, refl}
-use Rattle.batcher_core.proofs.Words.{Nodes, IsPlan, Move, Root, OpenSecond, FinishParent, Arrive, Progress, Task, Idle, Run, Half, Started, Kept, Ended, Whole, Handed, CoreJob, names}
+use Rattle.std.proofs.Common.{ℕ, ◌≡◌, ◌≢◌, ◌<◌, Some, arith, refl, sym, ◌∙◌}
+use Rattle.batcher_core.proofs.Words.{Nodes, IsPlan, Move, Root, OpenSecond, FinishParent, Arrive, Progress, Task, Idle, Run, Half, Started, Kept, Ended, Whole, Handed, CoreJob, Free, NotCalled, Out, names}
 use Rattle.sp_order.specs.Preorder.{nodes_of}
 use Rattle.batcher_core.specs.declared.state.State.{State as StoredState}
 use Rattle.batcher_core.specs.Code.Job.{job_of, HasLeaf, TaskIn}
@@ -69,3 +69,11 @@ looks job t h =
       few_batches = omega (arith, room.0, room.1, most);
       few_entries = omega (arith, room.0, most);
     }
+
+-- a worker that is trapped has started a leaf
+pub trapped_has_leaf : (job : StoredJob) (t : StoredState) → Represents job t → (w : ℕ) → (state_of t).status w ≢ Free → HasLeaf (nodes_of job.plan) ((state_of t).task w)
+trapped_has_leaf job t h w trapped =
+    let kept = kept_parts job.plan job.acts.items job.workers t h in
+    let out = (h.inv.parts.statuses.out w).1 trapped in
+    has_leaf (job_of job) (state_of t).node (state_of t).mark ((state_of t).task w) (kept.tasks.fits w)
+    (h.inv.parts.statuses.at_call w (λ none. let clash : NotCalled ≡ Out = sym none ∙ out in cc))

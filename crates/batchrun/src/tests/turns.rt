@@ -1,33 +1,41 @@
 //! A core, turn by turn.
 ghost use Rattle.std.specs.Prelude.{◌≡◌, ◌<◌, IfOk};
 
-use batcher_core::{Core, Spun, Turn};
+use batcher_core::{Core, Doing, Spun, Turn};
 use job_lang::read_job;
 use std::alloc::{AllocError, Global};
 use std::test::Fail;
 
-/// The text of a job, the count of workers, and what each turn does until the job is done: `+` where an event happens
-/// and `-` where none does, worker by worker and round by round.
+/// The text of a job, the count of workers, and what each turn does until the job is done: `-` where no event happens,
+/// and else what its worker is doing then: `s` where it has started a leaf and made no call, `c` where it calls, and `+`
+/// for anything else; worker by worker and round by round.
 const TURNS: [(&[u8], u32, &str); 2] = [
     // Worker 0 waits while worker 1 serves both calls, and has no event once it has arrived.
     (
         b"par { counter add 1 counter add 2 }",
         2,
-        "+- ++ ++ ++ ++ ++ -+ -+ -+ ++ ++ ++ ++ ++ -+ -+ -+",
+        "+- ++ +s +c sc cc -c -c -c +c +c ++ ++ ++ -+ -+ -+",
     ),
     // A claim, a start, the work, an end and a finish.
-    (b"work 3", 1, "+ + + + +"),
+    (b"work 3", 1, "+ s + + +"),
 ];
 
-/// One turn of a worker, and with it the work that is due.
-fn moves(core: &mut Core, worker: u32) -> Result<bool, AllocError>
+/// The mark of one turn of a worker, in which the work is done that is due.
+fn mark_of_turn(core: &mut Core, worker: u32) -> Result<char, AllocError>
     requires { worker < core.old.workers }
 {
     let turn = match core.turn(worker, None)? {
         Turn::Spin(steps) => core.turn(worker, Some(Spun::of(steps)))?,
         other => other,
     };
-    Ok(matches!(turn, Turn::Moved))
+    let Turn::Moved = turn else {
+        return Ok('-');
+    };
+    Ok(match core.doing(worker) {
+        Doing::Started(_) => 's',
+        Doing::Calling(_) => 'c',
+        Doing::Other => '+',
+    })
 }
 
 /// What the turns did until the core was over, or for a hundred turns.
@@ -41,7 +49,7 @@ fn trace(alloc: Global, core: &mut Core) -> Result<String, AllocError> {
         if worker == 0 && 0 < turn {
             marks.push(' ')?;
         }
-        marks.push(if moves(core, worker)? { '+' } else { '-' })?;
+        marks.push(mark_of_turn(core, worker)?)?;
     }
     Ok(marks)
 }

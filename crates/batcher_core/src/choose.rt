@@ -69,7 +69,7 @@ impl State {
         requires work { IsWorkOf job.now self.now worker work }
         ensures { result ≡ choice (job_of job.now) (core_state_of self.now) worker }
     {
-        match self.hold {
+        match &self.hold {
             Some(hold) if hold.worker == worker => self.choose_holding(job, hold),
             _ => self.choose_by_status(job, worker, work),
         }

@@ -75,11 +75,11 @@ impl State {
         } }
         ensures lists { ready_of self.new ≡ ready_of self.old }
     {
-        let Some(hold) = self.hold else {
+        let Some(hold) = &mut self.hold else {
             unreachable!()
         };
         let status = self.statuses[other as usize];
-        self.hold = Some(hold.after_look(other, is_pending(status)));
+        hold.look(other, is_pending(status));
         self.statuses[other as usize] = status_after_look(status);
     }
 
@@ -96,11 +96,11 @@ impl State {
         } }
         ensures lists { ready_of self.new ≡ ready_of self.old }
     {
-        let Some(hold) = self.hold else {
+        let Some(hold) = &mut self.hold else {
             unreachable!()
         };
         self.statuses[other as usize] = Status::Served(receipt);
-        self.hold = Some(hold.after_answer(other));
+        hold.answer(other);
     }
 
     /// The flag is released.

@@ -53,15 +53,15 @@ impl State {
     /// The event of the worker that holds the flag: it looks at the workers one after another, publishes if it has
     /// taken a call, answers the workers whose calls it has taken, and releases the flag.
     #[tactic(auto, unfolding(crate::specs::Abstraction::state_of))]
-    pub(crate) fn choose_holding(&self, job: &CoreJob, hold: Hold) -> Option<Event>
+    pub(crate) fn choose_holding(&self, job: &CoreJob, hold: &Hold) -> Option<Event>
         requires looks { CanChoose job.now self.now }
-        requires held { self.now.hold ≡ Some hold }
-        ensures { result ≡ choice_holding (job_of job.now) (state_of self.now) (hold_view hold) }
+        requires held { self.now.hold ≡ Some hold.now }
+        ensures { result ≡ choice_holding (job_of job.now) (state_of self.now) (hold_view hold.now) }
     {
         if hold.looks < job.workers {
             return Some(Event::Take(hold.looks));
         }
-        if hold.has_taken(job.workers) && !hold.published {
+        if !hold.published && hold.has_taken(job.workers) {
             return Some(Event::Publish);
         }
         match hold.least_owed(job.workers) {

@@ -22,14 +22,12 @@ pub struct Hold {
     pub published: bool,
 }
 
-/// The list with `true` at a place.
-fn with(list: [bool; 32], place: u32) -> [bool; 32]
+/// Puts `true` at a place of a list.
+fn mark(list: &mut [bool; 32], place: u32)
     requires { place < 32 }
-    ensures { at result false ≡ put (at list false) place true }
+    ensures { at list.new false ≡ put (at list.old false) place true }
 {
-    let mut list = list;
     list[place as usize] = true;
-    list
 }
 
 impl Hold {
@@ -88,22 +86,15 @@ impl Hold {
         None
     }
 
-    /// The hold after a look at the worker `other`, whose call it takes or not.
-    pub(crate) fn after_look(&self, other: u32, takes: bool) -> Hold
-        requires room { self.now.looks < 32 }
+    /// It looks at the worker `other`, and takes its call or not.
+    pub(crate) fn look(&mut self, other: u32, takes: bool)
+        requires room { self.old.looks < 32 }
         requires other_in { other < 32 }
-        ensures { Some (hold_view result) ≡ hold_looked (Some (hold_view self.now)) takes other }
+        ensures { Some (hold_view self.new) ≡ hold_looked (Some (hold_view self.old)) takes other }
     {
-        let looks = self.looks + 1;
+        self.looks += 1;
         if takes {
-            let taken = with(self.taken, other);
-            Hold {
-                looks,
-                taken,
-                ..*self
-            }
-        } else {
-            Hold { looks, ..*self }
+            mark(&mut self.taken, other);
         }
     }
 
@@ -117,12 +108,11 @@ impl Hold {
         }
     }
 
-    /// The hold after the worker `other` has its receipt.
-    pub(crate) fn after_answer(&self, other: u32) -> Hold
+    /// The worker `other` has its receipt.
+    pub(crate) fn answer(&mut self, other: u32)
         requires { other < 32 }
-        ensures { Some (hold_view result) ≡ hold_answered (Some (hold_view self.now)) other }
+        ensures { Some (hold_view self.new) ≡ hold_answered (Some (hold_view self.old)) other }
     {
-        let answered = with(self.answered, other);
-        Hold { answered, ..*self }
+        mark(&mut self.answered, other);
     }
 }

@@ -1,5 +1,5 @@
 //! The choice of a worker's turn: the event that it makes in this state, if it can make one. Nothing is written here.
-ghost use Rattle.std.specs.Prelude.{◌≡◌, ◌<◌};
+ghost use Rattle.std.specs.Prelude.{◌≡◌, ◌<◌, length, None, IsTrue};
 ghost use Rattle.batcher_core.specs.Code.Job.{job_of};
 ghost use Rattle.batcher_core.specs.Choice.{choice, choice_by, choice_free};
 ghost use Rattle.batcher_core.specs.Abstraction.{state_of, core_state_of};
@@ -56,6 +56,34 @@ impl State {
             Status::Pending => self.choose_pending(),
             Status::Executing => None,
             Status::Served(receipt) => Some(Event::Leave(receipt)),
+        }
+    }
+
+    /// Whether it is seen at once that a worker has no event: it has nothing in hand where no list has a node, or its
+    /// call waits for the worker that has the flag. A worker of which this is false may have none either.
+    ///
+    /// Memory: none.
+    #[inline(always)]
+    #[tactic(auto, unfolding(crate::specs::Abstraction::state_of, crate::specs::Abstraction::ready_of))]
+    pub(crate) fn surely_rests(&self, job: &CoreJob, worker: u32) -> bool
+        requires worker_in { worker < job.now.workers }
+        requires tasks_in { length self.now.tasks.items ≡ job.now.workers }
+        requires statuses_in { length self.now.statuses.items ≡ job.now.workers }
+        ensures { IsTrue result → choice (job_of job.now) (core_state_of self.now) worker ≡ None }
+    {
+        if let Some(hold) = &self.hold {
+            if hold.worker == worker {
+                return false;
+            }
+        }
+        match self.statuses[worker as usize] {
+            Status::Free => match self.tasks[worker as usize] {
+                Task::Idle => self.nothing_to_claim(job.workers, worker),
+                _ => false,
+            },
+            Status::Pending => self.hold.is_some(),
+            Status::Executing => true,
+            Status::Served(_) => false,
         }
     }
 

@@ -1,5 +1,5 @@
 //! A whole run by turns on one thread: the workers of a schedule, and then all workers round robin.
-ghost use Rattle.std.specs.Prelude.{◌≡◌, ◌<◌, ℕ, false, true, Some, [], IfOk};
+ghost use Rattle.std.specs.Prelude.{◌≡◌, ◌<◌, ◌+◌, ◌%◌, ℕ, false, true, Some, [], IfOk};
 ghost use Rattle.std.specs.List.{AllByRecursion};
 ghost use Rattle.sp_order.specs.Precedence.{leaves};
 ghost use Rattle.batch_history.specs.Lawful.{Lawful};
@@ -9,25 +9,36 @@ ghost use Rattle.batcher_core.specs.Cores.{job_in, state_in, is_over_in};
 ghost use Rattle.batcher_core.specs.Reports.{IsDrivenFrom};
 
 use crate::scheduler::Core;
-use crate::spun::Spun;
-use crate::turn::Turn;
 use batch_history::Report;
 use sp_order::laws::plan_stands_for_tree;
 use std::alloc::{AllocError, Global};
 
-/// One turn of a worker. Where work is due, it is done here and the turn taken with it.
-pub(crate) fn take_turn(core: &mut Core, worker: u32) -> Result<Turn, AllocError>
-    requires { worker < core.old.workers }
+/// One turn of a worker of a core that is not over. Where work is due, it is done in the turn. Answers whether the core
+/// is over then.
+#[inline(always)]
+fn take_turn(core: &mut Core, worker: u32) -> Result<bool, AllocError>
+    requires worker_in { worker < core.old.workers }
+    requires goes_on { is_over_in core.old ≡ false }
     ensures job { (core.new.tree ≡ core.old.tree) × (core.new.acts ≡ core.old.acts)
         × (core.new.workers ≡ core.old.workers) }
     ensures turn { IfOk result
         (λ _. IsTurn (job_in core.old) (state_in core.old) worker (state_in core.new)) }
     ensures spent { IfOk result (λ _. core.old.spent ≡ false) }
+    ensures over { IfOk result (λ over. over ≡ is_over_in core.new) }
 {
-    match core.turn(worker, None)? {
-        Turn::Spin(steps) => core.turn(worker, Some(Spun::of(steps))),
-        other => Ok(other),
+    if core.surely_rests(worker) {
+        return Ok(false);
     }
+    core.working_turn(worker)?;
+    Ok(core.is_over())
+}
+
+/// The worker whose turn is next, round robin.
+fn next_worker(worker: u32, workers: u32) -> u32
+    requires { worker < workers }
+    ensures { result ≡ (worker + 1) % workers }
+{
+    if worker + 1 == workers { 0 } else { worker + 1 }
 }
 
 /// Takes turns by the workers of the schedule until the schedule ends or the core is over.
@@ -61,10 +72,11 @@ fn run_round_robin(core: &mut Core) -> Result<(), AllocError>
     plan_stands_for_tree();
     let workers = core.workers();
     let mut worker = 0;
-    while !core.is_over() {
+    let mut over = core.is_over();
+    while !over {
         core.invariant_holds();
-        take_turn(core, worker)?;
-        worker = (worker + 1) % workers;
+        over = take_turn(core, worker)?;
+        worker = next_worker(worker, workers);
     }
     Ok(())
 }

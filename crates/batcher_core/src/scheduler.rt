@@ -1,5 +1,5 @@
 //! The scheduler's core: a job, its workers, and the turns by which they run it.
-ghost use Rattle.std.specs.Prelude.{◌≡◌, ◌<◌, ◌≤◌, ℕ, IfOk, IfErr, IsSome, IfSome, Some, true, false, IsTrue, ◌↔◌, map};
+ghost use Rattle.std.specs.Prelude.{◌≡◌, ◌<◌, ◌≤◌, ℕ, IfOk, IfErr, IsSome, IfSome, Some, None, true, false, IsTrue, ◌↔◌, map};
 ghost use Rattle.seq_objects.specs.Spin.{spin_of};
 ghost use Rattle.batcher_core.specs.State.{opening_core};
 ghost use Rattle.batcher_core.specs.Tasks.{is_done as node_done};
@@ -7,10 +7,11 @@ ghost use Rattle.batcher_core.specs.Choice.{choice};
 ghost use Rattle.sp_order.specs.Precedence.{leaves};
 ghost use Rattle.batch_history.specs.Lawful.{Lawful};
 ghost use Rattle.batcher_core.specs.Invariant.{Invariant};
+ghost use Rattle.batcher_core.specs.Runs.{IsTurn};
 ghost use Rattle.batcher_core.specs.Reports.{IsReportOf, IsRowOf};
 ghost use Rattle.sp_order.specs.Preorder.{nodes_of};
 ghost use Rattle.std.specs.List.{AllByRecursion, range_with_len};
-ghost use Rattle.batcher_core.specs.Cores.{job_in, state_in, due_in, turn_answer, is_over_in, IsTurnResult};
+ghost use Rattle.batcher_core.specs.Cores.{job_in, state_in, due_in, moved_if, turn_answer, is_over_in, IsTurnResult};
 ghost use Rattle.batcher_core.specs.Code.Representation.{RepInvariant};
 ghost use Rattle.batcher_core.specs.Doings.{doing_in};
 
@@ -62,7 +63,8 @@ impl Model for Core {
 
 /// The value of the work that was done, if some was.
 fn value_of(spun: &Option<Spun>) -> Option<u64>
-    ensures { IfSome spun.now (λ s. result ≡ Some (spin_of s)) }
+    ensures none { spun.now ≡ None → result ≡ None }
+    ensures some { IfSome spun.now (λ s. result ≡ Some (spin_of s)) }
 {
     match spun {
         None => None,
@@ -110,15 +112,71 @@ impl Core {
         self.table.work_due(&self.job, worker)
     }
 
-    /// The event of a worker's next turn, if it has one. `work` is the value of the work that is due, if some is due.
+    /// The event of a worker's next turn, if it has one. `work` is the value of the work that is due, if it is done.
     fn choice(&self, worker: u32, work: Option<u64>) -> Option<Event>
         requires unspent { self.now.spent ≡ false }
         requires worker_in { worker < self.now.workers }
-        requires work { (steps : ℕ) → due_in self.now worker ≡ Some steps
-            → work ≡ Some (spin_of steps) }
+        requires work { IfSome work (λ value. (steps : ℕ) → due_in self.now worker ≡ Some steps
+            → value ≡ spin_of steps) }
         ensures { result ≡ choice (job_in self.now) (state_in self.now) worker }
     {
         self.table.choose(&self.job, worker, work)
+    }
+
+    /// Whether it is seen at once that a turn of this worker makes no event. It may make none where this is false.
+    ///
+    /// Memory: none.
+    #[inline(always)]
+    pub(crate) fn surely_rests(&self, worker: u32) -> bool
+        requires worker_in { worker < self.now.workers }
+        ensures choice { IsTrue result
+            → choice (job_in self.now) (state_in self.now) worker ≡ None }
+        ensures spent { IsTrue result → self.now.spent ≡ false }
+    {
+        !self.spent && self.table.surely_rests(&self.job, worker)
+    }
+
+    /// The event of a worker's turn happens, if it has one. `work` is the value of the work that is due, if it is done.
+    fn advance(&mut self, worker: u32, work: Option<u64>) -> Result<Turn, AllocError>
+        requires worker_in { worker < self.old.workers }
+        requires work { IfSome work (λ value. (steps : ℕ) → due_in self.old worker ≡ Some steps
+            → value ≡ spin_of steps) }
+        ensures turn { IfOk result
+            (λ t. t ≡ moved_if (choice (job_in self.old) (state_in self.old) worker)) }
+        ensures event { IfOk result
+            (λ t. IsTurnResult t (job_in self.old) (state_in self.old) worker (state_in self.new)) }
+        ensures failed { IfErr result (λ _. self.new.spent ≡ true) }
+        ensures spent { IfOk result (λ _. (self.old.spent ≡ false) × (self.new.spent ≡ false)) }
+        ensures job { (self.new.tree ≡ self.old.tree) × (self.new.acts ≡ self.old.acts)
+            × (self.new.workers ≡ self.old.workers) }
+    {
+        if self.spent {
+            return Err(AllocError);
+        }
+        let Some(event) = self.choice(worker, work) else {
+            return Ok(Turn::Idle);
+        };
+        match self.table.apply(self.alloc, &self.job, worker, event) {
+            Ok(()) => Ok(Turn::Moved),
+            Err(error) => {
+                self.spent = true;
+                Err(error)
+            }
+        }
+    }
+
+    /// One turn of a worker. Where work is due, it is done in the turn.
+    #[inline(never)]
+    pub(crate) fn working_turn(&mut self, worker: u32) -> Result<(), AllocError>
+        requires { worker < self.old.workers }
+        ensures turn { IfOk result
+            (λ _. IsTurn (job_in self.old) (state_in self.old) worker (state_in self.new)) }
+        ensures spent { IfOk result (λ _. (self.old.spent ≡ false) × (self.new.spent ≡ false)) }
+        ensures job { (self.new.tree ≡ self.old.tree) × (self.new.acts ≡ self.old.acts)
+            × (self.new.workers ≡ self.old.workers) }
+    {
+        self.advance(worker, None)?;
+        Ok(())
     }
 
     /// One turn of a worker. Where the worker has started a leaf that works, the turn answers how many steps are due
@@ -148,16 +206,7 @@ impl Core {
                 return Ok(Turn::Spin(steps));
             }
         }
-        let Some(event) = self.choice(worker, value_of(&spun)) else {
-            return Ok(Turn::Idle);
-        };
-        match self.table.apply(self.alloc, &self.job, worker, event) {
-            Ok(()) => Ok(Turn::Moved),
-            Err(error) => {
-                self.spent = true;
-                Err(error)
-            }
-        }
+        self.advance(worker, value_of(&spun))
     }
 
     /// The ready nodes of a worker, the oldest first. Beyond the workers there are none.

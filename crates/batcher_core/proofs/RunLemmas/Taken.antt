@@ -14,12 +14,9 @@ made_of job old new w None is makes = makes.0
 made_of job old new w (Some event) is makes =
     subst (λ (e : Event). IsStep job old w e new) (same_Some makes.0 event (sym makes.1 ∙ is)) makes.2
 
-made_due : (job : CoreJob) (old new : CoreState) (w : ℕ) (due : Option ℕ) (steps : ℕ) → IsTurnResult (turn_answer due (Some steps) (choice job old w)) job old w new → IsTurn job old w new
-made_due job old new w None steps makes = made_of job old new w (choice job old w) refl makes
-made_due job old new w (Some n) steps makes = made_of job old new w (choice job old w) refl makes
-
-turn_made : (job : CoreJob) (old new : CoreState) (w : ℕ) (due : Option ℕ) (steps : ℕ) (t : Turn) → t ≡ turn_answer due (Some steps) (choice job old w) → IsTurnResult t job old w new → IsTurn job old w new
-turn_made job old new w due steps t is makes = made_due job old new w due steps (subst (λ (u : Turn). IsTurnResult u job old w new) is makes)
+-- a turn that answers what its choice says
+pub turn_made : (job : CoreJob) (old new : CoreState) (w : ℕ) (t : Turn) → t ≡ moved_if (choice job old w) → IsTurnResult t job old w new → IsTurn job old w new
+turn_made job old new w t is makes = made_of job old new w (choice job old w) refl (subst (λ (u : Turn). IsTurnResult u job old w new) is makes)
 
 -- a core shows the same job
 abbrev pub SameJob : CoreView → CoreView → Type 0
@@ -31,16 +28,6 @@ job_same old new same = ap (λ (tree : Tree). core_job tree new.acts new.workers
 
 pub same_since : (first old new : CoreView) → SameJob first old → SameJob old new → SameJob first new
 same_since first old new h g = (g.0 ∙ h.0, g.1 ∙ h.1, g.2 ∙ h.2)
-
--- a turn that is given some work, where the turn before it has changed nothing
-pub spun_turn : {E : Type 0} (old mid new : CoreView) (w steps : ℕ) (result : Result Turn E) → SameJob old mid → state_in mid ≡ state_in old
-    → IfOk result (λ t. t ≡ turn_answer (due_in mid w) (Some steps) (choice (job_in mid) (state_in mid) w)) → IfOk result (λ t. IsTurnResult t (job_in mid) (state_in mid) w (state_in new))
-    → IfOk result (λ _. IsTurn (job_in old) (state_in old) w (state_in new))
-spun_turn old mid new w steps (Err e) same still is makes = tt
-spun_turn old mid new w steps (Ok t) same still is makes =
-    subst (λ (s : CoreState). IsTurn (job_in old) s w (state_in new)) still
-    (subst (λ (job : CoreJob). IsTurn job (state_in mid) w (state_in new)) (job_same old mid same)
-    (turn_made (job_in mid) (state_in mid) (state_in new) w (due_in mid w) steps t is makes))
 
 -- a core that is not spent and not over has more to do
 pub goes_on : (spent done : Bool) → (not spent && done) ≡ false → spent ≡ false → done ≡ false

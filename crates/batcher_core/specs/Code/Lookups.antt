@@ -18,7 +18,7 @@ use Rattle.sp_order.specs.Plans.{Nodes}
 use Rattle.sp_order.specs.Preorder.{nodes_of}
 use Rattle.sp_order.specs.declared.node.Move.{Move}
 use Rattle.sp_order.specs.declared.node.Move.TheVariants.{Arrive as ArriveAt, FinishParent, OpenSecond, Root}
-use Rattle.std.specs.Prelude.{List, None, Option, Some, [], length, map, true, ℕ, ◌+◌, ◌-◌, ◌<◌, ◌^◌, ◌∷◌, ◌≡◌, ◌≤◌}
+use Rattle.std.specs.Prelude.{IfSome, List, None, Option, Some, [], length, map, true, ℕ, ◌+◌, ◌-◌, ◌<◌, ◌^◌, ◌∷◌, ◌≡◌, ◌≤◌}
 
 -- the parent that a move names is below this number
 abbrev pub MoveIn : ℕ → Move → Type 0
@@ -55,7 +55,7 @@ whole_choice plan mark (OpenSecond p) n = choice_second (plan.kind p) p
 whole_choice plan mark (FinishParent p) n = choice_parent (plan.kind p) p
 whole_choice plan mark (ArriveAt p) n = choice_arrive (plan.kind p) p (mark p) n
 
--- the value is that of the work that is due of the worker, if some is due
+-- where a value is given, it is that of the work that is due of the worker, if some is due
 abbrev pub IsWorkOf : StoredJob → StoredState → ℕ → Option ℕ → Type 0
 IsWorkOf job t w work =
-    (steps : ℕ) → work_due (nodes_of job.plan) job.acts.items ((state_of t).task w) ≡ Some steps → work ≡ Some (spin_of steps)
+    IfSome work (λ value. (steps : ℕ) → work_due (nodes_of job.plan) job.acts.items ((state_of t).task w) ≡ Some steps → value ≡ spin_of steps)

@@ -1,5 +1,5 @@
 //! The choice of a worker that runs a node or looks for one to claim.
-ghost use Rattle.std.specs.Prelude.{◌≡◌, ◌<◌, ◌≤◌, ℕ, length, None, Some};
+ghost use Rattle.std.specs.Prelude.{◌≡◌, ◌<◌, ◌≤◌, ℕ, length, None, Some, IsTrue, IfSome};
 ghost use Rattle.sp_order.specs.Preorder.{nodes_of};
 ghost use Rattle.batcher_core.specs.Choice.{choice_run, choice_half, choice_started, choice_second, choice_parent, choice_arrive, choice_handed};
 ghost use Rattle.batcher_core.specs.Abstraction.{state_of, ready_of};
@@ -12,6 +12,7 @@ use crate::job::CoreJob;
 use crate::state::State;
 use crate::state::status::CallState;
 use crate::state::task::Task;
+use seq_objects::work::spin;
 use seq_objects::{Act, value};
 use sp_order::node::{Kind, Move};
 
@@ -125,8 +126,19 @@ fn steps_of(act: Act) -> Option<u32>
     }
 }
 
+/// The value of these steps of work: `work`, where they are done.
+fn value_of_work(work: Option<u64>, steps: u32) -> u64
+    requires { IfSome work (λ value. value ≡ spin_of steps) }
+    ensures { result ≡ spin_of steps }
+{
+    match work {
+        Some(value) => value,
+        None => u64::from(spin(steps)),
+    }
+}
+
 /// The event of a worker that has started a leaf, by what the leaf does and by how far its call has come. `work` is
-/// the value of the leaf's work, where it works.
+/// the value of the leaf's work, where it works and that is done.
 pub(crate) fn of_started(
     act: Act,
     call: CallState,
@@ -134,14 +146,16 @@ pub(crate) fn of_started(
     start: u64,
     work: Option<u64>,
 ) -> Option<Event>
-    requires { (steps : ℕ) → act_steps act ≡ Some steps → work ≡ Some (spin_of steps) }
+    requires { IfSome work (λ value. (steps : ℕ) → act_steps act ≡ Some steps
+        → value ≡ spin_of steps) }
     ensures { result ≡ choice_started act call node start }
 {
     match act {
-        Act::Work(_) => match work {
-            Some(value) => Some(Event::Keep { node, start, value }),
-            None => unreachable!(),
-        },
+        Act::Work(steps) => Some(Event::Keep {
+            node,
+            start,
+            value: value_of_work(work, steps),
+        }),
         Act::Call(_) => match call {
             CallState::NotCalled => Some(Event::Post { node, start }),
             CallState::Out => None,
@@ -178,6 +192,15 @@ impl State {
             }
         }
         None
+    }
+
+    /// Whether no list has a node, so that a worker without a task has none to claim.
+    #[inline(always)]
+    pub(crate) fn nothing_to_claim(&self, workers: u32, worker: u32) -> bool
+        ensures { IsTrue result
+            → claim_choice workers (ready_of self.now) worker (ready_of self.now worker) ≡ None }
+    {
+        self.ready.are_empty()
     }
 
     /// The event of a worker whose node is done, by the move that the plan has after that node.

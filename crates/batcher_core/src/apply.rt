@@ -5,7 +5,7 @@ ghost use Rattle.batcher_core.specs.Code.Job.{job_of};
 ghost use Rattle.batcher_core.specs.Events.{Needs, Does};
 ghost use Rattle.batcher_core.specs.Ranges.{IsInRange};
 ghost use Rattle.batcher_core.specs.Code.Gate.{IsOfGate};
-ghost use Rattle.batcher_core.specs.Code.ReadyLists.{IsAtEnd};
+ghost use Rattle.batcher_core.specs.Code.ReadyLists.{IsAtOneEnd};
 ghost use Rattle.batcher_core.specs.Abstraction.{state_of, ready_of};
 ghost use Rattle.batcher_core.specs.Code.Sizes.{SameSizes};
 ghost use Rattle.batcher_core.specs.Lists.{ready_after};
@@ -70,7 +70,7 @@ impl State {
         requires worker_in { worker < job.now.workers }
         requires in_range { IsInRange (nodes_of job.now.plan).count job.now.workers event }
         requires needs { Needs (job_of job.now) (state_of self.old) worker event }
-        requires at_end { (n : ℕ) → event ≡ Claim n → (v : ℕ) → IsAtEnd n (ready_of self.old v) }
+        requires at_end { (n : ℕ) → event ≡ Claim n → IsAtOneEnd n (ready_of self.old) }
         ensures sizes { IfOk result (λ _. SameSizes self.old self.new) }
         ensures event { IfOk result
             (λ _. Does (job_of job.now) (state_of self.old) worker event (state_of self.new)) }

@@ -7,7 +7,7 @@ use Rattle.batcher_core.specs.declared.state.State.{State as StoredState}
 use Rattle.batcher_core.specs.Events.{Needs}
 use Rattle.batcher_core.specs.Choice.{choice}
 use Rattle.batcher_core.specs.Ranges.{IsInRange}
-use Rattle.batcher_core.specs.Code.ReadyLists.{IsAtEnd}
+use Rattle.batcher_core.specs.Code.ReadyLists.{IsAtOneEnd}
 use Rattle.batcher_core.specs.Abstraction.{state_of, ready_of, core_state_of, hold_of}
 use Rattle.batcher_core.specs.Code.Representation.{RepInvariant}
 use Rattle.batcher_core.proofs.CodeLemmas.InRange.{event_in}
@@ -59,7 +59,7 @@ module _ (tree : Tree) (acts : List Act) (workers : ℕ) (t : StoredState) (w : 
     chosen_in_range = event_in (core_job tree acts workers) (state_of t) h.laws (kept_parts tree acts workers t h) w event chosen_needs
 
     -- a claimed node stands at an end of its list
-    pub chosen_at_end : (n : ℕ) → event ≡ Claim n → (v : ℕ) → IsAtEnd n (ready_of t v)
+    pub chosen_at_end : (n : ℕ) → event ≡ Claim n → IsAtOneEnd n (ready_of t)
     chosen_at_end n claims =
         let needs : Needs (core_job tree acts workers) (state_of t) w (Claim n) = rw claims at chosen_needs in
         claim_ends (core_job tree acts workers) (core_state_of t) w n (kept_parts tree acts workers t h) h.inv.lists needs.0 needs.1 (chosen ∙ ap Some claims)

@@ -7,7 +7,7 @@ use Rattle.batcher_core.specs.Lists.{times}
 use Rattle.batcher_core.specs.Invariant.ReadyLists.{ReadyListsInvariant}
 use Rattle.batcher_core.proofs.Inductive.Parts.{InductiveParts}
 use Rattle.batcher_core.specs.Choice.{choice, LeavesAnEnd}
-use Rattle.batcher_core.specs.Code.ReadyLists.{IsOldest, IsNewest, IsAtEnd}
+use Rattle.batcher_core.specs.Code.ReadyLists.{IsOldest, IsNewest, IsAtEnd, IsAtOneEnd}
 use Rattle.batcher_core.proofs.ChoiceLemmas.Ends.{oldest_stands, newest_stands}
 use Rattle.batcher_core.proofs.ChoiceLemmas.Ready.{once_there, idle_leaves, choice_of_idle}
 
@@ -41,7 +41,9 @@ at_ends workers node ready n h one u =
     ]
 
 pub claim_ends : (job : CoreJob) (s : CoreState) (w n : ℕ) → InductiveParts job s.state → ReadyListsInvariant job.workers s.state.node s.ready → s.state.status w ≡ Free → s.state.task w ≡ Idle
-    → choice job s w ≡ Some (Claim n) → (u : ℕ) → IsAtEnd n (s.ready u)
+    → choice job s w ≡ Some (Claim n) → IsAtOneEnd n s.ready
 claim_ends job s w n parts h status task chosen =
-    at_ends job.workers s.state.node s.ready n h
-    (ends_one s.ready w n (idle_leaves job s.state.node s.ready w n (s.ready w) h refl (sym (choice_of_idle job s w parts status task) ∙ chosen)))
+    let ends = ends_one s.ready w n (idle_leaves job s.state.node s.ready w n (s.ready w) h refl (sym (choice_of_idle job s w parts status task) ∙ chosen)) in record {
+      at_ends = at_ends job.workers s.state.node s.ready n h ends;
+      alone = λ u v other stands. (once_there job.workers s.state.node s.ready u n h stands).1 v (λ same. other (sym same));
+    }

@@ -1,12 +1,14 @@
 -- Taking away a number that stands once in a list, at one of its ends.
 use Rattle.std.proofs.Common.{ℕ, zero, suc, ◌≡◌, ◌≢◌, ◌<◌, ◌≤◌, ◌+◌, ◌-◌, ◌⊎◌, List, [], ◌∷◌, length, get_or, arith, refl, inl, inr, sym, ◌∙◌, ap, slice_set, Bool, true, false, take, drop}
 use Rattle.std.proofs.lemmas.Grind.{common_steps}
-use Rattle.std.proofs.lemmas.Bool.{cases_lt}
+use Rattle.std.proofs.lemmas.Bool.{cases_eq, cases_lt}
 use Rattle.std.proofs.lemmas.Bool.Decides.{nat_tests}
 use Rattle.batcher_core.specs.Lists.{without, times}
 use Rattle.batcher_core.specs.Places.{at}
 use Rattle.batcher_core.specs.Code.ReadyLists.{IsOldest, IsNewest, IsAtEnd}
-use Rattle.batcher_core.proofs.CodeLemmas.Written.{at_beyond, at_place, at_written}
+use Rattle.batcher_core.proofs.CodeLemmas.Written.{at_beyond}
+use Rattle.batcher_core.proofs.CodeLemmas.Puts.{put_at, put_other}
+use Rattle.batcher_core.specs.State.{put}
 
 pub without_none : (n : ℕ) (xs : List ℕ) → times n xs ≡ 0 → without n xs ≡ xs
 without_none n [] h = refl
@@ -47,36 +49,44 @@ not_newest n (suc t) xs h o e = absurd (pick (h (omega arith)))
     pick (inl x) = o x
     pick (inr x) = e x
 
-pub none_taken : (n : ℕ) (xs : List ℕ) → IsAtEnd n xs → (newest oldest : Bool) → (IsNewest n xs → newest ≡ true) → (IsOldest n xs → oldest ≡ true)
-    → newest ≡ false → oldest ≡ false → xs ≡ without n xs
-none_taken n xs h newest oldest is_new is_old e f = sym (without_none n xs (not_newest n (times n xs) xs h.end (λ p. let z = is_old p in cc) (λ p. let z = is_new p in cc)))
+pub none_there : (n : ℕ) (xs : List ℕ) → IsAtEnd n xs → (newest oldest : Bool) → (IsNewest n xs → newest ≡ true) → (IsOldest n xs → oldest ≡ true)
+    → newest ≡ false → oldest ≡ false → times n xs ≡ 0
+none_there n xs h newest oldest is_new is_old e f = not_newest n (times n xs) xs h.end (λ p. let z = is_old p in cc) (λ p. let z = is_new p in cc)
 
-pub dropped_before : (old : ℕ → List ℕ) (xs : List (List ℕ)) (w n : ℕ) (o q : List ℕ)
-    → w < length xs → o ≡ get_or xs w o → q ≡ without n o
-    → ((v : ℕ) → v < w → at xs [] v ≡ without n (old v)) → ((v : ℕ) → w ≤ v → at xs [] v ≡ old v)
-    → (v : ℕ) → v < w + 1 → at (slice_set xs w q) [] v ≡ without n (old v)
-dropped_before old xs w n o q below is drop before after v less =
-    let e = ap (λ (f : ℕ → List ℕ). f v) (at_written xs w q [] below) in
-    let there = at_place xs w o [] below is in
-    let b = before v in
-    let a = after v in rw e (grind (arith, nat_tests, drop, there, b, a))
-
-pub dropped_after : (old : ℕ → List ℕ) (xs : List (List ℕ)) (w : ℕ) (q : List ℕ)
-    → w < length xs → ((v : ℕ) → w ≤ v → at xs [] v ≡ old v)
-    → (v : ℕ) → w + 1 ≤ v → at (slice_set xs w q) [] v ≡ old v
-dropped_after old xs w q below after v more =
-    let e = ap (λ (f : ℕ → List ℕ). f v) (at_written xs w q [] below) in
-    let a = after v in rw e (grind (arith, nat_tests, a))
-
--- each list is without the number, where those beyond the lists are empty
-pub dropped_all : (old : ℕ → List ℕ) (xs : List (List ℕ)) (n : ℕ) → ((v : ℕ) → v < length xs → at xs [] v ≡ without n (old v))
-    → ((v : ℕ) → length xs ≤ v → at xs [] v ≡ old v) → at xs [] ≡ (λ v. without n (old v))
-dropped_all old xs n before after = λ i v. dropped v i
+-- where the number stands in one of the lists, taking it off there takes it off all
+pub removed_one : (old : ℕ → List ℕ) (w n : ℕ) → ((v : ℕ) → w ≢ v → times n (old v) ≡ 0) → put old w (without n (old w)) ≡ (λ v. without n (old v))
+removed_one old w n none = λ i v. removed v i
   where
-    dropped : (v : ℕ) → at xs [] v ≡ without n (old v)
-    dropped v = elim (cases_lt v (length xs)) [
-      | inl below ↦ before v below
-      | inr past ↦ let e = at_beyond xs v [] past in sym (without_none n (at xs [] v) (rw e refl)) ∙ ap (without n) (after v past)
+    removed : (v : ℕ) → put old w (without n (old w)) v ≡ without n (old v)
+    removed v = elim (cases_eq v w) [
+      | inl same ↦ put_at old w v (without n (old w)) same ∙ rw same refl
+      | inr other ↦ put_other old w v (without n (old w)) other ∙ sym (without_none n (old v) (none v (λ same. other (sym same))))
+    ]
+
+-- where it does not stand in a list, that stays
+pub removed_none : (old : ℕ → List ℕ) (w n : ℕ) → times n (old w) ≡ 0 → put old w (without n (old w)) ≡ old
+removed_none old w n none = λ i v. removed v i
+  where
+    removed : (v : ℕ) → put old w (without n (old w)) v ≡ old v
+    removed v = elim (cases_eq v w) [
+      | inl same ↦ put_at old w v (without n (old w)) same ∙ rw same (without_none n (old w) none)
+      | inr other ↦ put_other old w v (without n (old w)) other
+    ]
+
+pub none_so_far : (old : ℕ → List ℕ) (n w : ℕ) → ((v : ℕ) → v < w → times n (old v) ≡ 0) → times n (old w) ≡ 0 → (v : ℕ) → v < w + 1 → times n (old v) ≡ 0
+none_so_far old n w before here v below = elim (cases_eq v w) [
+  | inl same ↦ rw same here
+  | inr other ↦ before v (omega (arith, below, other))
+]
+
+-- and where it stands in none, all do
+pub removed_all : (xs : List (List ℕ)) (n : ℕ) → ((v : ℕ) → v < length xs → times n (at xs [] v) ≡ 0) → at xs [] ≡ (λ v. without n (at xs [] v))
+removed_all xs n none = λ i v. removed v i
+  where
+    removed : (v : ℕ) → at xs [] v ≡ without n (at xs [] v)
+    removed v = elim (cases_lt v (length xs)) [
+      | inl below ↦ sym (without_none n (at xs [] v) (none v below))
+      | inr past ↦ let e = at_beyond xs v [] past in rw e refl
     ]
 
 pub oldest_stands : (n : ℕ) (xs : List ℕ) → IsOldest n xs → times n xs ≢ 0

@@ -1,4 +1,4 @@
--- How many lists of ready nodes are not empty, and at which end of one a number stands.
+-- How many lists of ready nodes are not empty, and where a number stands that is claimed.
 use Rattle.batcher_core.specs.Lists.{times}
 use Rattle.batcher_core.specs.Measure.{total}
 use Rattle.batcher_core.specs.Places.{at}
@@ -25,3 +25,8 @@ IsNewest n xs = (0 < length xs) × (get_or xs (length xs - 1) n ≡ n)
 pub record IsAtEnd (n : ℕ) (xs : List ℕ) : Type 0 where
   pub once : times n xs ≤ 1
   pub end : times n xs ≢ 0 → IsOldest n xs ⊎ IsNewest n xs
+
+-- the number stands in one list at most, once, and at one of its ends
+pub record IsAtOneEnd (n : ℕ) (lists : ℕ → List ℕ) : Type 0 where
+  pub at_ends : (v : ℕ) → IsAtEnd n (lists v)
+  pub alone : (u v : ℕ) → u ≢ v → times n (lists u) ≢ 0 → times n (lists v) ≡ 0

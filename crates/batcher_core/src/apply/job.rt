@@ -7,7 +7,7 @@ ghost use Rattle.batcher_core.specs.Events.{task_after as next_task};
 ghost use Rattle.batcher_core.specs.declared.state.progress.Progress.TheVariants.{Done, Ran, Ready, Taken};
 ghost use Rattle.batcher_core.specs.declared.state.task.Task.TheVariants.{Started, Kept, Ended, Run};
 ghost use Rattle.batcher_core.specs.declared.state.status.CallState.TheVariants.{NotCalled};
-ghost use Rattle.batcher_core.specs.Code.ReadyLists.{IsAtEnd};
+ghost use Rattle.batcher_core.specs.Code.ReadyLists.{IsAtOneEnd};
 ghost use Rattle.batcher_core.specs.Lists.{without};
 
 use crate::state::State;
@@ -33,7 +33,8 @@ impl State {
     pub(crate) fn claim(&mut self, worker: u32, node: u32)
         requires worker_in { worker < length self.old.tasks.items }
         requires node_in { node < length self.old.nodes.items }
-        requires at_ends { (v : ℕ) → IsAtEnd node (ready_of self.old v) }
+        requires ready_in { worker < length self.old.ready }
+        requires at_end { IsAtOneEnd node (ready_of self.old) }
         ensures sizes { SameSizes self.old self.new }
         ensures event { state_of self.new ≡ record (state_of self.old) {
           node = put (state_of self.old).node node Taken;
@@ -41,7 +42,7 @@ impl State {
         } }
         ensures lists { ready_of self.new ≡ λ v. without node (ready_of self.old v) }
     {
-        self.ready.remove(node);
+        self.ready.remove(worker, node);
         self.nodes[node as usize] = Progress::Taken;
         self.tasks[worker as usize] = Task::Run(node);
     }

@@ -1,9 +1,9 @@
 //! The workers' lists of ready nodes.
-ghost use Rattle.std.specs.Prelude.{◌≡◌, ◌<◌, ◌≤◌, ◌-◌, ℕ, [], ◌∷◌, ◌++◌, length, take, drop, replicate, IfOk, IfErr, OnOk, OnErr, IsTrue, ◌↔◌};
+ghost use Rattle.std.specs.Prelude.{◌≡◌, ◌<◌, ◌≤◌, ◌-◌, ℕ, [], ◌∷◌, ◌++◌, length, take, drop, replicate, IfOk, IfErr, OnOk, OnErr, IsTrue, false, ◌↔◌, ◌≢◌};
 ghost use Rattle.batcher_core.specs.State.{put, opening_core};
-ghost use Rattle.batcher_core.specs.Lists.{without};
+ghost use Rattle.batcher_core.specs.Lists.{without, times};
 ghost use Rattle.batcher_core.specs.Places.{at};
-ghost use Rattle.batcher_core.specs.Code.ReadyLists.{one_if_non_empty as count_of, IsNewest, IsOldest, IsAtEnd};
+ghost use Rattle.batcher_core.specs.Code.ReadyLists.{one_if_non_empty as count_of, IsNewest, IsOldest, IsAtEnd, IsAtOneEnd};
 
 use std::alloc::{AllocError, Global};
 use std::marker::Model;
@@ -113,16 +113,22 @@ impl ReadyList {
         self.first = begin_anew(&mut self.items, self.first + 1);
     }
 
-    /// Takes away a node that stands once in the list, at one of its ends, or not at all.
-    fn remove(&mut self, node: u32)
+    /// Takes away a node that stands once in the list, at one of its ends, or not at all. Answers whether it stood there.
+    fn remove(&mut self, node: u32) -> bool
         requires { IsAtEnd node self.old }
-        ensures { self.new ≡ without node self.old }
+        ensures list { self.new ≡ without node self.old }
+        ensures found { IsTrue result → times node self.old ≢ 0 }
+        ensures absent { result ≡ false → times node self.old ≡ 0 }
     {
         if self.is_newest(node) {
             self.drop_newest();
-        } else if self.is_oldest(node) {
-            self.drop_oldest();
+            return true;
         }
+        if self.is_oldest(node) {
+            self.drop_oldest();
+            return true;
+        }
+        false
     }
 }
 
@@ -206,17 +212,38 @@ impl ReadyLists {
         Ok(())
     }
 
-    /// Takes away a node that stands at an end of one list, or in none. Each list is looked at.
-    pub(crate) fn remove(&mut self, node: u32)
-        requires { (v : ℕ) → IsAtEnd node (at self.old [] v) }
+    /// Takes a node away from the list of a worker, if it stands there. Answers whether it did.
+    fn remove_from(&mut self, worker: usize, node: u32) -> bool
+        requires worker_in { worker < length self.old }
+        requires at_end { IsAtEnd node (at self.old [] worker) }
+        ensures len { length self.new ≡ length self.old }
+        ensures lists { at self.new []
+            ≡ put (at self.old []) worker (without node (at self.old [] worker)) }
+        ensures found { IsTrue result → times node (at self.old [] worker) ≢ 0 }
+        ensures absent { result ≡ false → times node (at self.old [] worker) ≡ 0 }
+    {
+        let list = &mut self.lists[worker];
+        let before = list.one_if_non_empty();
+        let found = list.remove(node);
+        self.non_empty = self.non_empty - before + list.one_if_non_empty();
+        found
+    }
+
+    /// Takes away a node that stands at an end of one list, or in none. The list of `worker` is looked at first, and no
+    /// list behind that in which the node stood.
+    pub(crate) fn remove(&mut self, worker: u32, node: u32)
+        requires worker_in { worker < length self.old }
+        requires at_end { IsAtOneEnd node (at self.old []) }
         ensures len { length self.new ≡ length self.old }
         ensures lists { at self.new [] ≡ λ v. without node (at self.old [] v) }
     {
-        for worker in 0..self.lists.len() {
-            let list = &mut self.lists[worker];
-            let before = list.one_if_non_empty();
-            list.remove(node);
-            self.non_empty = self.non_empty - before + list.one_if_non_empty();
+        if self.remove_from(worker as usize, node) {
+            return;
+        }
+        for other in 0..self.lists.len() {
+            if self.remove_from(other, node) {
+                return;
+            }
         }
     }
 }

@@ -1,13 +1,24 @@
-use Rattle.std.proofs.Common.{refl}
-use Rattle.batcher_core.proofs.ChoiceLemmas.Ends.{newest_taken, oldest_taken, none_taken}
+use Rattle.std.proofs.Common.{refl, sym}
+use Rattle.batcher_core.proofs.ChoiceLemmas.Ends.{newest_taken, oldest_taken, none_there, without_none, newest_stands, oldest_stands}
 use Rattle.batcher_core.proofs.state.ready.ReadyList.remove.Goals as goal
 
-pub returns-then-is_newest : goal.returns-then-is_newest
-returns-then-is_newest c = newest_taken c.args.node _ c.args.self.now _ c.requires (c.is_newest.ensures.0 c.if-is_newest.true) refl c.drop_newest.ensures
+pub returns-then-is_newest-clause-list : goal.returns-then-is_newest-clause-list
+returns-then-is_newest-clause-list c = newest_taken c.args.node _ c.args.self.now _ c.requires (c.is_newest.ensures.0 c.if-is_newest.true) refl c.drop_newest.ensures
 
-pub returns-then-is_oldest : goal.returns-then-is_oldest
-returns-then-is_oldest c = oldest_taken c.args.node c.args.self.now _ c.requires (c.is_oldest.ensures.0 c.if-is_oldest.true) c.drop_oldest.ensures
+pub returns-then-is_newest-clause-found : goal.returns-then-is_newest-clause-found
+returns-then-is_newest-clause-found c = λ _. newest_stands c.args.node c.args.self.now (c.is_newest.ensures.0 c.if-is_newest.true)
 
-pub returns-else-is_oldest : goal.returns-else-is_oldest
-returns-else-is_oldest c =
-    none_taken c.args.node c.args.self.now c.requires c.is_newest.result c.is_oldest.result c.is_newest.ensures.1 c.is_oldest.ensures.1 c.if-is_newest.false c.if-is_oldest.false
+pub returns-then-is_oldest-clause-list : goal.returns-then-is_oldest-clause-list
+returns-then-is_oldest-clause-list c = oldest_taken c.args.node c.args.self.now _ c.requires (c.is_oldest.ensures.0 c.if-is_oldest.true) c.drop_oldest.ensures
+
+pub returns-then-is_oldest-clause-found : goal.returns-then-is_oldest-clause-found
+returns-then-is_oldest-clause-found c = λ _. oldest_stands c.args.node c.args.self.now (c.is_oldest.ensures.0 c.if-is_oldest.true)
+
+pub returns-clause-list : goal.returns-clause-list
+returns-clause-list c =
+    let none = none_there c.args.node c.args.self.now c.requires c.is_newest.result c.is_oldest.result c.is_newest.ensures.1 c.is_oldest.ensures.1 c.if-is_newest.false c.if-is_oldest.false in
+    sym (without_none c.args.node c.args.self.now none)
+
+pub returns-clause-absent : goal.returns-clause-absent
+returns-clause-absent c = λ _.
+    none_there c.args.node c.args.self.now c.requires c.is_newest.result c.is_oldest.result c.is_newest.ensures.1 c.is_oldest.ensures.1 c.if-is_newest.false c.if-is_oldest.false

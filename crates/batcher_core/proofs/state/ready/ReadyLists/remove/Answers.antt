@@ -1,44 +1,47 @@
-use Rattle.std.proofs.Common.{[], ◌∙◌, ◌<◌, length, arith}
-use Rattle.std.proofs.lemmas.List.{length-set}
+use Rattle.std.proofs.Common.{ℕ, ◌≡◌, ◌≢◌, ◌<◌, ◌∙◌, List, [], length, arith, sym, subst}
+use Rattle.batcher_core.specs.State.{put}
+use Rattle.batcher_core.specs.Lists.{times, without}
+use Rattle.batcher_core.specs.Code.ReadyLists.{IsAtEnd}
 use Rattle.batcher_core.specs.Places.{at}
-use Rattle.batcher_core.proofs.ChoiceLemmas.Ends.{dropped_before, dropped_after, dropped_all}
-use Rattle.batcher_core.proofs.CodeLemmas.NonEmpty.{counted, recounted, recounted_at_most}
+use Rattle.batcher_core.proofs.ChoiceLemmas.Ends.{removed_one, removed_none, removed_all, none_so_far}
 use Rattle.batcher_core.proofs.state.ready.ReadyLists.remove.Goals as goal
 
-pub overflow_sub-self : goal.overflow_sub-self
-overflow_sub-self c =
-    let now = c.loop-worker.self-inside.lists.items in
-    let below : c.loop-worker.worker < length now = omega (arith, c.loop-worker.invariant.len) in
-    let l = counted now c.loop-worker.worker c.one_if_non_empty-before.result c.index_mut-list.result.now
-    below c.index_mut-list.ensures.value c.one_if_non_empty-before.ensures in
-    omega (arith, l, c.loop-worker.invariant.count)
+pub returns-then-remove_from-clause-lists : goal.returns-then-remove_from-clause-lists
+returns-then-remove_from-clause-lists c =
+    c.remove_from.ensures.lists ∙ removed_one (at c.args.self.now []) c.args.worker c.args.node
+    (λ v other. c.requires.at_end.alone c.args.worker v other (c.remove_from.ensures.found c.if-remove_from.true))
 
-pub overflow_add-self : goal.overflow_add-self
-overflow_add-self c =
-    let now = c.loop-worker.self-inside.lists.items in
-    let below : c.loop-worker.worker < length now = omega (arith, c.loop-worker.invariant.len) in
-    let l = recounted_at_most now c.loop-worker.worker c.loop-worker.self-inside.non_empty c.one_if_non_empty-before.result
-    c.one_if_non_empty.result c.index_mut-list.result.now c.remove.new.self below c.index_mut-list.ensures.value
-    c.loop-worker.invariant.count c.one_if_non_empty-before.ensures c.one_if_non_empty.ensures in
-    omega (arith, l)
+pub loop-other-init : goal.loop-other-init
+loop-other-init c = record {
+  len = c.remove_from.ensures.len;
+  same = c.remove_from.ensures.lists ∙ removed_none (at c.args.self.now []) c.args.worker c.args.node (c.remove_from.ensures.absent c.if-remove_from.false);
+  none = λ v below. absurd (omega (arith, below));
+}
 
-pub loop-worker-preserved : goal.loop-worker-preserved
-loop-worker-preserved c =
-    let now = c.loop-worker.self-inside.lists.items in
-    let below : c.loop-worker.worker < length now = omega (arith, c.loop-worker.invariant.len) in record {
-      len = length-set _ _ _ ∙ c.loop-worker.invariant.len;
-      before = dropped_before (at c.self.inside.lists.items []) now c.loop-worker.worker c.args.node
-          c.index_mut-list.result.now c.remove.new.self below c.index_mut-list.ensures.value c.remove.ensures
-          c.loop-worker.invariant.before c.loop-worker.invariant.after;
-      count = recounted now c.loop-worker.worker c.loop-worker.self-inside.non_empty c.one_if_non_empty-before.result
-          c.one_if_non_empty.result c.index_mut-list.result.now c.remove.new.self below c.index_mut-list.ensures.value
-          c.loop-worker.invariant.count c.one_if_non_empty-before.ensures c.one_if_non_empty.ensures;
-      after = dropped_after (at c.self.inside.lists.items []) now c.loop-worker.worker c.remove.new.self
-          below c.loop-worker.invariant.after;
+pub remove_from-requires-in-loop-other-clause-at_end : goal.remove_from-requires-in-loop-other-clause-at_end
+remove_from-requires-in-loop-other-clause-at_end c =
+    subst (λ (f : ℕ → List ℕ). IsAtEnd c.args.node (f c.loop-other.other)) (sym c.loop-other.invariant.same) (c.requires.at_end.at_ends c.loop-other.other)
+
+pub returns-then-remove_from-2-clause-lists : goal.returns-then-remove_from-2-clause-lists
+returns-then-remove_from-2-clause-lists c =
+    let there = subst (λ (f : ℕ → List ℕ). times c.args.node (f c.loop-other.other) ≢ 0) c.loop-other.invariant.same (c.remove_from-in-loop-other.ensures.found c.if-remove_from-2.true) in
+    let lists = subst (λ (f : ℕ → List ℕ). at c.remove_from-in-loop-other.new.self [] ≡ put f c.loop-other.other (without c.args.node (f c.loop-other.other))) c.loop-other.invariant.same
+    c.remove_from-in-loop-other.ensures.lists in
+    lists ∙ removed_one (at c.args.self.now []) c.loop-other.other c.args.node (λ v other. c.requires.at_end.alone c.loop-other.other v other there)
+
+pub loop-other-preserved : goal.loop-other-preserved
+loop-other-preserved c =
+    let absent = subst (λ (f : ℕ → List ℕ). times c.args.node (f c.loop-other.other) ≡ 0) c.loop-other.invariant.same (c.remove_from-in-loop-other.ensures.absent c.if-remove_from-2.false) in
+    let lists = subst (λ (f : ℕ → List ℕ). at c.remove_from-in-loop-other.new.self [] ≡ put f c.loop-other.other (without c.args.node (f c.loop-other.other))) c.loop-other.invariant.same
+    c.remove_from-in-loop-other.ensures.lists in record {
+      len = c.remove_from-in-loop-other.ensures.len ∙ c.loop-other.invariant.len;
+      same = lists ∙ removed_none (at c.args.self.now []) c.loop-other.other c.args.node absent;
+      none = none_so_far (at c.args.self.now []) c.args.node c.loop-other.other c.loop-other.invariant.none absent;
     }
 
 pub returns-clause-lists : goal.returns-clause-lists
 returns-clause-lists c =
-    rw (← c.self.view_is) (dropped_all (at c.self.inside.lists.items []) c.loop-worker.self-inside.lists.items c.args.node
-    (λ v below. c.loop-worker.invariant.before v (omega (arith, below, c.loop-worker.invariant.len)))
-    (λ v past. c.loop-worker.invariant.after v (omega (arith, past, c.loop-worker.invariant.len))))
+    let all : length c.self.inside.lists.items ≡ length c.args.self.now = rw (← c.self.view_is) at c.remove_from.ensures.len in
+    let past = c.loop-other-test.false in
+    c.loop-other.invariant.same ∙ removed_all c.args.self.now c.args.node
+    (λ v below. c.loop-other.invariant.none v (omega (arith, below, all, past, c.len-other-end.ensures)))

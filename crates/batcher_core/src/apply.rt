@@ -24,6 +24,7 @@ use std::alloc::{AllocError, Global};
 
 impl State {
     /// Does an event of a call or of the flag. After want of memory the state may be part of the way.
+    #[inline(always)]
     fn apply_to_gate(
         &mut self,
         alloc: Global,
@@ -59,6 +60,7 @@ impl State {
     }
 
     /// Does an event of a worker. After want of memory the state may be part of the way.
+    #[inline(always)]
     pub(crate) fn apply(
         &mut self,
         alloc: Global,

@@ -20,6 +20,7 @@ impl State {
     /// The event of a worker whose status is free, by its task. `work` is the value of the work that is due, if some
     /// is due.
     #[tactic(auto, unfolding(crate::specs::Abstraction::state_of, crate::specs::Abstraction::ready_of))]
+    #[inline(always)]
     pub(crate) fn choose_free(&self, job: &CoreJob, worker: u32, work: Option<u64>) -> Option<Event>
         requires looks { CanChoose job.now self.now }
         requires worker_in { worker < job.now.workers }
@@ -44,6 +45,7 @@ impl State {
 
     /// The event of a worker that does not hold the flag, by its status.
     #[tactic(auto, unfolding(crate::specs::Abstraction::state_of))]
+    #[inline(always)]
     fn choose_by_status(&self, job: &CoreJob, worker: u32, work: Option<u64>) -> Option<Event>
         requires looks { CanChoose job.now self.now }
         requires worker_in { worker < job.now.workers }
@@ -91,6 +93,7 @@ impl State {
     ///
     /// Memory: none.
     #[tactic(auto, unfolding(crate::specs::Abstraction::state_of))]
+    #[inline(always)]
     pub(crate) fn choose(&self, job: &CoreJob, worker: u32, work: Option<u64>) -> Option<Event>
         requires looks { CanChoose job.now self.now }
         requires worker_in { worker < job.now.workers }

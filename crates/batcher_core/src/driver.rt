@@ -29,7 +29,7 @@ fn take_turn(core: &mut Core, worker: u32) -> Result<bool, AllocError>
     if core.surely_rests(worker) {
         return Ok(false);
     }
-    core.working_turn(worker)?;
+    core.advance(worker, None)?;
     Ok(core.is_over())
 }
 

@@ -7,7 +7,6 @@ ghost use Rattle.batcher_core.specs.Choice.{choice};
 ghost use Rattle.sp_order.specs.Precedence.{leaves};
 ghost use Rattle.batch_history.specs.Lawful.{Lawful};
 ghost use Rattle.batcher_core.specs.Invariant.{Invariant};
-ghost use Rattle.batcher_core.specs.Runs.{IsTurn};
 ghost use Rattle.batcher_core.specs.Reports.{IsReportOf, IsRowOf};
 ghost use Rattle.sp_order.specs.Preorder.{nodes_of};
 ghost use Rattle.std.specs.List.{AllByRecursion, range_with_len};
@@ -113,6 +112,7 @@ impl Core {
     }
 
     /// The event of a worker's next turn, if it has one. `work` is the value of the work that is due, if it is done.
+    #[inline(always)]
     fn choice(&self, worker: u32, work: Option<u64>) -> Option<Event>
         requires unspent { self.now.spent ≡ false }
         requires worker_in { worker < self.now.workers }
@@ -136,8 +136,10 @@ impl Core {
         !self.spent && self.table.surely_rests(&self.job, worker)
     }
 
-    /// The event of a worker's turn happens, if it has one. `work` is the value of the work that is due, if it is done.
-    fn advance(&mut self, worker: u32, work: Option<u64>) -> Result<Turn, AllocError>
+    /// The event of a worker's turn happens, if it has one. `work` is the value of the work that is due, if that is done;
+    /// else it is done here.
+    #[inline(always)]
+    pub(crate) fn advance(&mut self, worker: u32, work: Option<u64>) -> Result<Turn, AllocError>
         requires worker_in { worker < self.old.workers }
         requires work { IfSome work (λ value. (steps : ℕ) → due_in self.old worker ≡ Some steps
             → value ≡ spin_of steps) }
@@ -163,20 +165,6 @@ impl Core {
                 Err(error)
             }
         }
-    }
-
-    /// One turn of a worker. Where work is due, it is done in the turn.
-    #[inline(never)]
-    pub(crate) fn working_turn(&mut self, worker: u32) -> Result<(), AllocError>
-        requires { worker < self.old.workers }
-        ensures turn { IfOk result
-            (λ _. IsTurn (job_in self.old) (state_in self.old) worker (state_in self.new)) }
-        ensures spent { IfOk result (λ _. (self.old.spent ≡ false) × (self.new.spent ≡ false)) }
-        ensures job { (self.new.tree ≡ self.old.tree) × (self.new.acts ≡ self.old.acts)
-            × (self.new.workers ≡ self.old.workers) }
-    {
-        self.advance(worker, None)?;
-        Ok(())
     }
 
     /// One turn of a worker. Where the worker has started a leaf that works, the turn answers how many steps are due

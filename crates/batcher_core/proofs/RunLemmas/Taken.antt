@@ -9,15 +9,6 @@ use Rattle.batcher_core.specs.Runs.{IsStep, IsTurnOf, IsTurn, Drives, over, by_s
 use Rattle.batcher_core.specs.Cores.{CoreView, job_in, state_in, due_in, is_over_in, moved_if, turn_answer, IsTurnResult}
 use Rattle.batcher_core.proofs.RunLemmas.OneRun.{over_or}
 
-made_of : (job : CoreJob) (old new : CoreState) (w : ℕ) (chosen : Option Event) → choice job old w ≡ chosen → IsTurnResult (moved_if chosen) job old w new → IsTurnOf job old w chosen new
-made_of job old new w None is makes = makes.0
-made_of job old new w (Some event) is makes =
-    subst (λ (e : Event). IsStep job old w e new) (same_Some makes.0 event (sym makes.1 ∙ is)) makes.2
-
--- a turn that answers what its choice says
-pub turn_made : (job : CoreJob) (old new : CoreState) (w : ℕ) (t : Turn) → t ≡ moved_if (choice job old w) → IsTurnResult t job old w new → IsTurn job old w new
-turn_made job old new w t is makes = made_of job old new w (choice job old w) refl (subst (λ (u : Turn). IsTurnResult u job old w new) is makes)
-
 -- a core shows the same job
 abbrev pub SameJob : CoreView → CoreView → Type 0
 SameJob old new = (new.tree ≡ old.tree) × (new.acts ≡ old.acts) × (new.workers ≡ old.workers)

@@ -21,16 +21,6 @@ fn is_pending(status: Status) -> bool
     }
 }
 
-/// The status of a worker once the holder of the flag has looked at it: a pending call is taken.
-fn status_after_look(status: Status) -> Status
-    ensures { result ≡ if status_pending status then Executing else status }
-{
-    match status {
-        Status::Pending => Status::Executing,
-        other => other,
-    }
-}
-
 impl State {
     /// The worker posts the call of the leaf that it has started.
     #[tactic(auto, using(crate::proofs::CodeLemmas::Written::at_written), unfolding(crate::specs::Abstraction::state_of, crate::specs::Abstraction::ready_of))]
@@ -78,9 +68,11 @@ impl State {
         let Some(hold) = &mut self.hold else {
             unreachable!()
         };
-        let status = self.statuses[other as usize];
-        hold.look(other, is_pending(status));
-        self.statuses[other as usize] = status_after_look(status);
+        let takes = is_pending(self.statuses[other as usize]);
+        hold.look(other, takes);
+        if takes {
+            self.statuses[other as usize] = Status::Executing;
+        }
     }
 
     /// The worker `other` gets its receipt.

@@ -1,12 +1,9 @@
 -- What the turns of a run have made.
-use Rattle.std.proofs.Common.{ℕ, ◌≡◌, ◌<◌, ◌+◌, ◌%◌, ◌&&◌, not, Bool, true, false, Option, Some, None, List, [], refl, sym, ◌∙◌, ap, subst, inl, inr, length, drop, slice_index_or, Result, Ok, Err, IfOk}
+use Rattle.std.proofs.Common.{ℕ, ◌≡◌, ◌<◌, ◌+◌, ◌%◌, ◌&&◌, not, Bool, true, false, List, [], sym, ◌∙◌, ap, subst, inl, inr, length, drop, slice_index_or}
 use Rattle.std.proofs.lemmas.List.{drop_more}
-use Rattle.std.proofs.lemmas.Option.{same_Some}
-use Rattle.batcher_core.proofs.Words.{Act, Tree, Event, CoreJob, CoreState, core_job, is_done}
-use Rattle.batcher_core.specs.declared.turn.Turn.{Turn}
-use Rattle.batcher_core.specs.Choice.{choice}
-use Rattle.batcher_core.specs.Runs.{IsStep, IsTurnOf, IsTurn, Drives, over, by_schedule, by_robin}
-use Rattle.batcher_core.specs.Cores.{CoreView, job_in, state_in, due_in, is_over_in, moved_if, turn_answer, IsTurnResult}
+use Rattle.batcher_core.proofs.Words.{Act, Tree, CoreJob, CoreState, core_job, is_done}
+use Rattle.batcher_core.specs.Runs.{IsTurn, Drives, over, by_schedule, by_robin}
+use Rattle.batcher_core.specs.Cores.{CoreView, job_in, state_in, is_over_in}
 use Rattle.batcher_core.proofs.RunLemmas.OneRun.{over_or}
 
 -- a core shows the same job

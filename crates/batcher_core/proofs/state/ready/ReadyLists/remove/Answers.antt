@@ -1,4 +1,4 @@
-use Rattle.std.proofs.Common.{ℕ, ◌≡◌, ◌≢◌, ◌<◌, ◌∙◌, List, [], length, arith, sym, subst}
+use Rattle.std.proofs.Common.{ℕ, ◌≡◌, ◌≢◌, ◌∙◌, List, [], length, arith, sym, subst}
 use Rattle.batcher_core.specs.State.{put}
 use Rattle.batcher_core.specs.Lists.{times, without}
 use Rattle.batcher_core.specs.Code.ReadyLists.{IsAtEnd}

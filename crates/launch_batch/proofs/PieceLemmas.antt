@@ -2,4 +2,5 @@ pub mod Placing
 pub mod Meeting
 pub mod Outs
 pub mod Ascending
+pub mod Rows
 pub mod Counting

@@ -1,2 +1,4 @@
--- The definitions of the code's own: how calls are dealt to their structures, and replies put together again.
+-- The definitions of the code's own: how calls are dealt to their structures, how the structures' pieces are
+-- put at their places, and their replies together again.
 pub mod Merging
+pub mod Rows

@@ -1,7 +1,9 @@
 //! The pieces of the four structures, at their places.
-ghost use Rattle.std.specs.Prelude.{◌≡◌, ◌≤◌, ◌++◌, length, IfOk, OnOk};
-ghost use Rattle.launch_batch.specs.ByStructure.{placed};
+ghost use Rattle.std.specs.Prelude.{◌≡◌, ℕ, ◌+◌, ◌^◌, ◌<◌, ◌≤◌, ◌++◌, length, IfOk, OnOk};
+ghost use Rattle.launch_batch.specs.declared.piece.PieceIn.{PieceIn as Input};
 ghost use Rattle.launch_batch.specs.declared.piece.PieceIn.TheVariants as piece;
+ghost use Rattle.launch_batch.specs.ByStructure.{placed};
+ghost use Rattle.launch_batch.specs.Code.Rows.{AreInRows};
 
 use crate::piece::PieceIn;
 use batched_counter::Piece as CounterPiece;
@@ -10,53 +12,56 @@ use batched_stack::Piece as StackPiece;
 use batched_tree::Piece as TreePiece;
 use std::alloc::{AllocError, Global};
 
-/// Puts the counter's pieces behind others.
-fn put_counter(pieces: &mut Vec<PieceIn>, ins: Vec<CounterPiece>) -> Result<(), AllocError>
-    requires { length ins.items ≤ 16 }
-    ensures { OnOk result (pieces.new.items ≡ pieces.old.items ++ placed piece.Counter 0 ins.items) }
-{
-    let mut place = 0;
-    for input in ins {
-        pieces.push(PieceIn::Counter(place, input))?;
-        place += 1;
-    }
-    Ok(())
+/// A piece of one structure, which has a place among those of all.
+trait Placed: Drop {
+    /// The piece at its place, for contracts.
+    ghost at: { ℕ → Self → Input };
+
+    /// The piece at its place.
+    fn at(self, place: u32) -> PieceIn
+        ensures { result ≡ at place self };
 }
 
-/// Puts the stack's pieces behind others.
-fn put_stack(pieces: &mut Vec<PieceIn>, ins: Vec<StackPiece>) -> Result<(), AllocError>
-    requires { length ins.items ≤ 16 }
-    ensures { OnOk result (pieces.new.items ≡ pieces.old.items ++ placed piece.Stack 16 ins.items) }
-{
-    let mut place = 16;
-    for input in ins {
-        pieces.push(PieceIn::Stack(place, input))?;
-        place += 1;
+impl Placed for CounterPiece {
+    ghost at = { piece.Counter };
+
+    fn at(self, place: u32) -> PieceIn {
+        PieceIn::Counter(place, self)
     }
-    Ok(())
 }
 
-/// Puts the tree's pieces behind others.
-fn put_tree(pieces: &mut Vec<PieceIn>, ins: Vec<TreePiece>) -> Result<(), AllocError>
-    requires { length ins.items ≤ 16 }
-    ensures { OnOk result (pieces.new.items ≡ pieces.old.items ++ placed piece.Tree 32 ins.items) }
-{
-    let mut place = 32;
-    for input in ins {
-        pieces.push(PieceIn::Tree(place, input))?;
-        place += 1;
+impl Placed for StackPiece {
+    ghost at = { piece.Stack };
+
+    fn at(self, place: u32) -> PieceIn {
+        PieceIn::Stack(place, self)
     }
-    Ok(())
 }
 
-/// Puts the queue's pieces behind others.
-fn put_queue(pieces: &mut Vec<PieceIn>, ins: Vec<QueuePiece>) -> Result<(), AllocError>
-    requires { length ins.items ≤ 8 }
-    ensures { OnOk result (pieces.new.items ≡ pieces.old.items ++ placed piece.Queue 48 ins.items) }
+impl Placed for TreePiece {
+    ghost at = { piece.Tree };
+
+    fn at(self, place: u32) -> PieceIn {
+        PieceIn::Tree(place, self)
+    }
+}
+
+impl Placed for QueuePiece {
+    ghost at = { piece.Queue };
+
+    fn at(self, place: u32) -> PieceIn {
+        PieceIn::Queue(place, self)
+    }
+}
+
+/// Puts the pieces of a structure behind others, from a place on.
+fn put<T: Placed>(pieces: &mut Vec<PieceIn>, ins: Vec<T>, first: u32) -> Result<(), AllocError>
+    requires { first + length ins.items < 2 ^ 32 }
+    ensures { OnOk result (pieces.new.items ≡ pieces.old.items ++ placed T.at first ins.items) }
 {
-    let mut place = 48;
+    let mut place = first;
     for input in ins {
-        pieces.push(PieceIn::Queue(place, input))?;
+        pieces.push(input.at(place))?;
         place += 1;
     }
     Ok(())
@@ -74,14 +79,13 @@ pub(crate) fn pieces_of(
     requires stack { length stack.items ≤ 16 }
     requires tree { length tree.items ≤ 16 }
     requires queue { length queue.items ≤ 8 }
-    ensures { IfOk result (λ v. v.items ≡ placed piece.Counter 0 counter.items ++ placed piece.Stack 16 stack.items
-        ++ placed piece.Tree 32 tree.items ++ placed piece.Queue 48 queue.items) }
+    ensures { IfOk result (λ v. AreInRows v.items counter.items stack.items tree.items queue.items) }
 {
     let count = counter.len() + stack.len() + tree.len() + queue.len();
     let mut pieces = Vec::with_capacity(alloc, count)?;
-    put_counter(&mut pieces, counter)?;
-    put_stack(&mut pieces, stack)?;
-    put_tree(&mut pieces, tree)?;
-    put_queue(&mut pieces, queue)?;
+    put(&mut pieces, counter, 0)?;
+    put(&mut pieces, stack, 16)?;
+    put(&mut pieces, tree, 32)?;
+    put(&mut pieces, queue, 48)?;
     Ok(pieces)
 }

@@ -22,6 +22,7 @@ use Rattle.batch_history.specs.declared.batch.Entry.{Entry}
 use Rattle.launch_batch.specs.Places.{row, places}
 use Rattle.launch_batch.specs.Contents.{IsKept, contents}
 use Rattle.launch_batch.specs.Halves.{IsCutIfCalled}
+use Rattle.launch_batch.specs.Code.Rows.{four_rows}
 
 -- the pieces of one structure
 row_is : {In : Type 0} (cut : Objects → List Call → List In → Type 0) (count : Objects → List Call → ℕ)
@@ -38,19 +39,17 @@ places_by objects calls =
     ++ row 32 (calls_of Tree calls) (tree_count objects (calls_of Tree calls))
     ++ row 48 (calls_of Queue calls) (queue_count objects (calls_of Queue calls))
 
-four_same : (p q r s t u v w : List ℕ) → p ≡ t → q ≡ u → r ≡ v → s ≡ w → p ++ q ++ r ++ s ≡ t ++ u ++ v ++ w
-four_same p q r s t u v w i j k l = rw (i, j, k, l) refl
-
 pub rows_are : (book : List (List Entry)) (ordered : List Call) (number : ℕ) (view : StackView) (keys bag : List ℕ)
     (counter : List CounterPiece) (stack : List StackPiece) (tree : List TreePiece) (queue : List QueuePiece) → IsKept number view keys bag book
     → IsCutIfCalled CounterCut (of_counter number) (calls_of Counter ordered) counter → IsCutIfCalled StackCut (of_stack view.items) (calls_of Stack ordered) stack
     → IsCutIfCalled TreeCut (of_set keys) (calls_of Tree ordered) tree → IsCutIfCalled QueueCut (of_bag bag) (calls_of Queue ordered) queue
-    → range_with_len 0 (length counter) ++ range_with_len 16 (length stack) ++ range_with_len 32 (length tree) ++ range_with_len 48 (length queue) ≡ places book ordered
+    → four_rows (length counter) (length stack) (length tree) (length queue) ≡ places book ordered
 rows_are book ordered number view keys bag counter stack tree queue kept i j k l =
-    let rows : range_with_len 0 (length counter) ++ range_with_len 16 (length stack) ++ range_with_len 32 (length tree) ++ range_with_len 48 (length queue) ≡ places_by (contents number view keys bag) ordered =
-    four_same (range_with_len 0 (length counter)) (range_with_len 16 (length stack)) (range_with_len 32 (length tree)) (range_with_len 48 (length queue)) _ _ _ _
-    (row_is CounterCut counter_count counter_counted 0 (of_counter number) (calls_of Counter ordered) counter i)
-    (row_is StackCut stack_count stack_counted 16 (of_stack view.items) (calls_of Stack ordered) stack j)
-    (row_is TreeCut tree_count tree_counted 32 (of_set keys) (calls_of Tree ordered) tree k)
-    (row_is QueueCut queue_count queue_counted 48 (of_bag bag) (calls_of Queue ordered) queue l) in
+    let rows : four_rows (length counter) (length stack) (length tree) (length queue) ≡ places_by (contents number view keys bag) ordered =
+    rw (
+      row_is CounterCut counter_count counter_counted 0 (of_counter number) (calls_of Counter ordered) counter i,
+      row_is StackCut stack_count stack_counted 16 (of_stack view.items) (calls_of Stack ordered) stack j,
+      row_is TreeCut tree_count tree_counted 32 (of_set keys) (calls_of Tree ordered) tree k,
+      row_is QueueCut queue_count queue_counted 48 (of_bag bag) (calls_of Queue ordered) queue l,
+    ) refl in
     rows ∙ ap (λ objects. places_by objects ordered) kept.contents

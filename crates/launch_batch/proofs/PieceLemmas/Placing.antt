@@ -1,5 +1,5 @@
--- Pieces that are put at consecutive places.
-use Rattle.std.proofs.Common.{◌≡◌, ℕ, ◌+◌, List, [], ◌∷◌, ◌++◌, length, map, refl, sym, ap, ◌∙◌, arith, append_assoc}
+-- Pieces that are put at consecutive places, and those of each structure among all.
+use Rattle.std.proofs.Common.{◌≡◌, ℕ, ◌+◌, List, [], ◌∷◌, ◌++◌, length, map, refl, sym, ap, ◌∙◌, arith, append_assoc, append-nil}
 use Rattle.std.specs.List.{range_with_len}
 use Rattle.launch_batch.specs.declared.piece.PieceIn.{PieceIn}
 use Rattle.launch_batch.specs.Pieces.{place_of}
@@ -15,12 +15,29 @@ pub put_more : {In : Type 0} (make : ℕ → In → PieceIn) (old now : List Pie
 put_more make old now place n xs x is at =
     ap (λ l. l ++ make n x ∷ []) is ∙ append_assoc old (placed make place xs) (make n x ∷ []) ∙ ap (λ l. old ++ l) (sym (placed_more make place n xs x at))
 
-pub length_placed : {In : Type 0} (make : ℕ → In → PieceIn) (place : ℕ) (xs : List In) → length (placed make place xs) ≡ length xs
-length_placed make place [] = refl
-length_placed make place (x ∷ xs) = omega (arith, length_placed make (place + 1) xs)
-
 -- their places
 pub places_placed : {In : Type 0} (make : ℕ → In → PieceIn) (place : ℕ) (xs : List In) → ((n : ℕ) (x : In) → place_of (make n x) ≡ n)
     → map place_of (placed make place xs) ≡ range_with_len place (length xs)
 places_placed make place [] has = refl
 places_placed make place (x ∷ xs) has = rw (has place x, places_placed make (place + 1) xs has) refl
+
+-- of a structure's own pieces before others, all are its own; of another's, none
+module _ {X : Type 0} (own : List PieceIn → List X) where
+  pub all_own : (make : ℕ → X → PieceIn) → ((n : ℕ) (x : X) (rest : List PieceIn) → own (make n x ∷ rest) ≡ x ∷ own rest)
+      → (place : ℕ) (xs : List X) (rest : List PieceIn) → own (placed make place xs ++ rest) ≡ xs ++ own rest
+  all_own make takes place [] rest = refl
+  all_own make takes place (x ∷ xs) rest = takes place x (placed make (place + 1) xs ++ rest) ∙ ap (λ l. x ∷ l) (all_own make takes (place + 1) xs rest)
+
+  pub none_own : {In : Type 0} (make : ℕ → In → PieceIn) → ((n : ℕ) (x : In) (rest : List PieceIn) → own (make n x ∷ rest) ≡ own rest)
+      → (place : ℕ) (xs : List In) (rest : List PieceIn) → own (placed make place xs ++ rest) ≡ own rest
+  none_own make passes place [] rest = refl
+  none_own make passes place (x ∷ xs) rest = passes place x (placed make (place + 1) xs ++ rest) ∙ none_own make passes (place + 1) xs rest
+
+  -- among four lists
+  pub own_of_four : (a b c d : List PieceIn) (p q r s : List X) → ((rest : List PieceIn) → own (a ++ rest) ≡ p ++ own rest) → ((rest : List PieceIn) → own (b ++ rest) ≡ q ++ own rest)
+      → ((rest : List PieceIn) → own (c ++ rest) ≡ r ++ own rest) → ((rest : List PieceIn) → own (d ++ rest) ≡ s ++ own rest)
+      → own (a ++ b ++ c ++ d) ≡ p ++ (q ++ (r ++ (s ++ own [])))
+  own_of_four a b c d p q r s h i j k =
+      ap own (append_assoc (a ++ b) c d ∙ append_assoc a b (c ++ d) ∙ ap (λ l. a ++ (b ++ (c ++ l))) (sym (append-nil d)))
+      ∙ h (b ++ (c ++ (d ++ [])))
+      ∙ ap (λ l. p ++ l) (i (c ++ (d ++ [])) ∙ ap (λ l. q ++ l) (j (d ++ []) ∙ ap (λ l. r ++ l) (k [])))

@@ -1,0 +1,27 @@
+-- The pieces of the four structures in one list, each structure's in a row of places.
+use Rattle.std.specs.Prelude.{ℕ, ◌≡◌, ◌<◌, List, length, map, ◌++◌}
+use Rattle.std.specs.List.{AllByRecursion, range_with_len}
+use Rattle.seq_objects.specs.Orders.{StrictlyAscends}
+use Rattle.batched_counter.specs.declared.piece.Piece.{Piece as CounterPiece}
+use Rattle.batched_stack.specs.declared.piece.Piece.{Piece as StackPiece}
+use Rattle.batched_tree.specs.declared.piece.Piece.{Piece as TreePiece}
+use Rattle.batched_pq.specs.declared.piece.Piece.{Piece as QueuePiece}
+use Rattle.launch_batch.specs.declared.piece.PieceIn.{PieceIn}
+use Rattle.launch_batch.specs.Pieces.{place_of}
+use Rattle.launch_batch.specs.ByStructure.{counter_pieces, stack_pieces, tree_pieces, queue_pieces}
+
+-- the places of so many pieces of each structure
+abbrev pub four_rows : ℕ → ℕ → ℕ → ℕ → List ℕ
+four_rows a b c d = range_with_len 0 a ++ range_with_len 16 b ++ range_with_len 32 c ++ range_with_len 48 d
+
+-- the pieces are those of the four structures, whose places ascend
+pub record AreInRows (pieces : List PieceIn) (for_counter : List CounterPiece)
+    (for_stack : List StackPiece) (for_tree : List TreePiece) (for_queue : List QueuePiece) : Type 0 where
+  pub counter : counter_pieces pieces ≡ for_counter
+  pub stack : stack_pieces pieces ≡ for_stack
+  pub tree : tree_pieces pieces ≡ for_tree
+  pub queue : queue_pieces pieces ≡ for_queue
+  pub places : map place_of pieces ≡
+      four_rows (length for_counter) (length for_stack) (length for_tree) (length for_queue)
+  pub below : AllByRecursion (λ input. place_of input < 56) pieces
+  pub ascend : StrictlyAscends (map place_of pieces)

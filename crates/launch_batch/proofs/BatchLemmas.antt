@@ -2,4 +2,3 @@ pub mod Serial
 pub mod Histories
 pub mod Beginning
 pub mod Ending
-pub mod Whole

@@ -1,5 +1,5 @@
 -- A structure that has no call in a batch stands whole; of the others the rest is kept.
-use Rattle.std.specs.Prelude.{◌≡◌, List, [], ◌∷◌, ⊤}
+use Rattle.std.specs.Prelude.{◌≡◌, List, [], ◌∷◌}
 use Rattle.seq_objects.specs.declared.call.Call.{Call}
 use Rattle.seq_objects.specs.Objects.{Objects}
 use Rattle.seq_objects.specs.Pieces.{BatchContext}
@@ -15,8 +15,3 @@ IsHalfContextOf is_context_of (Open rest) o = is_context_of rest o
 abbrev pub IsCutIfCalled : {In : Type 0} → (Objects → List Call → List In → Type 0) → Objects → List Call → List In → Type 0
 IsCutIfCalled cut objects [] ins = ins ≡ []
 IsCutIfCalled cut objects (call ∷ calls) ins = cut objects (call ∷ calls) ins
-
--- a structure that stands whole has no outs
-abbrev pub HasNoOutsIfWhole : {T R Out : Type 0} → Half T R → List Out → Type 0
-HasNoOutsIfWhole (Whole structure) outs = outs ≡ []
-HasNoOutsIfWhole (Open rest) outs = ⊤

@@ -3,7 +3,7 @@ ghost use Rattle.std.specs.Prelude.{◌≡◌, ◌<◌, ◌≤◌, length, IfOk}
 ghost use Rattle.seq_objects.specs.Batches.{AreOneBatch, calls_of};
 ghost use Rattle.seq_objects.specs.Serial.{after_all, replies_to_all};
 ghost use Rattle.seq_objects.specs.Pieces.{AllMeet, BatchContext};
-ghost use Rattle.launch_batch.specs.Halves.{IsHalfContextOf, IsCutIfCalled, HasNoOutsIfWhole};
+ghost use Rattle.launch_batch.specs.Halves.{IsHalfContextOf, IsCutIfCalled};
 ghost use Rattle.launch_batch.specs.Code.Merging.{object_served};
 
 use crate::deal::{Structure, calls_of};
@@ -65,7 +65,6 @@ pub(crate) fn close<T: Batched>(
     outs: Vec<T::Out>,
 ) -> Result<(T, Vec<Reply>), AllocError>
     requires met { (o : BatchContext T T.In) × IsHalfContextOf T.is_context_of half o × AllMeet T.meets o.ins outs.items }
-    requires whole { HasNoOutsIfWhole half outs.items }
     ensures replies { IfOk result (λ p. (o : BatchContext T T.In) → IsHalfContextOf T.is_context_of half o
         → AllMeet T.meets o.ins outs.items → p.1.items ≡ replies_to_all (T.content o.before) o.calls) }
     ensures content { IfOk result (λ p. (o : BatchContext T T.In) → IsHalfContextOf T.is_context_of half o

@@ -103,10 +103,11 @@ impl Shop {
             history,
         } = self;
         let calls = in_batch_order(alloc, &calls)?;
-        let (counter, counter_pieces) = open_own(alloc, counter, &calls, Structure::Counter)?;
-        let (stack, stack_pieces) = open_own(alloc, stack, &calls, Structure::Stack)?;
-        let (tree, tree_pieces) = open_own(alloc, tree, &calls, Structure::Tree)?;
-        let (queue, queue_pieces) = open_own(alloc, queue, &calls, Structure::Queue)?;
+        let all = calls.as_slice();
+        let (counter, counter_pieces) = open_own(alloc, counter, all, Structure::Counter)?;
+        let (stack, stack_pieces) = open_own(alloc, stack, all, Structure::Stack)?;
+        let (tree, tree_pieces) = open_own(alloc, tree, all, Structure::Tree)?;
+        let (queue, queue_pieces) = open_own(alloc, queue, all, Structure::Queue)?;
         let pieces = pieces_of(
             alloc,
             counter_pieces,

@@ -1,7 +1,8 @@
 -- What a batch is opened with.
-use Rattle.std.proofs.Common.{ℕ, ◌≤◌, ◌<◌, ◌+◌, ◌*◌, ◌^◌, List, length, arith}
+use Rattle.std.proofs.Common.{ℕ, ◌≤◌, ◌<◌, ◌+◌, ◌*◌, ◌^◌, List, length, map, arith}
 use Rattle.std.specs.List.{AllByRecursion}
 use Rattle.seq_objects.specs.declared.call.Call.{Call}
+use Rattle.seq_objects.specs.Pairs.{AreDistinct}
 use Rattle.seq_objects.specs.Batches.{Counter, Stack, Tree, Queue, AreInBatchOrder, AreOneBatch, object_of, same_object, calls_of}
 use Rattle.seq_objects.specs.Serial.{of_counter}
 use Rattle.seq_objects.proofs.Filters.{each_filter, are_of}
@@ -18,12 +19,13 @@ pub some_same : (calls ordered : List Call) → AreSame calls ordered → 0 < le
 some_same calls ordered same some = let n = length_same calls ordered same in omega (arith, n, some)
 
 -- the calls in order are one batch
-pub one_batch : (book : List (List Entry)) (calls ordered : List Call) → MayServe book calls → AreSame calls ordered → AreInBatchOrder ordered → AreOneBatch ordered
-one_batch book calls ordered may same order = record {
-  some = some_same calls ordered same may.some;
+pub one_batch : (calls ordered : List Call) → 0 < length calls → AreDistinct (map (λ (c : Call). c.worker) calls) → AllByRecursion (λ (c : Call). c.worker < 32) calls
+    → AreSame calls ordered → AreInBatchOrder ordered → AreOneBatch ordered
+one_batch calls ordered some workers below same order = record {
+  some = some_same calls ordered same some;
   order = order;
-  workers = distinct_same (λ (c : Call). c.worker) calls ordered same may.workers;
-  below = each_same (λ (c : Call). c.worker < 32) calls ordered same may.below;
+  workers = distinct_same (λ (c : Call). c.worker) calls ordered same workers;
+  below = each_same (λ (c : Call). c.worker < 32) calls ordered same below;
 }
 
 -- the counter does not overflow

@@ -1,5 +1,7 @@
 -- A history with one more batch is a history.
 use Rattle.std.proofs.Common.{ℕ, ◌≡◌, ◌≢◌, ◌<◌, ◌+◌, ◌^◌, List, [], ◌∷◌, ◌++◌, length, map, arith, refl, sym, ap, subst, ◌∙◌, append-nil, append_assoc, length-append}
+use Rattle.std.proofs.lemmas.List.{length-map}
+use Rattle.std.proofs.lemmas.Simd.{map-map}
 use Rattle.std.specs.List.{AllByRecursion}
 use Rattle.seq_objects.specs.declared.call.Call.{Call}
 use Rattle.seq_objects.specs.BatchOrder.{ComesFirst}
@@ -30,21 +32,8 @@ pairs_unmapped : {A B : Type 0} (f : A → B) (R : B → B → Type 0) (xs : Lis
 pairs_unmapped f R [] h = tt
 pairs_unmapped f R (x ∷ xs) h = (each_unmapped f (R (f x)) xs h.0, pairs_unmapped f R xs h.1)
 
-workers_are : (batch : List Entry) → map (λ (c : Call). c.worker) (calls_in batch) ≡ map (λ (e : Entry). e.worker) batch
-workers_are [] = refl
-workers_are (e ∷ batch) = ap (λ l. e.worker ∷ l) (workers_are batch)
-
-leaves_are : (batch : List Entry) → map (λ (c : Call). c.leaf) (calls_in batch) ≡ map (λ (e : Entry). e.leaf) batch
-leaves_are [] = refl
-leaves_are (e ∷ batch) = ap (λ l. e.leaf ∷ l) (leaves_are batch)
-
 pub length_calls : (batch : List Entry) → length (calls_in batch) ≡ length batch
-length_calls [] = refl
-length_calls (e ∷ batch) = omega (arith, length_calls batch)
-
-not_empty : (batch : List Entry) → 0 < length batch → batch ≢ []
-not_empty [] some e = absurd (omega (arith, some))
-not_empty (b ∷ batch) some e = cc
+length_calls batch = length-map batch call_in
 
 module _ (book : List (List Entry)) (calls : List Call) (batch : List Entry) (may : MayServe book calls) (is : IsServiceOf book calls batch) where
   -- there are as many entries as calls
@@ -53,16 +42,16 @@ module _ (book : List (List Entry)) (calls : List Call) (batch : List Entry) (ma
 
   is_batch : IsBatch batch
   is_batch = record {
-    some = not_empty batch (let n = many in omega (arith, n, may.some));
+    some = λ none. let n = many in let zero = ap length none in omega (arith, n, zero, may.some);
     order = pairs_unmapped call_in (λ (a b : Call). ComesFirst a.op a.worker b.op b.worker) batch is.order;
-    workers = subst AreDistinct (workers_are batch) (distinct_same (λ (c : Call). c.worker) calls (calls_in batch) is.same may.workers);
+    workers = subst AreDistinct (map-map (λ (c : Call). c.worker) call_in batch) (distinct_same (λ (c : Call). c.worker) calls (calls_in batch) is.same may.workers);
   }
 
   abbrev earlier : List ℕ
   earlier = map (λ (e : Entry). e.leaf) (flat book)
 
   apart : AllByRecursion (λ leaf. AllByRecursion (λ other. leaf ≢ other) earlier) (map (λ (e : Entry). e.leaf) batch)
-  apart = subst (AllByRecursion (λ leaf. AllByRecursion (λ other. leaf ≢ other) earlier)) (leaves_are batch)
+  apart = subst (AllByRecursion (λ leaf. AllByRecursion (λ other. leaf ≢ other) earlier)) (map-map (λ (c : Call). c.leaf) call_in batch)
       (each_mapped (λ (c : Call). c.leaf) (λ (c : Call). AllByRecursion (λ other. c.leaf ≢ other) earlier) (λ leaf. AllByRecursion (λ other. leaf ≢ other) earlier) (λ c other. other) (calls_in batch)
       (each_same (λ (c : Call). AllByRecursion (λ other. c.leaf ≢ other) earlier) calls (calls_in batch) is.same
       (each_unmapped (λ (c : Call). c.leaf) (λ leaf. AllByRecursion (λ other. leaf ≢ other) earlier) calls may.new)))
@@ -74,11 +63,11 @@ module _ (book : List (List Entry)) (calls : List Call) (batch : List Entry) (ma
     workers = subst (AllByRecursion (λ (e : Entry). e.worker < 32)) (sym (flat_append book batch)) (each_append (λ (e : Entry). e.worker < 32) (flat book) batch h.workers
         (each_unmapped call_in (λ (c : Call). c.worker < 32) batch (each_same (λ (c : Call). c.worker < 32) calls (calls_in batch) is.same may.below)));
     leaves = subst (λ l. AreDistinct (map (λ (e : Entry). e.leaf) l)) (sym (flat_append book batch)) (subst AreDistinct (sym (map_append (λ (e : Entry). e.leaf) (flat book) batch))
-        (distinct_append earlier (map (λ (e : Entry). e.leaf) batch) h.leaves (subst AreDistinct (leaves_are batch) (distinct_same (λ (c : Call). c.leaf) calls (calls_in batch) is.same may.leaves))
+        (distinct_append earlier (map (λ (e : Entry). e.leaf) batch) h.leaves (subst AreDistinct (map-map (λ (c : Call). c.leaf) call_in batch) (distinct_same (λ (c : Call). c.leaf) calls (calls_in batch) is.same may.leaves))
         (apart_turned (map (λ (e : Entry). e.leaf) batch) earlier apart)));
     numbers = subst (λ l. AllByRecursion (λ leaf. leaf < 2 ^ 32) (map (λ (e : Entry). e.leaf) l)) (sym (flat_append book batch)) (subst (AllByRecursion (λ leaf. leaf < 2 ^ 32)) (sym (map_append (λ (e : Entry). e.leaf) (flat book) batch))
         (each_append (λ leaf. leaf < 2 ^ 32) earlier (map (λ (e : Entry). e.leaf) batch) h.numbers
-        (subst (AllByRecursion (λ leaf. leaf < 2 ^ 32)) (leaves_are batch) (each_mapped (λ (c : Call). c.leaf) IsNarrow (λ leaf. leaf < 2 ^ 32) (λ c n. n.0) (calls_in batch) narrow))));
+        (subst (AllByRecursion (λ leaf. leaf < 2 ^ 32)) (map-map (λ (c : Call). c.leaf) call_in batch) (each_mapped (λ (c : Call). c.leaf) IsNarrow (λ leaf. leaf < 2 ^ 32) (λ c n. n.0) (calls_in batch) narrow))));
   }
 
 -- how long the book is then

@@ -2,9 +2,8 @@
 use Rattle.std.proofs.Common.{◌≡◌, ◌+◌, ◌*◌, ◌<◌, ◌≤◌, ◌^◌, List, [], ◌∷◌, length, refl, arith}
 use Rattle.std.specs.List.{AllByRecursion}
 use Rattle.seq_objects.specs.declared.op.Op.{Op}
-use Rattle.seq_objects.specs.declared.op.Op.TheVariants.{CounterAdd, Push, Pop, TreeInsert, TreeRemove, TreeFind, TreeNext, PqInsert, PqTake}
+use Rattle.seq_objects.specs.declared.op.Op.TheVariants.{CounterAdd}
 use Rattle.seq_objects.specs.declared.call.Call.{Call}
-use Rattle.seq_objects.specs.declared.reply.Reply.{Reply}
 use Rattle.seq_objects.specs.Objects.{Objects, after, reply_to, argument_of}
 use Rattle.seq_objects.specs.Serial.{after_all, replies_to_all}
 use Rattle.batched_counter.specs.Sums.{total}
@@ -15,18 +14,11 @@ use Rattle.batch_history.specs.Serving.{served, calls_in, replies_in}
 use Rattle.launch_batch.specs.Contents.{IsNarrow}
 
 -- entries whose replies are those of serving their calls are legal
-same_head : (x y : Reply) (xs ys : List Reply) → x ∷ xs ≡ y ∷ ys → x ≡ y
-same_head x y xs ys e = cc
-
-same_tail : (x y : Reply) (xs ys : List Reply) → x ∷ xs ≡ y ∷ ys → xs ≡ ys
-same_tail x y xs ys e = cc
-
 pub legal_is : (o : Objects) (entries : List Entry) → replies_in entries ≡ replies_to_all o (calls_in entries) → IsLegalFrom o entries
 legal_is o [] h = tt
-legal_is o (e ∷ entries) h = (
-  same_head e.reply (reply_to o e.op) (replies_in entries) (replies_to_all (after o e.op) (calls_in entries)) h,
-  legal_is (after o e.op) entries (same_tail e.reply (reply_to o e.op) (replies_in entries) (replies_to_all (after o e.op) (calls_in entries)) h),
-)
+legal_is o (e ∷ entries) h =
+    let same : e.reply ∷ replies_in entries ≡ reply_to o e.op ∷ replies_to_all (after o e.op) (calls_in entries) = h in
+    (cc, legal_is (after o e.op) entries (cc))
 
 pub served_is : (o : Objects) (entries : List Entry) → served o entries ≡ after_all o (calls_in entries)
 served_is o [] = refl
@@ -35,14 +27,7 @@ served_is o (e ∷ entries) = served_is (after o e.op) entries
 -- an operation adds less than 2^32 to the counter
 counter_step : (o : Objects) (op : Op) → argument_of op < 2 ^ 32 → (after o op).counter ≤ o.counter + 2 ^ 32
 counter_step o (CounterAdd a) small = omega (arith, small)
-counter_step o (Push a) small = omega arith
-counter_step o Pop small = omega arith
-counter_step o (TreeInsert k) small = omega arith
-counter_step o (TreeRemove k) small = omega arith
-counter_step o (TreeFind k) small = omega arith
-counter_step o (TreeNext k) small = omega arith
-counter_step o (PqInsert a) small = omega arith
-counter_step o PqTake small = omega arith
+counter_step o _ small = omega arith
 
 pub counter_most : (o : Objects) (calls : List Call) → AllByRecursion IsNarrow calls → (after_all o calls).counter ≤ o.counter + length calls * 2 ^ 32
 counter_most o [] narrow = omega arith
@@ -54,14 +39,7 @@ counter_most o (call ∷ calls) narrow =
 -- and so does a call
 addend_small : (op : Op) → argument_of op < 2 ^ 32 → addend_of op ≤ 2 ^ 32
 addend_small (CounterAdd a) h = omega (arith, h)
-addend_small (Push a) h = omega arith
-addend_small Pop h = omega arith
-addend_small (TreeInsert k) h = omega arith
-addend_small (TreeRemove k) h = omega arith
-addend_small (TreeFind k) h = omega arith
-addend_small (TreeNext k) h = omega arith
-addend_small (PqInsert a) h = omega arith
-addend_small PqTake h = omega arith
+addend_small _ h = omega arith
 
 pub total_small : (calls : List Call) → AllByRecursion IsNarrow calls → total (addends calls) ≤ length calls * 2 ^ 32
 total_small [] h = omega arith

@@ -47,23 +47,18 @@ make call reply = record { leaf = call.leaf; worker = call.worker; op = call.op;
 entry_same : (e f : Entry) → call_in e ≡ call_in f → e.reply ≡ f.reply → e ≡ f
 entry_same e f calls replies = ap (λ c. make c e.reply) calls ∙ ap (make (call_in f)) replies
 
-first_call : (a b : Call) (xs ys : List Call) → a ∷ xs ≡ b ∷ ys → a ≡ b
-first_call a b xs ys is = cc
-
-other_calls : (a b : Call) (xs ys : List Call) → a ∷ xs ≡ b ∷ ys → xs ≡ ys
-other_calls a b xs ys is = cc
-
 -- the calls and the objects before them fix the replies
 one_reply_each : (objects : Objects) (batch other : List Entry) → calls_in batch ≡ calls_in other → IsLegalFrom objects batch → IsLegalFrom objects other → batch ≡ other
 one_reply_each objects [] [] same legal legal' = refl
 one_reply_each objects [] (f ∷ other) same legal legal' = absurd cc
 one_reply_each objects (e ∷ batch) [] same legal legal' = absurd cc
 one_reply_each objects (e ∷ batch) (f ∷ other) same legal legal' =
-    let call = first_call (call_in e) (call_in f) (calls_in batch) (calls_in other) same in
+    let same_list : call_in e ∷ calls_in batch ≡ call_in f ∷ calls_in other = same in
+    let call : call_in e ≡ call_in f = cc in
     let op = ap (λ (c : Call). c.op) call in
     let reply : e.reply ≡ f.reply = legal.0 ∙ ap (reply_to objects) op ∙ sym legal'.0 in
     let later = subst (λ o. IsLegalFrom (after objects o) batch) op legal.1 in
-    let rest = one_reply_each (after objects f.op) batch other (other_calls (call_in e) (call_in f) (calls_in batch) (calls_in other) same) later legal'.1 in
+    let rest = one_reply_each (after objects f.op) batch other (cc) later legal'.1 in
     ap (λ g. g ∷ batch) (entry_same e f call reply) ∙ ap (λ l. f ∷ l) rest
 
 pub one_service : (book : List (List Entry)) (calls : List Call) (batch other : List Entry) → IsServiceOf book calls batch → IsServiceOf book calls other → batch ≡ other

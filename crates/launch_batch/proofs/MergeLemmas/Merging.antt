@@ -1,7 +1,5 @@
 -- Replies that are put together by call.
-use Rattle.std.proofs.Common.{◌≡◌, ℕ, suc, ◌+◌, ◌<◌, Bool, true, false, cond, List, [], ◌∷◌, ◌++◌, length, get_or, drop, slice_get, refl, ap, sym, ◌∙◌, append_assoc, arith}
-use Rattle.std.specs.Option.{unwrap_or}
-use Rattle.std.proofs.lemmas.List.{drop_more}
+use Rattle.std.proofs.Common.{◌≡◌, ℕ, suc, Bool, true, false, cond, List, [], ◌∷◌, length, get_or, drop, refl, ap, sym, ◌∙◌, arith}
 use Rattle.seq_objects.specs.declared.call.Call.{Call}
 use Rattle.seq_objects.specs.declared.reply.Reply.{Reply}
 use Rattle.seq_objects.specs.declared.reply.Reply.TheVariants.{Empty}
@@ -13,19 +11,6 @@ use Rattle.seq_objects.proofs.Apart.{own_replies, same_replies}
 use Rattle.launch_batch.specs.declared.merge.Remaining.{Remaining}
 use Rattle.launch_batch.specs.Code.Merging.{left_of, without_first, merged_replies}
 
-pub first_or_empty : (replies : List Reply) → unwrap_or (slice_get replies 0) Empty ≡ get_or replies 0 Empty
-first_or_empty [] = refl
-first_or_empty (reply ∷ replies) = refl
-
--- one more call has the next reply of its object
-pub merged_more : (calls : List Call) (n : ℕ) (d : Call) (remaining : Remaining) (before all : List Reply) → n < length calls
-    → before ++ merged_replies (drop n calls) remaining ≡ all
-    → (before ++ get_or (left_of (object_of (get_or calls n d).op) remaining) 0 Empty ∷ []) ++ merged_replies (drop (n + 1) calls) (without_first (object_of (get_or calls n d).op) remaining) ≡ all
-merged_more calls n d remaining before all below told =
-    let object = object_of (get_or calls n d).op in
-    let rest = merged_replies (drop (n + 1) calls) (without_first object remaining) in
-    append_assoc before (get_or (left_of object remaining) 0 Empty ∷ []) rest ∙ (rw (drop_more calls n d below) at told)
-
 pub length_merged : (calls : List Call) (remaining : Remaining) → length (merged_replies calls remaining) ≡ length calls
 length_merged [] remaining = refl
 length_merged (call ∷ calls) remaining = omega (arith, length_merged calls (without_first (object_of call.op) remaining))
@@ -33,27 +18,17 @@ length_merged (call ∷ calls) remaining = omega (arith, length_merged calls (wi
 -- what is left of an object's replies, and of the others'
 own_left : (object : Object) (remaining : Remaining) → left_of object (without_first object remaining) ≡ drop 1 (left_of object remaining)
 own_left Counter remaining = refl
-own_left Stack remaining = refl
-own_left Tree remaining = refl
-own_left Queue remaining = refl
+own_left _ remaining = refl
 
 other_left : (object other : Object) (remaining : Remaining) → same_object object other ≡ false → left_of object (without_first other remaining) ≡ left_of object remaining
 other_left Counter Counter remaining differ = absurd cc
-other_left Counter Stack remaining differ = refl
-other_left Counter Tree remaining differ = refl
-other_left Counter Queue remaining differ = refl
-other_left Stack Counter remaining differ = refl
 other_left Stack Stack remaining differ = absurd cc
-other_left Stack Tree remaining differ = refl
-other_left Stack Queue remaining differ = refl
-other_left Tree Counter remaining differ = refl
-other_left Tree Stack remaining differ = refl
 other_left Tree Tree remaining differ = absurd cc
-other_left Tree Queue remaining differ = refl
-other_left Queue Counter remaining differ = refl
-other_left Queue Stack remaining differ = refl
-other_left Queue Tree remaining differ = refl
 other_left Queue Queue remaining differ = absurd cc
+other_left Counter _ remaining differ = refl
+other_left Stack _ remaining differ = refl
+other_left Tree _ remaining differ = refl
+other_left Queue _ remaining differ = refl
 
 first_again : (replies : List Reply) (n : ℕ) → length replies ≡ suc n → get_or replies 0 Empty ∷ drop 1 replies ≡ replies
 first_again [] n is = absurd (omega (arith, is))

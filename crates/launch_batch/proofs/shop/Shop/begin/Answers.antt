@@ -6,46 +6,30 @@ use Rattle.launch_batch.specs.Pieces.{place_of}
 use Rattle.launch_batch.specs.Contents.{IsKept}
 use Rattle.launch_batch.proofs.PieceLemmas.Ascending.{some_and_few, length_of_four}
 use Rattle.launch_batch.proofs.PieceLemmas.Counting.{rows_are}
-use Rattle.launch_batch.proofs.BatchLemmas.Beginning.{one_batch, may_add, some_dealt}
+use Rattle.launch_batch.proofs.BatchLemmas.Beginning.{may_add, some_dealt}
 use Rattle.launch_batch.proofs.shop.Shop.begin.Goals as goal
-
-pub open_own-requires-clause-batch : goal.open_own-requires-clause-batch
-open_own-requires-clause-batch c =
-    rw c.deref-2.ensures.value (λ lifetimes. one_batch c.args.self c.args.calls.items c.in_ok-calls.calls.items c.requires (rw c.deref.ensures.value at c.in_ok-calls.ensures.same) c.in_ok-calls.ensures.order)
-
-pub open_own-requires-2-clause-batch : goal.open_own-requires-2-clause-batch
-open_own-requires-2-clause-batch c =
-    rw c.deref-3.ensures.value (λ lifetimes. one_batch c.args.self c.args.calls.items c.in_ok-calls.calls.items c.requires (rw c.deref.ensures.value at c.in_ok-calls.ensures.same) c.in_ok-calls.ensures.order)
-
-pub open_own-requires-3-clause-batch : goal.open_own-requires-3-clause-batch
-open_own-requires-3-clause-batch c =
-    rw c.deref-4.ensures.value (λ lifetimes. one_batch c.args.self c.args.calls.items c.in_ok-calls.calls.items c.requires (rw c.deref.ensures.value at c.in_ok-calls.ensures.same) c.in_ok-calls.ensures.order)
-
-pub open_own-requires-4-clause-batch : goal.open_own-requires-4-clause-batch
-open_own-requires-4-clause-batch c =
-    rw c.deref-5.ensures.value (λ lifetimes. one_batch c.args.self c.args.calls.items c.in_ok-calls.calls.items c.requires (rw c.deref.ensures.value at c.in_ok-calls.ensures.same) c.in_ok-calls.ensures.order)
 
 pub open_own-requires-clause-may : goal.open_own-requires-clause-may
 open_own-requires-clause-may c =
     let kept = subst (IsKept c.self.inside.counter c.self.inside.stack c.self.inside.tree c.self.inside.queue) c.self.view_is c.self.invariant in
-    rw c.deref-2.ensures.value
+    rw c.as_slice-all.ensures.value
     (λ lifetimes. may_add c.args.self c.args.calls.items c.in_ok-calls.calls.items c.self.inside.counter c.requires (rw c.deref.ensures.value at c.in_ok-calls.ensures.same) c.in_ok-calls.ensures.narrow kept.room)
 
 pub open_own-requires-2-clause-may : goal.open_own-requires-2-clause-may
-open_own-requires-2-clause-may c = λ lifetimes. are_of Stack c.deref-3.result.now
+open_own-requires-2-clause-may c = λ lifetimes. are_of Stack c.as_slice-all.result.now
 
 pub open_own-requires-3-clause-may : goal.open_own-requires-3-clause-may
-open_own-requires-3-clause-may c = λ lifetimes. are_of Tree c.deref-4.result.now
+open_own-requires-3-clause-may c = λ lifetimes. are_of Tree c.as_slice-all.result.now
 
 pub open_own-requires-4-clause-may : goal.open_own-requires-4-clause-may
-open_own-requires-4-clause-may c = λ lifetimes. are_of Queue c.deref-5.result.now
+open_own-requires-4-clause-may c = λ lifetimes. are_of Queue c.as_slice-all.result.now
 
 pub returns-clause-count : goal.returns-clause-count
 returns-clause-count c =
     some_and_few _ _ _ _ _ _ _ _ _ (sym (length-map c.in_ok-pieces.pieces.items place_of) ∙ ap length c.in_ok-pieces.ensures.places ∙ length_of_four _ _ _ _)
     c.in_ok-counter.ensures.most c.in_ok-stack.ensures.most c.in_ok-tree.ensures.most c.in_ok-queue.ensures.most
     c.in_ok-counter.ensures.some c.in_ok-stack.ensures.some c.in_ok-tree.ensures.some c.in_ok-queue.ensures.some
-    (rw (c.deref-2.ensures.value, c.deref-3.ensures.value, c.deref-4.ensures.value, c.deref-5.ensures.value)
+    (rw c.as_slice-all.ensures.value
     (some_dealt c.args.calls.items c.in_ok-calls.calls.items (rw c.deref.ensures.value at c.in_ok-calls.ensures.same) c.requires.some))
 
 pub returns-clause-places : goal.returns-clause-places
@@ -53,12 +37,12 @@ returns-clause-places c =
     let kept = subst (IsKept c.self.inside.counter c.self.inside.stack c.self.inside.tree c.self.inside.queue) c.self.view_is c.self.invariant in (
       c.in_ok-calls.calls.items,
       rw c.deref.ensures.value at c.in_ok-calls.ensures.same,
-      c.in_ok-calls.ensures.order,
+      c.in_ok-calls.ensures.batch.order,
       c.in_ok-pieces.ensures.places
           ∙ rows_are c.args.self c.in_ok-calls.calls.items c.self.inside.counter c.self.inside.stack c.self.inside.tree c.self.inside.queue
           c.in_ok-counter.counter_pieces.items c.in_ok-stack.stack_pieces.items c.in_ok-tree.tree_pieces.items c.in_ok-queue.queue_pieces.items kept
-          (rw (sym c.deref-2.ensures.value) c.in_ok-counter.ensures.cut) (rw (sym c.deref-3.ensures.value) c.in_ok-stack.ensures.cut)
-          (rw (sym c.deref-4.ensures.value) c.in_ok-tree.ensures.cut) (rw (sym c.deref-5.ensures.value) c.in_ok-queue.ensures.cut),
+          (rw (sym c.as_slice-all.ensures.value) c.in_ok-counter.ensures.cut) (rw (sym c.as_slice-all.ensures.value) c.in_ok-stack.ensures.cut)
+          (rw (sym c.as_slice-all.ensures.value) c.in_ok-tree.ensures.cut) (rw (sym c.as_slice-all.ensures.value) c.in_ok-queue.ensures.cut),
     )
 
 pub returns-clause-context : goal.returns-clause-context
@@ -66,15 +50,15 @@ returns-clause-context c = record {
   book = c.self.view_is;
   may = c.requires;
   same = rw c.deref.ensures.value at c.in_ok-calls.ensures.same;
-  order = c.in_ok-calls.ensures.order;
+  order = c.in_ok-calls.ensures.batch.order;
   narrow = c.in_ok-calls.ensures.narrow;
   number = c.self.inside.counter;
   view = c.self.inside.stack;
   keys = c.self.inside.tree;
   bag = c.self.inside.queue;
   kept = subst (IsKept c.self.inside.counter c.self.inside.stack c.self.inside.tree c.self.inside.queue) c.self.view_is c.self.invariant;
-  counter = rw (c.in_ok-pieces.ensures.counter, sym c.deref-2.ensures.value) c.in_ok-counter.ensures.context;
-  stack = rw (c.in_ok-pieces.ensures.stack, sym c.deref-3.ensures.value) c.in_ok-stack.ensures.context;
-  tree = rw (c.in_ok-pieces.ensures.tree, sym c.deref-4.ensures.value) c.in_ok-tree.ensures.context;
-  queue = rw (c.in_ok-pieces.ensures.queue, sym c.deref-5.ensures.value) c.in_ok-queue.ensures.context;
+  counter = rw (c.in_ok-pieces.ensures.counter, sym c.as_slice-all.ensures.value) c.in_ok-counter.ensures.context;
+  stack = rw (c.in_ok-pieces.ensures.stack, sym c.as_slice-all.ensures.value) c.in_ok-stack.ensures.context;
+  tree = rw (c.in_ok-pieces.ensures.tree, sym c.as_slice-all.ensures.value) c.in_ok-tree.ensures.context;
+  queue = rw (c.in_ok-pieces.ensures.queue, sym c.as_slice-all.ensures.value) c.in_ok-queue.ensures.context;
 }

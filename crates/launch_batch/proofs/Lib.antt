@@ -1,3 +1,4 @@
+mod Words
 pub mod ListLemmas
 mod MergeLemmas
 mod PieceLemmas

@@ -1,16 +1,8 @@
 -- What a batch is opened with.
 use Rattle.std.proofs.Common.{ℕ, ◌≤◌, ◌<◌, ◌+◌, ◌*◌, ◌^◌, List, length, map, arith}
-use Rattle.std.specs.List.{AllByRecursion}
-use Rattle.seq_objects.specs.declared.call.Call.{Call}
-use Rattle.seq_objects.specs.Pairs.{AreDistinct}
-use Rattle.seq_objects.specs.Batches.{Counter, Stack, Tree, Queue, AreInBatchOrder, AreOneBatch, object_of, same_object, calls_of}
-use Rattle.seq_objects.specs.Serial.{of_counter}
+use Rattle.launch_batch.proofs.Words.{AllByRecursion, Call, AreDistinct, Counter, Stack, Tree, Queue, AreInBatchOrder, AreOneBatch, object_of, same_object, calls_of, of_counter, Entry, flat, MayServe, AreSame, IsNarrow}
 use Rattle.seq_objects.proofs.Filters.{each_filter, are_of}
 use Rattle.batched_counter.specs.Calls.{MayServe as MayAdd}
-use Rattle.batch_history.specs.declared.batch.Entry.{Entry}
-use Rattle.batch_history.specs.Book.{flat}
-use Rattle.launch_batch.specs.Calls.{MayServe, AreSame}
-use Rattle.launch_batch.specs.Contents.{IsNarrow}
 use Rattle.launch_batch.proofs.ListLemmas.Same.{each_same, distinct_same, length_same}
 use Rattle.launch_batch.proofs.MergeLemmas.Dealing.{few_own, all_dealt}
 use Rattle.launch_batch.proofs.BatchLemmas.Serial.{total_small}

@@ -1,29 +1,11 @@
 -- What a batch comes to when it ends.
 use Rattle.std.proofs.Common.{ℕ, ◌≡◌, List, [], ◌∷◌, ◌++◌, length, refl, sym, ap, subst, ◌∙◌, arith}
-use Rattle.std.specs.List.{AllByRecursion}
-use Rattle.seq_objects.specs.declared.call.Call.{Call}
-use Rattle.seq_objects.specs.Objects.{Objects, opening}
-use Rattle.seq_objects.specs.Batches.{Object, Counter, Stack, Tree, Queue, AreInBatchOrder, object_of, same_object, calls_of}
-use Rattle.seq_objects.specs.Serial.{after_all, replies_to_all, alone, of_counter, of_stack, of_set, of_bag}
-use Rattle.seq_objects.specs.Pieces.{BatchContext}
+use Rattle.launch_batch.proofs.Words.{AllByRecursion, Call, Objects, opening, Object, Counter, Stack, Tree, Queue, AreInBatchOrder, object_of, same_object, calls_of, after_all, replies_to_all, alone, of_counter, of_stack, of_set, of_bag, BatchContext, CounterPiece, StackPiece, StackView, TreePiece, QueuePiece, Entry, flat, IsHistory, served, served_book, calls_in, replies_in, PieceIn, counter_pieces, stack_pieces, tree_pieces, queue_pieces, AreSame, IsServiceOf, contents, IsKept, IsNarrow, left_of, merged_replies}
 use Rattle.seq_objects.proofs.Filters.{each_filter}
 use Rattle.seq_objects.proofs.Apart.{each_content}
-use Rattle.batched_counter.specs.declared.piece.Piece.{Piece as CounterPiece}
-use Rattle.batched_stack.specs.declared.piece.Piece.{Piece as StackPiece}
-use Rattle.batched_stack.specs.Stripes.{StackView}
-use Rattle.batched_tree.specs.declared.piece.Piece.{Piece as TreePiece}
-use Rattle.batched_pq.specs.declared.piece.Piece.{Piece as QueuePiece}
-use Rattle.batch_history.specs.declared.batch.Entry.{Entry}
-use Rattle.batch_history.specs.Book.{flat, IsHistory}
-use Rattle.batch_history.specs.Serving.{served, served_book, calls_in, replies_in}
 use Rattle.launch_batch.specs.declared.opened.Opened.{Opened}
 use Rattle.launch_batch.specs.declared.merge.Remaining.{Remaining}
-use Rattle.launch_batch.specs.declared.piece.PieceIn.{PieceIn}
-use Rattle.launch_batch.specs.ByStructure.{counter_pieces, stack_pieces, tree_pieces, queue_pieces}
-use Rattle.launch_batch.specs.Calls.{AreSame, IsServiceOf}
 use Rattle.launch_batch.specs.Contexts.{IsContextOf}
-use Rattle.launch_batch.specs.Contents.{contents, IsKept, IsNarrow}
-use Rattle.launch_batch.specs.Code.Merging.{left_of, merged_replies}
 use Rattle.launch_batch.proofs.MergeLemmas.Dealing.{few_own}
 use Rattle.launch_batch.proofs.MergeLemmas.Merging.{merged_serial}
 use Rattle.launch_batch.proofs.BatchLemmas.Serial.{legal_is, served_is, counter_most}
@@ -40,18 +22,9 @@ module _ (opened : Opened) (o : BatchContext (List (List Entry)) PieceIn) (r : I
   abbrev ordered : List Call
   ordered = opened.calls.items
 
-  -- the parts of the context
-  abbrev pub counter_part : BatchContext ℕ CounterPiece
-  counter_part = record { before = r.number; calls = calls_of Counter ordered; ins = counter_pieces o.ins }
-
-  abbrev pub stack_part : BatchContext StackView StackPiece
-  stack_part = record { before = r.view; calls = calls_of Stack ordered; ins = stack_pieces o.ins }
-
-  abbrev pub tree_part : BatchContext (List ℕ) TreePiece
-  tree_part = record { before = r.keys; calls = calls_of Tree ordered; ins = tree_pieces o.ins }
-
-  abbrev pub queue_part : BatchContext (List ℕ) QueuePiece
-  queue_part = record { before = r.bag; calls = calls_of Queue ordered; ins = queue_pieces o.ins }
+  -- one structure's part of the context
+  abbrev pub part : {T In : Type 0} → T → Object → (List PieceIn → List In) → BatchContext T In
+  part start object own = record { before = start; calls = calls_of object ordered; ins = own o.ins }
 
   -- the replies of the four structures, put together by call, are those of one call after another
   pub replies_are : (remaining : Remaining) → remaining.counter ≡ replies_to_all (of_counter r.number) (calls_of Counter ordered) → remaining.stack ≡ replies_to_all (of_stack r.view.items) (calls_of Stack ordered)

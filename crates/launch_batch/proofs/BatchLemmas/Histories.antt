@@ -2,16 +2,8 @@
 use Rattle.std.proofs.Common.{ℕ, ◌≡◌, ◌≢◌, ◌<◌, ◌+◌, ◌^◌, List, [], ◌∷◌, ◌++◌, length, map, arith, refl, sym, ap, subst, ◌∙◌, append-nil, append_assoc, length-append}
 use Rattle.std.proofs.lemmas.List.{length-map}
 use Rattle.std.proofs.lemmas.Simd.{map-map}
-use Rattle.std.specs.List.{AllByRecursion}
-use Rattle.seq_objects.specs.declared.call.Call.{Call}
+use Rattle.launch_batch.proofs.Words.{AllByRecursion, Call, Objects, opening, after, EachPair, AreDistinct, Entry, flat, IsLegalFrom, IsBatch, IsHistory, served, call_in, calls_in, MayServe, IsServiceOf, IsNarrow}
 use Rattle.seq_objects.specs.BatchOrder.{ComesFirst}
-use Rattle.seq_objects.specs.Objects.{Objects, opening, after}
-use Rattle.seq_objects.specs.Pairs.{EachPair, AreDistinct}
-use Rattle.batch_history.specs.declared.batch.Entry.{Entry}
-use Rattle.batch_history.specs.Book.{flat, IsLegalFrom, IsBatch, IsHistory}
-use Rattle.batch_history.specs.Serving.{served, call_in, calls_in}
-use Rattle.launch_batch.specs.Calls.{MayServe, IsServiceOf}
-use Rattle.launch_batch.specs.Contents.{IsNarrow}
 use Rattle.seq_objects.proofs.Elements.{each_append}
 use Rattle.launch_batch.proofs.ListLemmas.Elements.{each_mapped, each_unmapped, distinct_append, apart_turned, map_append}
 use Rattle.launch_batch.proofs.ListLemmas.Same.{each_same, distinct_same, length_same}

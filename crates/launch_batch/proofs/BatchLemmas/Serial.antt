@@ -1,17 +1,10 @@
 -- Entries and the serial service of their calls, and how far the counter can come.
 use Rattle.std.proofs.Common.{◌≡◌, ◌+◌, ◌*◌, ◌<◌, ◌≤◌, ◌^◌, List, [], ◌∷◌, length, refl, arith}
-use Rattle.std.specs.List.{AllByRecursion}
+use Rattle.launch_batch.proofs.Words.{AllByRecursion, Call, Objects, after, reply_to, argument_of, after_all, replies_to_all, Entry, IsLegalFrom, served, calls_in, replies_in, IsNarrow}
 use Rattle.seq_objects.specs.declared.op.Op.{Op}
 use Rattle.seq_objects.specs.declared.op.Op.TheVariants.{CounterAdd}
-use Rattle.seq_objects.specs.declared.call.Call.{Call}
-use Rattle.seq_objects.specs.Objects.{Objects, after, reply_to, argument_of}
-use Rattle.seq_objects.specs.Serial.{after_all, replies_to_all}
 use Rattle.batched_counter.specs.Sums.{total}
 use Rattle.batched_counter.specs.Calls.{addend_of, addends}
-use Rattle.batch_history.specs.declared.batch.Entry.{Entry}
-use Rattle.batch_history.specs.Book.{IsLegalFrom}
-use Rattle.batch_history.specs.Serving.{served, calls_in, replies_in}
-use Rattle.launch_batch.specs.Contents.{IsNarrow}
 
 -- entries whose replies are those of serving their calls are legal
 pub legal_is : (o : Objects) (entries : List Entry) → replies_in entries ≡ replies_to_all o (calls_in entries) → IsLegalFrom o entries

@@ -1,8 +1,7 @@
 -- What is among the elements of a list, and of the same elements in another order.
 use Rattle.std.proofs.Common.{◌≡◌, ◌⊎◌, inl, inr, List, [], ◌∷◌, ◌++◌, refl, sym, subst}
-use Rattle.std.specs.List.{AllByRecursion}
+use Rattle.launch_batch.proofs.Words.{AllByRecursion, AreSame}
 use Rattle.seq_objects.proofs.Elements.{each_so}
-use Rattle.launch_batch.specs.Calls.{AreSame}
 use Rattle.launch_batch.proofs.ListLemmas.Same.{each_same}
 
 abbrev pub Among : {X : Type 0} → X → List X → Type 0

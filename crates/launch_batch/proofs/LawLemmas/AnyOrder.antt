@@ -1,13 +1,8 @@
 -- Outs of pieces that were run in any order stand at the places of their pieces.
 use Rattle.std.proofs.Common.{ℕ, ◌≡◌, ◌<◌, inl, inr, List, [], ◌∷◌, map, refl, sym, ap, subst, ◌∙◌, arith}
-use Rattle.std.specs.List.{AllByRecursion}
+use Rattle.launch_batch.proofs.Words.{AllByRecursion, AllMeet, PieceIn, PieceOut, AreSame, Run, Meets, place_of, IsOutAt, ArePutBack}
 use Rattle.key_sets.specs.Keys.{StrictlyAscends}
-use Rattle.seq_objects.specs.Pieces.{AllMeet}
 use Rattle.seq_objects.proofs.Elements.{each_so}
-use Rattle.launch_batch.specs.declared.piece.PieceIn.{PieceIn}
-use Rattle.launch_batch.specs.declared.piece.PieceOut.{PieceOut}
-use Rattle.launch_batch.specs.Calls.{AreSame}
-use Rattle.launch_batch.specs.Pieces.{Run, Meets, place_of, IsOutAt, ArePutBack}
 use Rattle.launch_batch.proofs.ListLemmas.Elements.{each_unmapped}
 use Rattle.launch_batch.proofs.ListLemmas.Same.{each_same}
 use Rattle.launch_batch.proofs.LawLemmas.Among.{Among, all_among, each_among, among_same}

@@ -1,14 +1,7 @@
 -- Calls have one batch order, and one service.
 use Rattle.std.proofs.Common.{◌≡◌, inl, inr, List, [], ◌∷◌, refl, sym, ap, subst, ◌∙◌}
-use Rattle.seq_objects.specs.declared.call.Call.{Call}
-use Rattle.seq_objects.specs.declared.reply.Reply.{Reply}
-use Rattle.seq_objects.specs.Objects.{Objects, after, reply_to}
-use Rattle.seq_objects.specs.Batches.{AreInBatchOrder}
+use Rattle.launch_batch.proofs.Words.{Call, Reply, Objects, after, reply_to, AreInBatchOrder, Entry, IsLegalFrom, served_book, call_in, calls_in, IsServiceOf}
 use Rattle.seq_objects.proofs.CallOrder.{IsFirst, one_way}
-use Rattle.batch_history.specs.declared.batch.Entry.{Entry}
-use Rattle.batch_history.specs.Book.{IsLegalFrom}
-use Rattle.batch_history.specs.Serving.{served_book, call_in, calls_in}
-use Rattle.launch_batch.specs.Calls.{IsServiceOf}
 use Rattle.launch_batch.proofs.LawLemmas.Among.{Among, each_among, among_same, same_among}
 
 not_both : (x y : Call) → IsFirst x y → IsFirst y x → ⊥

@@ -1,7 +1,6 @@
 -- What holds of the elements of lists, and of what they are mapped to.
 use Rattle.std.proofs.Common.{ℕ, ◌≡◌, ◌≢◌, List, [], ◌∷◌, ◌++◌, map, refl, sym, ap}
-use Rattle.std.specs.List.{AllByRecursion}
-use Rattle.seq_objects.specs.Pairs.{AreDistinct}
+use Rattle.launch_batch.proofs.Words.{AllByRecursion, AreDistinct}
 use Rattle.seq_objects.proofs.Elements.{each_append, each_so}
 
 -- what follows of what each element is mapped to

@@ -1,7 +1,6 @@
 -- The calls of one structure among those of a batch.
 use Rattle.std.proofs.Common.{◌≡◌, ◌+◌, ◌≤◌, Bool, true, false, cond, List, [], ◌∷◌, length, refl, arith}
-use Rattle.seq_objects.specs.declared.call.Call.{Call}
-use Rattle.seq_objects.specs.Batches.{Object, Counter, Stack, Tree, Queue, object_of, same_object, calls_of}
+use Rattle.launch_batch.proofs.Words.{Call, Object, Counter, Stack, Tree, Queue, object_of, same_object, calls_of}
 
 -- there are no more of one object than of all
 pub few_own : (object : Object) (calls : List Call) → length (calls_of object calls) ≤ length calls

@@ -1,15 +1,10 @@
 -- Replies that are put together by call.
 use Rattle.std.proofs.Common.{◌≡◌, ℕ, suc, Bool, true, false, cond, List, [], ◌∷◌, length, get_or, drop, refl, ap, sym, ◌∙◌, arith}
-use Rattle.seq_objects.specs.declared.call.Call.{Call}
-use Rattle.seq_objects.specs.declared.reply.Reply.{Reply}
+use Rattle.launch_batch.proofs.Words.{Call, Reply, Objects, after, Object, Counter, Stack, Tree, Queue, object_of, same_object, calls_of, replies_to_all, replies_of, alone, left_of, without_first, merged_replies}
 use Rattle.seq_objects.specs.declared.reply.Reply.TheVariants.{Empty}
-use Rattle.seq_objects.specs.Objects.{Objects, after}
-use Rattle.seq_objects.specs.Batches.{Object, Counter, Stack, Tree, Queue, object_of, same_object, calls_of}
-use Rattle.seq_objects.specs.Serial.{replies_to_all, replies_of, alone}
 use Rattle.seq_objects.proofs.Filters.{same_is}
 use Rattle.seq_objects.proofs.Apart.{own_replies, same_replies}
 use Rattle.launch_batch.specs.declared.merge.Remaining.{Remaining}
-use Rattle.launch_batch.specs.Code.Merging.{left_of, without_first, merged_replies}
 
 pub length_merged : (calls : List Call) (remaining : Remaining) → length (merged_replies calls remaining) ≡ length calls
 length_merged [] remaining = refl

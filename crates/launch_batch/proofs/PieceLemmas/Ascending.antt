@@ -41,11 +41,8 @@ pub length_of_four : (a b c d : ℕ) → length (four_rows a b c d) ≡ a + b + 
 length_of_four a b c d = simp (length-append, length-range_with_len)
 
 -- there is a piece where some structure has calls, and there are at most 56
-some_one : (a b c d x y z w : ℕ) → (0 < a → 1 ≤ x) → (0 < b → 1 ≤ y) → (0 < c → 1 ≤ z) → (0 < d → 1 ≤ w) → 0 < a + b + c + d → 1 ≤ x + y + z + w
-some_one a b c d x y z w h i j k some = grind arith
-
 pub some_and_few : (n p q r s a b c d : ℕ) → n ≡ a + b + c + d → a ≤ 16 → b ≤ 16 → c ≤ 16 → d ≤ 8
     → (0 < p → 1 ≤ a) → (0 < q → 1 ≤ b) → (0 < r → 1 ≤ c) → (0 < s → 1 ≤ d) → 0 < p + q + r + s → (1 ≤ n) × (n ≤ 56)
 some_and_few n p q r s a b c d is few_a few_b few_c few_d i j k l some =
-    let one = some_one p q r s a b c d i j k l some in
+    let one : 1 ≤ a + b + c + d = grind arith in
     (omega (arith, one, is), omega (arith, few_a, few_b, few_c, few_d, is))

@@ -1,26 +1,16 @@
 -- The places of the pieces are those of the batch.
 use Rattle.std.proofs.Common.{◌≡◌, ℕ, List, [], ◌∷◌, ◌++◌, length, refl, ap, ◌∙◌}
 use Rattle.std.specs.List.{range_with_len}
-use Rattle.seq_objects.specs.declared.call.Call.{Call}
-use Rattle.seq_objects.specs.Objects.{Objects}
-use Rattle.seq_objects.specs.Batches.{Counter, Stack, Tree, Queue, calls_of}
-use Rattle.seq_objects.specs.Serial.{of_counter, of_stack, of_set, of_bag}
-use Rattle.batched_counter.specs.declared.piece.Piece.{Piece as CounterPiece}
+use Rattle.launch_batch.proofs.Words.{Call, Objects, Counter, Stack, Tree, Queue, calls_of, of_counter, of_stack, of_set, of_bag, CounterPiece, StackPiece, StackView, TreePiece, QueuePiece, Entry, IsKept, contents}
 use Rattle.batched_counter.specs.Pieces.{Cut as CounterCut, piece_count as counter_count}
 use Rattle.batched_counter.proofs.PieceCount.{pieces_counted as counter_counted}
-use Rattle.batched_stack.specs.declared.piece.Piece.{Piece as StackPiece}
 use Rattle.batched_stack.specs.Pieces.{Cut as StackCut, piece_count as stack_count}
-use Rattle.batched_stack.specs.Stripes.{StackView}
 use Rattle.batched_stack.proofs.PieceCount.{pieces_counted as stack_counted}
-use Rattle.batched_tree.specs.declared.piece.Piece.{Piece as TreePiece}
 use Rattle.batched_tree.specs.Pieces.{Cut as TreeCut, piece_count as tree_count}
 use Rattle.batched_tree.proofs.PieceCount.{pieces_counted as tree_counted}
-use Rattle.batched_pq.specs.declared.piece.Piece.{Piece as QueuePiece}
 use Rattle.batched_pq.specs.Pieces.{Cut as QueueCut, piece_count as queue_count}
 use Rattle.batched_pq.proofs.PieceCount.{pieces_counted as queue_counted}
-use Rattle.batch_history.specs.declared.batch.Entry.{Entry}
 use Rattle.launch_batch.specs.Places.{row, places}
-use Rattle.launch_batch.specs.Contents.{IsKept, contents}
 use Rattle.launch_batch.specs.Halves.{IsCutIfCalled}
 use Rattle.launch_batch.specs.Code.Rows.{four_rows}
 

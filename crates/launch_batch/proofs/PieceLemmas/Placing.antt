@@ -1,9 +1,7 @@
 -- Pieces that are put at consecutive places, and those of each structure among all.
-use Rattle.std.proofs.Common.{◌≡◌, ℕ, ◌+◌, List, [], ◌∷◌, ◌++◌, length, map, refl, sym, ap, ◌∙◌, arith, append_assoc, append-nil}
+use Rattle.std.proofs.Common.{◌≡◌, ℕ, ◌+◌, List, [], ◌∷◌, ◌++◌, length, map, refl, sym, ap, ◌∙◌, arith, append_assoc}
 use Rattle.std.specs.List.{range_with_len}
-use Rattle.launch_batch.specs.declared.piece.PieceIn.{PieceIn}
-use Rattle.launch_batch.specs.Pieces.{place_of}
-use Rattle.launch_batch.specs.ByStructure.{placed}
+use Rattle.launch_batch.proofs.Words.{PieceIn, place_of, placed}
 
 placed_more : {In : Type 0} (make : ℕ → In → PieceIn) (place n : ℕ) (xs : List In) (x : In) → n ≡ place + length xs → placed make place (xs ++ x ∷ []) ≡ placed make place xs ++ make n x ∷ []
 placed_more make place n [] x is = let e : place ≡ n = omega (arith, is) in ap (λ p. make p x ∷ []) e
@@ -32,12 +30,3 @@ module _ {X : Type 0} (own : List PieceIn → List X) where
       → (place : ℕ) (xs : List In) (rest : List PieceIn) → own (placed make place xs ++ rest) ≡ own rest
   none_own make passes place [] rest = refl
   none_own make passes place (x ∷ xs) rest = passes place x (placed make (place + 1) xs ++ rest) ∙ none_own make passes (place + 1) xs rest
-
-  -- among four lists
-  pub own_of_four : (a b c d : List PieceIn) (p q r s : List X) → ((rest : List PieceIn) → own (a ++ rest) ≡ p ++ own rest) → ((rest : List PieceIn) → own (b ++ rest) ≡ q ++ own rest)
-      → ((rest : List PieceIn) → own (c ++ rest) ≡ r ++ own rest) → ((rest : List PieceIn) → own (d ++ rest) ≡ s ++ own rest)
-      → own (a ++ b ++ c ++ d) ≡ p ++ (q ++ (r ++ (s ++ own [])))
-  own_of_four a b c d p q r s h i j k =
-      ap own (append_assoc (a ++ b) c d ∙ append_assoc a b (c ++ d) ∙ ap (λ l. a ++ (b ++ (c ++ l))) (sym (append-nil d)))
-      ∙ h (b ++ (c ++ (d ++ [])))
-      ∙ ap (λ l. p ++ l) (i (c ++ (d ++ [])) ∙ ap (λ l. q ++ l) (j (d ++ []) ∙ ap (λ l. r ++ l) (k [])))

@@ -1,6 +1,5 @@
 use Rattle.std.proofs.Common.{◌≡◌, ◌++◌, take, drop}
-use Rattle.batch_history.specs.Serving.{calls_in, replies_in}
-use Rattle.launch_batch.specs.Code.Merging.{merged_replies}
+use Rattle.launch_batch.proofs.Words.{calls_in, replies_in, merged_replies}
 use Rattle.launch_batch.proofs.entries.entries_of.Given as goal
 
 abbrev pub invariant-loop-place : goal.invariant-loop-place

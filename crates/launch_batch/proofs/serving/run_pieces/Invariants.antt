@@ -1,6 +1,5 @@
 use Rattle.std.proofs.Common.{◌≡◌, ◌++◌}
-use Rattle.seq_objects.specs.Pieces.{AllMeet}
-use Rattle.launch_batch.specs.Pieces.{Meets}
+use Rattle.launch_batch.proofs.Words.{AllMeet, Meets}
 use Rattle.launch_batch.proofs.serving.run_pieces.Given as goal
 
 -- the outs so far meet the pieces that were taken

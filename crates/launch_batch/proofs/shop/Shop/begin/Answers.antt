@@ -1,9 +1,7 @@
 use Rattle.std.proofs.Common.{◌∙◌, length, sym, ap, subst}
 use Rattle.std.proofs.lemmas.List.{length-map}
-use Rattle.seq_objects.specs.Batches.{Stack, Tree, Queue}
+use Rattle.launch_batch.proofs.Words.{Stack, Tree, Queue, place_of, IsKept}
 use Rattle.seq_objects.proofs.Filters.{are_of}
-use Rattle.launch_batch.specs.Pieces.{place_of}
-use Rattle.launch_batch.specs.Contents.{IsKept}
 use Rattle.launch_batch.proofs.PieceLemmas.Ascending.{some_and_few, length_of_four}
 use Rattle.launch_batch.proofs.PieceLemmas.Counting.{rows_are}
 use Rattle.launch_batch.proofs.BatchLemmas.Beginning.{may_add, some_dealt}

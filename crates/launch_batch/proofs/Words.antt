@@ -1,0 +1,24 @@
+-- The words that most lemmas speak in, handed on from the rules: calls, batches and books, pieces and outs, and the objects.
+pub use Rattle.std.specs.List.{AllByRecursion}
+pub use Rattle.seq_objects.specs.declared.call.Call.{Call}
+pub use Rattle.seq_objects.specs.declared.reply.Reply.{Reply}
+pub use Rattle.seq_objects.specs.Objects.{Objects, opening, after, reply_to, argument_of}
+pub use Rattle.seq_objects.specs.Batches.{Object, Counter, Stack, Tree, Queue, AreInBatchOrder, AreOneBatch, object_of, same_object, calls_of}
+pub use Rattle.seq_objects.specs.Serial.{after_all, replies_to_all, replies_of, alone, of_counter, of_stack, of_set, of_bag}
+pub use Rattle.seq_objects.specs.Pairs.{EachPair, AreDistinct}
+pub use Rattle.seq_objects.specs.Pieces.{AllMeet, BatchContext}
+pub use Rattle.batched_counter.specs.declared.piece.Piece.{Piece as CounterPiece}
+pub use Rattle.batched_stack.specs.declared.piece.Piece.{Piece as StackPiece}
+pub use Rattle.batched_stack.specs.Stripes.{StackView}
+pub use Rattle.batched_tree.specs.declared.piece.Piece.{Piece as TreePiece}
+pub use Rattle.batched_pq.specs.declared.piece.Piece.{Piece as QueuePiece}
+pub use Rattle.batch_history.specs.declared.batch.Entry.{Entry}
+pub use Rattle.batch_history.specs.Book.{flat, IsLegalFrom, IsBatch, IsHistory}
+pub use Rattle.batch_history.specs.Serving.{served, served_book, call_in, calls_in, replies_in}
+pub use Rattle.launch_batch.specs.declared.piece.PieceIn.{PieceIn}
+pub use Rattle.launch_batch.specs.declared.piece.PieceOut.{PieceOut}
+pub use Rattle.launch_batch.specs.Calls.{MayServe, AreSame, IsServiceOf}
+pub use Rattle.launch_batch.specs.Pieces.{Run, Meets, place_of, IsOutAt, ArePutBack}
+pub use Rattle.launch_batch.specs.ByStructure.{placed, counter_pieces, stack_pieces, tree_pieces, queue_pieces, counter_outs, stack_outs, tree_outs, queue_outs}
+pub use Rattle.launch_batch.specs.Contents.{contents, IsKept, IsNarrow}
+pub use Rattle.launch_batch.specs.Code.Merging.{left_of, without_first, merged_replies}

@@ -1,18 +1,25 @@
 -- Calls have one batch order, and one service.
 use Rattle.std.proofs.Common.{◌≡◌, inl, inr, List, [], ◌∷◌, refl, sym, ap, subst, ◌∙◌}
-use Rattle.launch_batch.proofs.Words.{Call, Reply, Objects, after, reply_to, AreInBatchOrder, Entry, IsLegalFrom, served_book, call_in, calls_in, IsServiceOf}
+use Rattle.launch_batch.proofs.Words.{AllByRecursion, Call, Reply, Objects, after, reply_to, AreInBatchOrder, Entry, IsLegalFrom, served_book, call_in, calls_in, IsServiceOf}
 use Rattle.seq_objects.proofs.CallOrder.{IsFirst, one_way}
 use Rattle.launch_batch.proofs.LawLemmas.Among.{Among, each_among, among_same, same_among}
 
 not_both : (x y : Call) → IsFirst x y → IsFirst y x → ⊥
 not_both x y first second = one_way x.op y.op x.worker y.worker first second
 
+-- a later call of the one list is a later one of the other
+later_too : (x y : Call) (xs ys : List Call) → x ≡ y → AllByRecursion (IsFirst x) xs → ((z : Call) → Among z (x ∷ xs) → Among z (y ∷ ys)) → (z : Call) → Among z xs → Among z ys
+later_too x y xs ys same first to z there = elim (to z (inr there)) [
+  | inl is ↦ let twice = subst (IsFirst x) (is ∙ sym same) (each_among (IsFirst x) xs z first there) in absurd (not_both x x twice twice)
+  | inr more ↦ more
+]
+
 -- two lists in batch order with the same calls are one
 one_order : (xs ys : List Call) → AreInBatchOrder xs → AreInBatchOrder ys → ((z : Call) → Among z xs → Among z ys) → ((z : Call) → Among z ys → Among z xs) → xs ≡ ys
 one_order [] [] up up' to from = refl
 one_order [] (y ∷ ys) up up' to from = absurd (from y (inl refl))
 one_order (x ∷ xs) [] up up' to from = absurd (to x (inl refl))
-one_order (x ∷ xs) (y ∷ ys) up up' to from = rw (first, one_order xs ys up.1 up'.1 to_rest from_rest) refl where
+one_order (x ∷ xs) (y ∷ ys) up up' to from = rw (first, one_order xs ys up.1 up'.1 (later_too x y xs ys first up.0 to) (later_too y x ys xs (sym first) up'.0 from)) refl where
   first : x ≡ y
   first = elim (to x (inl refl)) [
     | inl is ↦ is
@@ -20,18 +27,6 @@ one_order (x ∷ xs) (y ∷ ys) up up' to from = rw (first, one_order xs ys up.1
       | inl is ↦ sym is
       | inr later' ↦ absurd (not_both x y (each_among (IsFirst x) xs y up.0 later') (each_among (IsFirst y) ys x up'.0 later))
     ]
-  ]
-
-  to_rest : (z : Call) → Among z xs → Among z ys
-  to_rest z there = elim (to z (inr there)) [
-    | inl is ↦ let before : IsFirst x z = each_among (IsFirst x) xs z up.0 there in absurd (not_both x x (subst (IsFirst x) (is ∙ sym first) before) (subst (IsFirst x) (is ∙ sym first) before))
-    | inr more ↦ more
-  ]
-
-  from_rest : (z : Call) → Among z ys → Among z xs
-  from_rest z there = elim (from z (inr there)) [
-    | inl is ↦ let before : IsFirst y z = each_among (IsFirst y) ys z up'.0 there in absurd (not_both y y (subst (IsFirst y) (is ∙ first) before) (subst (IsFirst y) (is ∙ first) before))
-    | inr more ↦ more
   ]
 
 abbrev make : Call → Reply → Entry

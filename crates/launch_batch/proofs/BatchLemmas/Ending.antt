@@ -1,6 +1,6 @@
 -- What a batch comes to when it ends.
 use Rattle.std.proofs.Common.{ℕ, ◌≡◌, List, [], ◌∷◌, ◌++◌, length, refl, sym, ap, subst, ◌∙◌, arith}
-use Rattle.launch_batch.proofs.Words.{AllByRecursion, Call, Objects, opening, Object, Counter, Stack, Tree, Queue, AreInBatchOrder, object_of, same_object, calls_of, after_all, replies_to_all, alone, of_counter, of_stack, of_set, of_bag, BatchContext, CounterPiece, StackPiece, StackView, TreePiece, QueuePiece, Entry, flat, IsHistory, served, served_book, calls_in, replies_in, PieceIn, counter_pieces, stack_pieces, tree_pieces, queue_pieces, AreSame, IsServiceOf, contents, IsKept, IsNarrow, left_of, merged_replies}
+use Rattle.launch_batch.proofs.Words.{AllByRecursion, Call, Objects, opening, Object, Counter, Stack, Tree, Queue, AreInBatchOrder, object_of, same_object, calls_of, after_all, replies_to_all, alone, of_counter, of_stack, of_set, of_bag, BatchContext, StackView, Entry, flat, IsHistory, served, served_book, calls_in, replies_in, PieceIn, AreSame, IsServiceOf, contents, IsKept, IsNarrow, left_of, merged_replies}
 use Rattle.seq_objects.proofs.Filters.{each_filter}
 use Rattle.seq_objects.proofs.Apart.{each_content}
 use Rattle.launch_batch.specs.declared.opened.Opened.{Opened}

@@ -1,5 +1,5 @@
 -- The pieces of the four structures, each structure's put behind those of another.
-use Rattle.std.proofs.Common.{◌≡◌, ◌≤◌, ◌<◌, List, [], ◌++◌, length, map, refl, sym, ap, subst, ◌∙◌, append-nil, append_assoc}
+use Rattle.std.proofs.Common.{◌≡◌, ◌≤◌, ◌<◌, List, [], ◌++◌, length, map, refl, sym, subst, ◌∙◌, append-nil, append_assoc}
 use Rattle.std.proofs.lemmas.List.{map-append}
 use Rattle.launch_batch.proofs.Words.{CounterPiece, StackPiece, TreePiece, QueuePiece, PieceIn, place_of, placed, counter_pieces, stack_pieces, tree_pieces, queue_pieces}
 use Rattle.launch_batch.specs.declared.piece.PieceIn.TheVariants as piece

@@ -2,7 +2,8 @@
 //!
 //! The headline of the whole project is defined here: when a report is lawful for a job and a number of
 //! workers. A `History` keeps, at every moment, that its batches are what the serial objects would have
-//! given. The report's text is made here too. The crate stands on `sp_order` and `seq_objects`.
+//! given. The report's text is made here too. The crate stands on `sp_order` and `seq_objects`, and on `itoa`
+//! for the numbers of that text.
 #![tactic(auto)]
 
 pub mod batch;

@@ -5,12 +5,14 @@ ghost use Rattle.sp_order.specs.Precedence.{leaf_count};
 ghost use Rattle.batch_history.specs.Book.{flat};
 ghost use Rattle.batch_history.specs.Text.{batch_lines, book_lines, row_line, report_text, head_line, entry_line};
 
+mod words;
+
 use crate::batch::{Batch, Entry};
 use crate::report::Report;
+use crate::report_text::words::{push_number, push_op, push_reply};
 use crate::row::Row;
 use sp_order::Job;
 use std::alloc::{AllocError, Global};
-use std::fmt::Write;
 
 /// The count of entries in all batches.
 fn count_calls(book: &[Batch]) -> usize
@@ -34,10 +36,11 @@ fn push_head(
 ) -> Result<(), AllocError>
     ensures { OnOk result (string_bytes text.new ≡ string_bytes text.old ++ head_line workers leaves calls batches) }
 {
-    write!(
-        text,
-        "workers {workers} leaves {leaves} calls {calls} batches {batches}\n"
-    )
+    push_number(text, "workers ", workers)?;
+    push_number(text, " leaves ", leaves)?;
+    push_number(text, " calls ", calls)?;
+    push_number(text, " batches ", batches)?;
+    text.push_str("\n")
 }
 
 #[tactic(auto, unfolding(crate::specs::Text::entry_line))]
@@ -49,15 +52,15 @@ fn push_entry(
 ) -> Result<(), AllocError>
     ensures { OnOk result (string_bytes text.new ≡ string_bytes text.old ++ entry_line batch place entry.now) }
 {
-    let Entry {
-        leaf,
-        worker,
-        op,
-        reply,
-    } = *entry;
-    write!(text, "batch {batch} place {place} worker {worker}")?;
-    write!(text, " leaf {leaf} {op}")?;
-    write!(text, " -> {reply}\n")
+    push_number(text, "batch ", batch)?;
+    push_number(text, " place ", place)?;
+    push_number(text, " worker ", entry.worker)?;
+    push_number(text, " leaf ", entry.leaf)?;
+    text.push_str(" ")?;
+    push_op(text, entry.op)?;
+    text.push_str(" -> ")?;
+    push_reply(text, entry.reply)?;
+    text.push_str("\n")
 }
 
 fn push_batch(text: &mut String, batch: usize, entries: &[Entry]) -> Result<(), AllocError>
@@ -82,15 +85,12 @@ fn push_book(text: &mut String, book: &[Batch]) -> Result<(), AllocError>
 fn push_row(text: &mut String, row: &Row) -> Result<(), AllocError>
     ensures { OnOk result (string_bytes text.new ≡ string_bytes text.old ++ row_line row.now) }
 {
-    let Row {
-        leaf,
-        worker,
-        start,
-        end,
-        value,
-    } = *row;
-    write!(text, "leaf {leaf} worker {worker} start {start}")?;
-    write!(text, " end {end} value {value}\n")
+    push_number(text, "leaf ", row.leaf)?;
+    push_number(text, " worker ", row.worker)?;
+    push_number(text, " start ", row.start)?;
+    push_number(text, " end ", row.end)?;
+    push_number(text, " value ", row.value)?;
+    text.push_str("\n")
 }
 
 fn push_rows(text: &mut String, rows: &[Row]) -> Result<(), AllocError>

@@ -1,40 +1,29 @@
--- The quoted words are text.
-use Rattle.std.proofs.Common.{◌≡◌, ℕ, List, Bool, true, false, codes, refl}
-use Rattle.std.specs.Str.{IsUtf8, bytes_eq}
-use Rattle.std.proofs.lemmas.Slice.Eq.{bytes_eq-Decides}
+-- No quoted word has this length, or none of this length has this first byte.
+use Rattle.std.proofs.Common.{◌≡◌, ◌≢◌, ℕ, ◌≤◌, List, [], ◌∷◌, length, get_or, Bool, true, false, refl, arith}
+use Rattle.std.specs.Prelude.{◌&&◌}
+use Rattle.std.proofs.lemmas.Bool.{ne_eqb}
 use Rattle.job_lang.specs.Words.{argument_word, word_of}
 
-unless_true : (test : Bool) → (test ≡ true → ⊥) → test ≡ false
-unless_true true refused = absurd (refused refl)
-unless_true false refused = refl
+and_false : (b : Bool) → (b && false) ≡ false
+and_false true = refl
+and_false false = refl
 
-other_text : (text word : List ℕ) → ¬ IsUtf8 text → IsUtf8 word → bytes_eq text word ≡ false
-other_text text word no_text is_text = unless_true (bytes_eq text word) (λ same. no_text (let is : text ≡ word = (bytes_eq-Decides text word).0 same in rw is is_text))
+pub other_of_two : (text : List ℕ) → length text ≡ 2 → word_of text ≡ argument_word text
+other_of_two (a ∷ b ∷ []) len = simp and_false refl
+other_of_two _ len = absurd (omega (arith, len))
 
--- what is no text is no quoted word
-pub no_quoted_word : (text : List ℕ) → ¬ IsUtf8 text → word_of text ≡ argument_word text
-unfolding lib.Utf8.encode
-no_quoted_word text no_text =
-    let other : (word : List ℕ) → IsUtf8 word → bytes_eq text word ≡ false = λ word is_text. other_text text word no_text is_text in
-    rw (
-      other (codes "{") (codes "{", (refl, refl)),
-      other (codes "}") (codes "}", (refl, refl)),
-      other (codes "work") (codes "work", (refl, refl)),
-      other (codes "counter") (codes "counter", (refl, refl)),
-      other (codes "stack") (codes "stack", (refl, refl)),
-      other (codes "tree") (codes "tree", (refl, refl)),
-      other (codes "queue") (codes "queue", (refl, refl)),
-      other (codes "add") (codes "add", (refl, refl)),
-      other (codes "push") (codes "push", (refl, refl)),
-      other (codes "pop") (codes "pop", (refl, refl)),
-      other (codes "insert") (codes "insert", (refl, refl)),
-      other (codes "remove") (codes "remove", (refl, refl)),
-      other (codes "find") (codes "find", (refl, refl)),
-      other (codes "next") (codes "next", (refl, refl)),
-      other (codes "take") (codes "take", (refl, refl)),
-      other (codes "seq") (codes "seq", (refl, refl)),
-      other (codes "par") (codes "par", (refl, refl)),
-      other (codes "for") (codes "for", (refl, refl)),
-      other (codes "pfor") (codes "pfor", (refl, refl)),
-    )
-    refl
+pub other_of_five : (text : List ℕ) → length text ≡ 5 → get_or text 0 0 ≢ 113 → get_or text 0 0 ≢ 115 → word_of text ≡ argument_word text
+other_of_five (a ∷ b ∷ c ∷ d ∷ e ∷ []) len q s = rw (ne_eqb a 113 q, ne_eqb a 115 s) (simp and_false refl)
+other_of_five _ len q s = absurd (omega (arith, len))
+
+pub other_of_six : (text : List ℕ) → length text ≡ 6 → get_or text 0 0 ≢ 105 → get_or text 0 0 ≢ 114 → word_of text ≡ argument_word text
+other_of_six (a ∷ b ∷ c ∷ d ∷ e ∷ f ∷ []) len i r = rw (ne_eqb a 105 i, ne_eqb a 114 r) (simp and_false refl)
+other_of_six _ len i r = absurd (omega (arith, len))
+
+pub other_of_seven : (text : List ℕ) → length text ≡ 7 → get_or text 0 0 ≢ 99 → word_of text ≡ argument_word text
+other_of_seven (a ∷ b ∷ c ∷ d ∷ e ∷ f ∷ g ∷ []) len first = rw (ne_eqb a 99 first) (simp and_false refl)
+other_of_seven _ len first = absurd (omega (arith, len))
+
+pub other_of_more : (text : List ℕ) → 8 ≤ length text → word_of text ≡ argument_word text
+other_of_more (a ∷ b ∷ c ∷ d ∷ e ∷ f ∷ g ∷ h ∷ text) len = simp and_false refl
+other_of_more _ len = absurd (omega (arith, len))

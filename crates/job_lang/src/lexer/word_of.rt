@@ -3,7 +3,6 @@ ghost use Rattle.std.specs.Prelude.{◌≡◌, ◌+◌, ◌<◌, [], IfSome, IfN
 ghost use Rattle.job_lang.specs.Words.{are_digits, begins_well, number_of, before_plus, behind_plus, copies_word, argument_word, word_of};
 
 use crate::lexer::word::Word;
-use std::str;
 
 /// Whether a text is a run of digits.
 fn are_digits(text: &[u8]) -> bool
@@ -83,34 +82,30 @@ fn argument_word(text: &[u8]) -> Word
 }
 
 /// The word of a token that is a quoted word of the grammar.
-#[tactic(auto, using(crate::proofs::LexerLemmas::Quoted::no_quoted_word))]
 fn quoted_word(text: &[u8]) -> Option<Word>
     ensures some { IfSome result (λ word. word_of text.now ≡ word) }
     ensures none { IfNone result (word_of text.now ≡ argument_word text.now) }
 {
-    let Ok(name) = str::from_utf8(text) else {
-        return None;
-    };
-    let word = match name {
-        "{" => Word::Open,
-        "}" => Word::Close,
-        "work" => Word::Work,
-        "counter" => Word::Counter,
-        "stack" => Word::Stack,
-        "tree" => Word::Tree,
-        "queue" => Word::Queue,
-        "add" => Word::Add,
-        "push" => Word::Push,
-        "pop" => Word::Pop,
-        "insert" => Word::Insert,
-        "remove" => Word::Remove,
-        "find" => Word::Find,
-        "next" => Word::Next,
-        "take" => Word::Take,
-        "seq" => Word::Seq,
-        "par" => Word::Par,
-        "for" => Word::For,
-        "pfor" => Word::Pfor,
+    let word = match text {
+        b"{" => Word::Open,
+        b"}" => Word::Close,
+        b"work" => Word::Work,
+        b"counter" => Word::Counter,
+        b"stack" => Word::Stack,
+        b"tree" => Word::Tree,
+        b"queue" => Word::Queue,
+        b"add" => Word::Add,
+        b"push" => Word::Push,
+        b"pop" => Word::Pop,
+        b"insert" => Word::Insert,
+        b"remove" => Word::Remove,
+        b"find" => Word::Find,
+        b"next" => Word::Next,
+        b"take" => Word::Take,
+        b"seq" => Word::Seq,
+        b"par" => Word::Par,
+        b"for" => Word::For,
+        b"pfor" => Word::Pfor,
         _ => return None,
     };
     Some(word)

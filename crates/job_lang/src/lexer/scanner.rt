@@ -4,6 +4,8 @@ ghost use Rattle.std.specs.List.{prefix_len};
 ghost use Rattle.job_lang.specs.Text.{is_brace, is_in_chunk, tokens};
 ghost use Rattle.job_lang.specs.Code.Fronts.{begins_token, token_len};
 
+use crate::lexer::text::behind_comment;
+
 /// A brace or a chunk, and the line of its first byte.
 #[derive(Clone, Copy)]
 pub(crate) struct Token<'a> {
@@ -26,11 +28,12 @@ fn is_brace(byte: u8) -> bool
     matches!(byte, b'{' | b'}')
 }
 
-/// Whether a byte outside comments belongs to a chunk.
+/// Whether a byte outside comments belongs to a chunk. The first test is enough for most of them.
 fn is_in_chunk(byte: u8) -> bool
     ensures { result ≡ is_in_chunk byte }
 {
-    !matches!(byte, b'\t' | b'\n' | b'\r' | b' ' | b'{' | b'}' | b'#')
+    matches!(byte, b'$'..=b'z')
+        || !matches!(byte, b'\t' | b'\n' | b'\r' | b' ' | b'{' | b'}' | b'#')
 }
 
 /// The number of bytes of a chunk at the front.
@@ -72,19 +75,16 @@ impl<'a> Scanner<'a> {
         ensures left { tokens_left self.new ≡ tokens_left self.old }
         ensures begins { IsTrue (begins_token self.new.text.now) }
     {
-        let mut in_comment = false;
         while let [first, rest @ ..] = self.text {
             match *first {
                 b'\n' => {
-                    in_comment = false;
                     self.line += 1;
+                    self.text = rest;
                 }
-                b'#' => in_comment = true,
-                b' ' | b'\t' | b'\r' => {}
-                _ if in_comment => {}
+                b'#' => self.text = behind_comment(rest),
+                b' ' | b'\t' | b'\r' => self.text = rest,
                 _ => return,
             }
-            self.text = rest;
         }
     }
 

@@ -1,11 +1,10 @@
 use Rattle.std.proofs.Common.{◌≡◌, ◌+◌, ◌<◌, ◌^◌, length}
-use Rattle.job_lang.specs.Text.{tokens_from, bare}
 use Rattle.job_lang.specs.Code.Scanners.{tokens_left}
 use Rattle.job_lang.proofs.lexer.scanner.Scanner.skip.Given as goal
 
 abbrev pub invariant-loop-self : goal.invariant-loop-self
 invariant-loop-self l = record {
-  left : tokens_from l.self.line (bare l.in_comment l.self.text.now) ≡ tokens_left l.initial.self;
+  left : tokens_left l.self ≡ tokens_left l.initial.self;
   fits : l.self.line + length l.self.text.now < 2 ^ 32;
 }
 

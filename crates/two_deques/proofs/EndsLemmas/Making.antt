@@ -1,0 +1,94 @@
+-- The own ends of all workers are made one by one, and then their reaches.
+use Rattle.std.proofs.Common.{◌≡◌, ◌≢◌, ℕ, ◌+◌, ◌<◌, ◌≤◌, List, [], ◌∷◌, ◌++◌, length, set, get_or, replicate, sym, ap, ◌∙◌, subst, arith}
+use Rattle.std.proofs.lemmas.List.{get_or-set_same, get_or-set_other, length-set, get_or_append_left, get_or_push, length_push}
+use mathlib.Core.Logic.{dite}
+use native.Mathlib.Decide.{ℕ_discrete}
+use Rattle.std.specs.declared.alloc.Global.{Global}
+use Rattle.crossbeam_deque.specs.Handles.{worker_deque, worker_capacity, worker_view, stealer_deque}
+use Rattle.crossbeam_deque.specs.declared.handles.Worker.{Worker}
+use Rattle.two_deques.specs.declared.rule.Part.{Part}
+use Rattle.two_deques.specs.declared.rule.DequeRule.{DequeRule}
+use Rattle.two_deques.specs.declared.ends.Ends.{Ends}
+use Rattle.two_deques.specs.Reaches.{Thief, ReachEach}
+use Rattle.two_deques.specs.Ends.{HeldEnds, held_ends, fresh_ends}
+use Rattle.two_deques.specs.Code.Opening.{IsNew, HasReaches, AreMade}
+
+module _ {T : Type 0} where
+  one_more : (n room : ℕ) (thieves : List (Thief T)) (all : List (Ends T)) (t : Thief T) (e : Ends T)
+      → AreMade 0 n room thieves all → worker_deque e.own ≡ stealer_deque t → IsNew room e
+      → AreMade 0 (n + 1) room (thieves ++ t ∷ []) (all ++ e ∷ [])
+  one_more n room thieves all t e h deque new =
+      let here : (w : ℕ) (v : Ends T) → w ≡ n → v ≡ get_or (all ++ e ∷ []) w v → e ≡ v =
+      λ w v is at. sym (at ∙ get_or_push all e v w (h.ends_count ∙ sym is)) in
+      let before : (w : ℕ) (v : Ends T) → w < n → v ≡ get_or (all ++ e ∷ []) w v → v ≡ get_or all w v =
+      λ w v less at. at ∙ get_or_append_left all (e ∷ []) v w (omega (arith, h.ends_count, less)) in
+      record {
+        thieves_count = omega (arith, length_push thieves t, h.thieves_count);
+        ends_count = omega (arith, length_push all e, h.ends_count);
+        own = λ w u v lt at there. dite (ℕ_discrete w n)
+            (λ (is : w ≡ n).
+            let same : t ≡ u = sym (at ∙ get_or_push thieves t u w (h.thieves_count ∙ sym is)) in
+            subst (λ (q : Thief T × Ends T). worker_deque q.1.own ≡ stealer_deque q.0) (λ k. (same k, here w v is there k)) deque)
+            (λ (ne : w ≢ n).
+            let less : w < n = omega (arith, lt, ne) in
+            h.own w u v less (at ∙ get_or_append_left thieves (t ∷ []) u w (omega (arith, h.thieves_count, less))) (before w v less there));
+        fresh = λ w v lt there. dite (ℕ_discrete w n)
+            (λ (is : w ≡ n). subst (λ (q : Ends T). IsNew room q) (here w v is there) new)
+            (λ (ne : w ≢ n). let less : w < n = omega (arith, lt, ne) in h.fresh w v less (before w v less there));
+        reached = λ w v lt there. absurd (omega (arith, lt));
+      }
+
+  pub one_more_by : (n room : ℕ) (thieves then_thieves : List (Thief T)) (all then_all : List (Ends T)) (t : Thief T) (e : Ends T)
+      → AreMade 0 n room thieves all → then_thieves ≡ thieves ++ t ∷ [] → then_all ≡ all ++ e ∷ []
+      → stealer_deque t ≡ worker_deque e.own → room ≤ worker_capacity e.own → held_ends e ≡ fresh_ends T 0
+      → AreMade 0 (n + 1) room then_thieves then_all
+  one_more_by n room thieves then_thieves all then_all t e h first second same fits fresh =
+      subst (λ (q : List (Thief T) × List (Ends T)). AreMade 0 (n + 1) room q.0 q.1) (λ k. (sym first k, sym second k))
+      (one_more n room thieves all t e h (sym same) (
+        fits,
+        ap (λ (g : HeldEnds T). g.own) fresh,
+        ap (λ (g : HeldEnds T). g.pushes) fresh,
+        ap (λ (g : HeldEnds T). g.empty_pops) fresh,
+      ))
+
+  -- the next worker has got its reaches, and its own end is as it was
+  next_reached : (k n room : ℕ) (thieves : List (Thief T)) (all : List (Ends T)) (e v : Ends T) → AreMade k n room thieves all
+      → k < n → e ≡ get_or all k e → v.own ≡ e.own → v.empty_pops ≡ e.empty_pops → HasReaches n thieves v
+      → AreMade (k + 1) n room thieves (set all k v)
+  next_reached k n room thieves all e v h lt at own_same pops_same reached =
+      let here : (w : ℕ) (u : Ends T) → w ≡ k → u ≡ get_or (set all k v) w u → v ≡ u =
+      λ w u is there. sym (there ∙ ap (λ (j : ℕ). get_or (set all k v) j u) is
+      ∙ get_or-set_same all k v u (omega (arith, lt, h.ends_count))) in
+      let before : (w : ℕ) → w ≡ k → e ≡ get_or all w e = λ w is. at ∙ ap (λ (j : ℕ). get_or all j e) (sym is) in
+      record {
+        thieves_count = h.thieves_count;
+        ends_count = length-set all k v ∙ h.ends_count;
+        own = λ w t u lt' there_thief there. dite (ℕ_discrete w k)
+            (λ (is : w ≡ k). subst (λ (q : Ends T). worker_deque q.own ≡ stealer_deque t) (here w u is there)
+            (ap worker_deque own_same ∙ h.own w t e lt' there_thief (before w is)))
+            (λ (ne : w ≢ k). h.own w t u lt' there_thief (there ∙ get_or-set_other all k w v u ne));
+        fresh = λ w u lt' there. dite (ℕ_discrete w k)
+            (λ (is : w ≡ k). let old = h.fresh w e lt' (before w is) in
+            subst (λ (q : Ends T). IsNew room q) (here w u is there) (
+              subst (λ (q : Worker T Global (Part T) DequeRule). room ≤ worker_capacity q) (sym own_same) old.0,
+              ap (λ (q : Worker T Global (Part T) DequeRule). (worker_view q).tasks) own_same ∙ old.1,
+              ap (λ (q : Worker T Global (Part T) DequeRule). (worker_view q).pushes) own_same ∙ old.2,
+              pops_same ∙ old.3,
+            ))
+            (λ (ne : w ≢ k). h.fresh w u lt' (there ∙ get_or-set_other all k w v u ne));
+        reached = λ w u lt' there. dite (ℕ_discrete w k)
+            (λ (is : w ≡ k). subst (λ (q : Ends T). HasReaches n thieves q) (here w u is there) reached)
+            (λ (ne : w ≢ k). h.reached w u (omega (arith, lt', ne)) (there ∙ get_or-set_other all k w v u ne));
+      }
+
+  pub next_reached_by : (k n room : ℕ) (thieves seen : List (Thief T)) (all : List (Ends T)) (e v : Ends T)
+      → AreMade k n room thieves all → k < n → e ≡ get_or all k e → v.own ≡ e.own → v.empty_pops ≡ e.empty_pops
+      → seen ≡ thieves → ReachEach seen v.reaches.items → (held_ends v).stolen ≡ replicate (length seen) []
+      → (held_ends v).fruitless_steals ≡ replicate (length seen) 0 → AreMade (k + 1) n room thieves (set all k v)
+  next_reached_by k n room thieves seen all e v h lt at own_same pops_same same each stolen fruitless_steals =
+      let count : length seen ≡ n = ap length same ∙ h.thieves_count in
+      next_reached k n room thieves all e v h lt at own_same pops_same (
+        subst (λ (l : List (Thief T)). ReachEach l v.reaches.items) same each,
+        stolen ∙ ap (λ m. replicate m []) count,
+        fruitless_steals ∙ ap (λ m. replicate m 0) count,
+      )

@@ -1,0 +1,97 @@
+//! The deques, as all workers share them, and the calls on them.
+ghost use Rattle.std.specs.Prelude.{◌≡◌, ◌≢◌, ◌<◌, ◌≤◌, IfOk, IfErr, IfNone, IfSome, OnOk};
+ghost use Rattle.two_deques.specs.Ends.{after_push, with_newest, after_empty_pop, after_steal};
+ghost use Rattle.two_deques.specs.Ends.{after_fruitless_steal, WasEmpty, HadAtMostOne};
+ghost use Rattle.two_deques.specs.Hands.{held, workers_of, core_room_of, IsHandOf, AreHands};
+
+mod opening;
+
+use crate::ends::opening::deques;
+use crate::hand::Hand;
+use crate::rule::{DequeRule, Part};
+use crossbeam_deque::Stealer;
+use opening::hands_of;
+use std::alloc::{AllocError, Global};
+use std::sync::Wait;
+
+/// The deques of all workers. They keep the allocator, so that no call but `make` takes it.
+#[derive(Drop)]
+pub struct Decks {
+    pub(crate) core: Vec<Stealer<u32, Global, Part<u32>, DequeRule>>,
+    pub(crate) core_room: u32,
+}
+
+impl Decks {
+    /// Empty deques for so many workers, and the hand of each worker. The rooms are numbers of tasks.
+    /// That for pieces of batches is not looked at: there are no deques for them yet.
+    pub fn make(
+        alloc: Global,
+        workers: u32,
+        core_room: u32,
+        _batch_room: u32,
+    ) -> Result<(Decks, Vec<Hand>), AllocError>
+        requires workers { (1 ≤ workers) × (workers ≤ 32) }
+        requires rooms { (core_room ≤ 160000) × (_batch_room ≤ 160000) }
+        ensures workers { IfOk result (λ made. workers_of made.0 ≡ workers) }
+        ensures room { IfOk result (λ made. core_room_of made.0 ≡ core_room) }
+        ensures hands { IfOk result (λ made. AreHands made.0 made.1.items) }
+    {
+        let (core, core_ends) = deques::<u32>(alloc, workers as usize, core_room as usize)?;
+        let decks = Decks { core, core_room };
+        let hands = hands_of(alloc, &decks, core_ends)?;
+        Ok((decks, hands))
+    }
+
+    /// Pushes a node on the own deque. The node comes back where the deque is full and cannot grow.
+    pub fn push_core(&self, hand: &mut Hand, node: u32) -> Result<(), u32>
+        requires hand { IsHandOf self.now hand.old }
+        ensures hand { IsHandOf self.now hand.new }
+        ensures ok { OnOk result (held hand.new
+            ≡ record (held hand.old) { core = after_push node (held hand.old).core }) }
+        ensures err { IfErr result (λ back. (back ≡ node) × (held hand.new ≡ held hand.old)) }
+        ensures cause { IfErr result (λ _. core_room_of self.now ≤ (held hand.old).core.pushes) }
+    {
+        hand.core.push(node)
+    }
+
+    /// Pops the newest node of the own deque.
+    ///
+    /// `cause` hands on what `crossbeam_deque` promises of its pop: that it finds nothing only where the
+    /// deque was empty at a moment of the call. No clause can name the state between two steps of a call,
+    /// so this one says that the deque's rule allows such a state, with this hand's list.
+    ///
+    /// Memory: none.
+    pub fn pop_core(&self, hand: &mut Hand) -> Option<u32>
+        requires hand { IsHandOf self.now hand.old }
+        ensures hand { IsHandOf self.now hand.new }
+        ensures some { IfSome result (λ node. held hand.old
+            ≡ record (held hand.new) { core = with_newest node (held hand.new).core }) }
+        ensures none { IfNone result (held hand.new
+            ≡ record (held hand.old) { core = after_empty_pop (held hand.old).core }) }
+        ensures cause { IfNone result (WasEmpty (held hand.old).core) }
+    {
+        hand.core.pop()
+    }
+
+    /// Takes the oldest node of another worker's deque. It tries again where the deque asks for that, so
+    /// it may wait for other thieves.
+    ///
+    /// `cause` hands on what `crossbeam_deque` promises of its steal: that it finds nothing only where
+    /// the deque had at most one task at a moment of the call, which its owner may be about to pop. It is
+    /// said as at `pop_core`.
+    ///
+    /// Memory: none.
+    pub fn steal_core<R: Wait>(&self, rt: &R, hand: &mut Hand, victim: u32) -> Option<u32>
+        requires hand { IsHandOf self.now hand.old }
+        requires victim { (victim < workers_of self.now) × (victim ≢ (held hand.old).worker) }
+        ensures hand { IsHandOf self.now hand.new }
+        ensures some { IfSome result (λ node. held hand.new
+            ≡ record (held hand.old) { core = after_steal victim node (held hand.old).core }) }
+        ensures none { IfNone result (held hand.new
+            ≡ record (held hand.old) { core = after_fruitless_steal victim (held hand.old).core }) }
+        ensures cause { IfNone result (HadAtMostOne victim (held hand.old).core) }
+    {
+        let victim = victim as usize;
+        hand.core.steal(rt, &self.core, victim)
+    }
+}

@@ -1,0 +1,79 @@
+//! The deques of one kind at the start, and all workers' ends of them.
+ghost use Rattle.std.specs.Prelude.{◌≡◌, ◌<◌, ◌≤◌, [], length, map, replicate, IfOk};
+ghost use Rattle.crossbeam_deque.specs.Handles.{worker_capacity};
+ghost use Rattle.two_deques.specs.Reaches.{ReachEach};
+ghost use Rattle.two_deques.specs.Ends.{held_ends, fresh_ends, stolen_there};
+ghost use Rattle.two_deques.specs.Code.Opening.{AreMade};
+
+use crate::ends::{Ends, Reach};
+use crate::rule::{DequeRule, Part};
+use crossbeam_deque::{Stealer, Worker};
+use std::alloc::{AllocError, Global};
+
+type Own<T> = Worker<T, Global, Part<T>, DequeRule>;
+
+type Thief<T> = Stealer<T, Global, Part<T>, DequeRule>;
+
+/// The ends of a worker with a new deque, without reaches.
+#[tactic(auto, using(crate::proofs::RuleLemmas::Steps::begins))]
+fn own_ends<T: Drop>(alloc: Global, room: usize) -> Result<Ends<T>, AllocError>
+    ensures room { IfOk result (λ e. room ≤ worker_capacity e.own) }
+    ensures fresh { IfOk result (λ e. held_ends e ≡ fresh_ends _ 0) }
+{
+    Ok(Ends {
+        own: Own::lifo_as(alloc, room)?,
+        empty_pops: 0,
+        reaches: Vec::new(alloc),
+    })
+}
+
+/// A reach into each of these deques.
+#[tactic(auto, using(crate::proofs::RuleLemmas::Steps::admits))]
+fn reaches_into<T: Drop>(alloc: Global, thieves: &[Thief<T>]) -> Result<Vec<Reach<T>>, AllocError>
+    ensures each { IfOk result (λ v. ReachEach thieves.now v.items) }
+    ensures stolen { IfOk result (λ v. map stolen_there v.items ≡ replicate (length thieves.now) []) }
+    ensures fruitless { IfOk result (λ v. map (λ reach. reach.fruitless_steals) v.items
+        ≡ replicate (length thieves.now) 0) }
+{
+    let mut reaches = Vec::new(alloc);
+    for i in 0..thieves.len() {
+        reaches.push(Reach {
+            pass: thieves[i].pass(),
+            fruitless_steals: 0,
+        })?;
+    }
+    Ok(reaches)
+}
+
+/// A deque for each worker, with the ends of all workers, which have no reaches yet.
+fn own_deques<T: Drop>(
+    alloc: Global,
+    workers: usize,
+    room: usize,
+) -> Result<(Vec<Thief<T>>, Vec<Ends<T>>), AllocError>
+    ensures { IfOk result (λ r. AreMade 0 workers room r.0.items r.1.items) }
+{
+    let mut thieves = Vec::new(alloc);
+    let mut all = Vec::new(alloc);
+    for worker in 0..workers {
+        let ends = own_ends::<T>(alloc, room)?;
+        thieves.push(ends.own.stealer()?)?;
+        all.push(ends)?;
+    }
+    Ok((thieves, all))
+}
+
+/// A deque for each worker, with the ends of all workers.
+pub(crate) fn deques<T: Drop>(
+    alloc: Global,
+    workers: usize,
+    room: usize,
+) -> Result<(Vec<Thief<T>>, Vec<Ends<T>>), AllocError>
+    ensures { IfOk result (λ r. AreMade workers workers room r.0.items r.1.items) }
+{
+    let (thieves, mut all) = own_deques::<T>(alloc, workers, room)?;
+    for worker in 0..workers {
+        all[worker].reaches = reaches_into(alloc, &thieves)?;
+    }
+    Ok((thieves, all))
+}

@@ -1,0 +1,23 @@
+//! A worker's hand.
+ghost use Rattle.std.specs.Prelude.{◌≡◌};
+ghost use Rattle.two_deques.specs.Hands.{held};
+
+use crate::ends::Ends;
+
+/// One worker's ends of all deques. It goes to the worker's own thread.
+#[derive(Drop)]
+pub struct Hand {
+    pub(crate) worker: u32,
+    pub(crate) core: Ends<u32>,
+}
+
+impl Hand {
+    /// Whose hand it is.
+    ///
+    /// Memory: none.
+    pub fn worker(&self) -> u32
+        ensures { result ≡ (held self.now).worker }
+    {
+        self.worker
+    }
+}

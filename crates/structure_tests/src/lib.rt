@@ -1,4 +1,5 @@
-//! Tests of the serial objects, of the batched structures and of the shop over them, through their public calls alone.
+//! Tests of the serial objects, of the batched structures and the shop over them, and of the deques, through their
+//! public calls alone.
 //!
 //! What a call replies and leaves is proved for every input; the rows here are worked by hand, and show that the
 //! clauses say what is meant, and that the calls succeed with ample memory.
@@ -8,6 +9,8 @@
 mod batch;
 #[cfg(test)]
 mod counter;
+#[cfg(test)]
+mod deques;
 #[cfg(test)]
 mod plain;
 #[cfg(test)]

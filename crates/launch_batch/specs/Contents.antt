@@ -4,6 +4,8 @@ use Rattle.seq_objects.specs.declared.call.Call.{Call}
 use Rattle.seq_objects.specs.Objects.{Objects, argument_of}
 use Rattle.batched_stack.specs.Stripes.{StackView}
 use Rattle.batch_history.specs.declared.batch.Entry.{Entry}
+use Rattle.launch_batch.specs.declared.half.Half.TheVariants.{Whole}
+use Rattle.launch_batch.specs.declared.structures.Structures.{Structures}
 use Rattle.batch_history.specs.Book.{flat}
 use Rattle.batch_history.specs.Serving.{served_book}
 
@@ -15,6 +17,18 @@ contents counter stack tree queue = record { counter = counter; stack = stack.it
 pub record IsKept (counter : ℕ) (stack : StackView) (tree queue : List ℕ) (history : List (List Entry)) : Type 0 where
   pub contents : contents counter stack tree queue ≡ served_book history
   pub room : counter ≤ length (flat history) * 2 ^ 32
+
+-- the same of the structures of a shop, each of which stands whole
+pub record AreKept (structures : Structures) (history : List (List Entry)) : Type 0 where
+  pub number : ℕ
+  pub view : StackView
+  pub keys : List ℕ
+  pub bag : List ℕ
+  pub counter : structures.counter ≡ Whole number
+  pub stack : structures.stack ≡ Whole view
+  pub tree : structures.tree ≡ Whole keys
+  pub queue : structures.queue ≡ Whole bag
+  pub kept : IsKept number view keys bag history
 
 -- the leaf and the operation's argument fit 32 bits
 abbrev pub IsNarrow : Call → Type 0

@@ -29,11 +29,11 @@ pub record IsContextOf (opened : Opened) (o : BatchContext (List (List Entry)) P
   pub keys : List ℕ
   pub bag : List ℕ
   pub kept : IsKept number view keys bag o.before
-  pub counter : IsHalfContextOf IsCounterContext opened.counter
+  pub counter : IsHalfContextOf IsCounterContext opened.structures.value.counter
       (record { before = number; calls = calls_of Counter opened.calls.items; ins = counter_pieces o.ins })
-  pub stack : IsHalfContextOf IsStackContext opened.stack
+  pub stack : IsHalfContextOf IsStackContext opened.structures.value.stack
       (record { before = view; calls = calls_of Stack opened.calls.items; ins = stack_pieces o.ins })
-  pub tree : IsHalfContextOf IsTreeContext opened.tree
+  pub tree : IsHalfContextOf IsTreeContext opened.structures.value.tree
       (record { before = keys; calls = calls_of Tree opened.calls.items; ins = tree_pieces o.ins })
-  pub queue : IsHalfContextOf IsQueueContext opened.queue
+  pub queue : IsHalfContextOf IsQueueContext opened.structures.value.queue
       (record { before = bag; calls = calls_of Queue opened.calls.items; ins = queue_pieces o.ins })

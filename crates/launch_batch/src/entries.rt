@@ -12,12 +12,11 @@ use std::alloc::{AllocError, Global};
 pub(crate) fn entries_of(
     alloc: Global,
     calls: &[Call],
-    remaining: Remaining,
+    mut remaining: Remaining,
 ) -> Result<Vec<Entry>, AllocError>
     ensures calls { IfOk result (λ v. calls_in v.items ≡ calls.now) }
     ensures replies { IfOk result (λ v. replies_in v.items ≡ merged_replies calls.now remaining) }
 {
-    let mut remaining = remaining;
     let mut entries = Vec::with_capacity(alloc, calls.len())?;
     for place in 0..calls.len() {
         let call = calls[place];

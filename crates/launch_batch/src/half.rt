@@ -1,77 +1,127 @@
 //! A structure in a batch.
-ghost use Rattle.std.specs.Prelude.{◌≡◌, ◌<◌, ◌≤◌, length, IfOk};
+ghost use Rattle.std.specs.Prelude.{◌≡◌, ◌<◌, ◌≤◌, length, true, IfOk};
 ghost use Rattle.seq_objects.specs.Batches.{AreOneBatch, calls_of};
-ghost use Rattle.seq_objects.specs.Serial.{after_all, replies_to_all};
 ghost use Rattle.seq_objects.specs.Pieces.{AllMeet, BatchContext};
-ghost use Rattle.launch_batch.specs.Halves.{IsHalfContextOf, IsCutIfCalled};
+ghost use Rattle.launch_batch.specs.declared.half.Half.TheVariants.{Whole as WholeOf, Open as OpenOf};
+ghost use Rattle.launch_batch.specs.Halves.{IsHalfContextOf, IsCutIfCalled, HasServed};
+ghost use Rattle.launch_batch.specs.Code.Halves.{is_whole, is_open, CanServe};
 ghost use Rattle.launch_batch.specs.Code.Merging.{object_served};
 
-use crate::deal::{Structure, calls_of};
+use crate::deal::{Structure, are_all_of, calls_of};
 use seq_objects::{Batched, Call, Reply};
 use std::alloc::{AllocError, Global};
+use std::mem;
 
-/// A structure while a batch is served: whole where the batch has no call of it, else what is kept of it.
+/// A structure, whole or open: then it is what is kept of the structure while the pieces of a batch are worked on.
 #[derive(Drop)]
 pub enum Half<T, R> {
     Whole(T),
     Open(R),
+    /// While one of the two is made of the other, and where memory has failed in that.
+    Moved,
+}
+
+impl<T: Drop, R: Drop> Half<T, R> {
+    fn is_open(&self) -> bool
+        ensures { result ≡ is_open self.now }
+    {
+        matches!(self, Half::Open(_))
+    }
+
+    /// Takes the whole structure out.
+    fn take_whole(&mut self) -> T
+        requires { is_whole self.old ≡ true }
+        ensures { self.old ≡ WholeOf result }
+    {
+        let Half::Whole(structure) = mem::replace(self, Half::Moved) else {
+            unreachable!()
+        };
+        structure
+    }
+
+    /// Takes out what is kept of the structure.
+    fn take_rest(&mut self) -> R
+        requires { is_open self.old ≡ true }
+        ensures { self.old ≡ OpenOf result }
+    {
+        let Half::Open(rest) = mem::replace(self, Half::Moved) else {
+            unreachable!()
+        };
+        rest
+    }
+
+    /// Puts the other form in.
+    fn put(&mut self, other: Half<T, R>)
+        ensures { self.new ≡ other }
+    {
+        *self = other;
+    }
 }
 
 /// Opens a structure for the calls of it, if there are any.
 fn open<T: Batched>(
     alloc: Global,
-    structure: T,
+    half: &mut Half<T, T::Rest>,
     calls: &[Call],
-) -> Result<(Half<T, T::Rest>, Vec<T::In>), AllocError>
+) -> Result<Vec<T::In>, AllocError>
     requires batch { 0 < length calls.now → AreOneBatch calls.now }
-    requires may { T.may_serve (T.content structure) calls.now }
-    ensures most { IfOk result (λ p. length p.1.items ≤ T.MOST) }
-    ensures some { IfOk result (λ p. 0 < length calls.now → 1 ≤ length p.1.items) }
-    ensures cut { IfOk result (λ p. IsCutIfCalled T.cut (T.content structure) calls.now p.1.items) }
-    ensures context { IfOk result (λ p. IsHalfContextOf T.is_context_of p.0
-        (record { before = structure; calls = calls.now; ins = p.1.items })) }
+    requires may { CanServe T.content T.may_serve half.old calls.now }
+    ensures most { IfOk result (λ v. length v.items ≤ T.MOST) }
+    ensures some { IfOk result (λ v. 0 < length calls.now → 1 ≤ length v.items) }
+    ensures cut { IfOk result (λ v. (before : T) → half.old ≡ WholeOf before
+        → IsCutIfCalled T.cut (T.content before) calls.now v.items) }
+    ensures context { IfOk result (λ v. (before : T) → half.old ≡ WholeOf before
+        → IsHalfContextOf T.is_context_of half.new (record { before = before; calls = calls.now; ins = v.items })) }
 {
     if calls.is_empty() {
-        return Ok((Half::Whole(structure), Vec::new(alloc)));
+        return Ok(Vec::new(alloc));
     }
+    let structure = half.take_whole();
     let (rest, ins) = structure.begin(alloc, calls)?;
-    Ok((Half::Open(rest), ins))
+    half.put(Half::Open(rest));
+    Ok(ins)
 }
 
 /// Opens a structure for its own of the calls of a batch.
 pub(crate) fn open_own<T: Batched>(
     alloc: Global,
-    structure: T,
+    half: &mut Half<T, T::Rest>,
     calls: &[Call],
     which: Structure,
-) -> Result<(Half<T, T::Rest>, Vec<T::In>), AllocError>
+) -> Result<Vec<T::In>, AllocError>
     requires batch { AreOneBatch calls.now }
-    requires may { T.may_serve (T.content structure) (calls_of (object_served which) calls.now) }
-    ensures most { IfOk result (λ p. length p.1.items ≤ T.MOST) }
-    ensures some { IfOk result (λ p. 0 < length (calls_of (object_served which) calls.now) → 1 ≤ length p.1.items) }
-    ensures cut { IfOk result (λ p. IsCutIfCalled T.cut (T.content structure)
-        (calls_of (object_served which) calls.now) p.1.items) }
-    ensures context { IfOk result (λ p. IsHalfContextOf T.is_context_of p.0
-        (record { before = structure; calls = calls_of (object_served which) calls.now; ins = p.1.items })) }
+    requires may { CanServe T.content T.may_serve half.old (calls_of (object_served which) calls.now) }
+    ensures most { IfOk result (λ v. length v.items ≤ T.MOST) }
+    ensures some { IfOk result (λ v. 0 < length (calls_of (object_served which) calls.now) → 1 ≤ length v.items) }
+    ensures cut { IfOk result (λ v. (before : T) → half.old ≡ WholeOf before
+        → IsCutIfCalled T.cut (T.content before) (calls_of (object_served which) calls.now) v.items) }
+    ensures context { IfOk result (λ v. (before : T) → half.old ≡ WholeOf before
+        → IsHalfContextOf T.is_context_of half.new
+        (record { before = before; calls = calls_of (object_served which) calls.now; ins = v.items })) }
 {
+    if are_all_of(calls, which) {
+        return open(alloc, half, calls);
+    }
     let own = calls_of(alloc, calls, which)?;
-    open(alloc, structure, &own)
+    open(alloc, half, &own)
 }
 
 /// Puts a structure together again, and gives the replies to the calls of it.
 pub(crate) fn close<T: Batched>(
     alloc: Global,
-    half: Half<T, T::Rest>,
+    half: &mut Half<T, T::Rest>,
     outs: Vec<T::Out>,
-) -> Result<(T, Vec<Reply>), AllocError>
-    requires met { (o : BatchContext T T.In) × IsHalfContextOf T.is_context_of half o × AllMeet T.meets o.ins outs.items }
-    ensures replies { IfOk result (λ p. (o : BatchContext T T.In) → IsHalfContextOf T.is_context_of half o
-        → AllMeet T.meets o.ins outs.items → p.1.items ≡ replies_to_all (T.content o.before) o.calls) }
-    ensures content { IfOk result (λ p. (o : BatchContext T T.In) → IsHalfContextOf T.is_context_of half o
-        → AllMeet T.meets o.ins outs.items → T.content p.0 ≡ after_all (T.content o.before) o.calls) }
+) -> Result<Vec<Reply>, AllocError>
+    requires met { (o : BatchContext T T.In) × IsHalfContextOf T.is_context_of half.old o
+        × AllMeet T.meets o.ins outs.items }
+    ensures { IfOk result (λ v. (o : BatchContext T T.In) → IsHalfContextOf T.is_context_of half.old o
+        → AllMeet T.meets o.ins outs.items → HasServed T.content half.new o.before o.calls v.items) }
 {
-    match half {
-        Half::Whole(structure) => Ok((structure, Vec::new(alloc))),
-        Half::Open(rest) => T::end(alloc, rest, outs),
+    if !half.is_open() {
+        return Ok(Vec::new(alloc));
     }
+    let rest = half.take_rest();
+    let (structure, replies) = T::end(alloc, rest, outs)?;
+    half.put(Half::Whole(structure));
+    Ok(replies)
 }

@@ -9,6 +9,7 @@
 
 mod deal;
 mod entries;
+mod finish;
 pub mod half;
 pub mod laws;
 mod merge;
@@ -19,9 +20,11 @@ pub mod piece;
 mod pieces;
 mod serving;
 pub mod shop;
+pub mod structures;
 
 pub use half::Half;
 pub use opened::Opened;
 pub use piece::{PieceIn, PieceOut, run_piece};
 pub use serving::serve;
 pub use shop::Shop;
+pub use structures::Structures;

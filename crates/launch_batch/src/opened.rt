@@ -7,33 +7,55 @@ ghost use Rattle.launch_batch.specs.Pieces.{Meets};
 ghost use Rattle.launch_batch.specs.Calls.{IsServiceOf};
 ghost use Rattle.launch_batch.specs.Contexts.{IsContextOf};
 
-use crate::entries::entries_of;
-use crate::half::{Half, close};
+use crate::finish::{finish, last_batch};
+use crate::half::close;
 use crate::merge::{Remaining, Replies};
 use crate::outs::outs_of;
 use crate::piece::PieceOut;
 use crate::shop::Shop;
+use crate::structures::Structures;
 use batch_history::{Batch, History};
-use batched_counter::{Counter, Rest as CounterRest};
-use batched_pq::{Queue, Rest as QueueRest};
-use batched_stack::{Rest as StackRest, Stack};
-use batched_tree::{Rest as TreeRest, TreeSet};
 use seq_objects::Call;
 use std::alloc::{AllocError, Global};
 
 /// What is kept of a shop while the pieces of a batch are worked on.
 #[derive(Drop)]
 pub struct Opened {
-    pub counter: Half<Counter, CounterRest>,
-    pub stack: Half<Stack, StackRest>,
-    pub tree: Half<TreeSet, TreeRest>,
-    pub queue: Half<Queue, QueueRest>,
+    pub structures: Box<Structures>,
     pub history: History,
     /// The calls, in batch order.
     pub calls: Vec<Call>,
 }
 
 impl Opened {
+    /// The shop after the batch.
+    pub(crate) fn into_shop(self, alloc: Global, outs: Vec<PieceOut>) -> Result<Shop, AllocError>
+        requires { (o : BatchContext (List (List EntryOf)) Input) × IsContextOf self o × AllMeet Meets o.ins outs.items }
+        ensures { IfOk result (λ s. (o : BatchContext (List (List EntryOf)) Input) → IsContextOf self o
+            → AllMeet Meets o.ins outs.items
+            → (batch : List EntryOf) × IsServiceOf o.before o.calls batch × (s ≡ o.before ++ batch ∷ [])) }
+    {
+        let outs = outs_of(alloc, outs)?;
+        let Opened {
+            mut structures,
+            history,
+            calls,
+        } = self;
+        let inner = &mut *structures;
+        let counter = close(alloc, &mut inner.counter, outs.counter)?;
+        let stack = close(alloc, &mut inner.stack, outs.stack)?;
+        let tree = close(alloc, &mut inner.tree, outs.tree)?;
+        let queue = close(alloc, &mut inner.queue, outs.queue)?;
+        let replies = Remaining {
+            counter: Replies::new(counter),
+            stack: Replies::new(stack),
+            tree: Replies::new(tree),
+            queue: Replies::new(queue),
+        };
+        let shop = finish(alloc, structures, history, &calls, replies)?;
+        Ok(shop)
+    }
+
     /// Ends a batch, with an out for each of its pieces, in their order. The shop's history has this batch more,
     /// which has exactly the calls that were given, in batch order, with the replies of serving them one after
     /// another. The shop is given up when memory runs out.
@@ -44,36 +66,8 @@ impl Opened {
         ensures history { IfOk result (λ p. (o : BatchContext (List (List EntryOf)) Input) → IsContextOf self o
             → AllMeet Meets o.ins outs.items → p.0 ≡ o.before ++ p.1 ∷ []) }
     {
-        let outs = outs_of(alloc, outs)?;
-        let Opened {
-            counter,
-            stack,
-            tree,
-            queue,
-            mut history,
-            calls,
-        } = self;
-        let (counter, counter_replies) = close(alloc, counter, outs.counter)?;
-        let (stack, stack_replies) = close(alloc, stack, outs.stack)?;
-        let (tree, tree_replies) = close(alloc, tree, outs.tree)?;
-        let (queue, queue_replies) = close(alloc, queue, outs.queue)?;
-        let remaining = Remaining {
-            counter: Replies::new(counter_replies),
-            stack: Replies::new(stack_replies),
-            tree: Replies::new(tree_replies),
-            queue: Replies::new(queue_replies),
-        };
-        let entries = entries_of(alloc, &calls, remaining)?;
-        let same = Vec::from_slice(alloc, &entries)?;
-        history.batches();
-        history.append(Batch::of(same))?;
-        let shop = Shop {
-            counter,
-            stack,
-            tree,
-            queue,
-            history,
-        };
-        Ok((shop, Batch::of(entries)))
+        let shop = self.into_shop(alloc, outs)?;
+        let batch = last_batch(alloc, shop.history())?;
+        Ok((shop, batch))
     }
 }

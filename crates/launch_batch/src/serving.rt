@@ -1,12 +1,12 @@
 //! A batch that one worker serves.
-ghost use Rattle.std.specs.Prelude.{◌≡◌, [], ◌∷◌, ◌++◌, IfOk};
+ghost use Rattle.std.specs.Prelude.{◌≡◌, [], ◌∷◌, ◌++◌, List, IfOk};
+ghost use Rattle.batch_history.specs.declared.batch.Entry.{Entry as EntryOf};
 ghost use Rattle.seq_objects.specs.Pieces.{AllMeet};
 ghost use Rattle.launch_batch.specs.Calls.{MayServe, IsServiceOf};
 ghost use Rattle.launch_batch.specs.Pieces.{Meets};
 
 use crate::piece::{PieceIn, PieceOut, run_piece};
 use crate::shop::Shop;
-use batch_history::Batch;
 use seq_objects::Call;
 use std::alloc::{AllocError, Global};
 
@@ -21,14 +21,15 @@ fn run_pieces(alloc: Global, pieces: Vec<PieceIn>) -> Result<Vec<PieceOut>, Allo
     Ok(outs)
 }
 
-/// Serves these calls as one batch, by its pieces one after another. The shop is given up when memory runs out.
-pub fn serve(alloc: Global, shop: Shop, calls: Vec<Call>) -> Result<(Shop, Batch), AllocError>
+/// Serves these calls as one batch, by its pieces one after another. The batch is the last one of the shop's history. The
+/// shop is given up when memory runs out.
+pub fn serve(alloc: Global, shop: Shop, calls: Vec<Call>) -> Result<Shop, AllocError>
     requires { MayServe shop calls.items }
-    ensures batch { IfOk result (λ p. IsServiceOf shop calls.items p.1) }
-    ensures history { IfOk result (λ p. p.0 ≡ shop ++ p.1 ∷ []) }
+    ensures { IfOk result (λ s. (batch : List EntryOf)
+        × IsServiceOf shop calls.items batch × (s ≡ shop ++ batch ∷ [])) }
 {
     let (opened, pieces) = shop.begin(alloc, calls)?;
     let outs = run_pieces(alloc, pieces)?;
-    let (next, batch) = opened.end(alloc, outs)?;
-    Ok((next, batch))
+    let next = opened.into_shop(alloc, outs)?;
+    Ok(next)
 }

@@ -11,11 +11,12 @@ ghost use Rattle.launch_batch.specs.Places.{places};
 ghost use Rattle.launch_batch.specs.Contexts.{IsContextOf};
 
 use crate::deal::Structure;
-use crate::half::open_own;
+use crate::half::{Half, open_own};
 use crate::opened::Opened;
 use crate::order::in_batch_order;
 use crate::piece::PieceIn;
 use crate::pieces::pieces_of;
+use crate::structures::Structures;
 use batch_history::History;
 use batched_counter::Counter;
 use batched_pq::Queue;
@@ -28,23 +29,20 @@ use std::marker::Model;
 /// The four structures, and the history of the batches that they served. Contracts see it as this history.
 #[derive(Drop)]
 pub struct Shop {
-    pub(crate) counter: Counter,
-    pub(crate) stack: Stack,
-    pub(crate) tree: TreeSet,
-    pub(crate) queue: Queue,
+    pub(crate) structures: Box<Structures>,
     pub(crate) history: History,
 }
 
 impl Model for Shop {
     ghost use Rattle.std.specs.Prelude.{List};
     ghost use Rattle.batch_history.specs.declared.batch.Entry.{Entry};
-    ghost use Rattle.launch_batch.specs.Contents.{IsKept};
+    ghost use Rattle.launch_batch.specs.Contents.{AreKept};
 
     ghost Value = { List (List Entry) };
 
     ghost view = { λ s. s.history };
 
-    ghost invariant = { λ s. IsKept s.counter s.stack s.tree s.queue s.history };
+    ghost invariant = { λ s. AreKept s.structures.value s.history };
 }
 
 impl Shop {
@@ -52,11 +50,14 @@ impl Shop {
     pub fn new(alloc: Global) -> Result<Shop, AllocError>
         ensures { IfOk result (λ s. s ≡ []) }
     {
+        let structures = Structures {
+            counter: Half::Whole(Counter::new(alloc)?),
+            stack: Half::Whole(Stack::new(alloc)?),
+            tree: Half::Whole(TreeSet::new(alloc)?),
+            queue: Half::Whole(Queue::new(alloc)?),
+        };
         Ok(Shop {
-            counter: Counter::new(alloc)?,
-            stack: Stack::new(alloc)?,
-            tree: TreeSet::new(alloc)?,
-            queue: Queue::new(alloc)?,
+            structures: Box::new(alloc, structures)?,
             history: History::new(alloc),
         })
     }
@@ -96,30 +97,19 @@ impl Shop {
             (record { before = self; calls = calls.items; ins = p.1.items })) }
     {
         let Shop {
-            counter,
-            stack,
-            tree,
-            queue,
+            mut structures,
             history,
         } = self;
-        let calls = in_batch_order(alloc, &calls)?;
+        let calls = in_batch_order(alloc, calls)?;
         let all = calls.as_slice();
-        let (counter, counter_pieces) = open_own(alloc, counter, all, Structure::Counter)?;
-        let (stack, stack_pieces) = open_own(alloc, stack, all, Structure::Stack)?;
-        let (tree, tree_pieces) = open_own(alloc, tree, all, Structure::Tree)?;
-        let (queue, queue_pieces) = open_own(alloc, queue, all, Structure::Queue)?;
-        let pieces = pieces_of(
-            alloc,
-            counter_pieces,
-            stack_pieces,
-            tree_pieces,
-            queue_pieces,
-        )?;
+        let inner = &mut *structures;
+        let counter = open_own(alloc, &mut inner.counter, all, Structure::Counter)?;
+        let stack = open_own(alloc, &mut inner.stack, all, Structure::Stack)?;
+        let tree = open_own(alloc, &mut inner.tree, all, Structure::Tree)?;
+        let queue = open_own(alloc, &mut inner.queue, all, Structure::Queue)?;
+        let pieces = pieces_of(alloc, counter, stack, tree, queue)?;
         let opened = Opened {
-            counter,
-            stack,
-            tree,
-            queue,
+            structures,
             history,
             calls,
         };

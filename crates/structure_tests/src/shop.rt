@@ -31,17 +31,17 @@ fn calls_from(alloc: Global, first: u32, ops: &[Op]) -> Result<Vec<Call>, AllocE
     Ok(calls)
 }
 
-/// The shop after a batch of these operations, and the batch.
-fn serve_ops(alloc: Global, shop: Shop, first: u32, ops: &[Op]) -> Result<(Shop, Batch), AllocError>
+/// The shop after a batch of these operations.
+fn serve_ops(alloc: Global, shop: Shop, first: u32, ops: &[Op]) -> Result<Shop, AllocError>
     requires some { 0 < length ops.now }
     requires low { first ≤ 1000 }
     requires few { length ops.now ≤ 32 }
     requires below { IsBelow first shop }
-    ensures { IfOk result (λ p. IsBelow (first + 32) p.0) }
+    ensures { IfOk result (λ next. IsBelow (first + 32) next) }
 {
     let calls = calls_from(alloc, first, ops)?;
-    let (next, batch) = serve(alloc, shop, calls)?;
-    Ok((next, batch))
+    let next = serve(alloc, shop, calls)?;
+    Ok(next)
 }
 
 /// Each entry's worker and reply.
@@ -56,6 +56,14 @@ fn words_of(alloc: Global, batch: &Batch) -> Result<String, AllocError> {
     Ok(words)
 }
 
+/// Each entry's worker and reply, of the last batch that a shop has served.
+fn last_words(alloc: Global, shop: &Shop) -> Result<String, AllocError> {
+    match shop.history().batches().last() {
+        None => Ok(String::new(alloc)),
+        Some(batch) => words_of(alloc, batch),
+    }
+}
+
 /// The place of the first batch that has other entries, if there is one.
 fn first_wrong(alloc: Global, rows: &[Row]) -> Result<Option<usize>, AllocError> {
     let mut shop = Shop::new(alloc)?;
@@ -65,10 +73,9 @@ fn first_wrong(alloc: Global, rows: &[Row]) -> Result<Option<usize>, AllocError>
         if ops.is_empty() || ops.len() > 32 || first > 1000 {
             return Ok(Some(place));
         }
-        let (next, batch) = serve_ops(alloc, shop, first, ops)?;
-        shop = next;
+        shop = serve_ops(alloc, shop, first, ops)?;
         first += 32;
-        if words_of(alloc, &batch)?.as_str() != wanted {
+        if last_words(alloc, &shop)?.as_str() != wanted {
             return Ok(Some(place));
         }
     }

@@ -1,0 +1,22 @@
+-- The forms of a structure.
+use Rattle.std.specs.Prelude.{◌≡◌, Bool, true, false, List}
+use Rattle.seq_objects.specs.declared.call.Call.{Call}
+use Rattle.seq_objects.specs.Objects.{Objects}
+use Rattle.launch_batch.specs.declared.half.Half.{Half}
+use Rattle.launch_batch.specs.declared.half.Half.TheVariants.{Whole, Open, Moved}
+
+abbrev pub is_whole : {T R : Type 0} → Half T R → Bool
+is_whole (Whole structure) = true
+is_whole (Open rest) = false
+is_whole Moved = false
+
+abbrev pub is_open : {T R : Type 0} → Half T R → Bool
+is_open (Whole structure) = false
+is_open (Open rest) = true
+is_open Moved = false
+
+-- the structure stands whole, and may serve these calls
+pub record CanServe {T R : Type 0} (content : T → Objects) (may_serve : Objects → List Call → Type 0) (half : Half T R) (calls : List Call) : Type 0 where
+  pub before : T
+  pub whole : half ≡ Whole before
+  pub may : may_serve (content before) calls

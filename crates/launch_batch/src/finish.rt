@@ -1,0 +1,49 @@
+//! A batch that the structures have served, which goes into the history.
+ghost use Rattle.std.specs.Prelude.{◌≡◌, [], ◌∷◌, ◌++◌, List, IfOk};
+ghost use Rattle.seq_objects.specs.declared.call.Call.{Call as CallOf};
+ghost use Rattle.batch_history.specs.declared.batch.Entry.{Entry as EntryOf};
+ghost use Rattle.launch_batch.specs.Calls.{IsServiceOf};
+ghost use Rattle.launch_batch.specs.Code.Finishing.{HaveServed};
+
+use crate::entries::entries_of;
+use crate::merge::Remaining;
+use crate::shop::Shop;
+use crate::structures::Structures;
+use batch_history::{Batch, History};
+use seq_objects::Call;
+use std::alloc::{AllocError, Global};
+
+/// The shop after a batch, from its structures, the history before it, its calls and the replies of each structure. The
+/// entries are made once, and stand in the history.
+pub(crate) fn finish(
+    alloc: Global,
+    structures: Box<Structures>,
+    mut history: History,
+    calls: &[Call],
+    replies: Remaining,
+) -> Result<Shop, AllocError>
+    requires { (given : List CallOf) × HaveServed structures.value history calls.now replies given }
+    ensures { IfOk result (λ shop. (given : List CallOf)
+        → HaveServed structures.value history calls.now replies given
+        → (batch : List EntryOf) × IsServiceOf history given batch × (shop ≡ history ++ batch ∷ [])) }
+{
+    let entries = entries_of(alloc, calls, replies)?;
+    history.batches();
+    history.append(Batch::of(entries))?;
+    Ok(Shop {
+        structures,
+        history,
+    })
+}
+
+/// A copy of the last batch of a history.
+pub(crate) fn last_batch(alloc: Global, history: &History) -> Result<Batch, AllocError>
+    requires { (book : List (List EntryOf)) × (batch : List EntryOf) × (history.now ≡ book ++ batch ∷ []) }
+    ensures { IfOk result (λ b. (book : List (List EntryOf)) (batch : List EntryOf)
+        → history.now ≡ book ++ batch ∷ [] → b ≡ batch) }
+{
+    let batches = history.batches();
+    let last = &batches[batches.len() - 1];
+    let entries = Vec::from_slice(alloc, last.entries())?;
+    Ok(Batch::of(entries))
+}

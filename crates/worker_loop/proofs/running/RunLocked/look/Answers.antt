@@ -1,0 +1,14 @@
+use Rattle.std.proofs.Common.{rules, subst}
+use Rattle.batcher_core.specs.Cores.{job_in, state_in, IsTurnResult}
+use Rattle.batcher_core.specs.declared.turn.Turn.{Turn}
+use Rattle.batcher_core.specs.declared.turn.Turn.TheVariants.{Idle}
+use Rattle.worker_loop.specs.Runs.{RunView}
+use Rattle.worker_loop.proofs.running.RunLocked.look.Goals as goal
+
+pub returns-in-Ok-Idle : goal.returns-in-Ok-Idle
+returns-in-Ok-Idle g c =
+    let new = state_in c.turn_with.new.core in
+    let old = c.self.inside.core in
+    let idle : IsTurnResult Idle (job_in old) (state_in old) c.args.worker new =
+    subst (λ (t : Turn). IsTurnResult t (job_in old) (state_in old) c.args.worker new) c.in-Ok-Idle.field-0-is c.in-Ok-Idle.ensures.event in
+    (search rules, subst (λ (r : RunView). IsTurnResult Idle (job_in r.core) (state_in r.core) c.args.worker new) c.self.view_is idle)

@@ -1,0 +1,23 @@
+-- What contracts see of the state behind the lock, and what its type keeps.
+use Rattle.std.specs.Prelude.{ℕ, ◌≡◌, Bool, false, List}
+use Rattle.seq_objects.specs.declared.act.Act.{Act}
+use Rattle.sp_order.specs.Precedence.{Tree}
+use Rattle.batcher_core.specs.Cores.{CoreView}
+
+-- the core, and whether memory ran out in some worker
+pub record RunView : Type 0 where
+  pub core : CoreView
+  pub failed : Bool
+
+-- the core is one of a job of this shape, whose leaves do this work, and of so many workers
+pub record IsCoreOf (shape : Tree) (work : List Act) (count : ℕ) (core : CoreView) : Type 0 where
+  pub tree : core.tree ≡ shape
+  pub acts : core.acts ≡ work
+  pub workers : core.workers ≡ count
+
+-- What the type of the state behind the lock keeps: the core is one of the given job and of so many
+-- workers, and it is not spent unless memory ran out. So unless memory ran out it has the core's
+-- invariant.
+pub record IsRunOf (shape : Tree) (work : List Act) (count : ℕ) (run : RunView) : Type 0 where
+  pub job : IsCoreOf shape work count run.core
+  pub whole : run.failed ≡ false → run.core.spent ≡ false

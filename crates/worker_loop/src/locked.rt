@@ -1,0 +1,108 @@
+//! A run in threads that take turns on one core, under one lock.
+ghost use Rattle.std.specs.Prelude.{◌≡◌, ◌<◌, ◌≤◌, Some, IfOk, false};
+ghost use Rattle.batch_history.specs.Lawful.{Lawful};
+ghost use Rattle.worker_loop.specs.Runs.{IsCoreOf};
+
+use crate::running::{GivenJob, Locked, Run};
+use crate::sending::cores_are_sent;
+use crate::worker::{Shared, work};
+use batch_history::{History, Report, Rows};
+use batcher_core::Core;
+use bt_io::Pause;
+use sp_order::{Job, Plan};
+use std::alloc::{AllocError, Global};
+use std::marker::Brand;
+use std::sync::{Mutex, Wait};
+use std::thread;
+use std::thread::Threads;
+use two_deques::{Decks, Hand};
+
+/// Lets so many workers run in threads, joins them, and gives the report. What they left is done on the
+/// caller's thread.
+fn run_in_threads<S: Locked + Send, R: Threads + Wait + Sync, G: Pause + Sync>(
+    rt: &R,
+    alloc: Global,
+    run: S,
+    workers: u32,
+    room: u32,
+    pause: &G,
+) -> Result<Report, AllocError>
+    requires workers { (workers ≡ S.workers) × (0 < workers) × (workers ≤ 32) }
+    requires room { room ≤ 160000 }
+    ensures lawful { IfOk result
+        (λ report. Lawful (record { shape = Some S.tree; acts = S.acts }) S.workers report) }
+{
+    let (decks, hands) = Decks::make(alloc, workers, room, 0)?;
+    let shared = Shared {
+        run: Mutex::new(run),
+        decks,
+        workers,
+        pause,
+    };
+    let all = &shared;
+    thread::map_vec(
+        rt,
+        hands,
+        &|hand: Hand| {
+            work(rt, all, hand);
+        },
+    )?;
+    let Shared {
+        run,
+        decks: _,
+        workers: _,
+        pause: _,
+    } = shared;
+    run.into_inner().report(alloc)
+}
+
+/// Runs the core of the given job in as many threads as it has workers.
+fn run_core<J: GivenJob + Send + Sync, R: Threads + Wait + Sync, G: Pause + Sync>(
+    rt: &R,
+    alloc: Global,
+    core: Core,
+    room: u32,
+    pause: &G,
+) -> Result<Report, AllocError>
+    requires job { IsCoreOf J.tree J.acts J.workers core }
+    requires unspent { core.spent ≡ false }
+    requires few_workers { J.workers ≤ 32 }
+    requires room { room ≤ 160000 }
+    ensures lawful { IfOk result
+        (λ report. Lawful (record { shape = Some J.tree; acts = J.acts }) J.workers report) }
+{
+    cores_are_sent();
+    let workers = core.workers();
+    let run = Run::<J>::new(core);
+    run_in_threads::<Run<J>, R, G>(rt, alloc, run, workers, room, pause)
+}
+
+/// Runs a job in threads, one for each worker, that take turns on the scheduler's core under one lock.
+/// Where a thread cannot be made, the caller does its work. Each thread is joined before this returns,
+/// also where memory ran out. What the workers left of a run in which memory did not run out is done on
+/// the caller's thread.
+///
+/// The gate is called outside the lock: where a worker has started a leaf, and where it has posted a
+/// call.
+pub fn run_locked<R: Threads + Wait + Sync, G: Pause + Sync>(
+    rt: &R,
+    alloc: Global,
+    job: &Job,
+    workers: u32,
+    pause: &G,
+) -> Result<Report, AllocError>
+    requires some_workers { 0 < workers }
+    requires few_workers { workers ≤ 32 }
+    ensures lawful { IfOk result (λ report. Lawful job.now workers report) }
+{
+    if job.shape().is_none() {
+        return Ok(Report {
+            workers,
+            history: History::new(alloc),
+            rows: Rows::of(Vec::new(alloc)),
+        });
+    }
+    let core = Core::start(alloc, job, workers)?;
+    let room = Plan::of(alloc, job)?.nodes();
+    run_core::<Brand, R, G>(rt, alloc, core, room, pause)
+}

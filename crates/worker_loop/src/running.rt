@@ -1,0 +1,161 @@
+//! The state behind the lock: the core of the job that is run.
+ghost use Rattle.std.specs.Prelude.{◌≡◌, ◌<◌, IfOk, Some, true, false, ℕ, List, []};
+ghost use Rattle.seq_objects.specs.declared.act.Act.{Act};
+ghost use Rattle.sp_order.specs.Precedence.{Tree, leaf};
+ghost use Rattle.batch_history.specs.Lawful.{Lawful};
+ghost use Rattle.batcher_core.specs.Cores.{state_in};
+ghost use Rattle.batcher_core.specs.Invariant.{Invariant};
+ghost use Rattle.batcher_core.specs.State.{core_job};
+ghost use Rattle.worker_loop.specs.Runs.{IsCoreOf};
+ghost use Rattle.worker_loop.specs.Looks.{HasLooked};
+
+use crate::look::{Look, newest_if_longer, turn_with};
+use batch_history::Report;
+use batcher_core::{Core, Spun, Turn, drive};
+use std::alloc::{AllocError, Global};
+use std::marker::{Brand, Model, PhantomData};
+
+/// Which job is run, and by how many workers. Nothing is known of a value under a lock but what its type
+/// says, so the type of the state behind the lock names the job. Each call of a run picks it.
+pub trait GivenJob {
+    ghost tree: { Tree };
+
+    ghost acts: { List Act };
+
+    ghost workers: { ℕ };
+}
+
+impl GivenJob for Brand {
+    ghost tree = { leaf };
+
+    ghost acts = { [] };
+
+    ghost workers = { 1 };
+}
+
+/// What the workers do with the state behind the lock.
+pub trait Locked: Drop {
+    ghost tree: { Tree };
+
+    ghost acts: { List Act };
+
+    ghost workers: { ℕ };
+
+    /// A look of the worker, which has done this work, if it has done some.
+    fn look(&mut self, worker: u32, spun: Option<Spun>) -> Look
+        requires { worker < workers };
+
+    /// Memory ran out in a worker, outside the lock.
+    fn fail(&mut self);
+
+    /// The report of the run, if memory did not run out.
+    fn report(self, alloc: Global) -> Result<Report, AllocError>
+        ensures { IfOk result
+            (λ report. Lawful (record { shape = Some tree; acts = acts }) workers report) };
+}
+
+/// The core of the given job, and whether memory ran out in some worker. Whoever takes the lock finds a
+/// core of this job, whatever the others did, and one that is not spent unless memory ran out. So it has
+/// the core's invariant then.
+#[derive(Drop)]
+pub struct Run<J: GivenJob> {
+    core: Core,
+    failed: bool,
+    of: PhantomData<J>,
+}
+
+impl<J: GivenJob> Model for Run<J> {
+    ghost use Rattle.std.specs.Coded.{codes};
+    ghost use Rattle.sp_order.specs.TreeEncoding.{coded_tree};
+    ghost use Rattle.worker_loop.specs.Runs.{RunView, IsRunOf};
+
+    ghost Value = { RunView };
+
+    ghost coded = { Prim.hlevel (codes, coded_tree) };
+
+    ghost view = { λ r. record { core = r.core; failed = r.failed } };
+
+    ghost invariant = { λ r. IsRunOf J.tree J.acts J.workers
+        (record { core = r.core; failed = r.failed }) };
+}
+
+impl<J: GivenJob> Run<J> {
+    /// The run of a core that is at its start.
+    pub fn new(core: Core) -> Run<J>
+        requires job { IsCoreOf J.tree J.acts J.workers core }
+        requires unspent { core.spent ≡ false }
+        ensures { result ≡ record { core = core; failed = false } }
+    {
+        Run {
+            core,
+            failed: false,
+            of: PhantomData,
+        }
+    }
+
+    /// Unless the core is spent it has the invariant, for the given job and workers. So that holds
+    /// whenever the lock is free. It is for proofs, and does nothing.
+    pub fn stands(&self)
+        ensures invariant { self.now.core.spent ≡ false
+            → Invariant (core_job J.tree J.acts J.workers) (state_in self.now.core) }
+        ensures whole { self.now.failed ≡ false → self.now.core.spent ≡ false }
+    {
+        self.core.stands();
+    }
+}
+
+impl<J: GivenJob> Locked for Run<J> {
+    ghost tree = { J.tree };
+
+    ghost acts = { J.acts };
+
+    ghost workers = { J.workers };
+
+    /// One turn of the worker, which has done this work, if it has done some. Where memory runs out in it
+    /// the run has failed, and each later look answers that it is ended.
+    fn look(&mut self, worker: u32, spun: Option<Spun>) -> Look
+        requires { worker < J.workers }
+        ensures { HasLooked worker self.old self.new result }
+    {
+        if self.failed || self.core.is_over() {
+            return Look::Ended;
+        }
+        let before = self.core.ready(worker).len();
+        match turn_with(&mut self.core, worker, spun) {
+            Ok(Turn::Moved) => Look::Moved {
+                doing: self.core.doing(worker),
+                made: newest_if_longer(self.core.ready(worker), before),
+            },
+            Ok(Turn::Spin(steps)) => Look::Due(steps),
+            Ok(Turn::Idle) => Look::Idle,
+            Err(_) => {
+                self.failed = true;
+                Look::Ended
+            }
+        }
+    }
+
+    /// Memory ran out in a worker, outside the lock.
+    fn fail(&mut self)
+        ensures { self.new ≡ record self.old { failed = true } }
+    {
+        self.failed = true;
+    }
+
+    /// The report of the run, if memory did not run out. What the workers left is done here.
+    fn report(self, alloc: Global) -> Result<Report, AllocError>
+        ensures whole { IfOk result (λ _. self.failed ≡ false) }
+        ensures lawful { IfOk result
+            (λ report. Lawful (record { shape = Some J.tree; acts = J.acts }) J.workers report) }
+    {
+        let Run {
+            core,
+            failed,
+            of: _,
+        } = self;
+        if failed {
+            return Err(AllocError);
+        }
+        drive(alloc, core, &[])
+    }
+}

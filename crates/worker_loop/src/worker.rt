@@ -1,0 +1,140 @@
+//! The turns of one worker.
+ghost use Rattle.std.specs.Prelude.{◌≡◌, ◌≤◌};
+ghost use Rattle.two_deques.specs.Hands.{held, workers_of, IsHandOf};
+ghost use Rattle.worker_loop.specs.Finders.{IsFinderOf};
+ghost use Rattle.worker_loop.specs.Points.{point_by};
+
+use crate::finder::Finder;
+use crate::look::Look;
+use crate::running::Locked;
+use batcher_core::{Doing, Spun};
+use bt_io::{Pause, Point};
+use std::sync::{Mutex, Wait};
+use two_deques::{Decks, Hand};
+
+/// What all workers of a run share.
+#[derive(Drop)]
+pub struct Shared<'a, S: Locked, G> {
+    pub run: Mutex<S>,
+    pub decks: Decks,
+    pub workers: u32,
+    pub pause: &'a G,
+    ghost sizes: { (workers ≡ S.workers) × (workers ≡ workers_of decks) × (workers ≤ 32) },
+}
+
+/// What a worker carries from turn to turn: how it looks for work, work that it did and has not handed
+/// in, and what its last event left it doing.
+#[derive(Drop)]
+struct Worker {
+    finder: Finder,
+    spun: Option<Spun>,
+    doing: Doing,
+}
+
+/// The point of the gate to which an event has brought a worker, by what it was doing and what it does. A
+/// call stays posted over several events.
+fn point_reached(was: Doing, doing: Doing) -> Option<Point>
+    ensures { result ≡ point_by was doing }
+{
+    match doing {
+        Doing::Started(leaf) => Some(Point::LeafStart(leaf)),
+        Doing::Calling(leaf) => match was {
+            Doing::Calling(_) => None,
+            _ => Some(Point::Posted(leaf)),
+        },
+        Doing::Other => None,
+    }
+}
+
+impl Worker {
+    /// A worker at the start.
+    fn new(hand: Hand, workers: u32) -> Worker
+        ensures { (result.finder.hand ≡ hand) × (result.finder.victim ≡ (held hand).worker)
+            × (result.finder.workers ≡ workers) }
+    {
+        Worker {
+            finder: Finder::new(hand, workers),
+            spun: None,
+            doing: Doing::Other,
+        }
+    }
+
+    /// An event left the worker doing this. Where it has come to a point of the gate, it is held there.
+    fn now_does<G: Pause>(&mut self, pause: &G, doing: Doing)
+        ensures { self.new.finder ≡ self.old.finder }
+    {
+        let was = self.doing;
+        self.doing = doing;
+        if let Some(point) = point_reached(was, doing) {
+            pause.at(point, self.finder.hand.worker());
+        }
+    }
+
+    /// Tells the others of a node that became ready. A push that is refused fails the run.
+    fn tell<S: Locked, R: Wait, G>(&mut self, rt: &R, shared: &Shared<S, G>, node: u32) -> bool
+        requires finder { IsFinderOf shared.now.decks self.old.finder }
+        ensures finder { IsFinderOf shared.now.decks self.new.finder }
+    {
+        if shared.decks.push_core(&mut self.finder.hand, node).is_ok() {
+            return true;
+        }
+        shared.run.lock(rt).fail();
+        false
+    }
+
+    /// What the worker does outside the lock after a look at the core. It answers whether the worker goes
+    /// on.
+    fn follow<S: Locked, R: Wait, G: Pause>(
+        &mut self,
+        rt: &R,
+        shared: &Shared<S, G>,
+        look: Look,
+    ) -> bool
+        requires finder { IsFinderOf shared.now.decks self.old.finder }
+        ensures finder { IsFinderOf shared.now.decks self.new.finder }
+    {
+        match look {
+            Look::Ended => false,
+            Look::Due(steps) => {
+                self.spun = Some(Spun::of(steps));
+                true
+            }
+            Look::Idle => {
+                self.finder.find(rt, &shared.decks);
+                true
+            }
+            Look::Moved { doing, made: None } => {
+                self.finder.had_event();
+                self.now_does(shared.pause, doing);
+                true
+            }
+            Look::Moved {
+                doing,
+                made: Some(node),
+            } => {
+                self.finder.had_event();
+                let goes_on = self.tell(rt, shared, node);
+                self.now_does(shared.pause, doing);
+                goes_on
+            }
+        }
+    }
+}
+
+/// Takes the turns of one worker, until the run is over or memory runs out. The lock is held for one turn
+/// at a time.
+pub fn work<S: Locked, R: Wait, G: Pause>(rt: &R, shared: &Shared<S, G>, hand: Hand)
+    requires { IsHandOf shared.now.decks hand }
+{
+    let mut worker = Worker::new(hand, shared.workers);
+    for _ in rt.forever() {
+        let number = worker.finder.hand.worker();
+        let spun = worker.spun.take();
+        // A guard that stood in the head of a `match` or an `if` would live to its end, and with it the
+        // lock.
+        let look = shared.run.lock(rt).look(number, spun);
+        if !worker.follow(rt, shared, look) {
+            break;
+        }
+    }
+}

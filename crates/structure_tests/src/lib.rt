@@ -1,5 +1,5 @@
-//! Tests of the serial objects, of the batched structures and the shop over them, and of the deques, through their
-//! public calls alone.
+//! Tests of the serial objects, of the batched structures and the shop over them, of the deques, and of runs in threads,
+//! through their public calls alone.
 //!
 //! What a call replies and leaves is proved for every input; the rows here are worked by hand, and show that the
 //! clauses say what is meant, and that the calls succeed with ample memory.
@@ -19,6 +19,8 @@ mod queue;
 mod shop;
 #[cfg(test)]
 mod stack;
+#[cfg(test)]
+mod threads;
 #[cfg(test)]
 mod tree;
 #[cfg(test)]

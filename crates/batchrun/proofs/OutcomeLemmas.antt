@@ -1,3 +1,5 @@
+pub mod Asked
 pub mod Ends
 pub mod Fronts
+pub mod Headlines
 pub mod InMemory

@@ -26,11 +26,11 @@ pub record HasRun (held : Option (List ℕ)) (workers : ℕ) (report : Report) :
   pub accepted : IsJobOf bytes job
   pub lawful : Lawful job workers report
 
--- The bytes that were read are a job's, and the report is lawful; it is the one that turns make of this job: those of the
--- schedule, and then those of all workers round robin from worker 0 on.
-pub record HasDriven (held : Option (List ℕ)) (workers : ℕ) (schedule : List ℕ) (report : Report) : Type 0 where
+-- The bytes that were read are a job's, and the report is lawful. Where there is a schedule, the report is the one that turns
+-- make of this job: those of the schedule, and then those of all workers round robin from worker 0 on.
+pub record HasDriven (held : Option (List ℕ)) (workers : ℕ) (schedule : Option (List ℕ)) (report : Report) : Type 0 where
   pub run : HasRun held workers report
-  pub driven : IsDrivenReport run.job workers schedule report
+  pub driven : IfSome schedule (λ turns. IsDrivenReport run.job workers turns report)
 
 -- The bytes that were read have this fault.
 pub record IsRefused (held : Option (List ℕ)) (fault : JobFault) : Type 0 where

@@ -1,9 +1,9 @@
 //! A run over memory, in which no call fails.
-ghost use Rattle.std.specs.Prelude.{◌≡◌, ◌-◌, [], length, Some, IsSome, IfSome};
+ghost use Rattle.std.specs.Prelude.{◌≡◌, ◌-◌, [], length, Some, IfSome};
 ghost use Rattle.std.specs.Option.{ForSome};
 ghost use Rattle.bt_io.specs.Causes.{Rose};
 ghost use Rattle.bt_io.specs.Memory.{file_named};
-ghost use Rattle.batchrun.specs.Words.{command_of, spelled, file_of, workers_of, schedule_of};
+ghost use Rattle.batchrun.specs.Words.{command_of, spelled, file_of, workers_of, schedule_of, IsStep};
 ghost use Rattle.batchrun.specs.Lines.{fault_line};
 ghost use Rattle.batchrun.specs.Outcomes.{Headline, HasRun, HasDriven, HoldsJob, IsUnlessMemory, TextFits, FailsPast, Tells};
 
@@ -22,7 +22,7 @@ pub fn step_in_memory(
     out: &mut MemSink,
     err: &mut MemSink,
 ) -> Outcome
-    requires command { IsSome (command_of (spelled words.now)) }
+    requires command { IsStep (command_of (spelled words.now)) }
     requires no_read_fails { shelf.old.fails ≡ [] }
     requires no_write_fails { out.old.fails ≡ [] }
     ensures answer { ForSome (command_of (spelled words.now))

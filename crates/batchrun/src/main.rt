@@ -1,8 +1,9 @@
 //! The program: reads a job of work and calls, runs it, and prints what each leaf and each call did.
 //!
 //! `batchrun` is the whole program over any shelf and sinks, and carries the headline: a run that is done has
-//! printed a lawful report. `run_step` does the work of a `step` command and waits for nobody. `main` only
-//! hands in the real words, files and streams. The crate stands on all layers below it.
+//! printed a lawful report. `run_step` does the work of a `step` command and waits for nobody; a `run` command
+//! has a thread for each worker. `main` only hands in the real words, files and streams. The crate stands on all
+//! layers below it.
 #![tactic(auto)]
 
 pub mod command;

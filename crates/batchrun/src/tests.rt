@@ -8,12 +8,13 @@ mod jobs;
 mod language;
 mod operations;
 mod schedules;
+mod threads;
 mod turns;
 mod words;
 
 use crate::outcome::Outcome;
 use crate::program::batchrun;
-use bt_io::{MemShelf, MemSink, NoPause};
+use bt_io::{MemShelf, MemSink, NoPause, Pause};
 use std::alloc::{AllocError, Global};
 use std::sync::Wait;
 use std::test::Fail;
@@ -60,6 +61,16 @@ pub(crate) fn run<R: Threads + Wait + Sync>(
     alloc: Global,
     given: &Given,
 ) -> Result<Ran, AllocError> {
+    run_held(rt, alloc, given, &NoPause)
+}
+
+/// Runs the program so, where the pause holds the workers of a `run` command.
+pub(crate) fn run_held<R: Threads + Wait + Sync, G: Pause + Sync>(
+    rt: &R,
+    alloc: Global,
+    given: &Given,
+    pause: &G,
+) -> Result<Ran, AllocError> {
     let mut words = Vec::new(alloc);
     for word in given.words {
         words.push(word.to_string(alloc)?)?;
@@ -82,13 +93,16 @@ pub(crate) fn run<R: Threads + Wait + Sync>(
         &mut shelf,
         &mut out,
         &mut err,
-        &NoPause,
+        pause,
     );
     Ok(Ran { outcome, out, err })
 }
 
 /// The words of a run by one worker.
 pub(crate) const STEP: [&str; 3] = ["step", "-", "1"];
+
+/// The words of a run by one thread.
+pub(crate) const RUN: [&str; 3] = ["run", "-", "1"];
 
 /// The report of `counter add 5` by one worker.
 pub(crate) const ONE_ADD: &[u8] = b"workers 1 leaves 1 calls 1 batches 1\n\

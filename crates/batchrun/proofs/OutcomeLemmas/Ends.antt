@@ -1,5 +1,5 @@
 -- What follows from the cause of a status and from its report.
-use Rattle.std.proofs.Common.{◌≡◌, ℕ, ◌<◌, ◌≤◌, List, length, Bool, Option, Some, None, IfSome, inl, inr, refl, sym, ap, subst, ◌∙◌, arith}
+use Rattle.std.proofs.Common.{◌≡◌, ℕ, ◌<◌, ◌≤◌, List, length, Bool, Option, Some, None, IfSome, Result, Ok, Err, IfOk, inl, inr, refl, sym, ap, subst, ◌∙◌, arith}
 use Rattle.std.specs.Prelude.{IsTrue}
 use Rattle.std.proofs.lemmas.List.{length-map}
 use Rattle.std.proofs.lemmas.List.FromFn.{length-range_with_len}
@@ -11,6 +11,8 @@ use Rattle.batch_history.specs.declared.report.Report.{Report}
 use Rattle.batcher_core.specs.Reports.{IsDrivenReport}
 use Rattle.job_lang.specs.Language.{IsJobOf, IsFaultOf}
 use Rattle.batchrun.specs.Outcomes.{WasRead, HasRun, HasDriven, Headline, HasCause, Completes, IsUnlessMemory, IsAssured, FailsPast}
+use Rattle.batchrun.specs.Code.Reading.{HasJob}
+use Rattle.batchrun.proofs.OutcomeLemmas.Headlines.{headline_with}
 use Rattle.job_lang.specs.declared.fault.JobFault.{JobFault}
 use Rattle.batchrun.specs.declared.status.Refusal.TheVariants.{TooLong, Job}
 use Rattle.batchrun.specs.declared.status.Status.{Status}
@@ -21,13 +23,26 @@ pub rows_count : (job : JobValue) (workers : ℕ) (report : Report) → HasRows 
 rows_count job workers report rows =
     sym (length-map report.rows (λ (row : Row). row.leaf)) ∙ ap length rows.leaves ∙ length-range_with_len 0 (leaf_count job.shape)
 
--- what a run does with the bytes that it read
-pub has_driven : (held : Option (List ℕ)) (workers : ℕ) (bytes : List ℕ) (job : JobValue) (schedule : List ℕ) (report : Report) → WasRead held bytes → IsJobOf bytes job → Lawful job workers report → IsDrivenReport job workers schedule report
+-- so has that of a run which gives one
+pub rows_counted : {E : Type 0} (job : JobValue) (workers : ℕ) (run : Result Report E) → IfOk run (λ report. Lawful job workers report) → IfOk run (λ report. length report.rows ≡ leaf_count job.shape)
+rows_counted job workers (Ok report) lawful = rows_count job workers report lawful.rows
+rows_counted job workers (Err e) lawful = tt
+
+-- what a run does with the job that it read
+pub has_driven : (held : Option (List ℕ)) (workers : ℕ) (job : JobValue) (schedule : Option (List ℕ)) (report : Report) → HasJob held job → Lawful job workers report → IfSome schedule (λ turns. IsDrivenReport job workers turns report)
     → HasDriven held workers schedule report
-has_driven held workers bytes job schedule report read accepted lawful driven = record {
-  run = record { bytes = bytes; read = read; job = job; accepted = accepted; lawful = lawful };
+has_driven held workers job schedule report has lawful driven = record {
+  run = record { bytes = has.bytes; read = has.read; job = job; accepted = has.accepted; lawful = lawful };
   driven = driven;
 }
+
+-- the report of a run that is written is what the run did with the job that it read
+pub ran : {E : Type 0} (held : Option (List ℕ)) (workers : ℕ) (job : JobValue) (schedule : Option (List ℕ)) (run : Result Report E) (status : Status) (report : Option Report) (old new : Option (List ℕ))
+    → HasJob held job → IfOk run (λ report. Lawful job workers report) → IfOk run (λ report. IfSome schedule (λ turns. IsDrivenReport job workers turns report))
+    → Headline (λ report. run ≡ Ok report) status report old new → Headline (HasDriven held workers schedule) status report old new
+ran held workers job schedule run status report old new has lawful driven line =
+    headline_with (λ report. run ≡ Ok report) (HasDriven held workers schedule)
+    (λ report is. has_driven held workers job schedule report has (rw is at lawful) (rw is at driven)) status report old new line
 
 -- the bytes that were read are those that are held
 same_bytes : (held : Option (List ℕ)) (told bytes : List ℕ) → WasRead held bytes → held ≡ Some told → bytes ≡ told

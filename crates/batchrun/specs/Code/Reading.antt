@@ -1,12 +1,22 @@
--- Why the reading of a file ends before the end of the input.
+-- What the reading of a file gives: its job, or why it ended before there was one.
 use Rattle.std.specs.Prelude.{ℕ, ◌<◌, List, length, Option, IfSome}
-use Rattle.batchrun.specs.declared.status.Refusal.TheVariants.{TooLong}
+use Rattle.sp_order.specs.Jobs.{JobValue}
+use Rattle.job_lang.specs.Language.{IsJobOf}
+use Rattle.batchrun.specs.Outcomes.{WasRead, IsRefused}
+use Rattle.batchrun.specs.declared.status.Refusal.TheVariants.{TooLong, Job}
 use Rattle.batchrun.specs.declared.status.Status.{Status}
 use Rattle.batchrun.specs.declared.status.Status.TheVariants.{ReadFault, Refused, Memory}
+
+-- the bytes that were read are this job's
+pub record HasJob (held : Option (List ℕ)) (job : JobValue) : Type 0 where
+  pub bytes : List ℕ
+  pub read : WasRead held bytes
+  pub accepted : IsJobOf bytes job
 
 -- the reading ended with this status
 abbrev pub StopsReading : Status → Option (List ℕ) → Type 0 → Type 0
 StopsReading ReadFault held ReadsFailed = ReadsFailed
 StopsReading (Refused TooLong) held ReadsFailed = IfSome held (λ bytes. 1048576 < length bytes)
+StopsReading (Refused (Job fault)) held ReadsFailed = IsRefused held fault
 StopsReading Memory held ReadsFailed = Unit {0}
 StopsReading status held ReadsFailed = ⊥

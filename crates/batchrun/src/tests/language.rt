@@ -1,5 +1,5 @@
 //! Jobs in the whole language: the reports of those that are run, and the lines on err of those that are refused.
-use crate::tests::{STEP, run, unhindered};
+use crate::tests::{RUN, STEP, run, unhindered};
 use std::alloc::{AllocError, Global};
 use std::fmt::Write;
 use std::test::Fail;
@@ -142,25 +142,30 @@ fn built_asked_drained(alloc: Global) -> Result<String, AllocError> {
     alone.report(alloc)
 }
 
-#[test]
-fn a_realistic_job_is_run(rt: HostRuntime) -> Result<(), Fail> {
-    let text = b"# build, ask, drain\n\
+/// The realistic job.
+pub(crate) const BUILD_ASK_DRAIN: &[u8] = b"# build, ask, drain\n\
 pfor 1000 { tree insert @*7+3 }\n\
 pfor 10 { tree find @*70+3 }\n\
 tree next 6993\n\
 pfor 1000 { queue insert @*3+1 }\n\
 for 1000 { queue take }\n\
 queue take\n";
-    let ran = run(&rt, rt.alloc(), &unhindered(&STEP, text))?;
+
+#[test]
+fn a_realistic_job_is_run_by_turns_and_by_one_thread(rt: HostRuntime) -> Result<(), Fail> {
     let report = built_asked_drained(rt.alloc())?;
-    assert!(rt; ran.out.bytes() == report.as_bytes());
     let line = b"batch 1010 place 0 worker 0 leaf 1010 tree next 6993 -> 6996";
-    assert!(rt;
-        ran.out
-            .bytes()
-            .split(|byte| *byte == b'\n')
-            .any(|other| other == line.as_slice())
-    );
+    for words in [STEP, RUN] {
+        let ran = run(&rt, rt.alloc(), &unhindered(&words, BUILD_ASK_DRAIN))?;
+        assert!(rt; ran.out.bytes() == report.as_bytes(), "{words:?}");
+        assert!(rt;
+            ran.out
+                .bytes()
+                .split(|byte| *byte == b'\n')
+                .any(|other| other == line.as_slice()),
+            "{words:?}"
+        );
+    }
     Ok(())
 }
 

@@ -4,7 +4,7 @@ use crate::tests::{run, unhindered};
 use std::test::Fail;
 
 /// Words that are no command, one row for each cause.
-const WRONG_USES: [&[&str]; 9] = [
+const WRONG_USES: [&[&str]; 12] = [
     &[],
     &["step", "-"],
     &["step", "-", "1", "0", "0"],
@@ -13,7 +13,10 @@ const WRONG_USES: [&[&str]; 9] = [
     &["step", "-", "33"],
     &["step", "-", "01"],
     &["step", "-", "1", "1"],
-    &["run", "-", "2"],
+    &["run", "", "1"],
+    &["run", "-", "0"],
+    &["run", "-", "2", "01"],
+    &["gen", "2", "0", "1"],
 ];
 
 const USAGE: &[u8] =
@@ -39,7 +42,7 @@ fn a_schedule_has_at_most_65536_digits(rt: HostRuntime) -> Result<(), Fail> {
         words.push("-".to_string(rt.alloc())?)?;
         words.push("1".to_string(rt.alloc())?)?;
         words.push("0".repeat(rt.alloc(), digits)?)?;
-        assert_eq!(rt; parse(rt.alloc(), words.as_slice())?.is_some(), taken);
+        assert_eq!(rt; parse(words.as_slice()).is_some(), taken);
     }
     Ok(())
 }

@@ -1,7 +1,7 @@
 use Rattle.std.proofs.Common.{◌≡◌, ◌++◌}
 use Rattle.std.specs.Prelude.{drop}
 use Rattle.batchrun.specs.Words.{workers_named}
-use Rattle.batchrun.proofs.command.decode_schedule.Given as goal
+use Rattle.batchrun.proofs.command.schedule.decode_schedule.Given as goal
 
 -- the workers so far, and those that are still to be named
 abbrev pub invariant-loop-byte : goal.invariant-loop-byte

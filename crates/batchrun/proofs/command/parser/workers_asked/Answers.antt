@@ -1,7 +1,7 @@
 use Rattle.std.proofs.Common.{inl, inr, sym, ◌∙◌, arith}
 use Rattle.batchrun.proofs.CommandLemmas.Counts.{number_found, no_count}
-use Rattle.batchrun.proofs.command.workers_asked.Goals as goal
-use Rattle.batchrun.proofs.command.workers_asked.Goals.{then-workers-lt1-via-then-workers-lt1, then-workers-lt1-via-else-workers-lt1+then-workers-gt32}
+use Rattle.batchrun.proofs.command.parser.workers_asked.Goals as goal
+use Rattle.batchrun.proofs.command.parser.workers_asked.Goals.{then-workers-lt1-via-then-workers-lt1, then-workers-lt1-via-else-workers-lt1+then-workers-gt32}
 
 pub returns-then-workers-lt1 : goal.returns-then-workers-lt1
 returns-then-workers-lt1 c =

@@ -1,9 +1,7 @@
 -- A structure that has no call in a batch stands whole; of the others the rest is kept.
 use Rattle.std.specs.Prelude.{◌≡◌, List, [], ◌∷◌}
 use Rattle.seq_objects.specs.declared.call.Call.{Call}
-use Rattle.seq_objects.specs.declared.reply.Reply.{Reply}
 use Rattle.seq_objects.specs.Objects.{Objects}
-use Rattle.seq_objects.specs.Serial.{after_all, replies_to_all}
 use Rattle.seq_objects.specs.Pieces.{BatchContext}
 use Rattle.launch_batch.specs.declared.half.Half.{Half}
 use Rattle.launch_batch.specs.declared.half.Half.TheVariants.{Whole, Open, Moved}
@@ -18,10 +16,3 @@ IsHalfContextOf is_context_of Moved o = ⊥
 abbrev pub IsCutIfCalled : {In : Type 0} → (Objects → List Call → List In → Type 0) → Objects → List Call → List In → Type 0
 IsCutIfCalled cut objects [] ins = ins ≡ []
 IsCutIfCalled cut objects (call ∷ calls) ins = cut objects (call ∷ calls) ins
-
--- the structure stands whole, and these calls were served one after another from what it was before, with these replies
-pub record HasServed {T R : Type 0} (content : T → Objects) (half : Half T R) (before : T) (calls : List Call) (replies : List Reply) : Type 0 where
-  pub now : T
-  pub whole : half ≡ Whole now
-  pub after : content now ≡ after_all (content before) calls
-  pub told : replies ≡ replies_to_all (content before) calls

@@ -13,8 +13,8 @@ use batch_history::{Batch, History};
 use seq_objects::Call;
 use std::alloc::{AllocError, Global};
 
-/// The shop after a batch, from its structures, the history before it, its calls and the replies of each structure. The
-/// entries are made once, and stand in the history.
+/// The shop after a batch, from its structures, the history before it, its calls and the replies of each
+/// structure. The entries are made once, and stand in the history.
 pub(crate) fn finish(
     alloc: Global,
     structures: Box<Structures>,

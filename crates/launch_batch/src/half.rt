@@ -3,8 +3,8 @@ ghost use Rattle.std.specs.Prelude.{◌≡◌, ◌<◌, ◌≤◌, length, true,
 ghost use Rattle.seq_objects.specs.Batches.{AreOneBatch, calls_of};
 ghost use Rattle.seq_objects.specs.Pieces.{AllMeet, BatchContext};
 ghost use Rattle.launch_batch.specs.declared.half.Half.TheVariants.{Whole as WholeOf, Open as OpenOf};
-ghost use Rattle.launch_batch.specs.Halves.{IsHalfContextOf, IsCutIfCalled, HasServed};
-ghost use Rattle.launch_batch.specs.Code.Halves.{is_whole, is_open, CanServe};
+ghost use Rattle.launch_batch.specs.Halves.{IsHalfContextOf, IsCutIfCalled};
+ghost use Rattle.launch_batch.specs.Code.Halves.{is_whole, is_open, CanServe, HasServed};
 ghost use Rattle.launch_batch.specs.Code.Merging.{object_served};
 
 use crate::deal::{Structure, are_all_of, calls_of};
@@ -12,7 +12,7 @@ use seq_objects::{Batched, Call, Reply};
 use std::alloc::{AllocError, Global};
 use std::mem;
 
-/// A structure, whole or open: then it is what is kept of the structure while the pieces of a batch are worked on.
+/// A structure, whole or open: then it is what is kept of it while the pieces of a batch are worked on.
 #[derive(Drop)]
 pub enum Half<T, R> {
     Whole(T),
@@ -71,7 +71,8 @@ fn open<T: Batched>(
     ensures cut { IfOk result (λ v. (before : T) → half.old ≡ WholeOf before
         → IsCutIfCalled T.cut (T.content before) calls.now v.items) }
     ensures context { IfOk result (λ v. (before : T) → half.old ≡ WholeOf before
-        → IsHalfContextOf T.is_context_of half.new (record { before = before; calls = calls.now; ins = v.items })) }
+        → IsHalfContextOf T.is_context_of half.new
+        (record { before = before; calls = calls.now; ins = v.items })) }
 {
     if calls.is_empty() {
         return Ok(Vec::new(alloc));
@@ -92,7 +93,8 @@ pub(crate) fn open_own<T: Batched>(
     requires batch { AreOneBatch calls.now }
     requires may { CanServe T.content T.may_serve half.old (calls_of (object_served which) calls.now) }
     ensures most { IfOk result (λ v. length v.items ≤ T.MOST) }
-    ensures some { IfOk result (λ v. 0 < length (calls_of (object_served which) calls.now) → 1 ≤ length v.items) }
+    ensures some { IfOk result (λ v. 0 < length (calls_of (object_served which) calls.now)
+        → 1 ≤ length v.items) }
     ensures cut { IfOk result (λ v. (before : T) → half.old ≡ WholeOf before
         → IsCutIfCalled T.cut (T.content before) (calls_of (object_served which) calls.now) v.items) }
     ensures context { IfOk result (λ v. (before : T) → half.old ≡ WholeOf before

@@ -30,10 +30,12 @@ pub struct Opened {
 impl Opened {
     /// The shop after the batch.
     pub(crate) fn into_shop(self, alloc: Global, outs: Vec<PieceOut>) -> Result<Shop, AllocError>
-        requires { (o : BatchContext (List (List EntryOf)) Input) × IsContextOf self o × AllMeet Meets o.ins outs.items }
+        requires { (o : BatchContext (List (List EntryOf)) Input) × IsContextOf self o
+            × AllMeet Meets o.ins outs.items }
         ensures { IfOk result (λ s. (o : BatchContext (List (List EntryOf)) Input) → IsContextOf self o
             → AllMeet Meets o.ins outs.items
-            → (batch : List EntryOf) × IsServiceOf o.before o.calls batch × (s ≡ o.before ++ batch ∷ [])) }
+            → (batch : List EntryOf) × IsServiceOf o.before o.calls batch
+            × (s ≡ o.before ++ batch ∷ [])) }
     {
         let outs = outs_of(alloc, outs)?;
         let Opened {
@@ -60,7 +62,8 @@ impl Opened {
     /// which has exactly the calls that were given, in batch order, with the replies of serving them one after
     /// another. The shop is given up when memory runs out.
     pub fn end(self, alloc: Global, outs: Vec<PieceOut>) -> Result<(Shop, Batch), AllocError>
-        requires { (o : BatchContext (List (List EntryOf)) Input) × IsContextOf self o × AllMeet Meets o.ins outs.items }
+        requires { (o : BatchContext (List (List EntryOf)) Input) × IsContextOf self o
+            × AllMeet Meets o.ins outs.items }
         ensures batch { IfOk result (λ p. (o : BatchContext (List (List EntryOf)) Input) → IsContextOf self o
             → AllMeet Meets o.ins outs.items → IsServiceOf o.before o.calls p.1) }
         ensures history { IfOk result (λ p. (o : BatchContext (List (List EntryOf)) Input) → IsContextOf self o

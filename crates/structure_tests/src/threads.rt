@@ -28,7 +28,8 @@ impl Pause for Meeting {
         let Point::LeafStart(_) = point else {
             return;
         };
-        self.came.fetch_or(1 << u64::from(worker % 2), Ordering::SeqCst);
+        self.came
+            .fetch_or(1 << u64::from(worker % 2), Ordering::SeqCst);
         for _ in 0..LOOKS {
             if self.came.load(Ordering::SeqCst) == 3 {
                 return;
@@ -44,8 +45,7 @@ fn four_adds(alloc: Global) -> Result<Job, AllocError> {
     let left = Shape::Par(Box::new(alloc, Shape::Leaf)?, Box::new(alloc, Shape::Leaf)?);
     let right = Shape::Par(Box::new(alloc, Shape::Leaf)?, Box::new(alloc, Shape::Leaf)?);
     let shape = Shape::Par(Box::new(alloc, left)?, Box::new(alloc, right)?);
-    let acts = vec![
-        in alloc;
+    let acts = vec![in alloc;
         Act::Call(Op::CounterAdd(1)),
         Act::Call(Op::CounterAdd(2)),
         Act::Call(Op::CounterAdd(3)),
@@ -73,6 +73,7 @@ fn two_workers_start_leaves_at_one_time(rt: HostRuntime) -> Result<(), Fail> {
         missed: AtomicU64::new(0),
     };
     let report = run_locked(&rt, rt.alloc(), &job, 2, &meeting)?;
+    assert_eq!(rt; meeting.came.load(Ordering::SeqCst), 3);
     assert_eq!(rt; meeting.missed.load(Ordering::SeqCst), 0);
     assert_eq!(rt; both_worked(&report), true);
     Ok(())

@@ -5,7 +5,7 @@ use Rattle.launch_batch.specs.declared.opened.Opened.{Opened}
 use Rattle.launch_batch.specs.declared.merge.Remaining.{Remaining}
 use Rattle.launch_batch.specs.declared.structures.Structures.{Structures}
 use Rattle.launch_batch.specs.Contexts.{IsContextOf}
-use Rattle.launch_batch.specs.Halves.{HasServed}
+use Rattle.launch_batch.specs.Code.Halves.{HasServed}
 use Rattle.launch_batch.specs.Code.Finishing.{HaveServed}
 
 module _ (opened : Opened) (o : BatchContext (List (List Entry)) PieceIn) (r : IsContextOf opened o) where

@@ -10,11 +10,12 @@ use Rattle.launch_batch.specs.declared.merge.Remaining.{Remaining}
 use Rattle.launch_batch.specs.declared.structures.Structures.{Structures}
 use Rattle.launch_batch.specs.Calls.{MayServe, AreSame}
 use Rattle.launch_batch.specs.Contents.{IsKept, IsNarrow}
-use Rattle.launch_batch.specs.Halves.{HasServed}
+use Rattle.launch_batch.specs.Code.Halves.{HasServed}
 
--- The structures had the contents of the book, and each has served its own of the calls, which were given in whatever
--- order.
-pub record HaveServed (structures : Structures) (book : List (List Entry)) (ordered : List Call) (replies : Remaining) (calls : List Call) : Type 0 where
+-- The structures had the contents of the book, and each has served its own of the calls, which were given in
+-- whatever order.
+pub record HaveServed (structures : Structures) (book : List (List Entry)) (ordered : List Call)
+    (replies : Remaining) (calls : List Call) : Type 0 where
   pub may : MayServe book calls
   pub same : AreSame calls ordered
   pub order : AreInBatchOrder ordered
@@ -25,6 +26,7 @@ pub record HaveServed (structures : Structures) (book : List (List Entry)) (orde
   pub bag : List ℕ
   pub kept : IsKept number view keys bag book
   pub counter : HasServed of_counter structures.counter number (calls_of Counter ordered) replies.counter
-  pub stack : HasServed (λ stack. of_stack stack.items) structures.stack view (calls_of Stack ordered) replies.stack
+  pub stack : HasServed (λ stack. of_stack stack.items) structures.stack view (calls_of Stack ordered)
+      replies.stack
   pub tree : HasServed of_set structures.tree keys (calls_of Tree ordered) replies.tree
   pub queue : HasServed of_bag structures.queue bag (calls_of Queue ordered) replies.queue

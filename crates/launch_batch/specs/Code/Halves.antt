@@ -1,7 +1,9 @@
--- The forms of a structure.
+-- The forms of a structure, and what it can serve and has served.
 use Rattle.std.specs.Prelude.{◌≡◌, Bool, true, false, List}
 use Rattle.seq_objects.specs.declared.call.Call.{Call}
+use Rattle.seq_objects.specs.declared.reply.Reply.{Reply}
 use Rattle.seq_objects.specs.Objects.{Objects}
+use Rattle.seq_objects.specs.Serial.{after_all, replies_to_all}
 use Rattle.launch_batch.specs.declared.half.Half.{Half}
 use Rattle.launch_batch.specs.declared.half.Half.TheVariants.{Whole, Open, Moved}
 
@@ -16,7 +18,16 @@ is_open (Open rest) = true
 is_open Moved = false
 
 -- the structure stands whole, and may serve these calls
-pub record CanServe {T R : Type 0} (content : T → Objects) (may_serve : Objects → List Call → Type 0) (half : Half T R) (calls : List Call) : Type 0 where
+pub record CanServe {T R : Type 0} (content : T → Objects) (may_serve : Objects → List Call → Type 0)
+    (half : Half T R) (calls : List Call) : Type 0 where
   pub before : T
   pub whole : half ≡ Whole before
   pub may : may_serve (content before) calls
+
+-- the structure stands whole, as it is once these calls were served one after another, with these replies
+pub record HasServed {T R : Type 0} (content : T → Objects) (half : Half T R) (before : T)
+    (calls : List Call) (replies : List Reply) : Type 0 where
+  pub now : T
+  pub whole : half ≡ Whole now
+  pub after : content now ≡ after_all (content before) calls
+  pub told : replies ≡ replies_to_all (content before) calls

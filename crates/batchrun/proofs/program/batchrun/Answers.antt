@@ -1,5 +1,5 @@
 use Rattle.std.proofs.Common.{◌≡◌, Some, rules}
-use Rattle.batchrun.specs.Words.{Command, command_of, spelled}
+use Rattle.batchrun.specs.Words.{command_of, spelled}
 use Rattle.batchrun.specs.Code.Commands.{step_in, run_in}
 use Rattle.batchrun.proofs.OutcomeLemmas.Asked.{completes_asked, assured_asked, no_usage}
 use Rattle.batchrun.proofs.program.batchrun.Goals as goal

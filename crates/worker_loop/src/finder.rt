@@ -1,7 +1,7 @@
 //! How a worker that has no event looks for work.
 ghost use Rattle.std.specs.Prelude.{◌≡◌, ◌≢◌, ◌<◌, ◌≤◌};
 ghost use Rattle.two_deques.specs.Hands.{held, workers_of, IsHandOf};
-ghost use Rattle.worker_loop.specs.Finders.{IsFinderOf};
+ghost use Rattle.worker_loop.specs.Code.Finders.{IsFinderOf};
 
 use crossbeam_utils::Backoff;
 use std::sync::Wait;
@@ -9,8 +9,8 @@ use two_deques::{Decks, Hand};
 
 /// A worker's hand, whom it stole from last, and how long it pauses. At the start it names itself.
 #[derive(Drop)]
-pub struct Finder {
-    pub hand: Hand,
+pub(crate) struct Finder {
+    pub(crate) hand: Hand,
     victim: u32,
     workers: u32,
     backoff: Backoff,
@@ -27,7 +27,7 @@ fn after(worker: u32, workers: u32) -> u32
 
 impl Finder {
     /// The finder of a hand, among so many workers.
-    pub fn new(hand: Hand, workers: u32) -> Finder
+    pub(crate) fn new(hand: Hand, workers: u32) -> Finder
         ensures { (result.hand ≡ hand) × (result.victim ≡ (held hand).worker)
             × (result.workers ≡ workers) }
     {
@@ -72,7 +72,7 @@ impl Finder {
 
     /// Looks for a node once, and pauses where there is none. A node is a sign that there is work, and no
     /// more: which node is claimed is settled by the core's own lists.
-    pub fn find<R: Wait>(&mut self, rt: &R, decks: &Decks)
+    pub(crate) fn find<R: Wait>(&mut self, rt: &R, decks: &Decks)
         requires finder { IsFinderOf decks.now self.old }
         ensures finder { IsFinderOf decks.now self.new }
     {
@@ -84,7 +84,7 @@ impl Finder {
     }
 
     /// The worker had an event: its next pause is a short one.
-    pub fn had_event(&self) {
+    pub(crate) fn had_event(&self) {
         self.backoff.reset();
     }
 }

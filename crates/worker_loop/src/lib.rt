@@ -8,11 +8,11 @@
 //! vain, and how long a run takes, is not claimed. The crate stands on `batcher_core` and `two_deques`.
 #![tactic(auto)]
 
-pub mod finder;
+mod finder;
 pub mod locked;
 pub mod look;
 pub mod running;
 mod sending;
-pub mod worker;
+mod worker;
 
 pub use locked::run_locked;

@@ -1,7 +1,7 @@
 //! The turns of one worker.
 ghost use Rattle.std.specs.Prelude.{◌≡◌, ◌≤◌};
 ghost use Rattle.two_deques.specs.Hands.{held, workers_of, IsHandOf};
-ghost use Rattle.worker_loop.specs.Finders.{IsFinderOf};
+ghost use Rattle.worker_loop.specs.Code.Finders.{IsFinderOf};
 ghost use Rattle.worker_loop.specs.Points.{point_by};
 
 use crate::finder::Finder;
@@ -14,11 +14,11 @@ use two_deques::{Decks, Hand};
 
 /// What all workers of a run share.
 #[derive(Drop)]
-pub struct Shared<'a, S: Locked, G> {
-    pub run: Mutex<S>,
-    pub decks: Decks,
-    pub workers: u32,
-    pub pause: &'a G,
+pub(crate) struct Shared<'a, S: Locked, G> {
+    pub(crate) run: Mutex<S>,
+    pub(crate) decks: Decks,
+    pub(crate) workers: u32,
+    pub(crate) pause: &'a G,
     ghost sizes: { (workers ≡ S.workers) × (workers ≡ workers_of decks) × (workers ≤ 32) },
 }
 
@@ -123,7 +123,7 @@ impl Worker {
 
 /// Takes the turns of one worker, until the run is over or memory runs out. The lock is held for one turn
 /// at a time.
-pub fn work<S: Locked, R: Wait, G: Pause>(rt: &R, shared: &Shared<S, G>, hand: Hand)
+pub(crate) fn work<S: Locked, R: Wait, G: Pause>(rt: &R, shared: &Shared<S, G>, hand: Hand)
     requires { IsHandOf shared.now.decks hand }
 {
     let mut worker = Worker::new(hand, shared.workers);

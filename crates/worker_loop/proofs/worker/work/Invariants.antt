@@ -1,4 +1,4 @@
-use Rattle.worker_loop.specs.Finders.{IsFinderOf}
+use Rattle.worker_loop.specs.Code.Finders.{IsFinderOf}
 use Rattle.worker_loop.proofs.worker.work.Given as goal
 
 abbrev pub invariant-loop : goal.invariant-loop

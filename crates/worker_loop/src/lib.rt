@@ -1,7 +1,7 @@
 //! The workers of a run, in threads.
 //!
-//! All threads share the scheduler's core under one lock (`running`). Each worker takes turns on it
-//! (`worker`): it holds the lock for one turn at a time (`look`), and does outside it the work of its
+//! All threads share the scheduler's core under one lock (`running`). Once the others are there (`start`)
+//! each worker takes turns on it (`worker`): it holds the lock for one turn at a time (`look`), and does outside it the work of its
 //! leaves, its pushes and its pauses. Where it has no event it looks for a sign of work in the deques
 //! (`finder`). `locked` makes the workers of a job, runs them, and joins them all. Its promise is that
 //! the report is lawful, however the turns fall. That more than one thread worked, that none waits in
@@ -13,6 +13,7 @@ pub mod locked;
 pub mod look;
 pub mod running;
 mod sending;
+mod start;
 mod worker;
 
 pub use locked::run_locked;

@@ -12,6 +12,7 @@ use bt_io::Pause;
 use sp_order::{Job, Plan};
 use std::alloc::{AllocError, Global};
 use std::marker::Brand;
+use std::sync::atomic::AtomicU64;
 use std::sync::{Mutex, Wait};
 use std::thread;
 use std::thread::Threads;
@@ -36,6 +37,7 @@ fn run_in_threads<S: Locked + Send, R: Threads + Wait + Sync, G: Pause + Sync>(
     let shared = Shared {
         run: Mutex::new(run),
         decks,
+        came: AtomicU64::new(0),
         workers,
         pause,
     };
@@ -50,6 +52,7 @@ fn run_in_threads<S: Locked + Send, R: Threads + Wait + Sync, G: Pause + Sync>(
     let Shared {
         run,
         decks: _,
+        came: _,
         workers: _,
         pause: _,
     } = shared;

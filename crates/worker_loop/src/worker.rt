@@ -7,9 +7,12 @@ ghost use Rattle.worker_loop.specs.Points.{point_by};
 use crate::finder::Finder;
 use crate::look::Look;
 use crate::running::Locked;
+use crate::start::wait_for_others;
 use batcher_core::{Doing, Spun};
 use bt_io::{Pause, Point};
+use std::sync::atomic::AtomicU64;
 use std::sync::{Mutex, Wait};
+use std::thread;
 use two_deques::{Decks, Hand};
 
 /// What all workers of a run share.
@@ -17,6 +20,8 @@ use two_deques::{Decks, Hand};
 pub(crate) struct Shared<'a, S: Locked, G> {
     pub(crate) run: Mutex<S>,
     pub(crate) decks: Decks,
+    /// How many workers have come.
+    pub(crate) came: AtomicU64,
     pub(crate) workers: u32,
     pub(crate) pause: &'a G,
     ghost sizes: { (workers ≡ S.workers) × (workers ≡ workers_of decks) × (workers ≤ 32) },
@@ -70,12 +75,14 @@ impl Worker {
         }
     }
 
-    /// Tells the others of a node that became ready. A push that is refused fails the run.
+    /// Tells the others of a node that became ready, and lets them to the lock. A push that is refused fails
+    /// the run.
     fn tell<S: Locked, R: Wait, G>(&mut self, rt: &R, shared: &Shared<S, G>, node: u32) -> bool
         requires finder { IsFinderOf shared.now.decks self.old.finder }
         ensures finder { IsFinderOf shared.now.decks self.new.finder }
     {
         if shared.decks.push_core(&mut self.finder.hand, node).is_ok() {
+            thread::yield_now();
             return true;
         }
         shared.run.lock(rt).fail();
@@ -121,11 +128,12 @@ impl Worker {
     }
 }
 
-/// Takes the turns of one worker, until the run is over or memory runs out. The lock is held for one turn
-/// at a time.
+/// Takes the turns of one worker, until the run is over or memory runs out, once the others are there. The
+/// lock is held for one turn at a time.
 pub(crate) fn work<S: Locked, R: Wait, G: Pause>(rt: &R, shared: &Shared<S, G>, hand: Hand)
     requires { IsHandOf shared.now.decks hand }
 {
+    wait_for_others(&shared.came, shared.workers);
     let mut worker = Worker::new(hand, shared.workers);
     for _ in rt.forever() {
         let number = worker.finder.hand.worker();

@@ -1,9 +1,7 @@
 //! Runs of the scheduler's core in threads, under one lock.
-ghost use Rattle.std.specs.Prelude.{◌≡◌};
 
-use batch_history::{Report, text};
-use batcher_core::{Core, drive};
-use bt_io::{NoPause, Pause, Point};
+use batch_history::Report;
+use bt_io::{Pause, Point};
 use seq_objects::{Act, Op};
 use sp_order::{Job, Shape};
 use std::alloc::{AllocError, Global};
@@ -76,25 +74,5 @@ fn two_workers_start_leaves_at_one_time(rt: HostRuntime) -> Result<(), Fail> {
     assert_eq!(rt; meeting.came.load(Ordering::SeqCst), 3);
     assert_eq!(rt; meeting.missed.load(Ordering::SeqCst), 0);
     assert_eq!(rt; both_worked(&report), true);
-    Ok(())
-}
-
-/// The text of a report that has a row for each leaf, and else nothing.
-fn text_of(alloc: Global, job: &Job, report: &Report) -> Result<Vec<u8>, AllocError> {
-    if report.rows.list().len() != job.acts().len() {
-        return Ok(Vec::new(alloc));
-    }
-    text(alloc, job, report)
-}
-
-#[test]
-fn one_worker_reports_as_turns_do(rt: HostRuntime) -> Result<(), Fail> {
-    let job = four_adds(rt.alloc())?;
-    let alone = run_locked(&rt, rt.alloc(), &job, 1, &NoPause)?;
-    let core = Core::start(rt.alloc(), &job, 1)?;
-    let by_turns = drive(rt.alloc(), core, &[])?;
-    let wanted = text_of(rt.alloc(), &job, &by_turns)?;
-    assert_eq!(rt; wanted.is_empty(), false);
-    assert_eq!(rt; text_of(rt.alloc(), &job, &alone)?, wanted);
     Ok(())
 }

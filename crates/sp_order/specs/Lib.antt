@@ -1,4 +1,5 @@
--- Shapes, jobs, plans and the precedence of leaves, with what they take from seq_objects. `Code` is what only the code cites.
+-- Shapes, jobs, plans, the precedence of leaves and what jobs come to, with what they take from seq_objects. `Code` is what
+-- only the code cites.
 pub use Rattle.seq_objects.specs.Objects
 pub mod Precedence
 pub mod Jobs
@@ -7,4 +8,6 @@ pub mod Depth
 pub mod Plans
 pub mod PlanOf
 pub mod Preorder
+pub mod Totals
+pub mod Phases
 pub mod Code

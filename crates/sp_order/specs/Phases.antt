@@ -1,0 +1,23 @@
+-- Jobs that fill each structure before they ask it.
+use Rattle.std.specs.Prelude.{◌≡◌, ℕ, ◌≤◌, Some, slice_get}
+use Rattle.seq_objects.specs.declared.op.Op.{Op}
+use Rattle.seq_objects.specs.declared.act.Act.TheVariants.{Call}
+use Rattle.sp_order.specs.Precedence.{IsBefore}
+use Rattle.sp_order.specs.Jobs.{JobValue}
+use Rattle.sp_order.specs.Totals.{pushes, pops, tree_inserts, tree_removes, tree_finds, queue_inserts, queue_takes, total}
+
+-- each leaf that calls what the first count counts is before each leaf that calls what the second counts
+abbrev pub ComesBefore : JobValue → (Op → ℕ) → (Op → ℕ) → Type 0
+ComesBefore job early late =
+    (u v : ℕ) (first second : Op) → slice_get job.acts u ≡ Some (Call first) → slice_get job.acts v ≡ Some (Call second)
+    → 1 ≤ early first → 1 ≤ late second → IsBefore job.shape u v
+
+-- Pushes come before pops, inserts of the queue before takes, and inserts of the tree before finds. At least as many items are
+-- popped and taken as are pushed and inserted, and no key is removed from the tree.
+pub record FillsFirst (job : JobValue) : Type 0 where
+  pub stack : ComesBefore job pushes pops
+  pub queue : ComesBefore job queue_inserts queue_takes
+  pub tree : ComesBefore job tree_inserts tree_finds
+  pub empties_stack : total pushes job.acts ≤ total pops job.acts
+  pub empties_queue : total queue_inserts job.acts ≤ total queue_takes job.acts
+  pub keeps_keys : total tree_removes job.acts ≡ 0

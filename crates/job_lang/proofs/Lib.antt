@@ -1,4 +1,5 @@
 pub mod ExpandLemmas
+pub mod GeneratorLemmas
 pub mod LexerLemmas
 pub mod LimitLemmas
 pub mod ParserLemmas

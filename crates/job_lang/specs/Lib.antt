@@ -10,5 +10,6 @@ pub mod Limits
 pub mod Language
 pub mod Canonical
 pub mod Lines
+pub mod Generator
 pub mod ActNumbers
 pub mod Code

@@ -9,7 +9,7 @@ ghost use Rattle.job_lang.specs.Code.Orders.{join_by, join_in};
 ghost use Rattle.job_lang.specs.Code.Ranges.{FitsArgument, FitsLeaf, Fits};
 ghost use Rattle.job_lang.specs.Code.Views.{argument_word, unary_op_of, leaf_of, block_kind_of, item_of, items_of};
 
-mod join;
+pub(crate) mod join;
 mod prune;
 
 use crate::expand::join::{Order, join};

@@ -1,10 +1,14 @@
 //! The laws of the job language, each as the contract of a function that does nothing.
-ghost use Rattle.std.specs.Prelude.{◌≡◌, ◌⊎◌, ℕ, List, [], ◌∷◌, Some};
+ghost use Rattle.std.specs.Prelude.{◌≡◌, ◌≤◌, ◌+◌, ◌*◌, ◌⊎◌, ℕ, List, [], ◌∷◌, length, Some};
 ghost use Rattle.seq_objects.specs.Words.{op_words};
 ghost use Rattle.seq_objects.specs.declared.act.Act.TheVariants.{Call};
 ghost use Rattle.seq_objects.specs.declared.op.Op.{Op};
-ghost use Rattle.sp_order.specs.Precedence.{leaf};
+ghost use Rattle.sp_order.specs.Depth.{depth_of};
+ghost use Rattle.sp_order.specs.Precedence.{leaf, leaf_count};
 ghost use Rattle.sp_order.specs.Jobs.{JobValue};
+ghost use Rattle.sp_order.specs.Phases.{FillsFirst};
+ghost use Rattle.job_lang.specs.Canonical.{canonical_text};
+ghost use Rattle.job_lang.specs.Generator.{generated};
 ghost use Rattle.job_lang.specs.ActNumbers.{op_number, IsSmall};
 ghost use Rattle.job_lang.specs.Language.{IsJobOf, Accepts, IsFaultOf};
 ghost use Rattle.job_lang.specs.declared.fault.JobFault.{JobFault};
@@ -25,4 +29,24 @@ pub fn texts_have_one_job_or_fault()
 pub fn reported_words_are_a_job()
     ensures { (op : Op) → IsSmall (op_number op)
         → IsJobOf (op_words op) (record { shape = Some leaf; acts = Call op ∷ [] }) }
+{}
+
+/// A generated job has an act for each of its leaves, of which there are from `size + 2` to `2 * size + 2`.
+pub fn generated_jobs_have_few_leaves()
+    ensures acts { (seed size : ℕ) → leaf_count (generated seed size).shape ≡ length (generated seed size).acts }
+    ensures least { (seed size : ℕ) → size + 2 ≤ leaf_count (generated seed size).shape }
+    ensures most { (seed size : ℕ) → leaf_count (generated seed size).shape ≤ 2 * size + 2 }
+{}
+
+/// The canonical text of a generated job is a text of this job. The writer writes it, and the reader reads it.
+pub fn generated_jobs_have_texts()
+    ensures depth { (seed size : ℕ) → size ≤ 5000 → depth_of (generated seed size).shape ≤ 15 }
+    ensures short { (seed size : ℕ) → size ≤ 5000 → length (canonical_text (generated seed size)) ≤ 1048576 }
+    ensures text { (seed size : ℕ) → size ≤ 5000
+        → IsJobOf (canonical_text (generated seed size)) (generated seed size) }
+{}
+
+/// A generated job fills each structure before it asks it.
+pub fn generated_jobs_fill_first()
+    ensures { (seed size : ℕ) → 1 ≤ size → FillsFirst (generated seed size) }
 {}

@@ -15,7 +15,7 @@ module _ (kind : Tree → Tree → Tree) (adds : (a b : Tree) → leaves (kind a
   both_leaves (Some a) None some some' = cc
   both_leaves (Some a) (Some b) some some' = (refl, adds a b)
 
-  join_within_leaves : (n : ℕ) (xs : List Tree) → length xs ≤ n → (0 < length xs → IsSome (join_within kind n xs)) × (leaf_count (join_within kind n xs) ≡ sum_by leaves xs)
+  pub join_within_leaves : (n : ℕ) (xs : List Tree) → length xs ≤ n → (0 < length xs → IsSome (join_within kind n xs)) × (leaf_count (join_within kind n xs) ≡ sum_by leaves xs)
   join_within_leaves zero [] few = (λ some. absurd (omega arith), refl)
   join_within_leaves zero (x ∷ xs) few = absurd (omega (arith, few))
   join_within_leaves (suc n) [] few = (λ some. absurd (omega arith), refl)
@@ -28,17 +28,17 @@ module _ (kind : Tree → Tree → Tree) (adds : (a b : Tree) → leaves (kind a
       let whole = both_leaves (join_within kind n (take at xs)) (join_within kind n (drop at xs)) (front.0 (simp length-take (omega arith))) (back.0 (simp length-drop (omega arith))) in
       (λ some. whole.0, whole.1 ∙ ap (λ m. m + leaf_count (join_within kind n (drop at xs))) front.1 ∙ ap (λ m. sum_by leaves (take at xs) + m) back.1 ∙ sum_by-take-drop leaves xs at)
 
-  join_of_leaves : (xs : List Tree) → leaf_count (join_of kind xs) ≡ sum_by leaves xs
+  pub join_of_leaves : (xs : List Tree) → leaf_count (join_of kind xs) ≡ sum_by leaves xs
   join_of_leaves xs = (join_within_leaves (length xs) xs (omega arith)).1
 
 option_leaves : (shape : Option Tree) → sum_by leaves (option_to_list shape) ≡ leaf_count shape
 option_leaves None = refl
 option_leaves (Some shape) = omega arith
 
-series_leaves : (xs : List Tree) → sum_by leaves (join_list seq xs) ≡ sum_by leaves xs
+pub series_leaves : (xs : List Tree) → sum_by leaves (join_list seq xs) ≡ sum_by leaves xs
 series_leaves xs = option_leaves (join_of seq xs) ∙ join_of_leaves seq (λ a b. refl) xs
 
-parallel_leaves : (xs : List Tree) → sum_by leaves (join_list par xs) ≡ sum_by leaves xs
+pub parallel_leaves : (xs : List Tree) → sum_by leaves (join_list par xs) ≡ sum_by leaves xs
 parallel_leaves xs = option_leaves (join_of par xs) ∙ join_of_leaves par (λ a b. refl) xs
 
 each_leaves : (n : ℕ) (f : ℕ → List Tree) (g : ℕ → List Act) → ((k : ℕ) → sum_by leaves (f k) ≡ length (g k)) → sum_by leaves (each_copy n f) ≡ length (each_copy n g)

@@ -1,0 +1,6 @@
+pub mod Assembly
+pub mod Counts
+pub mod Draws
+pub mod Filling
+pub mod Phases
+pub mod Texts

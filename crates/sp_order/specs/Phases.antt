@@ -12,8 +12,8 @@ ComesBefore job early late =
     (u v : ℕ) (first second : Op) → slice_get job.acts u ≡ Some (Call first) → slice_get job.acts v ≡ Some (Call second)
     → 1 ≤ early first → 1 ≤ late second → IsBefore job.shape u v
 
--- Pushes come before pops, inserts of the queue before takes, and inserts of the tree before finds. At least as many items are
--- popped and taken as are pushed and inserted, and no key is removed from the tree.
+-- Pushes come before pops, inserts of the queue before takes, and inserts of the tree before finds. There are no fewer
+-- pops than pushes, no fewer takes than inserts of the queue, and no removals from the tree.
 pub record FillsFirst (job : JobValue) : Type 0 where
   pub stack : ComesBefore job pushes pops
   pub queue : ComesBefore job queue_inserts queue_takes

@@ -1,5 +1,5 @@
--- What the operations of a job come to: how many there are of a kind, the sums of the numbers that they carry, and the keys
--- that they insert.
+-- What the operations of a job come to: how many there are of a kind, the sums of the numbers that they carry, and the
+-- keys that they insert.
 use Rattle.std.specs.Prelude.{ℕ, ◌+◌, List, [], ◌∷◌}
 use Rattle.seq_objects.specs.declared.op.Op.{Op}
 use Rattle.seq_objects.specs.declared.op.Op.TheVariants.{CounterAdd, Push, Pop, TreeInsert, TreeRemove, TreeFind, PqInsert, PqTake}

@@ -1,0 +1,72 @@
+//! Generated jobs: their canonical texts, worked out by hand from the rules, and the numbers of a job of the most calls.
+use job_lang::{generate, read_job, write_job};
+use std::alloc::{AllocError, Global};
+use std::test::Fail;
+
+/// Seeds and sizes, with the canonical texts of the jobs that they give.
+const JOBS: [(u64, u32, &str); 5] = [
+    (
+        0,
+        2,
+        "seq { seq { par { tree insert 24287 stack push 15236 } tree find 24288 } \
+seq { seq { stack pop stack pop } queue take } }\n",
+    ),
+    (
+        0,
+        3,
+        "seq { seq { par { par { tree insert 24287 stack push 15236 } tree insert 40456 } \
+par { tree find 24288 tree find 40457 } } seq { seq { stack pop stack pop } queue take } }\n",
+    ),
+    (
+        1,
+        1,
+        "seq { seq { counter add 56299 stack pop } queue take }\n",
+    ),
+    (
+        7,
+        3,
+        "seq { seq { par { par { counter add 51759 queue insert 34463 } tree insert 22168 } \
+tree find 22169 } seq { stack pop seq { queue take queue take } } }\n",
+    ),
+    (
+        18_446_744_073_709_551_615,
+        1,
+        "seq { seq { stack push 57812 seq { stack pop stack pop } } queue take }\n",
+    ),
+];
+
+/// The canonical text of a generated job.
+fn text(alloc: Global, seed: u64, size: u32) -> Result<Vec<u8>, AllocError> {
+    if size < 1 || size > 5000 {
+        return Ok(Vec::new(alloc));
+    }
+    let job = generate(alloc, seed, size)?;
+    if job.depth() > 15 {
+        return Ok(Vec::new(alloc));
+    }
+    write_job(alloc, &job)
+}
+
+#[test]
+fn seeds_give_these_jobs(rt: HostRuntime) -> Result<(), Fail> {
+    for (seed, size, expected) in JOBS {
+        assert_eq!(rt;
+            text(rt.alloc(), seed, size)?.as_slice(),
+            expected.as_bytes(),
+            "{seed} {size}"
+        );
+    }
+    Ok(())
+}
+
+#[test]
+fn the_largest_job_is_read_back(rt: HostRuntime) -> Result<(), Fail> {
+    let alloc = rt.alloc();
+    let text = text(alloc, 18_446_744_073_709_551_615, 5000)?;
+    assert_eq!(rt; text.len(), 205_000);
+    let Ok(job) = read_job(alloc, &text) else {
+        panic!(rt; "the text is no job");
+    };
+    assert_eq!(rt; job.acts().len(), 8732);
+    Ok(())
+}

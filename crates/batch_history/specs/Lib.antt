@@ -1,4 +1,5 @@
--- Books, the reports that are lawful and their text, with what they take from seq_objects and sp_order.
+-- Books, the reports that are lawful, their text and their summary, with what they take from seq_objects and sp_order. `Code`
+-- is what only the code cites.
 pub use Rattle.seq_objects.specs.Objects
 pub use Rattle.seq_objects.specs.BatchOrder
 pub use Rattle.seq_objects.specs.Spin
@@ -6,7 +7,12 @@ pub use Rattle.seq_objects.specs.Words
 pub use Rattle.seq_objects.specs.Pairs
 pub use Rattle.sp_order.specs.Precedence
 pub use Rattle.sp_order.specs.Jobs
+pub use Rattle.sp_order.specs.Totals
+pub use Rattle.sp_order.specs.Phases
 pub mod Book
 pub mod Serving
 pub mod Lawful
 pub mod Text
+pub mod Tally
+pub mod Summary
+pub mod Code

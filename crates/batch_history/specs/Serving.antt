@@ -1,6 +1,8 @@
 -- Calls and their entries, and the shared objects after they were served.
 use Rattle.std.specs.Prelude.{List, [], ◌∷◌, map}
 use Rattle.seq_objects.specs.Objects.{Objects, opening, after}
+use Rattle.seq_objects.specs.declared.act.Act.{Act}
+use Rattle.seq_objects.specs.declared.act.Act.TheVariants as act
 use Rattle.seq_objects.specs.declared.call.Call.{Call}
 use Rattle.seq_objects.specs.declared.reply.Reply.{Reply}
 use Rattle.batch_history.specs.declared.batch.Entry.{Entry}
@@ -22,6 +24,10 @@ call_in entry = record { worker = entry.worker; leaf = entry.leaf; op = entry.op
 -- the calls of entries
 abbrev pub calls_in : List Entry → List Call
 calls_in entries = map call_in entries
+
+-- the acts of the leaves that made the calls
+abbrev pub acts_in : List Entry → List Act
+acts_in entries = map (λ entry. act.Call entry.op) entries
 
 -- the replies of entries
 abbrev pub replies_in : List Entry → List Reply

@@ -2,8 +2,8 @@
 //!
 //! The headline of the whole project is defined here: when a report is lawful for a job and a number of
 //! workers. A `History` keeps, at every moment, that its batches are what the serial objects would have
-//! given. The report's text is made here too. The crate stands on `sp_order` and `seq_objects`, and on `itoa`
-//! for the numbers of that text.
+//! given. The report's text is made here too, and its summary. The crate stands on `sp_order` and `seq_objects`, and
+//! on `itoa` for the numbers of the texts.
 #![tactic(auto)]
 
 pub mod batch;
@@ -11,9 +11,14 @@ pub mod history;
 pub mod report;
 pub mod report_text;
 pub mod row;
+pub mod summary;
+pub mod tally;
+mod words;
 
 pub use batch::{Batch, Entry};
 pub use history::History;
 pub use report::Report;
 pub use report_text::text;
 pub use row::{Row, Rows};
+pub use summary::made_text;
+pub use tally::Tally;

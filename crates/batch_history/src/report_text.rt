@@ -5,12 +5,10 @@ ghost use Rattle.sp_order.specs.Precedence.{leaf_count};
 ghost use Rattle.batch_history.specs.Book.{flat};
 ghost use Rattle.batch_history.specs.Text.{batch_lines, book_lines, row_line, report_text, head_line, entry_line};
 
-mod words;
-
 use crate::batch::{Batch, Entry};
 use crate::report::Report;
-use crate::report_text::words::{push_number, push_op, push_reply};
 use crate::row::Row;
+use crate::words::{push_number, push_op, push_reply};
 use sp_order::Job;
 use std::alloc::{AllocError, Global};
 

@@ -1,2 +1,9 @@
 pub mod Adding
 pub mod Bounds
+pub mod Items
+pub mod Emptied
+pub mod Keys
+pub mod Finds
+pub mod Leaves
+pub mod Pairs
+pub mod Jobs

@@ -15,4 +15,5 @@ pub mod Lawful
 pub mod Text
 pub mod Tally
 pub mod Summary
+pub mod Filling
 pub mod Code

@@ -2,12 +2,14 @@
 //!
 //! The headline of the whole project is defined here: when a report is lawful for a job and a number of
 //! workers. A `History` keeps, at every moment, that its batches are what the serial objects would have
-//! given. The report's text is made here too, and its summary. The crate stands on `sp_order` and `seq_objects`, and
-//! on `itoa` for the numbers of the texts.
+//! given. The report's text is made here too, and its summary: `laws` says which jobs have one summary for all
+//! runs. The crate stands on `sp_order` and `seq_objects`, on `itoa` for the numbers of the texts, and on `key_sets`
+//! for the laws of the set.
 #![tactic(auto)]
 
 pub mod batch;
 pub mod history;
+pub mod laws;
 pub mod report;
 pub mod report_text;
 pub mod row;

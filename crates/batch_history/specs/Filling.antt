@@ -1,0 +1,15 @@
+-- Books in which a structure is filled before it is asked, and what its finds tell then.
+use Rattle.std.specs.Prelude.{◌≡◌, ℕ, ◌≤◌, List}
+use Rattle.seq_objects.specs.declared.op.Op.{Op}
+use Rattle.seq_objects.specs.declared.op.Op.TheVariants.{TreeFind}
+use Rattle.seq_objects.specs.Objects.{has, yes_or_no}
+use Rattle.seq_objects.specs.Pairs.{EachPair}
+use Rattle.batch_history.specs.declared.batch.Entry.{Entry}
+
+-- no entry that the second count counts stands before one that the first counts
+abbrev pub StandsBefore : (Op → ℕ) → (Op → ℕ) → List Entry → Type 0
+StandsBefore early late entries = EachPair (λ first second. 1 ≤ late first.op → 1 ≤ early second.op → ⊥) entries
+
+-- if the entry is a find, it replies whether the set has its key
+abbrev pub FindsIn : List ℕ → Entry → Type 0
+FindsIn set entry = (key : ℕ) → entry.op ≡ TreeFind key → entry.reply ≡ yes_or_no (has key set)

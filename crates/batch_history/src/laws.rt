@@ -1,0 +1,118 @@
+//! The laws of summaries, each as the contract of a function that does nothing: what the calls of a run come to, whatever
+//! its schedule. Those on `entries` hold of any legal list of them, those on a `report` of any lawful one.
+ghost use Rattle.std.specs.Prelude.{◌≡◌, ℕ, ◌-◌, ◌≤◌, ◌<◌, ◌^◌, ◌↔◌, true, List, [], length, Contains};
+ghost use Rattle.std.specs.List.{AllByRecursion};
+ghost use Rattle.seq_objects.specs.Objects.{opening, has, argument_of};
+ghost use Rattle.seq_objects.specs.Orders.{StrictlyAscends};
+ghost use Rattle.seq_objects.specs.declared.act.Act.{Act};
+ghost use Rattle.seq_objects.specs.declared.act.Act.TheVariants.{Call};
+ghost use Rattle.seq_objects.specs.declared.op.Op.{Op};
+ghost use Rattle.seq_objects.specs.declared.op.Op.TheVariants.{TreeInsert};
+ghost use Rattle.sp_order.specs.Jobs.{JobValue};
+ghost use Rattle.sp_order.specs.Totals.{added, pushes, pushed, pops, queue_inserts, queue_inserted, queue_takes, tree_inserts, tree_removes, tree_finds, finds_in, keys_inserted, count_of_act, total};
+ghost use Rattle.sp_order.specs.Phases.{ComesBefore, FillsFirst};
+ghost use Rattle.batch_history.specs.declared.batch.Entry.{Entry};
+ghost use Rattle.batch_history.specs.declared.report.Report.{Report};
+ghost use Rattle.batch_history.specs.Book.{flat, IsLegalFrom};
+ghost use Rattle.batch_history.specs.Serving.{served, served_book, acts_in};
+ghost use Rattle.batch_history.specs.Lawful.{Lawful};
+ghost use Rattle.batch_history.specs.Filling.{StandsBefore, FindsIn};
+ghost use Rattle.batch_history.specs.Tally.{last_sum, over_replies, popped, queue_taken, new_keys, keys_found, tally_of, tally_of_acts};
+ghost use Rattle.batch_history.specs.Summary.{CanBeSummed, summary_of_report, summary_of_job};
+
+/// By any count of operations the calls of a lawful report come to what the job's acts come to, and they insert the same
+/// keys. Where the leaves of some calls are before those of others in the job, the calls stand so in the report.
+pub fn calls_are_the_jobs()
+    ensures totals { (job : JobValue) (workers : ℕ) (report : Report) → Lawful job workers report
+        → (count : Op → ℕ) → total count (acts_in (flat report.history)) ≡ total count job.acts }
+    ensures keys { (job : JobValue) (workers : ℕ) (report : Report) → Lawful job workers report
+        → keys_inserted (acts_in (flat report.history)) ≡ keys_inserted job.acts }
+    ensures order { (job : JobValue) (workers : ℕ) (report : Report) → Lawful job workers report
+        → (early late : Op → ℕ) → ComesBefore job early late
+        → StandsBefore early late (flat report.history) }
+{}
+
+/// The last counter add replies the sum of all addends, in whatever order the adds come.
+pub fn last_add_replies_the_sum()
+    ensures entries { (entries : List Entry) → IsLegalFrom opening entries
+        → last_sum 0 entries ≡ total added (acts_in entries) }
+    ensures report { (job : JobValue) (workers : ℕ) (report : Report) → Lawful job workers report
+        → last_sum 0 (flat report.history) ≡ total added job.acts }
+{}
+
+/// A stack that is pushed on before it is popped has as many items left as it got more pushes than pops. Where none is
+/// left, what was popped sums to what was pushed.
+pub fn pops_after_pushes_empty_the_stack()
+    ensures left { (entries : List Entry) → StandsBefore pushes pops entries
+        → length (served opening entries).stack
+        ≡ total pushes (acts_in entries) - total pops (acts_in entries) }
+    ensures sum { (entries : List Entry) → IsLegalFrom opening entries
+        → StandsBefore pushes pops entries
+        → total pushes (acts_in entries) ≤ total pops (acts_in entries)
+        → over_replies popped entries ≡ total pushed (acts_in entries) }
+    ensures report { (job : JobValue) (workers : ℕ) (report : Report) → Lawful job workers report
+        → ComesBefore job pushes pops → total pushes job.acts ≤ total pops job.acts
+        → ((served_book report.history).stack ≡ [])
+        × (over_replies popped (flat report.history) ≡ total pushed job.acts) }
+{}
+
+/// A queue that is filled before it is taken from has as many items left as it got more inserts than takes. Where none
+/// is left, what was taken sums to what was inserted.
+pub fn takes_after_inserts_empty_the_queue()
+    ensures left { (entries : List Entry) → StandsBefore queue_inserts queue_takes entries
+        → length (served opening entries).bag
+        ≡ total queue_inserts (acts_in entries) - total queue_takes (acts_in entries) }
+    ensures sum { (entries : List Entry) → IsLegalFrom opening entries
+        → StandsBefore queue_inserts queue_takes entries
+        → total queue_inserts (acts_in entries) ≤ total queue_takes (acts_in entries)
+        → over_replies queue_taken entries ≡ total queue_inserted (acts_in entries) }
+    ensures report { (job : JobValue) (workers : ℕ) (report : Report) → Lawful job workers report
+        → ComesBefore job queue_inserts queue_takes
+        → total queue_inserts job.acts ≤ total queue_takes job.acts
+        → ((served_book report.history).bag ≡ [])
+        × (over_replies queue_taken (flat report.history) ≡ total queue_inserted job.acts) }
+{}
+
+/// The inserted keys are those of the inserts, each once. Where no key is removed from the tree, as many inserts reply
+/// yes as there are inserted keys. Where moreover all inserts come before all finds, a find replies yes if its key was
+/// inserted, and no if it was not.
+pub fn finds_after_inserts_tell_the_inserted_keys()
+    ensures inserted { (key : ℕ) (acts : List Act)
+        → (has key (keys_inserted acts) ≡ true) ↔ Contains acts (Call (TreeInsert key)) }
+    ensures once { (acts : List Act) → StrictlyAscends (keys_inserted acts) }
+    ensures keys { (entries : List Entry) → IsLegalFrom opening entries
+        → total tree_removes (acts_in entries) ≡ 0
+        → over_replies new_keys entries ≡ length (keys_inserted (acts_in entries)) }
+    ensures finds { (entries : List Entry) → IsLegalFrom opening entries
+        → total tree_removes (acts_in entries) ≡ 0 → StandsBefore tree_inserts tree_finds entries
+        → AllByRecursion (FindsIn (keys_inserted (acts_in entries))) entries }
+    ensures report { (job : JobValue) (workers : ℕ) (report : Report) → Lawful job workers report
+        → total tree_removes job.acts ≡ 0 → ComesBefore job tree_inserts tree_finds
+        → AllByRecursion (FindsIn (keys_inserted job.acts)) (flat report.history)
+        × (over_replies keys_found (flat report.history)
+        ≡ total (finds_in (keys_inserted job.acts)) job.acts) }
+{}
+
+/// All lawful reports of a job that fills each structure before it asks it have one tally: that of the job's acts.
+pub fn tally_is_the_jobs()
+    ensures { (job : JobValue) (workers : ℕ) (report : Report)
+        → FillsFirst job → Lawful job workers report
+        → tally_of (flat report.history) ≡ tally_of_acts job.acts }
+{}
+
+/// All lawful reports of a job that fills each structure before it asks it have one summary: that of the job. It can be
+/// made where the items that are pushed sum to less than 2^64, and so do those that are inserted into the queue; so it
+/// is where there are at most 20,000 acts with arguments below 2^32.
+pub fn summary_is_the_jobs()
+    ensures lines { (job : JobValue) (workers : ℕ) (report : Report) (seed size : ℕ)
+        → FillsFirst job → Lawful job workers report
+        → summary_of_report seed size report ≡ summary_of_job seed size workers job }
+    ensures sums { (job : JobValue) (workers : ℕ) (report : Report)
+        → FillsFirst job → Lawful job workers report
+        → total pushed job.acts < 2 ^ 64 → total queue_inserted job.acts < 2 ^ 64
+        → CanBeSummed job report }
+    ensures small { (job : JobValue) (workers : ℕ) (report : Report)
+        → FillsFirst job → Lawful job workers report → length job.acts ≤ 20000
+        → AllByRecursion (λ act. count_of_act argument_of act < 2 ^ 32) job.acts
+        → CanBeSummed job report }
+{}

@@ -1,3 +1,4 @@
+pub mod Arguments
 pub mod Assembly
 pub mod Counts
 pub mod Draws

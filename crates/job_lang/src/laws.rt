@@ -1,5 +1,7 @@
 //! The laws of the job language, each as the contract of a function that does nothing.
-ghost use Rattle.std.specs.Prelude.{◌≡◌, ◌≤◌, ◌+◌, ◌*◌, ◌⊎◌, ℕ, List, [], ◌∷◌, length, Some};
+ghost use Rattle.std.specs.Prelude.{◌≡◌, ◌≤◌, ◌<◌, ◌+◌, ◌*◌, ◌^◌, ◌⊎◌, ℕ, List, [], ◌∷◌, length, Some};
+ghost use Rattle.std.specs.List.{AllByRecursion};
+ghost use Rattle.seq_objects.specs.Objects.{argument_of};
 ghost use Rattle.seq_objects.specs.Words.{op_words};
 ghost use Rattle.seq_objects.specs.declared.act.Act.TheVariants.{Call};
 ghost use Rattle.seq_objects.specs.declared.op.Op.{Op};
@@ -7,6 +9,7 @@ ghost use Rattle.sp_order.specs.Depth.{depth_of};
 ghost use Rattle.sp_order.specs.Precedence.{leaf, leaf_count};
 ghost use Rattle.sp_order.specs.Jobs.{JobValue};
 ghost use Rattle.sp_order.specs.Phases.{FillsFirst};
+ghost use Rattle.sp_order.specs.Totals.{count_of_act};
 ghost use Rattle.job_lang.specs.Canonical.{canonical_text};
 ghost use Rattle.job_lang.specs.Generator.{generated};
 ghost use Rattle.job_lang.specs.ActNumbers.{op_number, IsSmall};
@@ -44,6 +47,12 @@ pub fn generated_jobs_have_texts()
     ensures short { (seed size : ℕ) → size ≤ 5000 → length (canonical_text (generated seed size)) ≤ 1048576 }
     ensures text { (seed size : ℕ) → size ≤ 5000
         → IsJobOf (canonical_text (generated seed size)) (generated seed size) }
+{}
+
+/// The arguments of a generated job fit 32 bits.
+pub fn generated_jobs_have_small_arguments()
+    ensures { (seed size : ℕ)
+        → AllByRecursion (λ act. count_of_act argument_of act < 2 ^ 32) (generated seed size).acts }
 {}
 
 /// A generated job fills each structure before it asks it.

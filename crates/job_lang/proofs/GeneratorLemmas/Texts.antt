@@ -116,7 +116,7 @@ small_copies : (n : ℕ) (op : Op) → IsSmall (op_number op) → AreSmall (call
 small_copies zero op h = tt
 small_copies (suc n) op h = (h, small_copies n op h)
 
-all_small : (ops : List Op) → AllByRecursion Grows ops → AreSmall (calls (all_ops ops))
+pub all_small : (ops : List Op) → AllByRecursion Grows ops → AreSmall (calls (all_ops ops))
 all_small ops grow =
     small_append ops (later_ops ops) (small_growing ops grow)
     (small_append (finds_for ops) (pops_for ops ++ takes_for ops) (small_finds ops grow)

@@ -10,6 +10,7 @@ pub use Rattle.sp_order.specs.Jobs
 pub use Rattle.sp_order.specs.Totals
 pub use Rattle.sp_order.specs.Phases
 pub mod Book
+pub mod Reserved
 pub mod Serving
 pub mod Lawful
 pub mod Text

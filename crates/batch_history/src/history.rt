@@ -9,7 +9,7 @@ use std::marker::Model;
 /// which is a history at every moment: `IsHistory` says what that means.
 #[derive(Drop)]
 pub struct History {
-    batches: Vec<Batch>,
+    pub(crate) batches: Vec<Batch>,
 }
 
 impl Model for History {

@@ -50,7 +50,8 @@ impl ReservedHistory {
     pub fn append(&mut self, batch: Batch)
         requires room { length self.old.batches < self.old.capacity }
         requires history { IsHistory (self.old.batches ++ batch ∷ []) }
-        ensures { self.new ≡ record { batches = self.old.batches ++ batch ∷ []; capacity = self.old.capacity } }
+        ensures { self.new
+            ≡ record { batches = self.old.batches ++ batch ∷ []; capacity = self.old.capacity } }
     {
         self.batches.push_reserved(batch);
     }

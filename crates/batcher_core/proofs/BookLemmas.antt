@@ -6,3 +6,7 @@ pub mod LeavesIn
 pub mod Room
 pub mod EntryCount
 pub mod EntryPlaces
+pub mod Standing
+pub mod OwnEntries
+pub mod Receipts
+pub mod UnservedCalls

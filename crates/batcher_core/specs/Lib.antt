@@ -23,6 +23,7 @@ pub mod Runs
 pub mod Ranges
 pub mod Measure
 pub mod Waits
+pub mod Entries
 pub mod Reports
 pub mod Places
 pub mod Abstraction

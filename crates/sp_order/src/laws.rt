@@ -1,5 +1,5 @@
 //! The laws of plans, each as the contract of a function that does nothing: what a scheduler rests on.
-ghost use Rattle.std.specs.Prelude.{◌≡◌, ℕ, ◌<◌, ◌↔◌, Some};
+ghost use Rattle.std.specs.Prelude.{◌≡◌, ◌≢◌, ℕ, ◌<◌, ◌↔◌, None, Some};
 ghost use Rattle.sp_order.specs.declared.node.Kind.TheVariants.{LeafNode};
 ghost use Rattle.sp_order.specs.Precedence.{Tree, leaves, IsBefore};
 ghost use Rattle.sp_order.specs.Plans.{Nodes, IsPlan, IsBySeries};
@@ -10,6 +10,12 @@ ghost use Rattle.sp_order.specs.Preorder.{nodes_of};
 /// the move of its place, and no node has a number past the others.
 pub fn plan_has_sides()
     ensures { (plan : Nodes) (tree : Tree) → IsPlanOf plan tree → IsPlan plan }
+{}
+
+/// In a plan that stands for a tree, node 0 is there: the root. So there is some node.
+pub fn plan_has_root()
+    ensures { (plan : Nodes) (tree : Tree) → IsPlanOf plan tree
+        → (plan.kind 0 ≢ None) × (0 < plan.count) }
 {}
 
 /// In a plan that stands for a tree, a leaf is before another one if and only if some series has the first

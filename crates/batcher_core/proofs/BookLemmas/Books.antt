@@ -55,11 +55,11 @@ pub skips : (m u : ℕ) (a : Place) (o : Option Place) → m ≢ u → (if m == 
 skips m u a o other = grind (arith, nat_tests)
 
 -- the first entry is what is found, if it is of the leaf
-picks_first : (m u : ℕ) (a p : Place) (o : Option Place) → m ≡ u → (if m == u then Some a else o) ≡ Some p → a ≡ p
+pub picks_first : (m u : ℕ) (a p : Place) (o : Option Place) → m ≡ u → (if m == u then Some a else o) ≡ Some p → a ≡ p
 picks_first m u a p o at e = grind (arith, nat_tests)
 
 -- else what is found is in the rest
-picks_later : (m u : ℕ) (a p : Place) (o : Option Place) → m ≢ u → (if m == u then Some a else o) ≡ Some p → o ≡ Some p
+pub picks_later : (m u : ℕ) (a p : Place) (o : Option Place) → m ≢ u → (if m == u then Some a else o) ≡ Some p → o ≡ Some p
 picks_later m u a p o other e = grind (arith, nat_tests)
 
 -- what is found is an entry of the leaf, of which holds what holds of each entry

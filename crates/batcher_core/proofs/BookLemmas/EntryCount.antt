@@ -1,12 +1,10 @@
--- The book has no more entries than the plan has leaves that call.
+-- Distinct leaves that call are no more than the plan has.
 use Rattle.std.proofs.Common.{ℕ, ◌≡◌, ◌≢◌, ◌<◌, ◌≤◌, Option, Some, None, List, [], ◌∷◌, length, map, arith, refl, sym}
 use Rattle.std.proofs.lemmas.List.{length-map}
 use Rattle.std.specs.List.{AllByRecursion}
-use Rattle.batcher_core.proofs.Words.{Op, LeafNode, IsPlan, Entry, CoreJob, State, put}
+use Rattle.batcher_core.proofs.Words.{Op, LeafNode, IsPlan, Entry, CoreJob, put}
 use Rattle.seq_objects.specs.Pairs.{AreDistinct}
-use Rattle.batch_history.specs.Book.{flat}
 use Rattle.batcher_core.specs.Operations.{op_in, IsCall}
-use Rattle.batcher_core.specs.Invariant.{Parts}
 use Rattle.batcher_core.specs.Measure.{total, one_if, one_if_call, call_count}
 use Rattle.batcher_core.proofs.CodeLemmas.Puts.{put_at, put_other}
 use Rattle.batcher_core.proofs.MeasureLemmas.Jobs.{total_change}
@@ -31,6 +29,12 @@ few_counted f bound (x ∷ xs) distinct h =
 one_counted : (o : Option Op) → o ≢ None → 1 ≤ one_if o
 one_counted None some = absurd (some refl)
 one_counted (Some op) some = omega arith
+
+-- the leaves of entries call
+pub each_calls : (job : CoreJob) (entries : List Entry) → AllByRecursion (λ (e : Entry). op_in (job.act e.leaf) ≡ Some e.op) entries
+    → AllByRecursion (IsCall job) (map (λ (e : Entry). e.leaf) entries)
+each_calls job [] h = tt
+each_calls job (e ∷ es) h = (λ none. let f = h.0 in cc, each_calls job es h.1)
 
 module _ (job : CoreJob) (laws : IsPlan job.plan) (there : (leaf : ℕ) → IsCall job leaf → (n : ℕ) × (job.plan.kind n ≡ Some (LeafNode leaf))) where
   -- a leaf that calls stands at its node
@@ -64,19 +68,9 @@ module _ (job : CoreJob) (laws : IsPlan job.plan) (there : (leaf : ℕ) → IsCa
   nodes_distinct (leaf ∷ leaves) calls distinct =
       (node_apart leaf leaves calls.0 calls.1 distinct.0, nodes_distinct leaves calls.1 distinct.1)
 
-  few_leaves : (leaves : List ℕ) → AllByRecursion (IsCall job) leaves → AreDistinct leaves → length leaves ≤ call_count job
+  -- so there are no more of them than leaves that call
+  pub few_leaves : (leaves : List ℕ) → AllByRecursion (IsCall job) leaves → AreDistinct leaves → length leaves ≤ call_count job
   few_leaves leaves calls distinct =
       let few = few_counted (λ n. one_if_call job (job.plan.kind n)) job.plan.count (map job.plan.node_of leaves)
       (nodes_distinct leaves calls distinct) (each_counted leaves calls) in
-      rw length-map at few
-
-  each_calls : (entries : List Entry) → AllByRecursion (λ (e : Entry). op_in (job.act e.leaf) ≡ Some e.op) entries
-      → AllByRecursion (IsCall job) (map (λ (e : Entry). e.leaf) entries)
-  each_calls [] h = tt
-  each_calls (e ∷ es) h = (λ none. let f = h.0 in cc, each_calls es h.1)
-
-  -- so there are no more entries
-  pub entries_few : (s : State) → Parts job s → length (flat s.book) ≤ call_count job
-  entries_few s parts =
-      let few = few_leaves (map (λ (e : Entry). e.leaf) (flat s.book)) (each_calls (flat s.book) parts.book.operations) parts.book.leaves in
       rw length-map at few

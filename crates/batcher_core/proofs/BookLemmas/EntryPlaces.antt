@@ -32,12 +32,12 @@ distinct_across [] ys y h there = tt
 distinct_across (x ∷ xs) ys y h there = (each_at (λ z. x ≢ z) ys y (each_front (λ z. x ≢ z) xs ys h.0).1 there, distinct_across xs ys y h.1 there)
 
 -- a leaf of which there is no entry has no place
-none_in : (k i : ℕ) (b : List Entry) (u : ℕ) → AllByRecursion (λ x. x ≢ u) (leaves_of b) → place_in k i b u ≡ None
+pub none_in : (k i : ℕ) (b : List Entry) (u : ℕ) → AllByRecursion (λ x. x ≢ u) (leaves_of b) → place_in k i b u ≡ None
 none_in k i [] u apart = refl
 none_in k i (x ∷ xs) u apart = skips x.leaf u (record { batch = k; place = i; entry = x }) (place_in k (i + 1) xs u) apart.0 ∙ none_in k (i + 1) xs u apart.1
 
 -- the place of an entry in a batch
-placed_in : (k i : ℕ) (b : List Entry) (e : Entry) → AreDistinct (leaves_of b) → Contains b e → IsPlaced (place_in k i b e.leaf) k e
+pub placed_in : (k i : ℕ) (b : List Entry) (e : Entry) → AreDistinct (leaves_of b) → Contains b e → IsPlaced (place_in k i b e.leaf) k e
 placed_in k i [] e distinct h = absurd (omega (arith, h.1))
 placed_in k i (x ∷ xs) e distinct (zero, low, is) = record {
   at = record { batch = k; place = i; entry = x };

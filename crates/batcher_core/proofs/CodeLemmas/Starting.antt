@@ -8,7 +8,7 @@ use Rattle.batcher_core.specs.State.{opening_state, opening_core}
 use Rattle.batcher_core.specs.Abstraction.{state_of, ready_of, core_state_of}
 use Rattle.batcher_core.specs.Code.Sizes.{HasShop, Sizes}
 use Rattle.batcher_core.specs.Code.Representation.{RepInvariant}
-use Rattle.batcher_core.proofs.InvariantLemmas.Reached.{has_root}
+use Rattle.sp_order.proofs.PlanLemmas.Laws.{has_root}
 use Rattle.batcher_core.proofs.BookLemmas.LeavesIn.{leaves_in}
 use Rattle.batcher_core.proofs.BookLemmas.CallsIn.{calls_in}
 use Rattle.batcher_core.specs.Invariant.{Invariant}

@@ -24,7 +24,7 @@ calls : (job : CoreJob) (book : List (List Entry)) (u : ℕ) (op : Op) → op_of
 calls job book u op e none = cc
 
 -- two taken calls of one leaf have one worker
-one_worker : (job : CoreJob) (s : State) (holder : ℕ → Option ℕ) → IsPlan job.plan → HoldersFit s.task holder
+pub one_worker : (job : CoreJob) (s : State) (holder : ℕ → Option ℕ) → IsPlan job.plan → HoldersFit s.task holder
     → (a b : Entry) → IsTakenCall job s a → IsTakenCall job s b → a.leaf ≡ b.leaf → a.worker ≡ b.worker
 one_worker job s holder laws holders a b p q same =
     let at_a : p.node ≡ job.plan.node_of a.leaf = laws.one_node p.node a.leaf p.started.0 in
@@ -82,12 +82,12 @@ no_entry None e = refl
 no_entry (Some p) e = cc
 
 -- a worker that is executing is not booked before its call is published
-not_booked : (x : Progress) (o : Option ℕ) (task : ℕ → Task) (status : ℕ → Status) (call : ℕ → CallState) (w n t : ℕ)
+pub not_booked : (x : Progress) (o : Option ℕ) (task : ℕ → Task) (status : ℕ → Status) (call : ℕ → CallState) (w n t : ℕ)
     → x ≡ Taken → o ≡ Some w → task w ≡ Started n t → status w ≡ Executing → call w ≡ Out → booked_by x o task status call false ≡ None
 not_booked x o task status call w n t taken held started executing out = grind arith
 
 -- a taken call is not in the book before it is published
-not_in_book : (job : CoreJob) (s : State) (hd : Hold) (e : Entry) (h : InductiveParts job s) → s.hold ≡ Some hd → hd.published ≡ false → IsTakenCall job s e → place_of s.book e.leaf ≡ None
+pub not_in_book : (job : CoreJob) (s : State) (hd : Hold) (e : Entry) (h : InductiveParts job s) → s.hold ≡ Some hd → hd.published ≡ false → IsTakenCall job s e → place_of s.book e.leaf ≡ None
 not_in_book job s hd e h there unpublished call =
     let rows : StatusFits job s.book (s.task e.worker) (s.status e.worker) (s.call e.worker) (is_taken_by (Some hd) e.worker) = rw there at (h.statuses e.worker) in
     let ex : s.status e.worker ≡ Executing = executing job s hd e.worker there unpublished (rw there at h.hold) rows (rw there at call.taken) in

@@ -1,6 +1,6 @@
 -- Each state that can be reached has the invariant.
 use Rattle.std.proofs.Common.{◌≢◌, ◌<◌, ℕ, None, List, [], ◌∷◌, sym, subst}
-use Rattle.batcher_core.proofs.Words.{Root, Tree, leaf, seq, par, Nodes, IsPlan, OccursAt, IsPlanOf, CoreJob, CoreState, Event}
+use Rattle.batcher_core.proofs.Words.{IsPlan, CoreJob, CoreState, Event}
 use Rattle.batcher_core.specs.State.{opening_core}
 use Rattle.batcher_core.specs.Invariant.{Invariant}
 use Rattle.batcher_core.proofs.Inductive.Parts.{InductiveParts}
@@ -10,16 +10,6 @@ use Rattle.batcher_core.proofs.InvariantLemmas.EachEvent.{event_keeps}
 use Rattle.batcher_core.proofs.InvariantLemmas.Opening.{opening_kept}
 use Rattle.batcher_core.proofs.Inductive.PartsHold.{parts_stand}
 use Rattle.batcher_core.proofs.InvariantLemmas.ReadyLists.{opening_lists, lists_after, lists_fit}
-
--- a tree that stands has a root
-has_top : (plan : Nodes) (tree : Tree) → OccursAt plan tree 0 0 Root → plan.kind 0 ≢ None
-has_top plan leaf h none = let e = h.0 in cc
-has_top plan (seq a b) h none = let e = h.0 in cc
-has_top plan (par a b) h none = let e = h.0 in cc
-
--- and a plan that stands for one
-pub has_root : (plan : Nodes) (tree : Tree) → IsPlanOf plan tree → plan.kind 0 ≢ None
-has_root plan tree h = has_top plan tree h.stands
 
 -- what is carried of a state and of its lists
 record Carried (job : CoreJob) (s : CoreState) : Type 0 where

@@ -2,14 +2,13 @@
 //! event keeps, and what follows from it.
 //!
 //! The eight parts do not look at the lists of ready nodes.
-ghost use Rattle.std.specs.Prelude.{◌≡◌, ◌≢◌, ℕ, ◌<◌, ◌≤◌, ◌*◌, None, Some, List, length};
+ghost use Rattle.std.specs.Prelude.{◌≡◌, ◌≢◌, ℕ, ◌<◌, ◌≤◌, ◌*◌, None, Some, List};
 ghost use Rattle.seq_objects.specs.declared.act.Act.{Act};
-ghost use Rattle.sp_order.specs.declared.node.Kind.TheVariants.{LeafNode, SeqNode, ParNode};
+ghost use Rattle.sp_order.specs.declared.node.Kind.TheVariants.{SeqNode, ParNode};
 ghost use Rattle.sp_order.specs.declared.node.Move.TheVariants.{OpenSecond, FinishParent, Arrive};
 ghost use Rattle.sp_order.specs.Precedence.{Tree, leaves, IsBefore};
 ghost use Rattle.sp_order.specs.Plans.{Nodes, IsPlan, IsSide};
 ghost use Rattle.sp_order.specs.PlanOf.{IsPlanOf};
-ghost use Rattle.batch_history.specs.Book.{flat};
 ghost use Rattle.batcher_core.specs.declared.state.progress.Progress.TheVariants.{Ran};
 ghost use Rattle.batcher_core.specs.declared.state.task.Task.TheVariants.{Whole};
 ghost use Rattle.batcher_core.specs.declared.event.Event.{Event};
@@ -17,8 +16,6 @@ ghost use Rattle.batcher_core.specs.State.{CoreJob, State, CoreState, opening_st
 ghost use Rattle.batcher_core.specs.Events.{EventKind, Happens, IsEvent};
 ghost use Rattle.batcher_core.specs.Invariant.Ticks.{HasStart};
 ghost use Rattle.batcher_core.specs.Invariant.{Parts, Invariant};
-ghost use Rattle.batcher_core.specs.Measure.{call_count};
-ghost use Rattle.batcher_core.specs.Operations.{IsCall};
 ghost use Rattle.batcher_core.specs.Runs.{IsStep, IsReached};
 
 use sp_order::laws::{
@@ -110,20 +107,3 @@ pub fn mark_before_arrival_is_below_two()
         → IsSide job.plan p n
         → state.mark p < 2 }
 {}
-
-/// The book has at most as many entries as the job has leaves that call. In the plan each of these leaves must have a
-/// node, as it has in the plan of a tree that has as many leaves as there are acts.
-pub fn entries_are_at_most_the_calls()
-    ensures plan { (job : CoreJob) (state : State) → IsPlan job.plan
-        → ((leaf : ℕ) → IsCall job leaf → (n : ℕ) × (job.plan.kind n ≡ Some (LeafNode leaf)))
-        → Parts job state
-        → length (flat state.book) ≤ call_count job }
-    ensures tree { (tree : Tree) (acts : List Act) (workers : ℕ) (state : State)
-        → length acts ≡ leaves tree
-        → Parts (core_job tree acts workers) state
-        → length (flat state.book) ≤ call_count (core_job tree acts workers) }
-{
-    plan_stands_for_tree();
-    plan_has_sides();
-    leaf_has_one_node();
-}

@@ -78,3 +78,13 @@ plan_laws plan tree h = record {
   within = λ n inside. rw h.count (below_count plan tree h n inside);
   outside = λ n out. h.no_kind n (rw h.count at out);
 }
+
+-- a tree that stands has a root
+has_top : (plan : Nodes) (tree : Tree) → OccursAt plan tree 0 0 Root → plan.kind 0 ≢ None
+has_top plan leaf h none = let e = h.0 in cc
+has_top plan (seq a b) h none = let e = h.0 in cc
+has_top plan (par a b) h none = let e = h.0 in cc
+
+-- and so has a plan that stands for one
+pub has_root : (plan : Nodes) (tree : Tree) → IsPlanOf plan tree → plan.kind 0 ≢ None
+has_root plan tree h = has_top plan tree h.stands

@@ -1,6 +1,7 @@
 use Rattle.sp_order.specs.Preorder.{nodes_of}
 use Rattle.batcher_core.specs.State.{core_job}
-use Rattle.batcher_core.proofs.InvariantLemmas.Reached.{has_root, reached_invariant}
+use Rattle.sp_order.proofs.PlanLemmas.Laws.{has_root}
+use Rattle.batcher_core.proofs.InvariantLemmas.Reached.{reached_invariant}
 use Rattle.batcher_core.proofs.laws.invariant.reached_has_invariant.Goals as goal
 
 pub returns : goal.returns

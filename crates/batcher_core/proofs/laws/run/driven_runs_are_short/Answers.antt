@@ -1,6 +1,6 @@
 use Rattle.batcher_core.specs.State.{opening_core}
 use Rattle.batcher_core.specs.Runs.{steps_of}
-use Rattle.batcher_core.proofs.InvariantLemmas.Reached.{has_root}
+use Rattle.sp_order.proofs.PlanLemmas.Laws.{has_root}
 use Rattle.batcher_core.proofs.RunLemmas.Facts.{drives_lead}
 use Rattle.batcher_core.proofs.RunLemmas.Turns.{run_is_short}
 use Rattle.batcher_core.proofs.laws.run.driven_runs_are_short.Goals as goal

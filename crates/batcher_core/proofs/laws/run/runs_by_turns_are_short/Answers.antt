@@ -1,4 +1,4 @@
-use Rattle.batcher_core.proofs.InvariantLemmas.Reached.{has_root}
+use Rattle.sp_order.proofs.PlanLemmas.Laws.{has_root}
 use Rattle.batcher_core.proofs.RunLemmas.Turns.{run_is_short}
 use Rattle.batcher_core.proofs.laws.run.runs_by_turns_are_short.Goals as goal
 

@@ -1,5 +1,6 @@
 use Rattle.batcher_core.specs.State.{opening_core}
-use Rattle.batcher_core.proofs.InvariantLemmas.Reached.{has_root, opening_invariant}
+use Rattle.sp_order.proofs.PlanLemmas.Laws.{has_root}
+use Rattle.batcher_core.proofs.InvariantLemmas.Reached.{opening_invariant}
 use Rattle.batcher_core.proofs.RunLemmas.Existence.{schedule_drives}
 use Rattle.batcher_core.proofs.laws.run.schedule_drives_to_a_state.Goals as goal
 

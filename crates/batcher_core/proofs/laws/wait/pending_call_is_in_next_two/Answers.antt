@@ -1,6 +1,7 @@
 use Rattle.sp_order.specs.Preorder.{nodes_of}
 use Rattle.batcher_core.specs.State.{core_job}
-use Rattle.batcher_core.proofs.InvariantLemmas.Reached.{has_root, reached_parts}
+use Rattle.sp_order.proofs.PlanLemmas.Laws.{has_root}
+use Rattle.batcher_core.proofs.InvariantLemmas.Reached.{reached_parts}
 use Rattle.batcher_core.proofs.WaitLemmas.From.{one_of_two}
 use Rattle.batcher_core.proofs.laws.wait.pending_call_is_in_next_two.Goals as goal
 

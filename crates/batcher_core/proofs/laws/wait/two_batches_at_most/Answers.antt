@@ -1,6 +1,7 @@
 use Rattle.sp_order.specs.Preorder.{nodes_of}
 use Rattle.batcher_core.specs.State.{core_job}
-use Rattle.batcher_core.proofs.InvariantLemmas.Reached.{has_root, reached_parts}
+use Rattle.sp_order.proofs.PlanLemmas.Laws.{has_root}
+use Rattle.batcher_core.proofs.InvariantLemmas.Reached.{reached_parts}
 use Rattle.batcher_core.proofs.WaitLemmas.Runs.{two_at_most}
 use Rattle.batcher_core.proofs.laws.wait.two_batches_at_most.Goals as goal
 

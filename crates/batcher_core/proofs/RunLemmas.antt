@@ -5,3 +5,6 @@ pub mod OneRun
 pub mod Taken
 pub mod Rounds
 pub mod Existence
+pub mod LiveRuns
+pub mod LiveRounds
+pub mod LiveEnds

@@ -30,4 +30,5 @@ pub mod Abstraction
 pub mod WorkDue
 pub mod Cores
 pub mod Doings
+pub mod Stopped
 pub mod Code

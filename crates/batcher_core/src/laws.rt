@@ -4,5 +4,6 @@ pub mod book;
 pub mod invariant;
 pub mod report;
 pub mod run;
+pub mod stopped;
 pub mod turn;
 pub mod wait;

@@ -18,6 +18,7 @@ mod report;
 pub mod scheduler;
 pub mod spun;
 pub mod state;
+pub mod stopped;
 pub mod turn;
 
 pub use doing::Doing;
@@ -32,4 +33,5 @@ pub use state::hold::Hold;
 pub use state::progress::Progress;
 pub use state::status::{CallState, Receipt, Status};
 pub use state::task::Task;
+pub use stopped::{Ended, drive_some};
 pub use turn::Turn;

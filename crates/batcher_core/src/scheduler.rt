@@ -1,5 +1,5 @@
 //! The scheduler's core: a job, its workers, and the turns by which they run it.
-ghost use Rattle.std.specs.Prelude.{◌≡◌, ◌<◌, ◌≤◌, ℕ, IfOk, IfErr, IsSome, IfSome, Some, None, true, false, IsTrue, ◌↔◌, map};
+ghost use Rattle.std.specs.Prelude.{◌≡◌, ◌<◌, ◌≤◌, ℕ, IfOk, IfErr, IsSome, IfSome, MatchOption, Some, None, true, false, IsTrue, ◌↔◌, map};
 ghost use Rattle.seq_objects.specs.Spin.{spin_of};
 ghost use Rattle.batcher_core.specs.State.{opening_core};
 ghost use Rattle.batcher_core.specs.Tasks.{is_done as node_done};
@@ -22,7 +22,7 @@ use crate::report::rows_of;
 use crate::spun::Spun;
 use crate::state::{State, history_of};
 use crate::turn::Turn;
-use batch_history::{Report, Row, Rows};
+use batch_history::{History, Report, Row, Rows};
 use sp_order::laws::{plan_has_sides, plan_stands_for_tree};
 use sp_order::{Job, Plan};
 use std::alloc::{AllocError, Global};
@@ -241,6 +241,22 @@ impl Core {
             → RepInvariant self.now.tree self.now.acts self.now.workers self.now.table }
     {
         let _ = &self.spent;
+    }
+
+    /// The batches that were served so far. There are none to be shown once the core is spent.
+    ///
+    /// Memory: none.
+    pub fn history(&self) -> Option<&History>
+        ensures { MatchOption result (self.now.spent ≡ true)
+            (λ history. (self.now.spent ≡ false) × (history.now ≡ (state_in self.now).state.book)) }
+    {
+        if self.spent {
+            return None;
+        }
+        match &self.table.shop {
+            Some(shop) => Some(shop.history()),
+            None => unreachable!(),
+        }
     }
 
     /// Whether the root is done and the core is not spent.

@@ -8,6 +8,7 @@ mod jobs;
 mod language;
 mod operations;
 mod schedules;
+mod stopped;
 mod threads;
 mod turns;
 mod words;

@@ -1,6 +1,6 @@
 -- The receipt of a worker is that of its own call's entry.
-use Rattle.std.proofs.Common.{ℕ, ◌≡◌, ◌⊎◌, Option, Some, None, List, refl, sym, ap, ◌∙◌, subst, inl, inr}
-use Rattle.batcher_core.proofs.Words.{Op, LeafNode, Entry, Started, Served, Got, Receipt, CoreJob, State}
+use Rattle.std.proofs.Common.{ℕ, ◌≡◌, ◌⊎◌, Option, Some, sym, ap, ◌∙◌, subst, inl, inr}
+use Rattle.batcher_core.proofs.Words.{Op, Entry, Served, Got, Receipt, CoreJob, State}
 use Rattle.batcher_core.specs.Entries.{StandsAt}
 use Rattle.batcher_core.specs.Events.{HasStarted}
 use Rattle.batcher_core.specs.Invariant.{Parts}

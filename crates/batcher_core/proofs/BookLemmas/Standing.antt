@@ -1,5 +1,5 @@
 -- What is found in a book stands there.
-use Rattle.std.proofs.Common.{ℕ, suc, ◌≡◌, ◌+◌, Option, Some, List, [], ◌∷◌, arith, refl, ap, subst, inl, inr}
+use Rattle.std.proofs.Common.{ℕ, suc, ◌≡◌, ◌+◌, Some, List, [], ◌∷◌, arith, refl, ap, subst, inl, inr}
 use Rattle.std.specs.Prelude.{slice_get}
 use Rattle.std.proofs.lemmas.Bool.{cases_eq}
 use Rattle.batcher_core.proofs.Words.{Entry}

@@ -1,11 +1,8 @@
-use Rattle.std.proofs.Common.{◌≡◌, ℕ, List}
-use Rattle.std.specs.List.{AllByRecursion}
 use Rattle.batcher_core.proofs.Words.{Entry}
 use Rattle.batcher_core.proofs.BookLemmas.Books.{each_in_book, found_in_book, place_append}
 use Rattle.batcher_core.proofs.BookLemmas.EntryPlaces.{entry_there}
 use Rattle.batcher_core.proofs.BookLemmas.Standing.{found_stands}
 use Rattle.batcher_core.specs.Operations.{place_of}
-use Rattle.batch_history.specs.Book.{flat}
 use Rattle.std.specs.Prelude.{None, ◌≢◌}
 use Rattle.batcher_core.proofs.laws.book.entries_are_found_at_their_places.Goals as goal
 

@@ -1,5 +1,3 @@
-use Rattle.std.proofs.Common.{◌≡◌, ◌≢◌, ℕ, List, refl, sym, ap, subst}
-use Rattle.batcher_core.proofs.Words.{CoreJob, State, Event, Claim, Start, OpenParRight, OpenParLeft, OpenSeqLeft, OpenSeqRight, Post, Win, Take, Publish, Answer, Release, Leave, Keep, End, FinishLeaf, FinishSeq, FinishPar, ArriveFirst, ArriveSecond}
 use Rattle.batcher_core.proofs.Inductive.FromParts.{parts_carried}
 use Rattle.batcher_core.proofs.BookLemmas.OwnEntries.{same_book, untaken_stays, taken_is_added}
 use Rattle.batcher_core.proofs.laws.book.publish_adds_the_taken_call.Goals as goal

@@ -1,0 +1,7 @@
+use Rattle.std.proofs.Common.{sym, ◌∙◌, ap}
+use Rattle.batcher_core.specs.Abstraction.{book_of, state_of}
+use Rattle.batcher_core.proofs.scheduler.Core.history.Goals as goal
+
+pub returns : goal.returns
+unfolding state_of
+returns c = rw (← c.self.view_is) (c.if-self.false, c.history.ensures ∙ sym (ap book_of c.in-Some.is))

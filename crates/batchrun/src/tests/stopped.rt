@@ -1,0 +1,145 @@
+//! Runs of the core in which a worker has stopped for good.
+ghost use Rattle.std.specs.Prelude.{◌≡◌, ◌<◌, IsSome};
+
+use batch_history::{Entry, text};
+use batcher_core::{Core, Ended, Spun, Turn, drive_some};
+use job_lang::read_job;
+use seq_objects::{Op, Plain, Reply};
+use sp_order::Job;
+use std::alloc::{AllocError, Global};
+use std::test::Fail;
+
+const TWO_ADDS: &[u8] = b"par { counter add 1 counter add 2 }";
+
+/// The report where worker 1 does all.
+const BY_WORKER_1: &[u8] = b"workers 2 leaves 2 calls 2 batches 2\n\
+batch 0 place 0 worker 1 leaf 0 counter add 1 -> 1\n\
+batch 1 place 0 worker 1 leaf 1 counter add 2 -> 3\n\
+leaf 0 worker 1 start 0 end 1 value 1\n\
+leaf 1 worker 1 start 2 end 3 value 3\n";
+
+/// How many turns of two workers, round robin, the job has.
+const TURNS: u32 = 34;
+
+/// The entries of the book so far. There are none of a spent core.
+fn entries_of(alloc: Global, core: &Core) -> Result<Vec<Entry>, AllocError> {
+    let mut entries = Vec::new(alloc);
+    if let Some(history) = core.history() {
+        for batch in history.batches() {
+            entries.extend_from_slice(batch.entries())?;
+        }
+    }
+    Ok(entries)
+}
+
+/// Whether the serial objects give the replies of the book, whose calls are counter adds.
+fn replays(alloc: Global, core: &Core) -> Result<bool, AllocError> {
+    let entries = entries_of(alloc, core)?;
+    let mut plain = Plain::new(alloc);
+    for (place, entry) in entries.iter().enumerate() {
+        let (Op::CounterAdd(addend), Reply::Number(kept)) = (entry.op, entry.reply) else {
+            return Ok(false);
+        };
+        if 1000 < place {
+            return Ok(false);
+        }
+        let Reply::Number(served) = plain.serve(Op::CounterAdd(addend))? else {
+            return Ok(false);
+        };
+        if served != kept {
+            return Ok(false);
+        }
+    }
+    Ok(true)
+}
+
+/// Takes so many turns, round robin. Answers whether before each the book replayed.
+fn take_turns(alloc: Global, core: &mut Core, turns: u32) -> Result<bool, AllocError> {
+    for turn in 0..turns {
+        if !replays(alloc, core)? {
+            return Ok(false);
+        }
+        let worker = turn % core.workers();
+        if let Turn::Spin(steps) = core.turn(worker, None)? {
+            core.turn(worker, Some(Spun::of(steps)))?;
+        }
+    }
+    Ok(true)
+}
+
+/// What the worker goes on to that has not stopped.
+fn go_on(alloc: Global, core: Core, stopped: u32) -> Result<Ended, AllocError>
+    requires { core.workers ≡ 2 }
+{
+    if stopped == 0 {
+        drive_some(alloc, core, &[false, true])
+    } else {
+        drive_some(alloc, core, &[true, false])
+    }
+}
+
+/// Whether, where a worker stops after so many turns, the other one goes on, and both then end what is left.
+fn ends_after(alloc: Global, job: &Job, turns: u32, stopped: u32) -> Result<bool, AllocError>
+    requires { IsSome job.now.shape }
+{
+    let mut core = Core::start(alloc, job, 2)?;
+    if !take_turns(alloc, &mut core, turns)? || core.workers() != 2 {
+        return Ok(false);
+    }
+    let Ended::Stuck(core) = go_on(alloc, core, stopped)? else {
+        return Ok(true);
+    };
+    if !replays(alloc, &core)? || core.workers() != 2 {
+        return Ok(false);
+    }
+    Ok(matches!(
+        drive_some(alloc, core, &[true, true])?,
+        Ended::Over(_)
+    ))
+}
+
+#[test]
+fn a_worker_that_stops_without_a_task_costs_nothing(rt: HostRuntime) -> Result<(), Fail> {
+    let alloc = rt.alloc();
+    let Ok(job) = read_job(alloc, TWO_ADDS) else {
+        return Ok(assert!(rt; false));
+    };
+    if job.shape().is_none() {
+        return Ok(assert!(rt; false));
+    }
+    let core = Core::start(alloc, &job, 2)?;
+    let Ended::Over(report) = drive_some(alloc, core, &[false, true])? else {
+        return Ok(assert!(rt; false));
+    };
+    assert_eq!(rt; report.rows.list().len(), 2);
+    assert_eq!(rt; job.acts().len(), 2);
+    assert_eq!(rt; text(alloc, &job, &report)?.as_slice(), BY_WORKER_1);
+    let mut core = Core::start(alloc, &job, 2)?;
+    if !take_turns(alloc, &mut core, 1)? || core.workers() != 2 {
+        return Ok(assert!(rt; false));
+    }
+    let Ended::Stuck(core) = drive_some(alloc, core, &[false, true])? else {
+        return Ok(assert!(rt; false));
+    };
+    assert!(rt; core.history().is_some());
+    assert_eq!(rt; entries_of(alloc, &core)?.len(), 0);
+    Ok(())
+}
+
+#[test]
+fn after_each_turn_a_worker_may_stop(rt: HostRuntime) -> Result<(), Fail> {
+    let alloc = rt.alloc();
+    let Ok(job) = read_job(alloc, TWO_ADDS) else {
+        return Ok(assert!(rt; false));
+    };
+    if job.shape().is_none() {
+        return Ok(assert!(rt; false));
+    }
+    for turns in 0..=TURNS {
+        for stopped in 0..2 {
+            let ended = ends_after(alloc, &job, turns, stopped)?;
+            assert!(rt; ended, "{turns} {stopped}");
+        }
+    }
+    Ok(())
+}

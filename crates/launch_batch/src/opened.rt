@@ -6,11 +6,12 @@ ghost use Rattle.launch_batch.specs.declared.piece.PieceIn.{PieceIn as Input};
 ghost use Rattle.launch_batch.specs.Pieces.{Meets};
 ghost use Rattle.launch_batch.specs.Calls.{IsServiceOf};
 ghost use Rattle.launch_batch.specs.Contexts.{IsContextOf};
+ghost use Rattle.launch_batch.specs.Code.Outs.{HaveMet};
 
 use crate::finish::{finish, last_batch};
 use crate::half::close;
 use crate::merge::{Remaining, Replies};
-use crate::outs::outs_of;
+use crate::outs::{Outs, outs_of};
 use crate::piece::PieceOut;
 use crate::shop::Shop;
 use crate::structures::Structures;
@@ -28,16 +29,15 @@ pub struct Opened {
 }
 
 impl Opened {
-    /// The shop after the batch.
-    pub(crate) fn into_shop(self, alloc: Global, outs: Vec<PieceOut>) -> Result<Shop, AllocError>
+    /// The shop after the batch, from the outs of each structure.
+    pub(crate) fn into_shop(self, alloc: Global, outs: Outs) -> Result<Shop, AllocError>
         requires { (o : BatchContext (List (List EntryOf)) Input) × IsContextOf self o
-            × AllMeet Meets o.ins outs.items }
+            × HaveMet o.ins outs }
         ensures { IfOk result (λ s. (o : BatchContext (List (List EntryOf)) Input) → IsContextOf self o
-            → AllMeet Meets o.ins outs.items
+            → HaveMet o.ins outs
             → (batch : List EntryOf) × IsServiceOf o.before o.calls batch
             × (s ≡ o.before ++ batch ∷ [])) }
     {
-        let outs = outs_of(alloc, outs)?;
         let Opened {
             mut structures,
             history,
@@ -69,6 +69,7 @@ impl Opened {
         ensures history { IfOk result (λ p. (o : BatchContext (List (List EntryOf)) Input) → IsContextOf self o
             → AllMeet Meets o.ins outs.items → p.0 ≡ o.before ++ p.1 ∷ []) }
     {
+        let outs = outs_of(alloc, outs)?;
         let shop = self.into_shop(alloc, outs)?;
         let batch = last_batch(alloc, shop.history())?;
         Ok((shop, batch))

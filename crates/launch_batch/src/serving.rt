@@ -1,24 +1,25 @@
 //! A batch that one worker serves.
 ghost use Rattle.std.specs.Prelude.{◌≡◌, [], ◌∷◌, ◌++◌, List, IfOk};
 ghost use Rattle.batch_history.specs.declared.batch.Entry.{Entry as EntryOf};
-ghost use Rattle.seq_objects.specs.Pieces.{AllMeet};
 ghost use Rattle.launch_batch.specs.Calls.{MayServe, IsServiceOf};
-ghost use Rattle.launch_batch.specs.Pieces.{Meets};
+ghost use Rattle.launch_batch.specs.Code.Outs.{HaveMet};
 
-use crate::piece::{PieceIn, PieceOut, run_piece};
+use crate::outs::Outs;
+use crate::piece::{PieceIn, run_piece};
 use crate::shop::Shop;
 use seq_objects::Call;
 use std::alloc::{AllocError, Global};
 
-/// The outs of pieces that are run one after another.
-fn run_pieces(alloc: Global, pieces: Vec<PieceIn>) -> Result<Vec<PieceOut>, AllocError>
-    ensures { IfOk result (λ outs. AllMeet Meets pieces.items outs.items) }
+/// The outs of pieces that are run one after another, each put behind those of its structure.
+fn run_pieces(alloc: Global, pieces: Vec<PieceIn>) -> Result<Outs, AllocError>
+    ensures { IfOk result (HaveMet pieces.items) }
 {
-    let mut outs = Vec::with_capacity(alloc, pieces.len())?;
+    let mut all = Outs::new(alloc);
     for piece in pieces {
-        outs.push(run_piece(alloc, piece)?)?;
+        let out = run_piece(alloc, piece)?;
+        all.put(out)?;
     }
-    Ok(outs)
+    Ok(all)
 }
 
 /// Serves these calls as one batch, by its pieces one after another. The batch is the last one of the shop's history. The

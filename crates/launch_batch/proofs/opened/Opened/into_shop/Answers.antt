@@ -6,25 +6,25 @@ use Rattle.launch_batch.proofs.opened.Opened.into_shop.Goals as goal
 
 pub close-requires-clause-met : goal.close-requires-clause-met
 close-requires-clause-met c = λ lifetimes.
-    let met = each_meets_apart c.requires.0.ins c.args.outs.items c.in_ok-outs.outs c.in_ok-outs.ensures c.requires.2 in
+    let met = each_meets_apart c.requires.0.ins c.requires.2.outs c.args.outs c.requires.2.each c.requires.2.met in
     rw c.deref_mut-inner.ensures.value
     (part c.args.self c.requires.0 c.requires.1 c.requires.1.number Counter counter_pieces, c.requires.1.counter, met.counter)
 
 pub close-requires-2-clause-met : goal.close-requires-2-clause-met
 close-requires-2-clause-met c = λ lifetimes.
-    let met = each_meets_apart c.requires.0.ins c.args.outs.items c.in_ok-outs.outs c.in_ok-outs.ensures c.requires.2 in
+    let met = each_meets_apart c.requires.0.ins c.requires.2.outs c.args.outs c.requires.2.each c.requires.2.met in
     rw c.deref_mut-inner.ensures.value
     (part c.args.self c.requires.0 c.requires.1 c.requires.1.view Stack stack_pieces, c.requires.1.stack, met.stack)
 
 pub close-requires-3-clause-met : goal.close-requires-3-clause-met
 close-requires-3-clause-met c = λ lifetimes.
-    let met = each_meets_apart c.requires.0.ins c.args.outs.items c.in_ok-outs.outs c.in_ok-outs.ensures c.requires.2 in
+    let met = each_meets_apart c.requires.0.ins c.requires.2.outs c.args.outs c.requires.2.each c.requires.2.met in
     rw c.deref_mut-inner.ensures.value
     (part c.args.self c.requires.0 c.requires.1 c.requires.1.keys Tree tree_pieces, c.requires.1.tree, met.tree)
 
 pub close-requires-4-clause-met : goal.close-requires-4-clause-met
 close-requires-4-clause-met c = λ lifetimes.
-    let met = each_meets_apart c.requires.0.ins c.args.outs.items c.in_ok-outs.outs c.in_ok-outs.ensures c.requires.2 in
+    let met = each_meets_apart c.requires.0.ins c.requires.2.outs c.args.outs c.requires.2.each c.requires.2.met in
     rw c.deref_mut-inner.ensures.value
     (part c.args.self c.requires.0 c.requires.1 c.requires.1.bag Queue queue_pieces, c.requires.1.queue, met.queue)
 
@@ -33,7 +33,7 @@ finish-requires c =
     let self = c.args.self in
     let o = c.requires.0 in
     let r = c.requires.1 in
-    let met = each_meets_apart o.ins c.args.outs.items c.in_ok-outs.outs c.in_ok-outs.ensures c.requires.2 in
+    let met = each_meets_apart o.ins c.requires.2.outs c.args.outs c.requires.2.each c.requires.2.met in
     let inner = c.deref_mut-inner.ensures.value in
     rw c.deref.ensures.value (
       o.calls,
@@ -48,7 +48,7 @@ finish-requires c =
 pub returns : goal.returns
 returns c = λ o r meet.
     let self = c.args.self in
-    let met = each_meets_apart o.ins c.args.outs.items c.in_ok-outs.outs c.in_ok-outs.ensures meet in
+    let met = each_meets_apart o.ins meet.outs c.args.outs meet.each meet.met in
     let inner = c.deref_mut-inner.ensures.value in
     rw (sym r.book) (c.in_ok-shop.ensures o.calls (rw c.deref.ensures.value
     (have_served self o r (record { counter = c.close.new.half; stack = c.close-2.new.half; tree = c.close-3.new.half; queue = c.close-4.new.half })

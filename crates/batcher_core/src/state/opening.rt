@@ -18,7 +18,7 @@ use std::alloc::{AllocError, Global};
 fn copies<T: Copy>(alloc: Global, item: T, count: u32) -> Result<Vec<T>, AllocError>
     ensures { IfOk result (λ v. v.items ≡ replicate count item) }
 {
-    let mut items = Vec::new(alloc);
+    let mut items = Vec::with_capacity(alloc, count as usize)?;
     for k in 0..count {
         items.push(item)?;
     }

@@ -1,8 +1,9 @@
 -- How many of the lists of ready nodes have a node.
-use Rattle.std.proofs.Common.{ℕ, zero, suc, ◌≡◌, ◌<◌, ◌≤◌, ◌+◌, ◌-◌, ◌%◌, None, List, [], ◌∷◌, length, get_or, replicate, slice_set, arith, refl, inl, inr, sym, ◌∙◌, ap, subst}
+use Rattle.std.proofs.Common.{ℕ, zero, suc, ◌≡◌, ◌≢◌, ◌<◌, ◌≤◌, ◌+◌, ◌-◌, ◌%◌, None, List, [], ◌∷◌, length, get_or, replicate, slice_set, arith, refl, inl, inr, sym, ◌∙◌, ap, subst}
 use Rattle.std.proofs.lemmas.List.{length-set}
 use Rattle.std.proofs.lemmas.Bool.{cases_eq, cases_lt}
 use Rattle.batcher_core.specs.State.{put}
+use Rattle.batcher_core.specs.Lists.{times}
 use Rattle.batcher_core.specs.Places.{at}
 use Rattle.batcher_core.specs.Code.ReadyLists.{non_empty_in, one_if_non_empty}
 use Rattle.batcher_core.specs.Measure.{total}
@@ -59,6 +60,11 @@ module _ (xs : List (List ℕ)) (w number before after : ℕ) (old q : List ℕ)
 
   pub recounted_at_most : number - before + after ≤ length xs
   recounted_at_most = rw (recounted, ← (length-set xs w q)) (count_at_most (slice_set xs w q))
+
+-- a list in which a node stands is counted as one
+pub one_where_stands : (n : ℕ) (xs : List ℕ) → times n xs ≢ 0 → 1 ≡ one_if_non_empty xs
+one_where_stands n [] stands = absurd (stands refl)
+one_where_stands n (x ∷ xs) stands = refl
 
 -- empty lists
 pub none_counted : (xs : List (List ℕ)) → at xs [] ≡ (λ w. []) → non_empty_in xs ≡ 0

@@ -223,9 +223,10 @@ impl ReadyLists {
         ensures absent { result ≡ false → times node (at self.old [] worker) ≡ 0 }
     {
         let list = &mut self.lists[worker];
-        let before = list.one_if_non_empty();
         let found = list.remove(node);
-        self.non_empty = self.non_empty - before + list.one_if_non_empty();
+        if found {
+            self.non_empty = self.non_empty - 1 + list.one_if_non_empty();
+        }
         found
     }
 

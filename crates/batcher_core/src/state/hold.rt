@@ -98,14 +98,11 @@ impl Hold {
         }
     }
 
-    /// The hold after the calls that it has taken are served.
-    pub(crate) fn after_publish(&self) -> Hold
-        ensures { Some (hold_view result) ≡ hold_published (Some (hold_view self.now)) }
+    /// The calls that it has taken are served.
+    pub(crate) fn publish(&mut self)
+        ensures { Some (hold_view self.new) ≡ hold_published (Some (hold_view self.old)) }
     {
-        Hold {
-            published: true,
-            ..*self
-        }
+        self.published = true;
     }
 
     /// The worker `other` has its receipt.

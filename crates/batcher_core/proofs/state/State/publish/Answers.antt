@@ -38,7 +38,7 @@ returns-clause-event c =
     let taken = rw c.deref.ensures.value at c.in_ok-calls.ensures in
     let served = rw c.take.ensures.value at c.in_ok-shop.ensures in
     let batch = served_batch c.args.job.now.plan c.args.job.now.acts.items c.args.job.now.workers c.args.self.now c.in-Some.hold c.args.worker c.requires.fits c.requires.needs c.in-Some.is c.in_ok-calls.calls.items taken served.0 served.1 in
-    (served.0, batch, rw (c.in-Some.is, c.after_publish.ensures, c.put_back.ensures, served.2, served_then (book_of c.args.self.now.shop) served.0) refl)
+    (served.0, batch, rw (c.in-Some.is, c.publish.ensures, c.put_back.ensures, served.2, served_then (book_of c.args.self.now.shop) served.0) refl)
 
 pub returns-clause-lists : goal.returns-clause-lists
 unfolding ready_of

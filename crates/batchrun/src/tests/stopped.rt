@@ -92,10 +92,7 @@ fn ends_after(alloc: Global, job: &Job, turns: u32, stopped: u32) -> Result<bool
     if !replays(alloc, &core)? || core.workers() != 2 {
         return Ok(false);
     }
-    Ok(matches!(
-        drive_some(alloc, core, &[true, true])?,
-        Ended::Over(_)
-    ))
+    Ok(matches!(drive_some(alloc, core, &[true, true])?, Ended::Over(_)))
 }
 
 #[test]

@@ -2,43 +2,55 @@
 ghost use Rattle.std.specs.Prelude.{◌≡◌, ◌≢◌, ◌<◌, ◌≤◌, IfOk, IfErr, IfNone, IfSome, OnOk};
 ghost use Rattle.two_deques.specs.Ends.{after_push, with_newest, after_empty_pop, after_steal};
 ghost use Rattle.two_deques.specs.Ends.{after_fruitless_steal, WasEmpty, HadAtMostOne};
-ghost use Rattle.two_deques.specs.Hands.{held, workers_of, core_room_of, IsHandOf, AreHands};
+ghost use Rattle.two_deques.specs.Hands.{held, workers_of, core_room_of, batch_room_of};
+ghost use Rattle.two_deques.specs.Hands.{IsHandOf, AreHands};
 
 mod opening;
 
 use crate::ends::opening::deques;
 use crate::hand::Hand;
 use crate::rule::{DequeRule, Part};
+use crate::spot::Spot;
 use crossbeam_deque::Stealer;
 use opening::hands_of;
 use std::alloc::{AllocError, Global};
 use std::sync::Wait;
 
-/// The deques of all workers. They keep the allocator, so that no call but `make` takes it.
+/// The deques of all workers: one of ready nodes and one of pieces each. They keep the allocator, so that no
+/// call but `make` takes it.
 #[derive(Drop)]
 pub struct Decks {
     pub(crate) core: Vec<Stealer<u32, Global, Part<u32>, DequeRule>>,
+    pub(crate) batch: Vec<Stealer<Spot, Global, Part<Spot>, DequeRule>>,
     pub(crate) core_room: u32,
+    pub(crate) batch_room: u32,
 }
 
 impl Decks {
     /// Empty deques for so many workers, and the hand of each worker. The rooms are numbers of tasks.
-    /// That for pieces of batches is not looked at: there are no deques for them yet.
     pub fn make(
         alloc: Global,
         workers: u32,
         core_room: u32,
-        _batch_room: u32,
+        batch_room: u32,
     ) -> Result<(Decks, Vec<Hand>), AllocError>
         requires workers { (1 ≤ workers) × (workers ≤ 32) }
-        requires rooms { (core_room ≤ 160000) × (_batch_room ≤ 160000) }
+        requires rooms { (core_room ≤ 160000) × (batch_room ≤ 160000) }
         ensures workers { IfOk result (λ made. workers_of made.0 ≡ workers) }
-        ensures room { IfOk result (λ made. core_room_of made.0 ≡ core_room) }
+        ensures rooms { IfOk result (λ made. (core_room_of made.0 ≡ core_room)
+            × (batch_room_of made.0 ≡ batch_room)) }
         ensures hands { IfOk result (λ made. AreHands made.0 made.1.items) }
     {
-        let (core, core_ends) = deques::<u32>(alloc, workers as usize, core_room as usize)?;
-        let decks = Decks { core, core_room };
-        let hands = hands_of(alloc, &decks, core_ends)?;
+        let count = workers as usize;
+        let (core, core_ends) = deques::<u32>(alloc, count, core_room as usize)?;
+        let (batch, batch_ends) = deques::<Spot>(alloc, count, batch_room as usize)?;
+        let decks = Decks {
+            core,
+            batch,
+            core_room,
+            batch_room,
+        };
+        let hands = hands_of(alloc, &decks, core_ends, batch_ends)?;
         Ok((decks, hands))
     }
 
@@ -93,5 +105,53 @@ impl Decks {
     {
         let victim = victim as usize;
         hand.core.steal(rt, &self.core, victim)
+    }
+
+    /// Pushes the spot of a piece on the own deque of pieces. The spot comes back where the deque is full and
+    /// cannot grow.
+    ///
+    /// Memory: the deque's own, with the allocator that it keeps.
+    pub fn push_piece(&self, hand: &mut Hand, spot: Spot) -> Result<(), Spot>
+        requires hand { IsHandOf self.now hand.old }
+        ensures hand { IsHandOf self.now hand.new }
+        ensures ok { OnOk result (held hand.new
+            ≡ record (held hand.old) { batch = after_push spot (held hand.old).batch }) }
+        ensures err { IfErr result (λ back. (back ≡ spot) × (held hand.new ≡ held hand.old)) }
+        ensures cause { IfErr result (λ _. batch_room_of self.now ≤ (held hand.old).batch.pushes) }
+    {
+        hand.batch.push(spot)
+    }
+
+    /// Pops the newest spot of the own deque of pieces. `cause` is said as at `pop_core`.
+    ///
+    /// Memory: none.
+    pub fn pop_piece(&self, hand: &mut Hand) -> Option<Spot>
+        requires hand { IsHandOf self.now hand.old }
+        ensures hand { IsHandOf self.now hand.new }
+        ensures some { IfSome result (λ spot. held hand.old
+            ≡ record (held hand.new) { batch = with_newest spot (held hand.new).batch }) }
+        ensures none { IfNone result (held hand.new
+            ≡ record (held hand.old) { batch = after_empty_pop (held hand.old).batch }) }
+        ensures cause { IfNone result (WasEmpty (held hand.old).batch) }
+    {
+        hand.batch.pop()
+    }
+
+    /// Takes the oldest spot of another worker's deque of pieces. It tries again where the deque asks for
+    /// that, so it may wait for other thieves. `cause` is said as at `steal_core`.
+    ///
+    /// Memory: none.
+    pub fn steal_piece<R: Wait>(&self, rt: &R, hand: &mut Hand, victim: u32) -> Option<Spot>
+        requires hand { IsHandOf self.now hand.old }
+        requires victim { (victim < workers_of self.now) × (victim ≢ (held hand.old).worker) }
+        ensures hand { IsHandOf self.now hand.new }
+        ensures some { IfSome result (λ spot. held hand.new
+            ≡ record (held hand.old) { batch = after_steal victim spot (held hand.old).batch }) }
+        ensures none { IfNone result (held hand.new
+            ≡ record (held hand.old) { batch = after_fruitless_steal victim (held hand.old).batch }) }
+        ensures cause { IfNone result (HadAtMostOne victim (held hand.old).batch) }
+    {
+        let victim = victim as usize;
+        hand.batch.steal(rt, &self.batch, victim)
     }
 }

@@ -3,12 +3,15 @@ ghost use Rattle.std.specs.Prelude.{◌≡◌};
 ghost use Rattle.two_deques.specs.Hands.{held};
 
 use crate::ends::Ends;
+use crate::spot::Spot;
 
-/// One worker's ends of all deques. It goes to the worker's own thread.
+/// One worker's ends of all deques: of those of nodes that are ready, and of those of pieces. It goes to the
+/// worker's own thread.
 #[derive(Drop)]
 pub struct Hand {
     pub(crate) worker: u32,
     pub(crate) core: Ends<u32>,
+    pub(crate) batch: Ends<Spot>,
 }
 
 impl Hand {

@@ -5,6 +5,7 @@ use mathlib.Core.Logic.{dite}
 use native.Mathlib.Decide.{ℕ_discrete}
 use Rattle.two_deques.specs.declared.ends.Ends.{Ends}
 use Rattle.two_deques.specs.declared.hand.Hand.{Hand}
+use Rattle.two_deques.specs.declared.spot.Spot.{Spot}
 use Rattle.two_deques.specs.declared.decks.Decks.{Decks}
 use Rattle.two_deques.specs.Reaches.{Thief}
 use Rattle.two_deques.specs.Ends.{held_ends, fresh_ends}
@@ -53,12 +54,17 @@ pub left_then : {X : Type 0} (xs left rest : List X) (w : ℕ) → left ≡ drop
 left_then xs left rest w is taken =
     taken ∙ ap (λ l. drop 1 l) is ∙ drop-drop 1 w xs ∙ ap (λ (k : ℕ). drop k xs) (omega arith)
 
-pub hand_made : (workers w : ℕ) (d : Decks) (all : List (Ends ℕ)) (hands : List Hand) (h : Hand)
-    → AreMade workers workers d.core_room d.core.items all → w < workers → h.worker ≡ w → h.core ≡ get_or all w h.core
-    → AreHandsUpTo w workers d hands → AreHandsUpTo (w + 1) workers d (hands ++ h ∷ [])
-hand_made workers w d all hands h made lt named at so_far =
-    let core = ends_of_made workers d.core_room w d.core.items all h.core made lt at in
+pub hand_made : (workers w : ℕ) (d : Decks) (cores : List (Ends ℕ)) (batches : List (Ends Spot)) (hands : List Hand)
+    (h : Hand) → AreMade workers workers d.core_room d.core.items cores
+    → AreMade workers workers d.batch_room d.batch.items batches → w < workers → h.worker ≡ w
+    → h.core ≡ get_or cores w h.core → h.batch ≡ get_or batches w h.batch → AreHandsUpTo w workers d hands
+    → AreHandsUpTo (w + 1) workers d (hands ++ h ∷ [])
+hand_made workers w d cores batches hands h core_made batch_made lt named core_at batch_at so_far =
+    let core = ends_of_made workers d.core_room w d.core.items cores h.core core_made lt core_at in
+    let batch = ends_of_made workers d.batch_room w d.batch.items batches h.batch batch_made lt batch_at in
     one_hand_more w workers d hands h so_far (record {
-      below = omega (arith, lt, named, made.thieves_count);
+      below = omega (arith, lt, named, core_made.thieves_count);
+      alike = batch_made.thieves_count ∙ sym core_made.thieves_count;
       core = subst (λ (k : ℕ). AreEndsOf d.core.items d.core_room k h.core) (sym named) core.0;
-    }) (λ k. record { worker = named k; core = core.1 k })
+      batch = subst (λ (k : ℕ). AreEndsOf d.batch.items d.batch_room k h.batch) (sym named) batch.0;
+    }) (λ k. record { worker = named k; core = core.1 k; batch = batch.1 k })

@@ -1,0 +1,80 @@
+//! Whom a worker tries to steal from, in turn.
+ghost use Rattle.std.specs.Prelude.{◌≡◌, ◌≢◌, ◌<◌, ◌≤◌, ◌↔◌, IfSome, IfNone, IsNone};
+ghost use Rattle.two_deques.specs.Tries.{first_tries, try_of, after_try};
+
+use std::marker::Model;
+
+/// Which of a worker's two deques.
+#[derive(Clone, Copy)]
+pub enum Deck {
+    CoreDeck,
+    BatchDeck,
+}
+
+/// A steal to try: at which deque of which worker.
+#[derive(Clone, Copy)]
+pub struct Try {
+    pub deck: Deck,
+    pub victim: u32,
+}
+
+/// The tries of a worker, which go round the others, from the one after it on: at each first the deque of nodes,
+/// then that of pieces. Contracts see whose tries they are, among how many, and the number of the next.
+#[derive(Drop)]
+pub struct Tries {
+    worker: u32,
+    workers: u32,
+    next: u32,
+}
+
+impl Model for Tries {
+    ghost use Rattle.std.specs.Prelude.{◌<◌, ◌≤◌, ◌*◌, ◌-◌};
+    ghost use Rattle.two_deques.specs.Tries.{TriesView};
+
+    ghost Value = { TriesView };
+
+    ghost view = { λ t. record { worker = t.worker; workers = t.workers; next = t.next } };
+
+    ghost invariant = { λ t. (t.worker < t.workers) × (t.workers ≤ 32)
+        × (1 < t.workers → t.next < 2 * (t.workers - 1)) };
+}
+
+impl Tries {
+    /// The tries of worker `me` among so many.
+    ///
+    /// Memory: none.
+    pub fn new(me: u32, workers: u32) -> Tries
+        requires workers { (1 ≤ workers) × (workers ≤ 32) }
+        requires me { me < workers }
+        ensures { result ≡ first_tries me workers }
+    {
+        Tries {
+            worker: me,
+            workers,
+            next: 0,
+        }
+    }
+
+    /// The next try. There is none where there is no other worker.
+    ///
+    /// Memory: none.
+    pub fn next_try(&mut self) -> Option<Try>
+        ensures some { IfSome result (λ t. (t ≡ try_of self.old) × (self.new ≡ after_try self.old)) }
+        ensures another { IfSome result (λ t.
+            (t.victim < self.old.workers) × (t.victim ≢ self.old.worker)) }
+        ensures none { IfNone result (self.new ≡ self.old) }
+        ensures cause { IsNone result ↔ (self.old.workers ≡ 1) }
+    {
+        if self.workers == 1 {
+            return None;
+        }
+        let deck = if self.next % 2 == 0 {
+            Deck::CoreDeck
+        } else {
+            Deck::BatchDeck
+        };
+        let victim = (self.worker + 1 + self.next / 2) % self.workers;
+        self.next = (self.next + 1) % (2 * (self.workers - 1));
+        Some(Try { deck, victim })
+    }
+}

@@ -1,0 +1,4 @@
+mod RuleLemmas
+mod CallLemmas
+mod OpeningLemmas
+mod LawLemmas

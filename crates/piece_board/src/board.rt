@@ -1,0 +1,60 @@
+//! The board and its desks.
+ghost use Rattle.std.specs.Prelude.{◌≡◌, ◌+◌, ◌*◌, ◌≤◌, []};
+
+mod calls;
+mod opening;
+
+use crate::rule::BoardRule;
+use crate::view::{Content, View};
+use crate::work::Work;
+use atomic_table::{Seat, Table};
+use std::alloc::Global;
+use std::marker::PhantomData;
+
+/// A board with a row of 56 places for each worker. All threads share it.
+pub struct Board<W: Work> {
+    pub(crate) table: Table<Content<W::In, W::Out>, View<W::In>, u64, BoardRule<W>, Global>,
+    pub(crate) rows: u32,
+    ghost places: { (table.shared.table_id.words ≡ 56 * rows) × (table.shared.table_id.slots ≡ 56 * rows) },
+    ghost some: { (1 ≤ rows) × (rows ≤ 32) },
+}
+
+impl<W: Work> Drop for Board<W> {
+    fn drop(self) {
+        let Board { table, rows: _ } = self;
+        drop(table);
+    }
+}
+
+/// One worker's seat at the board, with a row of its own. It goes to the worker's own thread.
+pub struct Desk<W: Work> {
+    pub(crate) seat: Seat<Content<W::In, W::Out>, View<W::In>>,
+    pub(crate) row: u32,
+    ghost idle: { (seat.me.1 ≡ []) × (seat.me.0.in_hand ≡ 0) },
+    ghost own: { (seat.me.0.desk.row ≡ row) × (seat.me.0.end_row ≡ row + 1) },
+}
+
+impl<W: Work> Drop for Desk<W> {
+    fn drop(self) {
+        let Desk { seat, row: _ } = self;
+        drop(seat);
+    }
+}
+
+/// The right to finish the piece of a place. Where it is dropped the place stays claimed.
+pub struct Claim<W> {
+    pub(crate) row: u32,
+    pub(crate) place: u32,
+    pub(crate) work: PhantomData<W>,
+    ghost within: { place ≤ 55 },
+}
+
+impl<W> Drop for Claim<W> {
+    fn drop(self) {
+        let Claim {
+            row: _,
+            place: _,
+            work: _,
+        } = self;
+    }
+}

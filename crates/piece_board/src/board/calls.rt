@@ -1,0 +1,160 @@
+//! The four calls on a board.
+ghost use Rattle.std.specs.Prelude.{◌≡◌, ◌<◌, ◌≤◌, None, Some};
+ghost use Rattle.std.specs.Prelude.{IfNone, IfSome, IsSomeAnd, MatchBool};
+ghost use Rattle.piece_board.specs.Desks.{number_of, posted_at, after_post, after_claim};
+ghost use Rattle.piece_board.specs.Desks.{after_refusal, after_finish, after_collect};
+ghost use Rattle.piece_board.specs.Desks.{after_empty_collect};
+ghost use Rattle.piece_board.specs.Boards.{workers_of, desk_view, spot_of, claimed_by};
+ghost use Rattle.piece_board.specs.Boards.{IsDeskOf, IsClaimOf};
+
+use crate::board::{Board, Claim, Desk};
+use crate::rule::{Claimed, Collected, Finished, Posted, PutBack, Strayed, Taken};
+use crate::view::Content;
+use crate::work::Work;
+use std::marker::PhantomData;
+
+/// How many places a row has.
+const PLACES: u32 = 56;
+
+/// The number of a place of the board.
+fn number_of(row: u32, place: u32) -> usize
+    requires row { row < 32 }
+    requires place { place < 56 }
+    ensures { result ≡ number_of row place }
+{
+    (PLACES * row + place) as usize
+}
+
+impl<W: Work> Desk<W> {
+    /// The worker whose desk it is, which is the number of its row.
+    ///
+    /// Memory: none.
+    pub fn row(&self) -> u32
+        ensures { result ≡ (desk_view self.now).row }
+    {
+        self.row
+    }
+}
+
+impl<W: Work> Board<W> {
+    /// Whether the board has this place.
+    fn has(&self, row: u32, place: u32) -> bool
+        ensures { MatchBool result ((row < workers_of self.now) × (place < 56))
+            (row < workers_of self.now → 56 ≤ place) }
+    {
+        row < self.rows && place < PLACES
+    }
+
+    /// Refuses a claim of what is no place of the board, by a step that no word allows: each is below 4.
+    fn refuse(&self, desk: &mut Desk<W>, row: u32, place: u32)
+        requires desk { IsDeskOf self.now desk.old }
+        requires outside { row < workers_of self.now → 56 ≤ place }
+        ensures desk { IsDeskOf self.now desk.new }
+        ensures refused { desk_view desk.new ≡ after_refusal row place (desk_view desk.old) }
+    {
+        let (row, place) = (u64::from(row), u64::from(place));
+        self.table
+            .shared
+            .compare_exchange::<Strayed>(&mut desk.seat, 0, 4 + row, place);
+    }
+
+    /// Opens a piece at a free place of the desk's own row.
+    ///
+    /// Memory: none.
+    pub fn post(&self, desk: &mut Desk<W>, i: u32, input: W::In)
+        requires desk { IsDeskOf self.now desk.old }
+        requires place { i < 56 }
+        requires free { posted_at i (desk_view desk.old) ≡ None }
+        ensures desk { IsDeskOf self.now desk.new }
+        ensures posted { desk_view desk.new ≡ after_post i input (desk_view desk.old) }
+        ensures there { posted_at i (desk_view desk.new) ≡ Some input }
+    {
+        let shared = &self.table.shared;
+        let number = number_of(desk.row, i);
+        shared.load::<Taken>(&mut desk.seat, number);
+        drop(shared.exchange(&mut desk.seat, number, Content::Input(input)));
+        shared.store::<Posted>(&mut desk.seat, number, 1);
+    }
+
+    /// Claims the piece at a place of any row, if it is open. What is no place of the board is not open.
+    ///
+    /// Memory: none.
+    pub fn claim(&self, desk: &mut Desk<W>, row: u32, i: u32) -> Option<(Claim<W>, W::In)>
+        requires desk { IsDeskOf self.now desk.old }
+        ensures desk { IsDeskOf self.now desk.new }
+        ensures some { IfSome result (λ r.
+            desk_view desk.new ≡ after_claim row i r.1 (desk_view desk.old)) }
+        ensures claim { IfSome result (λ r. IsClaimOf self.now r.0 × (spot_of r.0 ≡ (row, i))
+            × (claimed_by r.0 desk.new ≡ Some r.1)) }
+        ensures none { IfNone result
+            (desk_view desk.new ≡ after_refusal row i (desk_view desk.old)) }
+    {
+        if !self.has(row, i) {
+            self.refuse(desk, row, i);
+            return None;
+        }
+        let shared = &self.table.shared;
+        let number = number_of(row, i);
+        if shared.compare_exchange::<Claimed>(&mut desk.seat, number, 1, 2) != 1 {
+            return None;
+        }
+        let content = shared.exchange(&mut desk.seat, number, Content::Nothing);
+        shared.load::<PutBack>(&mut desk.seat, number);
+        let Content::Input(input) = content else {
+            unreachable!()
+        };
+        let claim = Claim {
+            row,
+            place: i,
+            work: PhantomData,
+        };
+        Some((claim, input))
+    }
+
+    /// Hands in the result of a claimed piece, whose place becomes full.
+    ///
+    /// Memory: none.
+    pub fn finish(&self, desk: &mut Desk<W>, claim: Claim<W>, out: W::Out)
+        requires desk { IsDeskOf self.now desk.old }
+        requires claim { IsClaimOf self.now claim }
+        requires meets { IsSomeAnd (claimed_by claim desk.old) (λ x. W.meets x out) }
+        ensures desk { IsDeskOf self.now desk.new }
+        ensures finished { desk_view desk.new
+            ≡ after_finish (spot_of claim).0 (spot_of claim).1 (desk_view desk.old) }
+    {
+        let shared = &self.table.shared;
+        let number = number_of(claim.row, claim.place);
+        shared.load::<Taken>(&mut desk.seat, number);
+        drop(shared.exchange(&mut desk.seat, number, Content::Output(out)));
+        shared.store::<Finished>(&mut desk.seat, number, 3);
+    }
+
+    /// The result at a place of the desk's own row, if it is there. It meets what this desk posted there last, and the
+    /// place is free.
+    ///
+    /// Memory: none.
+    pub fn collect(&self, desk: &mut Desk<W>, i: u32) -> Option<W::Out>
+        requires desk { IsDeskOf self.now desk.old }
+        requires place { i < 56 }
+        ensures desk { IsDeskOf self.now desk.new }
+        ensures some { IfSome result (λ _.
+            desk_view desk.new ≡ after_collect i (desk_view desk.old)) }
+        ensures meets { IfSome result (λ out.
+            IsSomeAnd (posted_at i (desk_view desk.old)) (λ x. W.meets x out)) }
+        ensures free { IfSome result (λ _. posted_at i (desk_view desk.new) ≡ None) }
+        ensures none { IfNone result
+            (desk_view desk.new ≡ after_empty_collect (desk_view desk.old)) }
+    {
+        let shared = &self.table.shared;
+        let number = number_of(desk.row, i);
+        if shared.compare_exchange::<Collected<W>>(&mut desk.seat, number, 3, 0) != 3 {
+            return None;
+        }
+        let content = shared.exchange(&mut desk.seat, number, Content::Nothing);
+        shared.load::<PutBack>(&mut desk.seat, number);
+        let Content::Output(out) = content else {
+            unreachable!()
+        };
+        Some(out)
+    }
+}

@@ -1,0 +1,43 @@
+//! What the rule of a board means, each law as the contract of a function that does nothing.
+ghost use Rattle.std.specs.Prelude.{◌≡◌, ◌≢◌, ◌+◌, ◌<◌, ◌≤◌, ℕ, length, slice_index, Some};
+ghost use Rattle.std.specs.List.{sum_by};
+ghost use mathlib.Core.Option.{some};
+ghost use lib.ListN.{get_elem?};
+ghost use Rattle.atomic_table.specs.Table.{State};
+ghost use Rattle.piece_board.specs.declared.view.Content.{Content as ContentOf};
+ghost use Rattle.piece_board.specs.declared.view.View.{View as ViewOf};
+ghost use Rattle.piece_board.specs.Entries.{entry_at};
+ghost use Rattle.piece_board.specs.Rule.{claims_at, posts_at, ObeysRule};
+
+use crate::{Board, Claim, Desk, Work};
+
+fn can_be_sent<T: Send>() {}
+
+fn can_be_shared<T: Sync>() {}
+
+/// A desk can go to its worker's thread, and all threads can share the board.
+pub fn desks_go_to_threads<W: Work>() {
+    can_be_sent::<Desk<W>>();
+    can_be_shared::<Board<W>>();
+}
+
+/// All desks together have claimed a place as often as it was posted, or once less where it is open: no post is claimed
+/// twice, and none is passed over.
+#[tactic(auto, using(crate::proofs::LawLemmas::all_claimed, crate::proofs::LawLemmas::all_but_one_claimed))]
+pub fn each_post_is_claimed_once<W: Work>()
+    ensures all { (s : State (ContentOf W.In W.Out) (ViewOf W.In)) (k : ℕ) → ObeysRule W.meets s
+        → k < length s.homes → slice_index s.words k ≢ 1
+        → sum_by (claims_at k) s.views ≡ sum_by (posts_at k) s.views }
+    ensures open { (s : State (ContentOf W.In W.Out) (ViewOf W.In)) (k : ℕ) → ObeysRule W.meets s
+        → k < length s.homes → slice_index s.words k ≡ 1
+        → sum_by (claims_at k) s.views + 1 ≡ sum_by (posts_at k) s.views }
+{}
+
+/// A place that a desk has claimed and not finished is claimed by it alone, and is not open.
+#[tactic(auto, using(crate::proofs::LawLemmas::claimed_by_one))]
+pub fn a_claim_is_one_desks_alone<W: Work>()
+    ensures { (s : State (ContentOf W.In W.Out) (ViewOf W.In)) (seat other k : ℕ) (v w : ViewOf W.In) (x y : W.In)
+        → ObeysRule W.meets s → get_elem? s.views seat ≡ some v → get_elem? s.views other ≡ some w
+        → entry_at k v.desk.claims ≡ Some x → entry_at k w.desk.claims ≡ Some y
+        → (seat ≡ other) × (slice_index s.words k ≢ 1) }
+{}

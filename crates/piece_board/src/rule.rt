@@ -1,0 +1,79 @@
+//! The rule of the board, and what each step on it tells.
+ghost use Rattle.piece_board.specs.Rule.{ObeysRule, first_view, without_first_row, first_row};
+ghost use Rattle.piece_board.specs.Steps.{TakesInHand, PutsBack, Posts, Claims, Strays, Finishes, Collects};
+
+use crate::view::{Content, View};
+use crate::work::Work;
+use atomic_table::{Play, Split, TableRule};
+use std::marker::PhantomData;
+
+/// The rule of the board, which `atomic_table` keeps at every moment. Its key is the number of rows.
+pub struct BoardRule<W> {
+    work: PhantomData<W>,
+}
+
+impl<W: Work> TableRule<Content<W::In, W::Out>, View<W::In>, u64> for BoardRule<W> {
+    ghost holds = { λ rows. ObeysRule W.meets };
+
+    ghost first = { first_view };
+}
+
+/// Cuts off the first row.
+pub struct RowCut;
+
+impl<I> Split<View<I>> for RowCut {
+    ghost left = { without_first_row };
+
+    ghost right = { first_row };
+}
+
+/// A look at a place, by which its keeper takes the slot in hand.
+pub struct Taken;
+
+impl<I, O> Play<Content<I, O>, View<I>> for Taken {
+    ghost then = { TakesInHand };
+}
+
+/// A look at a place, by which its keeper puts the slot back.
+pub struct PutBack;
+
+impl<I, O> Play<Content<I, O>, View<I>> for PutBack {
+    ghost then = { PutsBack };
+}
+
+/// A post: the place becomes open.
+pub struct Posted;
+
+impl<I, O> Play<Content<I, O>, View<I>> for Posted {
+    ghost then = { Posts };
+}
+
+/// A claim: an open place becomes claimed.
+pub struct Claimed;
+
+impl<I, O> Play<Content<I, O>, View<I>> for Claimed {
+    ghost then = { Claims };
+}
+
+/// A claim of what is no place of the board.
+pub struct Strayed;
+
+impl<I, O> Play<Content<I, O>, View<I>> for Strayed {
+    ghost then = { Strays };
+}
+
+/// A finish: a claimed place becomes full.
+pub struct Finished;
+
+impl<I, O> Play<Content<I, O>, View<I>> for Finished {
+    ghost then = { Finishes };
+}
+
+/// A collect: a full place becomes free.
+pub struct Collected<W> {
+    work: PhantomData<W>,
+}
+
+impl<W: Work> Play<Content<W::In, W::Out>, View<W::In>> for Collected<W> {
+    ghost then = { Collects W.meets };
+}

@@ -3,3 +3,4 @@ pub mod Ends
 pub mod Fronts
 pub mod Headlines
 pub mod InMemory
+pub mod Made

@@ -1,4 +1,5 @@
--- What each status of a run says: one definition for each concern, with a line for each status.
+-- What each status of a run says: one definition for each concern, with a line for each status. `Commands` says which of
+-- them a command owes.
 use Rattle.std.specs.Prelude.{◌≡◌, ℕ, ◌<◌, ◌≤◌, ◌⊎◌, List, length, Bool, IsTrue, Option, None, Some, IfSome}
 use Rattle.std.specs.Io.KnownBytes.{Appends, Keeps}
 use Rattle.bt_io.specs.Bytes.{IsWhole, AppendsFront}
@@ -26,11 +27,11 @@ pub record HasRun (held : Option (List ℕ)) (workers : ℕ) (report : Report) :
   pub accepted : IsJobOf bytes job
   pub lawful : Lawful job workers report
 
--- The bytes that were read are a job's, and the report is lawful. Where there is a schedule, the report is the one that turns
--- make of this job: those of the schedule, and then those of all workers round robin from worker 0 on.
-pub record HasDriven (held : Option (List ℕ)) (workers : ℕ) (schedule : Option (List ℕ)) (report : Report) : Type 0 where
+-- The bytes that were read are a job's, the report is lawful, and it is the one that turns make of this job: those of the
+-- schedule, and then those of all workers round robin from worker 0 on.
+pub record HasDriven (held : Option (List ℕ)) (workers : ℕ) (schedule : List ℕ) (report : Report) : Type 0 where
   pub run : HasRun held workers report
-  pub driven : IfSome schedule (λ turns. IsDrivenReport run.job workers turns report)
+  pub driven : IsDrivenReport run.job workers schedule report
 
 -- The bytes that were read have this fault.
 pub record IsRefused (held : Option (List ℕ)) (fault : JobFault) : Type 0 where
@@ -38,26 +39,35 @@ pub record IsRefused (held : Option (List ℕ)) (fault : JobFault) : Type 0 wher
   pub read : WasRead held bytes
   pub why : IsFaultOf bytes fault
 
--- Which report comes, and what out took. `Runs` says what a run owes of its report.
-abbrev pub Headline : (Report → Type 0) → Status → Option Report → Option (List ℕ) → Option (List ℕ) → Type 0
-Headline Runs Done (Some report) old new = Runs report × Appends old new (report_text report)
-Headline Runs WriteFault (Some report) old new = Runs report × AppendsFront old new (report_text report)
-Headline Runs Done None old new = ⊥
-Headline Runs WriteFault None old new = ⊥
-Headline Runs status None old new = Keeps old new
-Headline Runs status (Some report) old new = ⊥
+-- Which report comes, and what out took. `Runs` says what a run owes of its report, and `lines` are what it prints of it.
+abbrev pub Prints : (Report → Type 0) → (Report → List ℕ) → Status → Option Report → Option (List ℕ) → Option (List ℕ) → Type 0
+Prints Runs lines Done (Some report) old new = Runs report × Appends old new (lines report)
+Prints Runs lines Made (Some report) old new = Runs report × Appends old new (lines report)
+Prints Runs lines WriteFault (Some report) old new = Runs report × AppendsFront old new (lines report)
+Prints Runs lines Done None old new = ⊥
+Prints Runs lines Made None old new = ⊥
+Prints Runs lines WriteFault None old new = ⊥
+Prints Runs lines status None old new = Keeps old new
+Prints Runs lines status (Some report) old new = ⊥
 
--- Why a status comes at a command: by the bytes held under its file, and by whether the count of faults of the
--- shelf or of out rose.
-abbrev pub HasCause : Status → Option (List ℕ) → Type 0 → Type 0 → Type 0
-HasCause Done held ReadsFailed WritesFailed = Unit {0}
-HasCause Made held ReadsFailed WritesFailed = ⊥
-HasCause Usage held ReadsFailed WritesFailed = ⊥
-HasCause ReadFault held ReadsFailed WritesFailed = ReadsFailed
-HasCause (Refused TooLong) held ReadsFailed WritesFailed = IfSome held (λ bytes. 1048576 < length bytes)
-HasCause (Refused (Job fault)) held ReadsFailed WritesFailed = IsRefused held fault
-HasCause WriteFault held ReadsFailed WritesFailed = WritesFailed
-HasCause Memory held ReadsFailed WritesFailed = Unit {0}
+-- Why a status comes where a file is read: by the bytes held under it, and by whether the count of faults of the shelf or of
+-- out rose.
+abbrev pub FileCause : Status → Option (List ℕ) → Type 0 → Type 0 → Type 0
+FileCause Done held ReadsFailed WritesFailed = Unit {0}
+FileCause Made held ReadsFailed WritesFailed = ⊥
+FileCause Usage held ReadsFailed WritesFailed = ⊥
+FileCause ReadFault held ReadsFailed WritesFailed = ReadsFailed
+FileCause (Refused TooLong) held ReadsFailed WritesFailed = IfSome held (λ bytes. 1048576 < length bytes)
+FileCause (Refused (Job fault)) held ReadsFailed WritesFailed = IsRefused held fault
+FileCause WriteFault held ReadsFailed WritesFailed = WritesFailed
+FileCause Memory held ReadsFailed WritesFailed = Unit {0}
+
+-- why a status comes where a job is made
+abbrev pub MadeCause : Status → Type 0 → Type 0
+MadeCause Made WritesFailed = Unit {0}
+MadeCause WriteFault WritesFailed = WritesFailed
+MadeCause Memory WritesFailed = Unit {0}
+MadeCause status WritesFailed = ⊥
 
 -- what err took: the line, or a front of it where err failed
 abbrev pub Tells : List ℕ → Option (List ℕ) → Option (List ℕ) → Type 0 → Type 0
@@ -68,7 +78,7 @@ abbrev pub IsUnlessMemory : Status → Status → Type 0
 IsUnlessMemory status wanted = (status ≡ wanted) ⊎ (status ≡ Memory)
 
 -- Which status comes where the file's bytes are told and no fault comes in between: the one that they call for.
-pub record Completes (status : Status) (held : Option (List ℕ)) (ReadsFailed WritesFailed : Type 0) : Type 0 where
+pub record FileCompletes (status : Status) (held : Option (List ℕ)) (ReadsFailed WritesFailed : Type 0) : Type 0 where
   pub too_long : (bytes : List ℕ) → held ≡ Some bytes → ¬ ReadsFailed
       → 1048576 < length bytes → IsUnlessMemory status (Refused TooLong)
   pub refused : (bytes : List ℕ) (fault : JobFault) → held ≡ Some bytes → ¬ ReadsFailed
@@ -76,10 +86,10 @@ pub record Completes (status : Status) (held : Option (List ℕ)) (ReadsFailed W
   pub accepted : (bytes : List ℕ) (job : JobValue) → held ≡ Some bytes → ¬ ReadsFailed → ¬ WritesFailed
       → length bytes ≤ 1048576 → IsJobOf bytes job → IsUnlessMemory status Done
 
--- a write fault comes only where the text of this report is longer than the room that out has left
-abbrev pub FailsPast : Status → Option Report → ℕ → Type 0
-FailsPast WriteFault (Some report) room = room < length (report_text report)
-FailsPast status report room = Unit {0}
+-- a write fault comes only where the lines of this report are longer than the room that out has left
+abbrev pub FailsPast : (Report → List ℕ) → Status → Option Report → ℕ → Type 0
+FailsPast lines WriteFault (Some report) room = room < length (lines report)
+FailsPast lines status report room = Unit {0}
 
 -- the text of this report, if there is one, is within the room
 abbrev pub TextFits : Option Report → ℕ → Type 0
@@ -88,8 +98,8 @@ TextFits (Some report) room = length (report_text report) ≤ room
 
 -- Where the shelf never fails and holds an accepted job, and the text of the report is within the room that out has
 -- left, the run is done, unless memory runs out.
-abbrev pub IsAssured : Status → Option Report → Option (List ℕ) → Bool → ℕ → Type 0
-IsAssured status report held never_fails room =
+abbrev pub IsFileAssured : Status → Option Report → Option (List ℕ) → Bool → ℕ → Type 0
+IsFileAssured status report held never_fails room =
     (bytes : List ℕ) (job : JobValue) → held ≡ Some bytes → length bytes ≤ 1048576 → IsJobOf bytes job
     → IsTrue never_fails → TextFits report room → IsUnlessMemory status Done
 

@@ -1,22 +1,41 @@
 -- The command line.
-use Rattle.std.specs.Prelude.{ℕ, zero, suc, ◌-◌, Bool, ◌&&◌, nat_le, nat_lt, if◌then◌else◌, List, [], ◌∷◌, length, codes, map, Option, None, Some, string_bytes}
+use Rattle.std.specs.Prelude.{ℕ, ◌-◌, Bool, ◌&&◌, nat_le, nat_lt, if◌then◌else◌, List, [], ◌∷◌, length, codes, map, Option, None, Some, string_bytes}
 use Rattle.std.specs.List.{list_all}
 use Rattle.std.specs.Option.{option_map, option_and_then}
 use Rattle.std.specs.Str.{bytes_eq}
+use Rattle.std.specs.Str.Parse.{digits_value}
 use Rattle.std.specs.Fmt.{decimal}
 use Rattle.std.specs.declared.string.String.{String}
 use Rattle.std.specs.declared.alloc.Global.{Global}
 
 -- What the words ask for. `step` runs the job of a file by turns on one thread: first those of the workers that the schedule
--- lists, and then those of all workers round robin. `run` runs it with a thread for each worker.
+-- lists, and then those of all workers round robin. `run` runs it with a thread for each worker. `gen` so runs a job that it
+-- makes from a size and a seed.
 pub data Command : Type 0 where
   step : (file : List ℕ) → (workers : ℕ) → (schedule : List ℕ) → Command
   run : (file : List ℕ) → (workers : ℕ) → Command
+  gen : (size : ℕ) → (seed : ℕ) → (workers : ℕ) → Command
 
--- the number from 1 to the most that the word writes in decimal, if it writes one
-abbrev pub number_up_to : ℕ → List ℕ → Option ℕ
-number_up_to zero word = None
-number_up_to (suc fewer) word = if bytes_eq word (decimal (suc fewer)) then Some (suc fewer) else number_up_to fewer word
+-- the word is what a number from the least to the most is written as in decimal; the number can only be that of its digits
+abbrev pub is_number_between : ℕ → ℕ → List ℕ → Bool
+is_number_between least most word =
+    bytes_eq word (decimal (digits_value 10 word)) && nat_le least (digits_value 10 word) && nat_le (digits_value 10 word) most
+
+-- the number from the least to the most that the word writes in decimal, if it writes one
+abbrev pub number_between : ℕ → ℕ → List ℕ → Option ℕ
+number_between least most word = if is_number_between least most word then Some (digits_value 10 word) else None
+
+-- there are 1 to 32 workers
+abbrev pub workers_in : List ℕ → Option ℕ
+workers_in word = number_between 1 32 word
+
+-- the size of a generated job
+abbrev pub size_in : List ℕ → Option ℕ
+size_in word = number_between 1 5000 word
+
+-- the number that a job is generated from
+abbrev pub seed_in : List ℕ → Option ℕ
+seed_in word = number_between 0 18446744073709551615 word
 
 -- the number that a digit of base 32 stands for: `0` to `9`, and `a` to `v` for 10 to 31; 32, which is no worker's, for a byte
 -- that is no digit
@@ -37,14 +56,18 @@ workers_named word = map digit_value word
 abbrev pub schedule_in : ℕ → List ℕ → Option (List ℕ)
 schedule_in workers word = if is_schedule workers word then Some (workers_named word) else None
 
--- a file has a name; there are 1 to 32 workers
+-- a file has a name
 abbrev pub step_command : List ℕ → List ℕ → List ℕ → Option Command
 step_command file workers schedule =
     if bytes_eq file [] then None
-    else option_and_then (λ count. option_map (step file count) (schedule_in count schedule)) (number_up_to 32 workers)
+    else option_and_then (λ count. option_map (step file count) (schedule_in count schedule)) (workers_in workers)
 
 abbrev pub run_command : List ℕ → List ℕ → Option Command
-run_command file workers = if bytes_eq file [] then None else option_map (run file) (number_up_to 32 workers)
+run_command file workers = if bytes_eq file [] then None else option_map (run file) (workers_in workers)
+
+abbrev pub gen_command : List ℕ → List ℕ → List ℕ → Option Command
+gen_command size seed workers =
+    option_and_then (λ of_size. option_and_then (λ from. option_map (gen of_size from) (workers_in workers)) (seed_in seed)) (size_in size)
 
 -- a name and two words more
 abbrev pub short_command : List ℕ → List ℕ → List ℕ → Option Command
@@ -55,37 +78,29 @@ short_command name file workers =
 
 -- a name and three words more
 abbrev pub long_command : List ℕ → List ℕ → List ℕ → List ℕ → Option Command
-long_command name file workers schedule =
-    if bytes_eq name (codes "step") then step_command file workers schedule else None
+long_command name first second third =
+    if bytes_eq name (codes "step") then step_command first second third
+    else if bytes_eq name (codes "gen") then gen_command first second third
+    else None
 
--- The commands are `step FILE WORKERS`, `step FILE WORKERS SCHEDULE` and `run FILE WORKERS`. Without a schedule it is the
--- empty one.
+-- The commands are `step FILE WORKERS`, `step FILE WORKERS SCHEDULE`, `run FILE WORKERS` and `gen SIZE SEED WORKERS`. Without
+-- a schedule it is the empty one.
 abbrev pub command_of : List (List ℕ) → Option Command
-command_of (name ∷ file ∷ workers ∷ []) = short_command name file workers
-command_of (name ∷ file ∷ workers ∷ schedule ∷ []) = long_command name file workers schedule
+command_of (name ∷ first ∷ second ∷ []) = short_command name first second
+command_of (name ∷ first ∷ second ∷ third ∷ []) = long_command name first second third
 command_of _ = None
 
 -- the bytes of the words
 abbrev pub spelled : List (String Global) → List (List ℕ)
 spelled words = map string_bytes words
 
--- the file that a command names
-abbrev pub file_of : Command → List ℕ
-file_of (step file workers schedule) = file
-file_of (run file workers) = file
-
--- the workers that a command asks for
-abbrev pub workers_of : Command → ℕ
-workers_of (step file workers schedule) = workers
-workers_of (run file workers) = workers
-
--- the workers that take the first turns, where workers take turns: who goes first among threads is nobody's to say
-abbrev pub schedule_of : Command → Option (List ℕ)
-schedule_of (step file workers schedule) = Some schedule
-schedule_of (run file workers) = None
+-- the file that a command names, if it names one
+abbrev pub file_of : Command → Option (List ℕ)
+file_of (step file workers schedule) = Some file
+file_of (run file workers) = Some file
+file_of (gen size seed workers) = None
 
 -- the words ask for a run by turns
 abbrev pub IsStep : Option Command → Type 0
-IsStep None = ⊥
 IsStep (Some (step file workers schedule)) = Unit {0}
-IsStep (Some (run file workers)) = ⊥
+IsStep _ = ⊥

@@ -29,9 +29,22 @@ pub(crate) struct RunCommand<'a> {
     ghost few_workers: { workers ≤ 32 },
 }
 
+/// A `gen` command: a job is made from two numbers, and each worker is a thread.
+#[derive(Clone, Copy)]
+pub(crate) struct GenCommand {
+    pub(crate) size: u32,
+    pub(crate) seed: u64,
+    pub(crate) workers: u32,
+    ghost some_calls: { 0 < size },
+    ghost few_calls: { size ≤ 5000 },
+    ghost some_workers: { 0 < workers },
+    ghost few_workers: { workers ≤ 32 },
+}
+
 /// What the words ask for.
 #[derive(Clone, Copy)]
 pub(crate) enum Command<'a> {
     Step(StepCommand<'a>),
     Run(RunCommand<'a>),
+    Gen(GenCommand),
 }

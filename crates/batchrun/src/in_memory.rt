@@ -1,11 +1,13 @@
 //! A run over memory, in which no call fails.
 ghost use Rattle.std.specs.Prelude.{◌≡◌, ◌-◌, [], length, Some, IfSome};
-ghost use Rattle.std.specs.Option.{ForSome};
+ghost use Rattle.std.specs.Option.{ForSome, option_and_then};
 ghost use Rattle.bt_io.specs.Causes.{Rose};
 ghost use Rattle.bt_io.specs.Memory.{file_named};
-ghost use Rattle.batchrun.specs.Words.{command_of, spelled, file_of, workers_of, schedule_of, IsStep};
+ghost use Rattle.batch_history.specs.Text.{report_text};
+ghost use Rattle.batchrun.specs.Words.{command_of, spelled, file_of, IsStep};
 ghost use Rattle.batchrun.specs.Lines.{fault_line};
-ghost use Rattle.batchrun.specs.Outcomes.{Headline, HasRun, HasDriven, HoldsJob, IsUnlessMemory, TextFits, FailsPast, Tells};
+ghost use Rattle.batchrun.specs.Outcomes.{Prints, HoldsJob, IsUnlessMemory, TextFits, FailsPast, Tells};
+ghost use Rattle.batchrun.specs.Commands.{Runs, Driven};
 
 use crate::outcome::Outcome;
 use crate::program::run_step;
@@ -25,16 +27,16 @@ pub fn step_in_memory(
     requires command { IsStep (command_of (spelled words.now)) }
     requires no_read_fails { shelf.old.fails ≡ [] }
     requires no_write_fails { out.old.fails ≡ [] }
-    ensures answer { ForSome (command_of (spelled words.now))
-        (λ c. HoldsJob (file_named shelf.old.files (file_of c))
+    ensures answer { ForSome (option_and_then file_of (command_of (spelled words.now)))
+        (λ file. HoldsJob (file_named shelf.old.files file)
         → TextFits result.report (out.old.room - length out.old.taken)
         → IsUnlessMemory result.status Status.Done) }
-    ensures writes { FailsPast result.status result.report (out.old.room - length out.old.taken) }
-    ensures headline { Headline (λ report. ForSome (command_of (spelled words.now))
-        (λ c. HasRun (file_named shelf.old.files (file_of c)) (workers_of c) report))
-        result.status result.report (Some out.old.taken) (Some out.new.taken) }
-    ensures driven { IfSome result.report (λ report. ForSome (command_of (spelled words.now))
-        (λ c. HasDriven (file_named shelf.old.files (file_of c)) (workers_of c) (schedule_of c) report)) }
+    ensures writes { FailsPast report_text result.status result.report
+        (out.old.room - length out.old.taken) }
+    ensures headline { Prints (Runs (command_of (spelled words.now)) (file_named shelf.old.files))
+        report_text result.status result.report (Some out.old.taken) (Some out.new.taken) }
+    ensures driven { IfSome result.report
+        (Driven (command_of (spelled words.now)) (file_named shelf.old.files)) }
     ensures tells { Tells (fault_line result.status) (Some err.old.taken) (Some err.new.taken)
         (Rose err.old.faults err.new.faults) }
 {

@@ -19,7 +19,7 @@ pub enum Refusal {
 pub enum Status {
     /// The report was written.
     Done,
-    /// The summary of a generated job was written. No command makes one yet.
+    /// The summary of a generated job was written.
     Made,
     /// The words are no command.
     Usage,

@@ -3,6 +3,7 @@ ghost use Rattle.std.specs.Prelude.{◌<◌};
 
 mod bytes;
 mod faults;
+mod generated;
 mod history;
 mod jobs;
 mod language;

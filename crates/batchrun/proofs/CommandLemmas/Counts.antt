@@ -1,42 +1,53 @@
--- Which words write a number from 1 on.
-use Rattle.std.proofs.Common.{◌≡◌, ℕ, zero, suc, ◌<◌, ◌≤◌, ◌^◌, List, Bool, true, false, ◌⊎◌, inl, inr, Option, Some, None, refl, sym, ap, ◌∙◌, arith}
-use Rattle.std.specs.Prelude.{if◌then◌else◌, Decides}
+-- Which words write a number between two bounds.
+use Rattle.std.proofs.Common.{◌≡◌, ℕ, ◌<◌, ◌≤◌, ◌^◌, List, Bool, true, false, ◌⊎◌, inl, inr, Option, Some, None, refl, sym, ap, ◌∙◌, arith}
+use Rattle.std.specs.Prelude.{Decides, ◌&&◌, nat_le, if◌then◌else◌}
+use Rattle.std.proofs.lemmas.Bool.Decides.{nat_tests}
 use Rattle.std.specs.Str.{bytes_eq}
+use Rattle.std.specs.Str.Parse.{digits_value}
 use Rattle.std.specs.Fmt.{decimal}
-use Rattle.std.proofs.lemmas.Bool.{cases_eq}
 use Rattle.std.proofs.lemmas.Slice.Eq.{bytes_eq-Decides}
-use Rattle.std.proofs.lemmas.Fmt.{decimal_injective}
-use Rattle.batchrun.specs.Words.{number_up_to}
+use Rattle.std.proofs.lemmas.Fmt.{decimal_is_IsNumeral}
+use Rattle.batchrun.specs.Words.{number_between}
 
-found_at : (b : Bool) (word : List ℕ) (last n : ℕ) (rest : Option ℕ) → Decides b (word ≡ decimal last) → last < 2 ^ 64 → n ≤ last → word ≡ decimal n → (n < last → rest ≡ Some n) → (if b then Some last else rest) ≡ Some n
-found_at true word last n rest same small within is below = ap Some (decimal_injective last n small (omega (arith, small, within)) (sym (same.0 refl) ∙ is))
-found_at false word last n rest other small within is below = elim (cases_eq n last) [
-  | inl e ↦ let wrong : false ≡ true = other.1 (is ∙ ap decimal e) in cc (wrong)
-  | inr e ↦ below (omega (arith, within, e))
-]
+-- what a word writes that is a number in decimal
+value_written : (n : ℕ) (word : List ℕ) → n < 2 ^ 64 → word ≡ decimal n → digits_value 10 word ≡ n
+value_written n word small is = ap (digits_value 10) is ∙ (decimal_is_IsNumeral n small).1
 
--- a number within the bound is found
-pub number_found : (most n : ℕ) (word : List ℕ) → most < 2 ^ 64 → 0 < n → n ≤ most → word ≡ decimal n → number_up_to most word ≡ Some n
-number_found zero n word small some within is = absurd (omega (arith, some, within))
-number_found (suc fewer) n word small some within is =
-    found_at (bytes_eq word (decimal (suc fewer))) word (suc fewer) n (number_up_to fewer word) (bytes_eq-Decides word (decimal (suc fewer))) small within is
-    (λ below. number_found fewer n word (omega (arith, small)) some (omega (arith, below)) is)
+found_at : (same : Bool) (least most value n : ℕ) → same ≡ true → value ≡ n → least ≤ n → n ≤ most
+    → (if same && nat_le least value && nat_le value most then Some value else None) ≡ Some n
+found_at same least most value n is is' from to = grind (arith, nat_tests)
 
-none_at : (b : Bool) (word : List ℕ) (last : ℕ) (rest : Option ℕ) → Decides b (word ≡ decimal last) → (word ≡ decimal last → ⊥) → rest ≡ None → (if b then Some last else rest) ≡ None
-none_at true word last rest same other none = absurd (other (same.0 refl))
-none_at false word last rest differs other none = none
+-- a number within the bounds is found
+pub number_found : (least most n : ℕ) (word : List ℕ) → n < 2 ^ 64 → word ≡ decimal n → least ≤ n → n ≤ most → number_between least most word ≡ Some n
+number_found least most n word small is from to =
+    let value = value_written n word small is in
+    found_at (bytes_eq word (decimal (digits_value 10 word))) least most (digits_value 10 word) n
+    ((bytes_eq-Decides word (decimal (digits_value 10 word))).1 (is ∙ ap decimal (sym value))) value from to
 
--- where the word writes no number within the bound, none is found
-pub no_number_found : (most : ℕ) (word : List ℕ) → ((n : ℕ) → 0 < n → n ≤ most → word ≡ decimal n → ⊥) → number_up_to most word ≡ None
-no_number_found zero word other = refl
-no_number_found (suc fewer) word other =
-    none_at (bytes_eq word (decimal (suc fewer))) word (suc fewer) (number_up_to fewer word) (bytes_eq-Decides word (decimal (suc fewer))) (other (suc fewer) (omega arith) (omega arith))
-    (no_number_found fewer word (λ n some within is. other n some (omega (arith, within)) is))
+none_at : (same : Bool) (least most value : ℕ) → (same ≡ true → least ≤ value → value ≤ most → ⊥)
+    → (if same && nat_le least value && nat_le value most then Some value else None) ≡ None
+none_at false least most value other = refl
+none_at true least most value other = grind (arith, nat_tests)
+
+-- where the word writes no number within the bounds, none is found
+pub no_number_found : (least most : ℕ) (word : List ℕ) → ((n : ℕ) → least ≤ n → n ≤ most → word ≡ decimal n → ⊥) → number_between least most word ≡ None
+no_number_found least most word other =
+    none_at (bytes_eq word (decimal (digits_value 10 word))) least most (digits_value 10 word)
+    (λ same from to. other (digits_value 10 word) from to ((bytes_eq-Decides word (decimal (digits_value 10 word))).0 same))
 
 -- nor where it writes a number outside
-pub no_count : (most n : ℕ) (word : List ℕ) → most < 2 ^ 64 → n < 2 ^ 64 → word ≡ decimal n → (n < 1) ⊎ (most < n) → number_up_to most word ≡ None
-no_count most n word small small' is outside =
-    no_number_found most word (λ m some within is'. let same = decimal_injective m n (omega (arith, small, within)) small' (sym is' ∙ is) in elim outside [
-      | inl h ↦ omega (arith, same, some, h)
-      | inr h ↦ omega (arith, same, within, h)
+pub outside : (least most n : ℕ) (word : List ℕ) → most < 2 ^ 64 → n < 2 ^ 64 → word ≡ decimal n → (n < least) ⊎ (most < n) → number_between least most word ≡ None
+outside least most n word small small' is far =
+    no_number_found least most word (λ m from to is'.
+    let same : m ≡ n = sym (value_written m word (omega (arith, small, to)) is') ∙ value_written n word small' is in elim far [
+      | inl h ↦ omega (arith, same, from, h)
+      | inr h ↦ omega (arith, same, to, h)
     ])
+
+bounds_at : (same : Bool) (least most value n : ℕ) → (if same && nat_le least value && nat_le value most then Some value else None) ≡ Some n → (least ≤ n) × (n ≤ most)
+bounds_at false least most value n found = cc
+bounds_at true least most value n found = grind (arith, nat_tests)
+
+-- a number that is found is within the bounds
+pub found_within : (least most n : ℕ) (word : List ℕ) → number_between least most word ≡ Some n → (least ≤ n) × (n ≤ most)
+found_within least most n word found = bounds_at (bytes_eq word (decimal (digits_value 10 word))) least most (digits_value 10 word) n found

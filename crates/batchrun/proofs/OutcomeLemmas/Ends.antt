@@ -10,9 +10,10 @@ use Rattle.batch_history.specs.declared.row.Row.{Row}
 use Rattle.batch_history.specs.declared.report.Report.{Report}
 use Rattle.batcher_core.specs.Reports.{IsDrivenReport}
 use Rattle.job_lang.specs.Language.{IsJobOf, IsFaultOf}
-use Rattle.batchrun.specs.Outcomes.{WasRead, HasRun, HasDriven, Headline, HasCause, Completes, IsUnlessMemory, IsAssured, FailsPast}
+use Rattle.batch_history.specs.Text.{report_text}
+use Rattle.batchrun.specs.Outcomes.{WasRead, HasRun, HasDriven, Prints, FileCause, FileCompletes, IsUnlessMemory, IsFileAssured, FailsPast}
 use Rattle.batchrun.specs.Code.Reading.{HasJob}
-use Rattle.batchrun.proofs.OutcomeLemmas.Headlines.{headline_with}
+use Rattle.batchrun.proofs.OutcomeLemmas.Headlines.{prints_with}
 use Rattle.job_lang.specs.declared.fault.JobFault.{JobFault}
 use Rattle.batchrun.specs.declared.status.Refusal.TheVariants.{TooLong, Job}
 use Rattle.batchrun.specs.declared.status.Status.{Status}
@@ -29,20 +30,25 @@ rows_counted job workers (Ok report) lawful = rows_count job workers report lawf
 rows_counted job workers (Err e) lawful = tt
 
 -- what a run does with the job that it read
-pub has_driven : (held : Option (List ℕ)) (workers : ℕ) (job : JobValue) (schedule : Option (List ℕ)) (report : Report) → HasJob held job → Lawful job workers report → IfSome schedule (λ turns. IsDrivenReport job workers turns report)
-    → HasDriven held workers schedule report
-has_driven held workers job schedule report has lawful driven = record {
-  run = record { bytes = has.bytes; read = has.read; job = job; accepted = has.accepted; lawful = lawful };
-  driven = driven;
-}
+has_run : (held : Option (List ℕ)) (workers : ℕ) (job : JobValue) (report : Report) → HasJob held job → Lawful job workers report → HasRun held workers report
+has_run held workers job report has lawful = record { bytes = has.bytes; read = has.read; job = job; accepted = has.accepted; lawful = lawful }
 
 -- the report of a run that is written is what the run did with the job that it read
-pub ran : {E : Type 0} (held : Option (List ℕ)) (workers : ℕ) (job : JobValue) (schedule : Option (List ℕ)) (run : Result Report E) (status : Status) (report : Option Report) (old new : Option (List ℕ))
-    → HasJob held job → IfOk run (λ report. Lawful job workers report) → IfOk run (λ report. IfSome schedule (λ turns. IsDrivenReport job workers turns report))
-    → Headline (λ report. run ≡ Ok report) status report old new → Headline (HasDriven held workers schedule) status report old new
-ran held workers job schedule run status report old new has lawful driven line =
-    headline_with (λ report. run ≡ Ok report) (HasDriven held workers schedule)
-    (λ report is. has_driven held workers job schedule report has (rw is at lawful) (rw is at driven)) status report old new line
+pub ran : {E : Type 0} (held : Option (List ℕ)) (workers : ℕ) (job : JobValue) (run : Result Report E) (status : Status) (report : Option Report) (old new : Option (List ℕ))
+    → HasJob held job → IfOk run (λ report. Lawful job workers report)
+    → Prints (λ report. run ≡ Ok report) report_text status report old new → Prints (HasRun held workers) report_text status report old new
+ran held workers job run status report old new has lawful line =
+    prints_with (λ report. run ≡ Ok report) (HasRun held workers) report_text
+    (λ report is. has_run held workers job report has (rw is at lawful)) status report old new line
+
+-- so it is where turns made it
+pub drove : {E : Type 0} (held : Option (List ℕ)) (workers : ℕ) (job : JobValue) (turns : List ℕ) (run : Result Report E) (status : Status) (report : Option Report) (old new : Option (List ℕ))
+    → HasJob held job → IfOk run (λ report. Lawful job workers report) → IfOk run (λ report. IsDrivenReport job workers turns report)
+    → Prints (λ report. run ≡ Ok report) report_text status report old new → Prints (HasDriven held workers turns) report_text status report old new
+unfolding has_run
+drove held workers job turns run status report old new has lawful driven line =
+    prints_with (λ report. run ≡ Ok report) (HasDriven held workers turns) report_text
+    (λ report is. record { run = has_run held workers job report has (rw is at lawful); driven = rw is at driven }) status report old new line
 
 -- the bytes that were read are those that are held
 same_bytes : (held : Option (List ℕ)) (told bytes : List ℕ) → WasRead held bytes → held ≡ Some told → bytes ≡ told
@@ -65,8 +71,8 @@ told_short told xs is long short = let same : told ≡ xs = cc in omega (arith, 
 
 -- the run is assured where no reading fails and the report's text is within the room
 pub is_assured : NoFault → (status : Status) (report : Option Report) (held : Option (List ℕ)) (workers : ℕ) (R W : Type 0) (old new : Option (List ℕ)) (never_fails : Bool) (room : ℕ)
-    → HasCause status held R W → Headline (HasRun held workers) status report old new → (IsTrue never_fails → (told : List ℕ) → held ≡ Some told → status ≡ ReadFault → ⊥) → FailsPast status report room
-    → IsAssured status report held never_fails room
+    → FileCause status held R W → Prints (HasRun held workers) report_text status report old new → (IsTrue never_fails → (told : List ℕ) → held ≡ Some told → status ≡ ReadFault → ⊥) → FailsPast report_text status report room
+    → IsFileAssured status report held never_fails room
 is_assured no_fault Done report held workers R W old new never_fails room why line reads past told job is short accepted never fits = inl refl
 is_assured no_fault Memory report held workers R W old new never_fails room why line reads past told job is short accepted never fits = inr refl
 is_assured no_fault Made report held workers R W old new never_fails room why line reads past told job is short accepted never fits = absurd why
@@ -94,7 +100,7 @@ read_short held told bytes read is long = omega (arith, read.short, long, ap len
 
 -- a file that is too long is refused as such
 too_long_ends : (status : Status) (report : Option Report) (held : Option (List ℕ)) (workers : ℕ) (R W : Type 0) (old new : Option (List ℕ)) (told : List ℕ)
-    → HasCause status held R W → Headline (HasRun held workers) status report old new → held ≡ Some told → ¬ R → 1048576 < length told → IsUnlessMemory status (Refused TooLong)
+    → FileCause status held R W → Prints (HasRun held workers) report_text status report old new → held ≡ Some told → ¬ R → 1048576 < length told → IsUnlessMemory status (Refused TooLong)
 too_long_ends Done None held workers R W old new told why line is calm long = absurd line
 too_long_ends Done (Some report) held workers R W old new told why line is calm long = absurd (read_short held told line.0.bytes line.0.read is long)
 too_long_ends Memory report held workers R W old new told why line is calm long = inr refl
@@ -108,7 +114,7 @@ too_long_ends (Refused (Job fault)) report held workers R W old new told why lin
 
 -- a file with a fault is refused for it
 fault_ends : NoFault → OneFault → (status : Status) (report : Option Report) (held : Option (List ℕ)) (workers : ℕ) (R W : Type 0) (old new : Option (List ℕ)) (told : List ℕ) (fault : JobFault)
-    → HasCause status held R W → Headline (HasRun held workers) status report old new → held ≡ Some told → ¬ R → length told ≤ 1048576 → IsFaultOf told fault → IsUnlessMemory status (Refused (Job fault))
+    → FileCause status held R W → Prints (HasRun held workers) report_text status report old new → held ≡ Some told → ¬ R → length told ≤ 1048576 → IsFaultOf told fault → IsUnlessMemory status (Refused (Job fault))
 fault_ends no_fault one_fault Done None held workers R W old new told fault why line is calm short has = absurd line
 fault_ends no_fault one_fault Done (Some report) held workers R W old new told fault why line is calm short has =
     let run = line.0 in
@@ -127,7 +133,7 @@ fault_ends no_fault one_fault (Refused (Job found)) report held workers R W old 
 
 -- an accepted job is done, where out doesn't fail
 job_ends : NoFault → (status : Status) (held : Option (List ℕ)) (R W : Type 0) (told : List ℕ) (job : JobValue)
-    → HasCause status held R W → held ≡ Some told → ¬ R → ¬ W → length told ≤ 1048576 → IsJobOf told job → IsUnlessMemory status Done
+    → FileCause status held R W → held ≡ Some told → ¬ R → ¬ W → length told ≤ 1048576 → IsJobOf told job → IsUnlessMemory status Done
 job_ends no_fault Done held R W told job why is calm calm' short accepted = inl refl
 job_ends no_fault Memory held R W told job why is calm calm' short accepted = inr refl
 job_ends no_fault Made held R W told job why is calm calm' short accepted = absurd why
@@ -140,7 +146,7 @@ job_ends no_fault (Refused (Job fault)) held R W told job why is calm calm' shor
 
 -- each file ends a run as its bytes call for
 pub completes : OneFault → NoFault → (status : Status) (report : Option Report) (held : Option (List ℕ)) (workers : ℕ) (R W : Type 0) (old new : Option (List ℕ))
-    → HasCause status held R W → Headline (HasRun held workers) status report old new → Completes status held R W
+    → FileCause status held R W → Prints (HasRun held workers) report_text status report old new → FileCompletes status held R W
 completes one_fault no_fault status report held workers R W old new why line = record {
   too_long = λ told is calm long. too_long_ends status report held workers R W old new told why line is calm long;
   refused = λ told fault is calm short has. fault_ends no_fault one_fault status report held workers R W old new told fault why line is calm short has;

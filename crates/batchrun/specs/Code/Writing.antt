@@ -1,8 +1,17 @@
--- How the writing of a report ends.
+-- How the writing of a report's lines ends.
+use Rattle.std.specs.Prelude.{◌≡◌, ℕ, ◌<◌, ◌⊎◌, List, length, Option}
+use Rattle.std.specs.Io.KnownBytes.{Appends}
+use Rattle.bt_io.specs.Bytes.{AppendsFront}
 use Rattle.batchrun.specs.declared.status.Status.{Status}
 use Rattle.batchrun.specs.declared.status.Status.TheVariants.{Done, WriteFault, Memory}
 
--- the writing ended with this status
+-- out took the lines whole, and the status is `done`; or it took a front of them, since a write failed, and that comes only
+-- where the lines are longer than the room
+abbrev pub WritesLines : Status → List ℕ → Status → Option (List ℕ) → Option (List ℕ) → Type 0 → ℕ → Type 0
+WritesLines done lines status old new WritesFailed room =
+    ((status ≡ done) × Appends old new lines) ⊎ ((status ≡ WriteFault) × AppendsFront old new lines × WritesFailed × (room < length lines))
+
+-- the writing of a text ended with this status
 abbrev pub EndsWriting : Status → Type 0 → Type 0
 EndsWriting Done WritesFailed = Unit {0}
 EndsWriting WriteFault WritesFailed = WritesFailed

@@ -1,22 +1,25 @@
 //! The parser: which command the words are.
 ghost use Rattle.std.specs.Prelude.{◌≡◌};
 ghost use Rattle.std.specs.Option.{option_map};
-ghost use Rattle.batchrun.specs.Words.{command_of, spelled, step_command, run_command, short_command, long_command, number_up_to};
-ghost use Rattle.batchrun.specs.Code.Commands.{command_in, step_in, run_in};
+ghost use Rattle.batchrun.specs.Words.{command_of, spelled, step_command, run_command, gen_command, short_command, long_command, workers_in, size_in};
+ghost use Rattle.batchrun.specs.Code.Commands.{command_in, step_in, run_in, gen_in};
 
-use crate::command::number::number_in;
+use crate::command::number::number_between;
 use crate::command::schedule::is_schedule;
-use crate::command::{Command, RunCommand, StepCommand};
+use crate::command::{Command, GenCommand, RunCommand, StepCommand};
 
 /// The count of workers that a word asks for, if it is a number from 1 to 32.
 fn workers_asked(word: &str) -> Option<u32>
-    ensures { result ≡ number_up_to 32 word.now }
+    ensures { result ≡ workers_in word.now }
 {
-    let workers = number_in(word.as_bytes())?;
-    if workers < 1 || workers > 32 {
-        return None;
-    }
-    Some(workers)
+    number_between(word, 1, 32).map(|workers| workers as u32)
+}
+
+/// The size of a generated job that a word asks for, if it is a number from 1 to 5,000.
+fn size_asked(word: &str) -> Option<u32>
+    ensures { result ≡ size_in word.now }
+{
+    number_between(word, 1, 5_000).map(|size| size as u32)
 }
 
 /// The `step` command of these words, if they are one.
@@ -48,6 +51,20 @@ fn parse_run<'a>(file: &'a str, workers: &str) -> Option<RunCommand<'a>>
     Some(RunCommand { file, workers })
 }
 
+/// The `gen` command of these words, if they are one.
+fn parse_gen(size: &str, seed: &str, workers: &str) -> Option<GenCommand>
+    ensures { option_map gen_in result ≡ gen_command size.now seed.now workers.now }
+{
+    let size = size_asked(size)?;
+    let seed = number_between(seed, 0, u64::MAX)?;
+    let workers = workers_asked(workers)?;
+    Some(GenCommand {
+        size,
+        seed,
+        workers,
+    })
+}
+
 /// The command of three words, if they are one.
 fn parse_short<'a>(name: &str, file: &'a str, workers: &str) -> Option<Command<'a>>
     ensures { option_map command_in result ≡ short_command name.now file.now workers.now }
@@ -60,16 +77,15 @@ fn parse_short<'a>(name: &str, file: &'a str, workers: &str) -> Option<Command<'
 }
 
 /// The command of four words, if they are one.
-fn parse_long<'a>(
-    name: &str,
-    file: &'a str,
-    workers: &str,
-    schedule: &'a str,
-) -> Option<Command<'a>>
-    ensures { option_map command_in result ≡ long_command name.now file.now workers.now schedule.now }
+fn parse_long<'a>(name: &str, first: &'a str, second: &str, third: &'a str) -> Option<Command<'a>>
+    ensures { option_map command_in result ≡ long_command name.now first.now second.now third.now }
 {
     match name {
-        "step" => parse_step(file, workers, schedule).map(Command::Step),
+        "step" => parse_step(first, second, third).map(Command::Step),
+        "gen" => {
+            let command = parse_gen(first, second, third)?;
+            Some(Command::Gen(command))
+        }
         _ => None,
     }
 }
@@ -79,12 +95,12 @@ pub(crate) fn parse(words: &[String]) -> Option<Command<'_>>
     ensures { option_map command_in result ≡ command_of (spelled words.now) }
 {
     match words {
-        [name, file, workers] => parse_short(name.as_str(), file.as_str(), workers.as_str()),
-        [name, file, workers, schedule] => parse_long(
+        [name, first, second] => parse_short(name.as_str(), first.as_str(), second.as_str()),
+        [name, first, second, third] => parse_long(
             name.as_str(),
-            file.as_str(),
-            workers.as_str(),
-            schedule.as_str(),
+            first.as_str(),
+            second.as_str(),
+            third.as_str(),
         ),
         _ => None,
     }

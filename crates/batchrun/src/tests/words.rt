@@ -4,7 +4,7 @@ use crate::tests::{run, unhindered};
 use std::test::Fail;
 
 /// Words that are no command, one row for each cause.
-const WRONG_USES: [&[&str]; 12] = [
+const WRONG_USES: [&[&str]; 17] = [
     &[],
     &["step", "-"],
     &["step", "-", "1", "0", "0"],
@@ -16,7 +16,12 @@ const WRONG_USES: [&[&str]; 12] = [
     &["run", "", "1"],
     &["run", "-", "0"],
     &["run", "-", "2", "01"],
-    &["gen", "2", "0", "1"],
+    &["gen", "2", "1"],
+    &["gen", "0", "7", "1"],
+    &["gen", "5001", "7", "1"],
+    &["gen", "1", "18446744073709551616", "1"],
+    &["gen", "01", "7", "1"],
+    &["gen", "1", "7", "33"],
 ];
 
 const USAGE: &[u8] =

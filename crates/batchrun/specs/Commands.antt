@@ -1,0 +1,62 @@
+-- What each command owes: which run its report tells, what it prints, and why each status comes.
+use Rattle.std.specs.Prelude.{ℕ, ◌≤◌, List, length, Bool, IsTrue, Option, None, Some, IfSome}
+use Rattle.std.specs.Io.KnownBytes.{Appends}
+use Rattle.batch_history.specs.declared.report.Report.{Report}
+use Rattle.batch_history.specs.Lawful.{Lawful}
+use Rattle.batch_history.specs.Text.{report_text}
+use Rattle.batch_history.specs.Summary.{summary_of_report, summary_of_job}
+use Rattle.job_lang.specs.Generator.{generated}
+use Rattle.batchrun.specs.Words.{Command, step, run, gen}
+use Rattle.batchrun.specs.Outcomes.{HasRun, HasDriven, FileCause, MadeCause, FileCompletes, IsFileAssured, IsUnlessMemory}
+use Rattle.batchrun.specs.declared.status.Status.{Status}
+use Rattle.batchrun.specs.declared.status.Status.TheVariants.{Made}
+
+-- Below, `held` tells the bytes that are held under each file, where they are told.
+
+-- the shelf may be asked for the command's file, if it names one
+abbrev pub MayRead : (List ℕ → Bool) → Option Command → Type 0
+MayRead may (Some (step file workers schedule)) = IsTrue (may file)
+MayRead may (Some (run file workers)) = IsTrue (may file)
+MayRead may _ = Unit {0}
+
+-- what a command prints of its report: its text, or the summary of a job that was made
+abbrev pub lines_of : Option Command → Report → List ℕ
+lines_of (Some (gen size seed workers)) = summary_of_report seed size
+lines_of _ = report_text
+
+-- The report is that of a run of the job that is held under the command's file, or that is generated; where the words are no
+-- command, there is none.
+abbrev pub Runs : Option Command → (List ℕ → Option (List ℕ)) → Report → Type 0
+Runs (Some (step file workers schedule)) held = HasRun (held file) workers
+Runs (Some (run file workers)) held = HasRun (held file) workers
+Runs (Some (gen size seed workers)) held = Lawful (generated seed size) workers
+Runs None held = λ report. ⊥
+
+-- the report of a run by turns is the one that its turns make
+abbrev pub Driven : Option Command → (List ℕ → Option (List ℕ)) → Report → Type 0
+Driven (Some (step file workers schedule)) held report = HasDriven (held file) workers schedule report
+Driven _ held report = Unit {0}
+
+-- why a command ends with a status
+abbrev pub HasCause : Command → (List ℕ → Option (List ℕ)) → Status → Type 0 → Type 0 → Type 0
+HasCause (step file workers schedule) held status ReadsFailed WritesFailed = FileCause status (held file) ReadsFailed WritesFailed
+HasCause (run file workers) held status ReadsFailed WritesFailed = FileCause status (held file) ReadsFailed WritesFailed
+HasCause (gen size seed workers) held status ReadsFailed WritesFailed = MadeCause status WritesFailed
+
+-- which status comes where no fault comes in between
+abbrev pub Completes : Command → (List ℕ → Option (List ℕ)) → Status → Type 0 → Type 0 → Type 0
+Completes (step file workers schedule) held status ReadsFailed WritesFailed = FileCompletes status (held file) ReadsFailed WritesFailed
+Completes (run file workers) held status ReadsFailed WritesFailed = FileCompletes status (held file) ReadsFailed WritesFailed
+Completes (gen size seed workers) held status ReadsFailed WritesFailed = ¬ WritesFailed → IsUnlessMemory status Made
+
+-- what comes where nothing is told to fail and out has room for all lines, unless memory runs out
+abbrev pub IsAssured : Command → (List ℕ → Option (List ℕ)) → Status → Option Report → Bool → ℕ → Type 0
+IsAssured (step file workers schedule) held status report never_fails room = IsFileAssured status report (held file) never_fails room
+IsAssured (run file workers) held status report never_fails room = IsFileAssured status report (held file) never_fails room
+IsAssured (gen size seed workers) held status report never_fails room =
+    length (summary_of_job seed size workers (generated seed size)) ≤ room → IsUnlessMemory status Made
+
+-- what `gen` prints is told by its words alone: the summary of the job that they generate
+abbrev pub PrintsSummary : Option Command → Status → Option (List ℕ) → Option (List ℕ) → Type 0
+PrintsSummary (Some (gen size seed workers)) Made old new = Appends old new (summary_of_job seed size workers (generated seed size))
+PrintsSummary _ status old new = Unit {0}

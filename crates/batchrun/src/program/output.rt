@@ -1,0 +1,82 @@
+//! What is written of a run's report: its text, or its summary.
+ghost use Rattle.std.specs.Prelude.{◌≡◌, Ok, length, IfOk};
+ghost use Rattle.bt_io.specs.Causes.{Rose};
+ghost use Rattle.sp_order.specs.Precedence.{leaf_count};
+ghost use Rattle.batch_history.specs.Text.{report_text};
+ghost use Rattle.batch_history.specs.Summary.{summary_of_report, CanBeSummed};
+ghost use Rattle.batchrun.specs.Outcomes.{Prints, MadeCause, FailsPast};
+ghost use Rattle.batchrun.specs.Code.Writing.{WritesLines, EndsWriting};
+
+use crate::command::GenCommand;
+use crate::outcome::Outcome;
+use crate::status::Status;
+use batch_history::{Report, made_text, text};
+use bt_io::{Failed, Sink, write_all};
+use sp_order::Job;
+use std::alloc::{AllocError, Global};
+
+/// Writes the lines of a report. Where out takes them whole, the run ends as `done`.
+fn write_lines<O: Sink>(out: &mut O, lines: &[u8], done: Status) -> Status
+    ensures { WritesLines done lines.now result (O.taken out.old) (O.taken out.new)
+        (Rose (O.faults out.old) (O.faults out.new)) (O.room_left out.old) }
+{
+    match write_all(out, lines) {
+        Ok(()) => done,
+        Err(Failed) => Status::WriteFault,
+    }
+}
+
+/// Ends a run of the job: writes the text of its report, unless memory ran out before.
+pub(crate) fn write_report<O: Sink>(
+    alloc: Global,
+    job: &Job,
+    run: Result<Report, AllocError>,
+    out: &mut O,
+) -> Outcome
+    requires { IfOk run (λ report. length report.rows ≡ leaf_count job.now.shape) }
+    ensures headline { Prints (λ report. run ≡ Ok report) report_text result.status result.report
+        (O.taken out.old) (O.taken out.new) }
+    ensures ends { EndsWriting result.status (Rose (O.faults out.old) (O.faults out.new)) }
+    ensures writes { FailsPast report_text result.status result.report (O.room_left out.old) }
+{
+    let Ok(report) = run else {
+        return Outcome::stopped(Status::Memory);
+    };
+    let Ok(lines) = text(alloc, job, &report) else {
+        return Outcome::stopped(Status::Memory);
+    };
+    let status = write_lines(out, lines.as_slice(), Status::Done);
+    Outcome {
+        status,
+        report: Some(report),
+    }
+}
+
+/// Ends a run of a job that was made: writes the summary of its report, unless memory ran out before.
+pub(crate) fn write_summary<O: Sink>(
+    alloc: Global,
+    command: &GenCommand,
+    job: &Job,
+    run: Result<Report, AllocError>,
+    out: &mut O,
+) -> Outcome
+    requires { IfOk run (CanBeSummed job.now) }
+    ensures headline { Prints (λ report. run ≡ Ok report)
+        (summary_of_report command.now.seed command.now.size) result.status result.report
+        (O.taken out.old) (O.taken out.new) }
+    ensures ends { MadeCause result.status (Rose (O.faults out.old) (O.faults out.new)) }
+    ensures writes { FailsPast (summary_of_report command.now.seed command.now.size) result.status
+        result.report (O.room_left out.old) }
+{
+    let Ok(report) = run else {
+        return Outcome::stopped(Status::Memory);
+    };
+    let Ok(lines) = made_text(alloc, command.seed, command.size, job, &report) else {
+        return Outcome::stopped(Status::Memory);
+    };
+    let status = write_lines(out, lines.as_slice(), Status::Made);
+    Outcome {
+        status,
+        report: Some(report),
+    }
+}

@@ -1,0 +1,146 @@
+//! The run of each command: its job is read or made, is run, and what is to be told of it is written.
+ghost use Rattle.std.specs.Prelude.{◌≡◌, ◌≤◌, ℕ, Some, Err, length, IsSome, IfOk, IfSome, IsTrue};
+ghost use Rattle.bt_io.specs.Causes.{Rose};
+ghost use Rattle.batch_history.specs.Lawful.{Lawful};
+ghost use Rattle.batch_history.specs.Text.{report_text};
+ghost use Rattle.batch_history.specs.Summary.{CanBeSummed, summary_of_report, summary_of_job};
+ghost use Rattle.batch_history.specs.declared.report.Report.{Report};
+ghost use Rattle.batcher_core.specs.Reports.{IsDrivenReport};
+ghost use Rattle.job_lang.specs.Generator.{generated};
+ghost use Rattle.batchrun.specs.Words.{workers_named};
+ghost use Rattle.batchrun.specs.Outcomes.{HasRun, HasDriven, Prints, FileCause, MadeCause, FailsPast, IsUnlessMemory};
+ghost use Rattle.batchrun.specs.Commands.{PrintsSummary};
+ghost use Rattle.batchrun.specs.Code.Commands.{gen_in};
+
+use crate::command::{GenCommand, RunCommand, StepCommand};
+use crate::outcome::Outcome;
+use crate::program::input::read_job_of;
+use crate::program::output::{write_report, write_summary};
+use crate::run::run_by_turns;
+use crate::status::Status;
+use batch_history::Report;
+use batch_history::laws::summary_is_the_jobs;
+use bt_io::{Pause, Shelf, Sink};
+use job_lang::generate;
+use job_lang::laws::{
+    generated_jobs_fill_first, generated_jobs_have_few_leaves, generated_jobs_have_small_arguments,
+};
+use sp_order::Job;
+use std::alloc::{AllocError, Global};
+use std::sync::Wait;
+use std::thread::Threads;
+use worker_loop::run_locked;
+
+/// Runs a job by the turns of a command.
+fn run_by_schedule(
+    alloc: Global,
+    command: &StepCommand<'_>,
+    job: &Job,
+) -> Result<Report, AllocError>
+    ensures driven { IfOk result (λ report. IsDrivenReport job.now command.now.workers
+        (workers_named command.now.schedule.now) report) }
+    ensures lawful { IfOk result (λ report. Lawful job.now command.now.workers report) }
+{
+    let turns = command.turns(alloc)?;
+    run_by_turns(alloc, job, command.workers, turns.as_slice())
+}
+
+/// Runs the job of a command's file by turns, and writes its report.
+pub(crate) fn step_file<I: Shelf, O: Sink>(
+    alloc: Global,
+    command: &StepCommand<'_>,
+    shelf: &mut I,
+    out: &mut O,
+) -> Outcome
+    requires may { IsTrue (I.may shelf.old command.now.file.now) }
+    ensures headline { Prints (HasRun (I.held shelf.old command.now.file.now) command.now.workers) report_text
+        result.status result.report (O.taken out.old) (O.taken out.new) }
+    ensures driven { IfSome result.report (HasDriven (I.held shelf.old command.now.file.now)
+        command.now.workers (workers_named command.now.schedule.now)) }
+    ensures cause { FileCause result.status (I.held shelf.old command.now.file.now)
+        (Rose (I.faults shelf.old) (I.faults shelf.new))
+        (Rose (O.faults out.old) (O.faults out.new)) }
+    ensures reads { IsTrue (I.never_fails shelf.old)
+        → IsSome (I.held shelf.old command.now.file.now)
+        → result.status ≡ Status.ReadFault
+        → ⊥ }
+    ensures writes { FailsPast report_text result.status result.report (O.room_left out.old) }
+{
+    match read_job_of(alloc, shelf, command.file) {
+        Ok(job) => write_report(alloc, &job, run_by_schedule(alloc, command, &job), out),
+        Err(status) => Outcome::stopped(status),
+    }
+}
+
+/// Runs the job of a command's file in threads, and writes its report.
+pub(crate) fn run_file<R: Threads + Wait + Sync, I: Shelf, O: Sink, G: Pause + Sync>(
+    rt: &R,
+    alloc: Global,
+    command: &RunCommand<'_>,
+    shelf: &mut I,
+    out: &mut O,
+    pause: &G,
+) -> Outcome
+    requires may { IsTrue (I.may shelf.old command.now.file.now) }
+    ensures headline { Prints (HasRun (I.held shelf.old command.now.file.now) command.now.workers) report_text
+        result.status result.report (O.taken out.old) (O.taken out.new) }
+    ensures cause { FileCause result.status (I.held shelf.old command.now.file.now)
+        (Rose (I.faults shelf.old) (I.faults shelf.new))
+        (Rose (O.faults out.old) (O.faults out.new)) }
+    ensures reads { IsTrue (I.never_fails shelf.old)
+        → IsSome (I.held shelf.old command.now.file.now)
+        → result.status ≡ Status.ReadFault
+        → ⊥ }
+    ensures writes { FailsPast report_text result.status result.report (O.room_left out.old) }
+{
+    match read_job_of(alloc, shelf, command.file) {
+        Ok(job) => {
+            let run = run_locked(rt, alloc, &job, command.workers, pause);
+            write_report(alloc, &job, run, out)
+        }
+        Err(status) => Outcome::stopped(status),
+    }
+}
+
+/// Each lawful report of a generated job has the summary of the job, which can be made. It is for proofs, and does
+/// nothing.
+fn generated_jobs_have_one_summary()
+    ensures sums { (seed size workers : ℕ) (report : Report) → 1 ≤ size → size ≤ 5000
+        → Lawful (generated seed size) workers report → CanBeSummed (generated seed size) report }
+    ensures lines { (seed size workers : ℕ) (report : Report) → 1 ≤ size
+        → Lawful (generated seed size) workers report
+        → summary_of_report seed size report ≡ summary_of_job seed size workers (generated seed size) }
+{
+    generated_jobs_fill_first();
+    generated_jobs_have_few_leaves();
+    generated_jobs_have_small_arguments();
+    summary_is_the_jobs();
+}
+
+/// Makes the job of a command's numbers, runs it in threads, and writes its summary.
+pub(crate) fn run_made<R: Threads + Wait + Sync, O: Sink, G: Pause + Sync>(
+    rt: &R,
+    alloc: Global,
+    command: &GenCommand,
+    out: &mut O,
+    pause: &G,
+) -> Outcome
+    ensures headline { Prints (Lawful (generated command.now.seed command.now.size) command.now.workers)
+        (summary_of_report command.now.seed command.now.size) result.status result.report
+        (O.taken out.old) (O.taken out.new) }
+    ensures summary { PrintsSummary (Some (gen_in command.now)) result.status
+        (O.taken out.old) (O.taken out.new) }
+    ensures cause { MadeCause result.status (Rose (O.faults out.old) (O.faults out.new)) }
+    ensures writes { FailsPast (summary_of_report command.now.seed command.now.size) result.status
+        result.report (O.room_left out.old) }
+    ensures assured { length (summary_of_job command.now.seed command.now.size command.now.workers
+        (generated command.now.seed command.now.size)) ≤ O.room_left out.old
+        → IsUnlessMemory result.status Status.Made }
+{
+    generated_jobs_have_one_summary();
+    let Ok(job) = generate(alloc, command.seed, command.size) else {
+        return Outcome::stopped(Status::Memory);
+    };
+    let run = run_locked(rt, alloc, &job, command.workers, pause);
+    write_summary(alloc, command, &job, run, out)
+}

@@ -1,7 +1,9 @@
 //! Runs of the whole program over memory: what they are given, and what they did.
 ghost use Rattle.std.specs.Prelude.{◌<◌};
 
+mod bad_input;
 mod bytes;
+mod failing_streams;
 mod faults;
 mod generated;
 mod history;

@@ -3,7 +3,7 @@ ghost use Rattle.std.specs.Prelude.{◌<◌};
 
 use crate::command::{Command, parse};
 use crate::in_memory::step_in_memory;
-use crate::tests::{ONE_ADD, STEP, run, unhindered};
+use crate::tests::{ONE_ADD, RUN, STEP, run, unhindered};
 use bt_io::{MemShelf, MemSink};
 use std::test::Fail;
 
@@ -58,31 +58,22 @@ fn a_fault_of_err_changes_no_status(rt: HostRuntime) -> Result<(), Fail> {
         (unhindered(&STEP, b"counter add 5"), 5),
         (unhindered(&STEP, b"counter"), 4),
         (unhindered(&STEP, b"counter add 5"), 0),
+        (unhindered(&RUN, b"counter add 5"), 3),
+        (unhindered(&RUN, b"counter add 5"), 5),
+        (unhindered(&RUN, b"counter"), 4),
+        (unhindered(&["gen", "2", "0", "1"], b""), 5),
     ];
     runs[1].0.read_fails = &[1];
     runs[2].0.write_fails = &[0];
+    runs[5].0.read_fails = &[1];
+    runs[6].0.write_fails = &[0];
+    runs[8].0.write_fails = &[0];
     for (given, number) in runs.iter_mut() {
         given.err_fails = &[0];
         let ran = run(&rt, rt.alloc(), given)?;
         assert_eq!(rt; ran.outcome.status.number(), *number);
         assert_eq!(rt; ran.err.bytes(), b"".as_slice());
     }
-    Ok(())
-}
-
-#[test]
-fn a_file_has_at_most_1048576_bytes(rt: HostRuntime) -> Result<(), Fail> {
-    let text = vec![in rt.alloc(); b' '; 1_048_577]?;
-    let ran = run(&rt, rt.alloc(), &unhindered(&STEP, &text.as_slice()[1..]))?;
-    assert_eq!(rt; ran.outcome.status.number(), 0);
-    assert_eq!(rt; ran.err.bytes(), b"".as_slice());
-    let ran = run(&rt, rt.alloc(), &unhindered(&STEP, text.as_slice()))?;
-    assert_eq!(rt; ran.outcome.status.number(), 4);
-    assert_eq!(rt; ran.out.bytes(), b"".as_slice());
-    assert_eq!(rt;
-        ran.err.bytes(),
-        b"batchrun: job longer than 1048576 bytes\n".as_slice()
-    );
     Ok(())
 }
 

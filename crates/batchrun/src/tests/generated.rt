@@ -2,13 +2,16 @@
 use crate::tests::{run, unhindered};
 use std::test::Fail;
 
+/// The words of the smallest worked run, and what it prints.
+pub(crate) const SMALLEST: [&str; 4] = ["gen", "2", "0", "1"];
+
+pub(crate) const SMALLEST_SUMMARY: &[u8] =
+    b"seed 0 size 2 workers 1\nleaves 6 calls 6\ncounter 0\nstack pushed 1 popped 15236\n\
+tree keys 1 found 0\nqueue inserted 0 taken 0\n";
+
 /// The words of a run, and what it prints.
 const SUMMARIES: [(&[&str], &[u8]); 3] = [
-    (
-        &["gen", "2", "0", "1"],
-        b"seed 0 size 2 workers 1\nleaves 6 calls 6\ncounter 0\nstack pushed 1 popped 15236\n\
-tree keys 1 found 0\nqueue inserted 0 taken 0\n",
-    ),
+    (&SMALLEST, SMALLEST_SUMMARY),
     (
         &["gen", "1", "18446744073709551615", "32"],
         b"seed 18446744073709551615 size 1 workers 32\nleaves 4 calls 4\ncounter 0\n\

@@ -1,0 +1,56 @@
+-- What a closed table tells to a pass that has seen the root done.
+use Rattle.std.proofs.Common.{ℕ, zero, suc, ◌≡◌, ◌<◌, ◌+◌, ◌/◌, ◌%◌, true, Option as Maybe, List, [], ◌∷◌, length, get_or, arith, sym, subst}
+use mathlib.Core.Option.{some, some-injective, some-ne-none}
+use lib.ListN.{get_elem?}
+use Rattle.atomic_table.specs.Table.{Final, Seen}
+use Rattle.batcher_core.specs.declared.state.progress.Progress.TheVariants.{Ran}
+use Rattle.batcher_core.specs.State.{CoreJob, Hold, State}
+use Rattle.batcher_core.specs.Tasks.{is_done}
+use Rattle.batcher_core.specs.Invariant.{Parts}
+use Rattle.core_table.specs.declared.view.View.{View}
+use Rattle.core_table.specs.declared.slot.Slot.{Slot}
+use Rattle.core_table.specs.declared.slot.Slot.TheVariants as Slots
+use Rattle.core_table.specs.Words.{WordsShow, progress_code}
+use Rattle.core_table.specs.Code.Laws.{Laws}
+use Rattle.core_table.specs.Shows.{reserved, BookAt, IsFront, Shows}
+
+-- the parts of the word of a leaf that has run
+pub worker_of : (w s e : ℕ) → w < 32 → progress_code (Ran w s e) / 4 % 32 ≡ w
+worker_of w s e low = omega arith
+
+pub start_of : (w s e : ℕ) → w < 32 → s < 1048576 → progress_code (Ran w s e) / 128 % 1048576 ≡ s
+start_of w s e low low' = omega arith
+
+pub end_of : (w s e : ℕ) → w < 32 → s < 1048576 → progress_code (Ran w s e) / 134217728 ≡ e
+end_of w s e low low' = omega arith
+
+pub at_word : (l : List ℕ) (i a : ℕ) → get_elem? l i ≡ some a → get_or l i 0 ≡ a
+at_word [] i a e = absurd (some-ne-none a (sym e))
+at_word (x ∷ xs) zero a e = some-injective _ _ e
+at_word (x ∷ xs) (suc i) a e = at_word xs i a e
+
+-- the state at the end
+pub record Last (job : CoreJob) (room : ℕ) (v : View) (ws : List ℕ) (xs : List Slot) : Type 0 where
+  pub state : State
+  pub parts : Parts job state
+  pub over : is_done (state.node 0) ≡ true
+  pub words : WordsShow job.workers job.plan.count ws state.node state.mark state.value state.status state.hold state.tick (length state.book)
+  pub there : get_elem? xs (job.workers + 1) ≡ some (Slots.Book (reserved state.book room))
+  pub seen : IsFront v.book_seen state.book
+
+pub closes : (job : CoreJob) (room id k : ℕ) (laws : Laws job) (v : View) (ws : List ℕ) (xs : List Slot) → Final (Seen (Shows job room) id v) ws xs → v.from ≡ k → v.to ≡ k + 1 → v.saw_done ≡ true → Last job room v ws xs
+closes job room id k laws v ws xs f from to saw =
+    let t = f.0 in
+    let o = f.1.0 in
+    let mine = (o.views id v k f.1.1 (omega arith) (omega arith)).1 in
+    let over = mine.done saw in
+    let free = laws.ended o.state o.parts over in
+    let book = subst (λ (h : Maybe Hold). BookAt room h o.state.book (get_elem? t.homes (job.workers + 1))) free o.slots.batches in
+    record {
+      state = o.state;
+      parts = o.parts;
+      over = over;
+      words = subst (λ (l : List ℕ). WordsShow job.workers job.plan.count l o.state.node o.state.mark o.state.value o.state.status o.state.hold o.state.tick (length o.state.book)) f.2 o.words;
+      there = f.4 (job.workers + 1) (Slots.Book (reserved o.state.book room)) book;
+      seen = mine.seen;
+    }

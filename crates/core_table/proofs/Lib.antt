@@ -1,0 +1,5 @@
+pub mod ListLemmas
+pub mod TableLemmas
+pub mod StepLemmas
+pub mod PassLemmas
+pub mod CloseLemmas

@@ -1,0 +1,4 @@
+pub mod Lists
+pub mod CallCounts
+pub mod Standing
+pub mod Owed

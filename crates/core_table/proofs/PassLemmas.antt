@@ -1,0 +1,3 @@
+pub mod PassKept
+pub mod NewPass
+pub mod Starts

@@ -1,0 +1,45 @@
+-- A pass that has just enrolled, and the list of passes.
+use Rattle.std.proofs.Common.{ℕ, zero, suc, ◌≡◌, ◌<◌, false, List, [], ◌∷◌, ◌++◌, length, arith, refl, sym, ap, subst, IfSome, slice_get}
+use Rattle.atomic_table.specs.Seated.{TableId}
+use Rattle.atomic_table.specs.declared.shared.Seat.{Seat}
+use Rattle.core_table.specs.declared.view.View.{View}
+use Rattle.core_table.specs.declared.slot.Slot.{Slot}
+use Rattle.core_table.specs.declared.slot.Slot.TheVariants as Slots
+use Rattle.core_table.specs.declared.setting.Setting.{Setting}
+use Rattle.core_table.specs.Shows.{job_of}
+use Rattle.core_table.specs.Plays.{Sat}
+use Rattle.core_table.specs.Views.{enrolling, pass_of}
+use Rattle.core_table.specs.Carries.{Carries}
+use Rattle.core_table.specs.Remembers.{Remembers}
+use Rattle.core_table.proofs.ListLemmas.Owed.{remembers_none}
+use Rattle.core_table.specs.Passes.{TaskHere, IsSeatOf}
+use Rattle.core_table.specs.Views.{rest_from}
+
+pub each_push : {A : Type 0} (P : ℕ → A → Type 0) (l : List A) (x : A) → ((w : ℕ) → IfSome (slice_get l w) (P w)) → P (length l) x → (w : ℕ) → IfSome (slice_get (l ++ x ∷ []) w) (P w)
+each_push P [] x old new zero = new
+each_push P [] x old new (suc w) = old (suc w)
+each_push P (y ∷ ys) x old new zero = old zero
+each_push P (y ∷ ys) x old new (suc w) = each_push (λ k. P (suc k)) ys x (λ k. old (suc k)) (subst (λ (k : ℕ). P k x) (omega arith) new) w
+
+abbrev fresh : ℕ → Setting → View
+fresh k setting = enrolling (pass_of (rest_from k setting))
+
+carries_new : (k : ℕ) (setting : Setting) → Carries k (fresh k setting, (k, Slots.Vacant) ∷ [])
+carries_new k setting = record {
+  free = λ ne. (refl, refl);
+  trapped = λ e _. absurd (cc);
+  holds = λ h e. absurd (cc);
+}
+
+pub new_pass : (setting : Setting) (table : TableId) (k : ℕ) (seat : Seat Slot View) → k < setting.workers → seat.table_id ≡ table → seat.me ≡ (fresh k setting, (k, Slots.Vacant) ∷ []) → IsSeatOf setting table k seat [] false
+new_pass setting table k seat low same is = (
+  same,
+  low,
+  ap (λ (m : Sat). m.0.workers) is,
+  ap (λ (m : Sat). m.0.nodes) is,
+  ap (λ (m : Sat). m.0.enrolled) is,
+  subst (TaskHere (job_of setting)) (sym (ap (λ (m : Sat). m.0.task) is)) tt,
+  ap (λ (m : Sat). m.0.room) is,
+  subst (Carries k) (sym is) (carries_new k setting),
+  subst (λ (m : Sat). Remembers m.0 [] false) (sym is) (remembers_none (fresh k setting) [] false refl refl),
+)

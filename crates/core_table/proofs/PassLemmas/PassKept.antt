@@ -1,0 +1,164 @@
+-- A pass stays one of its table, where its view changes in what is not the table's.
+use Rattle.std.proofs.Common.{ℕ, ◌≡◌, ◌+◌, Bool, true, false, None, Some, List, [], ◌∷◌, ◌++◌, get_or, refl, sym, ap, ◌∙◌, subst}
+use Rattle.std.proofs.lemmas.List.{map-append}
+use Rattle.atomic_table.specs.Table.{turned, rest}
+use Rattle.atomic_table.specs.Seated.{TableId}
+use Rattle.atomic_table.specs.declared.shared.Seat.{Seat}
+use Rattle.batcher_core.specs.declared.state.status.CallState.TheVariants.{Out}
+use Rattle.core_table.specs.declared.view.View.{View}
+use Rattle.core_table.specs.declared.view.HoldView.{HoldView}
+use Rattle.core_table.specs.declared.slot.Slot.{Slot}
+use Rattle.core_table.specs.declared.slot.Slot.TheVariants as Slots
+use Rattle.core_table.specs.declared.setting.Setting.{Setting}
+use Rattle.core_table.specs.Shows.{reserved, job_of}
+use Rattle.batch_history.specs.Reserved.{ReservedView}
+use Rattle.core_table.specs.declared.slot.OpRecord.{OpRecord}
+use Rattle.batch_history.specs.declared.batch.Entry.{Entry}
+use Rattle.core_table.specs.Plays.{Sat}
+use Rattle.core_table.specs.Views.{without_first, posting, winning, with_hold, taken_view, passed_view, published_view, answered_view, releasing}
+use Rattle.core_table.specs.Carries.{vacant, HolderCarries, Carries}
+use Rattle.core_table.specs.Remembers.{Remembers}
+use Rattle.core_table.proofs.ListLemmas.Owed.{remembers_kept}
+use Rattle.core_table.specs.Passes.{TaskHere, IsSeatOf}
+
+holder_kept : (b : Bool) (v w : View) (h : HoldView) (xs : List (ℕ × Slot)) → w.workers ≡ v.workers → w.room ≡ v.room → HolderCarries b v h xs → HolderCarries b w h xs
+holder_kept false v w h xs a b m = rw (a, b) m
+holder_kept true v w h xs a b m = rw a m
+
+pub carries_kept : (k : ℕ) (v w : View) (xs : List (ℕ × Slot)) → w.workers ≡ v.workers → w.room ≡ v.room → w.call ≡ v.call → w.hold ≡ v.hold → Carries k (v, xs) → Carries k (w, xs)
+carries_kept k v w xs workers room call hold m = record {
+  free = λ ne. let t = m.free (λ e. ne (call ∙ e)) in (hold ∙ t.0, t.1);
+  trapped = λ out none_held. m.trapped (sym call ∙ out) (sym hold ∙ none_held);
+  holds = λ h is. holder_kept h.published v w h xs workers room (m.holds h (sym hold ∙ is));
+}
+
+-- the views of a pass before and after a step that is not of the gate
+pub pass_kept : {owed : List ℕ} {published : Bool} (setting : Setting) (table : TableId) (k : ℕ) (old new : Seat Slot View) (w : View) → new.table_id ≡ old.table_id → new.me ≡ (w, old.me.1)
+    → w.workers ≡ old.me.0.workers → w.nodes ≡ old.me.0.nodes → w.room ≡ old.me.0.room → w.enrolled ≡ old.me.0.enrolled → w.task ≡ old.me.0.task → w.call ≡ old.me.0.call → w.hold ≡ old.me.0.hold
+    → IsSeatOf setting table k old owed published → IsSeatOf setting table k new owed published
+pass_kept {owed} {published} setting table k old new w same is workers nodes room enrolled task call hold p = (
+  same ∙ p.0,
+  p.1,
+  ap (λ (m : Sat). m.0.workers) is ∙ (workers ∙ p.2),
+  ap (λ (m : Sat). m.0.nodes) is ∙ (nodes ∙ p.3),
+  ap (λ (m : Sat). m.0.enrolled) is ∙ (enrolled ∙ p.4),
+  subst (TaskHere (job_of setting)) (sym (ap (λ (m : Sat). m.0.task) is ∙ task)) p.5,
+  ap (λ (m : Sat). m.0.room) is ∙ (room ∙ p.6),
+  subst (Carries k) (sym is) (carries_kept k old.me.0 w old.me.1 workers room call hold p.7),
+  remembers_kept old.me.0 new.me.0 owed published (ap (λ (m : Sat). m.0.hold) is ∙ hold) p.8,
+)
+
+-- a pass of the gate: its view and its slots are those
+pub pass_made : {owed owed' : List ℕ} {published published' : Bool} (setting : Setting) (table : TableId) (k : ℕ) (old new : Seat Slot View) (w : View) (xs : List (ℕ × Slot)) → new.table_id ≡ old.table_id → new.me ≡ (w, xs)
+    → w.workers ≡ old.me.0.workers → w.nodes ≡ old.me.0.nodes → w.room ≡ old.me.0.room → w.enrolled ≡ old.me.0.enrolled → w.task ≡ old.me.0.task → Carries k (w, xs) → Remembers w owed' published'
+    → IsSeatOf setting table k old owed published → IsSeatOf setting table k new owed' published'
+pass_made {owed} {owed'} {published} {published'} setting table k old new w xs same is workers nodes room enrolled task carries remembers p = (
+  same ∙ p.0,
+  p.1,
+  ap (λ (m : Sat). m.0.workers) is ∙ (workers ∙ p.2),
+  ap (λ (m : Sat). m.0.nodes) is ∙ (nodes ∙ p.3),
+  ap (λ (m : Sat). m.0.enrolled) is ∙ (enrolled ∙ p.4),
+  subst (TaskHere (job_of setting)) (sym (ap (λ (m : Sat). m.0.task) is ∙ task)) p.5,
+  ap (λ (m : Sat). m.0.room) is ∙ (room ∙ p.6),
+  subst (Carries k) (sym is) carries,
+  subst (λ (m : Sat). Remembers m.0 owed' published') (sym is) remembers,
+)
+
+-- what stands first in a seat's list
+pub first : (m : Sat) (v : View) (k : ℕ) (x : Slot) (xs : List (ℕ × Slot)) → m ≡ (v, (k, x) ∷ xs) → m.1 ≡ (k, x) ∷ rest m.1
+first m v k x xs e = ap (λ (z : Sat). z.1) e ∙ ap (λ (z : Sat). (k, x) ∷ rest z.1) (sym e)
+
+-- after an exchange of it
+pub swapped : (m n : Sat) (v : View) (k : ℕ) (x y : Slot) (xs : List (ℕ × Slot)) → m ≡ (v, (k, x) ∷ xs) → n ≡ (m.0, (k, y) ∷ rest m.1) → n ≡ (v, (k, y) ∷ xs)
+swapped m n v k x y xs e f = f ∙ ap (λ (z : Sat). (z.0, (k, y) ∷ rest z.1)) e
+
+-- and once it is turned behind the others
+pub turned_to : (m n : Sat) (v : View) (xs : List (ℕ × Slot)) → m ≡ (v, xs) → n ≡ (m.0, turned m.1) → n ≡ (v, turned xs)
+turned_to m n v xs e f = f ∙ ap (λ (z : Sat). (z.0, turned z.1)) e
+
+none_out : (a : HoldView) → None ≡ Some a → ⊥
+none_out a e = cc
+
+pub same_hold : (a b : HoldView) → Some a ≡ Some b → a ≡ b
+same_hold a b e = cc
+
+-- a pass that has just posted
+pub carries_posted : (k : ℕ) (v : View) (call : OpRecord) → v.hold ≡ None → Carries k (posting v call, [])
+carries_posted k v call nothing = record {
+  free = λ ne. absurd (ne refl);
+  trapped = λ _ _. refl;
+  holds = λ h is. absurd (none_out h (sym nothing ∙ is));
+}
+
+-- a pass that has just won
+pub carries_won : (k workers : ℕ) (v : View) (history : List (List Entry)) → v.call ≡ Out → v.workers ≡ workers
+    → Carries k (winning v history, (workers + 1, Slots.Book (reserved history v.room)) ∷ (workers, Slots.Vacant) ∷ [])
+carries_won k workers v history out wide = record {
+  free = λ ne. absurd (ne out);
+  trapped = λ _ e. absurd (cc);
+  holds = λ h is. subst (λ (z : HoldView). HolderCarries z.published (winning v history) z ((workers + 1, Slots.Book (reserved history v.room)) ∷ (workers, Slots.Vacant) ∷ [])) (same_hold _ h is)
+      (rw wide refl);
+}
+
+-- a holder that has taken one more
+pub carries_took : (k u : ℕ) (v : View) (h : HoldView) (call : OpRecord) (xs : List (ℕ × Slot)) → v.call ≡ Out → v.hold ≡ Some h → h.published ≡ false → Carries k (v, xs) → Carries k (with_hold v (taken_view h u call), xs ++ (u, Slots.Vacant) ∷ [])
+carries_took k u v h call xs out is early m =
+    let w : View = with_hold v (taken_view h u call) in
+    let was : HolderCarries false v h xs = subst (λ (b : Bool). HolderCarries b v h xs) early (m.holds h is) in record {
+      free = λ ne. absurd (ne out);
+      trapped = λ _ e. absurd (cc);
+      holds = λ g f. subst (λ (z : HoldView). HolderCarries z.published w z (xs ++ (u, Slots.Vacant) ∷ [])) (same_hold _ g f)
+          (subst (λ (b : Bool). HolderCarries b w (taken_view h u call) (xs ++ (u, Slots.Vacant) ∷ [])) (sym early)
+          (ap (λ l. l ++ (u, Slots.Vacant) ∷ []) was ∙ rw map-append refl));
+    }
+
+pub carries_passed : (k : ℕ) (v : View) (h : HoldView) (xs : List (ℕ × Slot)) → v.call ≡ Out → v.hold ≡ Some h → Carries k (v, xs) → Carries k (with_hold v (passed_view h), xs)
+carries_passed k v h xs out is m =
+    let w : View = with_hold v (passed_view h) in record {
+      free = λ ne. absurd (ne out);
+      trapped = λ _ e. absurd (cc);
+      holds = λ g f. subst (λ (z : HoldView). HolderCarries z.published w z xs) (same_hold _ g f) (elim h.published as (λ (b : Bool). HolderCarries b v h xs → HolderCarries b w (passed_view h) xs) [ false ↦ λ y. y | true ↦ λ y. y ] (m.holds h is));
+    }
+
+-- a holder that has published
+pub carries_published : (k workers : ℕ) (v : View) (h : HoldView) (batch : List Entry) → v.call ≡ Out → v.workers ≡ workers
+    → Carries k (with_hold v (published_view h batch), vacant h.owed ++ (workers, Slots.Vacant) ∷ [])
+carries_published k workers v h batch out wide =
+    let w : View = with_hold v (published_view h batch) in record {
+      free = λ ne. absurd (ne out);
+      trapped = λ _ e. absurd (cc);
+      holds = λ g f. subst (λ (z : HoldView). HolderCarries z.published w z (vacant h.owed ++ (workers, Slots.Vacant) ∷ [])) (same_hold _ g f) (rw wide refl);
+    }
+
+-- the list of a holder that has not published, of a table of so many workers
+pub holder_list : (k workers room : ℕ) (me : Sat) (h : HoldView) → me.0.hold ≡ Some h → h.published ≡ false → me.0.workers ≡ workers → me.0.room ≡ room → Carries k me
+    → me ≡ (me.0, (workers + 1, Slots.Book (reserved h.book room)) ∷ (workers, Slots.Vacant) ∷ vacant h.owed)
+holder_list k workers room me h is early wide roomy m =
+    let t : HolderCarries false me.0 h me.1 = subst (λ (b : Bool). HolderCarries b me.0 h me.1) early (m.holds h is) in
+    let l = t ∙ (ap (λ (n : ℕ). (n + 1, Slots.Book (reserved h.book me.0.room)) ∷ (n, Slots.Vacant) ∷ vacant h.owed) wide
+    ∙ ap (λ (r : ℕ). (workers + 1, Slots.Book (reserved h.book r)) ∷ (workers, Slots.Vacant) ∷ vacant h.owed) roomy) in λ i. (me.0, l i)
+
+-- what an exchange found first
+pub found_book : (m : Sat) (v : View) (k : ℕ) (x : Slot) (b : ReservedView) (xs ys : List (ℕ × Slot)) → m ≡ (v, (k, Slots.Book b) ∷ xs) → m.1 ≡ (k, x) ∷ ys → Slots.Book b ≡ x
+found_book m v k x b xs ys e f = ap (λ (l : List (ℕ × Slot)). (get_or l 0 (k, x)).1) (sym (ap (λ (z : Sat). z.1) e) ∙ f)
+
+pub books : (a b : ReservedView) → Slots.Book a ≡ Slots.Book b → a ≡ b
+books a b e = cc
+
+-- and of one that has published
+pub holder_after : (k workers : ℕ) (me : Sat) (h : HoldView) (owed : List ℕ) → me.0.hold ≡ Some h → h.published ≡ true → h.owed ≡ owed → me.0.workers ≡ workers → Carries k me → me ≡ (me.0, vacant owed ++ (workers, Slots.Vacant) ∷ [])
+holder_after k workers me h owed is there same wide m =
+    let t : HolderCarries true me.0 h me.1 = subst (λ (b : Bool). HolderCarries b me.0 h me.1) there (m.holds h is) in
+    let l = t ∙ (ap (λ (o : List ℕ). vacant o ++ (me.0.workers, Slots.Vacant) ∷ []) same ∙ ap (λ (n : ℕ). vacant owed ++ (n, Slots.Vacant) ∷ []) wide) in λ i. (me.0, l i)
+
+pub carries_answered : (k workers u : ℕ) (v : View) (h : HoldView) → v.call ≡ Out → v.workers ≡ workers → h.published ≡ true
+    → Carries k (with_hold v (answered_view h u), vacant (without_first u h.owed) ++ (workers, Slots.Vacant) ∷ [])
+carries_answered k workers u v h out wide there =
+    let w : View = with_hold v (answered_view h u) in let xs = vacant (without_first u h.owed) ++ (workers, Slots.Vacant) ∷ [] in record {
+      free = λ ne. absurd (ne out);
+      trapped = λ _ e. absurd (cc);
+      holds = λ g f. subst (λ (z : HoldView). HolderCarries z.published w z xs) (same_hold _ g f) (subst (λ (b : Bool). HolderCarries b w (answered_view h u) xs) (sym there) (rw wide refl));
+    }
+
+pub carries_released : (k : ℕ) (v : View) → v.call ≡ Out → Carries k (releasing v, [])
+carries_released k v out = record { free = λ ne. absurd (ne out); trapped = λ _ _. refl; holds = λ g f. absurd (cc) }

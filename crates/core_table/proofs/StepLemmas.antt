@@ -1,0 +1,6 @@
+pub mod JobSteps
+pub mod Sides
+pub mod LookSteps
+pub mod GateSteps
+pub mod TakeOk
+pub mod PublishStep

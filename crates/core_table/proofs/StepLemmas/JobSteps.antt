@@ -1,0 +1,287 @@
+-- The steps of the job side.
+use Rattle.std.proofs.Common.{ℕ, ◌≡◌, ◌≢◌, ◌<◌, ◌+◌, ◌%◌, ◌^◌, true, false, Some, List, length, get_or, set, eqb, arith, refl, sym, ap, ◌∙◌, subst, inl, inr}
+use Rattle.std.proofs.lemmas.Bool.Decides.{nat_tests}
+use Rattle.std.proofs.lemmas.Bool.{cases_eq}
+use mathlib.Core.Option.{none, some}
+use lib.ListN.{get_elem?}
+use prog.Atomic.{either}
+use Rattle.atomic_table.specs.Table.{step, Act, keeps, Valid, carried_after, stepped, Allows}
+use Rattle.atomic_table.proofs.Lists.{exchanged}
+use Rattle.batcher_core.specs.declared.state.progress.Progress.{Progress}
+use Rattle.batcher_core.specs.declared.state.progress.Progress.TheVariants.{Waiting, Ready, Taken as IsTaken, Done, Ran}
+use Rattle.batcher_core.specs.declared.state.task.Task.{Task}
+use Rattle.batcher_core.specs.declared.state.task.Task.TheVariants.{Idle, Run, Half, Started, Kept, Ended, Whole, Handed}
+use Rattle.batcher_core.specs.declared.state.status.CallState.TheVariants.{NotCalled, Out}
+use Rattle.batcher_core.specs.declared.event.Event.{Event}
+use Rattle.batcher_core.specs.declared.event.Event.TheVariants.{Claim, Start, OpenParRight, OpenParLeft, OpenSeqLeft, OpenSeqRight, Keep, End, FinishLeaf, FinishSeq, FinishPar, ArriveFirst, ArriveSecond}
+use Rattle.sp_order.specs.declared.node.Kind.TheVariants.{SeqNode, ParNode}
+use Rattle.sp_order.specs.Plans.{IsSide, parent_of}
+use Rattle.batcher_core.specs.Events.{Happens, task_after, value_in}
+use Rattle.batcher_core.specs.State.{put, CoreJob}
+use Rattle.batcher_core.specs.Tasks.{is_done}
+use Rattle.batcher_core.specs.Operations.{leaf_of, IsLeaf}
+use Rattle.core_table.specs.declared.view.View.{View}
+use Rattle.core_table.specs.declared.slot.Slot.{Slot}
+use Rattle.core_table.specs.Words.{node_at, mark_at, value_at, tick_at, progress_code, WordsShow}
+use Rattle.core_table.specs.Code.Laws.{Laws}
+use Rattle.core_table.specs.Passes.{IsTickDue}
+use Rattle.core_table.specs.Shows.{St, Shows, Mine}
+use Rattle.core_table.specs.Plays.{claimed, drawn, half_opened, opened, kept, finished, arrived}
+use Rattle.core_table.specs.Views.{with_task, claiming, refusing, ticked, opening, keeping}
+use Rattle.core_table.proofs.TableLemmas.Words.{put_at, put_other, set_node, set_mark, set_value, set_tick}
+use Rattle.core_table.proofs.TableLemmas.Facts.{is_free}
+use Rattle.core_table.proofs.TableLemmas.Moved.{mine_of, job_step, looked, SameBut}
+
+ready_word : (p : Progress) → progress_code p ≡ 1 → p ≡ Ready
+ready_word Waiting e = absurd (omega (arith, e))
+ready_word Ready e = refl
+ready_word IsTaken e = absurd (omega (arith, e))
+ready_word Done e = absurd (omega (arith, e))
+ready_word (Ran w s d) e = absurd (omega (arith, e))
+
+-- a node that becomes no done one does not undo the root
+root_kept : (node : ℕ → Progress) (n : ℕ) (x : Progress) → is_done (node n) ≡ false → is_done (node 0) ≡ true → is_done (put node n x 0) ≡ true
+root_kept node n x undone done = grind (arith, nat_tests)
+
+root_done : (node : ℕ → Progress) (n : ℕ) (x : Progress) → is_done x ≡ true → is_done (node 0) ≡ true → is_done (put node n x 0) ≡ true
+root_done node n x is done = grind (arith, nat_tests)
+
+module _ (job : CoreJob) (room : ℕ) (laws : Laws job) (slots id : ℕ) (v : View) (xs : List (ℕ × Slot)) (k : ℕ) (from : v.from ≡ k) (to : v.to ≡ k + 1) (sized : v.workers ≡ job.workers) (enrolled : v.enrolled ≡ true) where
+  abbrev P : ℕ
+  P = job.workers
+
+  abbrev N : ℕ
+  N = job.plan.count
+
+  -- the view after a look or a refused try
+  refused : (t : St) (o : Shows job room t) (n : ℕ) → Mine job o.state (get_elem? t.homes k) (o.seat k) id v k → Mine job o.state (get_elem? t.homes k) (o.seat k) id (refusing v n) k
+  refused t o n m = record { sits = m.sits; task = m.task; call = m.call; posted = m.posted; entries = m.entries; hold = m.hold; new = m.new; done = m.done; seen = m.seen; since = record { most = m.since.most; early = m.since.early; late = m.since.late; placed = m.since.placed; waits = m.since.waits } }
+
+  -- a claim
+  pub claims : (n : ℕ) → n < job.plan.count → v.task ≡ Idle → v.call ≢ Out
+      → Allows (Shows job room) slots id (v, xs) (node_at job.workers n) (λ y. either (eqb y 1) 2 y) (claimed (step slots (node_at job.workers n) 1 2 none) (v, xs))
+  claims n below idle inside t o wide me fits =
+      let s = o.state in
+      let word = get_or t.words (node_at job.workers n) 0 in
+      let m = mine_of job room t o id k v me from to in
+      let inside' : s.call k ≢ Out = λ e. inside (sym m.1.call ∙ e) in
+      exchanged word 1 2 (λ y. (w : View) × (a : Act Slot) × Valid t.homes xs a × Shows job room (stepped t (node_at job.workers n) y id xs w a) × claimed (step slots (node_at job.workers n) 1 2 none) (v, xs) word (w, carried_after xs a))
+      (λ one.
+      let ready : s.node n ≡ Ready = ready_word (s.node n) (sym (o.words.progress n below) ∙ one) in (
+        claiming v n,
+        keeps,
+        tt,
+        job_step job room laws t o id k v (claiming v n) (set t.words (node_at job.workers n) 2) (Claim n) (put s.node n IsTaken) s.mark s.value s.tick s.call (Run n)
+            record { worker_in = m.0; needs = (is_free job s k o.parts inside', m.1.task ∙ idle, ready); does = refl }
+            me from to enrolled inside' inside'
+            record { from = refl; to = refl; left = refl; hold = refl; enrolled = refl; saw_done = refl; greatest = refl; before = refl; after = refl; book_seen = refl }
+            refl m.1.call (λ x ne. refl) (root_kept s.node n IsTaken (ap is_done ready))
+            (set_node P N t.words s.node s.mark s.value s.status s.hold s.tick (length s.book) o.words n IsTaken below),
+        (n, ap (λ (p : ℕ). node_at p n) (sym sized), (λ _. refl), (λ ne. absurd (ne one))),
+      ))
+      (λ ne. (
+        refusing v n,
+        keeps,
+        tt,
+        looked job room t o id k (node_at job.workers n) v (refusing v n) me from to from to (refused t o n),
+        (n, ap (λ (p : ℕ). node_at p n) (sym sized), (λ one. absurd (ne one)), (λ _. refl)),
+      ))
+
+  same : (w : View) → w.from ≡ v.from → w.to ≡ v.to → w.left ≡ v.left → w.hold ≡ v.hold → w.enrolled ≡ v.enrolled → w.saw_done ≡ v.saw_done → w.greatest ≡ v.greatest → w.before ≡ v.before → w.after ≡ v.after → w.book_seen ≡ v.book_seen → SameBut v w
+  same w a b l c d e f g h i = record { from = a; to = b; left = l; hold = c; enrolled = d; saw_done = e; greatest = f; before = g; after = h; book_seen = i }
+
+  outside : (t : St) (o : Shows job room t) → get_elem? t.views id ≡ some v → v.call ≢ Out → o.state.call k ≢ Out
+  outside t o me inside e = inside (sym (mine_of job room t o id k v me from to).1.call ∙ e)
+
+  -- a draw of the tick
+  draws : (event : Event) (y : ℕ → Task) → v.call ≢ Out → ((tick : ℕ) → ticked v.task tick ≡ y tick)
+      → ((t : St) (o : Shows job room t) → get_elem? t.views id ≡ some v → Happens job o.state k event (record o.state { tick = o.state.tick + 1; task = put o.state.task k (y o.state.tick) }))
+      → Allows (Shows job room) slots id (v, xs) (tick_at P) (λ n. (n + 1) % 2 ^ 64) (drawn (step slots (tick_at P) 1 0 none) (v, xs))
+  draws event y inside becomes happens t o wide me fits =
+      let s = o.state in
+      let word = get_or t.words (tick_at P) 0 in
+      let most = laws.ticks s o.parts in
+      let room' : word < 80000 = omega (arith, most, laws.few, o.words.ticks) in
+      let next : (word + 1) % 2 ^ 64 ≡ s.tick + 1 = omega (arith, o.words.ticks, room') in
+      let w : View = with_task v (ticked v.task word) in
+      let m = mine_of job room t o id k v me from to in (
+        w,
+        keeps,
+        tt,
+        job_step job room laws t o id k v w (set t.words (tick_at P) ((word + 1) % 2 ^ 64)) event s.node s.mark s.value (s.tick + 1) s.call (y s.tick)
+            (happens t o me) me from to enrolled (outside t o me inside) (outside t o me inside) (same w refl refl refl refl refl refl refl refl refl refl)
+            (becomes word ∙ ap y o.words.ticks) m.1.call (λ x ne. refl) (λ done. done)
+            (subst (λ (z : ℕ). WordsShow P N (set t.words (tick_at P) z) s.node s.mark s.value s.status s.hold (s.tick + 1) (length s.book)) (sym next)
+            (set_tick P N t.words s.node s.mark s.value s.status s.hold s.tick (length s.book) o.words (s.tick + 1))),
+        (room', refl),
+      )
+
+  pub starts : (n : ℕ) → v.task ≡ Run n → IsLeaf (job.plan.kind n) → v.call ≢ Out → Allows (Shows job room) slots id (v, xs) (tick_at P) (λ y. (y + 1) % 2 ^ 64) (drawn (step slots (tick_at P) 1 0 none) (v, xs))
+  starts n task leaf inside = draws (Start n) (λ tick. Started n tick) inside (λ tick. ap (λ (y : Task). ticked y tick) task)
+      (λ t o me. let m = mine_of job room t o id k v me from to in record { worker_in = m.0; needs = (is_free job o.state k o.parts (outside t o me inside), m.1.task ∙ task, leaf); does = refl })
+
+  pub ends : (n start : ℕ) → v.task ≡ Kept n start → v.call ≢ Out → Allows (Shows job room) slots id (v, xs) (tick_at P) (λ y. (y + 1) % 2 ^ 64) (drawn (step slots (tick_at P) 1 0 none) (v, xs))
+  ends n start task inside = draws (End n start) (λ tick. Ended n start tick) inside (λ tick. ap (λ (y : Task). ticked y tick) task)
+      (λ t o me. let m = mine_of job room t o id k v me from to in record { worker_in = m.0; needs = (is_free job o.state k o.parts (outside t o me inside), m.1.task ∙ task); does = refl })
+
+  -- a node that is not the root gets this progress
+  stores : (event : Event) (n : ℕ) (x : Progress) (y : Task) (w : View) → n < N → w.task ≡ y → w.call ≡ v.call → SameBut v w → v.call ≢ Out
+      → (t : St) (o : Shows job room t) → get_elem? t.views id ≡ some v
+      → Happens job o.state k event (record o.state { node = put o.state.node n x; task = put o.state.task k y })
+      → (is_done (o.state.node 0) ≡ true → is_done (put o.state.node n x 0) ≡ true)
+      → Shows job room record { words = set t.words (node_at P n) (progress_code x); homes = t.homes; views = set t.views id w }
+  stores event n x y w below task_is call_is same_w inside t o me happens done =
+      let s = o.state in
+      let m = mine_of job room t o id k v me from to in
+      job_step job room laws t o id k v w (set t.words (node_at P n) (progress_code x)) event (put s.node n x) s.mark s.value s.tick s.call y
+      happens me from to enrolled (outside t o me inside) (outside t o me inside) same_w task_is (m.1.call ∙ sym call_is) (λ z ne. refl) done
+      (set_node P N t.words s.node s.mark s.value s.status s.hold s.tick (length s.book) o.words n x below)
+
+  side_in : (p n : ℕ) → IsSide job.plan p n → (n < N) × (n ≢ 0)
+  side_in p n side = let deep = laws.plan.deeper p n side in (laws.plan.within n (laws.plan.inside p n side), (λ e. omega (arith, deep, e)))
+
+  far : (node : ℕ → Progress) (n : ℕ) (x : Progress) → n ≢ 0 → is_done (node 0) ≡ true → is_done (put node n x 0) ≡ true
+  far node n x ne done = rw (put_other node n 0 x (λ e. ne (sym e))) done
+
+  pub opens_right : (p l r : ℕ) → v.task ≡ Run p → job.plan.kind p ≡ Some (ParNode l r) → v.call ≢ Out
+      → Allows (Shows job room) slots id (v, xs) (node_at P r) (λ y. 1) (λ y. half_opened (step slots (node_at P r) 1 0 none) (v, xs) 1)
+  opens_right p l r task kind inside t o wide me fits =
+      let m = mine_of job room t o id k v me from to in
+      let side = side_in p r (ap parent_of (laws.plan.right_of_par p l r kind)) in
+      let w : View = opening v r (Half p) in (
+        w,
+        keeps,
+        tt,
+        stores (OpenParRight p l r) r Ready (Half p) w side.0 refl refl (same w refl refl refl refl refl refl refl refl refl refl) inside t o me
+            record { worker_in = m.0; needs = (is_free job o.state k o.parts (outside t o me inside), m.1.task ∙ task, kind); does = refl } (far o.state.node r Ready side.1),
+        (r, p, ap (λ (q : ℕ). node_at q r) (sym sized), task, refl),
+      )
+
+  opens_to_idle : (event : Event) (n : ℕ) → n < N → n ≢ 0 → v.call ≢ Out
+      → ((t : St) (o : Shows job room t) → get_elem? t.views id ≡ some v → Happens job o.state k event (record o.state { node = put o.state.node n Ready; task = put o.state.task k Idle }))
+      → Allows (Shows job room) slots id (v, xs) (node_at P n) (λ y. 1) (λ y. opened (step slots (node_at P n) 1 0 none) (v, xs) 1)
+  opens_to_idle event n below ne inside happens t o wide me fits =
+      let w : View = opening v n Idle in (
+        w,
+        keeps,
+        tt,
+        stores event n Ready Idle w below refl refl (same w refl refl refl refl refl refl refl refl refl refl) inside t o me (happens t o me) (far o.state.node n Ready ne),
+        (n, ap (λ (q : ℕ). node_at q n) (sym sized), refl),
+      )
+
+  pub opens_left : (p l r : ℕ) → v.task ≡ Half p → job.plan.kind p ≡ Some (ParNode l r) → v.call ≢ Out
+      → Allows (Shows job room) slots id (v, xs) (node_at P l) (λ y. 1) (λ y. opened (step slots (node_at P l) 1 0 none) (v, xs) 1)
+  opens_left p l r task kind inside =
+      let side = side_in p l (ap parent_of (laws.plan.left_of_par p l r kind)) in opens_to_idle (OpenParLeft p l r) l side.0 side.1 inside
+      (λ t o me. let m = mine_of job room t o id k v me from to in record { worker_in = m.0; needs = (is_free job o.state k o.parts (outside t o me inside), m.1.task ∙ task, kind); does = refl })
+
+  pub opens_first : (p l r : ℕ) → v.task ≡ Run p → job.plan.kind p ≡ Some (SeqNode l r) → v.call ≢ Out
+      → Allows (Shows job room) slots id (v, xs) (node_at P l) (λ y. 1) (λ y. opened (step slots (node_at P l) 1 0 none) (v, xs) 1)
+  opens_first p l r task kind inside =
+      let side = side_in p l (ap parent_of (laws.plan.left_of_seq p l r kind)) in opens_to_idle (OpenSeqLeft p l r) l side.0 side.1 inside
+      (λ t o me. let m = mine_of job room t o id k v me from to in record { worker_in = m.0; needs = (is_free job o.state k o.parts (outside t o me inside), m.1.task ∙ task, kind); does = refl })
+
+  pub opens_second : (p l r : ℕ) → v.task ≡ Whole l → job.plan.kind p ≡ Some (SeqNode l r) → v.call ≢ Out
+      → Allows (Shows job room) slots id (v, xs) (node_at P r) (λ y. 1) (λ y. opened (step slots (node_at P r) 1 0 none) (v, xs) 1)
+  opens_second p l r task kind inside =
+      let side = side_in p r (ap parent_of (laws.plan.right_of_seq p l r kind)) in opens_to_idle (OpenSeqRight p l r) r side.0 side.1 inside
+      (λ t o me. let m = mine_of job room t o id k v me from to in record { worker_in = m.0; needs = (is_free job o.state k o.parts (outside t o me inside), m.1.task ∙ task, kind); does = refl })
+
+  -- a value is kept
+  pub keeps_value : (i n start x : ℕ) → i ≡ value_at P N n → v.task ≡ Started n start → n < N → value_in (job.act (leaf_of (job.plan.kind n))) v.call ≡ Some x → v.call ≢ Out
+      → Allows (Shows job room) slots id (v, xs) i (λ y. x) (λ y. kept (step slots i x 0 none) (v, xs) x)
+  keeps_value i n start x at task below is inside t o wide me fits =
+      let s = o.state in
+      let m = mine_of job room t o id k v me from to in
+      let w : View = keeping v n start in
+      let inside' : put s.call k NotCalled k ≢ Out = rw (put_at s.call k k NotCalled refl) (λ e. cc) in (
+        w,
+        keeps,
+        tt,
+        job_step job room laws t o id k v w (set t.words i x) (Keep n start x) s.node s.mark (put s.value n (Some x)) s.tick (put s.call k NotCalled) (Kept n start)
+            record { worker_in = m.0; needs = (is_free job s k o.parts (outside t o me inside), m.1.task ∙ task, ap (value_in (job.act (leaf_of (job.plan.kind n)))) m.1.call ∙ is); does = refl }
+            me from to enrolled (outside t o me inside) inside' (same w refl refl refl refl refl refl refl refl refl refl) refl (put_at s.call k k NotCalled refl) (λ z ne. put_other s.call k z NotCalled ne) (λ done. done)
+            (subst (λ (j : ℕ). WordsShow P N (set t.words j x) s.node s.mark (put s.value n (Some x)) s.status s.hold s.tick (length s.book)) (sym at)
+            (set_value P N t.words s.node s.mark s.value s.status s.hold s.tick (length s.book) o.words n x below)),
+        (n, start, task, refl),
+      )
+
+  finishes : (event : Event) (n : ℕ) (x : Progress) → n < N → is_done x ≡ true → v.call ≢ Out
+      → ((t : St) (o : Shows job room t) → get_elem? t.views id ≡ some v → Happens job o.state k event (record o.state { node = put o.state.node n x; task = put o.state.task k (task_after n) }))
+      → Allows (Shows job room) slots id (v, xs) (node_at P n) (λ y. progress_code x) (λ y. finished (step slots (node_at P n) (progress_code x) 0 none) (v, xs) (progress_code x))
+  finishes event n x below done inside happens t o wide me fits =
+      let w : View = with_task v (task_after n) in (
+        w,
+        keeps,
+        tt,
+        stores event n x (task_after n) w below refl refl (same w refl refl refl refl refl refl refl refl refl refl) inside t o me (happens t o me) (root_done o.state.node n x done),
+        (n, ap (λ (q : ℕ). node_at q n) (sym sized), refl),
+      )
+
+  pub finishes_leaf : (n start end : ℕ) → v.task ≡ Ended n start end → n < N → v.call ≢ Out
+      → Allows (Shows job room) slots id (v, xs) (node_at P n) (λ y. progress_code (Ran k start end)) (λ y. finished (step slots (node_at P n) (progress_code (Ran k start end)) 0 none) (v, xs) (progress_code (Ran k start end)))
+  finishes_leaf n start end task below inside = finishes (FinishLeaf n start end) n (Ran k start end) below refl inside
+      (λ t o me. let m = mine_of job room t o id k v me from to in record { worker_in = m.0; needs = (is_free job o.state k o.parts (outside t o me inside), m.1.task ∙ task); does = refl })
+
+  pub finishes_seq : (p l r : ℕ) → v.task ≡ Whole r → job.plan.kind p ≡ Some (SeqNode l r) → p < N → v.call ≢ Out
+      → Allows (Shows job room) slots id (v, xs) (node_at P p) (λ y. 3) (λ y. finished (step slots (node_at P p) 3 0 none) (v, xs) 3)
+  finishes_seq p l r task kind below inside = finishes (FinishSeq p l r) p Done below refl inside
+      (λ t o me. let m = mine_of job room t o id k v me from to in record { worker_in = m.0; needs = (is_free job o.state k o.parts (outside t o me inside), m.1.task ∙ task, kind); does = refl })
+
+  pub finishes_par : (p l r : ℕ) → v.task ≡ Handed p → job.plan.kind p ≡ Some (ParNode l r) → p < N → v.call ≢ Out
+      → Allows (Shows job room) slots id (v, xs) (node_at P p) (λ y. 3) (λ y. finished (step slots (node_at P p) 3 0 none) (v, xs) 3)
+  finishes_par p l r task kind below inside = finishes (FinishPar p l r) p Done below refl inside
+      (λ t o me. let m = mine_of job room t o id k v me from to in record { worker_in = m.0; needs = (is_free job o.state k o.parts (outside t o me inside), m.1.task ∙ task, kind); does = refl })
+
+  abbrev arrived_word : ℕ → ℕ
+  arrived_word y = (y + 1) % 2 ^ 64
+
+  -- a side arrives at a parallel block
+  pub arrives : (i p l r n : ℕ) → i ≡ mark_at P N p → v.task ≡ Whole n → v.nodes ≡ N → job.plan.kind p ≡ Some (ParNode l r) → IsSide job.plan p n → p < N → v.call ≢ Out
+      → Allows (Shows job room) slots id (v, xs) i (λ y. (y + 1) % 2 ^ 64) (arrived (step slots i 1 0 none) (v, xs))
+  arrives i p l r n is task nodes kind side below inside t o wide me fits =
+      let s = o.state in
+      let word = get_or t.words i 0 in
+      let m = mine_of job room t o id k v me from to in
+      let free = is_free job s k o.parts (outside t o me inside) in
+      let few = laws.mark s k p l r n o.parts (m.1.task ∙ task) kind side in
+      let at : word ≡ s.mark p = ap (λ (j : ℕ). get_or t.words j 0) is ∙ o.words.marks p below in
+      let named : i ≡ mark_at v.workers v.nodes p = omega (arith, is, sized, nodes) in
+      elim (cases_eq word 0) [
+        | inl zero ↦ (
+          with_task v Idle,
+          keeps,
+          tt,
+          job_step job room laws t o id k v (with_task v Idle) (set t.words i (arrived_word word)) (ArriveFirst p l r n) s.node (put s.mark p 1) s.value s.tick s.call Idle
+              record { worker_in = m.0; needs = (free, m.1.task ∙ task, kind, side, sym at ∙ zero); does = refl }
+              me from to enrolled (outside t o me inside) (outside t o me inside) (same (with_task v Idle) refl refl refl refl refl refl refl refl refl refl) refl m.1.call (λ z ne. refl) (λ done. done)
+              (subst (λ (j : ℕ). WordsShow P N (set t.words j (arrived_word word)) s.node (put s.mark p 1) s.value s.status s.hold s.tick (length s.book)) (sym is) (subst (λ (z : ℕ). WordsShow P N (set t.words (mark_at P N p) z) s.node (put s.mark p 1) s.value s.status s.hold s.tick (length s.book)) (let one : arrived_word word ≡ 1 = omega (arith, zero) in sym one)
+              (set_mark P N t.words s.node s.mark s.value s.status s.hold s.tick (length s.book) o.words p 1 below))),
+          (p, named, (λ _. refl), (λ ne. absurd (ne zero))),
+        )
+        | inr ne ↦ (
+          with_task v (Handed p),
+          keeps,
+          tt,
+          job_step job room laws t o id k v (with_task v (Handed p)) (set t.words i (arrived_word word)) (ArriveSecond p l r n) s.node (put s.mark p 2) s.value s.tick s.call (Handed p)
+              record { worker_in = m.0; needs = (free, m.1.task ∙ task, kind, side, omega (arith, at, few, ne)); does = refl }
+              me from to enrolled (outside t o me inside) (outside t o me inside) (same (with_task v (Handed p)) refl refl refl refl refl refl refl refl refl refl) refl m.1.call (λ z ne'. refl) (λ done. done)
+              (subst (λ (j : ℕ). WordsShow P N (set t.words j (arrived_word word)) s.node (put s.mark p 2) s.value s.status s.hold s.tick (length s.book)) (sym is) (subst (λ (z : ℕ). WordsShow P N (set t.words (mark_at P N p) z) s.node (put s.mark p 2) s.value s.status s.hold s.tick (length s.book)) (let two : arrived_word word ≡ 2 = omega (arith, at, few, ne) in sym two)
+              (set_mark P N t.words s.node s.mark s.value s.status s.hold s.tick (length s.book) o.words p 2 below))),
+          (p, named, (λ zero. absurd (ne zero)), (λ _. refl)),
+        )
+      ]
+
+  -- a draw that is due
+  draws_by : (y : Task) → v.task ≡ y → IsTickDue job y → v.call ≢ Out → Allows (Shows job room) slots id (v, xs) (tick_at P) (λ n. (n + 1) % 2 ^ 64) (drawn (step slots (tick_at P) 1 0 none) (v, xs))
+  draws_by Idle e due inside = absurd due
+  draws_by (Run n) e due inside = starts n e due inside
+  draws_by (Half n) e due inside = absurd due
+  draws_by (Started n start) e due inside = absurd due
+  draws_by (Kept n start) e due inside = ends n start e inside
+  draws_by (Ended n start end) e due inside = absurd due
+  draws_by (Whole n) e due inside = absurd due
+  draws_by (Handed n) e due inside = absurd due
+
+  pub draws_due : IsTickDue job v.task → v.call ≢ Out → Allows (Shows job room) slots id (v, xs) (tick_at P) (λ n. (n + 1) % 2 ^ 64) (drawn (step slots (tick_at P) 1 0 none) (v, xs))
+  draws_due due inside = draws_by v.task refl due inside

@@ -1,0 +1,11 @@
+use Rattle.std.proofs.Common.{◌≡◌, ◌≤◌, ℕ}
+use Rattle.sp_order.specs.Preorder.{nodes_of}
+use Rattle.batcher_core.specs.State.{core_job}
+use Rattle.batcher_core.specs.Measure.{total, one_if_call}
+use Rattle.core_table.proofs.make.count_calls.Given as goal
+
+abbrev pub invariant-loop-node : goal.invariant-loop-node
+invariant-loop-node l = record {
+  few : l.count ≤ l.node;
+  counted : (workers : ℕ) → l.count ≡ total (λ n. one_if_call (core_job l.plan l.acts workers) ((nodes_of l.plan).kind n)) l.node;
+}

@@ -1,0 +1,27 @@
+use Rattle.std.proofs.Common.{arith}
+use Rattle.core_table.specs.Shows.{room_of, job_of}
+use Rattle.core_table.proofs.TableLemmas.Moved.{few_nodes}
+use Rattle.core_table.proofs.StepLemmas.JobSteps.{claims}
+use Rattle.core_table.proofs.StepLemmas.LookSteps.{strays}
+use Rattle.core_table.proofs.table.CoreTable.claim.Goals as goal
+
+pub compare_exchange-requires : goal.compare_exchange-requires
+compare_exchange-requires c =
+    let self = c.args.self.now in let pass = c.args.pass.now in let job = job_of self.setting in
+    let laws = c.laws_hold.ensures self.setting (few_nodes self.nodes job.plan.count self.key.1 self.few.2) self.acts.0 self.acts.1 in (
+      c.requires.pass.0,
+      omega (arith, self.sized.0),
+      rw self.key.0 (strays job (room_of self.setting) laws _ _ pass.seat.me.0 pass.seat.me.1 pass.worker pass.number.0 pass.number.1 c.args.node self.few.0),
+    )
+
+pub compare_exchange-requires-2 : goal.compare_exchange-requires-2
+compare_exchange-requires-2 c =
+    let self = c.args.self.now in let pass = c.args.pass.now in let job = job_of self.setting in
+    let laws = c.laws_hold.ensures self.setting (few_nodes self.nodes job.plan.count self.key.1 self.few.2) self.acts.0 self.acts.1 in
+    let below = c.if-node-self.false in (
+      c.requires.pass.0,
+      omega (arith, self.sized.0, below),
+      rw self.key.0
+          (claims job (room_of self.setting) laws _ _ pass.seat.me.0 pass.seat.me.1 pass.worker pass.number.0 pass.number.1 c.requires.pass.2 c.requires.pass.4
+          c.args.node (omega (arith, below, self.key.1)) c.requires.idle c.requires.free),
+    )

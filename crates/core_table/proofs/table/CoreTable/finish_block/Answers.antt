@@ -1,0 +1,19 @@
+use Rattle.std.proofs.Common.{◌≡◌, sym, ap, ◌∙◌, arith, Some}
+use Rattle.sp_order.specs.declared.node.Kind.TheVariants.{ParNode}
+use Rattle.core_table.specs.Shows.{room_of, job_of}
+use Rattle.core_table.proofs.TableLemmas.Moved.{few_nodes}
+use Rattle.core_table.proofs.StepLemmas.Sides.{block_in}
+use Rattle.core_table.proofs.StepLemmas.JobSteps.{finishes_par}
+use Rattle.core_table.proofs.table.CoreTable.finish_block.Goals as goal
+
+pub store-requires : goal.store-requires
+store-requires c =
+    let self = c.args.self.now in let pass = c.args.pass.now in let job = job_of self.setting in let v = pass.seat.me.0 in
+    let laws = c.laws_hold.ensures self.setting (few_nodes self.nodes job.plan.count self.key.1 self.few.2) self.acts.0 self.acts.1 in
+    let kind : job.plan.kind c.args.node ≡ Some (ParNode c.in-ParNode._left c.in-ParNode._right) = sym c.kind.ensures ∙ ap Some c.in-ParNode.is in
+    let below = block_in job.plan c.args.node (ParNode c.in-ParNode._left c.in-ParNode._right) laws.plan kind in (
+      c.requires.pass.0,
+      omega (arith, self.sized.0, self.key.1, below),
+      rw self.key.0 (finishes_par job (room_of self.setting) laws _ _ v pass.seat.me.1 pass.worker pass.number.0 pass.number.1 c.requires.pass.2 c.requires.pass.4
+          c.args.node c.in-ParNode._left c.in-ParNode._right c.requires.handed kind below c.requires.free),
+    )

@@ -1,0 +1,23 @@
+use Rattle.std.proofs.Common.{◌≡◌, ℕ, ◌<◌, subst, sym, ◌∙◌, arith, Some}
+use Rattle.batcher_core.specs.Operations.{leaf_of}
+use Rattle.batcher_core.specs.Events.{value_in}
+use Rattle.core_table.specs.Shows.{room_of, job_of}
+use Rattle.core_table.proofs.TableLemmas.Moved.{few_nodes}
+use Rattle.core_table.proofs.StepLemmas.Sides.{started_in}
+use Rattle.core_table.proofs.StepLemmas.JobSteps.{keeps_value}
+use Rattle.core_table.proofs.table.CoreTable.keep.Goals as goal
+
+pub store-requires : goal.store-requires
+store-requires c =
+    let self = c.args.self.now in let pass = c.args.pass.now in let job = job_of self.setting in let v = pass.seat.me.0 in
+    let laws = c.laws_hold.ensures self.setting (few_nodes self.nodes job.plan.count self.key.1 self.few.2) self.acts.0 self.acts.1 in
+    let n = c.in-Started.node in let due = c.requires.due in
+    let both = sym due.2 ∙ (pass.own.0 ∙ c.in-Started.is) in
+    let same : due.0 ≡ n = cc in
+    let below : n < job.plan.count = started_in job v.task n c.in-Started.start (pass.own.0 ∙ c.in-Started.is) c.requires.pass.5 in (
+      c.requires.pass.0,
+      omega (arith, self.sized.0, self.key.1, below),
+      rw self.key.0 (keeps_value job (room_of self.setting) laws _ _ v pass.seat.me.1 pass.worker pass.number.0 pass.number.1 c.requires.pass.2 c.requires.pass.4
+          _ n c.in-Started.start c.args.value (omega (arith, self.key.1)) (pass.own.0 ∙ c.in-Started.is) below
+          (subst (λ (y : ℕ). value_in (job.act (leaf_of (job.plan.kind y))) v.call ≡ Some c.args.value) same due.3) c.requires.free),
+    )

@@ -1,0 +1,64 @@
+use Rattle.std.proofs.Common.{false, ◌≡◌, ℕ, ◌+◌, [], ◌∷◌, length, replicate, set, subst, sym, ap, ◌∙◌, arith, refl, List, length-append}
+use Rattle.core_table.specs.declared.slot.Slot.TheVariants as Slots
+use Rattle.seq_objects.specs.declared.act.Act.{Act}
+use Rattle.core_table.specs.declared.table.Pass.{Pass}
+use Rattle.core_table.specs.Words.{node_at}
+use Rattle.core_table.specs.Shows.{room_of, job_of}
+use Rattle.batcher_core.specs.State.{core_job}
+use Rattle.batcher_core.specs.Measure.{call_count}
+use Rattle.core_table.specs.Plays.{Sat}
+use Rattle.core_table.specs.Views.{enrolling, pass_of, rest_of}
+use Rattle.core_table.specs.Passes.{IsSeatOf}
+use Rattle.core_table.specs.Views.{rest_from}
+use Rattle.core_table.proofs.TableLemmas.Moved.{few_nodes}
+use Rattle.core_table.proofs.PassLemmas.Starts.{starts, cuts_at, enrols_at}
+use Rattle.core_table.proofs.PassLemmas.NewPass.{each_push, new_pass}
+use Rattle.core_table.proofs.table.CoreTable.of.Goals as goal
+
+pub new-requires : goal.new-requires
+new-requires c =
+    let setting = c.args.setting in let job = job_of setting in let workers = setting.workers in
+    let nodes : c.nodes-nodes.result ≡ job.plan.count = c.nodes-nodes.ensures.nodes in
+    let laws = c.laws_hold.ensures setting (few_nodes c.nodes-nodes.result job.plan.count nodes c.nodes-nodes.ensures.most) c.requires.acts.0 c.requires.acts.1 in
+    let root : workers + 4 ≡ node_at workers 0 = omega arith in
+    let are = c.deref.ensures.value ∙ (c.in_ok-words.ensures ∙ (ap (λ (n : ℕ). set (replicate (workers + 4 + n + n + n) 0) (workers + 4) 1) nodes
+    ∙ ap (λ (i : ℕ). set (replicate (workers + 4 + job.plan.count + job.plan.count + job.plan.count) 0) i 1) root)) in
+    let room = c.count_calls-room.ensures workers ∙ ap (λ (l : List Act). call_count (core_job setting.plan l workers)) c.as_slice.ensures.value in
+    rw (c.in_ok-slots.ensures, room) (starts job (room_of setting) laws c.deref.result.now are)
+
+pub split_seat-own-requires : goal.split_seat-own-requires
+split_seat-own-requires c =
+    let i = c.loop-worker.invariant in let setting = c.args.setting in (
+      i.same,
+      omega (arith, i.words),
+      rw i.key (cuts_at (job_of setting) (room_of setting) c.loop-worker.seat.id c.loop-worker.seat.me.0 (rest_from c.loop-worker.worker setting) (ap (λ (m : Sat). m.0) i.seat) c.loop-worker-test.true),
+    )
+
+pub load-requires : goal.load-requires
+load-requires c =
+    let i = c.loop-worker.invariant in let setting = c.args.setting in let k = c.loop-worker.worker in
+    let is = c.split_seat-own.ensures.4 ∙ ap (λ (m : Sat). (pass_of m.0, [])) i.seat in (
+      c.split_seat-own.ensures.3 ∙ i.same,
+      omega (arith, i.words),
+      rw i.key (enrols_at (job_of setting) (room_of setting) _ _ 0 _ (pass_of (rest_from k setting)) [] k is refl refl refl),
+    )
+
+pub loop-worker-preserved : goal.loop-worker-preserved
+loop-worker-preserved c =
+    let i = c.loop-worker.invariant in let setting = c.args.setting in let k = c.loop-worker.worker in let table = c.in-Ok.made.0.shared.table_id in
+    let cut = c.split_seat-own.ensures.4 ∙ ap (λ (m : Sat). (pass_of m.0, [])) i.seat in
+    let me = c.load.ensures.2 ∙ ap (λ (m : Sat). (enrolling m.0, (m.0.from, Slots.Vacant) ∷ m.1)) cut in
+    let id = c.load.ensures.0 ∙ (c.split_seat-own.ensures.3 ∙ i.same) in record {
+      key = i.key;
+      words = i.words;
+      slots = i.slots;
+      same = c.split_seat-own.ensures.0 ∙ i.same;
+      seat = c.split_seat-own.ensures.2 ∙ ap (λ (m : Sat). (rest_of m.0, m.1)) i.seat;
+      count = c.push_reserved.ensures.len ∙ ap (λ (n : ℕ). n + 1) i.count;
+      long = ap (λ (l : List Pass). length l) c.push_reserved.ensures.items ∙ (length-append c.loop-worker.passes.items (_ ∷ []) ∙ ap (λ (n : ℕ). n + 1) i.long);
+      room = omega (arith, i.room, c.push_reserved.ensures.capacity);
+      each = rw c.push_reserved.ensures.items (each_push (λ (w : ℕ) (p : Pass). (p.worker ≡ w) × IsSeatOf setting table p.worker p.seat p.owed.items p.published × (p.seat.me.0 ≡ enrolling (pass_of (rest_from w setting)))) c.loop-worker.passes.items _ i.each
+          (let at : length c.loop-worker.passes.items ≡ k = i.long in
+          subst (λ (w : ℕ). (k ≡ w) × IsSeatOf setting table k c.load.new.seat c.in_ok-owed.owed.items false × (c.load.new.seat.me.0 ≡ enrolling (pass_of (rest_from w setting)))) (sym at)
+          (refl, subst (λ (l : List ℕ). IsSeatOf setting table k c.load.new.seat l false) (sym c.in_ok-owed.ensures.items) (new_pass setting table k c.load.new.seat c.loop-worker-test.true id me), ap (λ (m : Sat). m.0) me)));
+    }

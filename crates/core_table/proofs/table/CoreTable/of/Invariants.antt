@@ -1,0 +1,18 @@
+use Rattle.std.proofs.Common.{◌≡◌, ◌≤◌, ℕ, ◌+◌, [], length, IfSome, vec_len, vec_capacity, slice_get}
+use Rattle.core_table.specs.Views.{enrolling, pass_of}
+use Rattle.core_table.specs.Passes.{IsSeatOf}
+use Rattle.core_table.specs.Views.{rest_from}
+use Rattle.core_table.proofs.table.CoreTable.of.Given as goal
+
+abbrev pub invariant-loop-worker : goal.invariant-loop-worker
+invariant-loop-worker l = record {
+  key : l.table.shared.key ≡ l.setting;
+  words : l.table.shared.table_id.words ≡ l.setting.workers + 4 + l.nodes + l.nodes + l.nodes;
+  slots : l.table.shared.table_id.slots ≡ l.setting.workers + 2;
+  same : l.seat.table_id ≡ l.table.shared.table_id;
+  seat : l.seat.me ≡ (rest_from l.worker l.setting, []);
+  count : vec_len l.passes ≡ l.worker;
+  long : length l.passes.items ≡ l.worker;
+  room : l.setting.workers ≤ vec_capacity l.passes;
+  each : (w : ℕ) → IfSome (slice_get l.passes.items w) (λ pass. (pass.worker ≡ w) × IsSeatOf l.setting l.table.shared.table_id pass.worker pass.seat pass.owed.items pass.published × (pass.seat.me.0 ≡ enrolling (pass_of (rest_from w l.setting))));
+}

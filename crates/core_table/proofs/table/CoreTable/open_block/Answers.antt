@@ -1,0 +1,31 @@
+use Rattle.std.proofs.Common.{◌≡◌, sym, ap, ◌∙◌, arith, Some}
+use Rattle.sp_order.specs.declared.node.Kind.TheVariants.{SeqNode, ParNode}
+use Rattle.core_table.specs.Shows.{room_of, job_of}
+use Rattle.core_table.proofs.TableLemmas.Moved.{few_nodes}
+use Rattle.core_table.proofs.StepLemmas.Sides.{par_sides, seq_sides}
+use Rattle.core_table.proofs.StepLemmas.JobSteps.{opens_right, opens_first}
+use Rattle.core_table.proofs.table.CoreTable.open_block.Goals as goal
+
+pub store-requires : goal.store-requires
+store-requires c =
+    let self = c.args.self.now in let pass = c.args.pass.now in let job = job_of self.setting in let v = pass.seat.me.0 in
+    let laws = c.laws_hold.ensures self.setting (few_nodes self.nodes job.plan.count self.key.1 self.few.2) self.acts.0 self.acts.1 in
+    let kind : job.plan.kind c.args.node ≡ Some (ParNode c.in-ParNode._left c.in-ParNode.right) = sym c.kind.ensures ∙ ap Some c.in-ParNode.is in
+    let sides = par_sides job.plan c.args.node c.in-ParNode._left c.in-ParNode.right laws.plan kind in (
+      c.requires.pass.0,
+      omega (arith, self.sized.0, self.key.1, sides.1),
+      rw self.key.0 (opens_right job (room_of self.setting) laws _ _ v pass.seat.me.1 pass.worker pass.number.0 pass.number.1 c.requires.pass.2 c.requires.pass.4
+          c.args.node c.in-ParNode._left c.in-ParNode.right c.requires.run kind c.requires.free),
+    )
+
+pub store-requires-in-SeqNode : goal.store-requires-in-SeqNode
+store-requires-in-SeqNode c =
+    let self = c.args.self.now in let pass = c.args.pass.now in let job = job_of self.setting in let v = pass.seat.me.0 in
+    let laws = c.laws_hold.ensures self.setting (few_nodes self.nodes job.plan.count self.key.1 self.few.2) self.acts.0 self.acts.1 in
+    let kind : job.plan.kind c.args.node ≡ Some (SeqNode c.in-SeqNode.left c.in-SeqNode._right) = sym c.kind.ensures ∙ ap Some c.in-SeqNode.is in
+    let sides = seq_sides job.plan c.args.node c.in-SeqNode.left c.in-SeqNode._right laws.plan kind in (
+      c.requires.pass.0,
+      omega (arith, self.sized.0, self.key.1, sides.0),
+      rw self.key.0 (opens_first job (room_of self.setting) laws _ _ v pass.seat.me.1 pass.worker pass.number.0 pass.number.1 c.requires.pass.2 c.requires.pass.4
+          c.args.node c.in-SeqNode.left c.in-SeqNode._right c.requires.run kind c.requires.free),
+    )

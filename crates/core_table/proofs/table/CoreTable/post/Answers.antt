@@ -1,0 +1,40 @@
+use Rattle.std.proofs.Common.{[], sym, ap, ◌∙◌, arith, refl}
+use Rattle.core_table.specs.declared.slot.Slot.TheVariants as Slots
+use Rattle.core_table.specs.Shows.{room_of, job_of}
+use Rattle.core_table.proofs.TableLemmas.Moved.{few_nodes}
+use Rattle.core_table.proofs.PassLemmas.PassKept.{pass_made, first, swapped}
+use Rattle.core_table.proofs.StepLemmas.GateSteps.{posts_at}
+use Rattle.atomic_table.specs.Table.{rest}
+use Rattle.core_table.specs.Plays.{Sat}
+use Rattle.core_table.proofs.ListLemmas.Owed.{remembers_kept}
+use Rattle.core_table.specs.Views.{posting}
+use Rattle.core_table.proofs.PassLemmas.PassKept.{pass_made, first, carries_posted}
+use Rattle.core_table.proofs.table.CoreTable.post.Goals as goal
+
+pub store-requires : goal.store-requires
+store-requires c =
+    let self = c.args.self.now in let pass = c.args.pass.now in let job = job_of self.setting in let v = pass.seat.me.0 in
+    let laws = c.laws_hold.ensures self.setting (few_nodes self.nodes job.plan.count self.key.1 self.few.2) self.acts.0 self.acts.1 in
+    let own = c.requires.pass.7.free (λ e. let f = sym c.requires.free ∙ e in absurd (cc)) in (
+      c.exchange.ensures.0 ∙ c.requires.pass.0,
+      omega (arith, self.sized.0, c.requires.pass.1),
+      rw self.key.0 (posts_at job (room_of self.setting) laws _ _ v [] pass.worker pass.number.0 pass.number.1 _ c.args.call
+          (swapped pass.seat.me _ v pass.worker Slots.Vacant (Slots.Record c.args.call) [] (λ i. (v, own.1 i)) c.exchange.ensures.3) c.requires.pass.4 c.requires.due c.requires.free),
+    )
+
+pub returns-clause-pass : goal.returns-clause-pass
+returns-clause-pass c =
+    let self = c.args.self.now in let pass = c.args.pass.now in let old = pass.seat in let v = old.me.0 in
+    let own = c.requires.pass.7.free (λ e. let f = sym c.requires.free ∙ e in absurd (cc)) in
+    let put = swapped old.me c.exchange.new.seat.me v pass.worker Slots.Vacant (Slots.Record c.args.call) [] (λ i. (v, own.1 i)) c.exchange.ensures.3 in
+    let told = c.store.ensures.2 c.args.call (first _ _ _ _ _ put) ∙ ap (λ (m : Sat). (posting m.0 c.args.call, rest m.1)) put in
+    pass_made self.setting _ pass.worker old c.store.new.seat (posting v c.args.call) [] (c.store.ensures.0 ∙ c.exchange.ensures.0) told refl refl refl refl refl
+    (carries_posted pass.worker v c.args.call own.0) (remembers_kept v (posting v c.args.call) _ _ refl c.requires.pass.8) c.requires.pass
+
+pub returns-clause-posted : goal.returns-clause-posted
+returns-clause-posted c =
+    let pass = c.args.pass.now in let old = pass.seat in let v = old.me.0 in
+    let own = c.requires.pass.7.free (λ e. let f = sym c.requires.free ∙ e in absurd (cc)) in
+    let put = swapped old.me c.exchange.new.seat.me v pass.worker Slots.Vacant (Slots.Record c.args.call) [] (λ i. (v, own.1 i)) c.exchange.ensures.3 in
+    let told = c.store.ensures.2 c.args.call (first _ _ _ _ _ put) ∙ ap (λ (m : Sat). (posting m.0 c.args.call, rest m.1)) put in
+    ap (λ (m : Sat). m.0) told

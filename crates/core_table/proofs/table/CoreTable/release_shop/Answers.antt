@@ -1,0 +1,60 @@
+use Rattle.std.proofs.Common.{◌≡◌, [], true, sym, ap, ◌∙◌, arith, refl}
+use Rattle.atomic_table.specs.Table.{rest}
+use Rattle.core_table.specs.declared.slot.Slot.TheVariants as Slots
+use Rattle.core_table.specs.Plays.{Sat}
+use Rattle.core_table.specs.Shows.{room_of, job_of}
+use Rattle.core_table.specs.Views.{releasing}
+use Rattle.core_table.proofs.TableLemmas.Moved.{few_nodes}
+use Rattle.core_table.proofs.ListLemmas.Owed.{owes_nobody, remembers_none}
+use Rattle.core_table.proofs.PassLemmas.PassKept.{pass_made, first, swapped, holder_after, carries_released}
+use Rattle.core_table.proofs.StepLemmas.GateSteps.{releases_shop_at}
+use Rattle.core_table.proofs.table.CoreTable.release_shop.Goals as goal
+
+pub exchange-requires : goal.exchange-requires
+exchange-requires c =
+    let self = c.args.self.now in let pass = c.args.pass.now in let job = job_of self.setting in let old = pass.seat in let v = old.me.0 in let workers = self.setting.workers in let room = room_of self.setting in
+    let h = c.requires.due.0 in let holds = c.requires.due.1 in let due = c.requires.due.2 in
+    let m = c.requires.pass.8.holds h holds in
+    let nobody = owes_nobody h m.2 due.answered in
+    let published : h.published ≡ true = sym m.1 ∙ c.requires.published in
+    let list = holder_after pass.worker workers old.me h [] holds published nobody c.requires.pass.2 c.requires.pass.7 in
+    (c.requires.pass.0, (Slots.Vacant, first old.me v workers Slots.Vacant [] list))
+
+pub store-requires : goal.store-requires
+store-requires c =
+    let self = c.args.self.now in let pass = c.args.pass.now in let job = job_of self.setting in let old = pass.seat in let v = old.me.0 in let workers = self.setting.workers in let room = room_of self.setting in
+    let h = c.requires.due.0 in let holds = c.requires.due.1 in let due = c.requires.due.2 in
+    let m = c.requires.pass.8.holds h holds in
+    let nobody = owes_nobody h m.2 due.answered in
+    let published : h.published ≡ true = sym m.1 ∙ c.requires.published in
+    let list = holder_after pass.worker workers old.me h [] holds published nobody c.requires.pass.2 c.requires.pass.7 in
+    let put = swapped old.me c.exchange.new.seat.me v workers Slots.Vacant (Slots.Shop c.args.shop) [] list c.exchange.ensures.3 in
+    let laws = c.laws_hold.ensures self.setting (few_nodes self.nodes job.plan.count self.key.1 self.few.2) self.acts.0 self.acts.1 in (
+      c.exchange.ensures.0 ∙ c.requires.pass.0,
+      omega (arith, self.sized.0),
+      rw self.key.0 (releases_shop_at job room laws _ _ v [] pass.worker pass.number.0 pass.number.1 _ h c.args.shop put holds due.looked published due.answered c.requires.due.3),
+    )
+
+pub returns-clause-pass : goal.returns-clause-pass
+returns-clause-pass c =
+    let self = c.args.self.now in let pass = c.args.pass.now in let job = job_of self.setting in let old = pass.seat in let v = old.me.0 in let workers = self.setting.workers in let room = room_of self.setting in
+    let h = c.requires.due.0 in let holds = c.requires.due.1 in let due = c.requires.due.2 in
+    let m = c.requires.pass.8.holds h holds in
+    let nobody = owes_nobody h m.2 due.answered in
+    let published : h.published ≡ true = sym m.1 ∙ c.requires.published in
+    let list = holder_after pass.worker workers old.me h [] holds published nobody c.requires.pass.2 c.requires.pass.7 in
+    let put = swapped old.me c.exchange.new.seat.me v workers Slots.Vacant (Slots.Shop c.args.shop) [] list c.exchange.ensures.3 in
+    let last = c.store.ensures.2 ∙ ap (λ (m : Sat). (releasing m.0, rest m.1)) put in
+    pass_made self.setting _ pass.worker old c.store.new.seat (releasing v) [] (c.store.ensures.0 ∙ c.exchange.ensures.0) last refl refl refl refl refl
+    (carries_released pass.worker v c.requires.trapped) (remembers_none (releasing v) _ _ refl (m.0 ∙ nobody)) c.requires.pass
+
+pub returns-clause-released : goal.returns-clause-released
+returns-clause-released c =
+    let self = c.args.self.now in let pass = c.args.pass.now in let job = job_of self.setting in let old = pass.seat in let v = old.me.0 in let workers = self.setting.workers in let room = room_of self.setting in
+    let h = c.requires.due.0 in let holds = c.requires.due.1 in let due = c.requires.due.2 in
+    let m = c.requires.pass.8.holds h holds in
+    let nobody = owes_nobody h m.2 due.answered in
+    let published : h.published ≡ true = sym m.1 ∙ c.requires.published in
+    let list = holder_after pass.worker workers old.me h [] holds published nobody c.requires.pass.2 c.requires.pass.7 in
+    let put = swapped old.me c.exchange.new.seat.me v workers Slots.Vacant (Slots.Shop c.args.shop) [] list c.exchange.ensures.3 in
+    ap (λ (m : Sat). m.0) (c.store.ensures.2 ∙ ap (λ (m : Sat). (releasing m.0, rest m.1)) put)

@@ -1,0 +1,21 @@
+use Rattle.std.proofs.Common.{arith, refl}
+use Rattle.core_table.specs.Shows.{room_of, job_of}
+use Rattle.core_table.specs.Views.{stopping}
+use Rattle.core_table.proofs.TableLemmas.Moved.{few_nodes}
+use Rattle.core_table.proofs.StepLemmas.LookSteps.{stops}
+use Rattle.core_table.proofs.PassLemmas.PassKept.{pass_kept}
+use Rattle.core_table.proofs.table.CoreTable.stop.Goals as goal
+
+pub store-requires : goal.store-requires
+store-requires c =
+    let self = c.args.self.now in let pass = c.args.pass.now in let job = job_of self.setting in let v = pass.seat.me.0 in
+    let laws = c.laws_hold.ensures self.setting (few_nodes self.nodes job.plan.count self.key.1 self.few.2) self.acts.0 self.acts.1 in (
+      c.requires.pass.0,
+      omega (arith, self.sized.0),
+      rw self.key.0 (stops job (room_of self.setting) laws _ _ v pass.seat.me.1 pass.worker pass.number.0 pass.number.1),
+    )
+
+pub returns-clause-pass : goal.returns-clause-pass
+returns-clause-pass c =
+    let old = c.args.pass.now.seat in
+    pass_kept c.args.self.now.setting _ c.args.pass.now.worker old c.store.new.seat (stopping old.me.0) c.store.ensures.0 c.store.ensures.2 refl refl refl refl refl refl refl c.requires.pass

@@ -1,0 +1,24 @@
+use Rattle.std.proofs.Common.{arith, refl, inl, inr}
+use Rattle.std.proofs.lemmas.Bool.{cases_eq}
+use Rattle.core_table.specs.Views.{finding_stop, finding_none}
+use Rattle.core_table.specs.Shows.{room_of, job_of}
+use Rattle.core_table.proofs.TableLemmas.Moved.{few_nodes}
+use Rattle.core_table.proofs.StepLemmas.LookSteps.{looks_at_stop}
+use Rattle.core_table.proofs.PassLemmas.PassKept.{pass_kept}
+use Rattle.core_table.proofs.table.CoreTable.stopped.Goals as goal
+
+pub load-requires : goal.load-requires
+load-requires c =
+    let self = c.args.self.now in let pass = c.args.pass.now in let job = job_of self.setting in let v = pass.seat.me.0 in
+    let laws = c.laws_hold.ensures self.setting (few_nodes self.nodes job.plan.count self.key.1 self.few.2) self.acts.0 self.acts.1 in (
+      c.requires.pass.0,
+      omega (arith, self.sized.0),
+      rw self.key.0 (looks_at_stop job (room_of self.setting) laws _ _ v pass.seat.me.1 pass.worker pass.number.0 pass.number.1),
+    )
+
+pub returns-clause-pass : goal.returns-clause-pass
+returns-clause-pass c =
+    let old = c.args.pass.now.seat in elim (cases_eq c.load.result 1) [
+      | inl e ↦ pass_kept c.args.self.now.setting _ c.args.pass.now.worker old c.load.new.seat (finding_stop old.me.0) c.load.ensures.0 (c.load.ensures.2.0 e) refl refl refl refl refl refl refl c.requires.pass
+      | inr ne ↦ pass_kept c.args.self.now.setting _ c.args.pass.now.worker old c.load.new.seat (finding_none old.me.0) c.load.ensures.0 (c.load.ensures.2.1 ne) refl refl refl refl refl refl refl c.requires.pass
+    ]

@@ -1,0 +1,62 @@
+use Rattle.std.proofs.Common.{List, ◌≡◌, ℕ, [], ◌∷◌, ◌++◌, length, subst, sym, ap, ◌∙◌, arith, refl}
+use Rattle.batcher_core.specs.declared.state.status.CallState.TheVariants.{Out}
+use Rattle.core_table.specs.declared.slot.Slot.TheVariants as Slots
+use Rattle.core_table.specs.Shows.{room_of, job_of}
+use Rattle.core_table.proofs.TableLemmas.Moved.{few_nodes}
+use Rattle.core_table.proofs.PassLemmas.PassKept.{pass_made, first, swapped, turned_to, carries_took, carries_passed}
+use Rattle.core_table.specs.declared.view.HoldView.{HoldView}
+use Rattle.core_table.specs.Remembers.{Owes}
+use Rattle.core_table.proofs.ListLemmas.Owed.{remembers_hold, owes_passed, owes_taken}
+use Rattle.core_table.proofs.PassLemmas.PassKept.{same_hold}
+use Rattle.core_table.specs.Views.{with_hold, taken_view, passed_view}
+use Rattle.core_table.proofs.StepLemmas.GateSteps.{looks}
+use Rattle.core_table.proofs.table.CoreTable.take.Goals as goal
+
+pub compare_exchange-seen-requires : goal.compare_exchange-seen-requires
+compare_exchange-seen-requires c =
+    let self = c.args.self.now in let pass = c.args.pass.now in let job = job_of self.setting in let v = pass.seat.me.0 in
+    let laws = c.laws_hold.ensures self.setting (few_nodes self.nodes job.plan.count self.key.1 self.few.2) self.acts.0 self.acts.1 in
+    let next = c.requires.next in (
+      c.requires.pass.0,
+      omega (arith, self.sized.0, c.requires.low),
+      rw self.key.0 (looks job (room_of self.setting) laws _ _ v pass.seat.me.1 pass.worker pass.number.0 pass.number.1 next.0 c.args.u c.requires.pass.6 next.1 next.2 c.requires.low),
+    )
+
+pub exchange-slot-requires : goal.exchange-slot-requires
+exchange-slot-requires c =
+    let e = c.compare_exchange-seen.ensures.2 in let t = e.3 c.if-seen-ne1.false in
+    (c.compare_exchange-seen.ensures.0 ∙ c.requires.pass.0, (Slots.Record t.0, first _ _ _ _ _ t.2))
+
+pub returns-then-seen-ne1-clause-pass : goal.returns-then-seen-ne1-clause-pass
+returns-then-seen-ne1-clause-pass c =
+    let old = c.args.pass.now.seat in let e = c.compare_exchange-seen.ensures.2 in
+    let w = with_hold old.me.0 (passed_view e.0) in
+    let out : old.me.0.call ≡ Out = c.requires.trapped in
+    pass_made c.args.self.now.setting _ c.args.pass.now.worker old c.compare_exchange-seen.new.seat w old.me.1 c.compare_exchange-seen.ensures.0 (e.4 c.if-seen-ne1.true) refl refl refl refl refl
+    (carries_passed c.args.pass.now.worker old.me.0 e.0 old.me.1 out e.1 c.requires.pass.7)
+    (let m = c.requires.pass.8.holds e.0 e.1 in remembers_hold w _ _ (passed_view e.0) refl m.0 m.1 (owes_passed e.0 m.2)) c.requires.pass
+
+pub returns-clause-pass : goal.returns-clause-pass
+returns-clause-pass c =
+    let old = c.args.pass.now.seat in let u = c.args.u in
+    let e = c.compare_exchange-seen.ensures.2 in let t = e.3 c.if-seen-ne1.false in
+    let w = with_hold old.me.0 (taken_view e.0 u t.0) in
+    let out : old.me.0.call ≡ Out = c.requires.trapped in
+    let emptied = swapped _ _ w u (Slots.Record t.0) Slots.Vacant old.me.1 t.2 c.exchange-slot.ensures.3 in
+    let last = turned_to _ c.turn.new.self.me w ((u, Slots.Vacant) ∷ old.me.1) emptied c.turn.ensures.2 in
+    pass_made c.args.self.now.setting _ c.args.pass.now.worker old c.turn.new.self w (old.me.1 ++ (u, Slots.Vacant) ∷ [])
+    (c.turn.ensures.0 ∙ (c.exchange-slot.ensures.0 ∙ c.compare_exchange-seen.ensures.0)) last refl refl refl refl refl
+    (carries_took c.args.pass.now.worker u old.me.0 e.0 t.0 old.me.1 out e.1 e.2 c.requires.pass.7)
+    (let m = c.requires.pass.8.holds e.0 e.1 in
+    let next = c.requires.next in
+    let at : u ≡ e.0.looks = next.2 ∙ ap (λ (h : HoldView). h.looks) (same_hold next.0 e.0 (sym next.1 ∙ e.1)) in
+    remembers_hold w _ _ (taken_view e.0 u t.0) refl (c.push_reserved.ensures.items ∙ ap (λ l. l ++ u ∷ []) m.0) m.1
+    (subst (λ (n : ℕ). Owes (taken_view e.0 n t.0)) (sym at) (owes_taken e.0 t.0 e.2 m.2))) c.requires.pass
+
+pub push_reserved-requires : goal.push_reserved-requires
+push_reserved-requires c =
+    let pass = c.args.pass.now in
+    let next = c.requires.next in
+    let m = c.requires.pass.8.holds next.0 next.1 in
+    let few = m.2.few in let long = ap (λ (l : List ℕ). length l) m.0 in
+    omega (arith, few, long, next.2, c.requires.low, c.args.self.now.few.1, pass.room.0, pass.room.1)

@@ -1,0 +1,8 @@
+use Rattle.std.proofs.Common.{◌≡◌, false, take}
+use Rattle.core_table.specs.Shows.{among}
+use Rattle.core_table.proofs.turns.first_place.Given as goal
+
+abbrev pub invariant-loop-i : goal.invariant-loop-i
+invariant-loop-i l = record {
+  yet : among (take l.i l.numbers) l.number ≡ false;
+}

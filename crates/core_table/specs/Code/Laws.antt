@@ -1,0 +1,50 @@
+-- What the table uses of the layers below.
+use Rattle.std.specs.Prelude.{ℕ, ◌≡◌, ◌<◌, ◌≤◌, ◌+◌, ◌*◌, ◌^◌, List, [], ◌∷◌, ◌++◌, length, true, false, None, Some}
+use Rattle.std.specs.List.{AllByRecursion}
+use Rattle.seq_objects.specs.Pairs.{AreDistinct}
+use Rattle.batch_history.specs.Book.{flat}
+use Rattle.batcher_core.specs.State.{CoreJob, State, opening_state}
+use Rattle.batcher_core.specs.Entries.{entries_of, StandsAt, IsUnserved}
+use Rattle.batcher_core.specs.Events.{Happens, HasStarted}
+use Rattle.batcher_core.specs.Measure.{call_count}
+use Rattle.batcher_core.specs.Operations.{IsCall, Place, op_in, place_of, receipt_for}
+use Rattle.batcher_core.specs.Tasks.{is_done}
+use Rattle.batcher_core.specs.Invariant.Statuses.{is_taken_by}
+use Rattle.batcher_core.specs.Invariant.{Parts}
+use Rattle.batcher_core.specs.Waits.{IsTrapped, WaitsSince, task_place}
+use Rattle.core_table.specs.CoreWords.{IsPlan, IsSide, SeqNode, ParNode, OpenSecond, FinishParent, Arrive, Op, Event, Publish, Receipt, Served, Whole}
+
+pub record Laws (job : CoreJob) : Type 0 where
+  pub plan : IsPlan job.plan
+  pub keeps : (old new : State) (worker : ℕ) (event : Event) → Parts job old → Happens job old worker event new → Parts job new
+  pub waits : (old new : State) (worker : ℕ) (event : Event) (waiter since : ℕ) → Parts job old → Happens job old worker event new → IsTrapped new waiter → WaitsSince job old waiter since → WaitsSince job new waiter since
+  pub now : (s : State) (waiter : ℕ) → Parts job s → IsTrapped s waiter → WaitsSince job s waiter (length s.book)
+  pub ticks : (s : State) → Parts job s → s.tick ≤ 2 * job.plan.count
+  pub few : job.plan.count < 40000
+  pub second : (n p : ℕ) → job.plan.after n ≡ OpenSecond p → (r : ℕ) × (job.plan.kind p ≡ Some (SeqNode n r))
+  pub parent : (n p : ℕ) → job.plan.after n ≡ FinishParent p → (l : ℕ) × (job.plan.kind p ≡ Some (SeqNode l n))
+  pub arrive : (n p : ℕ) → job.plan.after n ≡ Arrive p → (l : ℕ) × (r : ℕ) × (job.plan.kind p ≡ Some (ParNode l r)) × IsSide job.plan p n
+  pub opening : Parts job opening_state
+  pub root : 0 < job.plan.count
+  -- a side that arrives finds a mark below 2
+  pub mark : (s : State) (w p l r n : ℕ) → Parts job s → s.task w ≡ Whole n → job.plan.kind p ≡ Some (ParNode l r) → IsSide job.plan p n → s.mark p < 2
+  -- the book has no more batches than entries, and with the calls that no batch has yet no more than there are calls
+  pub batches : (s : State) → Parts job s → length s.book ≤ length (flat s.book)
+  pub room : (s : State) (workers : List ℕ) → Parts job s → AreDistinct workers → AllByRecursion (IsUnserved s) workers → length (flat s.book) + length workers ≤ call_count job
+  -- what a publish adds to the entries of a worker
+  pub untaken : (old new : State) (worker : ℕ) → Parts job old → Happens job old worker Publish new → (w : ℕ) → is_taken_by old.hold w ≡ false
+      → (entries_of w (flat new.book) ≡ entries_of w (flat old.book)) × (task_place job new.book (old.task w) ≡ task_place job old.book (old.task w))
+  pub taken : (old new : State) (worker : ℕ) → Parts job old → Happens job old worker Publish new → (w : ℕ) → is_taken_by old.hold w ≡ true
+      → (task_place job old.book (old.task w) ≡ None)
+      × (place : Place) × (task_place job new.book (old.task w) ≡ Some place)
+      × (place.batch ≡ length old.book) × (place.entry.worker ≡ w)
+      × (entries_of w (flat new.book) ≡ entries_of w (flat old.book) ++ place.entry ∷ [])
+  -- a served worker has the receipt of its call's entry
+  pub receipt : (s : State) (worker node leaf : ℕ) (op : Op) (receipt : Receipt) → Parts job s → s.status worker ≡ Served receipt → HasStarted job s worker node leaf → op_in (job.act leaf) ≡ Some op
+      → (place : Place) × (task_place job s.book (s.task worker) ≡ Some place)
+      × (place_of s.book leaf ≡ Some place) × (receipt ≡ receipt_for place)
+      × (place.entry ≡ record { leaf = leaf; worker = worker; op = op; reply = receipt.reply })
+      × StandsAt s.book receipt.batch receipt.place place.entry
+  -- the leaves that call have short numbers
+  pub low : (leaf : ℕ) → IsCall job leaf → leaf < 2 ^ 32
+  pub ended : (s : State) → Parts job s → is_done (s.node 0) ≡ true → s.hold ≡ None

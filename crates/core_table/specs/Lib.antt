@@ -1,0 +1,10 @@
+pub mod CoreWords
+pub mod Words
+pub mod Shows
+pub mod Views
+pub mod Plays
+pub mod Carries
+pub mod Remembers
+pub mod Passes
+pub mod Batches
+pub mod Code

@@ -1,0 +1,129 @@
+-- What each kind of step tells: of the step, the seat before, the number found and the seat after.
+use Rattle.std.specs.Prelude.{ℕ, ◌≡◌, ◌≢◌, ◌≤◌, ◌+◌, ◌<◌, ◌%◌, None, Some, List, [], ◌∷◌, ◌++◌, false, length}
+use Rattle.atomic_table.specs.Table.{Me, Step, rest}
+use Rattle.batch_history.specs.Book.{flat, IsHistory}
+use Rattle.core_table.specs.CoreWords.{Entry, Receipt, Idle, Run, Half, Started, Handed}
+use Rattle.batcher_core.specs.Events.{task_after}
+use Rattle.batcher_core.specs.Operations.{place_of}
+use Rattle.core_table.specs.declared.slot.OpRecord.{OpRecord}
+use Rattle.core_table.specs.declared.slot.Slot.{Slot}
+use Rattle.core_table.specs.declared.slot.Slot.TheVariants as Slots
+use Rattle.core_table.specs.declared.view.HoldView.{HoldView}
+use Rattle.core_table.specs.declared.view.View.{View}
+use Rattle.core_table.specs.Words.{node_at, mark_at}
+use Rattle.core_table.specs.Batches.{IsPublishDue}
+use Rattle.batcher_core.specs.Entries.{StandsAt}
+use Rattle.core_table.specs.Shows.{record_in, entry_of, reserved, IsFront}
+use Rattle.core_table.specs.Views.{with_task, claiming, refusing, ticked, opening, keeping, seeing_done, seeing_undone, hearing, enrolling, posting, winning, losing, taken_view, passed_view, published_view, answered_view, with_hold, releasing, leaving, staying, stopping, finding_stop, finding_none}
+
+-- a view, and the slots that the seat holds
+abbrev pub Sat : Type 0
+Sat = Me Slot View
+
+abbrev pub Play : Type 1
+Play = Step Slot → Sat → ℕ → Sat → Type 0
+
+-- the node is claimed where it was ready
+abbrev pub claimed : Play
+claimed st m r n =
+    (node : ℕ) × (st.word ≡ node_at m.0.workers node) × (r ≡ 1 → n ≡ (claiming m.0 node, m.1)) × (r ≢ 1 → n ≡ (refusing m.0 node, m.1))
+
+-- a look at what is no node: the step names it
+abbrev pub strayed : Play
+strayed st m r n = (node : ℕ) × (st.first ≡ 4 + node) × (n ≡ (refusing m.0 node, m.1))
+
+abbrev pub drawn : Play
+drawn st m r n = (r < 80000) × (n ≡ (with_task m.0 (ticked m.0.task r), m.1))
+
+-- the right side of a parallel block is opened, or any other side
+abbrev pub half_opened : Play
+half_opened st m r n =
+    (node : ℕ) × (p : ℕ) × (st.word ≡ node_at m.0.workers node) × (m.0.task ≡ Run p) × (n ≡ (opening m.0 node (Half p), m.1))
+
+abbrev pub opened : Play
+opened st m r n = (node : ℕ) × (st.word ≡ node_at m.0.workers node) × (n ≡ (opening m.0 node Idle, m.1))
+
+abbrev pub kept : Play
+kept st m r n = (node : ℕ) × (start : ℕ) × (m.0.task ≡ Started node start) × (n ≡ (keeping m.0 node start, m.1))
+
+abbrev pub finished : Play
+finished st m r n = (node : ℕ) × (st.word ≡ node_at m.0.workers node) × (n ≡ (with_task m.0 (task_after node), m.1))
+
+-- the first side to arrive, or the second
+abbrev pub arrived : Play
+arrived st m r n =
+    (node : ℕ) × (st.word ≡ mark_at m.0.workers m.0.nodes node)
+    × (r ≡ 0 → n ≡ (with_task m.0 Idle, m.1)) × (r ≢ 0 → n ≡ (with_task m.0 (Handed node), m.1))
+
+abbrev pub looked_at_root : Play
+looked_at_root st m r n = (r % 4 ≡ 3 → n ≡ (seeing_done m.0, m.1)) × (r % 4 ≢ 3 → n ≡ (seeing_undone m.0, m.1))
+
+abbrev pub heard : Play
+heard st m r n = n ≡ (hearing m.0 r, m.1)
+
+abbrev pub stopped_all : Play
+stopped_all st m r n = n ≡ (stopping m.0, m.1)
+
+abbrev pub looked_at_stop : Play
+looked_at_stop st m r n = (r ≡ 1 → n ≡ (finding_stop m.0, m.1)) × (r ≢ 1 → n ≡ (finding_none m.0, m.1))
+
+-- it takes its own record slot
+abbrev pub enrolled : Play
+enrolled st m r n = n ≡ (enrolling m.0, (m.0.from, Slots.Vacant) ∷ m.1)
+
+abbrev pub posted : Play
+posted st m r n = (call : OpRecord) → m.1 ≡ (st.word, Slots.Record call) ∷ rest m.1 → n ≡ (posting m.0 call, rest m.1)
+
+-- the shop that the winner takes, and the book, have the same batches
+abbrev pub won : Play
+won st m r n =
+    (r ≡ 0 → (m.0.hold ≡ None) × (book : List (List Entry))
+    × (n ≡ (winning m.0 book, (st.word, Slots.Shop book) ∷ (st.word + 1, Slots.Book (reserved book m.0.room)) ∷ m.1)))
+    × (r ≢ 0 → n ≡ (losing m.0, m.1))
+
+-- The call's leaf is not in the book, and none of those taken before has it. The entries of the book, the calls taken
+-- before and this one are together at most so many.
+pub record IsNewCall (room : ℕ) (h : HoldView) (call : OpRecord) : Type 0 where
+  pub unbooked : place_of h.book call.leaf ≡ None
+  pub apart : (x : ℕ) (other : OpRecord) → record_in h.taken x ≡ Some other → other.leaf ≢ call.leaf
+  pub fits : length (flat h.book) + length h.taken + 1 ≤ room
+
+abbrev pub took : Play
+took st m r n =
+    (h : HoldView) × (m.0.hold ≡ Some h) × (h.published ≡ false)
+    × (r ≡ 1 → (call : OpRecord) × IsNewCall m.0.room h call × (n ≡ (with_hold m.0 (taken_view h st.word call), (st.word, Slots.Record call) ∷ m.1)))
+    × (r ≢ 1 → n ≡ (with_hold m.0 (passed_view h), m.1))
+
+-- the batch that is due has room, and the book stays a history with it
+abbrev pub admitted : Play
+admitted st m r n =
+    (n ≡ m)
+    × ((h : HoldView) (batch : List Entry) → m.0.hold ≡ Some h → IsPublishDue m.0.workers h batch
+    → IsHistory (h.book ++ batch ∷ []) × (length h.book < m.0.room))
+
+-- the book that goes home has one batch more
+abbrev pub published : Play
+published st m r n =
+    (h : HoldView) (batch : List Entry) → m.0.hold ≡ Some h
+    → m.1 ≡ (st.word, Slots.Book (reserved (h.book ++ batch ∷ []) m.0.room)) ∷ rest m.1
+    → n ≡ (with_hold m.0 (published_view h batch), rest m.1)
+
+abbrev pub answered : Play
+answered st m r n = (h : HoldView) × (m.0.hold ≡ Some h) × (n ≡ (with_hold m.0 (answered_view h st.word), rest m.1))
+
+-- the shop goes home, and the book too where nothing was published
+abbrev pub released_shop : Play
+released_shop st m r n = n ≡ (releasing m.0, rest m.1)
+
+abbrev pub released_both : Play
+released_both st m r n = n ≡ (releasing m.0, rest (rest m.1))
+
+-- the receipt is for what the pass posted, its batch is in time, and its entry stands in the book
+abbrev pub left : Play
+left st m r n =
+    (r ≡ 3 → (call : OpRecord) × (receipt : Receipt) × (m.0.posted ≡ Some call) × (m.0.before ≤ receipt.batch)
+    × ((since : ℕ) → m.0.after ≡ Some since → receipt.batch ≤ since + 1)
+    × ((book : List (List Entry)) × IsFront m.0.book_seen book
+    × StandsAt book receipt.batch receipt.place (entry_of m.0.from (record { call = call; receipt = receipt }))
+    × (n ≡ (leaving m.0 call receipt book, (st.word, Slots.Receipt receipt) ∷ m.1))))
+    × (r ≢ 3 → n ≡ (staying m.0, m.1))

@@ -1,0 +1,172 @@
+-- When a table shows a state of the core: its words, its slots at home and the views of its passes tell each part of it.
+use Rattle.std.specs.Prelude.{ℕ, ◌≡◌, ◌≢◌, ◌<◌, ◌≤◌, ◌+◌, ◌==◌, Bool, true, false, if◌then◌else◌, Option as Maybe, None, Some, List, [], ◌∷◌, ◌++◌, length, map}
+use mathlib.Core.Option.{Option, none, some}
+use lib.ListN.{get_elem?}
+use Rattle.atomic_table.specs.Table.{State as TableState}
+use Rattle.seq_objects.specs.Pairs.{AreDistinct}
+use Rattle.batch_history.specs.Book.{flat}
+use Rattle.batch_history.specs.Reserved.{ReservedView}
+use Rattle.core_table.specs.CoreWords.{Entry, LeafNode, Task, Idle, Started, Status, Free, Pending, Executing, Served, CallState, NotCalled, Out, Got}
+use Rattle.batcher_core.specs.State.{CoreJob, Hold, State, core_job}
+use Rattle.batcher_core.specs.Operations.{op_in, Place}
+use Rattle.batcher_core.specs.Entries.{entries_of}
+use Rattle.batcher_core.specs.Measure.{call_count}
+use Rattle.batcher_core.specs.Tasks.{is_done}
+use Rattle.batcher_core.specs.Invariant.{Parts}
+use Rattle.batcher_core.specs.Waits.{WaitsSince, task_place}
+use Rattle.core_table.specs.declared.slot.OpRecord.{OpRecord}
+use Rattle.core_table.specs.declared.slot.Slot.{Slot}
+use Rattle.core_table.specs.declared.slot.Slot.TheVariants as Slots
+use Rattle.core_table.specs.declared.view.TakenCall.{TakenCall}
+use Rattle.core_table.specs.declared.view.HoldView.{HoldView}
+use Rattle.core_table.specs.declared.view.LeftCall.{LeftCall}
+use Rattle.core_table.specs.declared.view.View.{View}
+use Rattle.core_table.specs.declared.setting.Setting.{Setting}
+use Rattle.core_table.specs.Words.{WordsShow}
+
+-- the table as plain data
+abbrev pub St : Type 0
+St = TableState Slot View
+
+-- the slot of a number, if there is one: at home with a value, or with a pass
+abbrev pub Home : Type 0
+Home = Option (Option Slot)
+
+-- the job that a table is made for, and how many of its leaves call
+abbrev pub job_of : Setting → CoreJob
+job_of key = core_job key.plan key.acts.items key.workers
+
+abbrev pub room_of : Setting → ℕ
+room_of key = call_count (job_of key)
+
+-- the record is that of the call of the leaf at which the task is started
+abbrev pub IsRecordOf : CoreJob → Task → OpRecord → Type 0
+IsRecordOf job task call =
+    (node : ℕ) × (start : ℕ) × (task ≡ Started node start) × (job.plan.kind node ≡ Some (LeafNode call.leaf))
+    × (op_in (job.act call.leaf) ≡ Some call.op)
+
+-- The record slot of a worker with this task and this status: at home with its call where it is pending, at home with
+-- its receipt where it is served, and with the worker that has the flag where it is executing.
+abbrev pub RecordAt : CoreJob → Task → Status → Home → Type 0
+RecordAt job task Free home = Unit {0}
+RecordAt job task Pending home = (call : OpRecord) × (home ≡ some (some (Slots.Record call))) × IsRecordOf job task call
+RecordAt job task Executing home = home ≡ some none
+RecordAt job task (Served receipt) home = home ≡ some (some (Slots.Receipt receipt))
+
+-- the shop is at home where the flag is free, and has served the book
+abbrev pub ShopAt : Maybe Hold → List (List Entry) → Home → Type 0
+ShopAt None book home = home ≡ some (some (Slots.Shop book))
+ShopAt (Some h) book home = home ≡ some none
+
+-- a book with these batches, and room for so many in all
+abbrev pub reserved : List (List Entry) → ℕ → ReservedView
+reserved batches capacity = record { batches = batches; capacity = capacity }
+
+abbrev pub IsBookHome : ℕ → List (List Entry) → Home → Type 0
+IsBookHome room book home = home ≡ some (some (Slots.Book (reserved book room)))
+
+abbrev pub BookIf : Bool → ℕ → List (List Entry) → Home → Type 0
+BookIf true room book home = IsBookHome room book home
+BookIf false room book home = home ≡ some none
+
+-- the book is at home where the flag is free or the hold has published
+abbrev pub BookAt : ℕ → Maybe Hold → List (List Entry) → Home → Type 0
+BookAt room None book home = IsBookHome room book home
+BookAt room (Some h) book home = BookIf h.published room book home
+
+-- the slots show these parts of a state: first stand the record slots of the workers, then the shop, then the book
+pub record SlotsShow (job : CoreJob) (room : ℕ) (homes : List (Option Slot)) (task : ℕ → Task) (status : ℕ → Status)
+    (hold : Maybe Hold) (book : List (List Entry)) : Type 0 where
+  pub wide : length homes ≡ job.workers + 2
+  pub records : (w : ℕ) → w < job.workers → RecordAt job (task w) (status w) (get_elem? homes w)
+  pub shop : ShopAt hold book (get_elem? homes job.workers)
+  pub batches : BookAt room hold book (get_elem? homes (job.workers + 1))
+
+-- whether the call of a worker is among those taken, and which it is
+abbrev pub took_in : List TakenCall → ℕ → Bool
+took_in [] u = false
+took_in (t ∷ taken) u = if u == t.worker then true else took_in taken u
+
+abbrev pub record_in : List TakenCall → ℕ → Maybe OpRecord
+record_in [] u = None
+record_in (t ∷ taken) u = if u == t.worker then Some t.call else record_in taken u
+
+abbrev pub among : List ℕ → ℕ → Bool
+among [] u = false
+among (x ∷ xs) u = if u == x then true else among xs u
+
+-- the hold that the view of worker w tells
+abbrev pub hold_of : ℕ → HoldView → Hold
+hold_of w v = record { worker = w; looks = v.looks; taken = took_in v.taken; answered = among v.answered; published = v.published }
+
+-- What the view of worker w tells of the hold: that it has none; or the hold, the book, that what it took of a worker
+-- and has not answered is what that worker posted, and that it took no worker's call twice.
+abbrev pub HoldKnown : CoreJob → State → Maybe HoldView → ℕ → Type 0
+HoldKnown job s None w = (h : Hold) → s.hold ≡ Some h → h.worker ≢ w
+HoldKnown job s (Some v) w =
+    (s.hold ≡ Some (hold_of w v)) × (s.book ≡ v.book)
+    × ((u : ℕ) (call : OpRecord) → record_in v.taken u ≡ Some call → among v.answered u ≡ false → IsRecordOf job (s.task u) call)
+    × AreDistinct (map (λ t. t.worker) v.taken)
+
+-- the entry of a call that worker w has left
+abbrev pub entry_of : ℕ → LeftCall → Entry
+entry_of w call = record { leaf = call.call.leaf; worker = w; op = call.call.op; reply = call.receipt.reply }
+
+abbrev pub entry_at : Maybe Place → List Entry
+entry_at None = []
+entry_at (Some place) = place.entry ∷ []
+
+-- the entry of a call that is out, where the book has one
+abbrev pub present : CallState → Maybe Place → List Entry
+present NotCalled place = []
+present Out place = entry_at place
+present (Got receipt) place = []
+
+-- What the view of worker w tells of the number of batches: the greatest number that it was told, the greatest before
+-- its latest post, and the least after that post. The last one bounds how long the worker waits.
+pub record SinceKnown (job : CoreJob) (s : State) (v : View) (w : ℕ) : Type 0 where
+  pub most : v.greatest ≤ length s.book
+  pub early : v.before ≤ v.greatest
+  pub late : (since : ℕ) → v.after ≡ Some since → since ≤ v.greatest
+  pub placed : (place : Place) → s.call w ≡ Out → task_place job s.book (s.task w) ≡ Some place → v.before ≤ place.batch
+  pub waits : (since : ℕ) → v.after ≡ Some since → s.call w ≡ Out → WaitsSince job s w since
+
+-- the one list begins the other
+abbrev pub IsFront : {A : Type 0} → List A → List A → Type 0
+IsFront {A} xs ys = (more : List A) × (ys ≡ xs ++ more)
+
+-- What the view of a seat tells of worker w, whose record slot is there. `sits` says that this seat, and no other, is
+-- that of the worker.
+pub record Mine (job : CoreJob) (s : State) (home : Home) (seat id : ℕ) (v : View) (w : ℕ) : Type 0 where
+  pub sits : seat ≡ id
+  -- the task and the call of the worker are those of the view
+  pub task : s.task w ≡ v.task
+  pub call : s.call w ≡ v.call
+  -- where the call is out, it is what the pass posted last
+  pub posted : s.call w ≡ Out → (call : OpRecord) × (v.posted ≡ Some call) × IsRecordOf job (s.task w) call
+  pub hold : HoldKnown job s v.hold w
+  -- the worker's entries in the book are those of the calls that the pass has left, in the order in which it made
+  -- them, and then that of its present call, if the book has it
+  pub entries : entries_of w (flat s.book) ≡ map (entry_of w) v.left ++ present (s.call w) (task_place job s.book (s.task w))
+  -- a worker whose pass has not enrolled has done nothing, and its record slot is at home and empty
+  pub new : v.enrolled ≡ false → (home ≡ some (some Slots.Vacant)) × (v.task ≡ Idle) × (v.call ≡ NotCalled)
+  pub done : v.saw_done ≡ true → is_done (s.node 0) ≡ true
+  pub since : SinceKnown job s v w
+  -- the book that the pass has seen begins the book
+  pub seen : IsFront v.book_seen s.book
+
+-- The table shows a state, which has the eight parts of the invariant. Each worker's number lies in the range of one
+-- seat: the first seat has all numbers that are not dealt out yet.
+pub record Shows (job : CoreJob) (room : ℕ) (t : St) : Type 0 where
+  pub state : State
+  -- which seat is that of a worker
+  pub seat : ℕ → ℕ
+  pub parts : Parts job state
+  pub words : WordsShow job.workers job.plan.count t.words state.node state.mark state.value state.status state.hold state.tick (length state.book)
+  pub slots : SlotsShow job room t.homes state.task state.status state.hold state.book
+  pub views : (id : ℕ) (v : View) (w : ℕ) → get_elem? t.views id ≡ some v → v.from ≤ w → w < v.to
+      → (w < job.workers) × Mine job state (get_elem? t.homes w) (seat w) id v w
+
+-- the rule of the table
+abbrev pub Shown : Setting → St → Type 0
+Shown key = Shows (job_of key) (room_of key)

@@ -1,0 +1,181 @@
+-- The view of a pass after each of its steps. A step changes the view of its own pass and no other.
+use Rattle.std.specs.Prelude.{ℕ, ◌+◌, ◌==◌, max, min, if◌then◌else◌, Bool, Option as Maybe, None, Some, List, [], ◌∷◌, ◌++◌, true, false}
+use Rattle.core_table.specs.CoreWords.{Entry, Receipt, Task, Idle, Run, Half, Started, Kept, Ended, Whole, Handed, NotCalled, Out, Got}
+use Rattle.core_table.specs.declared.slot.OpRecord.{OpRecord}
+use Rattle.core_table.specs.declared.view.HoldView.{HoldView}
+use Rattle.core_table.specs.declared.view.View.{View}
+use Rattle.core_table.specs.Shows.{room_of, job_of}
+use Rattle.core_table.specs.declared.setting.Setting.{Setting}
+
+-- a view that tells nothing yet, of the numbers below the workers
+abbrev pub newcomer : ℕ → ℕ → ℕ → View
+newcomer workers nodes room = record {
+  from = 0;
+  to = workers;
+  workers = workers;
+  nodes = nodes;
+  room = room;
+  task = Idle;
+  call = NotCalled;
+  posted = None;
+  left = [];
+  hold = None;
+  enrolled = false;
+  saw_done = false;
+  root_looks = 0;
+  claims = 0;
+  claimed = [];
+  refused_nodes = [];
+  opened = [];
+  wins = 0;
+  refused_wins = 0;
+  refused_leaves = 0;
+  stops = 0;
+  stop_looks = 0;
+  stops_found = 0;
+  greatest = 0;
+  before = 0;
+  after = None;
+  since_looks = 0;
+  just_posted = false;
+  first_since = None;
+  book_seen = [];
+}
+
+-- that of the first seat of a table
+abbrev pub first_view : Setting → View
+first_view key = newcomer key.workers (job_of key).plan.count (room_of key)
+
+-- the first number of a range is cut off, and what is left
+abbrev pub pass_of : View → View
+pass_of v = record v { to = v.from + 1 }
+
+abbrev pub rest_of : View → View
+rest_of v = record v { from = v.from + 1 }
+
+-- what is left of the first seat once n passes are cut off
+abbrev pub rest_from : ℕ → Setting → View
+rest_from n setting = record (first_view setting) { from = n }
+
+-- it takes its own record slot
+abbrev pub enrolling : View → View
+enrolling v = record v { enrolled = true }
+
+-- The job side. A step tells the new task, and each counts what it did.
+abbrev pub with_task : View → Task → View
+with_task v task = record v { task = task; just_posted = false }
+
+abbrev pub claiming : View → ℕ → View
+claiming v n = record v { task = Run n; claims = v.claims + 1; claimed = n ∷ v.claimed; just_posted = false }
+
+abbrev pub refusing : View → ℕ → View
+refusing v n = record v { refused_nodes = n ∷ v.refused_nodes; just_posted = false }
+
+-- the task once its tick is drawn
+abbrev pub ticked : Task → ℕ → Task
+ticked Idle tick = Idle
+ticked (Run n) tick = Started n tick
+ticked (Half n) tick = Half n
+ticked (Started n start) tick = Started n start
+ticked (Kept n start) tick = Ended n start tick
+ticked (Ended n start end) tick = Ended n start end
+ticked (Whole n) tick = Whole n
+ticked (Handed n) tick = Handed n
+
+abbrev pub opening : View → ℕ → Task → View
+opening v n task = record v { task = task; opened = n ∷ v.opened; just_posted = false }
+
+abbrev pub keeping : View → ℕ → ℕ → View
+keeping v n start = record v { task = Kept n start; call = NotCalled; just_posted = false }
+
+-- The looks: at the root, which was done or not; at the stop word, which was 1 or not; at the number of batches.
+abbrev pub seeing_done : View → View
+seeing_done v = record v { saw_done = true; root_looks = v.root_looks + 1; just_posted = false }
+
+abbrev pub seeing_undone : View → View
+seeing_undone v = record v { root_looks = v.root_looks + 1; just_posted = false }
+
+abbrev pub stopping : View → View
+stopping v = record v { stops = v.stops + 1; just_posted = false }
+
+abbrev pub finding_stop : View → View
+finding_stop v = record v { stop_looks = v.stop_looks + 1; stops_found = v.stops_found + 1; just_posted = false }
+
+abbrev pub finding_none : View → View
+finding_none v = record v { stop_looks = v.stop_looks + 1; just_posted = false }
+
+-- the least number that was told, where this one is told now
+abbrev pub least_told : Maybe ℕ → ℕ → Maybe ℕ
+least_told None n = Some n
+least_told (Some b) n = Some (min b n)
+
+-- what is told by the first step after a post
+abbrev pub told_first : Bool → Maybe ℕ → ℕ → Maybe ℕ
+told_first true told n = Some n
+told_first false told n = told
+
+abbrev pub hearing : View → ℕ → View
+hearing v n = record v {
+  greatest = max v.greatest n;
+  after = least_told v.after n;
+  since_looks = v.since_looks + 1;
+  first_since = told_first v.just_posted v.first_since n;
+  just_posted = false;
+}
+
+-- The gate side.
+abbrev pub posting : View → OpRecord → View
+posting v call = record v {
+  call = Out;
+  posted = Some call;
+  before = v.greatest;
+  after = None;
+  just_posted = true;
+  first_since = None;
+}
+
+abbrev pub new_view : List (List Entry) → HoldView
+new_view book = record { looks = 0; taken = []; answered = []; owed = []; published = false; book = book }
+
+-- it wins the flag, and learns the book
+abbrev pub winning : View → List (List Entry) → View
+winning v book = record v { hold = Some (new_view book); wins = v.wins + 1; just_posted = false }
+
+abbrev pub losing : View → View
+losing v = record v { refused_wins = v.refused_wins + 1; just_posted = false }
+
+-- a look that takes the call of worker u, and one that does not
+abbrev pub taken_view : HoldView → ℕ → OpRecord → HoldView
+taken_view h u call = record h { looks = h.looks + 1; taken = record { worker = u; call = call } ∷ h.taken; owed = h.owed ++ u ∷ [] }
+
+abbrev pub passed_view : HoldView → HoldView
+passed_view h = record h { looks = h.looks + 1 }
+
+abbrev pub published_view : HoldView → List Entry → HoldView
+published_view h batch = record h { published = true; book = h.book ++ batch ∷ [] }
+
+-- the list without the first that is this number
+abbrev pub without_first : ℕ → List ℕ → List ℕ
+without_first u [] = []
+without_first u (x ∷ xs) = if x == u then xs else x ∷ without_first u xs
+
+abbrev pub answered_view : HoldView → ℕ → HoldView
+answered_view h u = record h { answered = u ∷ h.answered; owed = without_first u h.owed }
+
+abbrev pub with_hold : View → HoldView → View
+with_hold v h = record v { hold = Some h; just_posted = false }
+
+abbrev pub releasing : View → View
+releasing v = record v { hold = None; just_posted = false }
+
+-- it leaves, and sees the book
+abbrev pub leaving : View → OpRecord → Receipt → List (List Entry) → View
+leaving v call receipt book = record v {
+  call = Got receipt;
+  left = v.left ++ record { call = call; receipt = receipt } ∷ [];
+  book_seen = book;
+  just_posted = false;
+}
+
+abbrev pub staying : View → View
+staying v = record v { refused_leaves = v.refused_leaves + 1; just_posted = false }

@@ -1,0 +1,135 @@
+//! How a table is closed.
+ghost use Rattle.std.specs.Prelude.{◌≡◌, ◌≢◌, ℕ, ◌+◌, ◌<◌, ◌≤◌, [], Some, length, map, true, IfOk, vec_capacity, vec_len};
+ghost use Rattle.std.specs.List.{AllByRecursion, range_with_len};
+ghost use Rattle.std.specs.Mem.Slots.{slots_items, slots_len, slots_filled, IsFull};
+ghost use Rattle.sp_order.specs.Precedence.{leaves};
+ghost use Rattle.sp_order.specs.Preorder.{nodes_of};
+ghost use Rattle.batch_history.specs.Lawful.{Lawful};
+ghost use Rattle.batcher_core.specs.State.{State};
+ghost use Rattle.batcher_core.specs.Tasks.{is_done};
+ghost use Rattle.batcher_core.specs.Reports.{IsReportOf};
+ghost use Rattle.batcher_core.specs.Invariant.{Parts};
+ghost use Rattle.core_table.specs.Shows.{IsFront};
+ghost use Rattle.core_table.specs.Passes.{IsPassOf, job_in, tree_in, acts_in, view};
+ghost use Rattle.core_table.specs.Code.Rows.{RowInWords, HasSlotsBelow};
+
+use crate::laws::laws_hold;
+use crate::slot::Slot;
+use crate::table::{CoreTable, Pass};
+use atomic_table::Closed;
+use batch_history::{Report, Row, Rows};
+use batcher_core::laws::report::{done_leaves_have_run, done_report_is_lawful};
+use sp_order::Plan;
+use sp_order::laws::{leaf_has_one_node, plan_has_sides, plan_stands_for_tree};
+use std::alloc::{AllocError, Global};
+
+/// The rows of the leaves, as the words of a closed table tell them.
+fn read_rows(
+    closed: &Closed<Slot, Global>,
+    plan: &Plan,
+    workers: u32,
+    nodes: u32,
+    leaf_total: u32,
+    rows: Vec<Row>,
+) -> Vec<Row>
+    requires words { IsFull closed.now.words
+        × (slots_len closed.now.words ≡ workers + 4 + nodes + nodes + nodes) }
+    requires plan { (nodes ≡ (nodes_of plan.now).count) × (leaf_total ≤ leaves plan.now)
+        × (workers ≤ 32) × (nodes < 40000) }
+    requires room { (rows.items ≡ []) × (vec_len rows ≡ 0) × (leaf_total ≤ vec_capacity rows) }
+    ensures leaves { map (λ row. row.leaf) result.items ≡ range_with_len 0 leaf_total }
+    ensures told { AllByRecursion (RowInWords workers nodes leaf_total (nodes_of plan.now).node_of
+        (slots_items closed.now.words)) result.items }
+{
+    plan_stands_for_tree();
+    plan_has_sides();
+    leaf_has_one_node();
+    let mut rows = rows;
+    let first = workers as usize + 4;
+    let values = first + nodes as usize + nodes as usize;
+    for leaf in 0..leaf_total {
+        let node = plan.node_of(leaf) as usize;
+        let word = closed.word(first + node);
+        let value = closed.word(values + node);
+        rows.push_reserved(Row {
+            leaf,
+            worker: (word / 4 % 32) as u32,
+            start: word / 128 % 1048576,
+            end: word / 134217728,
+            value,
+        });
+    }
+    rows
+}
+
+/// Gives up a closed table whose slots are taken from this number on.
+fn drop_slots(closed: Closed<Slot, Global>, count: usize)
+    requires { (count < slots_len closed.slots)
+        × HasSlotsBelow (slots_filled closed.slots) (slots_len closed.slots) count }
+{
+    let mut closed = closed;
+    for i in 0..count {
+        drop(closed.take(i));
+    }
+    closed.free();
+}
+
+impl CoreTable {
+    /// The report of a table whose root this pass has seen done: the rows of the table's own words, and its own book.
+    /// Where memory is wanting the table is given up.
+    ///
+    /// Memory: proportional to the leaves.
+    pub fn close(self, alloc: Global, pass: Pass) -> Result<Report, AllocError>
+        requires pass { IsPassOf self pass }
+        requires saw { (view pass).saw_done ≡ true }
+        ensures lawful { IfOk result (λ report. Lawful
+            (record { shape = Some (tree_in self); acts = acts_in self })
+            (job_in self).workers report) }
+        ensures state { IfOk result (λ report. (s : State)
+            × Parts (job_in self) s × (is_done (s.node 0) ≡ true)
+            × IsReportOf (job_in self) (leaves (tree_in self)) s report) }
+        ensures seen { IfOk result (λ report. IsFront (view pass).book_seen report.history) }
+    {
+        laws_hold();
+        done_leaves_have_run();
+        done_report_is_lawful();
+        plan_stands_for_tree();
+        plan_has_sides();
+        leaf_has_one_node();
+        let leaf_total = self.setting.acts.as_slice().len() as u32;
+        let rows = Vec::with_capacity(alloc, leaf_total as usize)?;
+        let CoreTable {
+            table,
+            setting,
+            nodes,
+        } = self;
+        let Pass {
+            seat,
+            worker: _,
+            task: _,
+            call: _,
+            owed: _,
+            published: _,
+        } = pass;
+        let mut closed = table.close_with(seat);
+        let rows = read_rows(
+            &closed,
+            &setting.plan,
+            setting.workers,
+            nodes,
+            leaf_total,
+            rows,
+        );
+        let at = setting.workers as usize + 1;
+        let last = closed.take(at);
+        drop_slots(closed, at);
+        match last {
+            Slot::Book(book) => Ok(Report {
+                workers: setting.workers,
+                history: book.into_history(),
+                rows: Rows::of(rows),
+            }),
+            _ => unreachable!(),
+        }
+    }
+}

@@ -1,0 +1,224 @@
+//! The calls of the gate: how a worker's call comes into a batch, and its receipt back.
+ghost use Rattle.std.specs.Prelude.{List, ◌≡◌, ◌≢◌, ℕ, ◌+◌, ◌<◌, ◌≤◌, ◌^◌, ◌∷◌, [], true, false, None, Some, IfSome, IfNone, IfOk, IfErr, length};
+ghost use Rattle.batch_history.specs.declared.batch.Entry.{Entry};
+ghost use Rattle.core_table.specs.CoreWords.{NotCalled};
+ghost use Rattle.batcher_core.specs.Measure.{call_count};
+ghost use Rattle.batcher_core.specs.Operations.{place_of, IsReceipt};
+ghost use Rattle.core_table.specs.declared.view.HoldView.{HoldView};
+ghost use Rattle.core_table.specs.declared.slot.OpRecord.{OpRecord as CallRecord};
+ghost use Rattle.core_table.specs.Shows.{IsRecordOf, record_in, among, entry_of, IsFront};
+ghost use Rattle.batcher_core.specs.Entries.{StandsAt};
+ghost use Rattle.core_table.specs.Passes.{IsPassOf, job_in, view, IsTrapped};
+ghost use Rattle.core_table.specs.Batches.{IsPublishDue, IsReleaseDue};
+ghost use Rattle.core_table.specs.Views.{posting, winning, losing, leaving, staying, releasing, with_hold, taken_view, passed_view, published_view, answered_view};
+ghost use Rattle.core_table.specs.Plays.{IsNewCall};
+
+use crate::laws::laws_hold;
+use crate::plays::{Admit, Answer, Leave, Post, Publish, ReleaseBoth, ReleaseShop, Take, Win};
+use crate::slot::{OpRecord, Slot};
+use crate::table::{CoreTable, Pass};
+use crate::turns::{first_place, turn_by};
+use batch_history::Batch;
+use batcher_core::{CallState, Receipt};
+use launch_batch::Shop;
+
+impl CoreTable {
+    /// Posts the call of the leaf that has started. The pass is trapped then.
+    pub fn post(&self, pass: &mut Pass, call: OpRecord)
+        requires pass { IsPassOf self.now pass.old }
+        requires free { (view pass.old).call ≡ NotCalled }
+        requires due { IsRecordOf (job_in self.now) (view pass.old).task call }
+        ensures pass { IsPassOf self.now pass.new }
+        ensures posted { view pass.new ≡ posting (view pass.old) call }
+    {
+        laws_hold();
+        let shared = &self.table.shared;
+        let at = pass.worker as usize;
+        drop(shared.exchange(&mut pass.seat, at, Slot::Record(call)));
+        shared.store::<Post>(&mut pass.seat, at, 1);
+        pass.call = CallState::Out;
+    }
+
+    /// Tries for the flag.
+    pub fn win(&self, pass: &mut Pass) -> Option<Shop>
+        requires pass { IsPassOf self.now pass.old }
+        requires trapped { IsTrapped pass.old }
+        ensures pass { IsPassOf self.now pass.new }
+        ensures won { IfSome result (λ shop. view pass.new ≡ winning (view pass.old) shop) }
+        ensures lost { IfNone result (view pass.new ≡ losing (view pass.old)) }
+    {
+        laws_hold();
+        let shared = &self.table.shared;
+        let at = self.setting.workers as usize;
+        let mine = pass.worker as u64 + 1;
+        if shared.compare_exchange::<Win>(&mut pass.seat, at, 0, mine) != 0 {
+            return None;
+        }
+        let slot = shared.exchange(&mut pass.seat, at, Slot::Vacant);
+        pass.seat.turn();
+        pass.published = false;
+        match slot {
+            Slot::Shop(shop) => Some(shop),
+            _ => unreachable!(),
+        }
+    }
+
+    /// Tries to leave with the receipt.
+    pub fn leave(&self, pass: &mut Pass) -> Result<Receipt, u64>
+        requires pass { IsPassOf self.now pass.old }
+        requires trapped { IsTrapped pass.old }
+        requires idle { (view pass.old).hold ≡ None }
+        ensures pass { IsPassOf self.now pass.new }
+        ensures left { IfOk result (λ receipt.
+            (call : CallRecord) × ((view pass.old).posted ≡ Some call)
+            × (book : List (List Entry)) × (view pass.new ≡ leaving (view pass.old) call receipt book)
+            × IsFront (view pass.old).book_seen book
+            × StandsAt book receipt.batch receipt.place
+            (entry_of (view pass.new).from (record { call = call; receipt = receipt }))
+            × ((view pass.old).before ≤ receipt.batch)
+            × ((since : ℕ) → (view pass.old).after ≡ Some since → receipt.batch ≤ since + 1)) }
+        ensures stays { IfErr result (λ seen. (seen ≢ 3)
+            × (view pass.new ≡ staying (view pass.old))) }
+    {
+        laws_hold();
+        let shared = &self.table.shared;
+        let at = pass.worker as usize;
+        let seen = shared.compare_exchange::<Leave>(&mut pass.seat, at, 3, 0);
+        if seen != 3 {
+            return Err(seen);
+        }
+        let Slot::Receipt(receipt) = shared.exchange(&mut pass.seat, at, Slot::Vacant) else {
+            unreachable!()
+        };
+        pass.call = CallState::Got(receipt);
+        Ok(receipt)
+    }
+
+    /// Looks at worker u, and takes its call if that is pending.
+    pub fn take(&self, pass: &mut Pass, u: u32) -> Result<OpRecord, u64>
+        requires pass { IsPassOf self.now pass.old }
+        requires trapped { IsTrapped pass.old }
+        requires low { u < (job_in self.now).workers }
+        requires next { (h : HoldView) × ((view pass.old).hold ≡ Some h) × (u ≡ h.looks) }
+        ensures pass { IsPassOf self.now pass.new }
+        ensures took { IfOk result (λ call.
+            (h : HoldView) × ((view pass.old).hold ≡ Some h)
+            × IsNewCall (call_count (job_in self.now)) h call
+            × (view pass.new ≡ with_hold (view pass.old) (taken_view h u call))) }
+        ensures passed { IfErr result (λ seen. (seen ≢ 1)
+            × ((h : HoldView) × ((view pass.old).hold ≡ Some h)
+            × (view pass.new ≡ with_hold (view pass.old) (passed_view h)))) }
+    {
+        laws_hold();
+        let shared = &self.table.shared;
+        let seen = shared.compare_exchange::<Take>(&mut pass.seat, u as usize, 1, 2);
+        if seen != 1 {
+            return Err(seen);
+        }
+        let slot = shared.exchange(&mut pass.seat, u as usize, Slot::Vacant);
+        pass.seat.turn();
+        pass.owed.push_reserved(u);
+        match slot {
+            Slot::Record(call) => Ok(call),
+            _ => unreachable!(),
+        }
+    }
+
+    /// The batch joins the book.
+    pub fn publish(&self, pass: &mut Pass, batch: Batch)
+        requires pass { IsPassOf self.now pass.old }
+        requires trapped { IsTrapped pass.old }
+        requires due { (h : HoldView) × ((view pass.old).hold ≡ Some h)
+            × IsPublishDue (job_in self.now).workers h batch }
+        ensures pass { IsPassOf self.now pass.new }
+        ensures published { (h : HoldView) × ((view pass.old).hold ≡ Some h)
+            × (view pass.new ≡ with_hold (view pass.old) (published_view h batch)) }
+    {
+        laws_hold();
+        let shared = &self.table.shared;
+        let at = self.setting.workers as usize + 1;
+        shared.load::<Admit>(&mut pass.seat, at);
+        let Slot::Book(mut book) = shared.exchange(&mut pass.seat, at, Slot::Vacant) else {
+            unreachable!()
+        };
+        book.append(batch);
+        drop(shared.exchange(&mut pass.seat, at, Slot::Book(book)));
+        shared.fetch_add::<Publish>(&mut pass.seat, at, 1);
+        pass.seat.turn();
+        pass.published = true;
+    }
+
+    /// Hands worker u its receipt. Those that are owed one are answered in any order.
+    pub fn answer(&self, pass: &mut Pass, u: u32, receipt: Receipt)
+        requires pass { IsPassOf self.now pass.old }
+        requires trapped { IsTrapped pass.old }
+        requires low { u < (job_in self.now).workers }
+        requires due { (h : HoldView) × (call : CallRecord) × ((view pass.old).hold ≡ Some h)
+            × (h.published ≡ true) × (record_in h.taken u ≡ Some call) × (among h.answered u ≡ false)
+            × IsReceipt (place_of h.book call.leaf) receipt }
+        ensures pass { IsPassOf self.now pass.new }
+        ensures answered { (h : HoldView) × ((view pass.old).hold ≡ Some h)
+            × (view pass.new ≡ with_hold (view pass.old) (answered_view h u)) }
+    {
+        laws_hold();
+        let shared = &self.table.shared;
+        let at = first_place(pass.owed.as_slice(), u);
+        let behind = pass.owed.len() - at;
+        turn_by(&mut pass.seat, at);
+        drop(shared.exchange(&mut pass.seat, u as usize, Slot::Receipt(receipt)));
+        shared.store::<Answer>(&mut pass.seat, u as usize, 3);
+        turn_by(&mut pass.seat, behind);
+        pass.owed.remove(at);
+    }
+
+    /// Lets go of the flag, where no call was taken, or all that were are answered.
+    pub fn release(&self, pass: &mut Pass, shop: Shop)
+        requires pass { IsPassOf self.now pass.old }
+        requires trapped { IsTrapped pass.old }
+        requires due { (h : HoldView) × ((view pass.old).hold ≡ Some h)
+            × IsReleaseDue (job_in self.now).workers h × (shop ≡ h.book) }
+        ensures pass { IsPassOf self.now pass.new }
+        ensures released { view pass.new ≡ releasing (view pass.old) }
+    {
+        if pass.published {
+            self.release_shop(pass, shop)
+        } else {
+            self.release_both(pass, shop)
+        }
+    }
+
+    /// Where the hold has published: the shop goes home.
+    fn release_shop(&self, pass: &mut Pass, shop: Shop)
+        requires pass { IsPassOf self.now pass.old }
+        requires trapped { IsTrapped pass.old }
+        requires published { pass.old.published ≡ true }
+        requires due { (h : HoldView) × ((view pass.old).hold ≡ Some h)
+            × IsReleaseDue (job_in self.now).workers h × (shop ≡ h.book) }
+        ensures pass { IsPassOf self.now pass.new }
+        ensures released { view pass.new ≡ releasing (view pass.old) }
+    {
+        laws_hold();
+        let shared = &self.table.shared;
+        let at = self.setting.workers as usize;
+        drop(shared.exchange(&mut pass.seat, at, Slot::Shop(shop)));
+        shared.store::<ReleaseShop>(&mut pass.seat, at, 0);
+    }
+
+    /// Where it has not: the shop and the book go home.
+    fn release_both(&self, pass: &mut Pass, shop: Shop)
+        requires pass { IsPassOf self.now pass.old }
+        requires trapped { IsTrapped pass.old }
+        requires unpublished { pass.old.published ≡ false }
+        requires due { (h : HoldView) × ((view pass.old).hold ≡ Some h)
+            × IsReleaseDue (job_in self.now).workers h × (shop ≡ h.book) }
+        ensures pass { IsPassOf self.now pass.new }
+        ensures released { view pass.new ≡ releasing (view pass.old) }
+    {
+        laws_hold();
+        let shared = &self.table.shared;
+        let at = self.setting.workers as usize;
+        pass.seat.turn();
+        drop(shared.exchange(&mut pass.seat, at, Slot::Shop(shop)));
+        shared.store::<ReleaseBoth>(&mut pass.seat, at, 0);
+    }
+}

@@ -1,0 +1,324 @@
+//! The calls of the job side, and the looks.
+ghost use Rattle.std.specs.Prelude.{◌≡◌, ◌≢◌, ℕ, ◌+◌, ◌<◌, ◌≤◌, ◌∷◌, Some, IsTrue, IsFalse};
+ghost use Rattle.core_table.specs.CoreWords.{Idle, Run, Half, Started, Ended, Whole, Handed, Arrive as ArriveAt};
+ghost use Rattle.batcher_core.specs.Operations.{leaf_of};
+ghost use Rattle.batcher_core.specs.Events.{value_in, task_after as next_task};
+ghost use Rattle.core_table.specs.Passes.{IsPassOf, job_in, view, IsNotTrapped, IsTickDue, IsOpenDue, IsFinishDue, IsFinished, IsArriveDue, opened_task};
+ghost use Rattle.core_table.specs.Views.{with_task, claiming, refusing, ticked, opening, keeping, seeing_done, seeing_undone, hearing, stopping, finding_stop, finding_none};
+
+use crate::laws::laws_hold;
+use crate::plays::{
+    Arrive, Claim, Draw, Finish, Hear, Keep, LookAtRoot, LookAtStop, Open, OpenHalf, Stop, Stray,
+};
+use crate::table::{CoreTable, Pass};
+use batcher_core::{CallState, Task};
+use sp_order::node::{Kind, Move};
+
+/// The task once its tick is drawn.
+fn ticked(task: Task, tick: u64) -> Task
+    ensures { result ≡ ticked task tick }
+{
+    match task {
+        Task::Run(node) => Task::Started { node, start: tick },
+        Task::Kept { node, start } => Task::Ended {
+            node,
+            start,
+            end: tick,
+        },
+        other => other,
+    }
+}
+
+/// What a worker has in hand once it has finished a node.
+fn task_after(node: u32) -> Task
+    ensures { result ≡ next_task node }
+{
+    if node == 0 {
+        Task::Idle
+    } else {
+        Task::Whole(node)
+    }
+}
+
+impl CoreTable {
+    /// Claims the node if it is ready.
+    pub fn claim(&self, pass: &mut Pass, node: u32) -> bool
+        requires pass { IsPassOf self.now pass.old }
+        requires free { IsNotTrapped pass.old }
+        requires idle { (view pass.old).task ≡ Idle }
+        ensures pass { IsPassOf self.now pass.new }
+        ensures claimed { IsTrue result → view pass.new ≡ claiming (view pass.old) node }
+        ensures refused { IsFalse result → view pass.new ≡ refusing (view pass.old) node }
+    {
+        laws_hold();
+        let shared = &self.table.shared;
+        if node >= self.nodes {
+            shared.compare_exchange::<Stray>(&mut pass.seat, 0, 4 + node as u64, 0);
+            return false;
+        }
+        let at = self.setting.workers as usize + 4 + node as usize;
+        if shared.compare_exchange::<Claim>(&mut pass.seat, at, 1, 2) != 1 {
+            return false;
+        }
+        pass.task = Task::Run(node);
+        true
+    }
+
+    /// Draws a tick: the leaf starts or ends.
+    pub fn tick(&self, pass: &mut Pass) -> u64
+        requires pass { IsPassOf self.now pass.old }
+        requires free { IsNotTrapped pass.old }
+        requires due { IsTickDue (job_in self.now) (view pass.old).task }
+        ensures pass { IsPassOf self.now pass.new }
+        ensures drawn { view pass.new ≡ with_task (view pass.old) (ticked (view pass.old).task result) }
+    {
+        laws_hold();
+        let at = self.setting.workers as usize + 2;
+        let tick = self.table.shared.fetch_add::<Draw>(&mut pass.seat, at, 1);
+        pass.task = ticked(pass.task, tick);
+        tick
+    }
+
+    /// Opens the next side of the block that the task names: the answer is the node that is made ready.
+    pub fn open_node(&self, pass: &mut Pass) -> u32
+        requires pass { IsPassOf self.now pass.old }
+        requires free { IsNotTrapped pass.old }
+        requires due { IsOpenDue (job_in self.now) (view pass.old).task }
+        ensures pass { IsPassOf self.now pass.new }
+        ensures opened { view pass.new ≡ opening (view pass.old) result
+            (opened_task (job_in self.now) (view pass.old).task) }
+    {
+        match pass.task {
+            Task::Run(node) => self.open_block(pass, node),
+            Task::Half(node) => self.open_left(pass, node),
+            Task::Whole(node) => self.open_second(pass, node),
+            _ => unreachable!(),
+        }
+    }
+
+    fn open_block(&self, pass: &mut Pass, node: u32) -> u32
+        requires pass { IsPassOf self.now pass.old }
+        requires free { IsNotTrapped pass.old }
+        requires run { (view pass.old).task ≡ Run node }
+        requires due { IsOpenDue (job_in self.now) (Run node) }
+        ensures pass { IsPassOf self.now pass.new }
+        ensures opened { view pass.new ≡ opening (view pass.old) result
+            (opened_task (job_in self.now) (Run node)) }
+    {
+        laws_hold();
+        let shared = &self.table.shared;
+        let first = self.setting.workers as usize + 4;
+        match self.setting.plan.kind(node) {
+            Kind::ParNode(_left, right) => {
+                shared.store::<OpenHalf>(&mut pass.seat, first + right as usize, 1);
+                pass.task = Task::Half(node);
+                right
+            }
+            Kind::SeqNode(left, _right) => {
+                shared.store::<Open>(&mut pass.seat, first + left as usize, 1);
+                pass.task = Task::Idle;
+                left
+            }
+            Kind::LeafNode(_leaf) => unreachable!(),
+        }
+    }
+
+    fn open_left(&self, pass: &mut Pass, node: u32) -> u32
+        requires pass { IsPassOf self.now pass.old }
+        requires free { IsNotTrapped pass.old }
+        requires half { (view pass.old).task ≡ Half node }
+        ensures pass { IsPassOf self.now pass.new }
+        ensures opened { view pass.new ≡ opening (view pass.old) result Idle }
+    {
+        laws_hold();
+        let Kind::ParNode(left, _right) = self.setting.plan.kind(node) else {
+            unreachable!()
+        };
+        let at = self.setting.workers as usize + 4 + left as usize;
+        self.table.shared.store::<Open>(&mut pass.seat, at, 1);
+        pass.task = Task::Idle;
+        left
+    }
+
+    fn open_second(&self, pass: &mut Pass, node: u32) -> u32
+        requires pass { IsPassOf self.now pass.old }
+        requires free { IsNotTrapped pass.old }
+        requires whole { (view pass.old).task ≡ Whole node }
+        requires due { IsOpenDue (job_in self.now) (Whole node) }
+        ensures pass { IsPassOf self.now pass.new }
+        ensures opened { view pass.new ≡ opening (view pass.old) result Idle }
+    {
+        laws_hold();
+        let Move::OpenSecond(parent) = self.setting.plan.after(node) else {
+            unreachable!()
+        };
+        let Kind::SeqNode(_left, right) = self.setting.plan.kind(parent) else {
+            unreachable!()
+        };
+        let at = self.setting.workers as usize + 4 + right as usize;
+        self.table.shared.store::<Open>(&mut pass.seat, at, 1);
+        pass.task = Task::Idle;
+        right
+    }
+
+    /// Keeps the value of the leaf that has started.
+    pub fn keep(&self, pass: &mut Pass, value: u64)
+        requires pass { IsPassOf self.now pass.old }
+        requires free { IsNotTrapped pass.old }
+        requires due { (n : ℕ) × (start : ℕ) × ((view pass.old).task ≡ Started n start)
+            × (value_in ((job_in self.now).act (leaf_of ((job_in self.now).plan.kind n)))
+            (view pass.old).call ≡ Some value) }
+        ensures pass { IsPassOf self.now pass.new }
+        ensures kept { (n : ℕ) × (start : ℕ) × ((view pass.old).task ≡ Started n start)
+            × (view pass.new ≡ keeping (view pass.old) n start) }
+    {
+        laws_hold();
+        let Task::Started { node, start } = pass.task else {
+            unreachable!()
+        };
+        let nodes = self.nodes as usize;
+        let at = self.setting.workers as usize + 4 + nodes + nodes + node as usize;
+        self.table.shared.store::<Keep>(&mut pass.seat, at, value);
+        pass.task = Task::Kept { node, start };
+        pass.call = CallState::NotCalled;
+    }
+
+    /// The node that the task names, or the block that it ends, is done.
+    pub fn finish(&self, pass: &mut Pass)
+        requires pass { IsPassOf self.now pass.old }
+        requires free { IsNotTrapped pass.old }
+        requires due { IsFinishDue (job_in self.now) (view pass.old).task }
+        ensures pass { IsPassOf self.now pass.new }
+        ensures finished { (n : ℕ) × IsFinished (job_in self.now) (view pass.old).task n
+            × (view pass.new ≡ with_task (view pass.old) (next_task n)) }
+    {
+        match pass.task {
+            Task::Ended { node, start, end } => self.finish_leaf(pass, node, start, end),
+            Task::Whole(node) => self.finish_series(pass, node),
+            Task::Handed(node) => self.finish_block(pass, node),
+            _ => unreachable!(),
+        }
+    }
+
+    fn finish_leaf(&self, pass: &mut Pass, node: u32, start: u64, end: u64)
+        requires pass { IsPassOf self.now pass.old }
+        requires free { IsNotTrapped pass.old }
+        requires ended { (view pass.old).task ≡ Ended node start end }
+        ensures pass { IsPassOf self.now pass.new }
+        ensures finished { view pass.new ≡ with_task (view pass.old) (next_task node) }
+    {
+        laws_hold();
+        let at = self.setting.workers as usize + 4 + node as usize;
+        let code = 3 + 4 * (pass.worker as u64 + 32 * (start + 1048576 * end));
+        self.table.shared.store::<Finish>(&mut pass.seat, at, code);
+        pass.task = task_after(node);
+    }
+
+    fn finish_series(&self, pass: &mut Pass, node: u32)
+        requires pass { IsPassOf self.now pass.old }
+        requires free { IsNotTrapped pass.old }
+        requires whole { (view pass.old).task ≡ Whole node }
+        requires due { IsFinishDue (job_in self.now) (Whole node) }
+        ensures pass { IsPassOf self.now pass.new }
+        ensures finished { (n : ℕ) × IsFinished (job_in self.now) (Whole node) n
+            × (view pass.new ≡ with_task (view pass.old) (next_task n)) }
+    {
+        laws_hold();
+        let Move::FinishParent(parent) = self.setting.plan.after(node) else {
+            unreachable!()
+        };
+        let at = self.setting.workers as usize + 4 + parent as usize;
+        self.table.shared.store::<Finish>(&mut pass.seat, at, 3);
+        pass.task = task_after(parent);
+    }
+
+    fn finish_block(&self, pass: &mut Pass, node: u32)
+        requires pass { IsPassOf self.now pass.old }
+        requires free { IsNotTrapped pass.old }
+        requires handed { (view pass.old).task ≡ Handed node }
+        ensures pass { IsPassOf self.now pass.new }
+        ensures finished { view pass.new ≡ with_task (view pass.old) (next_task node) }
+    {
+        laws_hold();
+        let Kind::ParNode(_left, _right) = self.setting.plan.kind(node) else {
+            unreachable!()
+        };
+        let at = self.setting.workers as usize + 4 + node as usize;
+        self.table.shared.store::<Finish>(&mut pass.seat, at, 3);
+        pass.task = task_after(node);
+    }
+
+    /// Arrives at the parallel block: the answer is whether this side is the second one.
+    pub fn arrive(&self, pass: &mut Pass) -> bool
+        requires pass { IsPassOf self.now pass.old }
+        requires free { IsNotTrapped pass.old }
+        requires due { IsArriveDue (job_in self.now) (view pass.old).task }
+        ensures pass { IsPassOf self.now pass.new }
+        ensures first { IsFalse result → view pass.new ≡ with_task (view pass.old) Idle }
+        ensures second { IsTrue result → (n : ℕ) × (p : ℕ) × ((view pass.old).task ≡ Whole n)
+            × ((job_in self.now).plan.after n ≡ ArriveAt p)
+            × (view pass.new ≡ with_task (view pass.old) (Handed p)) }
+    {
+        laws_hold();
+        let Task::Whole(node) = pass.task else {
+            unreachable!()
+        };
+        let Move::Arrive(parent) = self.setting.plan.after(node) else {
+            unreachable!()
+        };
+        let at = self.setting.workers as usize + 4 + self.nodes as usize + parent as usize;
+        let second = self.table.shared.fetch_add::<Arrive>(&mut pass.seat, at, 1) != 0;
+        pass.task = if second {
+            Task::Handed(parent)
+        } else {
+            Task::Idle
+        };
+        second
+    }
+
+    /// Whether the root is done at this look. A trapped pass may ask too.
+    pub fn root_done(&self, pass: &mut Pass) -> bool
+        requires pass { IsPassOf self.now pass.old }
+        ensures pass { IsPassOf self.now pass.new }
+        ensures done { IsTrue result → view pass.new ≡ seeing_done (view pass.old) }
+        ensures undone { IsFalse result → view pass.new ≡ seeing_undone (view pass.old) }
+    {
+        laws_hold();
+        let at = self.setting.workers as usize + 4;
+        self.table.shared.load::<LookAtRoot>(&mut pass.seat, at) % 4 == 3
+    }
+
+    /// How many batches are published at this look. A trapped pass may ask too.
+    pub fn since(&self, pass: &mut Pass) -> u64
+        requires pass { IsPassOf self.now pass.old }
+        ensures pass { IsPassOf self.now pass.new }
+        ensures told { view pass.new ≡ hearing (view pass.old) result }
+    {
+        laws_hold();
+        let at = self.setting.workers as usize + 1;
+        self.table.shared.load::<Hear>(&mut pass.seat, at)
+    }
+
+    /// Sets the stop word to 1. A trapped pass may do so too.
+    pub fn stop(&self, pass: &mut Pass)
+        requires pass { IsPassOf self.now pass.old }
+        ensures pass { IsPassOf self.now pass.new }
+        ensures stopped { view pass.new ≡ stopping (view pass.old) }
+    {
+        laws_hold();
+        let at = self.setting.workers as usize + 3;
+        self.table.shared.store::<Stop>(&mut pass.seat, at, 1);
+    }
+
+    /// Whether the stop word is 1 at this look. A trapped pass may ask too.
+    pub fn stopped(&self, pass: &mut Pass) -> bool
+        requires pass { IsPassOf self.now pass.old }
+        ensures pass { IsPassOf self.now pass.new }
+        ensures set { IsTrue result → view pass.new ≡ finding_stop (view pass.old) }
+        ensures unset { IsFalse result → view pass.new ≡ finding_none (view pass.old) }
+    {
+        laws_hold();
+        let at = self.setting.workers as usize + 3;
+        self.table.shared.load::<LookAtStop>(&mut pass.seat, at) == 1
+    }
+}

@@ -1,0 +1,155 @@
+//! How a table is made, with its passes.
+ghost use Rattle.std.specs.Prelude.{◌≡◌, ◌≢◌, ℕ, ◌+◌, ◌<◌, ◌≤◌, ◌∷◌, ◌++◌, [], Some, length, replicate, slice_set, slice_get, IsSome, IfSome, IfOk};
+ghost use Rattle.sp_order.specs.Precedence.{leaves};
+ghost use Rattle.sp_order.specs.Preorder.{nodes_of};
+ghost use Rattle.batcher_core.specs.State.{core_job};
+ghost use Rattle.batcher_core.specs.Measure.{call_count, one_if_call};
+ghost use Rattle.core_table.specs.Shows.{reserved};
+ghost use Rattle.core_table.specs.Passes.{tree_in, acts_in, job_in, opening_view, IsPassOf, view};
+
+use crate::laws::laws_hold;
+use crate::plays::{Cut, Enrol};
+use crate::setting::Setting;
+use crate::slot::Slot;
+use crate::table::{CoreTable, Pass};
+use atomic_table::{Refused, Table};
+use batch_history::ReservedHistory;
+use batcher_core::{CallState, Task};
+use launch_batch::Shop;
+use seq_objects::Act;
+use sp_order::node::Kind;
+use sp_order::{Job, Plan};
+use std::alloc::{AllocError, Global};
+
+/// The words of the opening state: the root is ready.
+fn opening_words(alloc: Global, workers: usize, nodes: usize) -> Result<Vec<u64>, AllocError>
+    requires { (workers ≤ 32) × (0 < nodes) × (nodes < 40000) }
+    ensures { IfOk result (λ v. v.items
+        ≡ slice_set (replicate (workers + 4 + nodes + nodes + nodes) 0) (workers + 4) 1) }
+{
+    let mut words = Vec::from_elem(alloc, 0u64, workers + 4 + nodes + nodes + nodes)?;
+    words[workers + 4] = 1;
+    Ok(words)
+}
+
+/// The slots of the opening state: an empty record slot for each worker, the opening shop, and a book with room for so
+/// many batches.
+fn opening_slots(alloc: Global, workers: usize, room: usize) -> Result<Vec<Slot>, AllocError>
+    requires { workers ≤ 32 }
+    ensures { IfOk result (λ v. v.items
+        ≡ replicate workers Slot.Vacant ++ Slot.Shop [] ∷ Slot.Book (reserved [] room) ∷ []) }
+{
+    let shop = Shop::new(alloc)?;
+    let book = ReservedHistory::with_capacity(alloc, room)?;
+    let mut slots = Vec::with_capacity(alloc, workers + 2)?;
+    for _ in 0..workers {
+        slots.push_reserved(Slot::Vacant);
+    }
+    slots.push_reserved(Slot::Shop(shop));
+    slots.push_reserved(Slot::Book(book));
+    Ok(slots)
+}
+
+/// Whether the leaf of a node calls: 1, or 0.
+fn calls_at(plan: &Plan, acts: &[Act], node: u32) -> usize
+    requires { node < (nodes_of plan.now).count }
+    ensures { (workers : ℕ) → result
+        ≡ one_if_call (core_job plan.now acts.now workers) ((nodes_of plan.now).kind node) }
+{
+    match plan.kind(node) {
+        Kind::LeafNode(leaf) => match acts.get(leaf as usize) {
+            Some(Act::Call(_)) => 1,
+            _ => 0,
+        },
+        _ => 0,
+    }
+}
+
+/// How many leaves call.
+fn count_calls(plan: &Plan, acts: &[Act], nodes: u32) -> usize
+    requires { (nodes ≡ (nodes_of plan.now).count) × (nodes < 40000) }
+    ensures { (workers : ℕ) → result ≡ call_count (core_job plan.now acts.now workers) }
+{
+    let mut count = 0;
+    for node in 0..nodes {
+        count += calls_at(plan, acts, node);
+    }
+    count
+}
+
+impl CoreTable {
+    /// The table of a job that has leaves, in the opening state, and a pass for each worker, in the order of their
+    /// numbers.
+    ///
+    /// Memory: proportional to the nodes and the workers.
+    pub fn make(
+        alloc: Global,
+        job: &Job,
+        workers: u32,
+    ) -> Result<(CoreTable, Vec<Pass>), AllocError>
+        requires leaves { IsSome job.now.shape }
+        requires some_workers { 0 < workers }
+        requires few_workers { workers ≤ 32 }
+        ensures job { IfOk result (λ r. (Some (tree_in r.0) ≡ job.now.shape)
+            × (acts_in r.0 ≡ job.now.acts) × ((job_in r.0).workers ≡ workers)) }
+        ensures count { IfOk result (λ r. length r.1.items ≡ workers) }
+        ensures passes { IfOk result (λ r. (w : ℕ) → IfSome (slice_get r.1.items w)
+            (λ pass. IsPassOf r.0 pass × (view pass ≡ opening_view r.0 w))) }
+    {
+        let plan = Plan::of(alloc, job)?;
+        let mut acts = Vec::new(alloc);
+        acts.extend_from_slice(job.acts())?;
+        CoreTable::of(
+            alloc,
+            Setting {
+                plan,
+                acts,
+                workers,
+            },
+        )
+    }
+
+    /// The table of what it is made for.
+    fn of(alloc: Global, setting: Setting) -> Result<(CoreTable, Vec<Pass>), AllocError>
+        requires workers { (0 < setting.workers) × (setting.workers ≤ 32) }
+        requires acts { (length setting.acts.items ≡ leaves setting.plan)
+            × (length setting.acts.items ≤ 20000) }
+        ensures table { IfOk result (λ r. r.0.setting ≡ setting) }
+        ensures count { IfOk result (λ r. length r.1.items ≡ setting.workers) }
+        ensures passes { IfOk result (λ r. (w : ℕ) → IfSome (slice_get r.1.items w)
+            (λ pass. IsPassOf r.0 pass × (view pass ≡ opening_view r.0 w))) }
+    {
+        laws_hold();
+        let nodes = setting.plan.nodes();
+        let workers = setting.workers;
+        let room = count_calls(&setting.plan, setting.acts.as_slice(), nodes);
+        let words = opening_words(alloc, workers as usize, nodes as usize)?;
+        let slots = opening_slots(alloc, workers as usize, room)?;
+        let (table, mut seat) = match Table::new(alloc, &words, slots, &setting) {
+            Ok(made) => made,
+            Err(Refused { slots: _ }) => return Err(AllocError),
+        };
+        let mut passes = Vec::with_capacity(alloc, workers as usize)?;
+        for worker in 0..workers {
+            let mut own = table.shared.split_seat::<Cut>(&mut seat);
+            table.shared.load::<Enrol>(&mut own, 0);
+            let owed = Vec::with_capacity(alloc, 32)?;
+            passes.push_reserved(Pass {
+                seat: own,
+                worker,
+                task: Task::Idle,
+                call: CallState::NotCalled,
+                owed,
+                published: false,
+            });
+        }
+        Ok((
+            CoreTable {
+                table,
+                setting,
+                nodes,
+            },
+            passes,
+        ))
+    }
+}

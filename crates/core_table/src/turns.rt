@@ -1,0 +1,32 @@
+//! How a seat's list of slots is turned, so that the slot of one worker comes to its front.
+ghost use Rattle.std.specs.Prelude.{◌≡◌, true};
+ghost use Rattle.core_table.specs.Shows.{among};
+ghost use Rattle.core_table.specs.Code.Turns.{turns, IsFirstAt};
+
+use crate::slot::Slot;
+use crate::view::View;
+use atomic_table::Seat;
+
+/// Turns the list so many times, each time by a call of itself. It changes nothing at run time.
+pub(crate) fn turn_by(seat: &mut Seat<Slot, View>, times: usize)
+    ensures table { (seat.new.table_id ≡ seat.old.table_id) × (seat.new.id ≡ seat.old.id) }
+    ensures me { seat.new.me ≡ (seat.old.me.0, turns times seat.old.me.1) }
+{
+    if times > 0 {
+        turn_by(seat, times - 1);
+        seat.turn();
+    }
+}
+
+/// Where the number first stands among these.
+pub(crate) fn first_place(numbers: &[u32], number: u32) -> usize
+    requires { among numbers.now number ≡ true }
+    ensures { IsFirstAt numbers.now number result }
+{
+    for i in 0..numbers.len() {
+        if numbers[i] == number {
+            return i;
+        }
+    }
+    unreachable!()
+}

@@ -6,7 +6,7 @@ use std::alloc::{AllocError, Global};
 use std::sync::Wait;
 use std::test::*;
 use std::thread;
-use two_deques::{Decks, Hand};
+use two_deques::{Deck, Decks, Hand, Spot, Tries, Try};
 
 #[test]
 fn the_owner_pops_the_newest_and_a_thief_takes_the_oldest(rt: HostRuntime) -> Result<(), Fail> {
@@ -22,6 +22,57 @@ fn the_owner_pops_the_newest_and_a_thief_takes_the_oldest(rt: HostRuntime) -> Re
     assert_eq!(rt; decks.pop_core(&mut owner), Some(9));
     assert_eq!(rt; decks.pop_core(&mut owner), None);
     assert_eq!(rt; decks.steal_core(&rt, &mut thief, 0), None);
+    Ok(())
+}
+
+/// The place of a spot, of which all in a test are in row 0.
+fn place_of(spot: Option<Spot>) -> Option<u32> {
+    match spot {
+        Some(spot) => Some(spot.place),
+        None => None,
+    }
+}
+
+/// The spot of a place in row 0.
+fn spot_at(place: u32) -> Spot {
+    Spot { row: 0, place }
+}
+
+#[test]
+fn pieces_have_deques_of_their_own(rt: HostRuntime) -> Result<(), Fail> {
+    let (decks, mut hands) = Decks::make(rt.alloc(), 2, 8, 8)?;
+    let mut thief = hands.remove(1);
+    let mut owner = hands.remove(0);
+    assert!(rt; decks.push_piece(&mut owner, spot_at(4)).is_ok());
+    assert!(rt; decks.push_piece(&mut owner, spot_at(9)).is_ok());
+    assert!(rt; decks.push_piece(&mut owner, spot_at(11)).is_ok());
+    assert_eq!(rt; decks.steal_core(&rt, &mut thief, 0), None);
+    assert_eq!(rt; place_of(decks.steal_piece(&rt, &mut thief, 0)), Some(4));
+    assert_eq!(rt; decks.pop_core(&mut owner), None);
+    assert_eq!(rt; place_of(decks.pop_piece(&mut owner)), Some(11));
+    assert_eq!(rt; place_of(decks.pop_piece(&mut owner)), Some(9));
+    assert_eq!(rt; place_of(decks.pop_piece(&mut owner)), None);
+    assert_eq!(rt; place_of(decks.steal_piece(&rt, &mut thief, 0)), None);
+    Ok(())
+}
+
+/// Whether a try goes to a deque of nodes, and to whose.
+fn is_core_and_victim(tried: Option<Try>) -> Option<(bool, u32)> {
+    match tried {
+        Some(tried) => Some((matches!(tried.deck, Deck::CoreDeck), tried.victim)),
+        None => None,
+    }
+}
+
+#[test]
+fn tries_go_round_the_other_workers(rt: HostRuntime) -> Result<(), Fail> {
+    let mut tries = Tries::new(0, 3);
+    assert_eq!(rt; is_core_and_victim(tries.next_try()), Some((true, 1)));
+    assert_eq!(rt; is_core_and_victim(tries.next_try()), Some((false, 1)));
+    assert_eq!(rt; is_core_and_victim(tries.next_try()), Some((true, 2)));
+    assert_eq!(rt; is_core_and_victim(tries.next_try()), Some((false, 2)));
+    assert_eq!(rt; is_core_and_victim(tries.next_try()), Some((true, 1)));
+    assert_eq!(rt; is_core_and_victim(Tries::new(0, 1).next_try()), None);
     Ok(())
 }
 

@@ -1,5 +1,5 @@
-//! Tests of the serial objects, of the batched structures and the shop over them, of the deques, and of runs in threads,
-//! through their public calls alone.
+//! Tests of the serial objects, of the batched structures and the shop over them, of the deques, of the board, and of
+//! runs in threads, through their public calls alone.
 //!
 //! What a call replies and leaves is proved for every input; the rows here are worked by hand, and show that the
 //! clauses say what is meant, and that the calls succeed with ample memory.
@@ -7,6 +7,8 @@
 
 #[cfg(test)]
 mod batch;
+#[cfg(test)]
+mod board;
 #[cfg(test)]
 mod counter;
 #[cfg(test)]

@@ -13,7 +13,7 @@ pub(crate) mod join;
 mod prune;
 
 use crate::expand::join::{Order, join};
-use crate::expand::prune::without_empty;
+use crate::expand::prune::take_out_empty;
 use crate::item::{Argument, BlockKind, Item, Leaf, UnaryOp};
 use seq_objects::{Act, Op};
 use sp_order::{Job, Shape};
@@ -81,7 +81,7 @@ fn shapes_in(
     ensures shapes { IfOk result (λ shapes. map tree_of shapes.items ≡ shapes_in copy (items_of items.now)) }
     ensures acts { IfOk result (λ _. acts.new.items ≡ acts.old.items ++ acts_in copy (items_of items.now)) }
 {
-    let mut shapes = Vec::new(alloc);
+    let mut shapes = Vec::with_capacity(alloc, items.len())?;
     for item in items {
         if let Some(shape) = shape_in(alloc, copy, item, acts)? {
             shapes.push(shape)?;
@@ -169,14 +169,14 @@ fn shapes_of_copies(
 /// The job of items that stand in no loop. Items that make no leaf are taken out first, so that each visit of an
 /// item makes one: a row of empty blocks in a loop costs no time in its copies.
 #[tactic(auto, using(crate::proofs::ExpandLemmas::Leaves::job_leaves, crate::proofs::ExpandLemmas::Leaves::acts_count, crate::proofs::ExpandLemmas::Vanishing::same_shapes, crate::proofs::ExpandLemmas::Vanishing::same_acts, crate::proofs::ExpandLemmas::Vanishing::kept_fits))]
-pub(crate) fn expand(alloc: Global, items: &[Item]) -> Result<Job, AllocError>
-    requires few { count (items_of items.now) ≤ 20000 }
-    requires fits { Fits 0 (items_of items.now) }
-    ensures { IfOk result (λ job. job ≡ job_of (items_of items.now)) }
+pub(crate) fn expand(alloc: Global, mut items: Vec<Item>) -> Result<Job, AllocError>
+    requires few { count (items_of items.items) ≤ 20000 }
+    requires fits { Fits 0 (items_of items.items) }
+    ensures { IfOk result (λ job. job ≡ job_of (items_of items.items)) }
 {
-    let kept = without_empty(alloc, items)?;
+    take_out_empty(&mut items);
     let mut acts = Vec::new(alloc);
-    let shapes = shapes_in(alloc, 0, &kept, &mut acts)?;
+    let shapes = shapes_in(alloc, 0, &items, &mut acts)?;
     let shape = join(alloc, Order::Series, shapes)?;
     Ok(Job::of(shape, acts))
 }

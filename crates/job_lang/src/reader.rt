@@ -33,7 +33,7 @@ fn read(alloc: Global, text: &[u8]) -> Result<Job, JobErr>
     if let Some(line) = argument_line(&words, &items) {
         return Err(JobErr::Bad(JobFault::Argument { line }));
     }
-    let job = expand(alloc, &items)?;
+    let job = expand(alloc, items)?;
     Ok(job)
 }
 

@@ -11,6 +11,12 @@ is_nothing _ = false
 abbrev pub full_block_then : BlockKind → Items → Items → Items
 full_block_then kind body more = if is_nothing body || copies_of kind == 0 then more else block_then kind body more
 
+-- without the blocks that have no copy, or no items
+abbrev pub only_full : Items → Items
+only_full nothing = nothing
+only_full (leaf_then leaf more) = leaf_then leaf (only_full more)
+only_full (block_then kind body more) = full_block_then kind body (only_full more)
+
 abbrev pub without_empty : Items → Items
 without_empty nothing = nothing
 without_empty (leaf_then leaf more) = leaf_then leaf (without_empty more)

@@ -9,7 +9,7 @@ use Rattle.job_lang.proofs.expand.+expanding.Goals.{shapes_in-in-Some+in_ok-push
 
 pub shapes_in-loop-item-preserved : goal.shapes_in-loop-item-preserved
 shapes_in-loop-item-preserved t c = record {
-  made = elim c.match-branch-2.branch [
+  made = elim c.match-branch-3.branch [
     | shapes_in-in-Some+in_ok-push w ↦
         shapes_step c.args.copy c.args.items.now c.loop-item.item-index c.item-item.result (map tree_of c.loop-item.shapes.items) _ (tree_of w.in-Some.shape ∷ [])
         c.loop-item.invariant.made c.item-item.is c.loop-item-test.true

@@ -1,30 +1,29 @@
-use Rattle.std.proofs.Common.{arith, [], ◌∷◌, ap, ◌∙◌, sym}
-use Rattle.std.proofs.lemmas.Bool.{eqb-false}
-use Rattle.std.specs.Prelude.{option_to_list, vec_len}
-use Rattle.job_lang.specs.Code.Views.{items_of}
-use Rattle.job_lang.specs.Code.Pruning.{without_empty}
-use Rattle.job_lang.proofs.ParserLemmas.Derivations.{then_nothing}
-use Rattle.job_lang.proofs.ParserLemmas.Levels.{items_of_append}
-use Rattle.job_lang.proofs.ExpandLemmas.Pruning.{kept_block, kept_step}
+use Rattle.std.proofs.Common.{rules, refl, sym, ap, ◌∙◌, subst, ◌≡◌, ◌++◌, length, take, drop, arith}
+use Rattle.std.proofs.Math.Seq.{take-append_seam}
+use Rattle.job_lang.specs.Code.Views.{item_of, items_of}
+use Rattle.job_lang.specs.Code.Pruning.{only_full, without_empty}
+use Rattle.job_lang.proofs.ExpandLemmas.Pruning.{ArePrunedInside, one_more_inside, all_inside}
 use Rattle.job_lang.proofs.expand.prune.+pruning.Goals as goal
-use Rattle.job_lang.proofs.expand.prune.+pruning.Goals.{without_empty-in-Some+in_ok-push, without_empty-in_default}
 
-pub kept_item-returns-else-copies-eq0 : goal.kept_item-returns-else-copies-eq0
-kept_item-returns-else-copies-eq0 t c =
-    let kept = c.in_ok-inside-in-Block.inside in
-    let some = eqb-false (vec_len kept) 0 (sym c.is_empty.ensures ∙ c.if-is_empty.false) in
-    kept_block c.args.item.now c.in-Block.kind c.in-Block.inside kept c.in-Block.is
-    (c.in_ok-inside-in-Block.ensures ∙ ap (λ xs. without_empty (items_of xs)) c.deref.ensures.value)
-    (omega (arith, some, kept.ok.0)) (omega (arith, c.copies.ensures, c.if-copies-eq0.false))
+pub take_out_empty-loop-item-init : goal.take_out_empty-loop-item-init
+take_out_empty-loop-item-init t c = record {
+  unvisited = (refl, λ k d h. refl);
+  pruned = c.deref_mut-item-items.ensures.value;
+}
 
-pub without_empty-loop-item-preserved : goal.without_empty-loop-item-preserved
-without_empty-loop-item-preserved t c = elim c.match-branch-2.branch [
-  | without_empty-in-Some+in_ok-push w ↦
-      kept_step c.args.items.now c.loop-item.item-index c.item-item.result c.loop-item.kept.items _ (w.in-Some.item ∷ []) c.loop-item.invariant c.item-item.is c.loop-item-test.true
-      (ap (λ o. items_of (option_to_list o)) (sym w.in-Some.is) ∙ c.in_ok-item.ensures)
-      (ap (λ v. items_of v.items) w.kept-is ∙ ap items_of w.in_ok-push.ensures.items ∙ items_of_append c.loop-item.kept.items (w.in-Some.item ∷ []))
-  | without_empty-in_default w ↦
-      kept_step c.args.items.now c.loop-item.item-index c.item-item.result c.loop-item.kept.items _ [] c.loop-item.invariant c.item-item.is c.loop-item-test.true
-      (ap (λ o. items_of (option_to_list o)) (sym w.in_default.is) ∙ c.in_ok-item.ensures)
-      (ap (λ v. items_of v.items) w.kept-is ∙ sym (then_nothing (items_of c.loop-item.kept.items)))
-]
+pub take_out_empty-loop-item-preserved : goal.take_out_empty-loop-item-preserved
+take_out_empty-loop-item-preserved t c = record {
+  unvisited = search rules;
+  pruned =
+      one_more_inside c.loop-item.item-index c.loop-item.item-items c.args.items.now.items c.item-item.result c.take_out_inside.new.item
+      c.loop-item.invariant.pruned (omega (arith, c.loop-item-test.true, c.loop-item.auto.item-items)) c.item-item.is
+      (c.take_out_inside.ensures ∙ ap (λ x. without_empty (item_of x)) (sym c.item-item.is));
+}
+
+pub take_out_empty-returns : goal.take_out_empty-returns
+take_out_empty-returns t c =
+    let now = c.loop-item.item-items in
+    let old = c.args.items.now.items in
+    let whole = subst (λ n. take n (now ++ drop (length now) old) ≡ now) (omega (arith, c.args.items.now.ok.0, c.deref_mut-item-items.ensures.len, c.loop-item.auto.item-items)) (take-append_seam now (drop (length now) old)) in
+    let pruned = subst (λ n. ArePrunedInside n now old) (omega (arith, c.loop-item.auto.item-items, c.loop-item.auto.item-index-end, c.loop-item-test.false)) c.loop-item.invariant.pruned in
+    c.keep_full.ensures ∙ ap (λ xs. only_full (items_of xs)) whole ∙ all_inside now old pruned

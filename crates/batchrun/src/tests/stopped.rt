@@ -1,10 +1,10 @@
 //! Runs of the core in which a worker has stopped for good.
-ghost use Rattle.std.specs.Prelude.{◌≡◌, ◌<◌, IsSome};
+ghost use Rattle.std.specs.Prelude.{◌≡◌, ◌<◌, ◌≤◌, ◌+◌, ◌^◌, length, IsSome};
 
 use batch_history::{Entry, text};
 use batcher_core::{Core, Ended, Spun, Turn, drive_some};
 use job_lang::read_job;
-use seq_objects::{Op, Plain, Reply};
+use seq_objects::{Op, Plain, Reply, value};
 use sp_order::Job;
 use std::alloc::{AllocError, Global};
 use std::test::Fail;
@@ -32,25 +32,36 @@ fn entries_of(alloc: Global, core: &Core) -> Result<Vec<Entry>, AllocError> {
     Ok(entries)
 }
 
-/// Whether the serial objects give the replies of the book, whose calls are counter adds.
-fn replays(alloc: Global, core: &Core) -> Result<bool, AllocError> {
-    let entries = entries_of(alloc, core)?;
+/// Serves one operation where the counter is far from its end. The match has two arms alike, so that the range
+/// of the addend is known.
+fn serve_one(plain: &mut Plain, op: Op) -> Result<Reply, AllocError>
+    requires { plain.old.counter < 2 ^ 63 }
+    ensures { plain.new.counter ≤ plain.old.counter + 2 ^ 32 }
+{
+    match op {
+        Op::CounterAdd(addend) => plain.serve(Op::CounterAdd(addend)),
+        _ => plain.serve(op),
+    }
+}
+
+/// The place of the first entry to which the serial objects reply otherwise, if there is one.
+fn first_wrong(alloc: Global, entries: &[Entry]) -> Result<Option<usize>, AllocError>
+    requires { length entries.now < 1000 }
+{
     let mut plain = Plain::new(alloc);
     for (place, entry) in entries.iter().enumerate() {
-        let (Op::CounterAdd(addend), Reply::Number(kept)) = (entry.op, entry.reply) else {
-            return Ok(false);
-        };
-        if 1000 < place {
-            return Ok(false);
-        }
-        let Reply::Number(served) = plain.serve(Op::CounterAdd(addend))? else {
-            return Ok(false);
-        };
-        if served != kept {
-            return Ok(false);
+        let replied = serve_one(&mut plain, entry.op)?;
+        if value(replied) != value(entry.reply) {
+            return Ok(Some(place));
         }
     }
-    Ok(true)
+    Ok(None)
+}
+
+/// Whether the serial objects give the replies of the book so far.
+fn replays(alloc: Global, core: &Core) -> Result<bool, AllocError> {
+    let entries = entries_of(alloc, core)?;
+    Ok(entries.len() < 1000 && first_wrong(alloc, &entries)?.is_none())
 }
 
 /// Takes so many turns, round robin. Answers whether before each the book replayed.
@@ -105,7 +116,7 @@ fn a_worker_that_stops_without_a_task_costs_nothing(rt: HostRuntime) -> Result<(
         return Ok(assert!(rt; false));
     }
     let core = Core::start(alloc, &job, 2)?;
-    let Ended::Over(report) = drive_some(alloc, core, &[false, true])? else {
+    let Ended::Over(report) = go_on(alloc, core, 0)? else {
         return Ok(assert!(rt; false));
     };
     assert_eq!(rt; report.rows.list().len(), 2);
@@ -115,7 +126,7 @@ fn a_worker_that_stops_without_a_task_costs_nothing(rt: HostRuntime) -> Result<(
     if !take_turns(alloc, &mut core, 1)? || core.workers() != 2 {
         return Ok(assert!(rt; false));
     }
-    let Ended::Stuck(core) = drive_some(alloc, core, &[false, true])? else {
+    let Ended::Stuck(core) = go_on(alloc, core, 0)? else {
         return Ok(assert!(rt; false));
     };
     assert!(rt; core.history().is_some());

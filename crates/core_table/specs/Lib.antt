@@ -3,8 +3,10 @@ pub mod Words
 pub mod Shows
 pub mod Views
 pub mod Plays
+pub mod Steps
 pub mod Carries
 pub mod Remembers
 pub mod Passes
 pub mod Batches
+pub mod Calls
 pub mod Code

@@ -10,7 +10,7 @@ use Rattle.core_table.specs.declared.slot.Slot.{Slot}
 use Rattle.core_table.specs.declared.slot.Slot.TheVariants as Slots
 use Rattle.core_table.specs.declared.view.HoldView.{HoldView}
 use Rattle.core_table.specs.declared.view.View.{View}
-use Rattle.core_table.specs.Words.{node_at, mark_at}
+use Rattle.core_table.specs.Words.{flag_at, count_at, stop_at, node_at, mark_at}
 use Rattle.core_table.specs.Batches.{IsPublishDue}
 use Rattle.batcher_core.specs.Entries.{StandsAt}
 use Rattle.core_table.specs.Shows.{record_in, entry_of, reserved, IsFront}
@@ -30,7 +30,7 @@ claimed st m r n =
 
 -- a look at what is no node: the step names it
 abbrev pub strayed : Play
-strayed st m r n = (node : ℕ) × (st.first ≡ 4 + node) × (n ≡ (refusing m.0 node, m.1))
+strayed st m r n = (node : ℕ) × (st.first ≡ 4 + node) × (n ≡ (refusing m.0 node, m.1)) × (m.0.nodes ≤ node)
 
 abbrev pub drawn : Play
 drawn st m r n = (r < 80000) × (n ≡ (with_task m.0 (ticked m.0.task r), m.1))
@@ -56,16 +56,19 @@ arrived st m r n =
     × (r ≡ 0 → n ≡ (with_task m.0 Idle, m.1)) × (r ≢ 0 → n ≡ (with_task m.0 (Handed node), m.1))
 
 abbrev pub looked_at_root : Play
-looked_at_root st m r n = (r % 4 ≡ 3 → n ≡ (seeing_done m.0, m.1)) × (r % 4 ≢ 3 → n ≡ (seeing_undone m.0, m.1))
+looked_at_root st m r n =
+    (r % 4 ≡ 3 → n ≡ (seeing_done m.0, m.1)) × (r % 4 ≢ 3 → n ≡ (seeing_undone m.0, m.1)) × (st.word ≡ node_at m.0.workers 0)
 
 abbrev pub heard : Play
-heard st m r n = n ≡ (hearing m.0 r, m.1)
+heard st m r n = (n ≡ (hearing m.0 r, m.1)) × (st.word ≡ count_at m.0.workers)
 
+-- 1 is written
 abbrev pub stopped_all : Play
-stopped_all st m r n = n ≡ (stopping m.0, m.1)
+stopped_all st m r n = (n ≡ (stopping m.0, m.1)) × (st.word ≡ stop_at m.0.workers) × (st.first ≡ 1)
 
 abbrev pub looked_at_stop : Play
-looked_at_stop st m r n = (r ≡ 1 → n ≡ (finding_stop m.0, m.1)) × (r ≢ 1 → n ≡ (finding_none m.0, m.1))
+looked_at_stop st m r n =
+    (r ≡ 1 → n ≡ (finding_stop m.0, m.1)) × (r ≢ 1 → n ≡ (finding_none m.0, m.1)) × (st.word ≡ stop_at m.0.workers)
 
 -- it takes its own record slot
 abbrev pub enrolled : Play
@@ -79,7 +82,7 @@ abbrev pub won : Play
 won st m r n =
     (r ≡ 0 → (m.0.hold ≡ None) × (book : List (List Entry))
     × (n ≡ (winning m.0 book, (st.word, Slots.Shop book) ∷ (st.word + 1, Slots.Book (reserved book m.0.room)) ∷ m.1)))
-    × (r ≢ 0 → n ≡ (losing m.0, m.1))
+    × (r ≢ 0 → n ≡ (losing m.0, m.1)) × (st.word ≡ flag_at m.0.workers)
 
 -- The call's leaf is not in the book, and none of those taken before has it. The entries of the book, the calls taken
 -- before and this one are together at most so many.
@@ -126,4 +129,4 @@ left st m r n =
     × ((book : List (List Entry)) × IsFront m.0.book_seen book
     × StandsAt book receipt.batch receipt.place (entry_of m.0.from (record { call = call; receipt = receipt }))
     × (n ≡ (leaving m.0 call receipt book, (st.word, Slots.Receipt receipt) ∷ m.1))))
-    × (r ≢ 3 → n ≡ (staying m.0, m.1))
+    × (r ≢ 3 → n ≡ (staying m.0, m.1)) × (st.word ≡ m.0.from)

@@ -1,9 +1,14 @@
-//! What the table uses of the layers below.
-ghost use Rattle.std.specs.Prelude.{◌≡◌, ◌<◌, ◌≤◌, length};
+//! The laws of the table: what it uses of the layers below, and that each of its calls is its one event.
+ghost use Rattle.std.specs.Prelude.{◌≡◌, ◌<◌, ◌≤◌, ℕ, List, length};
 ghost use Rattle.sp_order.specs.Precedence.{leaves};
 ghost use Rattle.core_table.specs.declared.setting.Setting.{Setting};
+ghost use Rattle.core_table.specs.declared.slot.Slot.{Slot};
+ghost use Rattle.core_table.specs.declared.view.View.{View};
+ghost use Rattle.core_table.specs.Calls.{IsSound, IsViewOf, CallsAreEvents};
 ghost use Rattle.core_table.specs.Code.Laws.{Laws};
-ghost use Rattle.core_table.specs.Shows.{job_of};
+ghost use Rattle.core_table.specs.Shows.{job_of, IsFront};
+ghost use Rattle.batcher_core.specs.Entries.{StandsAt};
+ghost use Rattle.batch_history.specs.declared.batch.Entry.{Entry};
 
 use batcher_core::laws::book::{
     calls_have_room, publish_adds_the_taken_call, receipt_is_of_the_own_entry,
@@ -38,3 +43,22 @@ pub(crate) fn laws_hold()
     opening_has_parts();
     done_root_ends_all();
 }
+
+/// Whatever the table is when a pass steps, as long as it meets the rule: what is shown after a call's step is what the
+/// event of the call makes of what was shown before it; and a try that finds what it did not want, or a look, leaves it.
+pub fn each_call_is_its_event()
+    ensures { (key : Setting) → IsSound key
+        → (slots id k : ℕ) (v : View) (xs : List (ℕ × Slot)) → IsViewOf key k v
+        → CallsAreEvents key slots id k v xs }
+{
+    laws_hold();
+}
+
+/// What stands in a beginning of a book stands there in the book: so the entry of a receipt stands in each longer book that
+/// begins with what the pass has seen.
+pub fn entries_stay_where_they_stand()
+    ensures { (front book : List (List Entry)) (batch place : ℕ) (entry : Entry)
+        → IsFront front book
+        → StandsAt front batch place entry
+        → StandsAt book batch place entry }
+{}

@@ -11,7 +11,7 @@
 mod close;
 mod gate;
 mod job;
-mod laws;
+pub mod laws;
 mod make;
 mod plays;
 mod setting;

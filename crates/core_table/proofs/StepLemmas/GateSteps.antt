@@ -7,7 +7,7 @@ use mathlib.Core.Option.{Option, none, some}
 use lib.ListN.{get_elem?}
 use lib.Seq.{set-get_or}
 use prog.Atomic.{either}
-use Rattle.atomic_table.specs.Table.{step, Act, keeps, takes, gives, chain, Valid, carried_after, stepped, Allows}
+use Rattle.atomic_table.specs.Table.{step, Act, keeps, takes, gives, chain, Valid, carried_after, stepped}
 use Rattle.atomic_table.proofs.Lists.{exchanged, set_here, set_else}
 use Rattle.batch_history.specs.declared.batch.Entry.{Entry}
 use Rattle.std.specs.List.{AllByRecursion}
@@ -39,12 +39,13 @@ use Rattle.core_table.specs.declared.slot.Slot.{Slot}
 use Rattle.core_table.specs.declared.slot.Slot.TheVariants as Slots
 use Rattle.core_table.specs.Words.{flag_at, status_code, flag_code, WordsShow}
 use Rattle.core_table.specs.Code.Laws.{Laws}
+use Rattle.core_table.specs.Steps.{ShowsOne, Steps, TryMakes, Makes, LeaveMakes}
 use Rattle.core_table.specs.Shows.{reserved, St, Home, IsRecordOf, RecordAt, ShopAt, IsBookHome, BookIf, BookAt, took_in, record_in, among, hold_of, HoldKnown, entry_of, Shows}
 use Rattle.core_table.specs.Views as V
 use Rattle.core_table.specs.Plays as G
 use Rattle.core_table.proofs.TableLemmas.Words.{put_at, put_other, set_status, set_flag, flag_same}
 use Rattle.core_table.proofs.TableLemmas.Facts.{is_free, is_trapped, is_executing, not_in_book, is_call}
-use Rattle.core_table.proofs.TableLemmas.Moved.{mine_of, moved, looked, true_false, record_took, free_untaken}
+use Rattle.core_table.proofs.TableLemmas.Moved.{mine_of, moved, looked, found, missed, true_false, record_took, free_untaken}
 use Rattle.batcher_core.specs.Entries.{StandsAt}
 use Rattle.core_table.proofs.StepLemmas.TakeOk.{pending_is_new, taken_is_new}
 use Rattle.core_table.proofs.TableLemmas.Through.{SameTold, told_again, through, hold_others, hold_won, hold_gone, hold_same, slots_record}
@@ -167,6 +168,10 @@ yes_and_not a b e f = grind arith
 taken_is : (s : State) (k x : ℕ) (h : HoldView) → s.hold ≡ Some (hold_of k h) → took_in h.taken x ≡ true → among h.answered x ≡ false → is_taken_by s.hold x ≡ true
 taken_is s k x h held took yet = rw held (yes_and_not (took_in h.taken x) (among h.answered x) took yet)
 
+-- the leave with this receipt is some leave
+left_with : (job : CoreJob) (room : ℕ) {t : St} (s : State) (k : ℕ) (r : Receipt) → ShowsOne job room (Happens job s k (Leave r)) t → ShowsOne job room (LeaveMakes job k s) t
+left_with job room s k r h = (h.0, (r, h.1))
+
 -- no worker that was taken before is the next one
 others_before : (taken : List TakenCall) (u : ℕ) → ((x : ℕ) → took_in taken x ≡ true → x < u) → AllByRecursion (λ y. u ≢ y) (map (λ (t : TakenCall). t.worker) taken)
 others_before taken u low = each_taken (λ y. u ≢ y) taken (λ x e is. let below = low x e in absurd (omega (arith, below, is)))
@@ -193,8 +198,8 @@ module _ (job : CoreJob) (room : ℕ) (laws : Laws job) (slots id : ℕ) (v : Vi
   same_call n x call e = let h = ap (λ (l : List (ℕ × Slot)). (get_or l 0 (n, Slots.Record x)).1) e in cc
 
   -- a post
-  pub posts : (call : OpRecord) → v.enrolled ≡ true → IsRecordOf job v.task call → v.call ≡ NotCalled
-      → Allows (Shows job room) slots id (v, (k, Slots.Record call) ∷ xs) k (λ y. 1) (λ y. G.posted (step slots k 1 0 none) (v, (k, Slots.Record call) ∷ xs) 1)
+  pub posts : (call : OpRecord) → v.enrolled ≡ true → (is : IsRecordOf job v.task call) → v.call ≡ NotCalled
+      → Steps job room slots id (v, (k, Slots.Record call) ∷ xs) k (λ y. 1) (λ y. G.posted (step slots k 1 0 none) (v, (k, Slots.Record call) ∷ xs) 1) (λ before found after. Makes job k (Post is.0 is.1) before after)
   posts call enrolled is called t o wide me fits =
       let s = o.state in
       let m = mine_of job room t o id k v me from to in
@@ -235,24 +240,17 @@ module _ (job : CoreJob) (room : ℕ) (laws : Laws job) (slots id : ℕ) (v : Vi
         λ x e. ap (λ (y : OpRecord). (V.posting v y, xs)) (same_call k call x e),
       )
 
-  -- the state that is shown after a post is the one that the event makes
-  pub posts_event : (call : OpRecord) (enrolled : v.enrolled ≡ true) (is : IsRecordOf job v.task call) (called : v.call ≡ NotCalled)
-      (t : St) (o : Shows job room t) (wide : length t.homes ≡ slots) (me : get_elem? t.views id ≡ some v) (fits : get_or t.words k 0 < 18446744073709551616)
-      → (posts call enrolled is called t o wide me fits).3.state ≡ made o.state k (Post is.0 is.1)
-  unfolding posts moved
-  posts_event call enrolled is called t o wide me fits = refl
-
-  pub posts_at : (m : G.Sat) (call : OpRecord) → m ≡ (v, (k, Slots.Record call) ∷ xs) → v.enrolled ≡ true → IsRecordOf job v.task call → v.call ≡ NotCalled
-      → Allows (Shows job room) slots id m k (λ y. 1) (λ y. G.posted (step slots k 1 0 none) m 1)
-  posts_at m call e enrolled is called = subst (λ (m : G.Sat). Allows (Shows job room) slots id m k (λ y. 1) (λ y. G.posted (step slots k 1 0 none) m 1)) (sym e) (posts call enrolled is called)
+  pub posts_at : (m : G.Sat) (call : OpRecord) → m ≡ (v, (k, Slots.Record call) ∷ xs) → v.enrolled ≡ true → (is : IsRecordOf job v.task call) → v.call ≡ NotCalled
+      → Steps job room slots id m k (λ y. 1) (λ y. G.posted (step slots k 1 0 none) m 1) (λ before found after. Makes job k (Post is.0 is.1) before after)
+  posts_at m call e enrolled is called = subst (λ (m : G.Sat). Steps job room slots id m k (λ y. 1) (λ y. G.posted (step slots k 1 0 none) m 1) (λ before found after. Makes job k (Post is.0 is.1) before after)) (sym e) (posts call enrolled is called)
 
   -- a trapped pass tries for the flag
-  pub wins : v.call ≡ Out → v.room ≡ room → Allows (Shows job room) slots id (v, xs) (flag_at P) (λ y. either (eqb y 0) (k + 1) y) (G.won (step slots (flag_at P) 0 (k + 1) none) (v, xs))
-  wins out roomy t o wide me fits =
+  pub wins : v.workers ≡ P → v.call ≡ Out → v.room ≡ room → Steps job room slots id (v, xs) (flag_at P) (λ y. either (eqb y 0) (k + 1) y) (G.won (step slots (flag_at P) 0 (k + 1) none) (v, xs)) (TryMakes 0 (Makes job k Win))
+  wins sized out roomy t o wide me fits =
       let s = o.state in
       let word = get_or t.words P 0 in
       let m = mine_of job room t o id k v me from to in
-      exchanged word 0 (k + 1) (λ y. (w : View) × (a : Act Slot) × Valid t.homes xs a × Shows job room (stepped t P y id xs w a) × G.won (step slots P 0 (k + 1) none) (v, xs) word (w, carried_after xs a))
+      exchanged word 0 (k + 1) (λ y. (w : View) × (a : Act Slot) × Valid t.homes xs a × ShowsOne job room (TryMakes 0 (Makes job k Win) s word) (stepped t P y id xs w a) × G.won (step slots P 0 (k + 1) none) (v, xs) word (w, carried_after xs a))
       (λ zero.
       let open_ : s.hold ≡ None = free_flag s.hold (sym o.words.flag ∙ zero) in
       let shop = subst (λ (h : Maybe Hold). ShopAt h s.book (get_elem? t.homes P)) open_ o.slots.shop in
@@ -267,7 +265,7 @@ module _ (job : CoreJob) (room : ℕ) (laws : Laws job) (slots id : ℕ) (v : Vi
         w,
         chain (takes (P + 1) (Slots.Book (reserved s.book room))) (takes P (Slots.Shop s.book)),
         (book, set_else t.homes (P + 1) P none (λ e. omega arith) ∙ shop),
-        moved job room laws t o id k v w (set t.words P (k + 1)) homes Win new happens me from to from to
+        found word 0 (Makes job k Win) zero (moved job room laws t o id k v w (set t.words P (k + 1)) homes Win new happens me from to from to
             (set_flag P N t.words s.node s.mark s.value s.status s.hold s.tick (length s.book) o.words (Some h))
             record {
               wide = length-set (set t.homes (P + 1) none) P none ∙ (length-set t.homes (P + 1) none ∙ o.slots.wide);
@@ -279,26 +277,26 @@ module _ (job : CoreJob) (room : ℕ) (laws : Laws job) (slots id : ℕ) (v : Vi
             record { task = refl; call = refl; posted = refl; left = refl; enrolled = refl; saw_done = refl; greatest = refl; before = refl; after = refl; book_seen = refl }
             (refl, refl, (λ u call is yet. absurd (cc)), tt) own)
             (λ i x u low ne other. through job laws s new k x Win u u (get_elem? t.homes x) (get_elem? homes x) (o.seat x) i o.parts happens refl refl refl (λ d. d)
-            (λ e _. far x low ∙ e) (told_again u) (hold_won job s new k x h ne open_ refl refl u.hold other.hold) other),
-        ((λ _. (none_held job s k v.hold m.1.hold open_, s.book, ap (λ (r : ℕ). (V.winning v s.book, (P, Slots.Shop s.book) ∷ (P + 1, Slots.Book (reserved s.book r)) ∷ xs)) (sym roomy))), λ ne. absurd (ne zero)),
+            (λ e _. far x low ∙ e) (told_again u) (hold_won job s new k x h ne open_ refl refl u.hold other.hold) other)),
+        ((λ _. (none_held job s k v.hold m.1.hold open_, s.book, ap (λ (r : ℕ). (V.winning v s.book, (P, Slots.Shop s.book) ∷ (P + 1, Slots.Book (reserved s.book r)) ∷ xs)) (sym roomy))), (λ ne. absurd (ne zero)), ap flag_at (sym sized)),
       ))
       (λ ne. (
         V.losing v,
         keeps,
         tt,
-        looked job room t o id k P v (V.losing v) me from to from to
-            (λ own. record { sits = own.sits; task = own.task; call = own.call; posted = own.posted; entries = own.entries; hold = own.hold; new = own.new; done = own.done; seen = own.seen; since = record { most = own.since.most; early = own.since.early; late = own.since.late; placed = own.since.placed; waits = own.since.waits } }),
-        ((λ zero. absurd (ne zero)), λ _. refl),
+        missed word 0 (Makes job k Win) ne (looked job room t o id k P v (V.losing v) me from to from to
+            (λ own. record { sits = own.sits; task = own.task; call = own.call; posted = own.posted; entries = own.entries; hold = own.hold; new = own.new; done = own.done; seen = own.seen; since = record { most = own.since.most; early = own.since.early; late = own.since.late; placed = own.since.placed; waits = own.since.waits } })),
+        ((λ zero. absurd (ne zero)), (λ _. refl), ap flag_at (sym sized)),
       ))
 
   -- a trapped pass that has not the flag tries to leave
-  pub leaves : v.enrolled ≡ true → v.call ≡ Out → v.hold ≡ None → Allows (Shows job room) slots id (v, xs) k (λ y. either (eqb y 3) 0 y) (G.left (step slots k 3 0 none) (v, xs))
+  pub leaves : v.enrolled ≡ true → v.call ≡ Out → v.hold ≡ None → Steps job room slots id (v, xs) k (λ y. either (eqb y 3) 0 y) (G.left (step slots k 3 0 none) (v, xs)) (TryMakes 3 (LeaveMakes job k))
   leaves enrolled out idle t o wide me fits =
       let s = o.state in
       let word = get_or t.words k 0 in
       let m = mine_of job room t o id k v me from to in
       let out' : s.call k ≡ Out = m.1.call ∙ out in
-      exchanged word 3 0 (λ y. (w : View) × (a : Act Slot) × Valid t.homes xs a × Shows job room (stepped t k y id xs w a) × G.left (step slots k 3 0 none) (v, xs) word (w, carried_after xs a))
+      exchanged word 3 0 (λ y. (w : View) × (a : Act Slot) × Valid t.homes xs a × ShowsOne job room (TryMakes 3 (LeaveMakes job k) s word) (stepped t k y id xs w a) × G.left (step slots k 3 0 none) (v, xs) word (w, carried_after xs a))
       (λ three.
       let st = served_word (s.status k) (sym (o.words.statuses k m.0) ∙ three) in
       let r = st.0 in
@@ -313,7 +311,7 @@ module _ (job : CoreJob) (room : ℕ) (laws : Laws job) (slots id : ℕ) (v : Vi
         w,
         takes k (Slots.Receipt r),
         home,
-        moved job room laws t o id k v w (set t.words k 0) (set t.homes k none) (Leave r) new happens me from to from to
+        found word 3 (LeaveMakes job k) three (left_with job room s k r (moved job room laws t o id k v w (set t.words k 0) (set t.homes k none) (Leave r) new happens me from to from to
             (set_status P N t.words s.node s.mark s.value s.status s.hold s.tick (length s.book) o.words k Free m.0)
             (slots_record job room t.homes s.task s.status s.hold s.hold s.book k Free none o.slots m.0 tt (λ home h. h) (λ home h. h))
             (λ own. record {
@@ -335,7 +333,7 @@ module _ (job : CoreJob) (room : ℕ) (laws : Laws job) (slots id : ℕ) (v : Vi
               };
             })
             (λ i x u low ne h. through job laws s new k x (Leave r) u u (get_elem? t.homes x) (get_elem? (set t.homes k none) x) (o.seat x) i o.parts happens
-            refl (put_other s.call k x (Got r) ne) refl (λ d. d) (λ e _. set_else t.homes k x none ne ∙ e) (told_again u) (hold_same job s new x refl refl (λ u. refl) u.hold h.hold) h),
+            refl (put_other s.call k x (Got r) ne) refl (λ d. d) (λ e _. set_else t.homes k x none ne ∙ e) (told_again u) (hold_same job s new x refl refl (λ u. refl) u.hold h.hold) h))),
         (
           (λ _. (
             call,
@@ -345,16 +343,17 @@ module _ (job : CoreJob) (room : ℕ) (laws : Laws job) (slots id : ℕ) (v : Vi
             (λ since told. subst (λ (z : Receipt). z.batch ≤ since + 1) (sym served.receipt) (told_by job s k since r served.place st.1 served.at (m.1.since.waits since told out'))),
             (s.book, m.1.seen, subst (λ (x : ℕ). StandsAt s.book r.batch r.place (entry_of x (record { call = call; receipt = r }))) (sym from) served.stands, refl),
           )),
-          λ ne. absurd (ne three),
+          (λ ne. absurd (ne three)),
+          sym from,
         ),
       ))
       (λ ne. (
         V.staying v,
         keeps,
         tt,
-        looked job room t o id k k v (V.staying v) me from to from to
-            (λ own. record { sits = own.sits; task = own.task; call = own.call; posted = own.posted; entries = own.entries; hold = own.hold; new = own.new; done = own.done; seen = own.seen; since = record { most = own.since.most; early = own.since.early; late = own.since.late; placed = own.since.placed; waits = own.since.waits } }),
-        ((λ three. absurd (ne three)), λ _. refl),
+        missed word 3 (LeaveMakes job k) ne (looked job room t o id k k v (V.staying v) me from to from to
+            (λ own. record { sits = own.sits; task = own.task; call = own.call; posted = own.posted; entries = own.entries; hold = own.hold; new = own.new; done = own.done; seen = own.seen; since = record { most = own.since.most; early = own.since.early; late = own.since.late; placed = own.since.placed; waits = own.since.waits } })),
+        ((λ three. absurd (ne three)), (λ _. refl), sym from),
       ))
 
   holding : (t : St) (o : Shows job room t) (h : HoldView) → get_elem? t.views id ≡ some v → v.hold ≡ Some h → HoldKnown job o.state (Some h) k
@@ -365,7 +364,7 @@ module _ (job : CoreJob) (room : ℕ) (laws : Laws job) (slots id : ℕ) (v : Vi
 
   -- the holder looks at the next worker
   pub looks : (h : HoldView) (u : ℕ) → v.room ≡ call_count job → v.hold ≡ Some h → u ≡ h.looks → u < job.workers
-      → Allows (Shows job room) slots id (v, xs) u (λ y. either (eqb y 1) 2 y) (G.took (step slots u 1 2 none) (v, xs))
+      → Steps job room slots id (v, xs) u (λ y. either (eqb y 1) 2 y) (G.took (step slots u 1 2 none) (v, xs)) (λ before found after. Makes job k (Take u) before after)
   looks h u roomy holds next low t o wide me fits =
       let s = o.state in
       let word = get_or t.words u 0 in
@@ -374,7 +373,7 @@ module _ (job : CoreJob) (room : ℕ) (laws : Laws job) (slots id : ℕ) (v : Vi
       let held : s.hold ≡ Some (hold_of k h) = known.0 in
       let stands = rw held at o.parts.hold in
       let unpublished : h.published ≡ false = not_published h.published h.looks job.workers stands.3 (omega (arith, next, low)) in
-      exchanged word 1 2 (λ y. (w : View) × (a : Act Slot) × Valid t.homes xs a × Shows job room (stepped t u y id xs w a) × G.took (step slots u 1 2 none) (v, xs) word (w, carried_after xs a))
+      exchanged word 1 2 (λ y. (w : View) × (a : Act Slot) × Valid t.homes xs a × ShowsOne job room (Makes job k (Take u) s) (stepped t u y id xs w a) × G.took (step slots u 1 2 none) (v, xs) word (w, carried_after xs a))
       (λ one.
       let pending : s.status u ≡ Pending = pending_word (s.status u) (sym (o.words.statuses u low) ∙ one) in
       let what = subst (λ (z : Status). RecordAt job (s.task u) z (get_elem? t.homes u)) pending (o.slots.records u low) in
@@ -446,7 +445,7 @@ module _ (job : CoreJob) (room : ℕ) (laws : Laws job) (slots id : ℕ) (v : Vi
 
   -- the holder hands a worker its receipt
   pub answers : (h : HoldView) (u : ℕ) (call : OpRecord) (r : Receipt) → v.hold ≡ Some h → u < job.workers → h.published ≡ true → record_in h.taken u ≡ Some call → among h.answered u ≡ false → IsReceipt (place_of h.book call.leaf) r
-      → Allows (Shows job room) slots id (v, (u, Slots.Receipt r) ∷ xs) u (λ y. 3) (λ y. G.answered (step slots u 3 0 none) (v, (u, Slots.Receipt r) ∷ xs) 3)
+      → Steps job room slots id (v, (u, Slots.Receipt r) ∷ xs) u (λ y. 3) (λ y. G.answered (step slots u 3 0 none) (v, (u, Slots.Receipt r) ∷ xs) 3) (λ before found after. Makes job k (Answer u r) before after)
   answers h u call r holds low there is yet receipt t o wide me fits =
       let s = o.state in
       let m = mine_of job room t o id k v me from to in
@@ -486,7 +485,7 @@ module _ (job : CoreJob) (room : ℕ) (laws : Laws job) (slots id : ℕ) (v : Vi
   let_go : (h : HoldView) (homes : List (Option Slot)) → v.hold ≡ Some h → h.looks ≡ job.workers → ((u : ℕ) → took_in h.taken u ≡ true → among h.answered u ≡ true)
       → (t : St) (o : Shows job room t) → get_elem? t.views id ≡ some v → length homes ≡ length t.homes → ((x : ℕ) → x < job.workers → get_elem? homes x ≡ get_elem? t.homes x)
       → ShopAt None o.state.book (get_elem? homes job.workers) → BookAt room None o.state.book (get_elem? homes (job.workers + 1))
-      → Shows job room record { words = set t.words (flag_at P) 0; homes = homes; views = set t.views id (V.releasing v) }
+      → ShowsOne job room (Happens job o.state k Release) record { words = set t.words (flag_at P) 0; homes = homes; views = set t.views id (V.releasing v) }
   let_go h homes holds looked_all all t o me wide far shop batches =
       let s = o.state in
       let m = mine_of job room t o id k v me from to in
@@ -506,7 +505,7 @@ module _ (job : CoreJob) (room : ℕ) (laws : Laws job) (slots id : ℕ) (v : Vi
       (hold_gone job s new k x (hold_of k h) ne held refl refl y.hold other.hold) other)
 
   pub releases_shop : (h : HoldView) (shop : List (List Entry)) → v.hold ≡ Some h → h.looks ≡ job.workers → h.published ≡ true → ((u : ℕ) → took_in h.taken u ≡ true → among h.answered u ≡ true) → shop ≡ h.book
-      → Allows (Shows job room) slots id (v, (flag_at P, Slots.Shop shop) ∷ xs) (flag_at P) (λ y. 0) (λ y. G.released_shop (step slots (flag_at P) 0 0 none) (v, (flag_at P, Slots.Shop shop) ∷ xs) 0)
+      → Steps job room slots id (v, (flag_at P, Slots.Shop shop) ∷ xs) (flag_at P) (λ y. 0) (λ y. G.released_shop (step slots (flag_at P) 0 0 none) (v, (flag_at P, Slots.Shop shop) ∷ xs) 0) (λ before found after. Makes job k (Release) before after)
   releases_shop h shop holds looked_all there all whole t o wide me fits =
       let s = o.state in
       let known = holding t o h me holds in
@@ -524,8 +523,8 @@ module _ (job : CoreJob) (room : ℕ) (laws : Laws job) (slots id : ℕ) (v : Vi
       )
 
   pub releases_both : (h : HoldView) (shop : List (List Entry)) → v.hold ≡ Some h → h.looks ≡ job.workers → ((u : ℕ) → took_in h.taken u ≡ true → among h.answered u ≡ true) → shop ≡ h.book
-      → Allows (Shows job room) slots id (v, (flag_at P, Slots.Shop shop) ∷ (flag_at P + 1, Slots.Book (reserved h.book room)) ∷ xs) (flag_at P) (λ y. 0)
-      (λ y. G.released_both (step slots (flag_at P) 0 0 none) (v, (flag_at P, Slots.Shop shop) ∷ (flag_at P + 1, Slots.Book (reserved h.book room)) ∷ xs) 0)
+      → Steps job room slots id (v, (flag_at P, Slots.Shop shop) ∷ (flag_at P + 1, Slots.Book (reserved h.book room)) ∷ xs) (flag_at P) (λ y. 0)
+      (λ y. G.released_both (step slots (flag_at P) 0 0 none) (v, (flag_at P, Slots.Shop shop) ∷ (flag_at P + 1, Slots.Book (reserved h.book room)) ∷ xs) 0) (λ before found after. Makes job k (Release) before after)
   releases_both h shop holds looked_all all whole t o wide me fits =
       let s = o.state in
       let known = holding t o h me holds in
@@ -545,13 +544,13 @@ module _ (job : CoreJob) (room : ℕ) (laws : Laws job) (slots id : ℕ) (v : Vi
       )
 
   pub answers_at : (m : G.Sat) (h : HoldView) (u : ℕ) (call : OpRecord) (r : Receipt) → m ≡ (v, (u, Slots.Receipt r) ∷ xs) → v.hold ≡ Some h → u < job.workers → h.published ≡ true → record_in h.taken u ≡ Some call → among h.answered u ≡ false → IsReceipt (place_of h.book call.leaf) r
-      → Allows (Shows job room) slots id m u (λ y. 3) (λ y. G.answered (step slots u 3 0 none) m 3)
-  answers_at m h u call r e holds low there is yet receipt = subst (λ (m : G.Sat). Allows (Shows job room) slots id m u (λ y. 3) (λ y. G.answered (step slots u 3 0 none) m 3)) (sym e) (answers h u call r holds low there is yet receipt)
+      → Steps job room slots id m u (λ y. 3) (λ y. G.answered (step slots u 3 0 none) m 3) (λ before found after. Makes job k (Answer u r) before after)
+  answers_at m h u call r e holds low there is yet receipt = subst (λ (m : G.Sat). Steps job room slots id m u (λ y. 3) (λ y. G.answered (step slots u 3 0 none) m 3) (λ before found after. Makes job k (Answer u r) before after)) (sym e) (answers h u call r holds low there is yet receipt)
 
   pub releases_shop_at : (m : G.Sat) (h : HoldView) (shop : List (List Entry)) → m ≡ (v, (flag_at P, Slots.Shop shop) ∷ xs) → v.hold ≡ Some h → h.looks ≡ job.workers → h.published ≡ true → ((u : ℕ) → took_in h.taken u ≡ true → among h.answered u ≡ true) → shop ≡ h.book
-      → Allows (Shows job room) slots id m (flag_at P) (λ y. 0) (λ y. G.released_shop (step slots (flag_at P) 0 0 none) m 0)
-  releases_shop_at m h shop e holds looked_all there all whole = subst (λ (m : G.Sat). Allows (Shows job room) slots id m (flag_at P) (λ y. 0) (λ y. G.released_shop (step slots (flag_at P) 0 0 none) m 0)) (sym e) (releases_shop h shop holds looked_all there all whole)
+      → Steps job room slots id m (flag_at P) (λ y. 0) (λ y. G.released_shop (step slots (flag_at P) 0 0 none) m 0) (λ before found after. Makes job k (Release) before after)
+  releases_shop_at m h shop e holds looked_all there all whole = subst (λ (m : G.Sat). Steps job room slots id m (flag_at P) (λ y. 0) (λ y. G.released_shop (step slots (flag_at P) 0 0 none) m 0) (λ before found after. Makes job k (Release) before after)) (sym e) (releases_shop h shop holds looked_all there all whole)
 
   pub releases_both_at : (m : G.Sat) (h : HoldView) (shop : List (List Entry)) → m ≡ (v, (flag_at P, Slots.Shop shop) ∷ (flag_at P + 1, Slots.Book (reserved h.book room)) ∷ xs) → v.hold ≡ Some h → h.looks ≡ job.workers → ((u : ℕ) → took_in h.taken u ≡ true → among h.answered u ≡ true) → shop ≡ h.book
-      → Allows (Shows job room) slots id m (flag_at P) (λ y. 0) (λ y. G.released_both (step slots (flag_at P) 0 0 none) m 0)
-  releases_both_at m h shop e holds looked_all all whole = subst (λ (m : G.Sat). Allows (Shows job room) slots id m (flag_at P) (λ y. 0) (λ y. G.released_both (step slots (flag_at P) 0 0 none) m 0)) (sym e) (releases_both h shop holds looked_all all whole)
+      → Steps job room slots id m (flag_at P) (λ y. 0) (λ y. G.released_both (step slots (flag_at P) 0 0 none) m 0) (λ before found after. Makes job k (Release) before after)
+  releases_both_at m h shop e holds looked_all all whole = subst (λ (m : G.Sat). Steps job room slots id m (flag_at P) (λ y. 0) (λ y. G.released_both (step slots (flag_at P) 0 0 none) m 0) (λ before found after. Makes job k (Release) before after)) (sym e) (releases_both h shop holds looked_all all whole)

@@ -5,7 +5,7 @@ use Rattle.std.proofs.lemmas.Bool.{cases_eq}
 use mathlib.Core.Option.{none, some}
 use lib.ListN.{get_elem?}
 use prog.Atomic.{either}
-use Rattle.atomic_table.specs.Table.{step, Act, keeps, Valid, carried_after, stepped, Allows}
+use Rattle.atomic_table.specs.Table.{step, Act, keeps, Valid, carried_after, stepped}
 use Rattle.atomic_table.proofs.Lists.{exchanged}
 use Rattle.batcher_core.specs.declared.state.progress.Progress.{Progress}
 use Rattle.batcher_core.specs.declared.state.progress.Progress.TheVariants.{Waiting, Ready, Taken as IsTaken, Done, Ran}
@@ -25,12 +25,13 @@ use Rattle.core_table.specs.declared.slot.Slot.{Slot}
 use Rattle.core_table.specs.Words.{node_at, mark_at, value_at, tick_at, progress_code, WordsShow}
 use Rattle.core_table.specs.Code.Laws.{Laws}
 use Rattle.core_table.specs.Passes.{IsTickDue}
+use Rattle.core_table.specs.Steps.{ShowsOne, Steps, TryMakes, ArrivalMakes, Makes, DrawMakes}
 use Rattle.core_table.specs.Shows.{St, Shows, Mine}
 use Rattle.core_table.specs.Plays.{claimed, drawn, half_opened, opened, kept, finished, arrived}
 use Rattle.core_table.specs.Views.{with_task, claiming, refusing, ticked, opening, keeping}
 use Rattle.core_table.proofs.TableLemmas.Words.{put_at, put_other, set_node, set_mark, set_value, set_tick}
 use Rattle.core_table.proofs.TableLemmas.Facts.{is_free}
-use Rattle.core_table.proofs.TableLemmas.Moved.{mine_of, job_step, looked, SameBut}
+use Rattle.core_table.proofs.TableLemmas.Moved.{mine_of, job_step, looked, found, missed, found_none, found_one, SameBut}
 
 ready_word : (p : Progress) → progress_code p ≡ 1 → p ≡ Ready
 ready_word Waiting e = absurd (omega (arith, e))
@@ -59,31 +60,31 @@ module _ (job : CoreJob) (room : ℕ) (laws : Laws job) (slots id : ℕ) (v : Vi
 
   -- a claim
   pub claims : (n : ℕ) → n < job.plan.count → v.task ≡ Idle → v.call ≢ Out
-      → Allows (Shows job room) slots id (v, xs) (node_at job.workers n) (λ y. either (eqb y 1) 2 y) (claimed (step slots (node_at job.workers n) 1 2 none) (v, xs))
+      → Steps job room slots id (v, xs) (node_at job.workers n) (λ y. either (eqb y 1) 2 y) (claimed (step slots (node_at job.workers n) 1 2 none) (v, xs)) (TryMakes 1 (Makes job k (Claim n)))
   claims n below idle inside t o wide me fits =
       let s = o.state in
       let word = get_or t.words (node_at job.workers n) 0 in
       let m = mine_of job room t o id k v me from to in
       let inside' : s.call k ≢ Out = λ e. inside (sym m.1.call ∙ e) in
-      exchanged word 1 2 (λ y. (w : View) × (a : Act Slot) × Valid t.homes xs a × Shows job room (stepped t (node_at job.workers n) y id xs w a) × claimed (step slots (node_at job.workers n) 1 2 none) (v, xs) word (w, carried_after xs a))
+      exchanged word 1 2 (λ y. (w : View) × (a : Act Slot) × Valid t.homes xs a × ShowsOne job room (TryMakes 1 (Makes job k (Claim n)) s word) (stepped t (node_at job.workers n) y id xs w a) × claimed (step slots (node_at job.workers n) 1 2 none) (v, xs) word (w, carried_after xs a))
       (λ one.
       let ready : s.node n ≡ Ready = ready_word (s.node n) (sym (o.words.progress n below) ∙ one) in (
         claiming v n,
         keeps,
         tt,
-        job_step job room laws t o id k v (claiming v n) (set t.words (node_at job.workers n) 2) (Claim n) (put s.node n IsTaken) s.mark s.value s.tick s.call (Run n)
+        found word 1 (Makes job k (Claim n)) one (job_step job room laws t o id k v (claiming v n) (set t.words (node_at job.workers n) 2) (Claim n) (put s.node n IsTaken) s.mark s.value s.tick s.call (Run n)
             record { worker_in = m.0; needs = (is_free job s k o.parts inside', m.1.task ∙ idle, ready); does = refl }
             me from to enrolled inside' inside'
             record { from = refl; to = refl; left = refl; hold = refl; enrolled = refl; saw_done = refl; greatest = refl; before = refl; after = refl; book_seen = refl }
             refl m.1.call (λ x ne. refl) (root_kept s.node n IsTaken (ap is_done ready))
-            (set_node P N t.words s.node s.mark s.value s.status s.hold s.tick (length s.book) o.words n IsTaken below),
+            (set_node P N t.words s.node s.mark s.value s.status s.hold s.tick (length s.book) o.words n IsTaken below)),
         (n, ap (λ (p : ℕ). node_at p n) (sym sized), (λ _. refl), (λ ne. absurd (ne one))),
       ))
       (λ ne. (
         refusing v n,
         keeps,
         tt,
-        looked job room t o id k (node_at job.workers n) v (refusing v n) me from to from to (refused t o n),
+        missed word 1 (Makes job k (Claim n)) ne (looked job room t o id k (node_at job.workers n) v (refusing v n) me from to from to (refused t o n)),
         (n, ap (λ (p : ℕ). node_at p n) (sym sized), (λ one. absurd (ne one)), (λ _. refl)),
       ))
 
@@ -96,7 +97,7 @@ module _ (job : CoreJob) (room : ℕ) (laws : Laws job) (slots id : ℕ) (v : Vi
   -- a draw of the tick
   draws : (event : Event) (y : ℕ → Task) → v.call ≢ Out → ((tick : ℕ) → ticked v.task tick ≡ y tick)
       → ((t : St) (o : Shows job room t) → get_elem? t.views id ≡ some v → Happens job o.state k event (record o.state { tick = o.state.tick + 1; task = put o.state.task k (y o.state.tick) }))
-      → Allows (Shows job room) slots id (v, xs) (tick_at P) (λ n. (n + 1) % 2 ^ 64) (drawn (step slots (tick_at P) 1 0 none) (v, xs))
+      → Steps job room slots id (v, xs) (tick_at P) (λ n. (n + 1) % 2 ^ 64) (drawn (step slots (tick_at P) 1 0 none) (v, xs)) (λ before found after. Makes job k (event) before after)
   draws event y inside becomes happens t o wide me fits =
       let s = o.state in
       let word = get_or t.words (tick_at P) 0 in
@@ -116,11 +117,11 @@ module _ (job : CoreJob) (room : ℕ) (laws : Laws job) (slots id : ℕ) (v : Vi
         (room', refl),
       )
 
-  pub starts : (n : ℕ) → v.task ≡ Run n → IsLeaf (job.plan.kind n) → v.call ≢ Out → Allows (Shows job room) slots id (v, xs) (tick_at P) (λ y. (y + 1) % 2 ^ 64) (drawn (step slots (tick_at P) 1 0 none) (v, xs))
+  pub starts : (n : ℕ) → v.task ≡ Run n → IsLeaf (job.plan.kind n) → v.call ≢ Out → Steps job room slots id (v, xs) (tick_at P) (λ y. (y + 1) % 2 ^ 64) (drawn (step slots (tick_at P) 1 0 none) (v, xs)) (λ before found after. Makes job k (Start n) before after)
   starts n task leaf inside = draws (Start n) (λ tick. Started n tick) inside (λ tick. ap (λ (y : Task). ticked y tick) task)
       (λ t o me. let m = mine_of job room t o id k v me from to in record { worker_in = m.0; needs = (is_free job o.state k o.parts (outside t o me inside), m.1.task ∙ task, leaf); does = refl })
 
-  pub ends : (n start : ℕ) → v.task ≡ Kept n start → v.call ≢ Out → Allows (Shows job room) slots id (v, xs) (tick_at P) (λ y. (y + 1) % 2 ^ 64) (drawn (step slots (tick_at P) 1 0 none) (v, xs))
+  pub ends : (n start : ℕ) → v.task ≡ Kept n start → v.call ≢ Out → Steps job room slots id (v, xs) (tick_at P) (λ y. (y + 1) % 2 ^ 64) (drawn (step slots (tick_at P) 1 0 none) (v, xs)) (λ before found after. Makes job k (End n start) before after)
   ends n start task inside = draws (End n start) (λ tick. Ended n start tick) inside (λ tick. ap (λ (y : Task). ticked y tick) task)
       (λ t o me. let m = mine_of job room t o id k v me from to in record { worker_in = m.0; needs = (is_free job o.state k o.parts (outside t o me inside), m.1.task ∙ task); does = refl })
 
@@ -129,7 +130,7 @@ module _ (job : CoreJob) (room : ℕ) (laws : Laws job) (slots id : ℕ) (v : Vi
       → (t : St) (o : Shows job room t) → get_elem? t.views id ≡ some v
       → Happens job o.state k event (record o.state { node = put o.state.node n x; task = put o.state.task k y })
       → (is_done (o.state.node 0) ≡ true → is_done (put o.state.node n x 0) ≡ true)
-      → Shows job room record { words = set t.words (node_at P n) (progress_code x); homes = t.homes; views = set t.views id w }
+      → ShowsOne job room (Happens job o.state k event) record { words = set t.words (node_at P n) (progress_code x); homes = t.homes; views = set t.views id w }
   stores event n x y w below task_is call_is same_w inside t o me happens done =
       let s = o.state in
       let m = mine_of job room t o id k v me from to in
@@ -144,7 +145,7 @@ module _ (job : CoreJob) (room : ℕ) (laws : Laws job) (slots id : ℕ) (v : Vi
   far node n x ne done = rw (put_other node n 0 x (λ e. ne (sym e))) done
 
   pub opens_right : (p l r : ℕ) → v.task ≡ Run p → job.plan.kind p ≡ Some (ParNode l r) → v.call ≢ Out
-      → Allows (Shows job room) slots id (v, xs) (node_at P r) (λ y. 1) (λ y. half_opened (step slots (node_at P r) 1 0 none) (v, xs) 1)
+      → Steps job room slots id (v, xs) (node_at P r) (λ y. 1) (λ y. half_opened (step slots (node_at P r) 1 0 none) (v, xs) 1) (λ before found after. Makes job k (OpenParRight p l r) before after)
   opens_right p l r task kind inside t o wide me fits =
       let m = mine_of job room t o id k v me from to in
       let side = side_in p r (ap parent_of (laws.plan.right_of_par p l r kind)) in
@@ -159,7 +160,7 @@ module _ (job : CoreJob) (room : ℕ) (laws : Laws job) (slots id : ℕ) (v : Vi
 
   opens_to_idle : (event : Event) (n : ℕ) → n < N → n ≢ 0 → v.call ≢ Out
       → ((t : St) (o : Shows job room t) → get_elem? t.views id ≡ some v → Happens job o.state k event (record o.state { node = put o.state.node n Ready; task = put o.state.task k Idle }))
-      → Allows (Shows job room) slots id (v, xs) (node_at P n) (λ y. 1) (λ y. opened (step slots (node_at P n) 1 0 none) (v, xs) 1)
+      → Steps job room slots id (v, xs) (node_at P n) (λ y. 1) (λ y. opened (step slots (node_at P n) 1 0 none) (v, xs) 1) (λ before found after. Makes job k (event) before after)
   opens_to_idle event n below ne inside happens t o wide me fits =
       let w : View = opening v n Idle in (
         w,
@@ -170,26 +171,26 @@ module _ (job : CoreJob) (room : ℕ) (laws : Laws job) (slots id : ℕ) (v : Vi
       )
 
   pub opens_left : (p l r : ℕ) → v.task ≡ Half p → job.plan.kind p ≡ Some (ParNode l r) → v.call ≢ Out
-      → Allows (Shows job room) slots id (v, xs) (node_at P l) (λ y. 1) (λ y. opened (step slots (node_at P l) 1 0 none) (v, xs) 1)
+      → Steps job room slots id (v, xs) (node_at P l) (λ y. 1) (λ y. opened (step slots (node_at P l) 1 0 none) (v, xs) 1) (λ before found after. Makes job k (OpenParLeft p l r) before after)
   opens_left p l r task kind inside =
       let side = side_in p l (ap parent_of (laws.plan.left_of_par p l r kind)) in opens_to_idle (OpenParLeft p l r) l side.0 side.1 inside
       (λ t o me. let m = mine_of job room t o id k v me from to in record { worker_in = m.0; needs = (is_free job o.state k o.parts (outside t o me inside), m.1.task ∙ task, kind); does = refl })
 
   pub opens_first : (p l r : ℕ) → v.task ≡ Run p → job.plan.kind p ≡ Some (SeqNode l r) → v.call ≢ Out
-      → Allows (Shows job room) slots id (v, xs) (node_at P l) (λ y. 1) (λ y. opened (step slots (node_at P l) 1 0 none) (v, xs) 1)
+      → Steps job room slots id (v, xs) (node_at P l) (λ y. 1) (λ y. opened (step slots (node_at P l) 1 0 none) (v, xs) 1) (λ before found after. Makes job k (OpenSeqLeft p l r) before after)
   opens_first p l r task kind inside =
       let side = side_in p l (ap parent_of (laws.plan.left_of_seq p l r kind)) in opens_to_idle (OpenSeqLeft p l r) l side.0 side.1 inside
       (λ t o me. let m = mine_of job room t o id k v me from to in record { worker_in = m.0; needs = (is_free job o.state k o.parts (outside t o me inside), m.1.task ∙ task, kind); does = refl })
 
   pub opens_second : (p l r : ℕ) → v.task ≡ Whole l → job.plan.kind p ≡ Some (SeqNode l r) → v.call ≢ Out
-      → Allows (Shows job room) slots id (v, xs) (node_at P r) (λ y. 1) (λ y. opened (step slots (node_at P r) 1 0 none) (v, xs) 1)
+      → Steps job room slots id (v, xs) (node_at P r) (λ y. 1) (λ y. opened (step slots (node_at P r) 1 0 none) (v, xs) 1) (λ before found after. Makes job k (OpenSeqRight p l r) before after)
   opens_second p l r task kind inside =
       let side = side_in p r (ap parent_of (laws.plan.right_of_seq p l r kind)) in opens_to_idle (OpenSeqRight p l r) r side.0 side.1 inside
       (λ t o me. let m = mine_of job room t o id k v me from to in record { worker_in = m.0; needs = (is_free job o.state k o.parts (outside t o me inside), m.1.task ∙ task, kind); does = refl })
 
   -- a value is kept
   pub keeps_value : (i n start x : ℕ) → i ≡ value_at P N n → v.task ≡ Started n start → n < N → value_in (job.act (leaf_of (job.plan.kind n))) v.call ≡ Some x → v.call ≢ Out
-      → Allows (Shows job room) slots id (v, xs) i (λ y. x) (λ y. kept (step slots i x 0 none) (v, xs) x)
+      → Steps job room slots id (v, xs) i (λ y. x) (λ y. kept (step slots i x 0 none) (v, xs) x) (λ before found after. Makes job k (Keep n start x) before after)
   keeps_value i n start x at task below is inside t o wide me fits =
       let s = o.state in
       let m = mine_of job room t o id k v me from to in
@@ -208,7 +209,7 @@ module _ (job : CoreJob) (room : ℕ) (laws : Laws job) (slots id : ℕ) (v : Vi
 
   finishes : (event : Event) (n : ℕ) (x : Progress) → n < N → is_done x ≡ true → v.call ≢ Out
       → ((t : St) (o : Shows job room t) → get_elem? t.views id ≡ some v → Happens job o.state k event (record o.state { node = put o.state.node n x; task = put o.state.task k (task_after n) }))
-      → Allows (Shows job room) slots id (v, xs) (node_at P n) (λ y. progress_code x) (λ y. finished (step slots (node_at P n) (progress_code x) 0 none) (v, xs) (progress_code x))
+      → Steps job room slots id (v, xs) (node_at P n) (λ y. progress_code x) (λ y. finished (step slots (node_at P n) (progress_code x) 0 none) (v, xs) (progress_code x)) (λ before found after. Makes job k (event) before after)
   finishes event n x below done inside happens t o wide me fits =
       let w : View = with_task v (task_after n) in (
         w,
@@ -219,17 +220,17 @@ module _ (job : CoreJob) (room : ℕ) (laws : Laws job) (slots id : ℕ) (v : Vi
       )
 
   pub finishes_leaf : (n start end : ℕ) → v.task ≡ Ended n start end → n < N → v.call ≢ Out
-      → Allows (Shows job room) slots id (v, xs) (node_at P n) (λ y. progress_code (Ran k start end)) (λ y. finished (step slots (node_at P n) (progress_code (Ran k start end)) 0 none) (v, xs) (progress_code (Ran k start end)))
+      → Steps job room slots id (v, xs) (node_at P n) (λ y. progress_code (Ran k start end)) (λ y. finished (step slots (node_at P n) (progress_code (Ran k start end)) 0 none) (v, xs) (progress_code (Ran k start end))) (λ before found after. Makes job k (FinishLeaf n start end) before after)
   finishes_leaf n start end task below inside = finishes (FinishLeaf n start end) n (Ran k start end) below refl inside
       (λ t o me. let m = mine_of job room t o id k v me from to in record { worker_in = m.0; needs = (is_free job o.state k o.parts (outside t o me inside), m.1.task ∙ task); does = refl })
 
   pub finishes_seq : (p l r : ℕ) → v.task ≡ Whole r → job.plan.kind p ≡ Some (SeqNode l r) → p < N → v.call ≢ Out
-      → Allows (Shows job room) slots id (v, xs) (node_at P p) (λ y. 3) (λ y. finished (step slots (node_at P p) 3 0 none) (v, xs) 3)
+      → Steps job room slots id (v, xs) (node_at P p) (λ y. 3) (λ y. finished (step slots (node_at P p) 3 0 none) (v, xs) 3) (λ before found after. Makes job k (FinishSeq p l r) before after)
   finishes_seq p l r task kind below inside = finishes (FinishSeq p l r) p Done below refl inside
       (λ t o me. let m = mine_of job room t o id k v me from to in record { worker_in = m.0; needs = (is_free job o.state k o.parts (outside t o me inside), m.1.task ∙ task, kind); does = refl })
 
   pub finishes_par : (p l r : ℕ) → v.task ≡ Handed p → job.plan.kind p ≡ Some (ParNode l r) → p < N → v.call ≢ Out
-      → Allows (Shows job room) slots id (v, xs) (node_at P p) (λ y. 3) (λ y. finished (step slots (node_at P p) 3 0 none) (v, xs) 3)
+      → Steps job room slots id (v, xs) (node_at P p) (λ y. 3) (λ y. finished (step slots (node_at P p) 3 0 none) (v, xs) 3) (λ before found after. Makes job k (FinishPar p l r) before after)
   finishes_par p l r task kind below inside = finishes (FinishPar p l r) p Done below refl inside
       (λ t o me. let m = mine_of job room t o id k v me from to in record { worker_in = m.0; needs = (is_free job o.state k o.parts (outside t o me inside), m.1.task ∙ task, kind); does = refl })
 
@@ -238,7 +239,7 @@ module _ (job : CoreJob) (room : ℕ) (laws : Laws job) (slots id : ℕ) (v : Vi
 
   -- a side arrives at a parallel block
   pub arrives : (i p l r n : ℕ) → i ≡ mark_at P N p → v.task ≡ Whole n → v.nodes ≡ N → job.plan.kind p ≡ Some (ParNode l r) → IsSide job.plan p n → p < N → v.call ≢ Out
-      → Allows (Shows job room) slots id (v, xs) i (λ y. (y + 1) % 2 ^ 64) (arrived (step slots i 1 0 none) (v, xs))
+      → Steps job room slots id (v, xs) i (λ y. (y + 1) % 2 ^ 64) (arrived (step slots i 1 0 none) (v, xs)) (ArrivalMakes (Makes job k (ArriveFirst p l r n)) (Makes job k (ArriveSecond p l r n)))
   arrives i p l r n is task nodes kind side below inside t o wide me fits =
       let s = o.state in
       let word = get_or t.words i 0 in
@@ -252,28 +253,28 @@ module _ (job : CoreJob) (room : ℕ) (laws : Laws job) (slots id : ℕ) (v : Vi
           with_task v Idle,
           keeps,
           tt,
-          job_step job room laws t o id k v (with_task v Idle) (set t.words i (arrived_word word)) (ArriveFirst p l r n) s.node (put s.mark p 1) s.value s.tick s.call Idle
+          found_none word (Makes job k (ArriveFirst p l r n)) (Makes job k (ArriveSecond p l r n)) zero (job_step job room laws t o id k v (with_task v Idle) (set t.words i (arrived_word word)) (ArriveFirst p l r n) s.node (put s.mark p 1) s.value s.tick s.call Idle
               record { worker_in = m.0; needs = (free, m.1.task ∙ task, kind, side, sym at ∙ zero); does = refl }
               me from to enrolled (outside t o me inside) (outside t o me inside) (same (with_task v Idle) refl refl refl refl refl refl refl refl refl refl) refl m.1.call (λ z ne. refl) (λ done. done)
               (subst (λ (j : ℕ). WordsShow P N (set t.words j (arrived_word word)) s.node (put s.mark p 1) s.value s.status s.hold s.tick (length s.book)) (sym is) (subst (λ (z : ℕ). WordsShow P N (set t.words (mark_at P N p) z) s.node (put s.mark p 1) s.value s.status s.hold s.tick (length s.book)) (let one : arrived_word word ≡ 1 = omega (arith, zero) in sym one)
-              (set_mark P N t.words s.node s.mark s.value s.status s.hold s.tick (length s.book) o.words p 1 below))),
+              (set_mark P N t.words s.node s.mark s.value s.status s.hold s.tick (length s.book) o.words p 1 below)))),
           (p, named, (λ _. refl), (λ ne. absurd (ne zero))),
         )
         | inr ne ↦ (
           with_task v (Handed p),
           keeps,
           tt,
-          job_step job room laws t o id k v (with_task v (Handed p)) (set t.words i (arrived_word word)) (ArriveSecond p l r n) s.node (put s.mark p 2) s.value s.tick s.call (Handed p)
+          found_one word (Makes job k (ArriveFirst p l r n)) (Makes job k (ArriveSecond p l r n)) ne (job_step job room laws t o id k v (with_task v (Handed p)) (set t.words i (arrived_word word)) (ArriveSecond p l r n) s.node (put s.mark p 2) s.value s.tick s.call (Handed p)
               record { worker_in = m.0; needs = (free, m.1.task ∙ task, kind, side, omega (arith, at, few, ne)); does = refl }
               me from to enrolled (outside t o me inside) (outside t o me inside) (same (with_task v (Handed p)) refl refl refl refl refl refl refl refl refl refl) refl m.1.call (λ z ne'. refl) (λ done. done)
               (subst (λ (j : ℕ). WordsShow P N (set t.words j (arrived_word word)) s.node (put s.mark p 2) s.value s.status s.hold s.tick (length s.book)) (sym is) (subst (λ (z : ℕ). WordsShow P N (set t.words (mark_at P N p) z) s.node (put s.mark p 2) s.value s.status s.hold s.tick (length s.book)) (let two : arrived_word word ≡ 2 = omega (arith, at, few, ne) in sym two)
-              (set_mark P N t.words s.node s.mark s.value s.status s.hold s.tick (length s.book) o.words p 2 below))),
+              (set_mark P N t.words s.node s.mark s.value s.status s.hold s.tick (length s.book) o.words p 2 below)))),
           (p, named, (λ zero. absurd (ne zero)), (λ _. refl)),
         )
       ]
 
   -- a draw that is due
-  draws_by : (y : Task) → v.task ≡ y → IsTickDue job y → v.call ≢ Out → Allows (Shows job room) slots id (v, xs) (tick_at P) (λ n. (n + 1) % 2 ^ 64) (drawn (step slots (tick_at P) 1 0 none) (v, xs))
+  draws_by : (y : Task) → v.task ≡ y → IsTickDue job y → v.call ≢ Out → Steps job room slots id (v, xs) (tick_at P) (λ n. (n + 1) % 2 ^ 64) (drawn (step slots (tick_at P) 1 0 none) (v, xs)) (λ before found after. DrawMakes job k y before after)
   draws_by Idle e due inside = absurd due
   draws_by (Run n) e due inside = starts n e due inside
   draws_by (Half n) e due inside = absurd due
@@ -283,5 +284,5 @@ module _ (job : CoreJob) (room : ℕ) (laws : Laws job) (slots id : ℕ) (v : Vi
   draws_by (Whole n) e due inside = absurd due
   draws_by (Handed n) e due inside = absurd due
 
-  pub draws_due : IsTickDue job v.task → v.call ≢ Out → Allows (Shows job room) slots id (v, xs) (tick_at P) (λ n. (n + 1) % 2 ^ 64) (drawn (step slots (tick_at P) 1 0 none) (v, xs))
+  pub draws_due : IsTickDue job v.task → v.call ≢ Out → Steps job room slots id (v, xs) (tick_at P) (λ n. (n + 1) % 2 ^ 64) (drawn (step slots (tick_at P) 1 0 none) (v, xs)) (λ before found after. DrawMakes job k v.task before after)
   draws_due due inside = draws_by v.task refl due inside

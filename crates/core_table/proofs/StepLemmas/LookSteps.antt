@@ -4,7 +4,7 @@ use Rattle.std.proofs.lemmas.Bool.{cases_eq}
 use mathlib.Core.Option.{none}
 use lib.ListN.{get_elem?}
 use prog.Atomic.{either}
-use Rattle.atomic_table.specs.Table.{step, Act, keeps, Valid, carried_after, stepped, Allows}
+use Rattle.atomic_table.specs.Table.{step, Act, keeps, Valid, carried_after, stepped}
 use Rattle.atomic_table.proofs.Lists.{exchanged}
 use Rattle.batcher_core.specs.declared.state.progress.Progress.{Progress}
 use Rattle.batcher_core.specs.declared.state.progress.Progress.TheVariants.{Waiting, Ready, Taken as IsTaken, Done, Ran}
@@ -17,6 +17,7 @@ use Rattle.core_table.specs.declared.view.View.{View}
 use Rattle.core_table.specs.declared.slot.Slot.{Slot}
 use Rattle.core_table.specs.Words.{node_at, count_at, stop_at, progress_code, status_code}
 use Rattle.core_table.specs.Code.Laws.{Laws}
+use Rattle.core_table.specs.Steps.{ShowsOne, Steps, Stays}
 use Rattle.core_table.specs.Shows.{St, Shows, SinceKnown}
 use Rattle.core_table.specs.Plays.{looked_at_root, heard, strayed, stopped_all, looked_at_stop}
 use Rattle.core_table.specs.Views.{seeing_done, seeing_undone, finding_stop, finding_none, hearing, refusing, least_told, stopping}
@@ -47,8 +48,8 @@ module _ (job : CoreJob) (room : ℕ) (laws : Laws job) (slots id : ℕ) (v : Vi
   abbrev P : ℕ
   P = job.workers
 
-  pub looks_at_root : (i : ℕ) → i ≡ node_at P 0 → 0 < job.plan.count → Allows (Shows job room) slots id (v, xs) i (λ y. y) (looked_at_root (step slots i 0 0 none) (v, xs))
-  looks_at_root i is any t o wide me fits =
+  pub looks_at_root : (i : ℕ) → v.workers ≡ P → i ≡ node_at P 0 → 0 < job.plan.count → Steps job room slots id (v, xs) i (λ y. y) (looked_at_root (step slots i 0 0 none) (v, xs)) (Stays)
+  looks_at_root i sized is any t o wide me fits =
       let word = get_or t.words i 0 in
       let at = ap (λ (j : ℕ). get_or t.words j 0) is ∙ o.words.progress 0 any in elim (cases_eq (word % 4) 3) [
         | inl e ↦ (
@@ -68,9 +69,9 @@ module _ (job : CoreJob) (room : ℕ) (laws : Laws job) (slots id : ℕ) (v : Vi
                 seen = m.seen;
                 since = record { most = m.since.most; early = m.since.early; late = m.since.late; placed = m.since.placed; waits = m.since.waits };
               }),
-          ((λ _. refl), λ ne. absurd (ne e)),
+          ((λ _. refl), (λ ne. absurd (ne e)), omega (arith, is, sized)),
         )
-        | inr ne ↦ (seeing_undone v, keeps, tt, looked job room t o id k i v (seeing_undone v) me from to from to (λ m. again job o.state (get_elem? t.homes k) (o.seat k) id v _ k record { task = refl; call = refl; posted = refl; left = refl; enrolled = refl; saw_done = refl; greatest = refl; before = refl; after = refl; book_seen = refl } refl m), ((λ e. absurd (ne e)), λ _. refl))
+        | inr ne ↦ (seeing_undone v, keeps, tt, looked job room t o id k i v (seeing_undone v) me from to from to (λ m. again job o.state (get_elem? t.homes k) (o.seat k) id v _ k record { task = refl; call = refl; posted = refl; left = refl; enrolled = refl; saw_done = refl; greatest = refl; before = refl; after = refl; book_seen = refl } refl m), ((λ e. absurd (ne e)), (λ _. refl), omega (arith, is, sized)))
       ]
 
   hears_since : (t : St) (o : Shows job room t) (n : ℕ) → n ≡ length o.state.book → SinceKnown job o.state v k → SinceKnown job o.state (hearing v n) k
@@ -85,24 +86,24 @@ module _ (job : CoreJob) (room : ℕ) (laws : Laws job) (slots id : ℕ) (v : Vi
     ];
   }
 
-  pub hears : Allows (Shows job room) slots id (v, xs) (count_at P) (λ y. y) (heard (step slots (count_at P) 0 0 none) (v, xs))
-  hears t o wide me fits =
+  pub hears : v.workers ≡ P → Steps job room slots id (v, xs) (count_at P) (λ y. y) (heard (step slots (count_at P) 0 0 none) (v, xs)) (Stays)
+  hears sized t o wide me fits =
       let word = get_or t.words (count_at P) 0 in (
         hearing v word,
         keeps,
         tt,
         looked job room t o id k (count_at P) v (hearing v word) me from to from to
             (λ m. record { sits = m.sits; task = m.task; call = m.call; posted = m.posted; entries = m.entries; hold = m.hold; new = m.new; done = m.done; seen = m.seen; since = hears_since t o word o.words.batches m.since }),
-        refl,
+        (refl, ap count_at (sym sized)),
       )
 
   -- a claim of what is no node: a status is at most 3, so the exchange finds what it did not want
-  pub strays : (n : ℕ) → 0 < P → Allows (Shows job room) slots id (v, xs) 0 (λ y. either (eqb y (4 + n)) 0 y) (strayed (step slots 0 (4 + n) 0 none) (v, xs))
-  strays n any t o wide me fits =
+  pub strays : (n : ℕ) → v.nodes ≤ n → 0 < P → Steps job room slots id (v, xs) 0 (λ y. either (eqb y (4 + n)) 0 y) (strayed (step slots 0 (4 + n) 0 none) (v, xs)) (Stays)
+  strays n far any t o wide me fits =
       let word = get_or t.words 0 0 in
       let few = few_status (o.state.status 0) in
       let at = o.words.statuses 0 any in
-      exchanged word (4 + n) 0 (λ y. (w : View) × (a : Act Slot) × Valid t.homes xs a × Shows job room (stepped t 0 y id xs w a) × strayed (step slots 0 (4 + n) 0 none) (v, xs) word (w, carried_after xs a))
+      exchanged word (4 + n) 0 (λ y. (w : View) × (a : Act Slot) × Valid t.homes xs a × ShowsOne job room (Stays o.state word) (stepped t 0 y id xs w a) × strayed (step slots 0 (4 + n) 0 none) (v, xs) word (w, carried_after xs a))
       (λ e. absurd (omega (arith, few, at, e)))
       (λ ne. (
         refusing v n,
@@ -110,12 +111,12 @@ module _ (job : CoreJob) (room : ℕ) (laws : Laws job) (slots id : ℕ) (v : Vi
         tt,
         looked job room t o id k 0 v (refusing v n) me from to from to
             (λ m. again job o.state (get_elem? t.homes k) (o.seat k) id v _ k record { task = refl; call = refl; posted = refl; left = refl; enrolled = refl; saw_done = refl; greatest = refl; before = refl; after = refl; book_seen = refl } refl m),
-        (n, refl, refl),
+        (n, refl, refl, far),
       ))
 
   -- the stop word is set
-  pub stops : Allows (Shows job room) slots id (v, xs) (stop_at P) (λ y. 1) (λ y. stopped_all (step slots (stop_at P) 1 0 none) (v, xs) 1)
-  stops t o wide me fits =
+  pub stops : v.workers ≡ P → Steps job room slots id (v, xs) (stop_at P) (λ y. 1) (λ y. stopped_all (step slots (stop_at P) 1 0 none) (v, xs) 1) (Stays)
+  stops sized t o wide me fits =
       let s = o.state in (
         stopping v,
         keeps,
@@ -123,12 +124,12 @@ module _ (job : CoreJob) (room : ℕ) (laws : Laws job) (slots id : ℕ) (v : Vi
         renewed job room t o id k v (stopping v) (set t.words (stop_at P) 1) me from to from to
             (set_stop P job.plan.count t.words s.node s.mark s.value s.status s.hold s.tick (length s.book) o.words 1)
             (λ m. again job o.state (get_elem? t.homes k) (o.seat k) id v _ k record { task = refl; call = refl; posted = refl; left = refl; enrolled = refl; saw_done = refl; greatest = refl; before = refl; after = refl; book_seen = refl } refl m),
-        refl,
+        (refl, ap stop_at (sym sized), refl),
       )
 
   -- and looked at
-  pub looks_at_stop : Allows (Shows job room) slots id (v, xs) (stop_at P) (λ y. y) (looked_at_stop (step slots (stop_at P) 0 0 none) (v, xs))
-  looks_at_stop t o wide me fits = elim (cases_eq (get_or t.words (stop_at P) 0) 1) [
-    | inl e ↦ (finding_stop v, keeps, tt, looked job room t o id k (stop_at P) v (finding_stop v) me from to from to (λ m. again job o.state (get_elem? t.homes k) (o.seat k) id v _ k record { task = refl; call = refl; posted = refl; left = refl; enrolled = refl; saw_done = refl; greatest = refl; before = refl; after = refl; book_seen = refl } refl m), ((λ _. refl), λ ne. absurd (ne e)))
-    | inr ne ↦ (finding_none v, keeps, tt, looked job room t o id k (stop_at P) v (finding_none v) me from to from to (λ m. again job o.state (get_elem? t.homes k) (o.seat k) id v _ k record { task = refl; call = refl; posted = refl; left = refl; enrolled = refl; saw_done = refl; greatest = refl; before = refl; after = refl; book_seen = refl } refl m), ((λ e. absurd (ne e)), λ _. refl))
+  pub looks_at_stop : v.workers ≡ P → Steps job room slots id (v, xs) (stop_at P) (λ y. y) (looked_at_stop (step slots (stop_at P) 0 0 none) (v, xs)) (Stays)
+  looks_at_stop sized t o wide me fits = elim (cases_eq (get_or t.words (stop_at P) 0) 1) [
+    | inl e ↦ (finding_stop v, keeps, tt, looked job room t o id k (stop_at P) v (finding_stop v) me from to from to (λ m. again job o.state (get_elem? t.homes k) (o.seat k) id v _ k record { task = refl; call = refl; posted = refl; left = refl; enrolled = refl; saw_done = refl; greatest = refl; before = refl; after = refl; book_seen = refl } refl m), ((λ _. refl), (λ ne. absurd (ne e)), ap stop_at (sym sized)))
+    | inr ne ↦ (finding_none v, keeps, tt, looked job room t o id k (stop_at P) v (finding_none v) me from to from to (λ m. again job o.state (get_elem? t.homes k) (o.seat k) id v _ k record { task = refl; call = refl; posted = refl; left = refl; enrolled = refl; saw_done = refl; greatest = refl; before = refl; after = refl; book_seen = refl } refl m), ((λ e. absurd (ne e)), (λ _. refl), ap stop_at (sym sized)))
   ]

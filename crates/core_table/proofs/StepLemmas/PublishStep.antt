@@ -2,7 +2,7 @@
 use Rattle.std.proofs.Common.{ℕ, ◌≡◌, ◌<◌, ◌≤◌, ◌+◌, ◌%◌, ◌^◌, Bool, true, false, Option as Maybe, Some, List, [], ◌∷◌, ◌++◌, map, length, get_or, set, arith, refl, sym, ap, ◌∙◌, subst, length-append, length-set, append_assoc}
 use mathlib.Core.Option.{none, some}
 use lib.ListN.{get_elem?}
-use Rattle.atomic_table.specs.Table.{step, keeps, gives, Allows}
+use Rattle.atomic_table.specs.Table.{step, keeps, gives}
 use Rattle.atomic_table.proofs.Lists.{set_here, set_else}
 use Rattle.batch_history.specs.declared.batch.Entry.{Entry}
 use Rattle.batch_history.specs.Book.{flat, IsHistory}
@@ -26,7 +26,8 @@ use Rattle.core_table.specs.declared.slot.Slot.{Slot}
 use Rattle.core_table.specs.declared.slot.Slot.TheVariants as Slots
 use Rattle.core_table.specs.Words.{count_at, WordsShow}
 use Rattle.core_table.specs.Code.Laws.{Laws}
-use Rattle.core_table.specs.Shows.{reserved, Home, IsRecordOf, ShopAt, record_in, among, hold_of, HoldKnown, entry_of, present, SinceKnown, IsFront, Mine, Shows}
+use Rattle.core_table.specs.Steps.{Steps, Stays, Makes}
+use Rattle.core_table.specs.Shows.{reserved, Home, IsRecordOf, ShopAt, record_in, among, hold_of, HoldKnown, entry_of, present, SinceKnown, IsFront, Mine}
 use Rattle.core_table.specs.Batches.{call_of, ServesTaken, IsPublishDue}
 use Rattle.core_table.specs.Views as V
 use Rattle.core_table.specs.Plays as G
@@ -183,7 +184,7 @@ module _ (job : CoreJob) (room : ℕ) (laws : Laws job) (slots id : ℕ) (v : Vi
       }
 
   -- a look before it, which tells that the book has room for the batch and that it stays a history with it
-  pub admits : (i : ℕ) → v.workers ≡ job.workers → v.room ≡ call_count job → job.workers ≤ 32 → Allows (Shows job room) slots id (v, xs) i (λ y. y) (G.admitted (step slots i 0 0 none) (v, xs))
+  pub admits : (i : ℕ) → v.workers ≡ job.workers → v.room ≡ call_count job → job.workers ≤ 32 → Steps job room slots id (v, xs) i (λ y. y) (G.admitted (step slots i 0 0 none) (v, xs)) (Stays)
   admits i sized roomy few t o wide me fits =
       let s = o.state in
       let m = mine_of job room t o id k v me from to in (
@@ -208,8 +209,8 @@ module _ (job : CoreJob) (room : ℕ) (laws : Laws job) (slots id : ℕ) (v : Vi
       )
 
   pub publishes : (h : HoldView) (batch : List Entry) → v.hold ≡ Some h → v.room ≡ room → IsPublishDue job.workers h batch → length h.book < 2 ^ 32
-      → Allows (Shows job room) slots id (v, (count_at P, Slots.Book (reserved (h.book ++ batch ∷ []) room)) ∷ xs) (count_at P) (λ y. (y + 1) % 2 ^ 64)
-      (G.published (step slots (count_at P) 1 0 none) (v, (count_at P, Slots.Book (reserved (h.book ++ batch ∷ []) room)) ∷ xs))
+      → Steps job room slots id (v, (count_at P, Slots.Book (reserved (h.book ++ batch ∷ []) room)) ∷ xs) (count_at P) (λ y. (y + 1) % 2 ^ 64)
+      (G.published (step slots (count_at P) 1 0 none) (v, (count_at P, Slots.Book (reserved (h.book ++ batch ∷ []) room)) ∷ xs)) (λ before found after. Makes job k Publish before after)
   publishes h batch holds roomy due few t o wide me fits =
       let s = o.state in
       let book = reserved (h.book ++ batch ∷ []) room in
@@ -258,6 +259,6 @@ module _ (job : CoreJob) (room : ℕ) (laws : Laws job) (slots id : ℕ) (v : Vi
       )
 
   pub publishes_at : (g : G.Sat) (h : HoldView) (batch : List Entry) → g ≡ (v, (count_at P, Slots.Book (reserved (h.book ++ batch ∷ []) room)) ∷ xs) → v.hold ≡ Some h → v.room ≡ room → IsPublishDue job.workers h batch → length h.book < 2 ^ 32
-      → Allows (Shows job room) slots id g (count_at P) (λ y. (y + 1) % 2 ^ 64) (G.published (step slots (count_at P) 1 0 none) g)
+      → Steps job room slots id g (count_at P) (λ y. (y + 1) % 2 ^ 64) (G.published (step slots (count_at P) 1 0 none) g) (λ before found after. Makes job k Publish before after)
   publishes_at g h batch e holds roomy due few =
-      subst (λ (g : G.Sat). Allows (Shows job room) slots id g (count_at P) (λ y. (y + 1) % 2 ^ 64) (G.published (step slots (count_at P) 1 0 none) g)) (sym e) (publishes h batch holds roomy due few)
+      subst (λ (g : G.Sat). Steps job room slots id g (count_at P) (λ y. (y + 1) % 2 ^ 64) (G.published (step slots (count_at P) 1 0 none) g) (λ before found after. Makes job k Publish before after)) (sym e) (publishes h batch holds roomy due few)

@@ -31,6 +31,7 @@ use Rattle.core_table.specs.declared.view.View.{View}
 use Rattle.core_table.specs.declared.slot.Slot.{Slot}
 use Rattle.core_table.specs.Words.{WordsShow}
 use Rattle.core_table.specs.declared.setting.Setting.{Setting}
+use Rattle.core_table.specs.Steps.{ShowsOne, TryMakes, ArrivalMakes}
 use Rattle.core_table.specs.Plays.{Sat}
 use Rattle.core_table.specs.Code.Laws.{Laws}
 use Rattle.core_table.specs.Shows.{St, IsRecordOf, RecordAt, SlotsShow, took_in, record_in, among, hold_of, HoldKnown, entry_of, present, SinceKnown, Mine, Shows, Shown}
@@ -43,33 +44,36 @@ pub mine_of : (job : CoreJob) (room : ℕ) (t : St) (o : Shows job room t) (id k
 mine_of job room t o id k v me from to = o.views id v k me (omega arith) (omega arith)
 
 -- a step of worker k
-unfoldable pub moved : (job : CoreJob) (room : ℕ) (laws : Laws job) (t : St) (o : Shows job room t) (id k : ℕ) (v w : View) (words : List ℕ) (homes : List (Option Slot)) (event : Event) (new : State)
+pub moved : (job : CoreJob) (room : ℕ) (laws : Laws job) (t : St) (o : Shows job room t) (id k : ℕ) (v w : View) (words : List ℕ) (homes : List (Option Slot)) (event : Event) (new : State)
     → Happens job o.state k event new → get_elem? t.views id ≡ some v → v.from ≡ k → v.to ≡ k + 1 → w.from ≡ k → w.to ≡ k + 1
     → WordsShow job.workers job.plan.count words new.node new.mark new.value new.status new.hold new.tick (length new.book)
     → SlotsShow job room homes new.task new.status new.hold new.book
     → (Mine job o.state (get_elem? t.homes k) (o.seat k) id v k → Mine job new (get_elem? homes k) (o.seat k) id w k)
     → ((i x : ℕ) (u : View) → x < job.workers → x ≢ k → Mine job o.state (get_elem? t.homes x) (o.seat x) i u x → Mine job new (get_elem? homes x) (o.seat x) i u x)
-    → Shows job room record { words = words; homes = homes; views = set t.views id w }
-moved job room laws t o id k v w words homes event new happens me from to from' to' shown slots own others = record {
-  state = new;
-  seat = o.seat;
-  parts = laws.keeps o.state new k event o.parts happens;
-  words = shown;
-  slots = slots;
-  views = λ i u x e lo hi. let m = mine_of job room t o id k v me from to in ⊎_elim
-      (λ q.
-      let lo' : w.from ≤ x = subst (λ (y : View). y.from ≤ x) (sym q.1) lo in
-      let hi' : x < w.to = subst (λ (y : View). x < y.to) (sym q.1) hi in
-      let is : x ≡ k = omega arith in (
-        subst (λ (y : ℕ). y < job.workers) (sym is) m.0,
-        subst (λ (y : ℕ). Mine job new (get_elem? homes y) (o.seat y) i u y) (sym is)
-            (subst (λ (j : ℕ). Mine job new (get_elem? homes k) (o.seat k) j u k) (sym q.0) (subst (λ (z : View). Mine job new (get_elem? homes k) (o.seat k) id z k) q.1 (own m.1))),
-      ))
-      (λ q.
-      let was = o.views i u x q.1 lo hi in
-      (was.0, others i x u was.0 (λ is. q.0 (sym was.1.sits ∙ (ap o.seat is ∙ m.1.sits))) was.1))
-      (at_set t.views id i w u e);
-}
+    → ShowsOne job room (Happens job o.state k event) record { words = words; homes = homes; views = set t.views id w }
+moved job room laws t o id k v w words homes event new happens me from to from' to' shown slots own others = (
+  record {
+    state = new;
+    seat = o.seat;
+    parts = laws.keeps o.state new k event o.parts happens;
+    words = shown;
+    slots = slots;
+    views = λ i u x e lo hi. let m = mine_of job room t o id k v me from to in ⊎_elim
+        (λ q.
+        let lo' : w.from ≤ x = subst (λ (y : View). y.from ≤ x) (sym q.1) lo in
+        let hi' : x < w.to = subst (λ (y : View). x < y.to) (sym q.1) hi in
+        let is : x ≡ k = omega arith in (
+          subst (λ (y : ℕ). y < job.workers) (sym is) m.0,
+          subst (λ (y : ℕ). Mine job new (get_elem? homes y) (o.seat y) i u y) (sym is)
+              (subst (λ (j : ℕ). Mine job new (get_elem? homes k) (o.seat k) j u k) (sym q.0) (subst (λ (z : View). Mine job new (get_elem? homes k) (o.seat k) id z k) q.1 (own m.1))),
+        ))
+        (λ q.
+        let was = o.views i u x q.1 lo hi in
+        (was.0, others i x u was.0 (λ is. q.0 (sym was.1.sits ∙ (ap o.seat is ∙ m.1.sits))) was.1))
+        (at_set t.views id i w u e);
+  },
+  happens,
+)
 
 -- the views, where only that of worker k changes, and the state does not
 views_still : (job : CoreJob) (room : ℕ) (t : St) (o : Shows job room t) (id k : ℕ) (v w : View)
@@ -93,24 +97,28 @@ pub renewed : (job : CoreJob) (room : ℕ) (t : St) (o : Shows job room t) (id k
     → get_elem? t.views id ≡ some v → v.from ≡ k → v.to ≡ k + 1 → w.from ≡ k → w.to ≡ k + 1
     → WordsShow job.workers job.plan.count words o.state.node o.state.mark o.state.value o.state.status o.state.hold o.state.tick (length o.state.book)
     → (Mine job o.state (get_elem? t.homes k) (o.seat k) id v k → Mine job o.state (get_elem? t.homes k) (o.seat k) id w k)
-    → Shows job room record { words = words; homes = t.homes; views = set t.views id w }
-renewed job room t o id k v w words me from to from' to' shown own = record {
-  state = o.state;
-  seat = o.seat;
-  parts = o.parts;
-  words = shown;
-  slots = o.slots;
-  views = views_still job room t o id k v w me from to from' to' own;
-}
+    → ShowsOne job room (λ (s : State). s ≡ o.state) record { words = words; homes = t.homes; views = set t.views id w }
+renewed job room t o id k v w words me from to from' to' shown own = (
+  record {
+    state = o.state;
+    seat = o.seat;
+    parts = o.parts;
+    words = shown;
+    slots = o.slots;
+    views = views_still job room t o id k v w me from to from' to' own;
+  },
+  refl,
+)
 
 -- a look, or a try that finds what it did not want
 pub looked : (job : CoreJob) (room : ℕ) (t : St) (o : Shows job room t) (id k j : ℕ) (v w : View)
     → get_elem? t.views id ≡ some v → v.from ≡ k → v.to ≡ k + 1 → w.from ≡ k → w.to ≡ k + 1
     → (Mine job o.state (get_elem? t.homes k) (o.seat k) id v k → Mine job o.state (get_elem? t.homes k) (o.seat k) id w k)
-    → Shows job room record { words = set t.words j (get_or t.words j 0); homes = t.homes; views = set t.views id w }
+    → ShowsOne job room (λ (s : State). s ≡ o.state) record { words = set t.words j (get_or t.words j 0); homes = t.homes; views = set t.views id w }
 looked job room t o id k j v w me from to from' to' own =
-    subst (λ (ws : List ℕ). Shows job room record { words = ws; homes = t.homes; views = set t.views id w }) (sym (set-get_or t.words j 0))
-    (renewed job room t o id k v w t.words me from to from' to' o.words own)
+    renewed job room t o id k v w (set t.words j (get_or t.words j 0)) me from to from' to'
+    (subst (λ (ws : List ℕ). WordsShow job.workers job.plan.count ws o.state.node o.state.mark o.state.value o.state.status o.state.hold o.state.tick (length o.state.book)) (sym (set-get_or t.words j 0)) o.words)
+    own
 
 pub true_false : true ≡ false → ⊥
 true_false e = cc
@@ -187,7 +195,7 @@ pub job_step : (job : CoreJob) (room : ℕ) (laws : Laws job) (t : St) (o : Show
     Happens job s k event new → get_elem? t.views id ≡ some v → v.from ≡ k → v.to ≡ k + 1 → v.enrolled ≡ true → s.call k ≢ Out → call k ≢ Out
     → SameBut v w → w.task ≡ y → call k ≡ w.call → ((x : ℕ) → x ≢ k → call x ≡ s.call x) → (is_done (s.node 0) ≡ true → is_done (node 0) ≡ true)
     → WordsShow job.workers job.plan.count words node mark value s.status s.hold tick (length s.book)
-    → Shows job room record { words = words; homes = t.homes; views = set t.views id w }
+    → ShowsOne job room (Happens job o.state k event) record { words = words; homes = t.homes; views = set t.views id w }
 job_step job room laws t o id k v w words event node mark value tick call y happens me from to enrolled inside inside' same task_is call_is calls done shown =
     let s = o.state in
     let new : State = record s { node = node; mark = mark; value = value; tick = tick; task = put s.task k y; call = call } in
@@ -240,3 +248,17 @@ keyed key setting slots id me i f tells e h = subst (λ (y : Setting). Allows (S
 
 pub few_nodes : (nodes count : ℕ) → nodes ≡ count → nodes < 40000 → count < 40000
 few_nodes nodes count e h = omega (arith, e, h)
+
+-- what a try makes, where it finds what it wants, and where it does not
+pub found : {job : CoreJob} {room : ℕ} {t : St} {before : State} (word wanted : ℕ) (Makes : State → State → Type 0) → word ≡ wanted → ShowsOne job room (Makes before) t → ShowsOne job room (TryMakes wanted Makes before word) t
+found word wanted Makes is h = (h.0, ((λ _. h.1), (λ ne. absurd (ne is))))
+
+pub missed : {job : CoreJob} {room : ℕ} {t : St} {before : State} (word wanted : ℕ) (Makes : State → State → Type 0) → word ≢ wanted → ShowsOne job room (λ (s : State). s ≡ before) t → ShowsOne job room (TryMakes wanted Makes before word) t
+missed word wanted Makes ne h = (h.0, ((λ is. absurd (ne is)), (λ _. h.1)))
+
+-- of an arrival, by whether the mark that it found was 0
+pub found_none : {job : CoreJob} {room : ℕ} {t : St} {before : State} (word : ℕ) (First Second : State → State → Type 0) → word ≡ 0 → ShowsOne job room (First before) t → ShowsOne job room (ArrivalMakes First Second before word) t
+found_none word First Second is h = (h.0, ((λ _. h.1), (λ ne. absurd (ne is))))
+
+pub found_one : {job : CoreJob} {room : ℕ} {t : St} {before : State} (word : ℕ) (First Second : State → State → Type 0) → word ≢ 0 → ShowsOne job room (Second before) t → ShowsOne job room (ArrivalMakes First Second before word) t
+found_one word First Second ne h = (h.0, ((λ is. absurd (ne is)), (λ _. h.1)))

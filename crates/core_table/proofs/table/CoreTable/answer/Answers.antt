@@ -48,7 +48,7 @@ store-requires c =
     let laws = c.laws_hold.ensures self.setting (few_nodes self.nodes job.plan.count self.key.1 self.few.2) self.acts.0 self.acts.1 in (
       c.exchange.ensures.0 ∙ (c.turn_by.ensures.table.0 ∙ c.requires.pass.0),
       omega (arith, self.sized.0, c.requires.low),
-      rw self.key.0 (answers_at job (room_of self.setting) laws _ _ v tail pass.worker pass.number.0 pass.number.1 _ h u due.1 c.args.receipt put holds c.requires.low there due.4 due.5 due.6),
+      rw self.key.0 (λ a b d e f. let x = (answers_at job (room_of self.setting) laws _ _ v tail pass.worker pass.number.0 pass.number.1 _ h u due.1 c.args.receipt put holds c.requires.low there due.4 due.5 due.6) a b d e f in (x.0, x.1, x.2, x.3.0, x.4)),
     )
 
 pub returns-clause-pass : goal.returns-clause-pass

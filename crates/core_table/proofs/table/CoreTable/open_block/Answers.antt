@@ -14,8 +14,8 @@ store-requires c =
     let sides = par_sides job.plan c.args.node c.in-ParNode._left c.in-ParNode.right laws.plan kind in (
       c.requires.pass.0,
       omega (arith, self.sized.0, self.key.1, sides.1),
-      rw self.key.0 (opens_right job (room_of self.setting) laws _ _ v pass.seat.me.1 pass.worker pass.number.0 pass.number.1 c.requires.pass.2 c.requires.pass.4
-          c.args.node c.in-ParNode._left c.in-ParNode.right c.requires.run kind c.requires.free),
+      rw self.key.0 (λ a b d e f. let x = (opens_right job (room_of self.setting) laws _ _ v pass.seat.me.1 pass.worker pass.number.0 pass.number.1 c.requires.pass.2 c.requires.pass.4
+          c.args.node c.in-ParNode._left c.in-ParNode.right c.requires.run kind c.requires.free) a b d e f in (x.0, x.1, x.2, x.3.0, x.4)),
     )
 
 pub store-requires-in-SeqNode : goal.store-requires-in-SeqNode
@@ -26,6 +26,6 @@ store-requires-in-SeqNode c =
     let sides = seq_sides job.plan c.args.node c.in-SeqNode.left c.in-SeqNode._right laws.plan kind in (
       c.requires.pass.0,
       omega (arith, self.sized.0, self.key.1, sides.0),
-      rw self.key.0 (opens_first job (room_of self.setting) laws _ _ v pass.seat.me.1 pass.worker pass.number.0 pass.number.1 c.requires.pass.2 c.requires.pass.4
-          c.args.node c.in-SeqNode.left c.in-SeqNode._right c.requires.run kind c.requires.free),
+      rw self.key.0 (λ a b d e f. let x = (opens_first job (room_of self.setting) laws _ _ v pass.seat.me.1 pass.worker pass.number.0 pass.number.1 c.requires.pass.2 c.requires.pass.4
+          c.args.node c.in-SeqNode.left c.in-SeqNode._right c.requires.run kind c.requires.free) a b d e f in (x.0, x.1, x.2, x.3.0, x.4)),
     )

@@ -18,8 +18,8 @@ store-requires c =
     let own = c.requires.pass.7.free (λ e. let f = sym c.requires.free ∙ e in absurd (cc)) in (
       c.exchange.ensures.0 ∙ c.requires.pass.0,
       omega (arith, self.sized.0, c.requires.pass.1),
-      rw self.key.0 (posts_at job (room_of self.setting) laws _ _ v [] pass.worker pass.number.0 pass.number.1 _ c.args.call
-          (swapped pass.seat.me _ v pass.worker Slots.Vacant (Slots.Record c.args.call) [] (λ i. (v, own.1 i)) c.exchange.ensures.3) c.requires.pass.4 c.requires.due c.requires.free),
+      rw self.key.0 (λ a b d e f. let x = (posts_at job (room_of self.setting) laws _ _ v [] pass.worker pass.number.0 pass.number.1 _ c.args.call
+          (swapped pass.seat.me _ v pass.worker Slots.Vacant (Slots.Record c.args.call) [] (λ i. (v, own.1 i)) c.exchange.ensures.3) c.requires.pass.4 c.requires.due c.requires.free) a b d e f in (x.0, x.1, x.2, x.3.0, x.4)),
     )
 
 pub returns-clause-pass : goal.returns-clause-pass

@@ -21,7 +21,7 @@ load-requires c =
     let laws = c.laws_hold.ensures self.setting (few_nodes self.nodes job.plan.count self.key.1 self.few.2) self.acts.0 self.acts.1 in (
       c.requires.pass.0,
       omega (arith, self.sized.0),
-      rw self.key.0 (admits job (room_of self.setting) laws _ _ v pass.seat.me.1 pass.worker pass.number.0 pass.number.1 _ c.requires.pass.2 c.requires.pass.6 self.few.1),
+      rw self.key.0 (λ a b d e f. let x = (admits job (room_of self.setting) laws _ _ v pass.seat.me.1 pass.worker pass.number.0 pass.number.1 _ c.requires.pass.2 c.requires.pass.6 self.few.1) a b d e f in (x.0, x.1, x.2, x.3.0, x.4)),
     )
 
 pub exchange-requires : goal.exchange-requires
@@ -76,7 +76,7 @@ fetch_add-requires c =
     let laws = c.laws_hold.ensures self.setting (few_nodes self.nodes job.plan.count self.key.1 self.few.2) self.acts.0 self.acts.1 in (
       c.exchange-2.ensures.0 ∙ (c.exchange.ensures.0 ∙ (c.load.ensures.0 ∙ c.requires.pass.0)),
       omega (arith, self.sized.0),
-      rw self.key.0 (publishes_at job room laws _ _ v tail pass.worker pass.number.0 pass.number.1 _ h c.args.batch put_back holds c.requires.pass.6 due (few_batches_in room job.plan.count (length h.book) (room_few job) laws.few (omega (arith, admitted.1, c.requires.pass.6)))),
+      rw self.key.0 (λ a b d e f. let x = (publishes_at job room laws _ _ v tail pass.worker pass.number.0 pass.number.1 _ h c.args.batch put_back holds c.requires.pass.6 due (few_batches_in room job.plan.count (length h.book) (room_few job) laws.few (omega (arith, admitted.1, c.requires.pass.6)))) a b d e f in (x.0, x.1, x.2, x.3.0, x.4)),
     )
 
 pub invariant_of-pass : goal.invariant_of-pass

@@ -39,7 +39,7 @@ store-requires c =
     let laws = c.laws_hold.ensures self.setting (few_nodes self.nodes job.plan.count self.key.1 self.few.2) self.acts.0 self.acts.1 in (
       c.exchange.ensures.0 ∙ (c.turn.ensures.0 ∙ c.requires.pass.0),
       omega (arith, self.sized.0),
-      rw self.key.0 (releases_both_at job room laws _ _ v [] pass.worker pass.number.0 pass.number.1 _ h c.args.shop put holds due.looked due.answered c.requires.due.3),
+      rw self.key.0 (λ a b d e f. let x = (releases_both_at job room laws _ _ v [] pass.worker pass.number.0 pass.number.1 _ h c.args.shop put holds due.looked due.answered c.requires.due.3) a b d e f in (x.0, x.1, x.2, x.3.0, x.4)),
     )
 
 pub returns-clause-pass : goal.returns-clause-pass

@@ -12,10 +12,10 @@ store-requires c =
     let laws = c.laws_hold.ensures self.setting (few_nodes self.nodes job.plan.count self.key.1 self.few.2) self.acts.0 self.acts.1 in (
       c.requires.pass.0,
       omega (arith, self.sized.0),
-      rw self.key.0 (stops job (room_of self.setting) laws _ _ v pass.seat.me.1 pass.worker pass.number.0 pass.number.1),
+      rw self.key.0 (λ a b d e f. let x = (stops job (room_of self.setting) laws _ _ v pass.seat.me.1 pass.worker pass.number.0 pass.number.1 c.requires.pass.2) a b d e f in (x.0, x.1, x.2, x.3.0, x.4)),
     )
 
 pub returns-clause-pass : goal.returns-clause-pass
 returns-clause-pass c =
     let old = c.args.pass.now.seat in
-    pass_kept c.args.self.now.setting _ c.args.pass.now.worker old c.store.new.seat (stopping old.me.0) c.store.ensures.0 c.store.ensures.2 refl refl refl refl refl refl refl c.requires.pass
+    pass_kept c.args.self.now.setting _ c.args.pass.now.worker old c.store.new.seat (stopping old.me.0) c.store.ensures.0 c.store.ensures.2.0 refl refl refl refl refl refl refl c.requires.pass

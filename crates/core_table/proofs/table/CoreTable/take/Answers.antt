@@ -19,7 +19,7 @@ compare_exchange-seen-requires c =
     let next = c.requires.next in (
       c.requires.pass.0,
       omega (arith, self.sized.0, c.requires.low),
-      rw self.key.0 (looks job (room_of self.setting) laws _ _ v pass.seat.me.1 pass.worker pass.number.0 pass.number.1 next.0 c.args.u c.requires.pass.6 next.1 next.2 c.requires.low),
+      rw self.key.0 (λ a b d e f. let x = (looks job (room_of self.setting) laws _ _ v pass.seat.me.1 pass.worker pass.number.0 pass.number.1 next.0 c.args.u c.requires.pass.6 next.1 next.2 c.requires.low) a b d e f in (x.0, x.1, x.2, x.3.0, x.4)),
     )
 
 pub exchange-slot-requires : goal.exchange-slot-requires

@@ -15,7 +15,7 @@ compare_exchange-requires c =
     let laws = c.laws_hold.ensures self.setting (few_nodes self.nodes job.plan.count self.key.1 self.few.2) self.acts.0 self.acts.1 in (
       c.requires.pass.0,
       omega (arith, self.sized.0),
-      rw self.key.0 (wins job (room_of self.setting) laws _ _ v pass.seat.me.1 pass.worker pass.number.0 pass.number.1 (c.requires.trapped) c.requires.pass.6),
+      rw self.key.0 (λ a b d e f. let x = (wins job (room_of self.setting) laws _ _ v pass.seat.me.1 pass.worker pass.number.0 pass.number.1 c.requires.pass.2 c.requires.trapped c.requires.pass.6) a b d e f in (x.0, x.1, x.2, x.3.0, x.4)),
     )
 
 pub returns-then-compare_exchange-ne0-clause-pass : goal.returns-then-compare_exchange-ne0-clause-pass

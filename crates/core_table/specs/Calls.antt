@@ -1,0 +1,132 @@
+-- That each call of the table is its one event: the statements, over every table that meets the rule.
+use Rattle.std.specs.Prelude.{ℕ, ◌≡◌, ◌≢◌, ◌<◌, ◌≤◌, ◌+◌, ◌%◌, ◌^◌, true, false, eqb, Some, None, List, ◌∷◌, [], ◌++◌, length}
+use mathlib.Core.Option.{none}
+use prog.Atomic.{either}
+use Rattle.atomic_table.specs.Table.{step}
+use Rattle.sp_order.specs.Precedence.{leaves}
+use Rattle.batcher_core.specs.Events.{value_in}
+use Rattle.batcher_core.specs.Operations.{leaf_of, place_of, IsReceipt}
+use Rattle.core_table.specs.CoreWords.{Entry, Receipt, Claim, OpenParRight, OpenParLeft, OpenSeqLeft, OpenSeqRight, Post, Win, Take, Publish, Answer, Release, Keep, FinishLeaf, FinishSeq, FinishPar, ArriveFirst, ArriveSecond, Idle, Run, Half, Started, Ended, Whole, Handed, NotCalled, Out, SeqNode, ParNode, IsSide, Ran}
+use Rattle.core_table.specs.declared.setting.Setting.{Setting}
+use Rattle.core_table.specs.declared.slot.OpRecord.{OpRecord}
+use Rattle.core_table.specs.declared.slot.Slot.{Slot}
+use Rattle.core_table.specs.declared.slot.Slot.TheVariants as Slots
+use Rattle.core_table.specs.declared.view.HoldView.{HoldView}
+use Rattle.core_table.specs.declared.view.View.{View}
+use Rattle.core_table.specs.Words.{flag_at, count_at, tick_at, stop_at, node_at, mark_at, value_at, progress_code}
+use Rattle.core_table.specs.Shows.{job_of, room_of, reserved, record_in, among, IsRecordOf}
+use Rattle.core_table.specs.Batches.{IsPublishDue, IsReleaseDue}
+use Rattle.core_table.specs.Passes.{IsTickDue}
+use Rattle.core_table.specs.Plays as plays
+use Rattle.core_table.specs.Plays.{Sat}
+use Rattle.core_table.specs.Steps.{Steps, Makes, Stays, TryMakes, ArrivalMakes, DrawMakes, LeaveMakes}
+
+-- what holds of all that a table is made for
+pub record IsSound (key : Setting) : Type 0 where
+  pub few : (job_of key).plan.count < 40000
+  pub leaves : length key.acts.items ≡ leaves key.plan
+  pub short : length key.acts.items ≤ 20000
+  pub workers : key.workers ≤ 32
+
+-- the view is that of the pass of worker k of such a table
+pub record IsViewOf (key : Setting) (k : ℕ) (v : View) : Type 0 where
+  pub from : v.from ≡ k
+  pub to : v.to ≡ k + 1
+  pub workers : v.workers ≡ key.workers
+  pub nodes : v.nodes ≡ (job_of key).plan.count
+  pub room : v.room ≡ room_of key
+  pub enrolled : v.enrolled ≡ true
+
+-- In a table with so many slots, the seat id has the view v of worker k, and holds these slots. Each line says of a call
+-- what its step writes, what it tells, and what it makes of the state that is shown, whichever that is.
+pub record CallsAreEvents (key : Setting) (slots id k : ℕ) (v : View) (xs : List (ℕ × Slot)) : Type 0 where
+  -- the job side: a claim takes the node where it finds it ready, and else makes nothing
+  pub claim : (n : ℕ) → n < (job_of key).plan.count → v.task ≡ Idle → v.call ≢ Out
+      → Steps (job_of key) (room_of key) slots id (v, xs) (node_at key.workers n) (λ y. either (eqb y 1) 2 y)
+      (plays.claimed (step slots (node_at key.workers n) 1 2 none) (v, xs)) (TryMakes 1 (Makes (job_of key) k (Claim n)))
+  -- a tick starts or ends the leaf of the task
+  pub tick : IsTickDue (job_of key) v.task → v.call ≢ Out
+      → Steps (job_of key) (room_of key) slots id (v, xs) (tick_at key.workers) (λ y. (y + 1) % 2 ^ 64)
+      (plays.drawn (step slots (tick_at key.workers) 1 0 none) (v, xs)) (λ before found after. DrawMakes (job_of key) k v.task before after)
+  -- the four opens
+  pub open_right : (p l r : ℕ) → v.task ≡ Run p → (job_of key).plan.kind p ≡ Some (ParNode l r) → v.call ≢ Out
+      → Steps (job_of key) (room_of key) slots id (v, xs) (node_at key.workers r) (λ y. 1)
+      (λ y. plays.half_opened (step slots (node_at key.workers r) 1 0 none) (v, xs) 1) (λ before found after. Makes (job_of key) k (OpenParRight p l r) before after)
+  pub open_left : (p l r : ℕ) → v.task ≡ Half p → (job_of key).plan.kind p ≡ Some (ParNode l r) → v.call ≢ Out
+      → Steps (job_of key) (room_of key) slots id (v, xs) (node_at key.workers l) (λ y. 1)
+      (λ y. plays.opened (step slots (node_at key.workers l) 1 0 none) (v, xs) 1) (λ before found after. Makes (job_of key) k (OpenParLeft p l r) before after)
+  pub open_first : (p l r : ℕ) → v.task ≡ Run p → (job_of key).plan.kind p ≡ Some (SeqNode l r) → v.call ≢ Out
+      → Steps (job_of key) (room_of key) slots id (v, xs) (node_at key.workers l) (λ y. 1)
+      (λ y. plays.opened (step slots (node_at key.workers l) 1 0 none) (v, xs) 1) (λ before found after. Makes (job_of key) k (OpenSeqLeft p l r) before after)
+  pub open_second : (p l r : ℕ) → v.task ≡ Whole l → (job_of key).plan.kind p ≡ Some (SeqNode l r) → v.call ≢ Out
+      → Steps (job_of key) (room_of key) slots id (v, xs) (node_at key.workers r) (λ y. 1)
+      (λ y. plays.opened (step slots (node_at key.workers r) 1 0 none) (v, xs) 1) (λ before found after. Makes (job_of key) k (OpenSeqRight p l r) before after)
+  -- a keep
+  pub keep : (n start x : ℕ) → v.task ≡ Started n start → n < (job_of key).plan.count
+      → value_in ((job_of key).act (leaf_of ((job_of key).plan.kind n))) v.call ≡ Some x → v.call ≢ Out
+      → Steps (job_of key) (room_of key) slots id (v, xs) (value_at key.workers (job_of key).plan.count n) (λ y. x)
+      (λ y. plays.kept (step slots (value_at key.workers (job_of key).plan.count n) x 0 none) (v, xs) x)
+      (λ before found after. Makes (job_of key) k (Keep n start x) before after)
+  -- the three finishes
+  pub finish_leaf : (n start end : ℕ) → v.task ≡ Ended n start end → n < (job_of key).plan.count → v.call ≢ Out
+      → Steps (job_of key) (room_of key) slots id (v, xs) (node_at key.workers n) (λ y. progress_code (Ran k start end))
+      (λ y. plays.finished (step slots (node_at key.workers n) (progress_code (Ran k start end)) 0 none) (v, xs) (progress_code (Ran k start end)))
+      (λ before found after. Makes (job_of key) k (FinishLeaf n start end) before after)
+  pub finish_series : (p l r : ℕ) → v.task ≡ Whole r → (job_of key).plan.kind p ≡ Some (SeqNode l r) → p < (job_of key).plan.count → v.call ≢ Out
+      → Steps (job_of key) (room_of key) slots id (v, xs) (node_at key.workers p) (λ y. 3)
+      (λ y. plays.finished (step slots (node_at key.workers p) 3 0 none) (v, xs) 3) (λ before found after. Makes (job_of key) k (FinishSeq p l r) before after)
+  pub finish_block : (p l r : ℕ) → v.task ≡ Handed p → (job_of key).plan.kind p ≡ Some (ParNode l r) → p < (job_of key).plan.count → v.call ≢ Out
+      → Steps (job_of key) (room_of key) slots id (v, xs) (node_at key.workers p) (λ y. 3)
+      (λ y. plays.finished (step slots (node_at key.workers p) 3 0 none) (v, xs) 3) (λ before found after. Makes (job_of key) k (FinishPar p l r) before after)
+  -- an arrival is the first where it finds the mark at 0, else the second
+  pub arrive : (p l r n : ℕ) → v.task ≡ Whole n → (job_of key).plan.kind p ≡ Some (ParNode l r) → IsSide (job_of key).plan p n
+      → p < (job_of key).plan.count → v.call ≢ Out
+      → Steps (job_of key) (room_of key) slots id (v, xs) (mark_at key.workers (job_of key).plan.count p) (λ y. (y + 1) % 2 ^ 64)
+      (plays.arrived (step slots (mark_at key.workers (job_of key).plan.count p) 1 0 none) (v, xs))
+      (ArrivalMakes (Makes (job_of key) k (ArriveFirst p l r n)) (Makes (job_of key) k (ArriveSecond p l r n)))
+  -- the gate: a post gives the record slot home with the call
+  pub post : (call : OpRecord) → (is : IsRecordOf (job_of key) v.task call) → v.call ≡ NotCalled
+      → Steps (job_of key) (room_of key) slots id (v, (k, Slots.Record call) ∷ xs) k (λ y. 1)
+      (λ y. plays.posted (step slots k 1 0 none) (v, (k, Slots.Record call) ∷ xs) 1) (λ before found after. Makes (job_of key) k (Post is.0 is.1) before after)
+  -- the flag is won where it is found free
+  pub win : v.call ≡ Out
+      → Steps (job_of key) (room_of key) slots id (v, xs) (flag_at key.workers) (λ y. either (eqb y 0) (k + 1) y)
+      (plays.won (step slots (flag_at key.workers) 0 (k + 1) none) (v, xs)) (TryMakes 0 (Makes (job_of key) k Win))
+  -- a look is one event, whether it takes or not
+  pub take : (h : HoldView) (u : ℕ) → v.hold ≡ Some h → u ≡ h.looks → u < key.workers
+      → Steps (job_of key) (room_of key) slots id (v, xs) u (λ y. either (eqb y 1) 2 y)
+      (plays.took (step slots u 1 2 none) (v, xs)) (λ before found after. Makes (job_of key) k (Take u) before after)
+  pub publish : (h : HoldView) (batch : List Entry) → v.hold ≡ Some h → IsPublishDue key.workers h batch → length h.book < 2 ^ 32
+      → Steps (job_of key) (room_of key) slots id (v, (count_at key.workers, Slots.Book (reserved (h.book ++ batch ∷ []) (room_of key))) ∷ xs) (count_at key.workers) (λ y. (y + 1) % 2 ^ 64)
+      (plays.published (step slots (count_at key.workers) 1 0 none) (v, (count_at key.workers, Slots.Book (reserved (h.book ++ batch ∷ []) (room_of key))) ∷ xs))
+      (λ before found after. Makes (job_of key) k Publish before after)
+  pub answer : (h : HoldView) (u : ℕ) (call : OpRecord) (r : Receipt) → v.hold ≡ Some h → u < key.workers → h.published ≡ true
+      → record_in h.taken u ≡ Some call → among h.answered u ≡ false → IsReceipt (place_of h.book call.leaf) r
+      → Steps (job_of key) (room_of key) slots id (v, (u, Slots.Receipt r) ∷ xs) u (λ y. 3)
+      (λ y. plays.answered (step slots u 3 0 none) (v, (u, Slots.Receipt r) ∷ xs) 3) (λ before found after. Makes (job_of key) k (Answer u r) before after)
+  -- a release gives the shop home, and the book too where nothing was published
+  pub release : (h : HoldView) → v.hold ≡ Some h → IsReleaseDue key.workers h → h.published ≡ true
+      → Steps (job_of key) (room_of key) slots id (v, (flag_at key.workers, Slots.Shop h.book) ∷ xs) (flag_at key.workers) (λ y. 0)
+      (λ y. plays.released_shop (step slots (flag_at key.workers) 0 0 none) (v, (flag_at key.workers, Slots.Shop h.book) ∷ xs) 0)
+      (λ before found after. Makes (job_of key) k Release before after)
+  pub release_unserved : (h : HoldView) → v.hold ≡ Some h → IsReleaseDue key.workers h
+      → Steps (job_of key) (room_of key) slots id
+      (v, (flag_at key.workers, Slots.Shop h.book) ∷ (flag_at key.workers + 1, Slots.Book (reserved h.book (room_of key))) ∷ xs) (flag_at key.workers) (λ y. 0)
+      (λ y. plays.released_both (step slots (flag_at key.workers) 0 0 none)
+      (v, (flag_at key.workers, Slots.Shop h.book) ∷ (flag_at key.workers + 1, Slots.Book (reserved h.book (room_of key))) ∷ xs) 0)
+      (λ before found after. Makes (job_of key) k Release before after)
+  -- it leaves where it finds its status served
+  pub leave : v.call ≡ Out → v.hold ≡ None
+      → Steps (job_of key) (room_of key) slots id (v, xs) k (λ y. either (eqb y 3) 0 y)
+      (plays.left (step slots k 3 0 none) (v, xs)) (TryMakes 3 (LeaveMakes (job_of key) k))
+  -- the looks, the stop and the look before a publish are no events
+  pub root_done : Steps (job_of key) (room_of key) slots id (v, xs) (node_at key.workers 0) (λ y. y)
+      (plays.looked_at_root (step slots (node_at key.workers 0) 0 0 none) (v, xs)) Stays
+  pub since : Steps (job_of key) (room_of key) slots id (v, xs) (count_at key.workers) (λ y. y)
+      (plays.heard (step slots (count_at key.workers) 0 0 none) (v, xs)) Stays
+  pub stop : Steps (job_of key) (room_of key) slots id (v, xs) (stop_at key.workers) (λ y. 1)
+      (λ y. plays.stopped_all (step slots (stop_at key.workers) 1 0 none) (v, xs) 1) Stays
+  pub stopped : Steps (job_of key) (room_of key) slots id (v, xs) (stop_at key.workers) (λ y. y)
+      (plays.looked_at_stop (step slots (stop_at key.workers) 0 0 none) (v, xs)) Stays
+  pub admit : Steps (job_of key) (room_of key) slots id (v, xs) (count_at key.workers) (λ y. y)
+      (plays.admitted (step slots (count_at key.workers) 0 0 none) (v, xs)) Stays

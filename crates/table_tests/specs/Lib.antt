@@ -1,0 +1,2 @@
+-- What the tests of the table say of its passes.
+pub mod Tables

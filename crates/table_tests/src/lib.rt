@@ -1,0 +1,10 @@
+//! Tests of the running table, through its public calls alone.
+//!
+//! What each call makes is proved for every table that meets the rule; the rows here show that the calls can be made one
+//! after another as their conditions ask, and that a table is made and closed with ample memory.
+#![tactic(auto)]
+
+#[cfg(test)]
+mod claims;
+#[cfg(test)]
+mod passes;

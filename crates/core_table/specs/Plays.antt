@@ -14,7 +14,7 @@ use Rattle.core_table.specs.Words.{flag_at, count_at, stop_at, node_at, mark_at}
 use Rattle.core_table.specs.Batches.{IsPublishDue}
 use Rattle.batcher_core.specs.Entries.{StandsAt}
 use Rattle.core_table.specs.Shows.{record_in, entry_of, reserved, IsFront}
-use Rattle.core_table.specs.Views.{with_task, claiming, refusing, ticked, opening, keeping, seeing_done, seeing_undone, hearing, enrolling, posting, winning, losing, taken_view, passed_view, published_view, answered_view, with_hold, releasing, leaving, staying, stopping, finding_stop, finding_none}
+use Rattle.core_table.specs.Views.{with_task, claiming, refusing, ticked, opening, keeping, seeing_done, seeing_undone, hearing, enrolling, posting, winning, losing, taken_view, passing, published_view, answered_view, with_hold, releasing, leaving, staying, stopping, finding_stop, finding_none}
 
 -- a view, and the slots that the seat holds
 abbrev pub Sat : Type 0
@@ -95,7 +95,7 @@ abbrev pub took : Play
 took st m r n =
     (h : HoldView) × (m.0.hold ≡ Some h) × (h.published ≡ false)
     × (r ≡ 1 → (call : OpRecord) × IsNewCall m.0.room h call × (n ≡ (with_hold m.0 (taken_view h st.word call), (st.word, Slots.Record call) ∷ m.1)))
-    × (r ≢ 1 → n ≡ (with_hold m.0 (passed_view h), m.1))
+    × (r ≢ 1 → n ≡ (passing m.0 h r, m.1))
 
 -- the batch that is due has room, and the book stays a history with it
 abbrev pub admitted : Play
@@ -129,4 +129,4 @@ left st m r n =
     × ((book : List (List Entry)) × IsFront m.0.book_seen book
     × StandsAt book receipt.batch receipt.place (entry_of m.0.from (record { call = call; receipt = receipt }))
     × (n ≡ (leaving m.0 call receipt book, (st.word, Slots.Receipt receipt) ∷ m.1))))
-    × (r ≢ 3 → n ≡ (staying m.0, m.1)) × (st.word ≡ m.0.from)
+    × (r ≢ 3 → n ≡ (staying m.0 r, m.1)) × (st.word ≡ m.0.from)

@@ -30,6 +30,7 @@ newcomer workers nodes room = record {
   wins = 0;
   refused_wins = 0;
   refused_leaves = 0;
+  found = 0;
   stops = 0;
   stop_looks = 0;
   stops_found = 0;
@@ -165,6 +166,10 @@ answered_view h u = record h { answered = u ∷ h.answered; owed = without_first
 abbrev pub with_hold : View → HoldView → View
 with_hold v h = record v { hold = Some h; just_posted = false }
 
+-- a look that takes none, and the status that it found
+abbrev pub passing : View → HoldView → ℕ → View
+passing v h status = record v { hold = Some (passed_view h); found = status; just_posted = false }
+
 abbrev pub releasing : View → View
 releasing v = record v { hold = None; just_posted = false }
 
@@ -177,5 +182,6 @@ leaving v call receipt book = record v {
   just_posted = false;
 }
 
-abbrev pub staying : View → View
-staying v = record v { refused_leaves = v.refused_leaves + 1; just_posted = false }
+-- or finds another status, and stays
+abbrev pub staying : View → ℕ → View
+staying v status = record v { refused_leaves = v.refused_leaves + 1; found = status; just_posted = false }

@@ -10,7 +10,7 @@ ghost use Rattle.core_table.specs.Shows.{IsRecordOf, record_in, among, entry_of,
 ghost use Rattle.batcher_core.specs.Entries.{StandsAt};
 ghost use Rattle.core_table.specs.Passes.{IsPassOf, job_in, view, IsTrapped};
 ghost use Rattle.core_table.specs.Batches.{IsPublishDue, IsReleaseDue};
-ghost use Rattle.core_table.specs.Views.{posting, winning, losing, leaving, staying, releasing, with_hold, taken_view, passed_view, published_view, answered_view};
+ghost use Rattle.core_table.specs.Views.{posting, winning, losing, leaving, staying, releasing, with_hold, taken_view, passing, published_view, answered_view};
 ghost use Rattle.core_table.specs.Plays.{IsNewCall};
 
 use crate::laws::laws_hold;
@@ -78,7 +78,7 @@ impl CoreTable {
             × ((view pass.old).before ≤ receipt.batch)
             × ((since : ℕ) → (view pass.old).after ≡ Some since → receipt.batch ≤ since + 1)) }
         ensures stays { IfErr result (λ seen. (seen ≢ 3)
-            × (view pass.new ≡ staying (view pass.old))) }
+            × (view pass.new ≡ staying (view pass.old) seen)) }
     {
         laws_hold();
         let shared = &self.table.shared;
@@ -107,7 +107,7 @@ impl CoreTable {
             × (view pass.new ≡ with_hold (view pass.old) (taken_view h u call))) }
         ensures passed { IfErr result (λ seen. (seen ≢ 1)
             × ((h : HoldView) × ((view pass.old).hold ≡ Some h)
-            × (view pass.new ≡ with_hold (view pass.old) (passed_view h)))) }
+            × (view pass.new ≡ passing (view pass.old) h seen))) }
     {
         laws_hold();
         let shared = &self.table.shared;

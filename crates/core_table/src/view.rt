@@ -64,6 +64,8 @@ pub struct View {
     pub wins: u64,
     pub refused_wins: u64,
     pub refused_leaves: u64,
+    /// The status that it found last where its leave was refused, or where its look took no call.
+    pub found: u64,
     /// How often it set the stop word, how often it looked at it, and how often it then found it set.
     pub stops: u64,
     pub stop_looks: u64,

@@ -15,7 +15,7 @@ use Rattle.batch_history.specs.Reserved.{ReservedView}
 use Rattle.core_table.specs.declared.slot.OpRecord.{OpRecord}
 use Rattle.batch_history.specs.declared.batch.Entry.{Entry}
 use Rattle.core_table.specs.Plays.{Sat}
-use Rattle.core_table.specs.Views.{without_first, posting, winning, with_hold, taken_view, passed_view, published_view, answered_view, releasing}
+use Rattle.core_table.specs.Views.{without_first, posting, winning, with_hold, taken_view, passed_view, passing, published_view, answered_view, releasing}
 use Rattle.core_table.specs.Carries.{vacant, HolderCarries, Carries}
 use Rattle.core_table.specs.Remembers.{Remembers}
 use Rattle.core_table.proofs.ListLemmas.Owed.{remembers_kept}
@@ -112,9 +112,9 @@ carries_took k u v h call xs out is early m =
           (ap (λ l. l ++ (u, Slots.Vacant) ∷ []) was ∙ rw map-append refl));
     }
 
-pub carries_passed : (k : ℕ) (v : View) (h : HoldView) (xs : List (ℕ × Slot)) → v.call ≡ Out → v.hold ≡ Some h → Carries k (v, xs) → Carries k (with_hold v (passed_view h), xs)
-carries_passed k v h xs out is m =
-    let w : View = with_hold v (passed_view h) in record {
+pub carries_passed : (k : ℕ) (v : View) (h : HoldView) (status : ℕ) (xs : List (ℕ × Slot)) → v.call ≡ Out → v.hold ≡ Some h → Carries k (v, xs) → Carries k (passing v h status, xs)
+carries_passed k v h status xs out is m =
+    let w : View = passing v h status in record {
       free = λ ne. absurd (ne out);
       trapped = λ _ e. absurd (cc);
       holds = λ g f. subst (λ (z : HoldView). HolderCarries z.published w z xs) (same_hold _ g f) (elim h.published as (λ (b : Bool). HolderCarries b v h xs → HolderCarries b w (passed_view h) xs) [ false ↦ λ y. y | true ↦ λ y. y ] (m.holds h is));

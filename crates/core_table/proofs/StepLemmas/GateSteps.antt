@@ -348,10 +348,10 @@ module _ (job : CoreJob) (room : ℕ) (laws : Laws job) (slots id : ℕ) (v : Vi
         ),
       ))
       (λ ne. (
-        V.staying v,
+        V.staying v word,
         keeps,
         tt,
-        missed word 3 (LeaveMakes job k) ne (looked job room t o id k k v (V.staying v) me from to from to
+        missed word 3 (LeaveMakes job k) ne (looked job room t o id k k v (V.staying v word) me from to from to
             (λ own. record { sits = own.sits; task = own.task; call = own.call; posted = own.posted; entries = own.entries; hold = own.hold; new = own.new; done = own.done; seen = own.seen; since = record { most = own.since.most; early = own.since.early; late = own.since.late; placed = own.since.placed; waits = own.since.waits } })),
         ((λ three. absurd (ne three)), (λ _. refl), sym from),
       ))
@@ -418,7 +418,7 @@ module _ (job : CoreJob) (room : ℕ) (laws : Laws job) (slots id : ℕ) (v : Vi
       (λ ne.
       let other_status : is_pending (s.status u) ≡ false = other_word (s.status u) (λ e. ne (o.words.statuses u low ∙ e)) in
       let h' = V.passed_view h in
-      let w : View = V.with_hold v h' in
+      let w : View = V.passing v h word in
       let new : State = record s { hold = Some (hold_of k h') } in
       let happens : Happens job s k (Take u) new = record { worker_in = m.0; needs = (hold_of k h, (held, refl), next, low); does = take_passes s k u h held other_status } in (
         w,
@@ -433,7 +433,7 @@ module _ (job : CoreJob) (room : ℕ) (laws : Laws job) (slots id : ℕ) (v : Vi
               shop = subst (λ (z : Maybe Hold). ShopAt z s.book (get_elem? t.homes P)) held o.slots.shop;
               batches = subst (λ (z : Maybe Hold). BookAt room z s.book (get_elem? t.homes (P + 1))) held o.slots.batches;
             }
-            (λ own. through job laws s new k k (Take u) v w (get_elem? t.homes k) (get_elem? t.homes k) (o.seat k) id o.parts happens refl refl refl (λ d. d) (λ e _. e) (again h') (refl, known.1, known.2, known.3) own)
+            (λ own. through job laws s new k k (Take u) v w (get_elem? t.homes k) (get_elem? t.homes k) (o.seat k) id o.parts happens refl refl refl (λ d. d) (λ e _. e) record { task = refl; call = refl; posted = refl; left = refl; enrolled = refl; saw_done = refl; greatest = refl; before = refl; after = refl; book_seen = refl } (refl, known.1, known.2, known.3) own)
             (λ i x y low' ne' other. through job laws s new k x (Take u) y y (get_elem? t.homes x) (get_elem? t.homes x) (o.seat x) i o.parts happens refl refl refl (λ d. d) (λ e _. e) (told_again y)
             (hold_others job s new k x (hold_of k h) (hold_of k h') ne' held refl refl refl y.hold other.hold) other),
         (h, holds, unpublished, (λ one. absurd (ne one)), λ _. refl),

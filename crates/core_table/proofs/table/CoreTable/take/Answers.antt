@@ -8,7 +8,7 @@ use Rattle.core_table.specs.declared.view.HoldView.{HoldView}
 use Rattle.core_table.specs.Remembers.{Owes}
 use Rattle.core_table.proofs.ListLemmas.Owed.{remembers_hold, owes_passed, owes_taken}
 use Rattle.core_table.proofs.PassLemmas.PassKept.{same_hold}
-use Rattle.core_table.specs.Views.{with_hold, taken_view, passed_view}
+use Rattle.core_table.specs.Views.{passing, with_hold, taken_view, passed_view}
 use Rattle.core_table.proofs.StepLemmas.GateSteps.{looks}
 use Rattle.core_table.proofs.table.CoreTable.take.Goals as goal
 
@@ -30,10 +30,10 @@ exchange-slot-requires c =
 pub returns-then-seen-ne1-clause-pass : goal.returns-then-seen-ne1-clause-pass
 returns-then-seen-ne1-clause-pass c =
     let old = c.args.pass.now.seat in let e = c.compare_exchange-seen.ensures.2 in
-    let w = with_hold old.me.0 (passed_view e.0) in
+    let w = passing old.me.0 e.0 c.compare_exchange-seen.result in
     let out : old.me.0.call ≡ Out = c.requires.trapped in
     pass_made c.args.self.now.setting _ c.args.pass.now.worker old c.compare_exchange-seen.new.seat w old.me.1 c.compare_exchange-seen.ensures.0 (e.4 c.if-seen-ne1.true) refl refl refl refl refl
-    (carries_passed c.args.pass.now.worker old.me.0 e.0 old.me.1 out e.1 c.requires.pass.7)
+    (carries_passed c.args.pass.now.worker old.me.0 e.0 c.compare_exchange-seen.result old.me.1 out e.1 c.requires.pass.7)
     (let m = c.requires.pass.8.holds e.0 e.1 in remembers_hold w _ _ (passed_view e.0) refl m.0 m.1 (owes_passed e.0 m.2)) c.requires.pass
 
 pub returns-clause-pass : goal.returns-clause-pass

@@ -7,7 +7,7 @@ ghost use Rattle.batch_history.specs.Text.{report_text};
 ghost use Rattle.batchrun.specs.Words.{command_of, spelled, file_of, IsStep};
 ghost use Rattle.batchrun.specs.Lines.{fault_line};
 ghost use Rattle.batchrun.specs.Outcomes.{Prints, HoldsJob, IsUnlessMemory, TextFits, FailsPast, Tells};
-ghost use Rattle.batchrun.specs.Commands.{Runs, Driven};
+ghost use Rattle.batchrun.specs.Commands.{Runs, Driven, HasCause, Completes};
 
 use crate::outcome::Outcome;
 use crate::program::run_step;
@@ -37,6 +37,12 @@ pub fn step_in_memory(
         report_text result.status result.report (Some out.old.taken) (Some out.new.taken) }
     ensures driven { IfSome result.report
         (Driven (command_of (spelled words.now)) (file_named shelf.old.files)) }
+    ensures cause { ForSome (command_of (spelled words.now))
+        (λ c. HasCause c (file_named shelf.old.files) result.status
+        (Rose shelf.old.faults shelf.new.faults) (Rose out.old.faults out.new.faults)) }
+    ensures completes { ForSome (command_of (spelled words.now))
+        (λ c. Completes c (file_named shelf.old.files) result.status
+        (Rose shelf.old.faults shelf.new.faults) (Rose out.old.faults out.new.faults)) }
     ensures tells { Tells (fault_line result.status) (Some err.old.taken) (Some err.new.taken)
         (Rose err.old.faults err.new.faults) }
 {

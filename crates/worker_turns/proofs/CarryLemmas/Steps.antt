@@ -1,0 +1,86 @@
+-- One step after another of a task that is carried on.
+use Rattle.std.proofs.Common.{◌≡◌, ℕ, ◌+◌, List, [], ◌++◌, length, sym, refl, ap, ◌∙◌, arith, append_assoc, append-nil, length-append}
+use Rattle.two_deques.specs.Ends.{HeldEnds}
+use Rattle.worker_turns.specs.Words.{Task, CallState}
+use Rattle.worker_turns.specs.Passes.{PassSeen, IsFront}
+use Rattle.worker_turns.specs.Workers.{MeSeen}
+use Rattle.worker_turns.specs.Pieces.{Desk, Works}
+use Rattle.worker_turns.specs.Trapped.{IsJobSame}
+use Rattle.worker_turns.specs.Free.{Helps, Carried}
+
+pub helps_none : (d : Desk) → Helps d d
+helps_none d = record { given = []; gave = sym (append-nil _); finishes = omega arith }
+
+pub helps_then : (a b c : Desk) → Helps a b → Helps b c → Helps a c
+helps_then a b c v w = record {
+  given = v.given ++ w.given;
+  gave = w.gave ∙ ap (λ l. l ++ w.given) v.gave ∙ append_assoc a.given v.given w.given;
+  finishes = (let p = v.finishes in let q = w.finishes in let l = length-append v.given w.given in omega (arith, p, q, l));
+}
+
+pub helps_works : (a b : Desk) → Works 0 a b → Helps a b
+helps_works a b w = record { given = w.given; gave = ap (λ (d : Desk). d.given) w.is; finishes = ap (λ (d : Desk). d.finishes) w.is }
+
+front_none : {A : Type 0} (xs ys : List A) → ys ≡ xs → IsFront xs ys
+front_none xs ys is = ([], is ∙ sym (append-nil _))
+
+core_none : (a b : HeldEnds ℕ) → b ≡ a → b ≡ record a { own = a.own ++ []; pushes = a.pushes + 0 }
+core_none a b is =
+    let none : a.pushes ≡ a.pushes + 0 = omega arith in
+    is ∙ (λ i. record a { own = sym (append-nil a.own) i; pushes = none i })
+
+-- a step that opens nothing
+pub carried_call : (old new : MeSeen) → IsJobSame old.pass new.pass → IsFront old.pass.book_seen new.pass.book_seen → new.core ≡ old.core → Helps old.desk new.desk → Carried old new
+carried_call old new job longer core desk = record {
+  nodes = [];
+  opened = job.opened ∙ sym (append-nil _);
+  core = core_none old.core new.core core;
+  worker = job.worker;
+  claims = job.claims;
+  claimed = job.claimed;
+  refused = job.refused;
+  longer = longer;
+  found = job.found;
+  stops = job.stops;
+  desk = desk;
+}
+
+pub carried_step : (old new : MeSeen) (task : Task) (call : CallState) → new.pass ≡ record old.pass { task = task; call = call } → new.core ≡ old.core → new.desk ≡ old.desk → Carried old new
+carried_step old new task call is core desk = record {
+  nodes = [];
+  opened = ap (λ (p : PassSeen). p.opened) is ∙ sym (append-nil _);
+  core = core_none old.core new.core core;
+  worker = ap (λ (p : PassSeen). p.worker) is;
+  claims = ap (λ (p : PassSeen). p.claims) is;
+  claimed = ap (λ (p : PassSeen). p.claimed) is;
+  refused = ap (λ (p : PassSeen). p.refused_nodes) is;
+  longer = front_none _ _ (ap (λ (p : PassSeen). p.book_seen) is);
+  found = ap (λ (p : PassSeen). p.stops_found) is;
+  stops = ap (λ (p : PassSeen). p.stops) is;
+  desk = record { given = []; gave = ap (λ (d : Desk). d.given) desk ∙ sym (append-nil _); finishes = (let f = ap (λ (d : Desk). d.finishes) desk in omega (arith, f)) };
+}
+
+pub carried_none : (old : MeSeen) → Carried old old
+carried_none old = carried_step old old old.pass.task old.pass.call refl refl refl
+
+-- steps after steps
+pub carried_then : (a b c : MeSeen) → Carried a b → Carried b c → Carried a c
+carried_then a b c v w = record {
+  nodes = v.nodes ++ w.nodes;
+  opened = w.opened ∙ ap (λ l. l ++ w.nodes) v.opened ∙ append_assoc a.pass.opened v.nodes w.nodes;
+  core = (let l = length-append v.nodes w.nodes in
+      let sum : a.core.pushes + length v.nodes + length w.nodes ≡ a.core.pushes + length (v.nodes ++ w.nodes) = omega (arith, l) in
+      w.core ∙ ap (λ (e : HeldEnds ℕ). record e { own = e.own ++ w.nodes; pushes = e.pushes + length w.nodes }) v.core
+      ∙ (λ i. record a.core {
+        own = append_assoc a.core.own v.nodes w.nodes i;
+        pushes = sum i;
+      }));
+  worker = w.worker ∙ v.worker;
+  claims = w.claims ∙ v.claims;
+  claimed = w.claimed ∙ v.claimed;
+  refused = w.refused ∙ v.refused;
+  longer = (v.longer.0 ++ w.longer.0, w.longer.1 ∙ ap (λ l. l ++ w.longer.0) v.longer.1 ∙ append_assoc a.pass.book_seen v.longer.0 w.longer.0);
+  found = w.found ∙ v.found;
+  stops = w.stops ∙ v.stops;
+  desk = helps_then a.desk b.desk c.desk v.desk w.desk;
+}

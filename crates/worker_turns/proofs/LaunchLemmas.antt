@@ -1,0 +1,4 @@
+pub mod Looking
+pub mod Answering
+pub mod Batches
+pub mod Launched

@@ -1,0 +1,66 @@
+-- The batch of a launch: how many entries and batches there are, and what is known of it.
+use Rattle.std.proofs.Common.{◌≡◌, ℕ, ◌≤◌, true, Option, None, Some, List, [], ◌∷◌, ◌++◌, length, get_or, sym, refl, ap, ◌∙◌, subst, arith, length-append}
+use Rattle.std.proofs.lemmas.List.{length-map}
+use Rattle.std.specs.List.{AllByRecursion}
+use Rattle.batch_history.specs.Book.{flat, IsBatch, IsHistory}
+use Rattle.batch_history.specs.Serving.{calls_in, call_in}
+use Rattle.launch_batch.specs.Calls.{MayServe, AreSame, IsServiceOf}
+use Rattle.worker_turns.specs.Words.{Call, Entry}
+use Rattle.worker_turns.specs.Holds.{HoldSeen, workers_in, after_publish}
+use Rattle.worker_turns.specs.Passes.{PassSeen, Holds, IsHeld, is_trapped, in_hold, publishing}
+use Rattle.worker_turns.specs.Code.Serving.{IsAnswerable, taken_hold, served_hold, after_answers, answered_all}
+
+same_length : {X : Type 0} (xs ys : List X) → AreSame xs ys → length ys ≡ length xs
+same_length [] ys same = ap (λ l. length l) same
+same_length (x ∷ xs) ys (before, later, split, rest) =
+    let n = same_length xs (before ++ later) rest in
+    let l = length-append before later in
+    let m = length-append before (x ∷ later) in
+    let whole = ap (λ l. length l) split in
+    omega (arith, n, l, m, whole)
+
+few_in : (number : ℕ) (batch : List Entry) (h : Option HoldSeen) → Holds (IsAnswerable number batch) h → length batch ≤ 20000
+few_in number batch None due = absurd due
+few_in number batch (Some h) due =
+    let same = same_length h.taken (calls_in batch) due.published.service.same in
+    let m = length-map batch call_in in
+    let most = due.published.may.most in
+    omega (arith, same, m, most)
+
+pub few_answers : (p : PassSeen) (number : ℕ) (batch : List Entry) → IsHeld p (IsAnswerable number batch) → length batch ≤ 20000
+few_answers p number batch held = few_in number batch p.hold held.1
+
+-- the batch that was published can be answered
+pub answerable : (p q r : PassSeen) (workers number : ℕ) (calls : List Call) (book : List (List Entry)) (batch entries : List Entry) → is_trapped p.call ≡ true
+    → p.hold ≡ Some (taken_hold workers calls book) → MayServe book calls → IsServiceOf book calls batch → q ≡ p → r ≡ publishing batch q
+    → number ≡ length book → entries ≡ batch → IsHeld r (IsAnswerable number entries)
+answerable p q r workers number calls book batch entries trapped hold may service same now is all = (
+  ap (λ (s : PassSeen). is_trapped s.call) now ∙ ap (λ (s : PassSeen). is_trapped s.call) same ∙ trapped,
+  subst (λ (es : List Entry). Holds (IsAnswerable number es) r.hold) (sym all)
+      (subst (Holds (IsAnswerable number batch)) (sym (ap (λ (s : PassSeen). s.hold) now ∙ ap (λ (s : PassSeen). (publishing batch s).hold) same ∙ ap (in_hold _) hold))
+      (record { before = book; published = record { published = refl; book = refl; may = may; service = service }; numbered = is; none = refl })),
+)
+
+-- no batch is empty, so there are no more batches than entries
+few_batches : (book : List (List Entry)) → AllByRecursion IsBatch book → length book ≤ length (flat book)
+few_batches [] h = omega arith
+few_batches ([] ∷ book) h = absurd (h.0.some refl)
+few_batches ((e ∷ es) ∷ book) h = let more = few_batches book h.1 in omega (arith, length-append es (flat book), more)
+
+pub few_before : (book : List (List Entry)) (calls : List Call) → IsHistory book → MayServe book calls → length book ≤ 20000
+few_before book calls history may =
+    let few = few_batches book history.batches in
+    let most = may.most in
+    omega (arith, few, most)
+
+pub last_at : {X : Type 0} (xs : List X) (x d : X) → get_or (xs ++ x ∷ []) (length xs) d ≡ x
+last_at [] x d = refl
+last_at (y ∷ xs) x d = last_at xs x d
+
+-- the hold once the batch is answered
+pub pass_served : (p q r s : PassSeen) (workers : ℕ) (calls : List Call) (book : List (List Entry)) (batch entries : List Entry) → p.hold ≡ Some (taken_hold workers calls book)
+    → q ≡ p → r ≡ publishing batch q → s ≡ answered_all (workers_in entries) r → entries ≡ batch
+    → s ≡ record p { hold = Some (served_hold workers calls batch book) }
+pass_served p q r s workers calls book batch entries hold same now answered all =
+    answered ∙ ap (λ (es : List Entry). answered_all (workers_in es) r) all ∙ ap (answered_all (workers_in batch)) (now ∙ ap (publishing batch) same)
+    ∙ (λ i. record p { hold = in_hold (after_answers (workers_in batch)) (in_hold (after_publish batch) (hold i)) })

@@ -1,0 +1,3 @@
+pub mod PieceLemmas
+pub mod LaunchLemmas
+pub mod CarryLemmas

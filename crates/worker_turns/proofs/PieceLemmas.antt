@@ -1,0 +1,5 @@
+pub mod Posting
+pub mod Working
+pub mod Collecting
+pub mod Met
+pub mod Served

@@ -1,0 +1,126 @@
+-- What a worker does at its desk while it waits, one thing after another.
+use Rattle.std.proofs.Common.{◌≡◌, ℕ, ◌+◌, ◌==◌, eq-eqb, true, None, List, [], ◌∷◌, ◌++◌, length, drop, sym, refl, ap, ◌∙◌, subst, inl, inr, arith, append_assoc, append-nil, length-append, ◌<◌, map, take, get_or}
+use Rattle.std.proofs.lemmas.List.{drop-drop, take_more, map-append}
+use Rattle.two_deques.specs.declared.spot.Spot.{Spot}
+use Rattle.seq_objects.specs.Orders.{StrictlyAscends}
+use Rattle.piece_board.specs.Entries.{without, entry_at}
+use Rattle.piece_board.specs.Desks.{number_of, after_claim, after_finish, after_refusal, after_collect, after_empty_collect, after_post, posted_at}
+use Rattle.worker_turns.proofs.PieceLemmas.Posting.{next_free}
+use Rattle.launch_batch.specs.declared.piece.PieceIn.{PieceIn}
+use Rattle.worker_turns.specs.declared.found.Tried.{Tried}
+use Rattle.worker_turns.specs.declared.found.Tried.TheVariants.{Ran, Dropped, Dry}
+use Rattle.launch_batch.specs.Pieces.{place_of}
+use Rattle.worker_turns.specs.Workers.{MeSeen}
+use Rattle.worker_turns.specs.Pieces.{IsOwnPiece, IsOtherPiece, Desk, with_place, after_posts, after_run, desk_after, after_works, Works}
+
+-- the first entry is gone
+pub first_gone : {A : Type 0} (n : ℕ) (x : A) (es : List (ℕ × A)) → without n ((n, x) ∷ es) ≡ es
+first_gone n x es = let hit : (n == n) ≡ true = eq-eqb n n refl in rw hit refl
+
+-- a piece that was claimed is finished
+pub claim_finished : (s : Spot) (x : PieceIn) (d : Desk) → after_finish s.row s.place (after_claim s.row s.place x d) ≡ after_run s d
+claim_finished s x d = λ i. record (after_run s d) { claims = first_gone (number_of s.row s.place) x d.claims i }
+
+-- the desk after so much, where some of it is said in another way
+after_is : (d e : Desk) (collected more finished : ℕ) (posted : List (ℕ × PieceIn)) (given refused : List (ℕ × ℕ)) (empty : ℕ)
+    → posted ≡ drop collected d.posted → more ≡ d.collects + collected → finished ≡ d.finishes + length given
+    → (given_now refused_now : List (ℕ × ℕ)) → given_now ≡ d.given ++ given → refused_now ≡ d.refused ++ refused
+    → e ≡ record d { posted = posted; collects = more; finishes = finished; given = given_now; refused = refused_now; empty_collects = empty }
+    → e ≡ after_works collected given refused empty d
+after_is d e collected more finished posted given refused empty p c f given_now refused_now g r is =
+    is ∙ (λ i. record d { posted = p i; collects = c i; finishes = f i; given = g i; refused = r i; empty_collects = empty })
+
+pub works_none : (d : Desk) → Works 0 d d
+works_none d = record {
+  given = [];
+  refused = [];
+  is = after_is d d 0 d.collects d.finishes d.posted [] [] d.empty_collects refl (omega arith) (omega arith) d.given d.refused (sym (append-nil _)) (sym (append-nil _)) refl;
+}
+
+-- one try after
+pub works_tried : (t : Tried) (d e : Desk) → e ≡ desk_after t d → Works 0 d e
+works_tried (Ran s) d e is = record {
+  given = (s.row, s.place) ∷ [];
+  refused = [];
+  is = after_is d e 0 d.collects (d.finishes + 1) d.posted _ [] e.empty_collects refl (omega arith) (omega arith) (d.given ++ (s.row, s.place) ∷ []) d.refused refl (sym (append-nil _))
+      (is ∙ ap (λ (n : ℕ). record (after_run s d) { empty_collects = n }) (sym (ap (λ (q : Desk). q.empty_collects) is)));
+}
+works_tried (Dropped s) d e is = record {
+  given = [];
+  refused = (s.row, s.place) ∷ [];
+  is = after_is d e 0 d.collects d.finishes d.posted [] _ e.empty_collects refl (omega arith) (omega arith) d.given (d.refused ++ (s.row, s.place) ∷ []) (sym (append-nil _)) refl
+      (is ∙ ap (λ (n : ℕ). record (after_refusal s.row s.place d) { empty_collects = n }) (sym (ap (λ (q : Desk). q.empty_collects) is)));
+}
+works_tried Dry d e is = subst (λ (q : Desk). Works 0 d q) (sym is) (works_none d)
+
+-- a look at a place that is not full
+pub works_empty : (d e : Desk) → e ≡ after_empty_collect d → Works 0 d e
+works_empty d e is = record {
+  given = [];
+  refused = [];
+  is = after_is d e 0 d.collects d.finishes d.posted [] [] e.empty_collects refl (omega arith) (omega arith) d.given d.refused (sym (append-nil _)) (sym (append-nil _))
+      (is ∙ ap (λ (n : ℕ). record d { empty_collects = n }) (sym (ap (λ (q : Desk). q.empty_collects) is)));
+}
+
+-- the first place is collected
+pub works_one : (d e : Desk) (n : ℕ) (x : PieceIn) (rest : List (ℕ × PieceIn)) → d.posted ≡ (n, x) ∷ rest → e ≡ after_collect n d → Works 1 d e
+works_one d e n x rest first is = record {
+  given = [];
+  refused = [];
+  is = after_is d e 1 (d.collects + 1) d.finishes (without n d.posted) [] [] e.empty_collects
+      (ap (without n) first ∙ first_gone n x rest ∙ sym (ap (drop 1) first)) refl (omega arith) d.given d.refused (sym (append-nil _)) (sym (append-nil _))
+      (is ∙ ap (λ (n' : ℕ). record (after_collect n d) { empty_collects = n' }) (sym (ap (λ (q : Desk). q.empty_collects) is)));
+}
+
+pub works_then : (m n : ℕ) (a b c : Desk) → Works m a b → Works n b c → Works (m + n) a c
+works_then m n a b c v w = record {
+  given = v.given ++ w.given;
+  refused = v.refused ++ w.refused;
+  is = after_is a c (m + n) (a.collects + m + n) (a.finishes + length v.given + length w.given) (drop n (drop m a.posted)) _ _ c.empty_collects
+      (drop-drop n m a.posted ∙ ap (λ (j : ℕ). drop j a.posted) (omega arith)) (omega arith)
+      (let l = length-append v.given w.given in omega (arith, l))
+      ((a.given ++ v.given) ++ w.given) ((a.refused ++ v.refused) ++ w.refused)
+      (append_assoc a.given v.given w.given) (append_assoc a.refused v.refused w.refused)
+      (w.is ∙ ap (after_works n w.given w.refused c.empty_collects) v.is);
+}
+
+pub works_more : (m n : ℕ) (a b c : Desk) → Works m a b → Works n b c → (k : ℕ) → k ≡ m + n → Works k a c
+works_more m n a b c v w k is = subst (λ (j : ℕ). Works j a c) (sym is) (works_then m n a b c v w)
+
+-- nothing is posted yet
+pub posted_none : (d : Desk) → d.posted ≡ [] → d ≡ after_posts [] d
+posted_none d free = λ i. record d { posted = free i; posts = sym (append-nil d.posts) i }
+
+-- one more piece is posted
+pub posted_more : (d e f : Desk) (ins : List PieceIn) (k n : ℕ) (x : PieceIn) → k < length ins → x ≡ get_or ins k x → n ≡ place_of x
+    → e ≡ after_posts (take k ins) d → f ≡ after_post n x e → f ≡ after_posts (take (k + 1) ins) d
+posted_more d e f ins k n x inside at is was now =
+    let more : take (k + 1) ins ≡ take k ins ++ x ∷ [] = take_more ins k x inside ∙ ap (λ y. take k ins ++ y ∷ []) (sym at) in
+    now ∙ ap (after_post n x) was ∙ ap (λ (m : ℕ). after_post m x (after_posts (take k ins) d)) is
+    ∙ (λ i. record d {
+      posted = sym (map-append with_place (take k ins) (x ∷ [])) i;
+      posts = (append_assoc d.posts (map place_of (take k ins)) (place_of x ∷ []) ∙ ap (λ l. d.posts ++ l) (sym (map-append place_of (take k ins) (x ∷ [])))) i;
+    })
+    ∙ ap (λ l. after_posts l d) (sym more)
+
+-- the own deque of pieces was tried once
+pub own_works : (t : Tried) (a b : MeSeen) → IsOwnPiece t a b → Works 0 a.desk b.desk
+own_works t a b path = works_tried t a.desk b.desk (ap (λ (m : MeSeen). m.desk) path.same)
+
+pub own_core : (t : Tried) (a b : MeSeen) → IsOwnPiece t a b → b.core ≡ a.core
+own_core t a b path = ap (λ (m : MeSeen). m.core) path.same
+
+-- another's was tried once, if there is one
+pub other_works : (t : Tried) (a b : MeSeen) → IsOtherPiece t a b → Works 0 a.desk b.desk
+other_works t a b (inl alone) = subst (λ (m : MeSeen). Works 0 a.desk m.desk) (sym alone.2) (works_none a.desk)
+other_works t a b (inr stolen) = works_tried t a.desk b.desk (ap (λ (m : MeSeen). m.desk) stolen.same)
+
+pub other_core : (t : Tried) (a b : MeSeen) → IsOtherPiece t a b → b.core ≡ a.core
+other_core t a b (inl alone) = ap (λ (m : MeSeen). m.core) alone.2
+other_core t a b (inr stolen) = ap (λ (m : MeSeen). m.core) stolen.same
+
+-- the next place is free
+pub free_next : (d e : Desk) (ins : List PieceIn) (k n : ℕ) (x : PieceIn) → StrictlyAscends (map place_of ins) → k < length ins → x ≡ get_or ins k x → n ≡ place_of x
+    → e ≡ after_posts (take k ins) d → posted_at n e ≡ None
+free_next d e ins k n x up inside at is was =
+    ap (λ (q : Desk). posted_at n q) was ∙ ap (λ (m : ℕ). entry_at m (map with_place (take k ins))) is ∙ next_free place_of ins k x up inside at

@@ -1,0 +1,24 @@
+use Rattle.std.proofs.Common.{◌≡◌, Some, []}
+use Rattle.two_deques.specs.Hands.{held}
+use Rattle.piece_board.specs.Boards.{desk_view}
+use Rattle.worker_turns.specs.Passes.{IsTrapped}
+use Rattle.worker_turns.specs.Workers.{IsMeOf}
+use Rattle.worker_turns.specs.Trapped.{IsJobSame}
+use Rattle.worker_turns.specs.Free.{Helps}
+use Rattle.worker_turns.proofs.calling.call.Given as goal
+
+abbrev pub invariant-loop : goal.invariant-loop
+invariant-loop g l = record {
+  me : IsMeOf (g.T.Table.gave l.crew.table) g.T.Table.seen l.crew.decks l.crew.board l.me;
+  trapped : IsTrapped (g.T.Table.seen l.me.pass);
+  job : IsJobSame (g.T.Table.seen l.fn.me.pass) (g.T.Table.seen l.me.pass);
+  posted : (g.T.Table.seen l.me.pass).posted ≡ Some (l.fn.leaf, l.fn.op);
+  left : (g.T.Table.seen l.me.pass).left ≡ (g.T.Table.seen l.fn.me.pass).left;
+  book : (g.T.Table.seen l.me.pass).book_seen ≡ (g.T.Table.seen l.fn.me.pass).book_seen;
+  before : (g.T.Table.seen l.me.pass).before ≡ (g.T.Table.seen l.fn.me.pass).greatest;
+  after : (g.T.Table.seen l.me.pass).after ≡ Some l.since;
+  first : (g.T.Table.seen l.me.pass).first_since ≡ Some l.since;
+  free : (desk_view l.me.desk).posted ≡ [];
+  core : (held l.me.hand).core ≡ (held l.fn.me.hand).core;
+  desk : Helps (desk_view l.fn.me.desk) (desk_view l.me.desk);
+}

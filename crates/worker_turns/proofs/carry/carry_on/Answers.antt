@@ -1,0 +1,10 @@
+use Rattle.worker_turns.proofs.CarryLemmas.Steps.{carried_none}
+use Rattle.worker_turns.proofs.carry.carry_on.Goals as goal
+
+pub loop-init : goal.loop-init
+loop-init g c = record {
+  me = c.requires.me;
+  free_pass = c.requires.free_pass;
+  free = c.requires.free;
+  carried = carried_none _;
+}

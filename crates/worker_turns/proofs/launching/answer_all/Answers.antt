@@ -1,0 +1,23 @@
+use Rattle.std.proofs.Common.{refl, arith}
+use Rattle.std.proofs.lemmas.Option.{slice_get-get_or}
+use Rattle.worker_turns.proofs.LaunchLemmas.Answering.{answer_due, answered_more, entry_at_itself}
+use Rattle.worker_turns.proofs.LaunchLemmas.Batches.{few_answers}
+use Rattle.worker_turns.proofs.launching.answer_all.Goals as goal
+
+pub answer-requires-clause-held : goal.answer-requires-clause-held
+answer-requires-clause-held g c =
+    answer_due (g.T.Table.seen c.args.pass.now) _ c.args.number c.loop-place.place c.args.batch.now _ _
+    (slice_get-get_or c.args.batch.now c.loop-place.place _ c.loop-place-test.true) refl c.requires.published c.loop-place.invariant.seen
+
+pub loop-place-preserved : goal.loop-place-preserved
+loop-place-preserved g c = record {
+  pass = c.answer.ensures.pass;
+  seen = answered_more (g.T.Table.seen c.args.pass.now) _ _ c.loop-place.place c.args.batch.now _ c.loop-place-test.true
+      (entry_at_itself c.args.batch.now c.loop-place.place _ c.loop-place-test.true) c.loop-place.invariant.seen c.answer.ensures.answered;
+  inside = omega (arith, c.loop-place-test.true);
+}
+
+pub overflow_cast-receipt : goal.overflow_cast-receipt
+overflow_cast-receipt g c =
+    let few = few_answers (g.T.Table.seen c.args.pass.now) c.args.number c.args.batch.now c.requires.published in
+    omega (arith, few, c.loop-place-test.true)

@@ -1,0 +1,40 @@
+use Rattle.std.proofs.Common.{rules, ◌≡◌, List, length, map, ap, arith}
+use Rattle.worker_turns.specs.Words.{Entry}
+use Rattle.seq_objects.specs.Pieces.{BatchContext}
+use Rattle.launch_batch.specs.declared.piece.PieceIn.{PieceIn}
+use Rattle.launch_batch.specs.Pieces.{place_of}
+use Rattle.worker_turns.proofs.LaunchLemmas.Batches.{few_before, answerable, pass_served, last_at}
+use Rattle.worker_turns.proofs.launching.serve_batch.Goals as goal
+
+pub overflow_cast-number : goal.overflow_cast-number
+overflow_cast-number g c =
+    let book : c.batches-number.result.now ≡ c.args.shop = search rules in
+    let few = few_before c.args.shop c.args.calls.items (search rules) c.requires.may in
+    let long = ap (λ (l : List (List Entry)). length l) book in
+    omega (arith, few, long)
+
+pub answer_all-requires-clause-published : goal.answer_all-requires-clause-published
+answer_all-requires-clause-published g c =
+    let o : BatchContext (List (List Entry)) PieceIn = record { before = c.args.shop; calls = c.args.calls.items; ins = c.in_ok-opened.ins.items } in
+    let book : c.batches-number.result.now ≡ c.args.shop = search rules in
+    let grown = c.in_ok-shop.ensures.history o c.in_ok-opened.ensures.context c.in_ok-outs.ensures.meet in
+    let all : c.entries-entries.result.now ≡ c.in_ok-shop.batch = search (rules, last_at, book, grown) in
+    answerable (g.T.Table.seen c.args.me.now.pass) _ _ _ _ c.args.calls.items c.args.shop c.in_ok-shop.batch _ c.requires.trapped c.requires.hold c.requires.may
+    (c.in_ok-shop.ensures.batch o c.in_ok-opened.ensures.context c.in_ok-outs.ensures.meet) c.in_ok-outs.ensures.seen c.publish.ensures.published
+    (ap (λ (l : List (List Entry)). length l) book) all
+
+pub returns-clause-batch : goal.returns-clause-batch
+returns-clause-batch g c =
+    let o : BatchContext (List (List Entry)) PieceIn = record { before = c.args.shop; calls = c.args.calls.items; ins = c.in_ok-opened.ins.items } in
+    let book : c.batches-number.result.now ≡ c.args.shop = search rules in
+    let grown = c.in_ok-shop.ensures.history o c.in_ok-opened.ensures.context c.in_ok-outs.ensures.meet in
+    let all : c.entries-entries.result.now ≡ c.in_ok-shop.batch = search (rules, last_at, book, grown) in record {
+      batch = c.in_ok-shop.batch;
+      posted = map place_of c.in_ok-opened.ins.items;
+      service = c.in_ok-shop.ensures.batch o c.in_ok-opened.ensures.context c.in_ok-outs.ensures.meet;
+      places = c.in_ok-opened.ensures.places;
+      grown = grown;
+      pass = pass_served (g.T.Table.seen c.args.me.now.pass) _ _ _ _ c.args.calls.items c.args.shop c.in_ok-shop.batch _ c.requires.hold c.in_ok-outs.ensures.seen c.publish.ensures.published c.answer_all.ensures.answered all;
+      desk = c.in_ok-outs.ensures.desk;
+      core = c.in_ok-outs.ensures.core;
+    }

@@ -1,0 +1,16 @@
+use Rattle.std.proofs.Common.{refl, ◌∙◌}
+use Rattle.worker_turns.proofs.PieceLemmas.Working.{works_none, works_more, own_works, own_core}
+use Rattle.worker_turns.proofs.pieces.serving.run_own.Goals as goal
+
+pub loop-init : goal.loop-init
+loop-init g c = record { me = c.requires.me; core = refl; pass = refl; desk = works_none _ }
+
+pub loop-preserved : goal.loop-preserved
+loop-preserved g c =
+    let i = c.loop.invariant in
+    let path = c.in_ok-own_piece.ensures.path in record {
+      me = c.in_ok-own_piece.ensures.me;
+      core = own_core _ _ _ path ∙ i.core;
+      pass = c.own_piece.ensures.pass ∙ i.pass;
+      desk = works_more 0 0 _ _ _ i.desk (own_works _ _ _ path) 0 refl;
+    }

@@ -1,0 +1,8 @@
+use Rattle.std.proofs.Common.{◌∙◌}
+use Rattle.worker_turns.proofs.PieceLemmas.Served.{if_serves}
+use Rattle.worker_turns.proofs.pieces.serving.serve_pieces.Goals as goal
+
+pub returns-clause-desk : goal.returns-clause-desk
+returns-clause-desk g c =
+    if_serves c.collect_all.result _ _ _ _ c.args.ins.items _ c.in_ok-places.ensures.desk c.in_ok-run_own.ensures.desk c.collect_all.ensures.desk
+    (c.deref.ensures.value ∙ c.in_ok-places.ensures.places)

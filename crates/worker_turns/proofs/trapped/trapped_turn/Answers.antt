@@ -1,0 +1,23 @@
+use Rattle.std.proofs.Common.{rules, ◌≡◌, subst}
+use Rattle.worker_turns.specs.Passes.{PassSeen, losing, staying}
+use Rattle.worker_turns.specs.Workers.{me_seen}
+use Rattle.worker_turns.specs.Pieces.{IsOwnPiece, IsOtherPiece}
+use Rattle.worker_turns.proofs.PieceLemmas.Working.{own_works, other_works}
+use Rattle.worker_turns.proofs.CarryLemmas.Steps.{helps_then, helps_works}
+use Rattle.worker_turns.proofs.trapped.trapped_turn.Goals as goal
+
+pub returns : goal.returns
+returns g c =
+    let old = me_seen g.T.Table.seen c.args.me.now in
+    let tried = me_seen g.T.Table.seen c.own_piece.new.me in
+    let own = subst (λ (p : PassSeen). IsOwnPiece c.in_ok-own.own (record old { pass = p }) tried) (c.stopped.ensures.unset c.if-stopped.false) c.in_ok-own.ensures.path in
+    let refused : g.T.Table.seen c.win.new.pass ≡ losing (staying (g.T.Table.seen c.own_piece.new.me.pass)) = search rules in
+    let other = subst (λ (p : PassSeen). IsOtherPiece c.in_ok-other.other (record tried { pass = p }) (me_seen g.T.Table.seen c.other_piece.new.me)) refused c.in_ok-other.ensures.path in record {
+      me = c.in_ok-other.ensures.me;
+      path = (c.in_ok-own.own, c.in_ok-other.other, tried, search rules, search rules, own, other);
+      stays = search rules;
+      free = search rules;
+      core = search rules;
+      helps = helps_then _ _ _ (helps_works _ _ (own_works _ _ _ own)) (helps_works _ _ (other_works _ _ _ other));
+      stopped = search rules;
+    }

@@ -1,0 +1,87 @@
+-- What each answer of a free worker's turn says: the path that it took. A task that is refused ends the turn.
+use Rattle.std.specs.Prelude.{ℕ, ◌≡◌, ◌⊎◌, ◌+◌, Option, None, Some, List, ◌++◌, length}
+use Rattle.two_deques.specs.declared.spot.Spot.{Spot}
+use Rattle.two_deques.specs.declared.tries.Deck.TheVariants.{CoreDeck, BatchDeck}
+use Rattle.two_deques.specs.Tries.{try_of, after_try}
+use Rattle.worker_turns.specs.declared.found.Tried.TheVariants.{Ran, Dropped, Dry}
+use Rattle.worker_turns.specs.declared.found.Found.{Found}
+use Rattle.worker_turns.specs.declared.found.Found.TheVariants.{Claimed, Refused, NoNode}
+use Rattle.worker_turns.specs.declared.found.Other.{Other}
+use Rattle.worker_turns.specs.declared.found.Other.TheVariants.{Alone, Node, Piece}
+use Rattle.worker_turns.specs.declared.free.Did.{Did}
+use Rattle.worker_turns.specs.declared.free.Did.TheVariants as did
+use Rattle.worker_turns.specs.Passes.{PassSeen, IsFront, claiming, refusing}
+use Rattle.worker_turns.specs.Workers.{MeSeen}
+use Rattle.worker_turns.specs.Pieces.{Desk, IsPop, IsSteal, spot_of, desk_after, NotRan, IsOwnPiece}
+
+abbrev pub node_of : Found → Option ℕ
+node_of (Claimed n) = Some n
+node_of (Refused n) = Some n
+node_of NoNode = None
+
+-- the pass after its claim, if it made one
+abbrev pub pass_after : Found → PassSeen → PassSeen
+pass_after (Claimed n) p = claiming n p
+pass_after (Refused n) p = refusing n p
+pass_after NoNode p = p
+
+abbrev pub NotClaimed : Found → Type 0
+NotClaimed (Claimed n) = ⊥
+NotClaimed (Refused n) = Unit {0}
+NotClaimed NoNode = Unit {0}
+
+-- the own deque of nodes gave this
+pub record IsOwnNode (t : Found) (old new : MeSeen) : Type 0 where
+  pub pop : IsPop (node_of t) old.core new.core
+  pub same : new ≡ record old { pass = pass_after t old.pass; core = new.core }
+
+-- The one steal of the turn gave this: it went to the deque that is the next to try. With one worker none is made.
+abbrev pub IsOther : Other → MeSeen → MeSeen → Type 0
+IsOther Alone old new = (old.tries.workers ≡ 1) × (new ≡ old)
+IsOther (Node t) old new =
+    ((try_of old.tries).deck ≡ CoreDeck) × IsSteal (try_of old.tries).victim (node_of t) old.core new.core
+    × (new ≡ record old { pass = pass_after t old.pass; core = new.core; tries = after_try old.tries })
+IsOther (Piece t) old new =
+    ((try_of old.tries).deck ≡ BatchDeck) × IsSteal (try_of old.tries).victim (spot_of t) old.batch new.batch
+    × (new ≡ record old { batch = new.batch; desk = desk_after t old.desk; tries = after_try old.tries })
+
+abbrev pub GaveNothing : Other → Type 0
+GaveNothing Alone = Unit {0}
+GaveNothing (Node t) = NotClaimed t
+GaveNothing (Piece t) = NotRan t
+
+-- the pieces that were claimed were finished
+pub record Helps (old new : Desk) : Type 0 where
+  pub given : List (ℕ × ℕ)
+  pub gave : new.given ≡ old.given ++ given
+  pub finishes : new.finishes ≡ old.finishes + length given
+
+-- A claimed node was carried on: the nodes that were opened stand behind the own list, in their order, and nothing else
+-- of the deques of nodes was touched; no node was claimed.
+pub record Carried (old new : MeSeen) : Type 0 where
+  pub nodes : List ℕ
+  pub opened : new.pass.opened ≡ old.pass.opened ++ nodes
+  pub core : new.core ≡ record old.core { own = old.core.own ++ nodes; pushes = old.core.pushes + length nodes }
+  pub worker : new.pass.worker ≡ old.pass.worker
+  pub claims : new.pass.claims ≡ old.pass.claims
+  pub claimed : new.pass.claimed ≡ old.pass.claimed
+  pub refused : new.pass.refused_nodes ≡ old.pass.refused_nodes
+  pub longer : IsFront old.pass.book_seen new.pass.book_seen
+  pub found : new.pass.stops_found ≡ old.pass.stops_found
+  pub stops : new.pass.stops ≡ old.pass.stops
+  pub desk : Helps old.desk new.desk
+
+-- First it tried its own deque of nodes, then its own deque of pieces, and last one steal.
+abbrev pub IsFreeTurn : Did → MeSeen → MeSeen → Type 0
+IsFreeTurn did.Ran old new =
+    ((n : ℕ) × (a : MeSeen) × IsOwnNode (Claimed n) old a × Carried a new)
+    ⊎ ((n : ℕ) × (a b d : MeSeen) × IsOwnNode NoNode old a × IsOwnPiece Dry a b
+    × IsOther (Node (Claimed n)) b d × Carried d new)
+IsFreeTurn did.Piece old new =
+    ((spot : Spot) × (a : MeSeen) × IsOwnNode NoNode old a × IsOwnPiece (Ran spot) a new)
+    ⊎ ((spot : Spot) × (a b : MeSeen) × IsOwnNode NoNode old a × IsOwnPiece Dry a b × IsOther (Piece (Ran spot)) b new)
+IsFreeTurn did.Nothing old new =
+    ((n : ℕ) × IsOwnNode (Refused n) old new)
+    ⊎ (((spot : Spot) × (a : MeSeen) × IsOwnNode NoNode old a × IsOwnPiece (Dropped spot) a new)
+    ⊎ ((other : Other) × (a b : MeSeen) × GaveNothing other × IsOwnNode NoNode old a × IsOwnPiece Dry a b
+    × IsOther other b new))

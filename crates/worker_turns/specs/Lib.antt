@@ -1,0 +1,11 @@
+-- The rules of the turns: what contracts see of a pass and of a worker, what each step of a turn does, and what each
+-- answer says. `Code` is what only the code cites.
+pub mod Words
+pub mod Holds
+pub mod Passes
+pub mod Workers
+pub mod Pieces
+pub mod Launches
+pub mod Trapped
+pub mod Free
+pub mod Code

@@ -1,0 +1,99 @@
+-- What a worker gets of the deques of pieces, and what comes of it.
+use Rattle.std.specs.Prelude.{ℕ, ◌≡◌, ◌+◌, ◌⊎◌, Option, None, Some, List, [], ◌∷◌, ◌++◌, length, map, drop}
+use Rattle.two_deques.specs.declared.spot.Spot.{Spot}
+use Rattle.two_deques.specs.declared.tries.Deck.{Deck}
+use Rattle.two_deques.specs.declared.tries.Deck.TheVariants.{CoreDeck, BatchDeck}
+use Rattle.two_deques.specs.declared.tries.Try.{Try}
+use Rattle.two_deques.specs.Ends.{HeldEnds, with_newest, after_empty_pop, after_steal, after_fruitless_steal}
+use Rattle.two_deques.specs.Tries.{TriesView, try_of, after_try}
+use Rattle.piece_board.specs.declared.view.DeskView.{DeskView}
+use Rattle.piece_board.specs.Desks.{after_refusal}
+use Rattle.launch_batch.specs.declared.piece.PieceIn.{PieceIn}
+use Rattle.launch_batch.specs.Pieces.{place_of}
+use Rattle.worker_turns.specs.declared.found.Tried.{Tried}
+use Rattle.worker_turns.specs.declared.found.Tried.TheVariants.{Ran, Dropped, Dry}
+use Rattle.worker_turns.specs.Workers.{MeSeen}
+
+abbrev pub Desk : Type 0
+Desk = DeskView PieceIn
+
+module _ {T : Type 0} where
+  -- a pop of the own deque gave this
+  abbrev pub IsPop : Option T → HeldEnds T → HeldEnds T → Type 0
+  IsPop None old new = new ≡ after_empty_pop old
+  IsPop (Some x) old new = old ≡ with_newest x new
+
+  -- a steal at this worker's deque gave this
+  abbrev pub IsSteal : ℕ → Option T → HeldEnds T → HeldEnds T → Type 0
+  IsSteal victim None old new = new ≡ after_fruitless_steal victim old
+  IsSteal victim (Some x) old new = new ≡ after_steal victim x old
+
+abbrev pub spot_of : Tried → Option Spot
+spot_of (Ran s) = Some s
+spot_of (Dropped s) = Some s
+spot_of Dry = None
+
+-- the desk after a piece was claimed and run
+abbrev pub after_run : Spot → Desk → Desk
+after_run s d = record d { given = d.given ++ (s.row, s.place) ∷ []; finishes = d.finishes + 1 }
+
+abbrev pub desk_after : Tried → Desk → Desk
+desk_after (Ran s) d = after_run s d
+desk_after (Dropped s) d = after_refusal s.row s.place d
+desk_after Dry d = d
+
+abbrev pub NotRan : Tried → Type 0
+NotRan (Ran s) = ⊥
+NotRan (Dropped s) = Unit {0}
+NotRan Dry = Unit {0}
+
+-- The next try that names a deque of pieces: the tries between are skipped.
+abbrev pub by_deck : {A : Type 0} → Deck → A → A → A
+by_deck CoreDeck x y = x
+by_deck BatchDeck x y = y
+
+abbrev pub piece_try : TriesView → Try
+piece_try t = by_deck (try_of t).deck (try_of (after_try t)) (try_of t)
+
+abbrev pub after_piece_try : TriesView → TriesView
+after_piece_try t = by_deck (try_of t).deck (after_try (after_try t)) (after_try t)
+
+-- the own deque of pieces gave this
+pub record IsOwnPiece (t : Tried) (old new : MeSeen) : Type 0 where
+  pub pop : IsPop (spot_of t) old.batch new.batch
+  pub same : new ≡ record old { batch = new.batch; desk = desk_after t old.desk }
+
+-- The deque of pieces that is the next to try gave this. With one worker none is tried, and that gives nothing.
+pub record IsStolenPiece (t : Tried) (old new : MeSeen) : Type 0 where
+  pub steal : IsSteal (piece_try old.tries).victim (spot_of t) old.batch new.batch
+  pub same : new ≡ record old { batch = new.batch; desk = desk_after t old.desk; tries = after_piece_try old.tries }
+
+abbrev pub IsOtherPiece : Tried → MeSeen → MeSeen → Type 0
+IsOtherPiece t old new =
+    ((old.tries.workers ≡ 1) × (t ≡ Dry) × (new ≡ old)) ⊎ IsStolenPiece t old new
+
+-- after results at the first so many places of the row that are not free were collected, these pieces were claimed and
+-- finished, and these claims refused
+abbrev pub after_works : ℕ → List (ℕ × ℕ) → List (ℕ × ℕ) → ℕ → Desk → Desk
+after_works collected given refused empty d = record d {
+  posted = drop collected d.posted;
+  collects = d.collects + collected;
+  given = d.given ++ given;
+  refused = d.refused ++ refused;
+  finishes = d.finishes + length given;
+  empty_collects = empty;
+}
+
+-- The results at the first so many places of the row that are not free were collected, while pieces were run. Nothing was
+-- posted.
+pub record Works (collected : ℕ) (old new : Desk) : Type 0 where
+  pub given : List (ℕ × ℕ)
+  pub refused : List (ℕ × ℕ)
+  pub is : new ≡ after_works collected given refused new.empty_collects old
+
+-- these pieces were posted
+abbrev pub with_place : PieceIn → ℕ × PieceIn
+with_place input = (place_of input, input)
+
+abbrev pub after_posts : List PieceIn → Desk → Desk
+after_posts ins d = record d { posted = map with_place ins; posts = d.posts ++ map place_of ins }

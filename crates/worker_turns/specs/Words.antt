@@ -1,0 +1,9 @@
+-- The words of the core that the rules of the turns speak in, handed on from where they are declared.
+pub use Rattle.seq_objects.specs.declared.op.Op.{Op}
+pub use Rattle.seq_objects.specs.declared.call.Call.{Call}
+pub use Rattle.batch_history.specs.declared.batch.Entry.{Entry}
+pub use Rattle.batcher_core.specs.declared.state.task.Task.{Task}
+pub use Rattle.batcher_core.specs.declared.state.task.Task.TheVariants.{Idle, Run}
+pub use Rattle.batcher_core.specs.declared.state.status.CallState.{CallState}
+pub use Rattle.batcher_core.specs.declared.state.status.CallState.TheVariants.{NotCalled, Out, Got}
+pub use Rattle.batcher_core.specs.declared.state.status.Receipt.{Receipt}

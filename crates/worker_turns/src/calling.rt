@@ -1,0 +1,79 @@
+//! A call, from its post to its receipt.
+ghost use Rattle.std.specs.Prelude.{◌≡◌, ◌≤◌, ◌+◌, Some, [], ◌∷◌, ◌++◌, IfOk, IfErr};
+ghost use Rattle.worker_turns.specs.Words.{Got};
+ghost use Rattle.batcher_core.specs.Entries.{StandsAt};
+ghost use Rattle.piece_board.specs.Boards.{desk_view};
+ghost use Rattle.two_deques.specs.Hands.{held};
+ghost use Rattle.worker_turns.specs.declared.step.Step.TheVariants as Steps;
+ghost use Rattle.worker_turns.specs.Passes.{IsFree, IsFront};
+ghost use Rattle.worker_turns.specs.Workers.{IsMeOf};
+ghost use Rattle.worker_turns.specs.Launches.{IsStop};
+ghost use Rattle.worker_turns.specs.Trapped.{IsJobSame};
+ghost use Rattle.worker_turns.specs.Free.{Helps};
+
+use crate::crew::{Crew, Me, Stop};
+use crate::table::Table;
+use crate::trapped::{Trapped, trapped_turn};
+use batcher_core::Receipt;
+use bt_io::{Pause, Point};
+use seq_objects::Op;
+use std::alloc::Global;
+use std::sync::Wait;
+
+/// The receipt of a call, and how many batches there were when it had just been posted.
+#[derive(Clone, Copy)]
+pub struct Called {
+    pub since: u64,
+    pub receipt: Receipt,
+}
+
+/// Makes the call of a leaf: posts it, and takes trapped turns until the worker has left with its receipt.
+pub fn call<T: Table, G: Pause, R: Wait>(
+    rt: &R,
+    alloc: Global,
+    crew: &Crew<T, G>,
+    me: &mut Me<T::Pass>,
+    leaf: u32,
+    op: Op,
+) -> Result<Called, Stop>
+    requires me { IsMeOf (T.gave crew.now.table) T.seen crew.now.decks crew.now.board me.old }
+    requires free_pass { IsFree (T.seen me.old.pass) }
+    requires due { T.next_of crew.now.table (T.seen me.old.pass).task (T.seen me.old.pass).call
+        ≡ Some (Steps.Call leaf op) }
+    requires free { (desk_view me.old.desk).posted ≡ [] }
+    requires workers { crew.now.workers ≡ T.workers crew.now.table }
+    ensures me { IfOk result (λ _.
+        IsMeOf (T.gave crew.now.table) T.seen crew.now.decks crew.now.board me.new) }
+    ensures stands { IfOk result (λ called. StandsAt (T.seen me.new.pass).book_seen
+        called.receipt.batch called.receipt.place
+        (record {
+          leaf = leaf;
+          worker = (T.seen me.old.pass).worker;
+          op = op;
+          reply = called.receipt.reply;
+        })) }
+    ensures first { IfOk result (λ called. (T.seen me.new.pass).first_since ≡ Some called.since) }
+    ensures soon { IfOk result (λ called. called.receipt.batch ≤ called.since + 1) }
+    ensures late { IfOk result (λ called. (T.seen me.old.pass).greatest ≤ called.receipt.batch) }
+    ensures left { IfOk result (λ called.
+        ((T.seen me.new.pass).left ≡ (T.seen me.old.pass).left ++ called.receipt ∷ [])
+        × ((T.seen me.new.pass).call ≡ Got called.receipt)) }
+    ensures free_pass { IfOk result (λ _. IsFree (T.seen me.new.pass)) }
+    ensures longer { IfOk result (λ _.
+        IsFront (T.seen me.old.pass).book_seen (T.seen me.new.pass).book_seen) }
+    ensures job { IfOk result (λ _. IsJobSame (T.seen me.old.pass) (T.seen me.new.pass)) }
+    ensures free { IfOk result (λ _. (desk_view me.new.desk).posted ≡ []) }
+    ensures core { IfOk result (λ _. (held me.new.hand).core ≡ (held me.old.hand).core) }
+    ensures helps { IfOk result (λ _. Helps (desk_view me.old.desk) (desk_view me.new.desk)) }
+    ensures stopped { IfErr result (λ stop. IsStop stop (T.seen me.old.pass) (T.seen me.new.pass)) }
+{
+    crew.table.post(&mut me.pass, leaf, op);
+    let since = crew.table.since(&mut me.pass);
+    crew.pause.at(Point::Posted(leaf), me.hand.worker());
+    for _ in rt.forever() {
+        if let Trapped::Left(receipt) = trapped_turn(rt, alloc, crew, me)? {
+            return Ok(Called { since, receipt });
+        }
+    }
+    unreachable!()
+}

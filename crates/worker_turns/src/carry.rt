@@ -1,0 +1,90 @@
+//! How a claimed node is carried on.
+ghost use Rattle.std.specs.Prelude.{◌≡◌, Some, [], IfOk, IfErr};
+ghost use Rattle.worker_turns.specs.Words.{Idle};
+ghost use Rattle.piece_board.specs.Boards.{desk_view};
+ghost use Rattle.worker_turns.specs.Passes.{IsFree};
+ghost use Rattle.worker_turns.specs.Workers.{me_seen, IsMeOf};
+ghost use Rattle.worker_turns.specs.Launches.{IsStop};
+ghost use Rattle.worker_turns.specs.Free.{Carried};
+
+use crate::calling::call;
+use crate::crew::{Crew, Me, Stop};
+use crate::step::Step;
+use crate::table::Table;
+use bt_io::Pause;
+use seq_objects::value;
+use seq_objects::work::spin;
+use std::alloc::Global;
+use std::sync::Wait;
+
+/// Makes one step of the task.
+fn make_step<T: Table, G: Pause, R: Wait>(
+    rt: &R,
+    alloc: Global,
+    crew: &Crew<T, G>,
+    me: &mut Me<T::Pass>,
+    step: Step,
+) -> Result<(), Stop>
+    requires me { IsMeOf (T.gave crew.now.table) T.seen crew.now.decks crew.now.board me.old }
+    requires free_pass { IsFree (T.seen me.old.pass) }
+    requires due { T.next_of crew.now.table (T.seen me.old.pass).task (T.seen me.old.pass).call
+        ≡ Some step }
+    requires free { (desk_view me.old.desk).posted ≡ [] }
+    requires workers { crew.now.workers ≡ T.workers crew.now.table }
+    ensures me { IfOk result (λ _.
+        IsMeOf (T.gave crew.now.table) T.seen crew.now.decks crew.now.board me.new) }
+    ensures free_pass { IfOk result (λ _. IsFree (T.seen me.new.pass)) }
+    ensures free { IfOk result (λ _. (desk_view me.new.desk).posted ≡ []) }
+    ensures carried { IfOk result (λ _. Carried (me_seen T.seen me.old) (me_seen T.seen me.new)) }
+    ensures stopped { IfErr result (λ stop. IsStop stop (T.seen me.old.pass) (T.seen me.new.pass)) }
+{
+    match step {
+        Step::Tick => {
+            crew.table.tick(&mut me.pass);
+        }
+        Step::Open => {
+            let node = crew.table.open_node(&mut me.pass);
+            if crew.decks.push_core(&mut me.hand, node).is_err() {
+                return Err(Stop::Memory);
+            }
+        }
+        Step::Spin(n) => crew.table.keep(&mut me.pass, u64::from(spin(n))),
+        Step::Call { leaf, op } => {
+            call(rt, alloc, crew, me, leaf, op)?;
+        }
+        Step::Got(reply) => crew.table.keep(&mut me.pass, value(reply)),
+        Step::Finish => crew.table.finish(&mut me.pass),
+        Step::Arrive => {
+            crew.table.arrive(&mut me.pass);
+        }
+    }
+    Ok(())
+}
+
+/// Carries the claimed node on until the task is idle.
+pub(crate) fn carry_on<T: Table, G: Pause, R: Wait>(
+    rt: &R,
+    alloc: Global,
+    crew: &Crew<T, G>,
+    me: &mut Me<T::Pass>,
+) -> Result<(), Stop>
+    requires me { IsMeOf (T.gave crew.now.table) T.seen crew.now.decks crew.now.board me.old }
+    requires free_pass { IsFree (T.seen me.old.pass) }
+    requires free { (desk_view me.old.desk).posted ≡ [] }
+    requires workers { crew.now.workers ≡ T.workers crew.now.table }
+    ensures me { IfOk result (λ _.
+        IsMeOf (T.gave crew.now.table) T.seen crew.now.decks crew.now.board me.new) }
+    ensures free_pass { IfOk result (λ _. IsFree (T.seen me.new.pass)) }
+    ensures idle { IfOk result (λ _. (T.seen me.new.pass).task ≡ Idle) }
+    ensures free { IfOk result (λ _. (desk_view me.new.desk).posted ≡ []) }
+    ensures carried { IfOk result (λ _. Carried (me_seen T.seen me.old) (me_seen T.seen me.new)) }
+    ensures stopped { IfErr result (λ stop. IsStop stop (T.seen me.old.pass) (T.seen me.new.pass)) }
+{
+    for _ in rt.forever() {
+        let Some(step) = crew.table.next(&me.pass) else {
+            return Ok(());
+        };
+        make_step(rt, alloc, crew, me, step)?;
+    }
+    unreachable!()
+}

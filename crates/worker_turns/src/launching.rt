@@ -1,0 +1,124 @@
+//! A launch: all calls that are pending become one batch.
+ghost use Rattle.std.specs.Prelude.{◌≡◌, ◌≢◌, true, [], Some, IfOk, IfErr};
+ghost use Rattle.launch_batch.specs.Calls.{MayServe};
+ghost use Rattle.piece_board.specs.Boards.{desk_view};
+ghost use Rattle.worker_turns.specs.declared.crew.Stop.TheVariants.{Memory};
+ghost use Rattle.worker_turns.specs.Holds.{new_hold, AreFit, workers_in};
+ghost use Rattle.worker_turns.specs.Passes.{is_trapped, Holds, IsHeld};
+ghost use Rattle.worker_turns.specs.Workers.{me_seen, IsMeOf};
+ghost use Rattle.worker_turns.specs.Launches.{Launches, IsStop};
+ghost use Rattle.worker_turns.specs.Code.Serving.{looked, taken_hold, answered_all, IsNewHold, IsAnswerable, ServesBatch};
+
+use crate::crew::{Crew, Me, Stop};
+use crate::pieces::serve_pieces;
+use crate::table::Table;
+use batch_history::Entry;
+use batcher_core::Receipt;
+use bt_io::Pause;
+use launch_batch::Shop;
+use seq_objects::Call;
+use std::alloc::Global;
+use std::sync::Wait;
+
+/// Looks at each worker once, and takes the calls that are pending.
+fn take_all<T: Table>(
+    alloc: Global,
+    table: &T,
+    pass: &mut T::Pass,
+    workers: u32,
+) -> Result<Vec<Call>, Stop>
+    requires pass { T.gave table.now pass.old }
+    requires won { IsHeld (T.seen pass.old) IsNewHold }
+    requires workers { workers ≡ T.workers table.now }
+    ensures pass { T.gave table.now pass.new }
+    ensures looked { IfOk result (λ calls.
+        T.seen pass.new ≡ looked workers calls.items (T.seen pass.old)) }
+    ensures fit { IfOk result (λ _. Holds AreFit (T.seen pass.new).hold) }
+    ensures failed { IfErr result (λ stop. stop ≡ Memory) }
+{
+    let mut calls = Vec::new(alloc);
+    for u in 0..workers {
+        if let Ok(call) = table.take(pass, u) {
+            calls.push(call)?;
+        }
+    }
+    Ok(calls)
+}
+
+/// Answers the calls of the batch, in its order.
+fn answer_all<T: Table>(table: &T, pass: &mut T::Pass, batch: &[Entry], number: u32)
+    requires pass { T.gave table.now pass.old }
+    requires published { IsHeld (T.seen pass.old) (IsAnswerable number batch.now) }
+    ensures pass { T.gave table.now pass.new }
+    ensures answered { T.seen pass.new ≡ answered_all (workers_in batch.now) (T.seen pass.old) }
+{
+    for place in 0..batch.len() {
+        let entry = batch[place];
+        let receipt = Receipt {
+            batch: number,
+            place: place as u32,
+            reply: entry.reply,
+        };
+        table.answer(pass, entry.worker, receipt);
+    }
+}
+
+/// Serves the calls as one batch, publishes it, and answers them.
+fn serve_batch<T: Table, G: Pause, R: Wait>(
+    rt: &R,
+    alloc: Global,
+    crew: &Crew<T, G>,
+    me: &mut Me<T::Pass>,
+    shop: Shop,
+    calls: Vec<Call>,
+) -> Result<Shop, Stop>
+    requires me { IsMeOf (T.gave crew.now.table) T.seen crew.now.decks crew.now.board me.old }
+    requires free { (desk_view me.old.desk).posted ≡ [] }
+    requires trapped { is_trapped (T.seen me.old.pass).call ≡ true }
+    requires hold { (T.seen me.old.pass).hold
+        ≡ Some (taken_hold (T.workers crew.now.table) calls.items shop) }
+    requires may { MayServe shop calls.items }
+    ensures me { IfOk result (λ _.
+        IsMeOf (T.gave crew.now.table) T.seen crew.now.decks crew.now.board me.new) }
+    ensures batch { IfOk result (λ after. ServesBatch (T.workers crew.now.table)
+        shop calls.items after (me_seen T.seen me.old) (me_seen T.seen me.new)) }
+    ensures stopped { IfErr result (λ stop. IsStop stop (T.seen me.old.pass) (T.seen me.new.pass)) }
+{
+    let number = shop.history().batches().len();
+    let (opened, ins) = shop.begin(alloc, calls)?;
+    let outs = serve_pieces(rt, alloc, crew, me, ins)?;
+    let (shop, batch) = opened.end(alloc, outs)?;
+    crew.table.publish(&mut me.pass, batch);
+    let entries = shop.history().batches()[number].entries();
+    answer_all(&crew.table, &mut me.pass, entries, number as u32);
+    Ok(shop)
+}
+
+/// Takes all calls that are pending, serves them as one batch, answers them, and lets go of the flag.
+pub fn launch<T: Table, G: Pause, R: Wait>(
+    rt: &R,
+    alloc: Global,
+    crew: &Crew<T, G>,
+    me: &mut Me<T::Pass>,
+    shop: Shop,
+) -> Result<(), Stop>
+    requires me { IsMeOf (T.gave crew.now.table) T.seen crew.now.decks crew.now.board me.old }
+    requires free { (desk_view me.old.desk).posted ≡ [] }
+    requires trapped { is_trapped (T.seen me.old.pass).call ≡ true }
+    requires won { (T.seen me.old.pass).hold ≡ Some (new_hold shop) }
+    requires workers { crew.now.workers ≡ T.workers crew.now.table }
+    ensures me { IfOk result (λ _.
+        IsMeOf (T.gave crew.now.table) T.seen crew.now.decks crew.now.board me.new) }
+    ensures launched { IfOk result (λ _. Launches (T.workers crew.now.table) shop
+        (me_seen T.seen me.old) (me_seen T.seen me.new)) }
+    ensures stopped { IfErr result (λ stop. IsStop stop (T.seen me.old.pass) (T.seen me.new.pass)) }
+{
+    let calls = take_all(alloc, &crew.table, &mut me.pass, crew.workers)?;
+    if calls.is_empty() {
+        crew.table.release(&mut me.pass, shop);
+        return Ok(());
+    }
+    let shop = serve_batch(rt, alloc, crew, me, shop, calls)?;
+    crew.table.release(&mut me.pass, shop);
+    Ok(())
+}

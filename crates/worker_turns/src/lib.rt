@@ -1,0 +1,30 @@
+//! The turns of one worker: how it steals, how its calls become batches, and how it helps while it waits.
+//!
+//! A free worker takes a node of its own, a piece of its own, or steals (`free`), and carries a claimed node on until
+//! its task is idle again (`carry`). A call is posted, and then its worker is trapped until a batch has answered it
+//! (`calling`): it helps with pieces, tries to leave, and tries to launch a batch itself (`trapped`). A launch takes all
+//! calls that are pending, serves them as one batch whose pieces anyone may run (`launching`, `pieces`), and answers them.
+//! What each answer of a turn says is a path from what was seen of the worker before to what is seen after. The table
+//! that the workers share is a parameter (`table`), which no type keeps yet. The crate stands on `two_deques`,
+//! `piece_board` and `launch_batch`, and takes from `worker_loop` the pieces of a batch as work for the board.
+#![tactic(auto)]
+
+pub mod calling;
+mod carry;
+pub mod crew;
+pub mod found;
+pub mod free;
+pub mod launching;
+mod pieces;
+pub mod step;
+pub mod table;
+pub mod trapped;
+
+pub use calling::{Called, call};
+pub use crew::{Crew, Me, Stop};
+pub use found::{Found, Other, Tried};
+pub use free::{Did, free_turn};
+pub use launching::launch;
+pub use step::Step;
+pub use table::Table;
+pub use trapped::{Trapped, trapped_turn};

@@ -1,0 +1,107 @@
+//! How a worker gets a piece, and runs it.
+ghost use Rattle.std.specs.Prelude.{◌≡◌, ◌≢◌, ◌<◌, IfOk, IfErr, IfSome, IfNone};
+ghost use Rattle.piece_board.specs.Boards.{desk_view, IsDeskOf};
+ghost use Rattle.two_deques.specs.Hands.{held, workers_of, IsHandOf};
+ghost use Rattle.worker_turns.specs.declared.crew.Stop.TheVariants.{Memory};
+ghost use Rattle.worker_turns.specs.Workers.{me_seen, IsMeOf};
+ghost use Rattle.worker_turns.specs.Pieces.{spot_of, desk_after, piece_try, after_piece_try, IsOwnPiece, IsOtherPiece};
+
+use crate::crew::{Crew, Me, Stop};
+use crate::found::Tried;
+use crate::table::Table;
+use bt_io::{Pause, Point};
+use launch_batch::run_piece;
+use std::alloc::Global;
+use std::sync::Wait;
+use two_deques::{Deck, Spot, Tries};
+
+mod serving;
+
+pub(crate) use serving::serve_pieces;
+
+/// Claims the piece of a spot, if there is one, and runs it. A spot whose claim is refused is dropped.
+pub(crate) fn run_found<T: Table, G: Pause>(
+    alloc: Global,
+    crew: &Crew<T, G>,
+    me: &mut Me<T::Pass>,
+    found: Option<Spot>,
+) -> Result<Tried, Stop>
+    requires desk { IsDeskOf crew.now.board me.old.desk }
+    ensures desk { IsDeskOf crew.now.board me.new.desk }
+    ensures found { IfOk result (λ tried. spot_of tried ≡ found) }
+    ensures seen { IfOk result (λ tried.
+        desk_view me.new.desk ≡ desk_after tried (desk_view me.old.desk)) }
+    ensures same { (me.new.pass ≡ me.old.pass) × (me.new.hand ≡ me.old.hand)
+        × (me.new.tries ≡ me.old.tries) }
+    ensures failed { IfErr result (λ stop. stop ≡ Memory) }
+{
+    let Some(spot) = found else {
+        return Ok(Tried::Dry);
+    };
+    let Some((claim, input)) = crew.board.claim(&mut me.desk, spot.row, spot.place) else {
+        return Ok(Tried::Dropped(spot));
+    };
+    crew.pause
+        .at(Point::PieceStart(spot.place), me.hand.worker());
+    let out = run_piece(alloc, input)?;
+    crew.board.finish(&mut me.desk, claim, out);
+    Ok(Tried::Ran(spot))
+}
+
+/// Pops the own deque of pieces once, and runs what it gave.
+pub(crate) fn own_piece<T: Table, G: Pause>(
+    alloc: Global,
+    crew: &Crew<T, G>,
+    me: &mut Me<T::Pass>,
+) -> Result<Tried, Stop>
+    requires me { IsMeOf (T.gave crew.now.table) T.seen crew.now.decks crew.now.board me.old }
+    ensures me { IfOk result (λ _.
+        IsMeOf (T.gave crew.now.table) T.seen crew.now.decks crew.now.board me.new) }
+    ensures path { IfOk result (λ tried.
+        IsOwnPiece tried (me_seen T.seen me.old) (me_seen T.seen me.new)) }
+    ensures pass { me.new.pass ≡ me.old.pass }
+    ensures failed { IfErr result (λ stop. stop ≡ Memory) }
+{
+    let found = crew.decks.pop_piece(&mut me.hand);
+    run_found(alloc, crew, me, found)
+}
+
+/// The worker whose deque of pieces is tried next. There is none where there is no other worker.
+fn next_victim(tries: &mut Tries) -> Option<u32>
+    ensures victim { IfSome result (λ victim. (victim ≡ (piece_try tries.old).victim)
+        × (tries.new ≡ after_piece_try tries.old)) }
+    ensures other { IfSome result (λ victim.
+        (victim < tries.old.workers) × (victim ≢ tries.old.worker)) }
+    ensures none { IfNone result ((tries.old.workers ≡ 1) × (tries.new ≡ tries.old)) }
+{
+    let first = tries.next_try()?;
+    match first.deck {
+        Deck::BatchDeck => Some(first.victim),
+        Deck::CoreDeck => match tries.next_try() {
+            Some(second) => Some(second.victim),
+            None => unreachable!(),
+        },
+    }
+}
+
+/// Tries to steal one piece, if there is another worker, and runs what that gave.
+pub(crate) fn other_piece<T: Table, G: Pause, R: Wait>(
+    rt: &R,
+    alloc: Global,
+    crew: &Crew<T, G>,
+    me: &mut Me<T::Pass>,
+) -> Result<Tried, Stop>
+    requires me { IsMeOf (T.gave crew.now.table) T.seen crew.now.decks crew.now.board me.old }
+    ensures me { IfOk result (λ _.
+        IsMeOf (T.gave crew.now.table) T.seen crew.now.decks crew.now.board me.new) }
+    ensures path { IfOk result (λ tried.
+        IsOtherPiece tried (me_seen T.seen me.old) (me_seen T.seen me.new)) }
+    ensures pass { me.new.pass ≡ me.old.pass }
+    ensures failed { IfErr result (λ stop. stop ≡ Memory) }
+{
+    let Some(victim) = next_victim(&mut me.tries) else {
+        return Ok(Tried::Dry);
+    };
+    let found = crew.decks.steal_piece(rt, &mut me.hand, victim);
+    run_found(alloc, crew, me, found)
+}

@@ -1,0 +1,175 @@
+//! How the pieces of a batch are handed out, and their results collected.
+ghost use Rattle.std.specs.Prelude.{◌≡◌, ◌<◌, ℕ, List, [], ◌∷◌, length, map, IfOk, IfErr};
+ghost use Rattle.std.specs.List.{AllByRecursion};
+ghost use Rattle.seq_objects.specs.Orders.{StrictlyAscends};
+ghost use Rattle.seq_objects.specs.Pieces.{AllMeet};
+ghost use Rattle.launch_batch.specs.declared.piece.PieceIn.{PieceIn as Input};
+ghost use Rattle.launch_batch.specs.Pieces.{place_of, Meets};
+ghost use Rattle.piece_board.specs.Boards.{desk_view};
+ghost use Rattle.two_deques.specs.Hands.{held};
+ghost use Rattle.worker_turns.specs.declared.crew.Stop.TheVariants.{Memory};
+ghost use Rattle.worker_turns.specs.Workers.{IsMeOf};
+ghost use Rattle.worker_turns.specs.Pieces.{Works, after_posts, with_place};
+ghost use Rattle.worker_turns.specs.Launches.{Serves, IsStop};
+
+use crate::crew::{Crew, Me, Stop};
+use crate::found::Tried;
+use crate::pieces::{other_piece, own_piece};
+use crate::table::Table;
+use bt_io::Pause;
+use launch_batch::{PieceIn, PieceOut};
+use std::alloc::Global;
+use std::sync::Wait;
+use two_deques::Spot;
+
+/// Posts each piece at its place of the own row, and pushes its spot on the own deque of pieces. The answer is the
+/// places.
+fn post_all<T: Table, G: Pause>(
+    alloc: Global,
+    crew: &Crew<T, G>,
+    me: &mut Me<T::Pass>,
+    ins: Vec<PieceIn>,
+) -> Result<Vec<u32>, Stop>
+    requires me { IsMeOf (T.gave crew.now.table) T.seen crew.now.decks crew.now.board me.old }
+    requires free { (desk_view me.old.desk).posted ≡ [] }
+    requires below { AllByRecursion (λ input. place_of input < 56) ins.items }
+    requires ascend { StrictlyAscends (map place_of ins.items) }
+    ensures me { IfOk result (λ _.
+        IsMeOf (T.gave crew.now.table) T.seen crew.now.decks crew.now.board me.new) }
+    ensures places { IfOk result (λ places. places.items ≡ map place_of ins.items) }
+    ensures desk { IfOk result (λ _.
+        desk_view me.new.desk ≡ after_posts ins.items (desk_view me.old.desk)) }
+    ensures core { (held me.new.hand).core ≡ (held me.old.hand).core }
+    ensures pass { me.new.pass ≡ me.old.pass }
+    ensures failed { IfErr result (λ stop. stop ≡ Memory) }
+{
+    let row = me.hand.worker();
+    let mut ins = ins;
+    let mut places = Vec::new(alloc);
+    for k in 0..ins.len() {
+        let input = ins.remove(0);
+        let place = input.place();
+        places.push(place)?;
+        crew.board.post(&mut me.desk, place, input);
+        if crew
+            .decks
+            .push_piece(&mut me.hand, Spot { row, place })
+            .is_err()
+        {
+            return Err(Stop::Memory);
+        }
+    }
+    Ok(places)
+}
+
+/// Runs pieces of the own deque, until a pop gives none.
+fn run_own<T: Table, G: Pause>(
+    alloc: Global,
+    crew: &Crew<T, G>,
+    me: &mut Me<T::Pass>,
+) -> Result<(), Stop>
+    requires me { IsMeOf (T.gave crew.now.table) T.seen crew.now.decks crew.now.board me.old }
+    ensures me { IfOk result (λ _.
+        IsMeOf (T.gave crew.now.table) T.seen crew.now.decks crew.now.board me.new) }
+    ensures desk { IfOk result (λ _. Works 0 (desk_view me.old.desk) (desk_view me.new.desk)) }
+    ensures core { IfOk result (λ _. (held me.new.hand).core ≡ (held me.old.hand).core) }
+    ensures pass { me.new.pass ≡ me.old.pass }
+    ensures failed { IfErr result (λ stop. stop ≡ Memory) }
+{
+    for _ in 0..64u32 {
+        if let Tried::Dry = own_piece(alloc, crew, me)? {
+            return Ok(());
+        }
+    }
+    Ok(())
+}
+
+/// Waits for the result at the first place of the own row that is not free. While it is not there the worker looks at
+/// the stop word, and tries to steal one piece.
+fn collect_one<T: Table, G: Pause, R: Wait>(
+    rt: &R,
+    alloc: Global,
+    crew: &Crew<T, G>,
+    me: &mut Me<T::Pass>,
+    place: u32,
+) -> Result<PieceOut, Stop>
+    requires me { IsMeOf (T.gave crew.now.table) T.seen crew.now.decks crew.now.board me.old }
+    requires place { place < 56 }
+    requires first { (input : Input) × (rest : List (ℕ × Input))
+        × ((desk_view me.old.desk).posted ≡ (place, input) ∷ rest) }
+    ensures me { IfOk result (λ _.
+        IsMeOf (T.gave crew.now.table) T.seen crew.now.decks crew.now.board me.new) }
+    ensures meets { IfOk result (λ out. (input : Input) (rest : List (ℕ × Input))
+        → (desk_view me.old.desk).posted ≡ (place, input) ∷ rest → Meets input out) }
+    ensures desk { IfOk result (λ _. Works 1 (desk_view me.old.desk) (desk_view me.new.desk)) }
+    ensures core { IfOk result (λ _. (held me.new.hand).core ≡ (held me.old.hand).core) }
+    ensures seen { IfOk result (λ _. T.seen me.new.pass ≡ T.seen me.old.pass) }
+    ensures stopped { IfErr result (λ stop. IsStop stop (T.seen me.old.pass) (T.seen me.new.pass)) }
+{
+    for _ in rt.forever() {
+        if let Some(out) = crew.board.collect(&mut me.desk, place) {
+            return Ok(out);
+        }
+        if crew.table.stopped(&mut me.pass) {
+            return Err(Stop::Stopped);
+        }
+        other_piece(rt, alloc, crew, me)?;
+    }
+    unreachable!()
+}
+
+/// Collects the results of the own row, place by place.
+fn collect_all<T: Table, G: Pause, R: Wait>(
+    rt: &R,
+    alloc: Global,
+    crew: &Crew<T, G>,
+    me: &mut Me<T::Pass>,
+    places: &[u32],
+) -> Result<Vec<PieceOut>, Stop>
+    requires me { IsMeOf (T.gave crew.now.table) T.seen crew.now.decks crew.now.board me.old }
+    requires posted { (ins : List Input) × (places.now ≡ map place_of ins)
+        × ((desk_view me.old.desk).posted ≡ map with_place ins)
+        × AllByRecursion (λ input. place_of input < 56) ins }
+    ensures me { IfOk result (λ _.
+        IsMeOf (T.gave crew.now.table) T.seen crew.now.decks crew.now.board me.new) }
+    ensures meet { IfOk result (λ outs. (ins : List Input)
+        → (desk_view me.old.desk).posted ≡ map with_place ins → AllMeet Meets ins outs.items) }
+    ensures desk { IfOk result (λ _.
+        Works (length places.now) (desk_view me.old.desk) (desk_view me.new.desk)) }
+    ensures core { IfOk result (λ _. (held me.new.hand).core ≡ (held me.old.hand).core) }
+    ensures seen { IfOk result (λ _. T.seen me.new.pass ≡ T.seen me.old.pass) }
+    ensures stopped { IfErr result (λ stop. IsStop stop (T.seen me.old.pass) (T.seen me.new.pass)) }
+{
+    let mut outs = Vec::new(alloc);
+    for k in 0..places.len() {
+        let out = collect_one(rt, alloc, crew, me, places[k])?;
+        outs.push(out)?;
+    }
+    Ok(outs)
+}
+
+/// Hands the pieces of a batch out, helps with them, and collects their results.
+pub(crate) fn serve_pieces<T: Table, G: Pause, R: Wait>(
+    rt: &R,
+    alloc: Global,
+    crew: &Crew<T, G>,
+    me: &mut Me<T::Pass>,
+    ins: Vec<PieceIn>,
+) -> Result<Vec<PieceOut>, Stop>
+    requires me { IsMeOf (T.gave crew.now.table) T.seen crew.now.decks crew.now.board me.old }
+    requires free { (desk_view me.old.desk).posted ≡ [] }
+    requires below { AllByRecursion (λ input. place_of input < 56) ins.items }
+    requires ascend { StrictlyAscends (map place_of ins.items) }
+    ensures me { IfOk result (λ _.
+        IsMeOf (T.gave crew.now.table) T.seen crew.now.decks crew.now.board me.new) }
+    ensures meet { IfOk result (λ outs. AllMeet Meets ins.items outs.items) }
+    ensures desk { IfOk result (λ _.
+        Serves (map place_of ins.items) (desk_view me.old.desk) (desk_view me.new.desk)) }
+    ensures core { IfOk result (λ _. (held me.new.hand).core ≡ (held me.old.hand).core) }
+    ensures seen { IfOk result (λ _. T.seen me.new.pass ≡ T.seen me.old.pass) }
+    ensures stopped { IfErr result (λ stop. IsStop stop (T.seen me.old.pass) (T.seen me.new.pass)) }
+{
+    let places = post_all(alloc, crew, me, ins)?;
+    run_own(alloc, crew, me)?;
+    collect_all(rt, alloc, crew, me, &places)
+}

@@ -1,0 +1,77 @@
+//! The turn of a trapped worker.
+ghost use Rattle.std.specs.Prelude.{◌≡◌, [], IfOk, IfErr};
+ghost use Rattle.piece_board.specs.Boards.{desk_view};
+ghost use Rattle.two_deques.specs.Hands.{held};
+ghost use Rattle.worker_turns.specs.Passes.{IsTrapped};
+ghost use Rattle.worker_turns.specs.Workers.{me_seen, IsMeOf};
+ghost use Rattle.worker_turns.specs.Launches.{IsStop};
+ghost use Rattle.worker_turns.specs.Trapped.{IsTrappedTurn, StaysTrapped};
+ghost use Rattle.worker_turns.specs.Free.{Helps};
+
+use crate::crew::{Crew, Me, Stop};
+use crate::found::Tried;
+use crate::launching::launch;
+use crate::pieces::{other_piece, own_piece};
+use crate::table::Table;
+use batcher_core::Receipt;
+use bt_io::{Pause, Point};
+use std::alloc::Global;
+use std::sync::Wait;
+
+/// What a trapped worker's turn did.
+#[derive(Clone, Copy)]
+pub enum Trapped {
+    /// It left, with this receipt.
+    Left(Receipt),
+    /// It ran a piece.
+    Piece,
+    /// It launched.
+    Launched,
+    /// Nothing: there was nothing to do.
+    Nothing,
+}
+
+/// One turn of a trapped worker. It tries four things, in this order: a piece of its own deque; to leave; to win the
+/// flag, and launch; and to steal one piece.
+pub fn trapped_turn<T: Table, G: Pause, R: Wait>(
+    rt: &R,
+    alloc: Global,
+    crew: &Crew<T, G>,
+    me: &mut Me<T::Pass>,
+) -> Result<Trapped, Stop>
+    requires me { IsMeOf (T.gave crew.now.table) T.seen crew.now.decks crew.now.board me.old }
+    requires trapped { IsTrapped (T.seen me.old.pass) }
+    requires free { (desk_view me.old.desk).posted ≡ [] }
+    requires workers { crew.now.workers ≡ T.workers crew.now.table }
+    ensures me { IfOk result (λ _.
+        IsMeOf (T.gave crew.now.table) T.seen crew.now.decks crew.now.board me.new) }
+    ensures path { IfOk result (λ turn. IsTrappedTurn (T.workers crew.now.table) turn
+        (me_seen T.seen me.old) (me_seen T.seen me.new)) }
+    ensures stays { IfOk result (λ turn. StaysTrapped turn
+        (T.seen me.old.pass) (T.seen me.new.pass)) }
+    ensures free { IfOk result (λ _. (desk_view me.new.desk).posted ≡ []) }
+    ensures core { IfOk result (λ _. (held me.new.hand).core ≡ (held me.old.hand).core) }
+    ensures helps { IfOk result (λ _. Helps (desk_view me.old.desk) (desk_view me.new.desk)) }
+    ensures stopped { IfErr result (λ stop. IsStop stop (T.seen me.old.pass) (T.seen me.new.pass)) }
+{
+    if crew.table.stopped(&mut me.pass) {
+        return Err(Stop::Stopped);
+    }
+    let own = own_piece(alloc, crew, me)?;
+    if let Tried::Ran(_) = own {
+        return Ok(Trapped::Piece);
+    }
+    if let Ok(receipt) = crew.table.leave(&mut me.pass) {
+        return Ok(Trapped::Left(receipt));
+    }
+    if let Some(shop) = crew.table.win(&mut me.pass) {
+        crew.pause.at(Point::Won, me.hand.worker());
+        launch(rt, alloc, crew, me, shop)?;
+        return Ok(Trapped::Launched);
+    }
+    let other = other_piece(rt, alloc, crew, me)?;
+    if let Tried::Ran(_) = other {
+        return Ok(Trapped::Piece);
+    }
+    Ok(Trapped::Nothing)
+}

@@ -1,7 +1,7 @@
 //! Nodes of which one side was split into two, and a new root over a tree that was.
 ghost use Rattle.std.specs.Prelude.{◌≡◌, ◌+◌, ◌<◌, ◌≤◌, ◌^◌, length};
 ghost use Rattle.tree_nodes.specs.Nodes.{keys, depth, IsRooted, keys_with_split, IsTreeWithSplit};
-ghost use Rattle.tree_nodes.specs.Code.Insertions.{OnSplits, HasSplitFirst, HasSplitSecond, HasSplitThird, with_first_split, with_second_split, with_third_split, IsSpent};
+ghost use Rattle.tree_nodes.specs.Code.Insertions.{OnSplits, HasSplitFirst, HasSplitSecond, HasSplitThird, with_first_split, with_second_split, with_third_split, IsSpent, IsSplitWhereFull};
 
 use crate::node::{Node, Rooted, Split, Tree, three, two};
 use std::mem;
@@ -14,6 +14,7 @@ pub fn grow_first(tree: &mut Tree, split: Split, boxes: &mut Vec<Box<Node>>) -> 
     ensures keys { keys_with_split tree.new result ≡ with_first_split split tree.old }
     ensures split { IsTreeWithSplit (depth tree.old) tree.new result }
     ensures boxes { IsSpent split result (length boxes.old.items) (length boxes.new.items) }
+    ensures cause { IsSplitWhereFull split tree.old result }
 {
     let Split::Splits(j, right) = split else {
         return Split::Fits;
@@ -44,6 +45,7 @@ pub fn grow_second(tree: &mut Tree, split: Split, boxes: &mut Vec<Box<Node>>) ->
     ensures keys { keys_with_split tree.new result ≡ with_second_split split tree.old }
     ensures split { IsTreeWithSplit (depth tree.old) tree.new result }
     ensures boxes { IsSpent split result (length boxes.old.items) (length boxes.new.items) }
+    ensures cause { IsSplitWhereFull split tree.old result }
 {
     let Split::Splits(j, right) = split else {
         return Split::Fits;
@@ -74,6 +76,7 @@ pub fn grow_third(tree: &mut Tree, split: Split, boxes: &mut Vec<Box<Node>>) -> 
     ensures keys { keys_with_split tree.new result ≡ with_third_split split tree.old }
     ensures split { IsTreeWithSplit (depth tree.old) tree.new result }
     ensures boxes { IsSpent split result (length boxes.old.items) (length boxes.new.items) }
+    ensures cause { IsSplitWhereFull split tree.old result }
 {
     let Split::Splits(j, right) = split else {
         return Split::Fits;

@@ -53,6 +53,24 @@ IsSpent Fits Fits old new = ⊤
 IsSpent Fits (Splits k right) old new = ⊥
 IsSpent (Splits j part) split old new = old ≤ new + 1
 
+-- whether a part was split off
+abbrev pub is_split : Split → Bool
+is_split Fits = false
+is_split (Splits k right) = true
+
+-- whether a node has three sides, and so no room for a fourth
+abbrev pub has_three_sides : Tree → Bool
+has_three_sides Empty = false
+has_three_sides (Leaf b) = false
+has_three_sides (Underfull' p a k b m c) = false
+has_three_sides (Two' p a k b m c) = false
+has_three_sides (Three' p a k b m c) = true
+
+-- a part is split off exactly where one was split off below and came to a node of three sides
+abbrev pub IsSplitWhereFull : Split → Tree → Split → Type 0
+IsSplitWhereFull Fits tree result = result ≡ Fits
+IsSplitWhereFull (Splits k right) tree result = is_split result ≡ has_three_sides tree
+
 -- a node, of one of whose sides a part may have been split off
 abbrev pub HasSplitFirst : Split → Tree → Type 0
 HasSplitFirst split Empty = ⊥

@@ -96,6 +96,7 @@ took st m r n =
     (h : HoldView) × (m.0.hold ≡ Some h) × (h.published ≡ false)
     × (r ≡ 1 → (call : OpRecord) × IsNewCall m.0.room h call × (n ≡ (with_hold m.0 (taken_view h st.word call), (st.word, Slots.Record call) ∷ m.1)))
     × (r ≢ 1 → n ≡ (passing m.0 h r, m.1))
+    × (st.word ≡ h.looks)
 
 -- the batch that is due has room, and the book stays a history with it
 abbrev pub admitted : Play

@@ -20,6 +20,7 @@ newcomer workers nodes room = record {
   posted = None;
   left = [];
   hold = None;
+  last = None;
   enrolled = false;
   saw_done = false;
   root_looks = 0;
@@ -170,8 +171,9 @@ with_hold v h = record v { hold = Some h; just_posted = false }
 abbrev pub passing : View → HoldView → ℕ → View
 passing v h status = record v { hold = Some (passed_view h); found = status; just_posted = false }
 
+-- the hold as it was released stays known
 abbrev pub releasing : View → View
-releasing v = record v { hold = None; just_posted = false }
+releasing v = record v { hold = None; last = v.hold; just_posted = false }
 
 -- it leaves, and sees the book
 abbrev pub leaving : View → OpRecord → Receipt → List (List Entry) → View

@@ -48,7 +48,9 @@ pub struct View {
     pub posted: Option<OpRecord>,
     /// The calls that it has left, in the order in which it made them.
     pub left: LinkedList<LeftCall>,
+    /// Its hold, where it has the flag, and the hold that it released last, as it was then.
     pub hold: Option<HoldView>,
+    pub last: Option<HoldView>,
     /// Whether it has taken its own record slot.
     pub enrolled: bool,
     /// Whether it has seen the root done, and how often it looked.

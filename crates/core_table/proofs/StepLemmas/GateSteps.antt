@@ -412,7 +412,8 @@ module _ (job : CoreJob) (room : ℕ) (laws : Laws job) (slots id : ℕ) (v : Vi
             },
             refl,
           )),
-          λ ne. absurd (ne one),
+          (λ ne. absurd (ne one)),
+          next,
         ),
       ))
       (λ ne.
@@ -436,7 +437,7 @@ module _ (job : CoreJob) (room : ℕ) (laws : Laws job) (slots id : ℕ) (v : Vi
             (λ own. through job laws s new k k (Take u) v w (get_elem? t.homes k) (get_elem? t.homes k) (o.seat k) id o.parts happens refl refl refl (λ d. d) (λ e _. e) record { task = refl; call = refl; posted = refl; left = refl; enrolled = refl; saw_done = refl; greatest = refl; before = refl; after = refl; book_seen = refl } (refl, known.1, known.2, known.3) own)
             (λ i x y low' ne' other. through job laws s new k x (Take u) y y (get_elem? t.homes x) (get_elem? t.homes x) (o.seat x) i o.parts happens refl refl refl (λ d. d) (λ e _. e) (told_again y)
             (hold_others job s new k x (hold_of k h) (hold_of k h') ne' held refl refl refl y.hold other.hold) other),
-        (h, holds, unpublished, (λ one. absurd (ne one)), λ _. refl),
+        (h, holds, unpublished, (λ one. absurd (ne one)), (λ _. refl), next),
       ))
 
   untaken : (s : State) (h : HoldView) (x u : ℕ) (call : OpRecord) → Parts job s → s.hold ≡ Some (hold_of k h) → record_in h.taken u ≡ Some call → among h.answered u ≡ false → x ≡ u → s.call x ≡ NotCalled → ⊥

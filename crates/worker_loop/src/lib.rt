@@ -6,18 +6,14 @@
 //! (`finder`). `locked` makes the workers of a job, runs them, and joins them all. Its promise is that
 //! the report is lawful, however the turns fall. That more than one thread worked, that none waits in
 //! vain, and how long a run takes, is not claimed. The crate stands on `batcher_core` and `two_deques`.
-//!
-//! `pieces` says how the pieces of a batch are work for `piece_board`.
 #![tactic(auto)]
 
 mod finder;
 pub mod locked;
 pub mod look;
-pub mod pieces;
 pub mod running;
 mod sending;
 mod start;
 mod worker;
 
 pub use locked::run_locked;
-pub use pieces::BatchPieces;

@@ -10,7 +10,7 @@ use Rattle.piece_board.specs.declared.view.DeskView.{DeskView}
 use Rattle.piece_board.specs.Boards.{desk_view, IsDeskOf}
 use Rattle.launch_batch.specs.declared.piece.PieceIn.{PieceIn}
 use Rattle.launch_batch.specs.declared.piece.PieceOut.{PieceOut}
-use Rattle.worker_loop.specs.declared.pieces.BatchPieces.{BatchPieces}
+use Rattle.worker_turns.specs.declared.batch_pieces.BatchPieces.{BatchPieces}
 use Rattle.worker_turns.specs.declared.crew.Me.{Me}
 use Rattle.worker_turns.specs.Passes.{PassSeen}
 

@@ -2,10 +2,10 @@
 ghost use Rattle.std.specs.Prelude.{◌≡◌};
 ghost use Rattle.worker_turns.specs.declared.crew.Stop.TheVariants.{Memory};
 
+use crate::batch_pieces::BatchPieces;
 use piece_board::{Board, Desk};
 use std::alloc::{AllocError, AllocFailed};
 use two_deques::{Decks, Hand, Tries};
-use worker_loop::BatchPieces;
 
 /// What all workers share: the table, the deques, the board, how many they are, and the gate.
 pub struct Crew<'a, T, G> {

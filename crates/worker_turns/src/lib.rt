@@ -6,9 +6,10 @@
 //! calls that are pending, serves them as one batch whose pieces anyone may run (`launching`, `pieces`), and answers them.
 //! What each answer of a turn says is a path from what was seen of the worker before to what is seen after. The table
 //! that the workers share is a parameter (`table`), which no type keeps yet. The crate stands on `two_deques`,
-//! `piece_board` and `launch_batch`, and takes from `worker_loop` the pieces of a batch as work for the board.
+//! `piece_board` and `launch_batch`, and `batch_pieces` says how the pieces of a batch are work for the board.
 #![tactic(auto)]
 
+pub mod batch_pieces;
 pub mod calling;
 mod carry;
 pub mod crew;
@@ -20,6 +21,7 @@ pub mod step;
 pub mod table;
 pub mod trapped;
 
+pub use batch_pieces::BatchPieces;
 pub use calling::{Called, call};
 pub use crew::{Crew, Me, Stop};
 pub use found::{Found, Other, Tried};

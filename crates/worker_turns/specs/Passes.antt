@@ -78,10 +78,23 @@ opening n task p = record p { task = task; opened = p.opened ++ n ∷ [] }
 abbrev pub keeping : Task → PassSeen → PassSeen
 keeping task p = record p { task = task; call = NotCalled }
 
+-- the start or the end of a leaf is to be ticked
+abbrev pub IsTick : Option Step → Type 0
+IsTick None = ⊥
+IsTick (Some (steps.Start leaf)) = Unit {0}
+IsTick (Some steps.End) = Unit {0}
+IsTick (Some steps.Open) = ⊥
+IsTick (Some (steps.Spin n)) = ⊥
+IsTick (Some (steps.Call leaf op)) = ⊥
+IsTick (Some (steps.Got reply)) = ⊥
+IsTick (Some steps.Finish) = ⊥
+IsTick (Some steps.Arrive) = ⊥
+
 -- the value that is to be kept
 abbrev pub IsValue : Option Step → ℕ → Type 0
 IsValue None value = ⊥
-IsValue (Some steps.Tick) value = ⊥
+IsValue (Some (steps.Start leaf)) value = ⊥
+IsValue (Some steps.End) value = ⊥
 IsValue (Some steps.Open) value = ⊥
 IsValue (Some (steps.Spin n)) value = value ≡ spin_of n
 IsValue (Some (steps.Call leaf op)) value = ⊥

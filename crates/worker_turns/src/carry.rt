@@ -11,7 +11,7 @@ use crate::calling::call;
 use crate::crew::{Crew, Me, Stop};
 use crate::step::Step;
 use crate::table::Table;
-use bt_io::Pause;
+use bt_io::{Pause, Point};
 use seq_objects::value;
 use seq_objects::work::spin;
 use std::alloc::Global;
@@ -39,7 +39,11 @@ fn make_step<T: Table, G: Pause, R: Wait>(
     ensures stopped { IfErr result (λ stop. IsStop stop (T.seen me.old.pass) (T.seen me.new.pass)) }
 {
     match step {
-        Step::Tick => {
+        Step::Start(leaf) => {
+            crew.table.tick(&mut me.pass);
+            crew.pause.at(Point::LeafStart(leaf), me.hand.worker());
+        }
+        Step::End => {
             crew.table.tick(&mut me.pass);
         }
         Step::Open => {

@@ -5,8 +5,10 @@ use seq_objects::{Op, Reply};
 /// The next step of a task that is not idle, and whose call is not out.
 #[derive(Clone, Copy)]
 pub enum Step {
-    /// The start or the end of a leaf is to be ticked.
-    Tick,
+    /// The start of this leaf is to be ticked.
+    Start(u32),
+    /// The end of a leaf is to be ticked.
+    End,
     /// The next side of a block is to be opened.
     Open,
     /// So much work is to be done, and its value kept.

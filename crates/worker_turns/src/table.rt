@@ -6,7 +6,7 @@ ghost use Rattle.worker_turns.specs.declared.step.Step.{Step as StepOf};
 ghost use Rattle.worker_turns.specs.declared.step.Step.TheVariants as Steps;
 ghost use Rattle.worker_turns.specs.Holds.{IsLooking, IsPublishDue, IsAnswerDue, IsReleaseDue};
 ghost use Rattle.worker_turns.specs.Holds.{StayFit};
-ghost use Rattle.worker_turns.specs.Passes.{PassSeen, IsFree, IsTrapped, IsHeld, IsValue};
+ghost use Rattle.worker_turns.specs.Passes.{PassSeen, IsFree, IsTrapped, IsHeld, IsTick, IsValue};
 ghost use Rattle.worker_turns.specs.Passes.{claiming, refusing, with_task, opening, keeping};
 ghost use Rattle.worker_turns.specs.Passes.{posting, hearing, winning, losing, taking, passing};
 ghost use Rattle.worker_turns.specs.Passes.{publishing, answering, releasing};
@@ -58,8 +58,7 @@ pub trait Table {
     fn tick(&self, pass: &mut Self::Pass) -> u64
         requires pass { gave self.now pass.old }
         requires free { IsFree (seen pass.old) }
-        requires due { next_of self.now (seen pass.old).task (seen pass.old).call
-            ≡ Some Steps.Tick }
+        requires due { IsTick (next_of self.now (seen pass.old).task (seen pass.old).call) }
         ensures pass { gave self.now pass.new }
         ensures ticked { seen pass.new ≡ with_task (seen pass.new).task (seen pass.old) };
 

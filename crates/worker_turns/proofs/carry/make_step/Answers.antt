@@ -2,8 +2,11 @@ use Rattle.std.proofs.Common.{refl}
 use Rattle.worker_turns.proofs.CarryLemmas.Steps.{carried_step, carried_call}
 use Rattle.worker_turns.proofs.carry.make_step.Goals as goal
 
-pub returns-in-Tick-clause-carried : goal.returns-in-Tick-clause-carried
-returns-in-Tick-clause-carried g c = carried_step _ _ _ _ c.tick.ensures.ticked refl refl
+pub returns-in-Start-clause-carried : goal.returns-in-Start-clause-carried
+returns-in-Start-clause-carried g c = carried_step _ _ _ _ c.tick.ensures.ticked refl refl
+
+pub returns-in-End-clause-carried : goal.returns-in-End-clause-carried
+returns-in-End-clause-carried g c = carried_step _ _ _ _ c.tick-in-End.ensures.ticked refl refl
 
 pub returns-in-Spin-clause-carried : goal.returns-in-Spin-clause-carried
 returns-in-Spin-clause-carried g c = carried_step _ _ _ _ c.keep.ensures.kept refl refl

@@ -102,7 +102,10 @@ IsValue (Some (steps.Got reply)) value = value ≡ value_of reply
 IsValue (Some steps.Finish) value = ⊥
 IsValue (Some steps.Arrive) value = ⊥
 
--- The stop word was set at a look.
+-- It sets the stop word. And the stop word was set at a look.
+abbrev pub stopping : PassSeen → PassSeen
+stopping p = record p { stops = p.stops + 1 }
+
 abbrev pub finding_stop : PassSeen → PassSeen
 finding_stop p = record p { stops_found = p.stops_found + 1 }
 

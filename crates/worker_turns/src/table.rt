@@ -9,7 +9,7 @@ ghost use Rattle.worker_turns.specs.Holds.{StayFit};
 ghost use Rattle.worker_turns.specs.Passes.{PassSeen, IsFree, IsTrapped, IsHeld, IsTick, IsValue};
 ghost use Rattle.worker_turns.specs.Passes.{claiming, refusing, with_task, opening, keeping};
 ghost use Rattle.worker_turns.specs.Passes.{posting, hearing, winning, losing, taking, passing};
-ghost use Rattle.worker_turns.specs.Passes.{publishing, answering, releasing};
+ghost use Rattle.worker_turns.specs.Passes.{publishing, answering, releasing, stopping};
 ghost use Rattle.worker_turns.specs.Passes.{IsLeft, IsDue, staying, finding_stop};
 
 use crate::step::Step;
@@ -37,6 +37,9 @@ pub trait Table {
 
     /// The pass has made no step since its latest post.
     ghost just_posted: { Self.Pass → Type 0 };
+
+    /// A look of the pass has seen the root done.
+    ghost saw_done: { Self.Pass → Type 0 };
 
     /// What the task asks for. None exactly where it is idle.
     fn next(&self, pass: &Self::Pass) -> Option<Step>
@@ -103,6 +106,19 @@ pub trait Table {
         ensures pass { gave self.now pass.new }
         ensures set { result ≡ true → seen pass.new ≡ finding_stop (seen pass.old) }
         ensures unset { result ≡ false → seen pass.new ≡ seen pass.old };
+
+    /// Sets the stop word.
+    fn stop(&self, pass: &mut Self::Pass)
+        requires pass { gave self.now pass.old }
+        ensures pass { gave self.now pass.new }
+        ensures stopped { seen pass.new ≡ stopping (seen pass.old) };
+
+    /// Whether the root is done at this look.
+    fn root_done(&self, pass: &mut Self::Pass) -> bool
+        requires pass { gave self.now pass.old }
+        ensures pass { gave self.now pass.new }
+        ensures looked { seen pass.new ≡ seen pass.old }
+        ensures done { result ≡ true → saw_done pass.new };
 
     /// Posts the call of the leaf that has started. The pass is trapped then.
     fn post(&self, pass: &mut Self::Pass, leaf: u32, op: Op)

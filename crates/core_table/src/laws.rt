@@ -10,6 +10,7 @@ ghost use Rattle.core_table.specs.Shows.{job_of, IsFront};
 ghost use Rattle.batcher_core.specs.Entries.{StandsAt};
 ghost use Rattle.batch_history.specs.declared.batch.Entry.{Entry};
 
+pub use crate::sending::tables_go_to_threads;
 use batcher_core::laws::book::{
     calls_have_room, publish_adds_the_taken_call, receipt_is_of_the_own_entry,
 };

@@ -14,6 +14,7 @@ mod job;
 pub mod laws;
 mod make;
 mod plays;
+mod sending;
 mod setting;
 mod slot;
 mod table;

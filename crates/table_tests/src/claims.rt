@@ -13,7 +13,7 @@ use std::alloc::{AllocError, Global};
 use std::test::Fail;
 
 /// A job of one leaf, which works for three steps.
-fn one_leaf(alloc: Global) -> Result<Job, AllocError>
+pub(crate) fn one_leaf(alloc: Global) -> Result<Job, AllocError>
     ensures acts { IfOk result (λ job. job.acts ≡ Work 3 ∷ []) }
     ensures leaves { IfOk result (λ job. IsSome job.shape) }
 {
@@ -22,7 +22,7 @@ fn one_leaf(alloc: Global) -> Result<Job, AllocError>
 }
 
 /// Asks for the number of batches, and tries to claim the root.
-fn tries(table: &CoreTable, pass: Pass) -> bool
+pub(crate) fn tries(table: &CoreTable, pass: Pass) -> bool
     requires { IsUnused table.now pass }
 {
     let mut pass = pass;

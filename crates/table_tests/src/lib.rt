@@ -8,3 +8,5 @@
 mod claims;
 #[cfg(test)]
 mod passes;
+#[cfg(test)]
+mod threads;

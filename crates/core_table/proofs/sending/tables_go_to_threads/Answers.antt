@@ -1,0 +1,13 @@
+-- A table and a pass, from their parts.
+use denote.Param.Send.{sendable}
+use denote.Param.SendFields.{declared_send, declared_sync}
+use Rattle.core_table.specs.contracts.table.CoreTable as table
+use Rattle.core_table.specs.contracts.table.Pass as pass
+use Rattle.core_table.proofs.sending.tables_go_to_threads.Goals as goal
+
+pub returns-clause-shared : goal.returns-clause-shared
+returns-clause-shared c = declared_sync table.the_type (c.words_are_shared.ensures.words, (c.words_are_shared.ensures.setting, (search sendable, tt)))
+
+pub returns-clause-sent : goal.returns-clause-sent
+returns-clause-sent c = declared_send pass.the_type
+    (c.seats_are_sent.ensures.seat, (search sendable depth 20, (search sendable depth 20, (search sendable depth 20, (c.seats_are_sent.ensures.owed, (search sendable depth 20, tt))))))

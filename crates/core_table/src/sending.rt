@@ -1,0 +1,72 @@
+//! That a table can be shared by threads, and its passes sent to them.
+//!
+//! A prover's search that goes through all parts of a table at once comes to its limit. So it is led from part to part.
+ghost use denote.Builtin.{u32 as number_row};
+ghost use denote.Param.Send.{IsSend, IsSync};
+ghost use Rattle.atomic_table.specs.contracts.owned.Table.{the_row as words_row};
+ghost use Rattle.atomic_table.specs.contracts.shared.Seat.{the_row as seat_row};
+ghost use Rattle.core_table.specs.contracts.plays.Law.{the_row as law_row};
+ghost use Rattle.core_table.specs.contracts.plays.LawTableRuleSlotViewSetting.TheImpl.{ghosts as law_ghosts};
+ghost use Rattle.core_table.specs.contracts.setting.Setting.{the_row as setting_row};
+ghost use Rattle.core_table.specs.contracts.slot.Slot.{the_row as slot_row};
+ghost use Rattle.core_table.specs.contracts.table.CoreTable.{the_row as table_row};
+ghost use Rattle.core_table.specs.contracts.table.Pass.{the_row as pass_row};
+ghost use Rattle.core_table.specs.contracts.view.View.{the_row as view_row};
+ghost use Rattle.std.specs.contracts.alloc.Global.{the_row as heap_row};
+ghost use Rattle.std.specs.contracts.impls.GlobalAllocator.TheImpl.{ghosts as heap_ghosts};
+ghost use Rattle.std.specs.contracts.vec.Vec.{the_row as list_row};
+
+use crate::plays::Law;
+use crate::setting::Setting;
+use crate::slot::Slot;
+use crate::view::View;
+use atomic_table::{Seat, Table};
+use launch_batch::Shop;
+use std::alloc::Global;
+
+/// It can be sent. It is for proofs, and does nothing.
+fn is_sent<T: Send>()
+    ensures { IsSend T.row }
+{}
+
+/// It can be shared. It is for proofs, and does nothing.
+fn is_shared<T: Sync>()
+    ensures { IsSync T.row }
+{}
+
+/// What a slot holds can be sent. It is for proofs, and does nothing.
+fn slots_are_sent()
+    ensures { IsSend slot_row }
+{
+    is_sent::<Shop>();
+    is_sent::<Slot>();
+}
+
+/// So can the parts of a pass.
+fn seats_are_sent()
+    ensures seat { IsSend (seat_row slot_row view_row) }
+    ensures owed { IsSend (list_row number_row heap_row heap_ghosts) }
+{
+    slots_are_sent();
+    is_sent::<Seat<Slot, View>>();
+    is_sent::<Vec<u32>>();
+}
+
+/// And the parts of a table can be shared.
+fn words_are_shared()
+    ensures words { IsSync (words_row slot_row view_row setting_row law_row heap_row law_ghosts heap_ghosts) }
+    ensures setting { IsSync setting_row }
+{
+    slots_are_sent();
+    is_shared::<Setting>();
+    is_shared::<Table<Slot, View, Setting, Law, Global>>();
+}
+
+/// All threads can share a table, and a pass can go to its worker's thread.
+pub fn tables_go_to_threads()
+    ensures shared { IsSync table_row }
+    ensures sent { IsSend pass_row }
+{
+    seats_are_sent();
+    words_are_shared();
+}

@@ -1,5 +1,5 @@
 -- What a launch does.
-use Rattle.std.specs.Prelude.{ℕ, ◌≡◌, ◌+◌, ◌⊎◌, None, Some, List, [], ◌++◌, length}
+use Rattle.std.specs.Prelude.{ℕ, ◌≡◌, ◌≤◌, ◌+◌, ◌⊎◌, None, Some, List, [], ◌++◌, length}
 use Rattle.seq_objects.specs.declared.call.Call.{Call}
 use Rattle.seq_objects.specs.Batches.{AreInBatchOrder}
 use Rattle.worker_turns.specs.Words.{Entry}
@@ -43,6 +43,10 @@ pub record Launches (workers : ℕ) (book : List (List Entry)) (old new : MeSeen
   pub released : new.pass ≡ record old.pass { hold = None; last = Some done }
   pub desk : Serves posted old.desk new.desk
   pub core : new.core ≡ old.core
+
+-- it has set the stop word, or found it set
+abbrev pub KnowsStop : PassSeen → Type 0
+KnowsStop p = (1 ≤ p.stops) ⊎ (1 ≤ p.stops_found)
 
 -- Why a call or a turn stopped: a look of this call found the stop word set, and the pass did not set it.
 abbrev pub IsStop : Stop → PassSeen → PassSeen → Type 0

@@ -1,5 +1,5 @@
 -- What contracts see of one worker, and which workers belong to which table, deques and board.
-use Rattle.std.specs.Prelude.{ℕ, ◌≡◌}
+use Rattle.std.specs.Prelude.{ℕ, ◌≡◌, []}
 use Rattle.two_deques.specs.declared.spot.Spot.{Spot}
 use Rattle.two_deques.specs.declared.decks.Decks.{Decks}
 use Rattle.two_deques.specs.Ends.{HeldEnds}
@@ -12,7 +12,8 @@ use Rattle.launch_batch.specs.declared.piece.PieceIn.{PieceIn}
 use Rattle.launch_batch.specs.declared.piece.PieceOut.{PieceOut}
 use Rattle.worker_turns.specs.declared.batch_pieces.BatchPieces.{BatchPieces}
 use Rattle.worker_turns.specs.declared.crew.Me.{Me}
-use Rattle.worker_turns.specs.Passes.{PassSeen}
+use Rattle.worker_turns.specs.Words.{Idle}
+use Rattle.worker_turns.specs.Passes.{PassSeen, IsFree}
 
 -- its pass, its ends of the deques of nodes and of those of pieces, its desk, and its tries
 pub record MeSeen : Type 0 where
@@ -43,3 +44,12 @@ module _ {Pass : Type 0} where
     pub row : (desk_view me.desk).row ≡ (held me.hand).worker
     pub tries : me.tries.worker ≡ (held me.hand).worker
     pub workers : me.tries.workers ≡ workers_of decks
+
+  -- It may take the turn of a free worker: no call of its is out, it has no node in hand, and all places of its row are
+  -- free.
+  pub record IsReady (gave : Pass → Type 0) (seen : Pass → PassSeen) (decks : Decks)
+      (board : Board BatchPieces PieceIn PieceOut) (me : Me Pass) : Type 0 where
+    pub own : IsMeOf gave seen decks board me
+    pub free : IsFree (seen me.pass)
+    pub idle : (seen me.pass).task ≡ Idle
+    pub row : (desk_view me.desk).posted ≡ []

@@ -12,10 +12,12 @@ ghost use Rattle.worker_turns.specs.Trapped.{IsJobSame};
 ghost use Rattle.worker_turns.specs.Free.{Helps};
 
 use crate::crew::{Crew, Me, Stop};
+use crate::rest::rest_after;
 use crate::table::Table;
 use crate::trapped::{Trapped, trapped_turn};
 use batcher_core::Receipt;
 use bt_io::{Pause, Point};
+use crossbeam_utils::Backoff;
 use seq_objects::Op;
 use std::alloc::Global;
 use std::sync::Wait;
@@ -42,6 +44,7 @@ pub fn call<T: Table, G: Pause, R: Wait>(
         ≡ Some (Steps.Call leaf op) }
     requires free { (desk_view me.old.desk).posted ≡ [] }
     requires workers { crew.now.workers ≡ T.workers crew.now.table }
+    ensures pass { T.gave crew.now.table me.new.pass }
     ensures me { IfOk result (λ _.
         IsMeOf (T.gave crew.now.table) T.seen crew.now.decks crew.now.board me.new) }
     ensures stands { IfOk result (λ called. StandsAt (T.seen me.new.pass).book_seen
@@ -70,10 +73,13 @@ pub fn call<T: Table, G: Pause, R: Wait>(
     crew.table.post(&mut me.pass, leaf, op);
     let since = crew.table.since(&mut me.pass);
     crew.pause.at(Point::Posted(leaf), me.hand.worker());
+    let backoff = Backoff::new();
     for _ in rt.forever() {
-        if let Trapped::Left(receipt) = trapped_turn(rt, alloc, crew, me)? {
+        let turn = trapped_turn(rt, alloc, crew, me)?;
+        if let Trapped::Left(receipt) = turn {
             return Ok(Called { since, receipt });
         }
+        rest_after(&backoff, matches!(turn, Trapped::Nothing));
     }
     unreachable!()
 }

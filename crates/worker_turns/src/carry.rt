@@ -31,6 +31,7 @@ fn make_step<T: Table, G: Pause, R: Wait>(
         ≡ Some step }
     requires free { (desk_view me.old.desk).posted ≡ [] }
     requires workers { crew.now.workers ≡ T.workers crew.now.table }
+    ensures pass { T.gave crew.now.table me.new.pass }
     ensures me { IfOk result (λ _.
         IsMeOf (T.gave crew.now.table) T.seen crew.now.decks crew.now.board me.new) }
     ensures free_pass { IfOk result (λ _. IsFree (T.seen me.new.pass)) }
@@ -76,6 +77,7 @@ pub(crate) fn carry_on<T: Table, G: Pause, R: Wait>(
     requires free_pass { IsFree (T.seen me.old.pass) }
     requires free { (desk_view me.old.desk).posted ≡ [] }
     requires workers { crew.now.workers ≡ T.workers crew.now.table }
+    ensures pass { T.gave crew.now.table me.new.pass }
     ensures me { IfOk result (λ _.
         IsMeOf (T.gave crew.now.table) T.seen crew.now.decks crew.now.board me.new) }
     ensures free_pass { IfOk result (λ _. IsFree (T.seen me.new.pass)) }

@@ -70,6 +70,7 @@ fn other<T: Table, G: Pause, R: Wait>(
     requires me { IsMeOf (T.gave crew.now.table) T.seen crew.now.decks crew.now.board me.old }
     requires free { IsFree (T.seen me.old.pass) }
     requires idle { (T.seen me.old.pass).task ≡ Idle }
+    ensures pass { T.gave crew.now.table me.new.pass }
     ensures me { IfOk result (λ _.
         IsMeOf (T.gave crew.now.table) T.seen crew.now.decks crew.now.board me.new) }
     ensures path { IfOk result (λ gave. IsOther gave
@@ -105,6 +106,7 @@ pub fn free_turn<T: Table, G: Pause, R: Wait>(
     requires idle { (T.seen me.old.pass).task ≡ Idle }
     requires free { (desk_view me.old.desk).posted ≡ [] }
     requires workers { crew.now.workers ≡ T.workers crew.now.table }
+    ensures pass { T.gave crew.now.table me.new.pass }
     ensures me { IfOk result (λ _.
         IsMeOf (T.gave crew.now.table) T.seen crew.now.decks crew.now.board me.new) }
     ensures path { IfOk result (λ did. IsFreeTurn did

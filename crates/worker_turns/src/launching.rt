@@ -78,6 +78,7 @@ fn serve_batch<T: Table, G: Pause, R: Wait>(
     requires hold { (T.seen me.old.pass).hold
         ≡ Some (taken_hold (T.workers crew.now.table) calls.items shop) }
     requires may { MayServe shop calls.items }
+    ensures pass { T.gave crew.now.table me.new.pass }
     ensures me { IfOk result (λ _.
         IsMeOf (T.gave crew.now.table) T.seen crew.now.decks crew.now.board me.new) }
     ensures batch { IfOk result (λ after. ServesBatch (T.workers crew.now.table)
@@ -107,6 +108,7 @@ pub fn launch<T: Table, G: Pause, R: Wait>(
     requires trapped { is_trapped (T.seen me.old.pass).call ≡ true }
     requires won { (T.seen me.old.pass).hold ≡ Some (new_hold shop) }
     requires workers { crew.now.workers ≡ T.workers crew.now.table }
+    ensures pass { T.gave crew.now.table me.new.pass }
     ensures me { IfOk result (λ _.
         IsMeOf (T.gave crew.now.table) T.seen crew.now.decks crew.now.board me.new) }
     ensures launched { IfOk result (λ _. Launches (T.workers crew.now.table) shop

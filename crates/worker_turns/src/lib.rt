@@ -4,7 +4,8 @@
 //! its task is idle again (`carry`). A call is posted, and then its worker is trapped until a batch has answered it
 //! (`calling`): it helps with pieces, tries to leave, and tries to launch a batch itself (`trapped`). A launch takes all
 //! calls that are pending, serves them as one batch whose pieces anyone may run (`launching`, `pieces`), and answers them.
-//! What each answer of a turn says is a path from what was seen of the worker before to what is seen after. The table
+//! What each answer of a turn says is a path from what was seen of the worker before to what is seen after. A worker takes
+//! its turns until the root is done (`worker`), and rests after those that did nothing (`rest`). The table
 //! that the workers share is a parameter (`table`), which no type keeps yet. The crate stands on `two_deques`,
 //! `piece_board` and `launch_batch`, and `batch_pieces` says how the pieces of a batch are work for the board.
 #![tactic(auto)]
@@ -17,9 +18,11 @@ pub mod found;
 pub mod free;
 pub mod launching;
 mod pieces;
+mod rest;
 pub mod step;
 pub mod table;
 pub mod trapped;
+pub mod worker;
 
 pub use batch_pieces::BatchPieces;
 pub use calling::{Called, call};
@@ -30,3 +33,4 @@ pub use launching::launch;
 pub use step::Step;
 pub use table::Table;
 pub use trapped::{Trapped, trapped_turn};
+pub use worker::work;

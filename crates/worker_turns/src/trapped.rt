@@ -43,6 +43,7 @@ pub fn trapped_turn<T: Table, G: Pause, R: Wait>(
     requires trapped { IsTrapped (T.seen me.old.pass) }
     requires free { (desk_view me.old.desk).posted ≡ [] }
     requires workers { crew.now.workers ≡ T.workers crew.now.table }
+    ensures pass { T.gave crew.now.table me.new.pass }
     ensures me { IfOk result (λ _.
         IsMeOf (T.gave crew.now.table) T.seen crew.now.decks crew.now.board me.new) }
     ensures path { IfOk result (λ turn. IsTrappedTurn (T.workers crew.now.table) turn

@@ -15,8 +15,10 @@ ghost use Rattle.worker_turns.specs.Launches.{Serves, IsStop};
 use crate::crew::{Crew, Me, Stop};
 use crate::found::Tried;
 use crate::pieces::{other_piece, own_piece};
+use crate::rest::rest_after;
 use crate::table::Table;
 use bt_io::Pause;
+use crossbeam_utils::Backoff;
 use launch_batch::{PieceIn, PieceOut};
 use std::alloc::Global;
 use std::sync::Wait;
@@ -97,6 +99,7 @@ fn collect_one<T: Table, G: Pause, R: Wait>(
     requires place { place < 56 }
     requires first { (input : Input) × (rest : List (ℕ × Input))
         × ((desk_view me.old.desk).posted ≡ (place, input) ∷ rest) }
+    ensures pass { T.gave crew.now.table me.new.pass }
     ensures me { IfOk result (λ _.
         IsMeOf (T.gave crew.now.table) T.seen crew.now.decks crew.now.board me.new) }
     ensures meets { IfOk result (λ out. (input : Input) (rest : List (ℕ × Input))
@@ -106,6 +109,7 @@ fn collect_one<T: Table, G: Pause, R: Wait>(
     ensures seen { IfOk result (λ _. T.seen me.new.pass ≡ T.seen me.old.pass) }
     ensures stopped { IfErr result (λ stop. IsStop stop (T.seen me.old.pass) (T.seen me.new.pass)) }
 {
+    let backoff = Backoff::new();
     for _ in rt.forever() {
         if let Some(out) = crew.board.collect(&mut me.desk, place) {
             return Ok(out);
@@ -113,7 +117,8 @@ fn collect_one<T: Table, G: Pause, R: Wait>(
         if crew.table.stopped(&mut me.pass) {
             return Err(Stop::Stopped);
         }
-        other_piece(rt, alloc, crew, me)?;
+        let other = other_piece(rt, alloc, crew, me)?;
+        rest_after(&backoff, !matches!(other, Tried::Ran(_)));
     }
     unreachable!()
 }
@@ -130,6 +135,7 @@ fn collect_all<T: Table, G: Pause, R: Wait>(
     requires posted { (ins : List Input) × (places.now ≡ map place_of ins)
         × ((desk_view me.old.desk).posted ≡ map with_place ins)
         × AllByRecursion (λ input. place_of input < 56) ins }
+    ensures pass { T.gave crew.now.table me.new.pass }
     ensures me { IfOk result (λ _.
         IsMeOf (T.gave crew.now.table) T.seen crew.now.decks crew.now.board me.new) }
     ensures meet { IfOk result (λ outs. (ins : List Input)
@@ -160,6 +166,7 @@ pub(crate) fn serve_pieces<T: Table, G: Pause, R: Wait>(
     requires free { (desk_view me.old.desk).posted ≡ [] }
     requires below { AllByRecursion (λ input. place_of input < 56) ins.items }
     requires ascend { StrictlyAscends (map place_of ins.items) }
+    ensures pass { T.gave crew.now.table me.new.pass }
     ensures me { IfOk result (λ _.
         IsMeOf (T.gave crew.now.table) T.seen crew.now.decks crew.now.board me.new) }
     ensures meet { IfOk result (λ outs. AllMeet Meets ins.items outs.items) }

@@ -13,6 +13,7 @@ returns g c =
     let own = subst (λ (p : PassSeen). IsOwnPiece c.in_ok-own.own (record old { pass = p }) tried) (c.stopped.ensures.unset c.if-stopped.false) c.in_ok-own.ensures.path in
     let refused : g.T.Table.seen c.win.new.pass ≡ losing (staying (g.T.Table.seen c.own_piece.new.me.pass)) = search rules in
     let other = subst (λ (p : PassSeen). IsOtherPiece c.in_ok-other.other (record tried { pass = p }) (me_seen g.T.Table.seen c.other_piece.new.me)) refused c.in_ok-other.ensures.path in record {
+      pass = search rules;
       me = c.in_ok-other.ensures.me;
       path = (c.in_ok-own.own, c.in_ok-other.other, tried, search rules, search rules, own, other);
       stays = search rules;
@@ -21,3 +22,15 @@ returns g c =
       helps = helps_then _ _ _ (helps_works _ _ (own_works _ _ _ own)) (helps_works _ _ (other_works _ _ _ other));
       stopped = search rules;
     }
+
+pub returns-in-Ran-other : goal.returns-in-Ran-other
+returns-in-Ran-other g c = record {
+  pass = search rules;
+  me = search rules;
+  path = search rules;
+  stays = search rules;
+  free = search rules;
+  core = search rules;
+  helps = search rules;
+  stopped = search rules;
+}

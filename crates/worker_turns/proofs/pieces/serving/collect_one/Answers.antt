@@ -10,9 +10,9 @@ loop-init g c = record { me = c.requires.me; core = refl; seen = refl; desk = wo
 pub loop-preserved : goal.loop-preserved
 loop-preserved g c =
     let i = c.loop.invariant in
-    let path = c.in_ok-other_piece.ensures.path in
+    let path = c.in_ok-other.ensures.path in
     let empty : desk_view c.collect.new.desk ≡ after_empty_collect (desk_view c.loop.me.desk) = search rules in record {
-      me = c.in_ok-other_piece.ensures.me;
+      me = c.in_ok-other.ensures.me;
       core = other_core _ _ _ path ∙ i.core;
       seen = ap g.T.Table.seen c.other_piece.ensures.pass ∙ c.stopped.ensures.unset c.if-stopped.false ∙ i.seen;
       desk = works_more 0 0 _ _ _ (works_more 0 0 _ _ _ i.desk (works_empty _ _ empty) 0 refl) (other_works _ _ _ path) 0 refl;

@@ -1,6 +1,7 @@
 pub mod CoreWords
 pub mod Words
 pub mod Shows
+pub mod OneState
 pub mod Views
 pub mod Plays
 pub mod Steps
@@ -9,4 +10,5 @@ pub mod Remembers
 pub mod Passes
 pub mod Batches
 pub mod Calls
+pub mod Closing
 pub mod Code

@@ -155,6 +155,10 @@ pub record Mine (job : CoreJob) (s : State) (home : Home) (seat id : ℕ) (v : V
   -- the book that the pass has seen begins the book
   pub seen : IsFront v.book_seen s.book
 
+-- the number of worker w lies in the range of this seat
+abbrev pub HasSeat : List View → ℕ → ℕ → Type 0
+HasSeat views seat w = (v : View) × (get_elem? views seat ≡ some v) × (v.from ≤ w) × (w < v.to)
+
 -- The table shows a state, which has the eight parts of the invariant. Each worker's number lies in the range of one
 -- seat: the first seat has all numbers that are not dealt out yet.
 pub record Shows (job : CoreJob) (room : ℕ) (t : St) : Type 0 where
@@ -166,6 +170,7 @@ pub record Shows (job : CoreJob) (room : ℕ) (t : St) : Type 0 where
   pub slots : SlotsShow job room t.homes state.task state.status state.hold state.book
   pub views : (id : ℕ) (v : View) (w : ℕ) → get_elem? t.views id ≡ some v → v.from ≤ w → w < v.to
       → (w < job.workers) × Mine job state (get_elem? t.homes w) (seat w) id v w
+  pub seats : (w : ℕ) → w < job.workers → HasSeat t.views (seat w) w
 
 -- the rule of the table
 abbrev pub Shown : Setting → St → Type 0

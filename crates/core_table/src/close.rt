@@ -5,13 +5,10 @@ ghost use Rattle.std.specs.Mem.Slots.{slots_items, slots_len, slots_filled, IsFu
 ghost use Rattle.sp_order.specs.Precedence.{leaves};
 ghost use Rattle.sp_order.specs.Preorder.{nodes_of};
 ghost use Rattle.batch_history.specs.Lawful.{Lawful};
-ghost use Rattle.batcher_core.specs.State.{State};
-ghost use Rattle.batcher_core.specs.Tasks.{is_done};
-ghost use Rattle.batcher_core.specs.Reports.{IsReportOf};
-ghost use Rattle.batcher_core.specs.Invariant.{Parts};
-ghost use Rattle.core_table.specs.Shows.{IsFront};
+ghost use Rattle.core_table.specs.Shows.{IsFront, St as TableState};
 ghost use Rattle.core_table.specs.Passes.{IsPassOf, job_in, tree_in, acts_in, view};
-ghost use Rattle.core_table.specs.Code.Rows.{RowInWords, HasSlotsBelow};
+ghost use Rattle.core_table.specs.Closing.{RowInWords, IsReportOfTable};
+ghost use Rattle.core_table.specs.Code.Rows.{HasSlotsBelow};
 
 use crate::laws::laws_hold;
 use crate::slot::Slot;
@@ -85,9 +82,8 @@ impl CoreTable {
         ensures lawful { IfOk result (λ report. Lawful
             (record { shape = Some (tree_in self); acts = acts_in self })
             (job_in self).workers report) }
-        ensures state { IfOk result (λ report. (s : State)
-            × Parts (job_in self) s × (is_done (s.node 0) ≡ true)
-            × IsReportOf (job_in self) (leaves (tree_in self)) s report) }
+        ensures told { IfOk result (λ report. (t : TableState)
+            × IsReportOfTable self.setting t report) }
         ensures seen { IfOk result (λ report. IsFront (view pass).book_seen report.history) }
     {
         laws_hold();

@@ -6,7 +6,8 @@ ghost use Rattle.core_table.specs.declared.slot.Slot.{Slot};
 ghost use Rattle.core_table.specs.declared.view.View.{View};
 ghost use Rattle.core_table.specs.Calls.{IsSound, IsViewOf, CallsAreEvents};
 ghost use Rattle.core_table.specs.Code.Laws.{Laws};
-ghost use Rattle.core_table.specs.Shows.{job_of, IsFront};
+ghost use Rattle.core_table.specs.Shows.{St as TableState, Shown, job_of, IsFront};
+ghost use Rattle.core_table.specs.OneState.{AreOne};
 ghost use Rattle.batcher_core.specs.Entries.{StandsAt};
 ghost use Rattle.batch_history.specs.declared.batch.Entry.{Entry};
 
@@ -51,6 +52,15 @@ pub fn each_call_is_its_event()
     ensures { (key : Setting) → IsSound key
         → (slots id k : ℕ) (v : View) (xs : List (ℕ × Slot)) → IsViewOf key k v
         → CallsAreEvents key slots id k v xs }
+{
+    laws_hold();
+}
+
+/// A table shows at most one state: two that the same words, slots and views show agree in all that a table keeps of one.
+pub fn at_most_one_state_is_shown()
+    ensures { (key : Setting) → IsSound key
+        → (t : TableState) (one two : Shown key t)
+        → AreOne (job_of key) one.state two.state }
 {
     laws_hold();
 }

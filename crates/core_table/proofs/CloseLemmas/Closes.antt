@@ -1,5 +1,5 @@
 -- What a closed table tells to a pass that has seen the root done.
-use Rattle.std.proofs.Common.{ℕ, zero, suc, ◌≡◌, ◌<◌, ◌+◌, ◌/◌, ◌%◌, true, Option as Maybe, List, [], ◌∷◌, length, get_or, arith, sym, subst}
+use Rattle.std.proofs.Common.{ℕ, zero, suc, ◌≡◌, ◌<◌, ◌+◌, ◌/◌, ◌%◌, true, Option as Maybe, List, [], ◌∷◌, length, get_or, arith, refl, sym, subst}
 use mathlib.Core.Option.{some, some-injective, some-ne-none}
 use lib.ListN.{get_elem?}
 use Rattle.atomic_table.specs.Table.{Final, Seen}
@@ -12,7 +12,7 @@ use Rattle.core_table.specs.declared.slot.Slot.{Slot}
 use Rattle.core_table.specs.declared.slot.Slot.TheVariants as Slots
 use Rattle.core_table.specs.Words.{WordsShow, progress_code}
 use Rattle.core_table.specs.Code.Laws.{Laws}
-use Rattle.core_table.specs.Shows.{reserved, BookAt, IsFront, Shows}
+use Rattle.core_table.specs.Shows.{St, reserved, BookAt, IsFront, Shows}
 
 -- the parts of the word of a leaf that has run
 pub worker_of : (w s e : ℕ) → w < 32 → progress_code (Ran w s e) / 4 % 32 ≡ w
@@ -29,9 +29,13 @@ at_word [] i a e = absurd (some-ne-none a (sym e))
 at_word (x ∷ xs) zero a e = some-injective _ _ e
 at_word (x ∷ xs) (suc i) a e = at_word xs i a e
 
--- the state at the end
+-- the table at the end, and the state that it shows
 pub record Last (job : CoreJob) (room : ℕ) (v : View) (ws : List ℕ) (xs : List Slot) : Type 0 where
+  pub table : St
+  pub shown : Shows job room table
+  pub same : table.words ≡ ws
   pub state : State
+  pub is : state ≡ shown.state
   pub parts : Parts job state
   pub over : is_done (state.node 0) ≡ true
   pub words : WordsShow job.workers job.plan.count ws state.node state.mark state.value state.status state.hold state.tick (length state.book)
@@ -47,7 +51,11 @@ closes job room id k laws v ws xs f from to saw =
     let free = laws.ended o.state o.parts over in
     let book = subst (λ (h : Maybe Hold). BookAt room h o.state.book (get_elem? t.homes (job.workers + 1))) free o.slots.batches in
     record {
+      table = t;
+      shown = o;
+      same = f.2;
       state = o.state;
+      is = refl;
       parts = o.parts;
       over = over;
       words = subst (λ (l : List ℕ). WordsShow job.workers job.plan.count l o.state.node o.state.mark o.state.value o.state.status o.state.hold o.state.tick (length o.state.book)) f.2 o.words;

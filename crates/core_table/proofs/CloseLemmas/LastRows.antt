@@ -11,7 +11,7 @@ use Rattle.batcher_core.specs.Invariant.{Parts}
 use Rattle.batcher_core.specs.Reports.{HasRun, IsRowOf}
 use Rattle.core_table.specs.Words.{node_at, value_at, progress_code, HasValue, WordsShow}
 use Rattle.core_table.specs.Code.Laws.{Laws}
-use Rattle.core_table.specs.Code.Rows.{RowInWords}
+use Rattle.core_table.specs.Closing.{RowInWords}
 use Rattle.core_table.proofs.CloseLemmas.Closes.{worker_of, start_of, end_of}
 use Rattle.core_table.proofs.ListLemmas.Lists.{each_so}
 

@@ -6,7 +6,7 @@ use mathlib.Core.Option.{none, some, some-injective, some-ne-none}
 use lib.ListN.{get_elem?}
 use lib.Seq.{set-get_or}
 use Rattle.atomic_table.specs.Table.{step, takes, Allows, Splits, opening}
-use Rattle.atomic_table.proofs.Lists.{at_set, set_else}
+use Rattle.atomic_table.proofs.Lists.{at_set, set_here, set_else, at_longer, at_last}
 use Rattle.batcher_core.specs.declared.state.progress.Progress.TheVariants.{Waiting, Ready}
 use Rattle.batcher_core.specs.declared.state.status.Status.{Status}
 use Rattle.batcher_core.specs.declared.state.status.Status.TheVariants.{Free}
@@ -18,13 +18,13 @@ use Rattle.core_table.specs.Words.{node_at, WordsShow}
 use Rattle.core_table.specs.Code.Laws.{Laws}
 use Rattle.batch_history.specs.declared.batch.Entry.{Entry}
 use Rattle.batch_history.specs.Reserved.{ReservedView}
-use Rattle.core_table.specs.Shows.{reserved, Home, RecordAt, Mine, Shows}
+use Rattle.core_table.specs.Shows.{reserved, Home, RecordAt, Mine, HasSeat, Shows}
 use Rattle.core_table.specs.Views.{newcomer}
 use Rattle.core_table.specs.Plays.{enrolled}
 use Rattle.core_table.specs.Views.{enrolling, pass_of, rest_of}
 use Rattle.core_table.proofs.TableLemmas.Words.{put_at, put_other, set_node}
 use Rattle.core_table.proofs.TableLemmas.Facts.{is_free}
-use Rattle.core_table.proofs.TableLemmas.Moved.{mine_of}
+use Rattle.core_table.proofs.TableLemmas.Moved.{mine_of, at_below, seat_stays}
 use Rattle.core_table.proofs.TableLemmas.Through.{SameTold, told_again, reseat}
 
 at_snoc_at : {A : Type 0} (l : List A) (a b : A) (j : ℕ) → get_elem? (l ++ a ∷ []) j ≡ some b → (get_elem? l j ≡ some b) ⊎ ((a ≡ b) × (j ≡ length l))
@@ -35,6 +35,37 @@ at_snoc_at (x ∷ xs) a b (suc j) e = ⊎_elim (λ t. inl t) (λ t. inr (t.0, (l
 
 told_cut : (v : View) (a b : ℕ) → SameTold v (record v { from = a; to = b })
 told_cut v a b = record { task = refl; call = refl; posted = refl; left = refl; enrolled = refl; saw_done = refl; greatest = refl; before = refl; after = refl; book_seen = refl }
+
+-- and each number is in the range of a seat where a pass is cut off: its number in that of the new seat, the others where they were
+seat_cut : (views : List View) (id x : ℕ) (seat : ℕ → ℕ) (v : View) → get_elem? views id ≡ some v → HasSeat views (seat x) x
+    → HasSeat (set views id (rest_of v) ++ pass_of v ∷ []) (put seat v.from (length views) x) x
+seat_cut views id x seat v me h =
+    let cut = set views id (rest_of v) in
+    let rest = pass_of v ∷ [] in elim (cases_eq x v.from) [
+      | inl e ↦ (
+        pass_of v,
+        ap (λ (j : ℕ). get_elem? (cut ++ rest) j) (put_at seat v.from x (length views) e) ∙ at_last cut (pass_of v) (length views) (length-set views id (rest_of v)),
+        omega arith,
+        omega arith,
+      )
+      | inr ne ↦ elim (cases_eq (seat x) id) [
+        | inl e ↦
+            let same : h.0 ≡ v = some-injective _ _ (sym h.1 ∙ (ap (λ (j : ℕ). get_elem? views j) e ∙ me)) in
+            let low : v.from ≤ x = subst (λ (y : View). y.from ≤ x) same h.2 in
+            let high : x < v.to = subst (λ (y : View). x < y.to) same h.3 in (
+              rest_of v,
+              ap (λ (j : ℕ). get_elem? (cut ++ rest) j) (put_other seat v.from x (length views) ne ∙ e) ∙ at_longer cut rest id (rest_of v) (set_here views id (rest_of v) (at_below views id v me)),
+              omega arith,
+              high,
+            )
+        | inr other ↦ (
+          h.0,
+          ap (λ (j : ℕ). get_elem? (cut ++ rest) j) (put_other seat v.from x (length views) ne) ∙ at_longer cut rest (seat x) h.0 (set_else views id (seat x) (rest_of v) other ∙ h.1),
+          h.2,
+          h.3,
+        )
+      ]
+    ]
 
 -- a pass is cut off
 pub cuts : (job : CoreJob) (room id : ℕ) (v : View) → v.from < v.to → Splits (Shows job room) id v (rest_of v) (pass_of v)
@@ -72,6 +103,7 @@ cuts job room id v some_left t o me =
                 (put_at o.seat v.from v.from z refl ∙ (sym (length-set t.views id (rest_of v)) ∙ sym q.1)) (told_cut v v.from (v.from + 1)) refl here.1)),
           ))
           (at_snoc_at (set t.views id (rest_of v)) (pass_of v) u i e);
+      seats = λ x low. seat_cut t.views id x o.seat v me (o.seats x low);
     }
 
 -- a pass takes its own record slot
@@ -127,6 +159,7 @@ enrols job room slots id j v xs k from to fresh t o wide me fits =
             let ne : x ≢ k = λ is. q.0 (sym was.1.sits ∙ (ap o.seat is ∙ m.1.sits)) in
             (was.0, subst (λ (h : Home). Mine job s h (o.seat x) i u x) (sym (set_else t.homes k x none ne)) was.1))
             (at_set t.views id i w u e);
+        seats = λ x low. seat_stays t.views id k v w me from to from to (o.seat x) x (o.seats x low);
       },
       ap (λ (y : ℕ). (enrolling v, (y, Slots.Vacant) ∷ xs)) (sym from),
     )
@@ -202,6 +235,7 @@ starts job room laws words are =
               since = record { most = omega arith; early = omega arith; late = λ n f. absurd (cc); placed = λ p f. absurd (cc); waits = λ n f. absurd (cc) };
             },
           );
+      seats = λ w low. (newcomer P N room, refl, omega arith, low);
     }
 
 pub enrols_at : (job : CoreJob) (room : ℕ) (slots id j : ℕ) (m : View × List (ℕ × Slot)) (v : View) (xs : List (ℕ × Slot)) (k : ℕ) → m ≡ (v, xs) → v.from ≡ k → v.to ≡ k + 1 → v.enrolled ≡ false

@@ -1,12 +1,12 @@
 -- A step shows the state that its event makes.
-use Rattle.std.proofs.Common.{ℕ, ◌≡◌, ◌≢◌, ◌<◌, ◌≤◌, ◌+◌, Bool, true, false, ◌&&◌, not, Option as Maybe, None, Some, List, [], ◌∷◌, ◌++◌, map, length, get_or, set, arith, refl, sym, ap, ◌∙◌, subst, inl, inr, ⊎_elim}
+use Rattle.std.proofs.Common.{ℕ, zero, suc, ◌≡◌, ◌≢◌, ◌<◌, ◌≤◌, ◌+◌, Bool, true, false, ◌&&◌, not, Option as Maybe, None, Some, List, [], ◌∷◌, ◌++◌, map, length, get_or, set, arith, refl, sym, ap, ◌∙◌, subst, inl, inr, ⊎_elim}
 use Rattle.std.proofs.lemmas.Bool.{cases_eq}
 use Rattle.std.proofs.lemmas.Bool.Decides.{nat_tests}
-use mathlib.Core.Option.{Option, some}
+use mathlib.Core.Option.{Option, some, some-injective, some-ne-none}
 use lib.ListN.{get_elem?}
 use lib.Seq.{set-get_or}
 use Rattle.atomic_table.specs.Table.{Allows}
-use Rattle.atomic_table.proofs.Lists.{at_set}
+use Rattle.atomic_table.proofs.Lists.{at_set, set_here, set_else}
 use Rattle.batch_history.specs.declared.batch.Entry.{Entry}
 use Rattle.batch_history.specs.Book.{flat}
 use Rattle.batcher_core.specs.declared.state.progress.Progress.{Progress}
@@ -34,7 +34,7 @@ use Rattle.core_table.specs.declared.setting.Setting.{Setting}
 use Rattle.core_table.specs.Steps.{ShowsOne, TryMakes, ArrivalMakes}
 use Rattle.core_table.specs.Plays.{Sat}
 use Rattle.core_table.specs.Code.Laws.{Laws}
-use Rattle.core_table.specs.Shows.{St, IsRecordOf, RecordAt, SlotsShow, took_in, record_in, among, hold_of, HoldKnown, entry_of, present, SinceKnown, Mine, Shows, Shown}
+use Rattle.core_table.specs.Shows.{St, HasSeat, IsRecordOf, RecordAt, SlotsShow, took_in, record_in, among, hold_of, HoldKnown, entry_of, present, SinceKnown, Mine, Shows, Shown}
 use Rattle.core_table.proofs.TableLemmas.Facts.{is_free, is_trapped, not_taken}
 use Rattle.core_table.proofs.TableLemmas.Words.{put_at, put_other}
 
@@ -42,6 +42,24 @@ use Rattle.core_table.proofs.TableLemmas.Words.{put_at, put_other}
 pub mine_of : (job : CoreJob) (room : ℕ) (t : St) (o : Shows job room t) (id k : ℕ) (v : View) → get_elem? t.views id ≡ some v → v.from ≡ k → v.to ≡ k + 1
     → (k < job.workers) × Mine job o.state (get_elem? t.homes k) (o.seat k) id v k
 mine_of job room t o id k v me from to = o.views id v k me (omega arith) (omega arith)
+
+-- what stands in a list has a number below its length
+pub at_below : {A : Type 0} (l : List A) (i : ℕ) (a : A) → get_elem? l i ≡ some a → i < length l
+at_below [] i a e = absurd (some-ne-none a (sym e))
+at_below (x ∷ xs) zero a e = omega arith
+at_below (x ∷ xs) (suc i) a e = let low = at_below xs i a e in omega (arith, low)
+
+-- each number stays in the range of its seat where the view of worker k changes
+pub seat_stays : (views : List View) (id k : ℕ) (v w : View) → get_elem? views id ≡ some v → v.from ≡ k → v.to ≡ k + 1 → w.from ≡ k → w.to ≡ k + 1
+    → (seat x : ℕ) → HasSeat views seat x → HasSeat (set views id w) seat x
+seat_stays views id k v w me from to from' to' seat x h = elim (cases_eq seat id) [
+  | inl e ↦
+      let same : h.0 ≡ v = some-injective _ _ (sym h.1 ∙ (ap (λ (j : ℕ). get_elem? views j) e ∙ me)) in
+      let low : v.from ≤ x = subst (λ (y : View). y.from ≤ x) same h.2 in
+      let high : x < v.to = subst (λ (y : View). x < y.to) same h.3 in
+      (w, ap (λ (j : ℕ). get_elem? (set views id w) j) e ∙ set_here views id w (at_below views id v me), omega arith, omega arith)
+  | inr ne ↦ (h.0, set_else views id seat w ne ∙ h.1, h.2, h.3)
+]
 
 -- a step of worker k
 pub moved : (job : CoreJob) (room : ℕ) (laws : Laws job) (t : St) (o : Shows job room t) (id k : ℕ) (v w : View) (words : List ℕ) (homes : List (Option Slot)) (event : Event) (new : State)
@@ -71,6 +89,7 @@ moved job room laws t o id k v w words homes event new happens me from to from' 
         let was = o.views i u x q.1 lo hi in
         (was.0, others i x u was.0 (λ is. q.0 (sym was.1.sits ∙ (ap o.seat is ∙ m.1.sits))) was.1))
         (at_set t.views id i w u e);
+    seats = λ x low. seat_stays t.views id k v w me from to from' to' (o.seat x) x (o.seats x low);
   },
   happens,
 )
@@ -106,6 +125,7 @@ renewed job room t o id k v w words me from to from' to' shown own = (
     words = shown;
     slots = o.slots;
     views = views_still job room t o id k v w me from to from' to' own;
+    seats = λ x low. seat_stays t.views id k v w me from to from' to' (o.seat x) x (o.seats x low);
   },
   refl,
 )

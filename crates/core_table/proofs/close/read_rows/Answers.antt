@@ -5,7 +5,7 @@ use Rattle.batch_history.specs.declared.row.Row.{Row}
 use Rattle.core_table.proofs.ListLemmas.Lists.{each_append}
 use Rattle.core_table.proofs.ListLemmas.Lists.{next_row}
 use Rattle.core_table.specs.Words.{node_at, value_at}
-use Rattle.core_table.specs.Code.Rows.{RowInWords}
+use Rattle.core_table.specs.Closing.{RowInWords}
 use Rattle.core_table.proofs.CloseLemmas.Closes.{at_word}
 use Rattle.core_table.proofs.CloseLemmas.LastRows.{leaf_in}
 use Rattle.core_table.proofs.close.read_rows.Goals as goal

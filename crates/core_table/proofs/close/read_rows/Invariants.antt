@@ -2,7 +2,7 @@ use Rattle.std.proofs.Common.{◌≡◌, ◌≤◌, map, vec_len, vec_capacity}
 use Rattle.std.specs.List.{AllByRecursion, range_with_len}
 use Rattle.std.specs.Mem.Slots.{slots_items}
 use Rattle.sp_order.specs.Preorder.{nodes_of}
-use Rattle.core_table.specs.Code.Rows.{RowInWords}
+use Rattle.core_table.specs.Closing.{RowInWords}
 use Rattle.core_table.proofs.close.read_rows.Given as goal
 
 abbrev pub invariant-loop-leaf : goal.invariant-loop-leaf

@@ -6,6 +6,8 @@ use Rattle.seq_objects.specs.declared.act.Act.{Act}
 use Rattle.sp_order.specs.Precedence.{leaves}
 use Rattle.sp_order.specs.Preorder.{nodes_of}
 use Rattle.batch_history.specs.Reserved.{ReservedView}
+use Rattle.batcher_core.specs.State.{State}
+use Rattle.batcher_core.specs.Tasks.{is_done}
 use Rattle.batcher_core.specs.Reports.{HasRun, IsReportOf}
 use Rattle.core_table.specs.Shows.{reserved, room_of, job_of, IsFront}
 use Rattle.core_table.proofs.TableLemmas.Moved.{few_nodes}
@@ -43,8 +45,8 @@ returns-clause-lawful c =
     } in
     c.done_report_is_lawful.ensures tree self.setting.acts.items self.setting.workers last.state _ self.acts.0 last.parts last.over report
 
-pub returns-clause-state : goal.returns-clause-state
-returns-clause-state c =
+pub returns-clause-told : goal.returns-clause-told
+returns-clause-told c =
     let self = c.args.self in let pass = c.args.pass in let job = job_of self.setting in let tree = self.setting.plan in let plan = nodes_of tree in
     let laws = c.laws_hold.ensures self.setting (few_nodes self.nodes job.plan.count self.key.1 self.few.2) self.acts.0 self.acts.1 in
     let f = rw self.key.0 at c.close_with-closed.ensures.values.2 in
@@ -61,8 +63,15 @@ returns-clause-state c =
       leaves = rw c.of.ensures (c.read_rows-rows.ensures.leaves ∙ ap (λ (n : ℕ). range_with_len 0 n) total);
       rows = rw c.of.ensures (rows_told job laws last.state (slots_items c.close_with-closed.result.words) (leaves tree) last.parts self.few.1 last.words inside ran c.read_rows-rows.result.items told);
       history = history;
-    } in
-    (last.state, last.parts, last.over, report)
+    } in (
+      last.table,
+      record {
+        shown = last.shown;
+        over = ap (λ (s : State). is_done (s.node 0)) (sym last.is) ∙ last.over;
+        rows = rw (c.of.ensures, last.same) told;
+        reports = subst (λ (s : State). IsReportOf job (leaves tree) s (record { workers = self.setting.workers; history = c.into_history.result; rows = c.of.result })) last.is report;
+      },
+    )
 
 pub returns-clause-seen : goal.returns-clause-seen
 returns-clause-seen c =

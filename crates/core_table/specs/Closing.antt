@@ -1,0 +1,28 @@
+-- What the report of a closed table is.
+use Rattle.std.specs.Prelude.{ℕ, ◌≡◌, ◌<◌, ◌/◌, ◌%◌, true, List, slice_index}
+use Rattle.std.specs.List.{AllByRecursion}
+use Rattle.sp_order.specs.Precedence.{leaves}
+use Rattle.batch_history.specs.declared.row.Row.{Row}
+use Rattle.batch_history.specs.declared.report.Report.{Report}
+use Rattle.batcher_core.specs.Tasks.{is_done}
+use Rattle.batcher_core.specs.Reports.{IsReportOf}
+use Rattle.core_table.specs.declared.setting.Setting.{Setting}
+use Rattle.core_table.specs.Words.{node_at, value_at}
+use Rattle.core_table.specs.Shows.{St, Shown, job_of}
+
+-- The row of a leaf, as the words tell it: its worker, start and end are packed in the word of its node, and its value
+-- is a word of its own.
+pub record RowInWords (workers nodes leaf_total : ℕ) (node_of : ℕ → ℕ) (words : List ℕ) (row : Row) : Type 0 where
+  pub low : row.leaf < leaf_total
+  pub worker : row.worker ≡ slice_index words (node_at workers (node_of row.leaf)) / 4 % 32
+  pub start : row.start ≡ slice_index words (node_at workers (node_of row.leaf)) / 128 % 1048576
+  pub end : row.end ≡ slice_index words (node_at workers (node_of row.leaf)) / 134217728
+  pub value : row.value ≡ slice_index words (value_at workers nodes (node_of row.leaf))
+
+-- The table shows a state whose root is done. The rows of the report are told by the table's words, and the report is
+-- that of the state: so its history is the book.
+pub record IsReportOfTable (key : Setting) (t : St) (report : Report) : Type 0 where
+  pub shown : Shown key t
+  pub over : is_done (shown.state.node 0) ≡ true
+  pub rows : AllByRecursion (RowInWords key.workers (job_of key).plan.count (leaves key.plan) (job_of key).plan.node_of t.words) report.rows
+  pub reports : IsReportOf (job_of key) (leaves key.plan) shown.state report

@@ -1,0 +1,19 @@
+-- When two states are one, in all that a table keeps of a state.
+use Rattle.std.specs.Prelude.{ℕ, ◌≡◌, ◌<◌, Some}
+use Rattle.batcher_core.specs.State.{CoreJob, State}
+use Rattle.batcher_core.specs.Invariant.Values.{IsKept}
+use Rattle.core_table.specs.CoreWords.{LeafNode}
+
+-- The states agree in each node, mark, task, status and call, in the hold, the tick, the book and the objects, and in the
+-- value of each leaf that has one: the word of a leaf without a value says nothing.
+pub record AreOne (job : CoreJob) (one two : State) : Type 0 where
+  pub node : (n : ℕ) → one.node n ≡ two.node n
+  pub mark : (n : ℕ) → n < job.plan.count → one.mark n ≡ two.mark n
+  pub value : (n leaf : ℕ) → job.plan.kind n ≡ Some (LeafNode leaf) → IsKept one.node one.task n → one.value n ≡ two.value n
+  pub task : (w : ℕ) → one.task w ≡ two.task w
+  pub status : (w : ℕ) → one.status w ≡ two.status w
+  pub call : (w : ℕ) → one.call w ≡ two.call w
+  pub hold : one.hold ≡ two.hold
+  pub tick : one.tick ≡ two.tick
+  pub book : one.book ≡ two.book
+  pub objects : one.objects ≡ two.objects

@@ -9,6 +9,7 @@ use crate::slot::Slot;
 use crate::view::View;
 use atomic_table::{Seat, Table};
 use batcher_core::{CallState, Task};
+use seq_objects::Act;
 use sp_order::Plan;
 use std::alloc::Global;
 
@@ -43,13 +44,23 @@ pub struct Pass {
 }
 
 impl CoreTable {
-    ghost use Rattle.core_table.specs.Passes.{tree_in};
+    ghost use Rattle.core_table.specs.Passes.{tree_in, job_in};
 
     /// The nodes of the job. Memory: none.
     pub fn plan(&self) -> &Plan
         ensures { result.now ≡ tree_in self.now }
     {
         &self.setting.plan
+    }
+
+    /// What a leaf does: no step of work, where the job has no leaf of this number. Memory: none.
+    pub fn act(&self, leaf: u32) -> Act
+        ensures { result ≡ (job_in self.now).act leaf }
+    {
+        match self.setting.acts.get(leaf as usize) {
+            Some(act) => *act,
+            None => Act::Work(0),
+        }
     }
 }
 
@@ -62,6 +73,20 @@ impl Pass {
         ensures { result ≡ (view self.now).from }
     {
         self.worker
+    }
+
+    /// Its task. Memory: none.
+    pub fn task(&self) -> Task
+        ensures { result ≡ (view self.now).task }
+    {
+        self.task
+    }
+
+    /// How far its call has come. Memory: none.
+    pub fn call(&self) -> CallState
+        ensures { result ≡ (view self.now).call }
+    {
+        self.call
     }
 
     /// Whether it has posted a call that it has not left. Memory: none.

@@ -1,3 +1,4 @@
 pub mod PieceLemmas
 pub mod LaunchLemmas
 pub mod CarryLemmas
+pub mod MeaningLemmas

@@ -1,5 +1,5 @@
 -- The rules of the turns: what contracts see of a pass and of a worker, what each step of a turn does, and what each
--- answer says. `Code` is what only the code cites.
+-- answer says. `Meanings` is what the answers mean, as the laws have it, and `Code` is what only the code cites.
 pub mod Words
 pub mod Holds
 pub mod Passes
@@ -8,4 +8,5 @@ pub mod Pieces
 pub mod Launches
 pub mod Trapped
 pub mod Free
+pub mod Meanings
 pub mod Code

@@ -4,10 +4,11 @@
 //! its task is idle again (`carry`). A call is posted, and then its worker is trapped until a batch has answered it
 //! (`calling`): it helps with pieces, tries to leave, and tries to launch a batch itself (`trapped`). A launch takes all
 //! calls that are pending, serves them as one batch whose pieces anyone may run (`launching`, `pieces`), and answers them.
-//! What each answer of a turn says is a path from what was seen of the worker before to what is seen after. A worker takes
-//! its turns until the root is done (`worker`), and rests after those that did nothing (`rest`). The table
-//! that the workers share is a parameter (`table`), which no type keeps yet. The crate stands on `two_deques`,
-//! `piece_board` and `launch_batch`, and `batch_pieces` says how the pieces of a batch are work for the board.
+//! What each answer of a turn says is a path from what was seen of the worker before to what is seen after, and `laws`
+//! reads off it which counts and lists rose. A worker takes its turns until the root is done (`worker`), and rests after
+//! those that did nothing (`rest`). The table that the workers share is a parameter (`table`), which no type keeps yet. The
+//! crate stands on `two_deques`, `piece_board` and `launch_batch`, and `batch_pieces` says how the pieces of a batch are
+//! work for the board.
 #![tactic(auto)]
 
 pub mod batch_pieces;
@@ -17,6 +18,7 @@ pub mod crew;
 pub mod found;
 pub mod free;
 pub mod launching;
+pub mod laws;
 mod pieces;
 mod rest;
 pub mod step;

@@ -1,0 +1,5 @@
+pub mod Gains
+pub mod Trapped
+pub mod Free
+pub mod Launches
+pub mod Stays

@@ -1,0 +1,91 @@
+-- What is read off a launch.
+use Rattle.std.proofs.Common.{◌≡◌, ℕ, ◌+◌, ◌⊎◌, List, [], ◌++◌, length, refl, ap, ◌∙◌, subst, inl, inr, arith, append-nil}
+use Rattle.two_deques.specs.declared.spot.Spot.{Spot}
+use Rattle.two_deques.specs.Ends.{HeldEnds}
+use Rattle.worker_turns.specs.Words.{Entry}
+use Rattle.worker_turns.specs.declared.trapped.Trapped.TheVariants.{Launched}
+use Rattle.worker_turns.specs.Passes.{PassSeen}
+use Rattle.worker_turns.specs.Holds.{HoldSeen, TookNone, ServedAll}
+use Rattle.worker_turns.specs.Workers.{MeSeen}
+use Rattle.worker_turns.specs.Pieces.{Desk, spot_of}
+use Rattle.worker_turns.specs.Launches.{Serves, ArePlaces, Launches}
+use Rattle.worker_turns.specs.Trapped.{IsTrappedTurn, won_after}
+use Rattle.worker_turns.specs.Meanings.Launches.{FoundNone, Served, Passed, PassedNone, HasLaunched, DidLaunch}
+use Rattle.worker_turns.proofs.MeaningLemmas.Gains.{listed}
+use Rattle.worker_turns.proofs.MeaningLemmas.Trapped.{after_own, own_none}
+
+passed : (places : List ℕ) (old new : Desk) → Serves places old new → Passed places old new
+passed places old new s = record { posts = s.posts; collects = s.collects; free = s.free }
+
+passed_none : (old new : Desk) → Serves [] old new → PassedNone old new
+passed_none old new s = let c = s.collects in record { posts = s.posts ∙ append-nil _; collects = omega (arith, c); free = s.free }
+
+-- what a launch found, where the desk at the start is only known by its posts and collects
+abbrev Found : List (List Entry) → HoldSeen → Desk → Desk → Type 0
+Found book done old new =
+    (FoundNone book done × PassedNone old new)
+    ⊎ ((batch : List Entry) × (places : List ℕ) × Served book batch done × ArePlaces book done.taken places × Passed places old new)
+
+found_from : (book : List (List Entry)) (done : HoldSeen) (old mid new : Desk) → mid.posts ≡ old.posts → mid.collects ≡ old.collects
+    → Found book done mid new → Found book done old new
+found_from book done old mid new posts collects (inl (none, p)) =
+    inl (none, record { posts = p.posts ∙ posts; collects = p.collects ∙ collects; free = p.free })
+found_from book done old mid new posts collects (inr (batch, places, served, are, p)) = inr (
+  batch,
+  places,
+  served,
+  are,
+  record { posts = p.posts ∙ ap (λ l. l ++ places) posts; collects = p.collects ∙ ap (λ n. n + length places) collects; free = p.free },
+)
+
+found_of : (book : List (List Entry)) (posted : List ℕ) (done : HoldSeen) (old new : Desk) → Serves posted old new
+    → ((TookNone done × (done.book ≡ book) × (posted ≡ [])) ⊎ ((batch : List Entry) × ServedAll book batch done × ArePlaces book done.taken posted))
+    → Found book done old new
+found_of book posted done old new s (inl (none, same, empty)) = inl (
+  record { none = none.none; unpublished = none.early; unchanged = same },
+  passed_none old new (subst (λ (l : List ℕ). Serves l old new) empty s),
+)
+found_of book posted done old new s (inr (batch, all, are)) = inr (
+  batch,
+  posted,
+  record {
+    published = all.published.published;
+    behind = all.published.book;
+    exactly = all.published.service.same;
+    service = all.published.service;
+    answered = all.answered;
+  },
+  are,
+  passed posted old new s,
+)
+
+pub launch_means : (workers : ℕ) (book : List (List Entry)) (old new : MeSeen) → Launches workers book old new → HasLaunched workers book old new
+launch_means workers book old new l = record {
+  done = l.done;
+  last = ap (λ (p : PassSeen). p.last) l.released;
+  released = ap (λ (p : PassSeen). p.hold) l.released;
+  looks = l.gathers.looked;
+  found = found_of book l.posted l.done old.desk new.desk l.desk l.gathers.batch;
+}
+
+did_launch : (workers : ℕ) (book : List (List Entry)) (lost : List Spot) (batch : HeldEnds Spot) (old new : MeSeen) → Launches workers book (won_after book (after_own lost batch old)) new → DidLaunch workers old new
+did_launch workers book lost batch old new l =
+    let mid = won_after book (after_own lost batch old) in
+    let h = launch_means workers book mid new l in record {
+      leaves = ap (λ (p : PassSeen). p.refused_leaves) l.released;
+      wins = ap (λ (p : PassSeen). p.wins) l.released;
+      refused_wins = ap (λ (p : PassSeen). p.refused_wins) l.released;
+      book = book;
+      launched = record {
+        done = h.done;
+        last = h.last;
+        released = h.released;
+        looks = h.looks;
+        found = found_from book h.done old.desk mid.desk new.desk refl refl h.found;
+      };
+    }
+
+pub launched_means : (workers : ℕ) (old new : MeSeen) → IsTrappedTurn workers Launched old new → DidLaunch workers old new
+launched_means workers old new (own, a, book, unrun, p, l) =
+    did_launch workers book (listed (spot_of own)) a.batch old new
+    (subst (λ (m : MeSeen). Launches workers book (won_after book m) new) (own_none own old a unrun p) l)

@@ -1,0 +1,258 @@
+-- What is read off the paths of what a turn, or a launch, leaves as it was.
+use Rattle.std.proofs.Common.{◌≡◌, ℕ, ◌+◌, true, Option, None, Some, List, [], ◌∷◌, ◌++◌, sym, refl, ap, ◌∙◌, subst, inl, inr}
+use Rattle.worker_turns.specs.Words.{Entry, Receipt, CallState, Got}
+use Rattle.worker_turns.specs.declared.found.Tried.{Tried}
+use Rattle.worker_turns.specs.declared.found.Tried.TheVariants.{Ran, Dropped, Dry}
+use Rattle.worker_turns.specs.declared.found.Other.{Other}
+use Rattle.worker_turns.specs.declared.found.Other.TheVariants as others
+use Rattle.worker_turns.specs.declared.found.Found.{Found}
+use Rattle.worker_turns.specs.declared.found.Found.TheVariants.{Claimed, Refused, NoNode}
+use Rattle.worker_turns.specs.declared.trapped.Trapped.{Trapped}
+use Rattle.worker_turns.specs.declared.trapped.Trapped.TheVariants.{Left, Piece, Launched, Nothing}
+use Rattle.worker_turns.specs.declared.free.Did.{Did}
+use Rattle.worker_turns.specs.declared.free.Did.TheVariants as did
+use Rattle.worker_turns.specs.Holds.{HoldSeen}
+use Rattle.worker_turns.specs.Passes.{PassSeen, is_trapped, IsTrapped, leaving, losing, staying, winning}
+use Rattle.worker_turns.specs.Workers.{MeSeen}
+use Rattle.worker_turns.specs.Pieces.{Desk, desk_after, NotRan, IsOwnPiece, IsOtherPiece}
+use Rattle.worker_turns.specs.Launches.{Serves, Launches}
+use Rattle.worker_turns.specs.Trapped.{IsTrappedTurn, IsJobSame, refused_both}
+use Rattle.worker_turns.specs.Free.{IsOther, IsOwnNode, GaveNothing, IsFreeTurn, Helps}
+use Rattle.worker_turns.specs.Meanings.Stays.{IsStillTrapped, IsAnswered, CallAfter, KeepsNodes, HelpsNone}
+use Rattle.worker_turns.proofs.PieceLemmas.Working.{works_tried}
+use Rattle.worker_turns.proofs.CarryLemmas.Steps.{helps_none, helps_then, helps_works}
+use Rattle.worker_turns.proofs.MeaningLemmas.Trapped.{not_ran_desk}
+
+-- a pass that has only come on with its tries to leave and to win, and with its holds
+abbrev come_on : ℕ → ℕ → ℕ → Option HoldSeen → PassSeen → PassSeen
+come_on leaves wins refused last p = record p { hold = None; last = last; wins = wins; refused_wins = refused; refused_leaves = leaves }
+
+came_on : (old new : PassSeen) (leaves wins refused : ℕ) (last : Option HoldSeen) → is_trapped old.call ≡ true → new ≡ come_on leaves wins refused last old
+    → IsStillTrapped old new
+came_on old new leaves wins refused last trapped is = subst (λ (p : PassSeen). IsStillTrapped old p) (sym is) (record {
+  trapped = (trapped, refl);
+  same = record {
+    job = record { worker = refl; task = refl; claims = refl; claimed = refl; refused = refl; opened = refl; found = refl; stops = refl };
+    call = refl;
+    hold = refl;
+    posted = refl;
+    left = refl;
+    book = refl;
+    greatest = refl;
+    before = refl;
+    after = refl;
+    first = refl;
+  };
+})
+
+-- where the pass had no hold
+unheld : (p : PassSeen) → p.hold ≡ None → p ≡ record p { hold = None }
+unheld p none = λ i. record p { hold = none i }
+
+own_pass : (t : Tried) (old a : MeSeen) → IsOwnPiece t old a → a.pass ≡ old.pass
+own_pass t old a p = ap (λ (m : MeSeen). m.pass) p.same
+
+other_pass : (t : Tried) (old new : MeSeen) → IsOtherPiece t old new → new.pass ≡ old.pass
+other_pass t old new (inl alone) = ap (λ (m : MeSeen). m.pass) alone.2
+other_pass t old new (inr s) = ap (λ (m : MeSeen). m.pass) s.same
+
+other_core : (t : Tried) (old new : MeSeen) → IsOtherPiece t old new → new.core ≡ old.core
+other_core t old new (inl alone) = ap (λ (m : MeSeen). m.core) alone.2
+other_core t old new (inr s) = ap (λ (m : MeSeen). m.core) s.same
+
+other_desk : (t : Tried) (old new : MeSeen) → IsOtherPiece t old new → new.desk ≡ desk_after t old.desk
+other_desk t old new (inl alone) = ap (λ (m : MeSeen). m.desk) alone.2 ∙ ap (λ (u : Tried). desk_after u old.desk) (sym alone.1)
+other_desk t old new (inr s) = ap (λ (m : MeSeen). m.desk) s.same
+
+-- what becomes of the call
+refused_twice : (old mid new : PassSeen) → IsTrapped old → mid ≡ old → new ≡ losing (staying mid) → IsStillTrapped old new
+refused_twice old mid new trapped same is =
+    came_on old new (old.refused_leaves + 1) old.wins (old.refused_wins + 1) old.last trapped.0
+    (is ∙ ap (λ (p : PassSeen). losing (staying p)) (same ∙ unheld old trapped.1))
+
+launched_pass : (old mid new : PassSeen) (book : List (List Entry)) (last : Option HoldSeen) → is_trapped old.call ≡ true → mid ≡ old
+    → new ≡ record (winning book (staying mid)) { hold = None; last = last } → IsStillTrapped old new
+launched_pass old mid new book last trapped same is =
+    came_on old new (old.refused_leaves + 1) (old.wins + 1) old.refused_wins last trapped
+    (is ∙ ap (λ (p : PassSeen). record (winning book (staying p)) { hold = None; last = last }) same)
+
+answered : (receipt : Receipt) (old mid new : PassSeen) → IsTrapped old → mid ≡ old → new ≡ leaving receipt new.book_seen mid → IsAnswered receipt old new
+answered receipt old mid new trapped same is =
+    let now : new ≡ leaving receipt new.book_seen old = is ∙ ap (leaving receipt new.book_seen) same in
+    record {
+      free = (ap (λ (p : PassSeen). is_trapped p.call) now, ap (λ (p : PassSeen). p.hold) now ∙ trapped.1);
+      task = ap (λ (p : PassSeen). p.task) now;
+      got = ap (λ (p : PassSeen). p.call) now;
+      told = record {
+        greatest = ap (λ (p : PassSeen). p.greatest) now;
+        before = ap (λ (p : PassSeen). p.before) now;
+        after = ap (λ (p : PassSeen). p.after) now;
+        first = ap (λ (p : PassSeen). p.first_since) now;
+      };
+    }
+
+pub call_after : (workers : ℕ) (answer : Trapped) (old new : MeSeen) → IsTrapped old.pass → IsTrappedTurn workers answer old new → CallAfter answer old.pass new.pass
+call_after workers (Left receipt) old new trapped (own, a, unrun, p, left, same) =
+    answered receipt old.pass a.pass new.pass trapped (own_pass own old a p) left.left
+call_after workers Piece old new trapped (inl (spot, p)) =
+    came_on old.pass new.pass old.pass.refused_leaves old.pass.wins old.pass.refused_wins old.pass.last trapped.0 (own_pass (Ran spot) old new p ∙ unheld old.pass trapped.1)
+call_after workers Piece old new trapped (inr (own, spot, a, unrun, p, q)) =
+    refused_twice old.pass a.pass new.pass trapped (own_pass own old a p) (other_pass (Ran spot) (refused_both a) new q)
+call_after workers Launched old new trapped (own, a, book, unrun, p, l) =
+    launched_pass old.pass a.pass new.pass book (Some l.done) trapped.0 (own_pass own old a p) l.released
+call_after workers Nothing old new trapped (own, other, a, unrun, not, p, q) =
+    refused_twice old.pass a.pass new.pass trapped (own_pass own old a p) (other_pass other (refused_both a) new q)
+
+pub launched_call : (workers : ℕ) (book : List (List Entry)) (old new : MeSeen) → is_trapped old.pass.call ≡ true → Launches workers book old new → IsStillTrapped old.pass new.pass
+launched_call workers book old new trapped l =
+    came_on old.pass new.pass old.pass.refused_leaves old.pass.wins old.pass.refused_wins (Some l.done) trapped l.released
+
+-- a pass whose call and hold have come on, and whose job has not
+abbrev turned : CallState → Option HoldSeen → Option HoldSeen → ℕ → ℕ → ℕ → List Receipt → List (List Entry) → PassSeen → PassSeen
+turned call hold last wins refused leaves left book p = record p {
+  call = call;
+  hold = hold;
+  last = last;
+  wins = wins;
+  refused_wins = refused;
+  refused_leaves = leaves;
+  left = left;
+  book_seen = book;
+}
+
+job_kept : (old new : PassSeen) (call : CallState) (hold last : Option HoldSeen) (wins refused leaves : ℕ) (left : List Receipt) (book : List (List Entry))
+    → new ≡ turned call hold last wins refused leaves left book old → IsJobSame old new
+job_kept old new call hold last wins refused leaves left book is = subst (λ (p : PassSeen). IsJobSame old p) (sym is)
+    (record { worker = refl; task = refl; claims = refl; claimed = refl; refused = refl; opened = refl; found = refl; stops = refl })
+
+refused_job : (old mid new : PassSeen) → mid ≡ old → new ≡ losing (staying mid) → IsJobSame old new
+refused_job old mid new same is =
+    job_kept old new old.call old.hold old.last old.wins (old.refused_wins + 1) (old.refused_leaves + 1) old.left old.book_seen
+    (is ∙ ap (λ (p : PassSeen). losing (staying p)) same)
+
+pub turn_keeps : (workers : ℕ) (answer : Trapped) (old new : MeSeen) → IsTrappedTurn workers answer old new → KeepsNodes old new
+turn_keeps workers (Left receipt) old new (own, a, unrun, p, left, same) = record {
+  core = ap (λ (m : MeSeen). m.core) same ∙ ap (λ (m : MeSeen). m.core) p.same;
+  job = job_kept old.pass new.pass (Got receipt) old.pass.hold old.pass.last old.pass.wins old.pass.refused_wins old.pass.refused_leaves
+      (old.pass.left ++ receipt ∷ []) new.pass.book_seen (left.left ∙ ap (leaving receipt new.pass.book_seen) (own_pass own old a p));
+}
+turn_keeps workers Piece old new (inl (spot, p)) = record {
+  core = ap (λ (m : MeSeen). m.core) p.same;
+  job = job_kept old.pass new.pass old.pass.call old.pass.hold old.pass.last old.pass.wins old.pass.refused_wins old.pass.refused_leaves old.pass.left
+      old.pass.book_seen (own_pass (Ran spot) old new p);
+}
+turn_keeps workers Piece old new (inr (own, spot, a, unrun, p, q)) = record {
+  core = other_core (Ran spot) (refused_both a) new q ∙ ap (λ (m : MeSeen). m.core) p.same;
+  job = refused_job old.pass a.pass new.pass (own_pass own old a p) (other_pass (Ran spot) (refused_both a) new q);
+}
+turn_keeps workers Launched old new (own, a, book, unrun, p, l) = record {
+  core = l.core ∙ ap (λ (m : MeSeen). m.core) p.same;
+  job = job_kept old.pass new.pass old.pass.call None (Some l.done) (old.pass.wins + 1) old.pass.refused_wins (old.pass.refused_leaves + 1) old.pass.left
+      old.pass.book_seen (l.released ∙ ap (λ (q : PassSeen). record (winning book (staying q)) { hold = None; last = Some l.done }) (own_pass own old a p));
+}
+turn_keeps workers Nothing old new (own, other, a, unrun, not, p, q) = record {
+  core = other_core other (refused_both a) new q ∙ ap (λ (m : MeSeen). m.core) p.same;
+  job = refused_job old.pass a.pass new.pass (own_pass own old a p) (other_pass other (refused_both a) new q);
+}
+
+pub launch_keeps : (workers : ℕ) (book : List (List Entry)) (old new : MeSeen) → Launches workers book old new → KeepsNodes old new
+launch_keeps workers book old new l = record {
+  core = l.core;
+  job = job_kept old.pass new.pass old.pass.call None (Some l.done) old.pass.wins old.pass.refused_wins old.pass.refused_leaves old.pass.left
+      old.pass.book_seen l.released;
+}
+
+-- a piece that is given is finished
+helps_tried : (t : Tried) (d e : Desk) → e ≡ desk_after t d → Helps d e
+helps_tried t d e is = helps_works d e (works_tried t d e is)
+
+own_helps : (t : Tried) (old a : MeSeen) → IsOwnPiece t old a → Helps old.desk a.desk
+own_helps t old a p = helps_tried t old.desk a.desk (ap (λ (m : MeSeen). m.desk) p.same)
+
+other_helps : (t : Tried) (old new : MeSeen) → IsOtherPiece t old new → Helps old.desk new.desk
+other_helps t old new q = helps_tried t old.desk new.desk (other_desk t old new q)
+
+helps_is : (a b c : Desk) → c ≡ b → Helps a b → Helps a c
+helps_is a b c is h = subst (λ (d : Desk). Helps a d) (sym is) h
+
+serves_helps : (places : List ℕ) (old new : Desk) → Serves places old new → Helps old new
+serves_helps places old new s = record { given = s.given; gave = s.gave; finishes = s.finishes }
+
+pub trapped_helps : (workers : ℕ) (answer : Trapped) (old new : MeSeen) → IsTrappedTurn workers answer old new → Helps old.desk new.desk
+trapped_helps workers (Left receipt) old new (own, a, unrun, p, left, same) =
+    helps_is old.desk a.desk new.desk (ap (λ (m : MeSeen). m.desk) same) (own_helps own old a p)
+trapped_helps workers Piece old new (inl (spot, p)) = own_helps (Ran spot) old new p
+trapped_helps workers Piece old new (inr (own, spot, a, unrun, p, q)) =
+    helps_then old.desk a.desk new.desk (own_helps own old a p) (other_helps (Ran spot) (refused_both a) new q)
+trapped_helps workers Launched old new (own, a, book, unrun, p, l) =
+    helps_then old.desk a.desk new.desk (own_helps own old a p) (serves_helps l.posted a.desk new.desk l.desk)
+trapped_helps workers Nothing old new (own, other, a, unrun, not, p, q) =
+    helps_then old.desk a.desk new.desk (own_helps own old a p) (other_helps other (refused_both a) new q)
+
+pub launch_helps : (workers : ℕ) (book : List (List Entry)) (old new : MeSeen) → Launches workers book old new → Helps old.desk new.desk
+launch_helps workers book old new l = serves_helps l.posted old.desk new.desk l.desk
+
+-- and so in the steal of a free worker
+steal_helps : (other : Other) (old new : MeSeen) → IsOther other old new → Helps old.desk new.desk
+steal_helps others.Alone old new (one, same) = helps_is old.desk old.desk new.desk (ap (λ (m : MeSeen). m.desk) same) (helps_none old.desk)
+steal_helps (others.Node t) old new (deck, steal, same) = helps_is old.desk old.desk new.desk (ap (λ (m : MeSeen). m.desk) same) (helps_none old.desk)
+steal_helps (others.Piece t) old new (deck, steal, same) = helps_tried t old.desk new.desk (ap (λ (m : MeSeen). m.desk) same)
+
+node_helps : (t : Found) (old a : MeSeen) → IsOwnNode t old a → Helps old.desk a.desk
+node_helps t old a p = helps_is old.desk old.desk a.desk (ap (λ (m : MeSeen). m.desk) p.same) (helps_none old.desk)
+
+-- after both own deques, the steal
+all_help : (t : Found) (own : Tried) (other : Other) (old a b new : MeSeen) → IsOwnNode t old a → IsOwnPiece own a b → IsOther other b new → Helps old.desk new.desk
+all_help t own other old a b new p q o =
+    helps_then old.desk b.desk new.desk (helps_then old.desk a.desk b.desk (node_helps t old a p) (own_helps own a b q)) (steal_helps other b new o)
+
+pub free_helps : (answer : Did) (old new : MeSeen) → IsFreeTurn answer old new → Helps old.desk new.desk
+free_helps did.Ran old new (inl (n, a, p, c)) = helps_then old.desk a.desk new.desk (node_helps (Claimed n) old a p) c.desk
+free_helps did.Ran old new (inr (n, a, b, d, p, q, o, c)) =
+    helps_then old.desk d.desk new.desk (all_help NoNode Dry (others.Node (Claimed n)) old a b d p q o) c.desk
+free_helps did.Piece old new (inl (spot, a, p, q)) =
+    helps_then old.desk a.desk new.desk (node_helps NoNode old a p) (own_helps (Ran spot) a new q)
+free_helps did.Piece old new (inr (spot, a, b, p, q, o)) = all_help NoNode Dry (others.Piece (Ran spot)) old a b new p q o
+free_helps did.Nothing old new (inl (n, p)) = node_helps (Refused n) old new p
+free_helps did.Nothing old new (inr (inl (spot, a, p, q))) =
+    helps_then old.desk a.desk new.desk (node_helps NoNode old a p) (own_helps (Dropped spot) a new q)
+free_helps did.Nothing old new (inr (inr (other, a, b, unrun, p, q, o))) = all_help NoNode Dry other old a b new p q o
+
+-- no piece was given
+given_none : (t : Tried) (d e : Desk) → NotRan t → e ≡ desk_after t d → HelpsNone d e
+given_none t d e unrun is =
+    let now = is ∙ not_ran_desk t d unrun in
+    record { given = ap (λ (f : Desk). f.given) now; finishes = ap (λ (f : Desk). f.finishes) now }
+
+none_then : (a b c : Desk) → HelpsNone a b → HelpsNone b c → HelpsNone a c
+none_then a b c p q = record { given = q.given ∙ p.given; finishes = q.finishes ∙ p.finishes }
+
+none_is : (a b : Desk) → b ≡ a → HelpsNone a b
+none_is a b is = record { given = ap (λ (d : Desk). d.given) is; finishes = ap (λ (d : Desk). d.finishes) is }
+
+own_none_given : (t : Tried) (old a : MeSeen) → NotRan t → IsOwnPiece t old a → HelpsNone old.desk a.desk
+own_none_given t old a unrun p = given_none t old.desk a.desk unrun (ap (λ (m : MeSeen). m.desk) p.same)
+
+pub left_helps_none : (workers : ℕ) (receipt : Receipt) (old new : MeSeen) → IsTrappedTurn workers (Left receipt) old new → HelpsNone old.desk new.desk
+left_helps_none workers receipt old new (own, a, unrun, p, left, same) =
+    none_then old.desk a.desk new.desk (own_none_given own old a unrun p) (none_is a.desk new.desk (ap (λ (m : MeSeen). m.desk) same))
+
+pub nothing_helps_none : (workers : ℕ) (old new : MeSeen) → IsTrappedTurn workers Nothing old new → HelpsNone old.desk new.desk
+nothing_helps_none workers old new (own, other, a, unrun, not, p, q) =
+    none_then old.desk a.desk new.desk (own_none_given own old a unrun p) (given_none other a.desk new.desk not (other_desk other (refused_both a) new q))
+
+steal_given_none : (other : Other) (old new : MeSeen) → GaveNothing other → IsOther other old new → HelpsNone old.desk new.desk
+steal_given_none others.Alone old new unrun (one, same) = none_is old.desk new.desk (ap (λ (m : MeSeen). m.desk) same)
+steal_given_none (others.Node t) old new unrun (deck, steal, same) = none_is old.desk new.desk (ap (λ (m : MeSeen). m.desk) same)
+steal_given_none (others.Piece t) old new unrun (deck, steal, same) = given_none t old.desk new.desk unrun (ap (λ (m : MeSeen). m.desk) same)
+
+node_none : (t : Found) (old a : MeSeen) → IsOwnNode t old a → HelpsNone old.desk a.desk
+node_none t old a p = none_is old.desk a.desk (ap (λ (m : MeSeen). m.desk) p.same)
+
+pub found_helps_none : (old new : MeSeen) → IsFreeTurn did.Nothing old new → HelpsNone old.desk new.desk
+found_helps_none old new (inl (n, p)) = node_none (Refused n) old new p
+found_helps_none old new (inr (inl (spot, a, p, q))) =
+    none_then old.desk a.desk new.desk (node_none NoNode old a p) (own_none_given (Dropped spot) a new tt q)
+found_helps_none old new (inr (inr (other, a, b, unrun, p, q, o))) =
+    none_then old.desk b.desk new.desk (none_then old.desk a.desk b.desk (node_none NoNode old a p) (own_none_given Dry a b tt q))
+    (steal_given_none other b new unrun o)

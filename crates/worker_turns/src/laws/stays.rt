@@ -1,0 +1,57 @@
+//! What the turns, and a launch, leave as it was.
+ghost use Rattle.std.specs.Prelude.{◌≡◌, ℕ, List, true};
+ghost use Rattle.batch_history.specs.declared.batch.Entry.{Entry};
+ghost use Rattle.batcher_core.specs.declared.state.status.Receipt.{Receipt};
+ghost use Rattle.worker_turns.specs.declared.trapped.Trapped.{Trapped as TrappedAnswer};
+ghost use Rattle.worker_turns.specs.declared.trapped.Trapped.TheVariants as TrappedAnswers;
+ghost use Rattle.worker_turns.specs.declared.free.Did.{Did as FreeAnswer};
+ghost use Rattle.worker_turns.specs.declared.free.Did.TheVariants as FreeAnswers;
+ghost use Rattle.worker_turns.specs.Passes.{is_trapped, IsTrapped};
+ghost use Rattle.worker_turns.specs.Workers.{MeSeen};
+ghost use Rattle.worker_turns.specs.Trapped.{IsTrappedTurn};
+ghost use Rattle.worker_turns.specs.Free.{IsFreeTurn, Helps};
+ghost use Rattle.worker_turns.specs.Launches.{Launches};
+ghost use Rattle.worker_turns.specs.Meanings.Stays.{CallAfter, IsStillTrapped, KeepsNodes, HelpsNone};
+
+/// After a launch, and after each answer of a trapped turn but Left, the worker is trapped as before, and its task, its call,
+/// the receipts that it left with and the numbers that it was told are as they were. After Left it is not trapped, its call
+/// has got the receipt, and its task and those numbers are as they were.
+#[tactic(auto, using(crate::proofs::MeaningLemmas::Stays::call_after, crate::proofs::MeaningLemmas::Stays::launched_call))]
+pub fn a_trapped_worker_waits_for_the_same_call()
+    ensures turn { (workers : ℕ) (answer : TrappedAnswer) (old new : MeSeen) → IsTrapped old.pass
+        → IsTrappedTurn workers answer old new → CallAfter answer old.pass new.pass }
+    ensures launch { (workers : ℕ) (book : List (List Entry)) (old new : MeSeen) → is_trapped old.pass.call ≡ true
+        → Launches workers book old new → IsStillTrapped old.pass new.pass }
+{}
+
+/// A trapped turn, and a launch, leave the deques of nodes, and the nodes that were claimed, refused and opened, as they
+/// were.
+#[tactic(auto, using(crate::proofs::MeaningLemmas::Stays::turn_keeps, crate::proofs::MeaningLemmas::Stays::launch_keeps))]
+pub fn a_trapped_worker_keeps_its_nodes()
+    ensures turn { (workers : ℕ) (answer : TrappedAnswer) (old new : MeSeen)
+        → IsTrappedTurn workers answer old new → KeepsNodes old new }
+    ensures launch { (workers : ℕ) (book : List (List Entry)) (old new : MeSeen)
+        → Launches workers book old new → KeepsNodes old new }
+{}
+
+/// In each turn, and in a launch, the claims of pieces that were given rose by as many as the finishes.
+#[tactic(auto, using(crate::proofs::MeaningLemmas::Stays::trapped_helps, crate::proofs::MeaningLemmas::Stays::free_helps, crate::proofs::MeaningLemmas::Stays::launch_helps))]
+pub fn each_piece_that_is_given_is_finished()
+    ensures trapped { (workers : ℕ) (answer : TrappedAnswer) (old new : MeSeen)
+        → IsTrappedTurn workers answer old new → Helps old.desk new.desk }
+    ensures free { (answer : FreeAnswer) (old new : MeSeen)
+        → IsFreeTurn answer old new → Helps old.desk new.desk }
+    ensures launch { (workers : ℕ) (book : List (List Entry)) (old new : MeSeen)
+        → Launches workers book old new → Helps old.desk new.desk }
+{}
+
+/// At Left, and at Nothing of either turn, no piece was claimed or finished.
+#[tactic(auto, using(crate::proofs::MeaningLemmas::Stays::left_helps_none, crate::proofs::MeaningLemmas::Stays::nothing_helps_none, crate::proofs::MeaningLemmas::Stays::found_helps_none))]
+pub fn no_piece_is_run_at_left_and_nothing()
+    ensures left { (workers : ℕ) (receipt : Receipt) (old new : MeSeen)
+        → IsTrappedTurn workers (TrappedAnswers.Left receipt) old new → HelpsNone old.desk new.desk }
+    ensures trapped { (workers : ℕ) (old new : MeSeen)
+        → IsTrappedTurn workers TrappedAnswers.Nothing old new → HelpsNone old.desk new.desk }
+    ensures free { (old new : MeSeen)
+        → IsFreeTurn FreeAnswers.Nothing old new → HelpsNone old.desk new.desk }
+{}

@@ -6,7 +6,7 @@ ghost use Rattle.batch_history.specs.Lawful.{Lawful};
 ghost use Rattle.batcher_core.specs.Cores.{state_in};
 ghost use Rattle.batcher_core.specs.Invariant.{Invariant};
 ghost use Rattle.batcher_core.specs.State.{core_job};
-ghost use Rattle.worker_loop.specs.Runs.{IsCoreOf};
+ghost use Rattle.worker_loop.specs.Runs.{RunView, IsCoreOf};
 ghost use Rattle.worker_loop.specs.Looks.{HasLooked};
 
 use crate::look::{Look, newest_if_longer, turn_with};
@@ -41,16 +41,22 @@ pub trait Locked: Drop {
 
     ghost workers: { ℕ };
 
+    /// What contracts see of it.
+    ghost seen: { Self → RunView };
+
     /// A look of the worker, which has done this work, if it has done some.
     fn look(&mut self, worker: u32, spun: Option<Spun>) -> Look
-        requires { worker < workers };
+        requires { worker < workers }
+        ensures { HasLooked worker (seen self.old) (seen self.new) result };
 
     /// Memory ran out in a worker, outside the lock.
-    fn fail(&mut self);
+    fn fail(&mut self)
+        ensures { seen self.new ≡ record (seen self.old) { failed = true } };
 
     /// The report of the run, if memory did not run out.
     fn report(self, alloc: Global) -> Result<Report, AllocError>
-        ensures { IfOk result
+        ensures whole { IfOk result (λ _. (seen self).failed ≡ false) }
+        ensures lawful { IfOk result
             (λ report. Lawful (record { shape = Some tree; acts = acts }) workers report) };
 }
 
@@ -110,6 +116,8 @@ impl<J: GivenJob> Locked for Run<J> {
     ghost acts = { J.acts };
 
     ghost workers = { J.workers };
+
+    ghost seen = { λ run. run };
 
     /// One turn of the worker, which has done this work, if it has done some. Where memory runs out in it
     /// the run has failed, and each later look answers that it is ended.

@@ -2,3 +2,4 @@ pub mod PieceLemmas
 pub mod LaunchLemmas
 pub mod CarryLemmas
 pub mod MeaningLemmas
+pub mod SeatLemmas

@@ -9,4 +9,6 @@ pub mod Launches
 pub mod Trapped
 pub mod Free
 pub mod Meanings
+pub mod Seats
+pub mod NextSteps
 pub mod Code

@@ -6,9 +6,9 @@
 //! calls that are pending, serves them as one batch whose pieces anyone may run (`launching`, `pieces`), and answers them.
 //! What each answer of a turn says is a path from what was seen of the worker before to what is seen after, and `laws`
 //! reads off it which counts and lists rose. A worker takes its turns until the root is done (`worker`), and rests after
-//! those that did nothing (`rest`). The table that the workers share is a parameter (`table`), which no type keeps yet. The
-//! crate stands on `two_deques`, `piece_board` and `launch_batch`, and `batch_pieces` says how the pieces of a batch are
-//! work for the board.
+//! those that did nothing (`rest`). The table that the workers share is a parameter (`table`), whose contracts the running
+//! table keeps (`running`). The crate stands on `two_deques`, `piece_board`, `launch_batch` and `core_table`, and
+//! `batch_pieces` says how the pieces of a batch are work for the board.
 #![tactic(auto)]
 
 pub mod batch_pieces;
@@ -21,6 +21,7 @@ pub mod launching;
 pub mod laws;
 mod pieces;
 mod rest;
+mod running;
 pub mod step;
 pub mod table;
 pub mod trapped;

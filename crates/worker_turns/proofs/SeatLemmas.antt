@@ -1,0 +1,8 @@
+pub mod Turned
+pub mod Taken
+pub mod Books
+pub mod Fits
+pub mod Serving
+pub mod Room
+pub mod Steps
+pub mod Seats

@@ -11,7 +11,7 @@ use Rattle.core_table.specs.declared.view.View.{View}
 use Rattle.core_table.specs.declared.table.CoreTable.{CoreTable}
 use Rattle.core_table.specs.declared.table.Pass.{Pass}
 use Rattle.core_table.specs.Passes.{IsPassOf, job_in, view}
-use Rattle.worker_turns.specs.Words.{Op, Call, Task, Idle, Run}
+use Rattle.worker_turns.specs.Words.{Op, Call, Task, Idle, Run, NotCalled}
 use Rattle.worker_turns.specs.Holds.{HoldSeen}
 use Rattle.worker_turns.specs.Passes.{PassSeen}
 
@@ -59,6 +59,32 @@ pass_seen v = record {
   claimed = oldest_first v.claimed;
   refused_nodes = oldest_first v.refused_nodes;
   opened = oldest_first v.opened;
+}
+
+-- what is seen of the pass of worker w before its first step
+abbrev pub unused : ℕ → PassSeen
+unused w = record {
+  worker = w;
+  task = Idle;
+  call = NotCalled;
+  hold = None;
+  last = None;
+  wins = 0;
+  refused_wins = 0;
+  refused_leaves = 0;
+  stops_found = 0;
+  stops = 0;
+  posted = None;
+  left = [];
+  book_seen = [];
+  greatest = 0;
+  before = 0;
+  after = None;
+  first_since = None;
+  claims = 0;
+  claimed = [];
+  refused_nodes = [];
+  opened = [];
 }
 
 -- A task is started at a leaf. And what is whole is not the root: where that is done, nothing is left to do.

@@ -9,6 +9,7 @@ use crate::table::Table;
 
 pub mod free;
 pub mod launches;
+pub mod seats;
 pub mod stays;
 pub mod trapped;
 

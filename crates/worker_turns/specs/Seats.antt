@@ -1,5 +1,5 @@
 -- What the turns see of a pass of the running table, and what is known of it between two of its calls.
-use Rattle.std.specs.Prelude.{ℕ, ◌≡◌, ◌≢◌, ◌≤◌, Option, None, Some, List, [], ◌∷◌, ◌++◌, map, option_map}
+use Rattle.std.specs.Prelude.{ℕ, ◌≢◌, ◌≤◌, Option, None, Some, List, [], ◌∷◌, ◌++◌, map, option_map}
 use Rattle.sp_order.specs.Plans.{Nodes}
 use Rattle.batcher_core.specs.Operations.{IsLeaf}
 use Rattle.batcher_core.specs.declared.state.task.Task.TheVariants.{Half, Started, Kept, Ended, Whole, Handed}

@@ -1,12 +1,11 @@
 -- Where the entry of a leaf stands in a book that has one more batch.
-use Rattle.std.proofs.Common.{ℕ, zero, suc, ◌≡◌, ◌≢◌, ◌+◌, ◌==◌, if◌then◌else◌, Option, None, Some, List, [], ◌∷◌, ◌++◌, length, map, arith, refl, sym, ap, ◌∙◌, subst}
+use Rattle.std.proofs.Common.{ℕ, zero, suc, ◌≡◌, ◌≢◌, ◌+◌, Option, None, Some, List, [], ◌∷◌, ◌++◌, length, map, arith, refl, sym, ap, ◌∙◌, subst}
 use Rattle.std.specs.Prelude.{slice_get}
 use Rattle.std.specs.List.{AllByRecursion}
 use Rattle.seq_objects.specs.Pairs.{AreDistinct}
-use Rattle.seq_objects.proofs.Elements.{each_so}
 use Rattle.launch_batch.proofs.ListLemmas.Elements.{each_mapped, each_unmapped}
 use Rattle.batch_history.specs.Book.{flat}
-use Rattle.batcher_core.specs.Operations.{Place, place_in, place_of, or_else, receipt_for, IsReceipt}
+use Rattle.batcher_core.specs.Operations.{Place, place_in, place_of, or_else, IsReceipt}
 use Rattle.batcher_core.proofs.BookLemmas.Books.{each_in_book, found_in_book, place_append}
 use Rattle.worker_turns.specs.Words.{Entry, Receipt}
 use Rattle.worker_turns.proofs.SeatLemmas.Taken.{if_yes, if_no}

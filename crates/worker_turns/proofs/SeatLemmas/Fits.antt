@@ -13,14 +13,11 @@ use Rattle.core_table.specs.declared.view.HoldView.{HoldView}
 use Rattle.core_table.specs.Plays.{IsNewCall}
 use Rattle.core_table.specs.Views.{taken_view, passed_view}
 use Rattle.worker_turns.specs.Words.{Call, Entry}
-use Rattle.worker_turns.specs.Holds.{HoldSeen, AreFit, StayFit, after_take, after_pass}
-use Rattle.worker_turns.specs.Seats.{oldest_first, taken_call, hold_seen}
-use Rattle.worker_turns.proofs.SeatLemmas.Turned.{Among, all_among, each_among, distinct_last}
+use Rattle.worker_turns.specs.Holds.{AreFit, StayFit}
+use Rattle.worker_turns.specs.Seats.{taken_call, hold_seen}
+use Rattle.worker_turns.proofs.SeatLemmas.Turned.{Among, all_among, distinct_last}
 use Rattle.worker_turns.proofs.SeatLemmas.Taken.{calls_taken, worker_of, record_taken}
 use Rattle.worker_turns.proofs.SeatLemmas.Books.{new_leaf}
-
-leaf_of : Call → ℕ
-leaf_of call = call.leaf
 
 -- what calls that may be served are, and none at all too
 record AreServable (book : List (List Entry)) (calls : List Call) : Type 0 where

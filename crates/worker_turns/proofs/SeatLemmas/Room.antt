@@ -1,5 +1,5 @@
 -- A job has no more calls than leaves. And a worker that is not trapped has a next step, unless its task is idle.
-use Rattle.std.proofs.Common.{ℕ, ◌≡◌, ◌≢◌, ◌<◌, ◌≤◌, ◌+◌, Option, None, Some, false, refl, arith, sym, ap, ◌∙◌}
+use Rattle.std.proofs.Common.{ℕ, ◌≡◌, ◌≢◌, ◌<◌, ◌≤◌, ◌+◌, Option, None, Some, refl, arith, ap}
 use Rattle.std.specs.Prelude.{IsNone}
 use Rattle.seq_objects.specs.declared.act.Act.{Act}
 use Rattle.seq_objects.specs.declared.act.Act.TheVariants as acts

@@ -1,6 +1,6 @@
 -- A pass stays one of its table, and what is seen of it after each step follows from what its view says.
-use Rattle.std.proofs.Common.{ℕ, ◌≡◌, ◌≢◌, ◌<◌, ◌≤◌, ◌+◌, Bool, true, false, List, [], ◌∷◌, ◌++◌, map, refl, sym, ap, ◌∙◌, subst, arith}
-use Rattle.std.specs.Prelude.{Option, None, Some, option_map, IfSome, IfNone, IfOk, IfErr, IsTrue, IsFalse, Result, Ok, Err, min}
+use Rattle.std.proofs.Common.{ℕ, ◌≡◌, ◌≤◌, ◌+◌, Bool, true, false, List, [], ◌∷◌, refl, sym, ap, ◌∙◌, subst}
+use Rattle.std.specs.Prelude.{Option, None, Some, option_map, IfSome, IfNone, IfOk, IfErr, IsTrue, IsFalse, Result, Ok, Err}
 use Rattle.batcher_core.specs.Entries.{StandsAt}
 use Rattle.core_table.specs.declared.slot.OpRecord.{OpRecord}
 use Rattle.core_table.specs.declared.view.HoldView.{HoldView}
@@ -12,8 +12,8 @@ use Rattle.core_table.specs.Passes.{IsPassOf, job_in, view}
 use Rattle.core_table.specs.Shows.{IsFront, entry_of}
 use Rattle.core_table.specs.Views as views
 use Rattle.launch_batch.proofs.ListLemmas.Elements.{map_append}
-use Rattle.worker_turns.specs.Words.{Task, Receipt, Entry, Out}
-use Rattle.worker_turns.specs.Holds.{HoldSeen, IsLooking}
+use Rattle.worker_turns.specs.Words.{Task, Receipt, Entry}
+use Rattle.worker_turns.specs.Holds.{HoldSeen}
 use Rattle.worker_turns.specs.Passes as passes
 use Rattle.worker_turns.specs.Passes.{PassSeen, Holds, IsLeft, IsDue, IsBooked}
 use Rattle.worker_turns.specs.Seats.{hold_seen, pass_seen, posted_call, TaskFits, LooksFit, IsSeat}

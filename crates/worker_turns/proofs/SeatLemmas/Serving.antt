@@ -1,14 +1,14 @@
 -- What the calls of a hold need on the running table, by what the turns know of it.
-use Rattle.std.proofs.Common.{ℕ, zero, suc, ◌≡◌, ◌≢◌, ◌<◌, ◌≤◌, ◌+◌, Bool, true, false, None, Some, List, [], ◌∷◌, ◌++◌, length, map, take, arith, refl, sym, ap, ◌∙◌, subst, inl, inr}
+use Rattle.std.proofs.Common.{ℕ, zero, suc, ◌≡◌, ◌≢◌, ◌<◌, true, false, Some, List, [], ◌∷◌, length, map, take, arith, refl, sym, ap, subst, inl, inr}
 use Rattle.std.specs.Prelude.{Contains, slice_get}
 use Rattle.std.specs.List.{AllByRecursion}
 use Rattle.seq_objects.specs.BatchOrder.{ComesFirst}
 use Rattle.seq_objects.specs.Pairs.{EachPair, AreDistinct}
-use Rattle.seq_objects.proofs.Elements.{each_append, each_front, each_so}
-use Rattle.launch_batch.specs.Calls.{MayServe, AreSame, IsServiceOf}
-use Rattle.launch_batch.proofs.ListLemmas.Elements.{each_mapped, each_unmapped, map_append}
-use Rattle.launch_batch.proofs.ListLemmas.Same.{each_same, distinct_same, length_same}
-use Rattle.batch_history.specs.Book.{flat, IsBatch}
+use Rattle.seq_objects.proofs.Elements.{each_so}
+use Rattle.launch_batch.specs.Calls.{MayServe, IsServiceOf}
+use Rattle.launch_batch.proofs.ListLemmas.Elements.{each_unmapped}
+use Rattle.launch_batch.proofs.ListLemmas.Same.{distinct_same, length_same}
+use Rattle.batch_history.specs.Book.{flat}
 use Rattle.batch_history.specs.Serving.{call_in, calls_in}
 use Rattle.batcher_core.specs.Operations.{place_of, IsReceipt}
 use Rattle.core_table.specs.declared.slot.OpRecord.{OpRecord}
@@ -17,9 +17,9 @@ use Rattle.core_table.specs.Shows.{took_in, record_in, among}
 use Rattle.core_table.specs.Batches as batches
 use Rattle.core_table.specs.Batches.{call_of, ServesTaken}
 use Rattle.worker_turns.specs.Words.{Call, Entry, Receipt}
-use Rattle.worker_turns.specs.Holds.{HoldSeen, workers_in, IsPublishDue, IsPublished, IsAnswerDue, IsReleaseDue, TookNone, ServedAll}
-use Rattle.worker_turns.specs.Seats.{oldest_first, taken_call, hold_seen}
-use Rattle.worker_turns.proofs.SeatLemmas.Turned.{Among, all_among, each_among, among_same, same_among, pairs_last, each_turned_back}
+use Rattle.worker_turns.specs.Holds.{workers_in, IsPublishDue, IsAnswerDue, IsReleaseDue}
+use Rattle.worker_turns.specs.Seats.{hold_seen}
+use Rattle.worker_turns.proofs.SeatLemmas.Turned.{Among, all_among, each_among, among_same, same_among, each_turned_back}
 use Rattle.worker_turns.proofs.SeatLemmas.Taken.{calls_taken, worker_of, record_taken, took_taken, taken_took, among_seen, not_among}
 use Rattle.worker_turns.proofs.SeatLemmas.Books.{get_each, receipt_due}
 

@@ -1,5 +1,5 @@
 -- What each step of a task needs on the running table, and what it leaves of the task.
-use Rattle.std.proofs.Common.{ℕ, ◌≡◌, ◌≢◌, ◌≤◌, ◌==◌, if◌then◌else◌, Bool, true, false, Option, None, Some, refl, sym, ap, ◌∙◌, subst, inl, inr, arith}
+use Rattle.std.proofs.Common.{ℕ, ◌≡◌, ◌≢◌, true, false, Option, None, Some, refl, sym, ap, ◌∙◌, subst, inl, inr}
 use Rattle.std.proofs.lemmas.Bool.{cases_eq}
 use Rattle.seq_objects.specs.Spin.{spin_of}
 use Rattle.seq_objects.specs.Objects.{value_of}
@@ -14,11 +14,10 @@ use Rattle.batcher_core.specs.State.{CoreJob}
 use Rattle.batcher_core.specs.Operations.{leaf_of, op_in, IsLeaf}
 use Rattle.batcher_core.specs.Events.{value_in, task_after}
 use Rattle.batcher_core.specs.declared.state.task.Task.TheVariants.{Half, Started, Kept, Ended, Whole, Handed}
-use Rattle.core_table.specs.declared.slot.OpRecord.{OpRecord}
 use Rattle.core_table.specs.Passes.{IsTickDue, IsOpenDue, IsFinishDue, IsArriveDue, IsInner, opened_task, half_if}
 use Rattle.core_table.specs.Shows.{IsRecordOf}
 use Rattle.core_table.specs.Views.{ticked}
-use Rattle.worker_turns.specs.Words.{Op, Task, Idle, Run, CallState, NotCalled, Out, Got}
+use Rattle.worker_turns.specs.Words.{Task, Idle, Run, CallState, NotCalled, Out, Got}
 use Rattle.worker_turns.specs.declared.step.Step.{Step}
 use Rattle.worker_turns.specs.declared.step.Step.TheVariants as steps
 use Rattle.worker_turns.specs.Passes.{is_trapped, IsTick, IsValue}

@@ -2,7 +2,6 @@ use Rattle.std.proofs.Common.{refl}
 use Rattle.core_table.specs.Passes.{view, job_in}
 use Rattle.core_table.specs.Views as views
 use Rattle.worker_turns.specs.Holds.{IsPublishDue, after_publish}
-use Rattle.worker_turns.specs.Seats.{hold_seen}
 use Rattle.worker_turns.proofs.SeatLemmas.Steps.{is_out}
 use Rattle.worker_turns.proofs.SeatLemmas.Seats.{seat_by, held, looks_at, hold_step}
 use Rattle.worker_turns.proofs.SeatLemmas.Serving.{publish_due}

@@ -1,4 +1,4 @@
-use Rattle.std.proofs.Common.{ap, ◌∙◌, Bool, true, false, ◌≡◌, refl}
+use Rattle.std.proofs.Common.{ap, Bool, true, false, ◌≡◌, refl}
 use Rattle.std.specs.Prelude.{IsTrue, IsFalse}
 use Rattle.core_table.specs.declared.view.View.{View}
 use Rattle.core_table.specs.Passes.{view}

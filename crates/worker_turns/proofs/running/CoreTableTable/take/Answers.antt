@@ -1,7 +1,5 @@
-use Rattle.std.proofs.Common.{refl, ap, subst, sym, ◌≡◌, ℕ, Some, Option, arith}
+use Rattle.std.proofs.Common.{refl, ap, ◌≡◌, arith}
 use Rattle.core_table.specs.declared.view.View.{View}
-use Rattle.core_table.specs.declared.view.HoldView.{HoldView}
-use Rattle.sp_order.specs.Precedence.{leaves}
 use Rattle.core_table.specs.Passes.{view, job_in}
 use Rattle.core_table.specs.Passes.{tree_in}
 use Rattle.core_table.specs.Views as views

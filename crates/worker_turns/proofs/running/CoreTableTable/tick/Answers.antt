@@ -1,7 +1,5 @@
-use Rattle.std.proofs.Common.{ap}
 use Rattle.core_table.specs.Passes.{view, job_in}
 use Rattle.core_table.specs.Views as views
-use Rattle.worker_turns.specs.Seats.{pass_seen}
 use Rattle.worker_turns.proofs.SeatLemmas.Steps.{not_out, tick_by, step_due, ticked_fits}
 use Rattle.worker_turns.proofs.SeatLemmas.Seats.{seat_by, task_seen}
 use Rattle.worker_turns.specs.NextSteps.{next_step}

@@ -1,5 +1,5 @@
 use Rattle.std.proofs.Common.{ap, arith}
-use Rattle.core_table.specs.Passes.{view, job_in}
+use Rattle.core_table.specs.Passes.{view}
 use Rattle.core_table.specs.Views as views
 use Rattle.worker_turns.specs.Seats.{pass_seen}
 use Rattle.worker_turns.proofs.SeatLemmas.Steps.{is_out}

@@ -10,5 +10,6 @@ pub mod Trapped
 pub mod Free
 pub mod Meanings
 pub mod Seats
+pub mod Opening
 pub mod NextSteps
 pub mod Code

@@ -2,12 +2,15 @@
 ghost use Rattle.std.specs.Prelude.{◌≡◌};
 ghost use Rattle.worker_turns.specs.declared.crew.Stop.TheVariants.{Memory};
 
+mod opening;
+
 use crate::batch_pieces::BatchPieces;
 use piece_board::{Board, Desk};
 use std::alloc::{AllocError, AllocFailed};
 use two_deques::{Decks, Hand, Tries};
 
 /// What all workers share: the table, the deques, the board, how many they are, and the gate.
+#[derive(Drop)]
 pub struct Crew<'a, T, G> {
     pub table: T,
     pub decks: Decks,
@@ -17,6 +20,7 @@ pub struct Crew<'a, T, G> {
 }
 
 /// What one worker has: its pass, its hand, its desk, and whom it tries to steal from.
+#[derive(Drop)]
 pub struct Me<P> {
     pub pass: P,
     pub hand: Hand,

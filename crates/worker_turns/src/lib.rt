@@ -7,7 +7,7 @@
 //! What each answer of a turn says is a path from what was seen of the worker before to what is seen after, and `laws`
 //! reads off it which counts and lists rose. A worker takes its turns until the root is done (`worker`), and rests after
 //! those that did nothing (`rest`). The table that the workers share is a parameter (`table`), whose contracts the running
-//! table keeps (`running`). The crate stands on `two_deques`, `piece_board`, `launch_batch` and `core_table`, and
+//! table keeps (`running`): over that `crew` makes the workers of a job, which `sending` lets go to threads. The crate stands on `two_deques`, `piece_board`, `launch_batch` and `core_table`, and
 //! `batch_pieces` says how the pieces of a batch are work for the board.
 #![tactic(auto)]
 
@@ -22,6 +22,7 @@ pub mod laws;
 mod pieces;
 mod rest;
 mod running;
+pub mod sending;
 pub mod step;
 pub mod table;
 pub mod trapped;

@@ -1,2 +1,4 @@
 -- What the tests of the table say of its passes.
 pub mod Tables
+pub mod Adds
+pub mod Launches

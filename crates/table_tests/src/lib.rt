@@ -5,7 +5,13 @@
 #![tactic(auto)]
 
 #[cfg(test)]
+mod adds;
+#[cfg(test)]
 mod claims;
+#[cfg(test)]
+mod launches;
+#[cfg(test)]
+mod pairs;
 #[cfg(test)]
 mod passes;
 #[cfg(test)]

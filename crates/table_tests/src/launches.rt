@@ -1,0 +1,141 @@
+//! A launch by hand: all calls that are pending are taken, served as one batch, published and answered.
+ghost use Rattle.std.specs.Prelude.{◌≡◌, ◌<◌, ◌≤◌, ◌+◌, ◌∷◌, ◌++◌, [], List, length, IfOk, IfSome, IfNone};
+ghost use Rattle.seq_objects.specs.Pieces.{AllMeet};
+ghost use Rattle.batch_history.specs.declared.batch.Entry.{Entry as EntryOf};
+ghost use Rattle.batcher_core.specs.declared.state.status.CallState.TheVariants.{Out};
+ghost use Rattle.launch_batch.specs.Calls.{MayServe, IsServiceOf};
+ghost use Rattle.launch_batch.specs.Pieces.{Meets};
+ghost use Rattle.table_tests.specs.Adds.{IsTwoAdds, HasStarted};
+ghost use Rattle.table_tests.specs.Launches.{HasFlag, Answers};
+
+use batch_history::{Batch, Entry};
+use batcher_core::Receipt;
+use batcher_core::laws::book::entries_are_found_at_their_places;
+use core_table::{CoreTable, Pass};
+use launch_batch::{PieceIn, PieceOut, Shop, run_piece};
+use seq_objects::Call;
+use std::alloc::{AllocError, Global};
+
+/// The outs of pieces that are run from the last to the first, in the order of the pieces.
+fn run_all(alloc: Global, pieces: Vec<PieceIn>) -> Result<Vec<PieceOut>, AllocError>
+    ensures { IfOk result (λ outs. AllMeet Meets pieces.items outs.items) }
+{
+    let mut pieces = pieces;
+    match pieces.pop() {
+        None => Ok(Vec::new(alloc)),
+        Some(last) => {
+            let out = run_piece(alloc, last)?;
+            let mut outs = run_all(alloc, pieces)?;
+            outs.push(out)?;
+            Ok(outs)
+        }
+    }
+}
+
+/// The shop after it has served these calls as one batch, and the batch.
+fn serve_calls(alloc: Global, shop: Shop, calls: Vec<Call>) -> Result<(Shop, Batch), AllocError>
+    requires { MayServe shop calls.items }
+    ensures batch { IfOk result (λ served. IsServiceOf shop calls.items served.1) }
+    ensures shop { IfOk result (λ served. served.0 ≡ shop ++ served.1 ∷ []) }
+{
+    let (opened, pieces) = shop.begin(alloc, calls)?;
+    let outs = run_all(alloc, pieces)?;
+    let (shop, batch) = opened.end(alloc, outs)?;
+    Ok((shop, batch))
+}
+
+/// Tries for the flag.
+pub(crate) fn win(table: &CoreTable, pass: &mut Pass, node: u32) -> Option<Shop>
+    requires out { HasStarted table.now node Out pass.old }
+    ensures won { IfSome result (λ shop. HasFlag table.now node shop 0 [] pass.new) }
+    ensures lost { IfNone result (HasStarted table.now node Out pass.new) }
+{
+    let _ = node;
+    table.win(pass)
+}
+
+/// Looks at worker u, and gives the status that it found: 1 where the call is pending. Then it is taken, and joins the
+/// calls at their front.
+pub(crate) fn look(
+    table: &CoreTable,
+    pass: &mut Pass,
+    node: u32,
+    shop: &Shop,
+    u: u32,
+    calls: &mut Vec<Call>,
+) -> Result<u64, AllocError>
+    requires two { IsTwoAdds table.now }
+    requires low { u < 2 }
+    requires flag { HasFlag table.now node shop.now u calls.old.items pass.old }
+    ensures flag { IfOk result (λ _. HasFlag table.now node shop.now (u + 1) calls.new.items pass.new) }
+    ensures some { IfOk result (λ seen. seen ≡ 1 → 0 < length calls.new.items) }
+    ensures grows { IfOk result (λ _. length calls.old.items ≤ length calls.new.items) }
+{
+    let (_, _) = (node, shop);
+    match table.take(pass, u) {
+        Ok(call) => {
+            let call = Call {
+                worker: u,
+                leaf: call.leaf,
+                op: call.op,
+            };
+            calls.insert(0, call)?;
+            Ok(1)
+        }
+        Err(seen) => Ok(seen),
+    }
+}
+
+/// Answers the entries of the batch that the shop has served last, in its order.
+fn answer_all(
+    table: &CoreTable,
+    pass: &mut Pass,
+    node: u32,
+    shop: &Shop,
+    batch: &[Entry],
+    number: u32,
+)
+    requires published { (before : List (List EntryOf)) × (before ++ batch.now ∷ [] ≡ shop.now)
+        × (length before ≡ number) × Answers table.now node before batch.now 0 pass.old }
+    ensures answered { (before : List (List EntryOf)) × (before ++ batch.now ∷ [] ≡ shop.now)
+        × Answers table.now node before batch.now (length batch.now) pass.new }
+{
+    entries_are_found_at_their_places();
+    let (_, _) = (node, shop);
+    for place in 0..batch.len() {
+        let entry = batch[place];
+        let receipt = Receipt {
+            batch: number,
+            place: place as u32,
+            reply: entry.reply,
+        };
+        table.answer(pass, entry.worker, receipt);
+    }
+}
+
+/// Serves the calls that were taken as one batch, publishes it, answers them, and lets go of the flag.
+pub(crate) fn end_launch(
+    alloc: Global,
+    table: &CoreTable,
+    pass: &mut Pass,
+    node: u32,
+    shop: Shop,
+    calls: Vec<Call>,
+) -> Result<(), AllocError>
+    requires two { IsTwoAdds table.now }
+    requires flag { HasFlag table.now node shop 2 calls.items pass.old }
+    requires some { 0 < length calls.items }
+    ensures out { IfOk result (λ _. HasStarted table.now node Out pass.new) }
+{
+    let number = shop.history().batches().len();
+    if number > 20_000 {
+        return Err(AllocError);
+    }
+    let (shop, batch) = serve_calls(alloc, shop, calls)?;
+    let mut entries = Vec::new(alloc);
+    entries.extend_from_slice(batch.entries())?;
+    table.publish(pass, batch);
+    answer_all(table, pass, node, &shop, entries.as_slice(), number as u32);
+    table.release(pass, shop);
+    Ok(())
+}

@@ -73,6 +73,15 @@ pub(crate) fn post(table: &CoreTable, pass: &mut Pass, node: u32)
     table.post(pass, call);
 }
 
+/// Asks for the number of batches while the call is out.
+pub(crate) fn hear(table: &CoreTable, pass: &mut Pass, node: u32) -> u64
+    requires out { HasStarted table.now node Out pass.old }
+    ensures out { HasStarted table.now node Out pass.new }
+{
+    let _ = node;
+    table.since(pass)
+}
+
 /// Leaves with the receipt, if it is there.
 pub(crate) fn leave(table: &CoreTable, pass: &mut Pass, node: u32) -> Result<Receipt, u64>
     requires out { HasStarted table.now node Out pass.old }

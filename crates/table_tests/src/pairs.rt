@@ -5,7 +5,7 @@ ghost use Rattle.core_table.specs.Passes.{IsPassOf, view};
 ghost use Rattle.table_tests.specs.Adds.{IsTwoAdds, HasStarted};
 ghost use Rattle.table_tests.specs.Tables.{IsUnused};
 
-use crate::adds::{claim, end, leave, open_left, open_right, post, start, two_adds};
+use crate::adds::{claim, end, hear, leave, open_left, open_right, post, start, two_adds};
 use crate::launches::{end_launch, look, win};
 use crate::passes::last_pass;
 use batch_history::Report;
@@ -122,6 +122,89 @@ fn in_one_batch(alloc: Global, table: CoreTable, zero: Pass, one: Pass) -> Resul
     Ok(report.history.batches().len() == 1 && has_rows(&report, [(0, 0, 2, 1), (1, 1, 3, 3)]))
 }
 
+/// Whether worker 1 posts just after its status was looked at, and hears of no batch then. So worker 0 launches its own
+/// call alone.
+fn launch_alone(
+    alloc: Global,
+    table: &CoreTable,
+    zero: &mut Pass,
+    one: &mut Pass,
+) -> Result<bool, AllocError>
+    requires two { IsTwoAdds table.now }
+    requires zero { HasStarted table.now 1 NotCalled zero.old }
+    requires one { HasStarted table.now 2 NotCalled one.old }
+    ensures zero { IfOk result (λ done. done ≡ true → HasStarted table.now 1 Out zero.new) }
+    ensures one { IfOk result (λ done. done ≡ true → HasStarted table.now 2 Out one.new) }
+{
+    post(table, zero, 1);
+    let Some(shop) = win(table, zero, 1) else {
+        return Ok(false);
+    };
+    let mut calls = Vec::new(alloc);
+    let first = look(table, zero, 1, &shop, 0, &mut calls)?;
+    let second = look(table, zero, 1, &shop, 1, &mut calls)?;
+    post(table, one, 2);
+    if first != 1 || second != 0 || hear(table, one, 2) != 0 {
+        return Ok(false);
+    }
+    end_launch(alloc, table, zero, 1, shop, calls)?;
+    Ok(true)
+}
+
+/// Whether worker 1 launches its call once worker 0 has left with batch 0, leaves with batch 1, and ends the root.
+fn launch_later(
+    alloc: Global,
+    table: &CoreTable,
+    zero: &mut Pass,
+    one: &mut Pass,
+) -> Result<bool, AllocError>
+    requires two { IsTwoAdds table.now }
+    requires zero { HasStarted table.now 1 Out zero.old }
+    requires one { HasStarted table.now 2 Out one.old }
+    ensures one { IfOk result (λ done. done ≡ true → IsPassOf table.now one.new) }
+    ensures saw { IfOk result (λ done. done ≡ true → (view one.new).saw_done ≡ true) }
+{
+    let Some(shop) = win(table, one, 2) else {
+        return Ok(false);
+    };
+    let Ok(receipt) = leave(table, zero, 1) else {
+        return Ok(false);
+    };
+    let mut calls = Vec::new(alloc);
+    let first = look(table, one, 2, &shop, 0, &mut calls)?;
+    let second = look(table, one, 2, &shop, 1, &mut calls)?;
+    if first != 0 || second != 1 || told(receipt) != (0, 0, 1) || end(table, zero, 1, receipt) {
+        return Ok(false);
+    }
+    end_launch(alloc, table, one, 2, shop, calls)?;
+    let Ok(receipt) = leave(table, one, 2) else {
+        return Ok(false);
+    };
+    Ok(told(receipt) == (1, 0, 3) && end(table, one, 2, receipt) && table.root_done(one))
+}
+
+/// Whether the two calls are two batches, and the report has the two rows.
+fn in_two_batches(
+    alloc: Global,
+    table: CoreTable,
+    zero: Pass,
+    one: Pass,
+) -> Result<bool, AllocError>
+    requires two { IsTwoAdds table }
+    requires zero { IsUnused table zero }
+    requires one { IsUnused table one }
+{
+    let (mut zero, mut one) = (zero, one);
+    if !both_start(&table, &mut zero, &mut one)
+        || !launch_alone(alloc, &table, &mut zero, &mut one)?
+        || !launch_later(alloc, &table, &mut zero, &mut one)?
+    {
+        return Ok(false);
+    }
+    let report = table.close(alloc, one)?;
+    Ok(report.history.batches().len() == 2 && has_rows(&report, [(0, 0, 2, 1), (1, 1, 3, 3)]))
+}
+
 #[test]
 fn two_calls_are_one_batch(rt: HostRuntime) -> Result<(), Fail> {
     let alloc = rt.alloc();
@@ -130,5 +213,16 @@ fn two_calls_are_one_batch(rt: HostRuntime) -> Result<(), Fail> {
     let one = last_pass(&table, &mut passes).expect(&rt, "a second pass");
     let zero = last_pass(&table, &mut passes).expect(&rt, "a first pass");
     assert!(rt; in_one_batch(alloc, table, zero, one)?);
+    Ok(())
+}
+
+#[test]
+fn a_late_call_comes_in_the_next_batch(rt: HostRuntime) -> Result<(), Fail> {
+    let alloc = rt.alloc();
+    let job = two_adds(alloc)?;
+    let (table, mut passes) = CoreTable::make(alloc, &job, 2)?;
+    let one = last_pass(&table, &mut passes).expect(&rt, "a second pass");
+    let zero = last_pass(&table, &mut passes).expect(&rt, "a first pass");
+    assert!(rt; in_two_batches(alloc, table, zero, one)?);
     Ok(())
 }

@@ -52,10 +52,19 @@ fn decks_go_to_threads()
     is_sent::<Hand>();
 }
 
-/// All threads can share a crew over the running table, and each of its workers can go to a thread.
+/// A worker of the running table can go to a thread, and its pass can come back.
+pub fn workers_go_to_threads()
+    ensures worker { IsSend (me_row pass_row) }
+    ensures pass { IsSend pass_row }
+{
+    tables_go_to_threads();
+    boards_go_to_threads();
+    decks_go_to_threads();
+}
+
+/// All threads can share a crew over the running table.
 pub fn crews_go_to_threads<G: Sync>()
-    ensures shared { (l : NamedLft) → IsSync (crew_row l table_row G.row) }
-    ensures sent { IsSend (me_row pass_row) }
+    ensures { (l : NamedLft) → IsSync (crew_row l table_row G.row) }
 {
     tables_go_to_threads();
     boards_go_to_threads();

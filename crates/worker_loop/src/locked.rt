@@ -3,10 +3,11 @@ ghost use Rattle.std.specs.Prelude.{◌≡◌, ◌<◌, ◌≤◌, Some, IfOk, f
 ghost use Rattle.batch_history.specs.Lawful.{Lawful};
 ghost use Rattle.worker_loop.specs.Runs.{IsCoreOf};
 
+use crate::empty::report_of_empty;
 use crate::running::{GivenJob, Locked, Run};
 use crate::sending::cores_are_sent;
 use crate::worker::{Shared, work};
-use batch_history::{History, Report, Rows};
+use batch_history::Report;
 use batcher_core::Core;
 use bt_io::Pause;
 use sp_order::{Job, Plan};
@@ -98,12 +99,8 @@ pub fn run_locked<R: Threads + Wait + Sync, G: Pause + Sync>(
     requires few_workers { workers ≤ 32 }
     ensures lawful { IfOk result (λ report. Lawful job.now workers report) }
 {
-    if job.shape().is_none() {
-        return Ok(Report {
-            workers,
-            history: History::new(alloc),
-            rows: Rows::of(Vec::new(alloc)),
-        });
+    if let Some(report) = report_of_empty(alloc, job, workers) {
+        return Ok(report);
     }
     let core = Core::start(alloc, job, workers)?;
     let room = Plan::of(alloc, job)?.nodes();

@@ -1,0 +1,145 @@
+//! A run in threads over the running table.
+ghost use Rattle.std.specs.Prelude.{◌≡◌, ◌<◌, ◌≤◌, ℕ, Some, IfOk, length, slice_index_or};
+ghost use Rattle.batch_history.specs.Lawful.{Lawful};
+ghost use Rattle.core_table.specs.declared.table.Pass.{Pass as PassOf};
+ghost use Rattle.core_table.specs.Passes.{tree_in, acts_in, job_in, IsPassOf};
+ghost use Rattle.worker_turns.specs.declared.crew.Me.{Me as MeOf};
+ghost use Rattle.worker_turns.specs.Workers.{IsReady};
+ghost use Rattle.worker_turns.specs.Seats.{IsSeat};
+ghost use Rattle.worker_turns.specs.Opening.{seat_seen, AreAtStart};
+
+use crate::empty::report_of_empty;
+use crate::start::wait_for_others;
+use batch_history::Report;
+use bt_io::Pause;
+use core_table::{CoreTable, Pass};
+use sp_order::Job;
+use std::alloc::{AllocError, Global};
+use std::sync::Wait;
+use std::sync::atomic::AtomicU64;
+use std::thread;
+use std::thread::Threads;
+use worker_turns::sending::{crews_go_to_threads, workers_go_to_threads};
+use worker_turns::{Crew, Me, work};
+
+/// What threads share of a run over the running table. The threads are started over a type that is said to be shared,
+/// and that a crew can be shared is shown once.
+trait Team {
+    /// The worker can begin.
+    ghost ready: { Self → MeOf PassOf → Type 0 };
+
+    /// The pass is one of the table.
+    ghost gave: { Self → PassOf → Type 0 };
+
+    /// Lets the worker work until the run has ended for it. It gives its pass back.
+    fn work<R: Wait>(&self, rt: &R, alloc: Global, me: Me<Pass>) -> Pass
+        requires { ready self.now me }
+        ensures { gave self.now result };
+}
+
+impl<'a, G: Pause> Team for Crew<'a, CoreTable, G> {
+    ghost ready = { λ crew me. (crew.workers ≡ (job_in crew.table).workers)
+        × IsReady (IsSeat crew.table) seat_seen crew.decks crew.board me };
+
+    ghost gave = { λ crew pass. IsPassOf crew.table pass };
+
+    fn work<R: Wait>(&self, rt: &R, alloc: Global, me: Me<Pass>) -> Pass {
+        work(rt, alloc, self, me)
+    }
+}
+
+/// Lets so many workers work, each in a thread of its own where one can be made, once the others are there, and joins
+/// them. Each gives its pass back.
+fn work_in_threads<C: Team + Sync, R: Threads + Wait + Sync>(
+    rt: &R,
+    alloc: Global,
+    team: &C,
+    workers: u32,
+    mes: Vec<Me<Pass>>,
+) -> Result<Vec<Pass>, AllocError>
+    requires ready { (w : ℕ) (me : MeOf PassOf) → w < length mes.items
+        → me ≡ slice_index_or mes.items w me → C.ready team.now me }
+    ensures count { IfOk result (λ passes. length passes.items ≡ length mes.items) }
+    ensures passes { IfOk result (λ passes. (w : ℕ) (pass : PassOf) → w < length passes.items
+        → pass ≡ slice_index_or passes.items w pass → C.gave team.now pass) }
+{
+    workers_go_to_threads();
+    let came = AtomicU64::new(0);
+    let all = &came;
+    thread::map_vec(
+        rt,
+        mes,
+        &|me: Me<Pass>| -> Pass
+            requires { C.ready team.now me }
+            ensures { C.gave team.entry.now result }
+        {
+            wait_for_others(all, workers);
+            team.work(rt, alloc, me)
+        },
+    )
+}
+
+/// Lets the workers of a crew work.
+fn work_as_crew<R: Threads + Wait + Sync, G: Pause + Sync>(
+    rt: &R,
+    alloc: Global,
+    crew: &Crew<CoreTable, G>,
+    mes: Vec<Me<Pass>>,
+) -> Result<Vec<Pass>, AllocError>
+    requires workers { crew.now.workers ≡ (job_in crew.now.table).workers }
+    requires start { AreAtStart (IsSeat crew.now.table) seat_seen crew.now.decks crew.now.board
+        crew.now.workers crew.now.workers mes.items }
+    ensures count { IfOk result (λ passes. length passes.items ≡ crew.now.workers) }
+    ensures passes { IfOk result (λ passes. (w : ℕ) (pass : PassOf) → w < length passes.items
+        → pass ≡ slice_index_or passes.items w pass → IsPassOf crew.now.table pass) }
+{
+    crews_go_to_threads::<G>();
+    work_in_threads(rt, alloc, crew, crew.workers, mes)
+}
+
+/// The report of a run that has come to its end. Memory ran out where a worker has set the stop word, or the root is
+/// not done.
+fn close(alloc: Global, table: CoreTable, pass: Pass) -> Result<Report, AllocError>
+    requires pass { IsPassOf table pass }
+    ensures lawful { IfOk result (λ report. Lawful
+        (record { shape = Some (tree_in table); acts = acts_in table }) (job_in table).workers report) }
+{
+    let mut pass = pass;
+    if table.stopped(&mut pass) || !table.root_done(&mut pass) {
+        return Err(AllocError);
+    }
+    table.close(alloc, pass)
+}
+
+/// Runs a job in threads, one for each worker, over the running table: a worker takes nodes and pieces from its own deques and
+/// steals from those of the others, and calls become batches, whose pieces it helps with while it waits. No step takes a
+/// lock. Where a thread cannot be made, the caller does its work. Each thread is joined before this returns, also where
+/// memory ran out: a worker in which it does sets the stop word, and the run answers that.
+///
+/// The gate is called where a worker has started a leaf, where it has posted a call, where it has won the flag, and
+/// where it is about to run a piece.
+pub fn run_table<R: Threads + Wait + Sync, G: Pause + Sync>(
+    rt: &R,
+    alloc: Global,
+    job: &Job,
+    workers: u32,
+    pause: &G,
+) -> Result<Report, AllocError>
+    requires some_workers { 0 < workers }
+    requires few_workers { workers ≤ 32 }
+    ensures lawful { IfOk result (λ report. Lawful job.now workers report) }
+{
+    if let Some(report) = report_of_empty(alloc, job, workers) {
+        return Ok(report);
+    }
+    let (crew, mes) = Crew::make(alloc, job, workers, pause)?;
+    let mut passes = work_as_crew(rt, alloc, &crew, mes)?;
+    let Crew {
+        table,
+        decks: _,
+        board: _,
+        workers: _,
+        pause: _,
+    } = crew;
+    close(alloc, table, passes.remove(0))
+}

@@ -1,0 +1,22 @@
+//! A run of a job without leaves.
+ghost use Rattle.std.specs.Prelude.{IfSome, IsNone, IsSome};
+ghost use Rattle.batch_history.specs.Lawful.{Lawful};
+
+use batch_history::{History, Report, Rows};
+use sp_order::Job;
+use std::alloc::Global;
+
+/// The report of a job without leaves. There is none for another job, which is to be run.
+pub(crate) fn report_of_empty(alloc: Global, job: &Job, workers: u32) -> Option<Report>
+    ensures lawful { IfSome result (λ report. Lawful job.now workers report) }
+    ensures leaves { IsNone result → IsSome job.now.shape }
+{
+    if job.shape().is_some() {
+        return None;
+    }
+    Some(Report {
+        workers,
+        history: History::new(alloc),
+        rows: Rows::of(Vec::new(alloc)),
+    })
+}

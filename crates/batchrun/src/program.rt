@@ -78,7 +78,7 @@ pub fn run_step<I: Shelf, O: Sink, E: Sink>(
 /// Does what the words say: the whole program over any shelf and sinks.
 ///
 /// A `step` command is done whole by `run_step`. A `run` and a `gen` command wait for their threads, which call `pause` at
-/// the points of the run, outside the lock.
+/// the points of the run.
 pub fn batchrun<R: Threads + Wait + Sync, I: Shelf, O: Sink, E: Sink, G: Pause + Sync>(
     rt: &R,
     alloc: Global,

@@ -29,7 +29,7 @@ use sp_order::Job;
 use std::alloc::{AllocError, Global};
 use std::sync::Wait;
 use std::thread::Threads;
-use worker_loop::run_locked;
+use worker_loop::run_table;
 
 /// Runs a job by the turns of a command.
 fn run_by_schedule(
@@ -95,7 +95,7 @@ pub(crate) fn run_file<R: Threads + Wait + Sync, I: Shelf, O: Sink, G: Pause + S
 {
     match read_job_of(alloc, shelf, command.file) {
         Ok(job) => {
-            let run = run_locked(rt, alloc, &job, command.workers, pause);
+            let run = run_table(rt, alloc, &job, command.workers, pause);
             write_report(alloc, &job, run, out)
         }
         Err(status) => Outcome::stopped(status),
@@ -141,6 +141,6 @@ pub(crate) fn run_made<R: Threads + Wait + Sync, O: Sink, G: Pause + Sync>(
     let Ok(job) = generate(alloc, command.seed, command.size) else {
         return Outcome::stopped(Status::Memory);
     };
-    let run = run_locked(rt, alloc, &job, command.workers, pause);
+    let run = run_table(rt, alloc, &job, command.workers, pause);
     write_summary(alloc, command, &job, run, out)
 }

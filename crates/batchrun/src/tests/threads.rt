@@ -2,63 +2,75 @@
 use crate::tests::language::BUILD_ASK_DRAIN;
 use crate::tests::{run, run_held, unhindered};
 use batch_history::Report;
-use bt_io::{Pause, Point};
-use std::sync::atomic::{AtomicU64, Ordering};
 use std::test::Fail;
-use std::thread;
+use test_gates::{AtCalls, AtPosts, AtStarts, Meeting};
 
-/// How often a held worker looks before it is let go.
-const MOST_LOOKS: u32 = 100_000_000;
+const TWO_THREADS: [&str; 3] = ["run", "-", "2"];
 
-/// Holds the first of two workers that starts a leaf until the other one has started a leaf.
-#[derive(Drop)]
-struct Meeting {
-    /// Bit w is set once worker w has started a leaf.
-    started: AtomicU64,
-    /// How often a worker was let go alone.
-    missed: AtomicU64,
-}
+const FOUR_ADDS: &[u8] = b"par { counter add 1 counter add 2 counter add 3 counter add 4 }";
 
-impl Pause for Meeting {
-    fn at(&self, point: Point, worker: u32) {
-        let Point::LeafStart(_) = point else {
-            return;
-        };
-        self.started
-            .fetch_or(1 << u64::from(worker % 2), Ordering::SeqCst);
-        for _ in 0..MOST_LOOKS {
-            if self.started.load(Ordering::SeqCst) == 3 {
-                return;
-            }
-            thread::yield_now();
-        }
-        self.missed.fetch_add(1, Ordering::SeqCst);
-    }
-}
+const FOUR_TAKES: &[u8] = b"par { queue take queue take queue take queue take }";
 
 /// Whether a worker has run a leaf.
 fn has_worked(report: &Report, worker: u32) -> bool {
     report.rows.list().iter().any(|row| row.worker == worker)
 }
 
+/// How many calls the first batch has.
+fn first_size(report: &Report) -> usize {
+    match report.history.batches().first() {
+        Some(batch) => batch.entries().len(),
+        None => 0,
+    }
+}
+
 #[test]
 fn two_workers_start_leaves_at_one_time(rt: HostRuntime) -> Result<(), Fail> {
-    let meeting = Meeting {
-        started: AtomicU64::new(0),
-        missed: AtomicU64::new(0),
+    let gate = AtStarts {
+        starts: Meeting::new(),
     };
-    let text = b"par { counter add 1 counter add 2 counter add 3 counter add 4 }";
-    let given = unhindered(&["run", "-", "2"], text);
-    let ran = run_held(&rt, rt.alloc(), &given, &meeting)?;
+    let given = unhindered(&TWO_THREADS, FOUR_ADDS);
+    let ran = run_held(&rt, rt.alloc(), &given, &gate)?;
     assert_eq!(rt; ran.outcome.status.number(), 0);
-    assert_eq!(rt; meeting.started.load(Ordering::SeqCst), 3);
-    assert_eq!(rt; meeting.missed.load(Ordering::SeqCst), 0);
+    assert!(rt; gate.starts.was_kept());
     let Some(report) = &ran.outcome.report else {
         return Ok(assert!(rt; false));
     };
     assert_eq!(rt; report.rows.list().len(), 4);
     assert!(rt; has_worked(report, 0));
     assert!(rt; has_worked(report, 1));
+    Ok(())
+}
+
+#[test]
+fn calls_that_wait_at_one_time_are_one_batch(rt: HostRuntime) -> Result<(), Fail> {
+    let gate = AtPosts {
+        posts: Meeting::new(),
+    };
+    let given = unhindered(&TWO_THREADS, FOUR_ADDS);
+    let ran = run_held(&rt, rt.alloc(), &given, &gate)?;
+    assert_eq!(rt; ran.outcome.status.number(), 0);
+    assert!(rt; gate.posts.was_kept());
+    let Some(report) = &ran.outcome.report else {
+        return Ok(assert!(rt; false));
+    };
+    assert_eq!(rt; first_size(report), 2);
+    Ok(())
+}
+
+#[test]
+fn two_workers_run_pieces_of_one_batch(rt: HostRuntime) -> Result<(), Fail> {
+    let gate = AtCalls::new();
+    let given = unhindered(&TWO_THREADS, FOUR_TAKES);
+    let ran = run_held(&rt, rt.alloc(), &given, &gate)?;
+    assert_eq!(rt; ran.outcome.status.number(), 0);
+    assert!(rt; gate.posts.was_kept());
+    assert!(rt; gate.pieces.was_kept());
+    assert_eq!(rt; gate.place_count(), 8);
+    let Some(report) = &ran.outcome.report else {
+        return Ok(assert!(rt; false));
+    };
+    assert_eq!(rt; first_size(report), 2);
     Ok(())
 }
 

@@ -1,0 +1,120 @@
+//! The gates, by the points at which the workers meet.
+
+use crate::meeting::Meeting;
+use bt_io::{Pause, Point};
+use std::sync::atomic::{AtomicU64, Ordering};
+
+/// The workers meet where each has started its first leaf.
+#[derive(Drop)]
+pub struct AtStarts {
+    pub starts: Meeting,
+}
+
+impl Pause for AtStarts {
+    fn at(&self, point: Point, worker: u32) {
+        if let Point::LeafStart(_) = point {
+            self.starts.meet(worker);
+        }
+    }
+}
+
+/// The workers meet where each has posted its first call.
+#[derive(Drop)]
+pub struct AtPosts {
+    pub posts: Meeting,
+}
+
+impl Pause for AtPosts {
+    fn at(&self, point: Point, worker: u32) {
+        if let Point::Posted(_) = point {
+            self.posts.meet(worker);
+        }
+    }
+}
+
+/// The workers meet where each has posted its first call, and again where each is about to run its first piece. It notes
+/// the places of the pieces.
+#[derive(Drop)]
+pub struct AtCalls {
+    pub posts: Meeting,
+    pub pieces: Meeting,
+    /// Bit p is set once a worker has come to a piece at place p.
+    places: AtomicU64,
+}
+
+impl AtCalls {
+    /// A gate to which nobody has come.
+    pub fn new() -> AtCalls {
+        AtCalls {
+            posts: Meeting::new(),
+            pieces: Meeting::new(),
+            places: AtomicU64::new(0),
+        }
+    }
+
+    /// How many places had a piece.
+    pub fn place_count(&self) -> u32 {
+        self.places.load(Ordering::SeqCst).count_ones()
+    }
+}
+
+impl Pause for AtCalls {
+    fn at(&self, point: Point, worker: u32) {
+        match point {
+            Point::Posted(_) => self.posts.meet(worker),
+            Point::PieceStart(place) => {
+                self.places
+                    .fetch_or(1 << u64::from(place % 64), Ordering::SeqCst);
+                self.pieces.meet(worker);
+            }
+            _ => {}
+        }
+    }
+}
+
+/// The second to start a leaf is held until the first has posted a call and won the flag; and the winner until the second
+/// has posted too. So that call is posted while a launcher is at work, and no batch is published yet.
+#[derive(Drop)]
+pub struct AtWin {
+    /// How many leaves have started, and which was the second.
+    starts: AtomicU64,
+    second: AtomicU64,
+    pub wins: Meeting,
+    pub posts: Meeting,
+}
+
+impl AtWin {
+    /// A gate to which nobody has come.
+    pub fn new() -> AtWin {
+        AtWin {
+            starts: AtomicU64::new(0),
+            second: AtomicU64::new(0),
+            wins: Meeting::new(),
+            posts: Meeting::new(),
+        }
+    }
+
+    /// The leaf that started second.
+    pub fn second_leaf(&self) -> u64 {
+        self.second.load(Ordering::SeqCst)
+    }
+}
+
+impl Pause for AtWin {
+    fn at(&self, point: Point, worker: u32) {
+        match point {
+            Point::LeafStart(leaf) => {
+                if self.starts.fetch_add(1, Ordering::SeqCst) == 1 {
+                    self.second.store(u64::from(leaf), Ordering::SeqCst);
+                    self.wins.wait_for(1);
+                }
+            }
+            Point::Posted(_) => self.posts.come(worker),
+            Point::Won => {
+                self.wins.come(worker);
+                self.posts.wait_for(2);
+            }
+            Point::PieceStart(_) => {}
+        }
+    }
+}

@@ -39,10 +39,7 @@ fn four_adds(alloc: Global) -> Result<Job, AllocError> {
 
 /// `par { queue take queue take queue take queue take }`.
 fn four_takes(alloc: Global) -> Result<Job, AllocError> {
-    four_calls(
-        alloc,
-        [Op::PqTake, Op::PqTake, Op::PqTake, Op::PqTake],
-    )
+    four_calls(alloc, [Op::PqTake, Op::PqTake, Op::PqTake, Op::PqTake])
 }
 
 /// Whether each of two workers ran a leaf.

@@ -15,4 +15,8 @@ mod pairs;
 #[cfg(test)]
 mod passes;
 #[cfg(test)]
+mod runs;
+#[cfg(test)]
 mod threads;
+#[cfg(test)]
+mod workers;

@@ -1,0 +1,5 @@
+use Rattle.worker_turns.specs.Workers.{IsReady}
+use Rattle.table_tests.proofs.workers.try_all.Given as goal
+
+abbrev pub invariant-loop-node : goal.invariant-loop-node
+invariant-loop-node g l = IsReady (g.T.Table.gave l.crew.table) g.T.Table.seen l.crew.decks l.crew.board l.me

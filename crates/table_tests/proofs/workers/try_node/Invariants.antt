@@ -1,0 +1,12 @@
+use Rattle.std.proofs.Common.{◌≡◌, []}
+use Rattle.piece_board.specs.Boards.{desk_view}
+use Rattle.worker_turns.specs.Passes.{IsFree}
+use Rattle.worker_turns.specs.Workers.{IsMeOf}
+use Rattle.table_tests.proofs.workers.try_node.Given as goal
+
+abbrev pub invariant-loop : goal.invariant-loop
+invariant-loop g l = record {
+  me : IsMeOf (g.T.Table.gave l.crew.table) g.T.Table.seen l.crew.decks l.crew.board l.me;
+  free_pass : IsFree (g.T.Table.seen l.me.pass);
+  free : (desk_view l.me.desk).posted ≡ [];
+}

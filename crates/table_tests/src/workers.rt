@@ -1,0 +1,174 @@
+//! Two workers of a running table, each in a thread, that claim whatever node they find ready.
+ghost use Rattle.std.specs.Prelude.{◌≡◌, [], Some, IfOk};
+ghost use Rattle.piece_board.specs.Boards.{desk_view};
+ghost use Rattle.worker_turns.specs.Passes.{IsFree};
+ghost use Rattle.core_table.specs.Passes.{job_in};
+ghost use Rattle.worker_turns.specs.Opening.{seat_seen};
+ghost use Rattle.worker_turns.specs.Seats.{IsSeat};
+ghost use Rattle.worker_turns.specs.Workers.{IsMeOf, IsReady};
+
+use batcher_core::Receipt;
+use bt_io::Pause;
+use core_table::{CoreTable, Pass};
+use seq_objects::{spin, value};
+use std::alloc::Global;
+use std::sync::Wait;
+use worker_turns::{Crew, Me, Step, Stop, Table, call};
+
+/// A call that a worker made: its leaf, and the receipt with which it left.
+#[derive(Clone, Copy)]
+pub(crate) struct Made {
+    pub(crate) leaf: u32,
+    pub(crate) receipt: Receipt,
+}
+
+/// Makes one step of the task.
+fn make_step<T: Table, G: Pause, R: Wait>(
+    rt: &R,
+    alloc: Global,
+    crew: &Crew<T, G>,
+    me: &mut Me<T::Pass>,
+    step: Step,
+    made: &mut Vec<Made>,
+) -> Result<(), Stop>
+    requires me { IsMeOf (T.gave crew.now.table) T.seen crew.now.decks crew.now.board me.old }
+    requires free_pass { IsFree (T.seen me.old.pass) }
+    requires due { T.next_of crew.now.table (T.seen me.old.pass).task (T.seen me.old.pass).call
+        ≡ Some step }
+    requires free { (desk_view me.old.desk).posted ≡ [] }
+    requires workers { crew.now.workers ≡ T.workers crew.now.table }
+    ensures me { IfOk result (λ _.
+        IsMeOf (T.gave crew.now.table) T.seen crew.now.decks crew.now.board me.new) }
+    ensures free_pass { IfOk result (λ _. IsFree (T.seen me.new.pass)) }
+    ensures free { IfOk result (λ _. (desk_view me.new.desk).posted ≡ []) }
+{
+    match step {
+        Step::Start(_) | Step::End => {
+            crew.table.tick(&mut me.pass);
+        }
+        Step::Open => {
+            crew.table.open_node(&mut me.pass);
+        }
+        Step::Spin(n) => crew.table.keep(&mut me.pass, u64::from(spin(n))),
+        Step::Call { leaf, op } => {
+            let called = call(rt, alloc, crew, me, leaf, op)?;
+            made.push(Made {
+                leaf,
+                receipt: called.receipt,
+            })?;
+        }
+        Step::Got(reply) => crew.table.keep(&mut me.pass, value(reply)),
+        Step::Finish => crew.table.finish(&mut me.pass),
+        Step::Arrive => {
+            crew.table.arrive(&mut me.pass);
+        }
+    }
+    Ok(())
+}
+
+/// Claims the node, if it is ready, and carries it on until the task is idle.
+fn try_node<T: Table, G: Pause, R: Wait>(
+    rt: &R,
+    alloc: Global,
+    crew: &Crew<T, G>,
+    me: &mut Me<T::Pass>,
+    node: u32,
+    made: &mut Vec<Made>,
+) -> Result<(), Stop>
+    requires ready { IsReady (T.gave crew.now.table) T.seen crew.now.decks crew.now.board me.old }
+    requires workers { crew.now.workers ≡ T.workers crew.now.table }
+    ensures ready { IfOk result (λ _.
+        IsReady (T.gave crew.now.table) T.seen crew.now.decks crew.now.board me.new) }
+{
+    if !crew.table.claim(&mut me.pass, node) {
+        return Ok(());
+    }
+    for _ in rt.forever() {
+        let Some(step) = crew.table.next(&me.pass) else {
+            return Ok(());
+        };
+        make_step(rt, alloc, crew, me, step, made)?;
+    }
+    unreachable!()
+}
+
+/// Tries each node once, while it has made fewer calls than these.
+fn try_all<T: Table, G: Pause, R: Wait>(
+    rt: &R,
+    alloc: Global,
+    crew: &Crew<T, G>,
+    me: &mut Me<T::Pass>,
+    nodes: u32,
+    calls: usize,
+    made: &mut Vec<Made>,
+) -> Result<(), Stop>
+    requires ready { IsReady (T.gave crew.now.table) T.seen crew.now.decks crew.now.board me.old }
+    requires workers { crew.now.workers ≡ T.workers crew.now.table }
+    ensures ready { IfOk result (λ _.
+        IsReady (T.gave crew.now.table) T.seen crew.now.decks crew.now.board me.new) }
+{
+    for node in 0..nodes {
+        if made.len() < calls {
+            try_node(rt, alloc, crew, me, node, made)?;
+        }
+    }
+    Ok(())
+}
+
+/// Lets a worker try the nodes until it has made so many calls, or the root is done.
+fn work_to<T: Table, G: Pause, R: Wait>(
+    rt: &R,
+    alloc: Global,
+    crew: &Crew<T, G>,
+    me: &mut Me<T::Pass>,
+    nodes: u32,
+    calls: usize,
+) -> Result<Vec<Made>, Stop>
+    requires ready { IsReady (T.gave crew.now.table) T.seen crew.now.decks crew.now.board me.old }
+    requires workers { crew.now.workers ≡ T.workers crew.now.table }
+    ensures ready { IfOk result (λ _.
+        IsReady (T.gave crew.now.table) T.seen crew.now.decks crew.now.board me.new) }
+{
+    let mut made = Vec::new(alloc);
+    for _ in rt.forever() {
+        if made.len() >= calls || crew.table.root_done(&mut me.pass) {
+            return Ok(made);
+        }
+        try_all(rt, alloc, crew, me, nodes, calls, &mut made)?;
+    }
+    unreachable!()
+}
+
+/// What threads share of a run, seen by a test that starts them over any type that can be shared.
+pub(crate) trait Team<M> {
+    /// The worker can begin.
+    ghost ready: { Self → M → Type 0 };
+
+    /// Lets a worker try the nodes until it has made so many calls, or the root is done.
+    fn work<R: Wait>(
+        &self,
+        rt: &R,
+        alloc: Global,
+        me: &mut M,
+        nodes: u32,
+        calls: usize,
+    ) -> Result<Vec<Made>, Stop>
+        requires ready { ready self.now me.old }
+        ensures ready { IfOk result (λ _. ready self.now me.new) };
+}
+
+impl<'a, G: Pause> Team<Me<Pass>> for Crew<'a, CoreTable, G> {
+    ghost ready = { λ crew me. (crew.workers ≡ (job_in crew.table).workers)
+        × IsReady (IsSeat crew.table) seat_seen crew.decks crew.board me };
+
+    fn work<R: Wait>(
+        &self,
+        rt: &R,
+        alloc: Global,
+        me: &mut Me<Pass>,
+        nodes: u32,
+        calls: usize,
+    ) -> Result<Vec<Made>, Stop> {
+        work_to(rt, alloc, self, me, nodes, calls)
+    }
+}

@@ -59,9 +59,7 @@ fn make_step<T: Table, G: Pause, R: Wait>(
         }
         Step::Got(reply) => crew.table.keep(&mut me.pass, value(reply)),
         Step::Finish => crew.table.finish(&mut me.pass),
-        Step::Arrive => {
-            crew.table.arrive(&mut me.pass);
-        }
+        Step::Arrive => crew.table.arrive(&mut me.pass),
     }
     Ok(())
 }

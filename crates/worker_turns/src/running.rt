@@ -127,8 +127,8 @@ impl Table for CoreTable {
         CoreTable::finish(self, pass)
     }
 
-    fn arrive(&self, pass: &mut Pass) -> bool {
-        CoreTable::arrive(self, pass)
+    fn arrive(&self, pass: &mut Pass) {
+        CoreTable::arrive(self, pass);
     }
 
     fn stopped(&self, pass: &mut Pass) -> bool {

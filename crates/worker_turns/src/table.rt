@@ -91,8 +91,8 @@ pub trait Table {
         ensures pass { gave self.now pass.new }
         ensures finished { seen pass.new ≡ with_task (seen pass.new).task (seen pass.old) };
 
-    /// Arrives at the end of one side of a parallel block. True for the second arrival.
-    fn arrive(&self, pass: &mut Self::Pass) -> bool
+    /// Arrives at the end of one side of a parallel block. The task tells whether it is the second one.
+    fn arrive(&self, pass: &mut Self::Pass)
         requires pass { gave self.now pass.old }
         requires free { IsFree (seen pass.old) }
         requires due { next_of self.now (seen pass.old).task (seen pass.old).call

@@ -1,12 +1,1 @@
-pub mod EntryLists
-pub mod Books
 pub mod Search
-pub mod CallsIn
-pub mod LeavesIn
-pub mod Room
-pub mod EntryCount
-pub mod EntryPlaces
-pub mod Standing
-pub mod OwnEntries
-pub mod Receipts
-pub mod UnservedCalls

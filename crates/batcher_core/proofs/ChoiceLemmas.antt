@@ -1,12 +1,4 @@
 pub mod Ends
 pub mod ClaimEnds
 pub mod Steals
-pub mod Search
-pub mod Tasks
-pub mod Gate
-pub mod Idle
-pub mod Choices
 pub mod Allowed
-pub mod Ready
-pub mod Progress
-pub mod Searches

@@ -1,9 +1,7 @@
-pub mod Puts
 pub mod Written
 pub mod NonEmpty
+pub mod KeptParts
 pub mod CoreFits
 pub mod Copies
-pub mod TickRoom
 pub mod Starting
 pub mod Turning
-pub mod InRange

@@ -1,11 +1,6 @@
-pub mod Words
-pub mod Inductive
-pub mod InvariantLemmas
 pub mod ChoiceLemmas
 pub mod RunLemmas
-pub mod MeasureLemmas
 pub mod BookLemmas
 pub mod BatchLemmas
 pub mod ReportLemmas
-pub mod WaitLemmas
 pub mod CodeLemmas

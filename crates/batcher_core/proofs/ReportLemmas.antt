@@ -1,11 +1,2 @@
-pub mod RootTasks
 pub mod Reporting
-pub mod RootDone
-pub mod OneReport
-pub mod RowLists
-pub mod EndedRuns
-pub mod RowTicks
-pub mod RowOrder
-pub mod RowCalls
-pub mod Lawful
 pub mod MadeRows

@@ -1,10 +1,4 @@
-pub mod Facts
-pub mod Turns
-pub mod OneBatch
-pub mod OneRun
 pub mod Taken
-pub mod Rounds
-pub mod Existence
-pub mod LiveRuns
+pub mod CoreRounds
 pub mod LiveRounds
 pub mod LiveEnds

@@ -1,12 +1,12 @@
 -- The state of the rules that the stored parts of a core stand for.
 use Rattle.batcher_core.specs.Places.{at}
-use Rattle.batcher_core.specs.State.{CoreState, Hold, State}
+use Rattle.core_model.specs.State.{CoreState, Hold, State}
 use Rattle.batcher_core.specs.declared.state.State.{State as StoredState}
 use Rattle.batcher_core.specs.declared.state.hold.Hold.{Hold as StoredHold}
-use Rattle.batcher_core.specs.declared.state.progress.Progress.TheVariants.{Waiting}
-use Rattle.batcher_core.specs.declared.state.status.CallState.TheVariants.{NotCalled}
-use Rattle.batcher_core.specs.declared.state.status.Status.TheVariants.{Free}
-use Rattle.batcher_core.specs.declared.state.task.Task.TheVariants.{Idle}
+use Rattle.core_model.specs.declared.progress.Progress.TheVariants.{Waiting}
+use Rattle.core_model.specs.declared.status.CallState.TheVariants.{NotCalled}
+use Rattle.core_model.specs.declared.status.Status.TheVariants.{Free}
+use Rattle.core_model.specs.declared.task.Task.TheVariants.{Idle}
 use Rattle.batch_history.specs.Serving.{served_book}
 use Rattle.batch_history.specs.declared.batch.Entry.{Entry}
 use Rattle.std.specs.Prelude.{List, None, Option, Some, [], false, ℕ}

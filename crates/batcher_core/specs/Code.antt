@@ -4,5 +4,5 @@ pub mod Job
 pub mod Sizes
 pub mod Gate
 pub mod Lookups
-pub mod Batches
+pub mod Receipts
 pub mod Representation

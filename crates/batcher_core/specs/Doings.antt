@@ -1,9 +1,10 @@
 -- What a worker is doing, as far as those who run the workers look at it.
-use Rattle.batcher_core.specs.Choice.{leaf_named}
+use Rattle.core_model.specs.Choice.{leaf_named}
 use Rattle.batcher_core.specs.Cores.{CoreView, job_in, state_in}
-use Rattle.batcher_core.specs.State.{CoreJob, State}
-use Rattle.batcher_core.specs.Tasks.{names}
-use Rattle.batcher_core.specs.Words.{CallState, Got, NotCalled, Out, Status, Executing, Free, Pending, Served, Task, Ended, Half, Handed, Idle, Kept, Run, Started, Whole, Nodes}
+use Rattle.core_model.specs.State.{CoreJob, State}
+use Rattle.core_model.specs.Tasks.{names}
+use Rattle.core_model.specs.Words.{Nodes}
+use Rattle.batcher_core.specs.Words.{CallState, Got, NotCalled, Out, Status, Executing, Free, Pending, Served, Task, Ended, Half, Handed, Idle, Kept, Run, Started, Whole}
 use Rattle.batcher_core.specs.declared.doing.Doing.{Doing}
 use Rattle.batcher_core.specs.declared.doing.Doing.TheVariants as doings
 use Rattle.std.specs.Prelude.{if◌then◌else◌, ℕ}

@@ -1,34 +1,21 @@
--- The rules of the core, over plain states, and the state that a core stands for, with what they take from the crates
--- below. `Code` is what only the code cites.
-pub use Rattle.seq_objects.specs.Objects
-pub use Rattle.seq_objects.specs.Spin
+-- What callers see of a core: the state that it stands for, its turns and its ends, with what they take from the crates below.
+-- The rules are those of `core_model`. `Code` is what only the code cites.
 pub use Rattle.sp_order.specs.Precedence
 pub use Rattle.sp_order.specs.Plans
-pub use Rattle.sp_order.specs.PlanOf
-pub use Rattle.sp_order.specs.TreeEncoding
 pub use Rattle.sp_order.specs.Preorder
-pub use Rattle.seq_objects.specs.Pairs
-pub use Rattle.batch_history.specs.Book
 pub use Rattle.batch_history.specs.Lawful
+pub use Rattle.core_model.specs.State
+pub use Rattle.core_model.specs.Events
+pub use Rattle.core_model.specs.Invariant
+pub use Rattle.core_model.specs.Choice
+pub use Rattle.core_model.specs.Runs
+pub use Rattle.core_model.specs.Reports
+pub use Rattle.core_model.specs.Stopped
 pub mod Words
-pub mod State
-pub mod Operations
-pub mod Serving
-pub mod Lists
-pub mod Events
-pub mod Tasks
-pub mod Invariant
-pub mod Choice
-pub mod Runs
-pub mod Ranges
-pub mod Measure
-pub mod Waits
-pub mod Entries
-pub mod Reports
 pub mod Places
 pub mod Abstraction
 pub mod WorkDue
 pub mod Cores
 pub mod Doings
-pub mod Stopped
+pub mod LiveEnds
 pub mod Code

@@ -1,5 +1,6 @@
 -- How many steps of work are due of a worker.
-use Rattle.batcher_core.specs.Words.{Act, Call, Work, Kind, LeafNode, ParNode, SeqNode, Nodes, Task, Ended, Half, Handed, Idle, Kept, Run, Started, Whole}
+use Rattle.core_model.specs.Words.{Act, Call, Work, Kind, LeafNode, ParNode, SeqNode, Nodes}
+use Rattle.batcher_core.specs.Words.{Task, Ended, Half, Handed, Idle, Kept, Run, Started, Whole}
 use Rattle.std.specs.Prelude.{List, None, Option, Some, slice_index_or, ℕ}
 
 -- how many steps of work an act is

@@ -2,24 +2,23 @@
 ghost use Rattle.std.specs.Prelude.{◌≡◌, ◌<◌, ℕ, IfOk};
 ghost use Rattle.sp_order.specs.Preorder.{nodes_of};
 ghost use Rattle.batcher_core.specs.Code.Job.{job_of};
-ghost use Rattle.batcher_core.specs.Events.{Needs, Does};
-ghost use Rattle.batcher_core.specs.Ranges.{IsInRange};
+ghost use Rattle.core_model.specs.Events.{Needs, Does};
+ghost use Rattle.core_model.specs.Ranges.{IsInRange};
 ghost use Rattle.batcher_core.specs.Code.Gate.{IsOfGate};
 ghost use Rattle.batcher_core.specs.Code.ReadyLists.{IsAtOneEnd};
 ghost use Rattle.batcher_core.specs.Abstraction.{state_of, ready_of};
 ghost use Rattle.batcher_core.specs.Code.Sizes.{SameSizes};
-ghost use Rattle.batcher_core.specs.Lists.{ready_after};
-ghost use Rattle.batcher_core.specs.declared.event.Event.TheVariants.{Claim};
+ghost use Rattle.core_model.specs.Lists.{ready_after};
+ghost use Rattle.core_model.specs.declared.event.Event.TheVariants.{Claim};
 ghost use Rattle.batcher_core.specs.Code.Representation.{Represents};
 
 mod gate;
 mod job;
 mod publish;
 
-use crate::event::Event;
 use crate::job::CoreJob;
 use crate::state::State;
-use crate::state::task::Task;
+use core_model::{Event, Task};
 use std::alloc::{AllocError, Global};
 
 impl State {

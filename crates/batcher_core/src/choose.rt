@@ -1,7 +1,7 @@
 //! The choice of a worker's turn: the event that it makes in this state, if it can make one. Nothing is written here.
 ghost use Rattle.std.specs.Prelude.{◌≡◌, ◌<◌, length, None, IsTrue};
 ghost use Rattle.batcher_core.specs.Code.Job.{job_of};
-ghost use Rattle.batcher_core.specs.Choice.{choice, choice_by, choice_free};
+ghost use Rattle.core_model.specs.Choice.{choice, choice_by, choice_free};
 ghost use Rattle.batcher_core.specs.Abstraction.{state_of, core_state_of};
 ghost use Rattle.batcher_core.specs.Code.Lookups.{CanChoose, IsWorkOf};
 
@@ -10,11 +10,9 @@ mod job;
 pub(crate) mod receipt;
 
 use crate::choose::job::{of_half, of_handed, of_run, of_started};
-use crate::event::Event;
 use crate::job::CoreJob;
 use crate::state::State;
-use crate::state::status::Status;
-use crate::state::task::Task;
+use core_model::{Event, Status, Task};
 
 impl State {
     /// The event of a worker whose status is free, by its task. `work` is the value of the work that is due, if some

@@ -5,14 +5,13 @@ ghost use Rattle.batcher_core.specs.Abstraction.{state_of};
 ghost use Rattle.batcher_core.specs.Code.Job.{job_of, HasLeaf, TaskIn};
 ghost use Rattle.batcher_core.specs.Code.Lookups.{CanChoose};
 ghost use Rattle.batcher_core.specs.Doings.{doing_free, doing_of};
-ghost use Rattle.batcher_core.specs.Operations.{IsLeaf};
-ghost use Rattle.batcher_core.specs.declared.state.status.Status.TheVariants.{Free};
-ghost use Rattle.batcher_core.specs.declared.state.task.Task.TheVariants.{Started};
+ghost use Rattle.core_model.specs.Operations.{IsLeaf};
+ghost use Rattle.core_model.specs.declared.status.Status.TheVariants.{Free};
+ghost use Rattle.core_model.specs.declared.task.Task.TheVariants.{Started};
 
 use crate::job::CoreJob;
 use crate::state::State;
-use crate::state::status::{CallState, Status};
-use crate::state::task::Task;
+use core_model::{CallState, Status, Task};
 
 /// What a worker is doing, as far as those who run the workers look at it.
 #[derive(Clone, Copy)]

@@ -3,10 +3,10 @@ ghost use Rattle.std.specs.Prelude.{◌≡◌, ◌<◌, ◌+◌, ◌%◌, ℕ, f
 ghost use Rattle.std.specs.List.{AllByRecursion};
 ghost use Rattle.sp_order.specs.Precedence.{leaves};
 ghost use Rattle.batch_history.specs.Lawful.{Lawful};
-ghost use Rattle.batcher_core.specs.State.{CoreState};
-ghost use Rattle.batcher_core.specs.Runs.{IsTurn, Drives};
+ghost use Rattle.core_model.specs.State.{CoreState};
+ghost use Rattle.core_model.specs.Runs.{IsTurn, Drives};
 ghost use Rattle.batcher_core.specs.Cores.{job_in, state_in, is_over_in};
-ghost use Rattle.batcher_core.specs.Reports.{IsDrivenFrom};
+ghost use Rattle.core_model.specs.Reports.{IsDrivenFrom};
 
 use crate::scheduler::Core;
 use batch_history::Report;

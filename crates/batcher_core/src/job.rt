@@ -1,12 +1,13 @@
 //! The job that a core runs.
 ghost use Rattle.std.specs.Prelude.{◌≡◌, ◌<◌, length};
 ghost use Rattle.sp_order.specs.Preorder.{nodes_of};
-ghost use Rattle.batcher_core.specs.Choice.{leaf_named};
-ghost use Rattle.batcher_core.specs.Operations.{leaf_of, IsLeaf};
-ghost use Rattle.batcher_core.specs.Tasks.{names};
-ghost use Rattle.batcher_core.specs.Code.Job.{job_of, leaf_at as leaf_of_kind, LeafIn, HasLeaf, TaskIn};
+ghost use Rattle.core_model.specs.Choice.{leaf_named};
+ghost use Rattle.core_model.specs.Operations.{leaf_of, IsLeaf};
+ghost use Rattle.core_model.specs.Tasks.{names};
+ghost use Rattle.batcher_core.specs.Code.Job.{job_of, leaf_at as leaf_of_kind, HasLeaf, TaskIn};
+ghost use Rattle.core_model.specs.Ranges.{LeafIn};
 
-use crate::state::task::Task;
+use core_model::Task;
 use seq_objects::Act;
 use sp_order::Plan;
 use sp_order::node::Kind;

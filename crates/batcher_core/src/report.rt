@@ -4,12 +4,12 @@ ghost use Rattle.std.specs.List.{AllByRecursion, range_with_len};
 ghost use Rattle.sp_order.specs.Precedence.{leaves};
 ghost use Rattle.sp_order.specs.Preorder.{nodes_of};
 ghost use Rattle.batch_history.specs.declared.row.Row.{Row};
-ghost use Rattle.batcher_core.specs.declared.state.progress.Progress.TheVariants.{Waiting};
+ghost use Rattle.core_model.specs.declared.progress.Progress.TheVariants.{Waiting};
 ghost use Rattle.batcher_core.specs.Places.{at};
-ghost use Rattle.batcher_core.specs.Reports.{HasRun, IsRowFor, TellsLeaf};
+ghost use Rattle.core_model.specs.Reports.{HasRun, IsRowFor, TellsLeaf};
 
-use crate::state::progress::Progress;
 use batch_history::Row;
+use core_model::Progress;
 use sp_order::Plan;
 use std::alloc::{AllocError, Global};
 

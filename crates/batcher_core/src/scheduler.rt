@@ -1,13 +1,13 @@
 //! The scheduler's core: a job, its workers, and the turns by which they run it.
 ghost use Rattle.std.specs.Prelude.{◌≡◌, ◌<◌, ◌≤◌, ℕ, IfOk, IfErr, IsSome, IfSome, MatchOption, Some, None, true, false, IsTrue, ◌↔◌, map};
 ghost use Rattle.seq_objects.specs.Spin.{spin_of};
-ghost use Rattle.batcher_core.specs.State.{opening_core};
-ghost use Rattle.batcher_core.specs.Tasks.{is_done as node_done};
-ghost use Rattle.batcher_core.specs.Choice.{choice};
+ghost use Rattle.core_model.specs.State.{opening_core};
+ghost use Rattle.core_model.specs.Tasks.{is_done as node_done};
+ghost use Rattle.core_model.specs.Choice.{choice};
 ghost use Rattle.sp_order.specs.Precedence.{leaves};
 ghost use Rattle.batch_history.specs.Lawful.{Lawful};
-ghost use Rattle.batcher_core.specs.Invariant.{Invariant};
-ghost use Rattle.batcher_core.specs.Reports.{IsReportOf, IsRowOf};
+ghost use Rattle.core_model.specs.Invariant.{Invariant};
+ghost use Rattle.core_model.specs.Reports.{IsReportOf, IsRowOf};
 ghost use Rattle.sp_order.specs.Preorder.{nodes_of};
 ghost use Rattle.std.specs.List.{AllByRecursion, range_with_len};
 ghost use Rattle.batcher_core.specs.Cores.{job_in, state_in, due_in, moved_if, turn_answer, is_over_in, IsTurnResult};
@@ -15,14 +15,14 @@ ghost use Rattle.batcher_core.specs.Code.Representation.{RepInvariant};
 ghost use Rattle.batcher_core.specs.Doings.{doing_in};
 
 use crate::doing::Doing;
-use crate::event::Event;
 use crate::job::CoreJob;
-use crate::laws::report::{done_leaves_have_run, done_report_is_lawful};
 use crate::report::rows_of;
 use crate::spun::Spun;
 use crate::state::{State, history_of};
 use crate::turn::Turn;
 use batch_history::{History, Report, Row, Rows};
+use core_model::Event;
+use core_model::laws::report::{done_leaves_have_run, done_report_is_lawful};
 use sp_order::laws::{plan_has_sides, plan_stands_for_tree};
 use sp_order::{Job, Plan};
 use std::alloc::{AllocError, Global};

@@ -2,21 +2,16 @@
 
 ghost use Rattle.std.specs.Prelude.{◌≡◌, ◌<◌, length, IsSome};
 ghost use Rattle.batcher_core.specs.Abstraction.{book_of, state_of};
-ghost use Rattle.batcher_core.specs.Tasks.{is_done as node_done};
+ghost use Rattle.core_model.specs.Tasks.{is_done as node_done};
 
 pub mod hold;
 mod opening;
-pub mod progress;
 pub(crate) mod ready;
-pub mod status;
-pub mod task;
 
 use crate::state::hold::Hold;
-use crate::state::progress::Progress;
 use crate::state::ready::ReadyLists;
-use crate::state::status::{CallState, Status};
-use crate::state::task::Task;
 use batch_history::History;
+use core_model::{CallState, Progress, Status, Task};
 use launch_batch::Shop;
 
 /// The state of a core. `nodes`, `marks` and `values` have an item for each node, and `tasks`, `statuses`, `calls` and

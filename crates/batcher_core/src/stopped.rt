@@ -1,19 +1,20 @@
 //! A run by turns in which some workers have stopped for good.
 ghost use Rattle.std.specs.Prelude.{◌≡◌, ◌<◌, ℕ, true, false, Some, IfOk, Contains, length};
 ghost use Rattle.std.specs.Option.{is_some};
-ghost use Rattle.batcher_core.specs.declared.state.task.Task.TheVariants.{Idle};
-ghost use Rattle.batcher_core.specs.State.{CoreState};
-ghost use Rattle.batcher_core.specs.Runs.{IsTurn};
-ghost use Rattle.batcher_core.specs.Choice.{choice};
+ghost use Rattle.core_model.specs.declared.task.Task.TheVariants.{Idle};
+ghost use Rattle.core_model.specs.State.{CoreState};
+ghost use Rattle.core_model.specs.Runs.{IsTurn};
+ghost use Rattle.core_model.specs.Choice.{choice};
 ghost use Rattle.batcher_core.specs.Cores.{job_in, state_in, is_over_in};
-ghost use Rattle.batcher_core.specs.Measure.{measure};
+ghost use Rattle.core_model.specs.Measure.{measure};
 ghost use Rattle.batcher_core.specs.Places.{at};
-ghost use Rattle.batcher_core.specs.Stopped.{NoLiveEvent, LiveDrive, IsEndOf, IsOver};
+ghost use Rattle.core_model.specs.Stopped.{NoLiveEvent, LiveDrive};
+ghost use Rattle.batcher_core.specs.LiveEnds.{IsEndOf, IsOver};
 
-use crate::laws::stopped::idle_stopped_workers_cost_nothing;
 use crate::scheduler::Core;
 use crate::turn::Turn;
 use batch_history::Report;
+use core_model::laws::stopped::idle_stopped_workers_cost_nothing;
 use sp_order::laws::plan_stands_for_tree;
 use std::alloc::{AllocError, Global};
 

@@ -1,23 +1,24 @@
 -- The code of a publish: what it asks for is there, and it does what the event says.
 use Rattle.std.proofs.Common.{ℕ, ◌≡◌, false, true, Some, None, List, arith, refl, sym, subst, ◌∙◌, ap}
-use Rattle.batcher_core.proofs.Words.{Act, Tree, Entry, Publish, Hold, core_job}
+use Rattle.core_model.proofs.Words.{Act, Tree, Entry, Hold, core_job}
+use Rattle.batcher_core.specs.Words.{Publish}
 use Rattle.seq_objects.specs.declared.call.Call.{Call}
 use Rattle.batch_history.specs.Book.{IsLegalFrom}
 use Rattle.batch_history.specs.Serving.{served_book, calls_in}
 use Rattle.launch_batch.specs.Calls.{MayServe, IsServiceOf}
 use Rattle.batcher_core.specs.declared.state.hold.Hold.{Hold as StoredHold}
 use Rattle.batcher_core.specs.declared.state.State.{State as StoredState}
-use Rattle.batcher_core.specs.Events.{Needs, IsBatchOf}
-use Rattle.batcher_core.specs.Invariant.Statuses.{IsAtCall, is_taken_by}
-use Rattle.batcher_core.specs.Code.Batches.{AreTakenCalls}
+use Rattle.core_model.specs.Events.{Needs, IsBatchOf}
+use Rattle.core_model.specs.Invariant.Statuses.{IsAtCall, is_taken_by}
+use Rattle.core_model.specs.Batches.{AreTakenCalls}
 use Rattle.batcher_core.specs.Places.{at}
 use Rattle.batcher_core.specs.Abstraction.{hold_view, hold_of, state_of}
 use Rattle.batcher_core.specs.Code.Representation.{RepInvariant}
-use Rattle.batcher_core.proofs.BookLemmas.CallsIn.{call_within}
-use Rattle.batcher_core.proofs.BatchLemmas.Made.{taken_at_call, owed_before, batch_made}
+use Rattle.core_model.proofs.BookLemmas.CallsIn.{call_within}
+use Rattle.core_model.proofs.BatchLemmas.Made.{taken_at_call, owed_before, batch_made}
 use Rattle.batcher_core.proofs.BatchLemmas.SameCalls.{taken_too}
 use Rattle.batcher_core.proofs.BatchLemmas.Serving.{may_serve}
-use Rattle.batcher_core.proofs.Inductive.FromParts.{kept_parts}
+use Rattle.batcher_core.proofs.CodeLemmas.KeptParts.{kept_parts}
 
 same_hold : (a b : Hold) → Some a ≡ Some b → a ≡ b
 same_hold a b e = cc

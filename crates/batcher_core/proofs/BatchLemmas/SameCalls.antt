@@ -6,8 +6,9 @@ use Rattle.std.proofs.lemmas.List.Elements.{Contains-append_left, Contains-appen
 use Rattle.seq_objects.specs.declared.call.Call.{Call}
 use Rattle.launch_batch.specs.Calls.{AreSame}
 use Rattle.launch_batch.proofs.ListLemmas.Same.{each_same, distinct_same}
-use Rattle.batcher_core.proofs.Words.{Task, CoreJob}
-use Rattle.batcher_core.specs.Code.Batches.{IsCallOf, AreTakenCalls}
+use Rattle.core_model.proofs.Words.{CoreJob}
+use Rattle.batcher_core.specs.Words.{Task}
+use Rattle.core_model.specs.Batches.{IsCallOf, AreTakenCalls}
 
 -- what the elements are mapped to is that of the same elements in another order
 contains_same : {X : Type 0} (f : X → ℕ) (xs others : List X) → AreSame xs others → (n : ℕ) → Contains (map f xs) n → Contains (map f others) n

@@ -10,17 +10,17 @@ use Rattle.batch_history.specs.Book.{flat}
 use Rattle.batch_history.specs.Serving.{call_in, calls_in}
 use Rattle.launch_batch.specs.Calls.{MayServe}
 use Rattle.launch_batch.proofs.ListLemmas.Elements.{apart_turned}
-use Rattle.batcher_core.proofs.Words.{IsPlan, Entry, CoreJob, Hold, State}
-use Rattle.batcher_core.specs.Operations.{IsCall}
-use Rattle.batcher_core.specs.Events.{IsTakenCall}
-use Rattle.batcher_core.specs.Code.Batches.{IsCallOf, AreTakenCalls}
-use Rattle.batcher_core.proofs.Inductive.Parts.{InductiveParts}
-use Rattle.batcher_core.proofs.BookLemmas.EntryLists.{each_append, each_front, each_so, each_mapped, distinct_back}
-use Rattle.batcher_core.proofs.BookLemmas.Books.{flat_append}
-use Rattle.batcher_core.proofs.BookLemmas.Room.{distinct_few, leaves_call}
-use Rattle.batcher_core.proofs.InvariantLemmas.Publish.{leaves_apart}
-use Rattle.batcher_core.proofs.BatchLemmas.Replied.{replied, replied_are}
-use Rattle.batcher_core.proofs.BatchLemmas.Made.{taken_below, only_taken}
+use Rattle.core_model.proofs.Words.{IsPlan, Entry, CoreJob, Hold, State}
+use Rattle.core_model.specs.Operations.{IsCall}
+use Rattle.core_model.specs.Events.{IsTakenCall}
+use Rattle.core_model.specs.Batches.{IsCallOf, AreTakenCalls}
+use Rattle.core_model.proofs.Inductive.Parts.{InductiveParts}
+use Rattle.core_model.proofs.BookLemmas.EntryLists.{each_append, each_front, each_so, each_mapped, distinct_back}
+use Rattle.core_model.proofs.BookLemmas.Books.{flat_append}
+use Rattle.core_model.proofs.BookLemmas.Room.{distinct_few, leaves_call}
+use Rattle.core_model.proofs.InvariantLemmas.Publish.{leaves_apart}
+use Rattle.core_model.proofs.BatchLemmas.Replied.{replied, replied_are}
+use Rattle.core_model.proofs.BatchLemmas.Made.{taken_below, only_taken}
 
 -- of two lists that are distinct together, no number of the first is in the second
 across : (xs ys : List ℕ) → AreDistinct (xs ++ ys) → AllByRecursion (λ x. AllByRecursion (λ y. x ≢ y) ys) xs

@@ -4,13 +4,14 @@ use Rattle.std.specs.Prelude.{is_some}
 use Rattle.std.proofs.lemmas.List.{map-append, take_more, length-take-le}
 use Rattle.std.proofs.Math.ListN.{drop_of_length-le}
 use Rattle.std.specs.List.{AllByRecursion}
-use Rattle.batcher_core.proofs.Words.{Entry, Receipt}
+use Rattle.core_model.proofs.Words.{Entry}
+use Rattle.batcher_core.specs.Words.{Receipt}
 use Rattle.seq_objects.specs.Pairs.{AreDistinct}
 use Rattle.batch_history.specs.Book.{flat}
-use Rattle.batcher_core.specs.Operations.{Place, place_in, or_else, place_of}
-use Rattle.batcher_core.specs.Code.Batches.{receipt_at}
-use Rattle.batcher_core.proofs.BookLemmas.Books.{takes, skips, or_else_none, place_append, found_entry, found_in_book, flat_append}
-use Rattle.batcher_core.proofs.BookLemmas.EntryLists.{distinct_front}
+use Rattle.core_model.specs.Operations.{Place, place_in, or_else, place_of}
+use Rattle.batcher_core.specs.Code.Receipts.{receipt_at}
+use Rattle.core_model.proofs.BookLemmas.Books.{takes, skips, or_else_none, place_append, found_entry, found_in_book, flat_append}
+use Rattle.core_model.proofs.BookLemmas.EntryLists.{distinct_front}
 
 module _ (k : ℕ) (entries : List Entry) (u n : ℕ) (d : Entry) (below : n < length entries) where
   abbrev place : Place

@@ -1,20 +1,21 @@
 -- What the code of an event looks up is there: the tick and the looks have room, and a node that is claimed stands at an end of its list.
 use Rattle.std.proofs.Common.{ℕ, ◌≡◌, ◌<◌, ◌+◌, ◌^◌, Option, Some, None, IfSome, IsSome, List, arith, refl, sym, ◌∙◌, ap}
-use Rattle.batcher_core.proofs.Words.{Act, Tree, Event, Claim, Take, Hold, core_job}
+use Rattle.core_model.proofs.Words.{Act, Tree, Hold, core_job}
+use Rattle.batcher_core.specs.Words.{Event, Claim, Take}
 use Rattle.sp_order.specs.Preorder.{nodes_of}
 use Rattle.batcher_core.specs.declared.state.hold.Hold.{Hold as StoredHold}
 use Rattle.batcher_core.specs.declared.state.State.{State as StoredState}
-use Rattle.batcher_core.specs.Events.{Needs}
-use Rattle.batcher_core.specs.Choice.{choice}
-use Rattle.batcher_core.specs.Ranges.{IsInRange}
+use Rattle.core_model.specs.Events.{Needs}
+use Rattle.core_model.specs.Choice.{choice}
+use Rattle.core_model.specs.Ranges.{IsInRange}
 use Rattle.batcher_core.specs.Code.ReadyLists.{IsAtOneEnd}
 use Rattle.batcher_core.specs.Abstraction.{state_of, ready_of, core_state_of, hold_of}
 use Rattle.batcher_core.specs.Code.Representation.{RepInvariant}
-use Rattle.batcher_core.proofs.CodeLemmas.InRange.{event_in}
-use Rattle.batcher_core.proofs.CodeLemmas.TickRoom.{tick_most}
+use Rattle.core_model.proofs.InvariantLemmas.InRange.{event_in}
+use Rattle.core_model.proofs.InvariantLemmas.TickRoom.{tick_most}
 use Rattle.batcher_core.proofs.ChoiceLemmas.ClaimEnds.{claim_ends}
-use Rattle.batcher_core.proofs.ChoiceLemmas.Choices.{choice_needs}
-use Rattle.batcher_core.proofs.Inductive.FromParts.{kept_parts}
+use Rattle.core_model.proofs.ChoiceLemmas.Choices.{choice_needs}
+use Rattle.batcher_core.proofs.CodeLemmas.KeptParts.{kept_parts}
 
 tick_of : (t : StoredState) → (state_of t).tick ≡ t.tick
 unfolding state_of

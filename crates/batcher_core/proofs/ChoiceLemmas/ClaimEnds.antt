@@ -1,15 +1,16 @@
 -- A node that is chosen to be claimed stands at an end of a list, and nowhere else.
 use Rattle.std.proofs.Common.{ℕ, ◌≡◌, ◌≢◌, ◌-◌, ◌⊎◌, List, [], ◌∷◌, ◌++◌, length, get_or, arith, refl, inl, inr, sym, ◌∙◌, length-append}
 use Rattle.std.proofs.lemmas.Bool.{cases_eq}
-use Rattle.batcher_core.proofs.Words.{Progress, Idle, Free, Claim, CoreJob, CoreState}
+use Rattle.core_model.proofs.Words.{CoreJob, CoreState}
+use Rattle.batcher_core.specs.Words.{Progress, Idle, Free, Claim}
 use Rattle.std.proofs.Common.{Some}
-use Rattle.batcher_core.specs.Lists.{times}
-use Rattle.batcher_core.specs.Invariant.ReadyLists.{ReadyListsInvariant}
-use Rattle.batcher_core.proofs.Inductive.Parts.{InductiveParts}
-use Rattle.batcher_core.specs.Choice.{choice, LeavesAnEnd}
+use Rattle.core_model.specs.Lists.{times}
+use Rattle.core_model.specs.Invariant.ReadyLists.{ReadyListsInvariant}
+use Rattle.core_model.proofs.Inductive.Parts.{InductiveParts}
+use Rattle.core_model.specs.Choice.{choice, LeavesAnEnd}
 use Rattle.batcher_core.specs.Code.ReadyLists.{IsOldest, IsNewest, IsAtEnd, IsAtOneEnd}
 use Rattle.batcher_core.proofs.ChoiceLemmas.Ends.{oldest_stands, newest_stands}
-use Rattle.batcher_core.proofs.ChoiceLemmas.Ready.{once_there, idle_leaves, choice_of_idle}
+use Rattle.core_model.proofs.ChoiceLemmas.Ready.{once_there, idle_leaves, choice_of_idle}
 
 -- the node is at an end of a list
 abbrev EndsOne : (ℕ → List ℕ) → ℕ → Type 0

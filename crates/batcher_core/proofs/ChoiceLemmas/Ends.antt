@@ -3,16 +3,13 @@ use Rattle.std.proofs.Common.{ℕ, zero, suc, ◌≡◌, ◌≢◌, ◌<◌, ◌
 use Rattle.std.proofs.lemmas.Grind.{common_steps}
 use Rattle.std.proofs.lemmas.Bool.{cases_eq, cases_lt}
 use Rattle.std.proofs.lemmas.Bool.Decides.{nat_tests}
-use Rattle.batcher_core.specs.Lists.{without, times}
+use Rattle.core_model.specs.Lists.{without, times}
 use Rattle.batcher_core.specs.Places.{at}
 use Rattle.batcher_core.specs.Code.ReadyLists.{IsOldest, IsNewest, IsAtEnd}
 use Rattle.batcher_core.proofs.CodeLemmas.Written.{at_beyond}
-use Rattle.batcher_core.proofs.CodeLemmas.Puts.{put_at, put_other}
-use Rattle.batcher_core.specs.State.{put}
-
-pub without_none : (n : ℕ) (xs : List ℕ) → times n xs ≡ 0 → without n xs ≡ xs
-without_none n [] h = refl
-without_none n (x ∷ xs) h = let ih = without_none n xs in grind (arith, nat_tests, ih)
+use Rattle.core_model.proofs.InvariantLemmas.Puts.{put_at, put_other}
+use Rattle.core_model.specs.State.{put}
+use Rattle.core_model.proofs.ChoiceLemmas.Ready.{without_none}
 
 oldest_goes : (n : ℕ) (xs : List ℕ) → times n xs ≤ 1 → IsOldest n xs → without n xs ≡ drop 1 xs
 oldest_goes n [] once is = refl

@@ -1,9 +1,9 @@
 -- The search for a node to claim, list by list.
 use Rattle.std.proofs.Common.{ℕ, suc, ◌≡◌, ◌<◌, ◌≤◌, ◌+◌, ◌-◌, ◌%◌, Option, Some, None, List, [], ◌∷◌, length, arith, refl, sym, ◌∙◌, ap}
 use Rattle.std.specs.List.{slice_get}
-use Rattle.batcher_core.specs.Choice.{choice_steal, oldest_or, last_of}
+use Rattle.core_model.specs.Choice.{choice_steal, oldest_or, last_of}
 use Rattle.batcher_core.specs.Code.Lookups.{claim_choice}
-use Rattle.batcher_core.proofs.Words.{Event, Claim}
+use Rattle.batcher_core.specs.Words.{Event, Claim}
 
 abbrev claim_of : Option ℕ → Option Event
 claim_of None = None

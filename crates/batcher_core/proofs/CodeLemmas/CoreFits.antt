@@ -1,20 +1,21 @@
 -- What the choice of a turn looks up is there, in what a core keeps to.
 use Rattle.std.proofs.Common.{ℕ, ◌≡◌, ◌≢◌, ◌<◌, Some, arith, refl, sym, ◌∙◌}
-use Rattle.batcher_core.proofs.Words.{Nodes, IsPlan, Move, Root, OpenSecond, FinishParent, Arrive, Progress, Task, Idle, Run, Half, Started, Kept, Ended, Whole, Handed, CoreJob, Free, NotCalled, Out, names}
+use Rattle.core_model.proofs.Words.{Nodes, IsPlan, Move, Root, OpenSecond, FinishParent, Arrive, CoreJob, names}
+use Rattle.batcher_core.specs.Words.{Progress, Task, Idle, Run, Half, Started, Kept, Ended, Whole, Handed, Free, NotCalled, Out}
 use Rattle.sp_order.specs.Preorder.{nodes_of}
 use Rattle.batcher_core.specs.declared.state.State.{State as StoredState}
 use Rattle.batcher_core.specs.Code.Job.{job_of, HasLeaf, TaskIn}
-use Rattle.batcher_core.specs.Invariant.Statuses.{IsAtCall, is_taken_by}
+use Rattle.core_model.specs.Invariant.Statuses.{IsAtCall, is_taken_by}
 use Rattle.batcher_core.specs.declared.job.CoreJob.{CoreJob as StoredJob}
-use Rattle.batcher_core.proofs.ChoiceLemmas.Gate.{taken_row}
-use Rattle.batcher_core.specs.Operations.{IsLeaf}
-use Rattle.batcher_core.specs.Invariant.Tasks.{TaskFits}
+use Rattle.core_model.proofs.ChoiceLemmas.Gate.{taken_row}
+use Rattle.core_model.specs.Operations.{IsLeaf}
+use Rattle.core_model.specs.Invariant.Tasks.{TaskFits}
 use Rattle.batcher_core.specs.Abstraction.{book_of, state_of}
 use Rattle.batcher_core.specs.Code.Lookups.{MoveIn, CanChoose}
 use Rattle.batcher_core.specs.Code.Representation.{Represents}
-use Rattle.batcher_core.proofs.CodeLemmas.InRange.{parent_in, named_in}
-use Rattle.batcher_core.proofs.BookLemmas.Room.{book_room}
-use Rattle.batcher_core.proofs.Inductive.FromParts.{kept_parts}
+use Rattle.core_model.proofs.InvariantLemmas.InRange.{parent_in, named_in}
+use Rattle.core_model.proofs.BookLemmas.Room.{book_room}
+use Rattle.batcher_core.proofs.CodeLemmas.KeptParts.{kept_parts}
 
 task_in : (nodes : ℕ) (task : Task) → ((n : ℕ) → names task ≡ Some n → n < nodes) → TaskIn nodes task
 task_in nodes Idle h = tt

@@ -2,17 +2,17 @@
 use Rattle.std.proofs.Common.{ℕ, zero, suc, ◌≡◌, ◌≢◌, ◌<◌, ◌≤◌, ◌+◌, ◌-◌, ◌%◌, None, List, [], ◌∷◌, length, get_or, replicate, slice_set, arith, refl, inl, inr, sym, ◌∙◌, ap, subst}
 use Rattle.std.proofs.lemmas.List.{length-set}
 use Rattle.std.proofs.lemmas.Bool.{cases_eq, cases_lt}
-use Rattle.batcher_core.specs.State.{put}
-use Rattle.batcher_core.specs.Lists.{times}
+use Rattle.core_model.specs.State.{put}
+use Rattle.core_model.specs.Lists.{times}
 use Rattle.batcher_core.specs.Places.{at}
 use Rattle.batcher_core.specs.Code.ReadyLists.{non_empty_in, one_if_non_empty}
-use Rattle.batcher_core.specs.Measure.{total}
-use Rattle.batcher_core.specs.Choice.{choice_steal}
+use Rattle.core_model.specs.Measure.{total}
+use Rattle.core_model.specs.Choice.{choice_steal}
 use Rattle.batcher_core.specs.Code.Lookups.{claim_choice}
 use Rattle.batcher_core.proofs.CodeLemmas.Copies.{at_copies}
-use Rattle.batcher_core.proofs.CodeLemmas.Puts.{put_at, put_other}
-use Rattle.batcher_core.proofs.MeasureLemmas.Jobs.{total_change}
-use Rattle.batcher_core.proofs.MeasureLemmas.Lowers.{total_zero}
+use Rattle.core_model.proofs.InvariantLemmas.Puts.{put_at, put_other}
+use Rattle.core_model.proofs.MeasureLemmas.Jobs.{total_change}
+use Rattle.core_model.proofs.MeasureLemmas.Lowers.{total_zero}
 use Rattle.batcher_core.proofs.CodeLemmas.Written.{at_beyond, at_place, at_written}
 use Rattle.batcher_core.proofs.ChoiceLemmas.Steals.{steal_suc, steal_zero}
 

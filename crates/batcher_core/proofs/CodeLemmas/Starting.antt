@@ -1,18 +1,18 @@
 -- The opening table of a job has what a core keeps to.
 use Rattle.std.proofs.Common.{ℕ, ◌≡◌, ◌<◌, ◌≤◌, Option, Some, List, length, refl, sym, subst}
-use Rattle.batcher_core.proofs.Words.{Act, Tree, IsPlan, IsPlanOf, core_job}
+use Rattle.core_model.proofs.Words.{Act, Tree, IsPlan, IsPlanOf, core_job}
 use Rattle.sp_order.specs.Precedence.{leaf_count}
 use Rattle.sp_order.specs.Preorder.{nodes_of}
 use Rattle.batcher_core.specs.declared.state.State.{State as StoredState}
-use Rattle.batcher_core.specs.State.{opening_state, opening_core}
+use Rattle.core_model.specs.State.{opening_state, opening_core}
 use Rattle.batcher_core.specs.Abstraction.{state_of, ready_of, core_state_of}
 use Rattle.batcher_core.specs.Code.Sizes.{HasShop, Sizes}
 use Rattle.batcher_core.specs.Code.Representation.{RepInvariant}
 use Rattle.sp_order.proofs.PlanLemmas.Laws.{has_root}
-use Rattle.batcher_core.proofs.BookLemmas.LeavesIn.{leaves_in}
-use Rattle.batcher_core.proofs.BookLemmas.CallsIn.{calls_in}
-use Rattle.batcher_core.specs.Invariant.{Invariant}
-use Rattle.batcher_core.proofs.InvariantLemmas.Reached.{opening_invariant}
+use Rattle.core_model.proofs.BookLemmas.LeavesIn.{leaves_in}
+use Rattle.core_model.proofs.BookLemmas.CallsIn.{calls_in}
+use Rattle.core_model.specs.Invariant.{Invariant}
+use Rattle.core_model.proofs.InvariantLemmas.Reached.{opening_invariant}
 
 pub root_in : (tree : Tree) → IsPlanOf (nodes_of tree) tree → IsPlan (nodes_of tree) → 0 < (nodes_of tree).count
 root_in tree stands laws = laws.within 0 (has_root (nodes_of tree) tree stands)

@@ -2,7 +2,7 @@
 use Rattle.std.proofs.Common.{ℕ, ◌≡◌, ◌<◌, ◌≤◌, List, length, get_or, arith, slice_set}
 use Rattle.std.proofs.lemmas.Grind.{common_steps}
 use Rattle.std.proofs.lemmas.Bool.Decides.{nat_tests}
-use Rattle.batcher_core.specs.State.{put}
+use Rattle.core_model.specs.State.{put}
 use Rattle.batcher_core.specs.Places.{at}
 
 at_set : {A : Type 0} (xs : List A) (n : ℕ) (x d : A) (m : ℕ) → n < length xs → at (slice_set xs n x) d m ≡ put (at xs d) n x m

@@ -3,10 +3,10 @@ use Rattle.std.proofs.Common.{ℕ, zero, suc, ◌≡◌, ◌<◌, ◌+◌, Optio
 use Rattle.std.proofs.lemmas.List.{get_or_past}
 use Rattle.std.proofs.lemmas.Bool.{cases_lt}
 use Rattle.batch_history.specs.declared.row.Row.{Row}
-use Rattle.batcher_core.proofs.Words.{Progress, Waiting}
+use Rattle.batcher_core.specs.Words.{Progress, Waiting}
 use Rattle.batcher_core.specs.Places.{at}
-use Rattle.batcher_core.specs.Reports.{HasRun, IsRowFor, TellsLeaf}
-use Rattle.batcher_core.proofs.ReportLemmas.RowLists.{AreRowsOf}
+use Rattle.core_model.specs.Reports.{HasRun, IsRowFor, TellsLeaf}
+use Rattle.core_model.proofs.ReportLemmas.RowLists.{AreRowsOf}
 
 -- a node that has run is in the list
 pub run_within : (nodes : List Progress) (n : ℕ) → HasRun (at nodes Waiting n) → n < length nodes

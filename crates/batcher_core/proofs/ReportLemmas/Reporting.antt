@@ -1,12 +1,12 @@
 -- The report of a core that is over.
 use Rattle.std.proofs.Common.{ℕ, ◌≡◌, ◌&&◌, not, Bool, true, false, List, map, refl}
 use Rattle.std.specs.List.{AllByRecursion, range_with_len}
-use Rattle.batcher_core.proofs.Words.{Act, Tree, leaves, core_job}
+use Rattle.core_model.proofs.Words.{Act, Tree, leaves, core_job}
 use Rattle.sp_order.specs.Preorder.{nodes_of}
 use Rattle.batch_history.specs.declared.row.Row.{Row}
 use Rattle.batcher_core.specs.declared.state.State.{State as StoredState}
 use Rattle.batcher_core.specs.Abstraction.{book_of, state_of}
-use Rattle.batcher_core.specs.Reports.{TellsLeaf, IsReportOf}
+use Rattle.core_model.specs.Reports.{TellsLeaf, IsReportOf}
 
 -- a core that is over is not spent, and its root is done
 pub over_is : (spent done : Bool) → (not spent && done) ≡ true → (spent ≡ false) × (done ≡ true)

@@ -1,6 +1,6 @@
 -- Where the workers that have stopped have no task, a run of the live ones is not stuck.
 use Rattle.std.proofs.Common.{ℕ, zero, suc, ◌≡◌, ◌<◌, Bool, true, false, List, [], ◌∷◌, length, Contains, get_or, arith, sym, ◌∙◌}
-use Rattle.batcher_core.proofs.Words.{is_done}
+use Rattle.core_model.proofs.Words.{is_done}
 use Rattle.batcher_core.specs.Cores.{CoreView, state_in, is_over_in}
 use Rattle.batcher_core.specs.Places.{at}
 use Rattle.batcher_core.proofs.RunLemmas.Taken.{goes_on}

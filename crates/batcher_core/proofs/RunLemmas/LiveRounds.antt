@@ -3,17 +3,18 @@ use Rattle.std.proofs.Common.{ℕ, ◌≡◌, ◌<◌, ◌≤◌, ◌+◌, ◌%�
 use Rattle.std.specs.Option.{is_some}
 use Rattle.std.proofs.lemmas.Bool.{cases_eq}
 use Rattle.std.proofs.Math.Nat.{add-mod_right, mod-eq_of_lt}
-use Rattle.batcher_core.proofs.Words.{IsPlan, Event, CoreJob, CoreState, is_done}
-use Rattle.batcher_core.specs.Choice.{choice}
+use Rattle.core_model.proofs.Words.{IsPlan, CoreJob, CoreState, is_done}
+use Rattle.batcher_core.specs.Words.{Event}
+use Rattle.core_model.specs.Choice.{choice}
 use Rattle.batcher_core.specs.Code.Representation.{RepInvariant}
 use Rattle.batcher_core.specs.Cores.{CoreView, job_in, state_in, is_over_in}
-use Rattle.batcher_core.specs.Invariant.{Invariant}
-use Rattle.batcher_core.specs.Measure.{measure}
-use Rattle.batcher_core.specs.Runs.{IsTurnOf, IsTurn}
-use Rattle.batcher_core.specs.Stopped.{NoLiveEvent, LiveDrive, over, stuck, by_live, past_stopped}
-use Rattle.batcher_core.proofs.ChoiceLemmas.Choices.{none_has_no_event}
-use Rattle.batcher_core.proofs.Inductive.FromParts.{parts_carried}
-use Rattle.batcher_core.proofs.MeasureLemmas.Lowers.{turn_lowers}
+use Rattle.core_model.specs.Invariant.{Invariant}
+use Rattle.core_model.specs.Measure.{measure}
+use Rattle.core_model.specs.Runs.{IsTurnOf, IsTurn}
+use Rattle.core_model.specs.Stopped.{NoLiveEvent, LiveDrive, over, stuck, by_live, past_stopped}
+use Rattle.core_model.proofs.ChoiceLemmas.Choices.{none_has_no_event}
+use Rattle.core_model.proofs.Inductive.FromParts.{parts_carried}
+use Rattle.core_model.proofs.MeasureLemmas.Lowers.{turn_lowers}
 use Rattle.batcher_core.proofs.RunLemmas.Taken.{SameJob, job_same, goes_on}
 
 -- the round ends where the next one begins

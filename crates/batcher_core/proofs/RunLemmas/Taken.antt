@@ -1,10 +1,10 @@
 -- What the turns of a run have made.
 use Rattle.std.proofs.Common.{ℕ, ◌≡◌, ◌<◌, ◌+◌, ◌%◌, ◌&&◌, not, Bool, true, false, List, [], sym, ◌∙◌, ap, subst, inl, inr, length, drop, slice_index_or}
 use Rattle.std.proofs.lemmas.List.{drop_more}
-use Rattle.batcher_core.proofs.Words.{Act, Tree, CoreJob, CoreState, core_job, is_done}
-use Rattle.batcher_core.specs.Runs.{IsTurn, Drives, over, by_schedule, by_robin}
+use Rattle.core_model.proofs.Words.{Act, Tree, CoreJob, CoreState, core_job, is_done}
+use Rattle.core_model.specs.Runs.{IsTurn, Drives, over, by_schedule, by_robin}
 use Rattle.batcher_core.specs.Cores.{CoreView, job_in, state_in, is_over_in}
-use Rattle.batcher_core.proofs.RunLemmas.OneRun.{over_or}
+use Rattle.core_model.proofs.RunLemmas.OneRun.{over_or}
 
 -- a core shows the same job
 abbrev pub SameJob : CoreView → CoreView → Type 0

@@ -1,9 +1,9 @@
 -- What contracts see of the job that a core runs, and what its nodes and its leaves are below.
-use Rattle.batcher_core.specs.Operations.{IsLeaf}
-use Rattle.batcher_core.specs.State.{CoreJob, core_job}
+use Rattle.core_model.specs.Operations.{IsLeaf}
+use Rattle.core_model.specs.State.{CoreJob, core_job}
 use Rattle.batcher_core.specs.declared.job.CoreJob.{CoreJob as StoredJob}
-use Rattle.batcher_core.specs.declared.state.task.Task.{Task}
-use Rattle.batcher_core.specs.declared.state.task.Task.TheVariants.{Ended, Half, Handed, Idle, Kept, Run, Started, Whole}
+use Rattle.core_model.specs.declared.task.Task.{Task}
+use Rattle.core_model.specs.declared.task.Task.TheVariants.{Ended, Half, Handed, Idle, Kept, Run, Started, Whole}
 use Rattle.sp_order.specs.Plans.{Nodes}
 use Rattle.sp_order.specs.declared.node.Kind.{Kind}
 use Rattle.sp_order.specs.declared.node.Kind.TheVariants.{LeafNode, ParNode, SeqNode}
@@ -30,13 +30,6 @@ TaskIn nodes (Kept n s) = n < nodes
 TaskIn nodes (Ended n s e) = n < nodes
 TaskIn nodes (Whole n) = n < nodes
 TaskIn nodes (Handed n) = n < nodes
-
--- a leaf has a number below this one
-abbrev pub LeafIn : ℕ → Option Kind → Type 0
-LeafIn leaves None = Unit {0}
-LeafIn leaves (Some (LeafNode u)) = u < leaves
-LeafIn leaves (Some (SeqNode l r)) = Unit {0}
-LeafIn leaves (Some (ParNode l r)) = Unit {0}
 
 -- the task is started at a leaf
 abbrev pub HasLeaf : Nodes → Task → Type 0

@@ -1,17 +1,18 @@
 -- What the choice of a turn looks up, and what it chooses of that.
 use Rattle.batch_history.specs.Book.{flat}
 use Rattle.batcher_core.specs.Abstraction.{book_of, state_of}
-use Rattle.batcher_core.specs.Choice.{choice_arrive, choice_parent, choice_second, choice_steal, last_of}
-use Rattle.batcher_core.specs.Code.Job.{HasLeaf, LeafIn, TaskIn}
+use Rattle.core_model.specs.Choice.{choice_arrive, choice_parent, choice_second, choice_steal, last_of}
+use Rattle.batcher_core.specs.Code.Job.{HasLeaf, TaskIn}
+use Rattle.core_model.specs.Ranges.{LeafIn}
 use Rattle.batcher_core.specs.Code.Sizes.{HasShop, Sizes}
-use Rattle.batcher_core.specs.Invariant.Statuses.{is_taken_by}
-use Rattle.batcher_core.specs.Operations.{IsLeaf}
+use Rattle.core_model.specs.Invariant.Statuses.{is_taken_by}
+use Rattle.core_model.specs.Operations.{IsLeaf}
 use Rattle.batcher_core.specs.WorkDue.{work_due}
-use Rattle.batcher_core.specs.declared.event.Event.{Event}
-use Rattle.batcher_core.specs.declared.event.Event.TheVariants.{Claim}
+use Rattle.core_model.specs.declared.event.Event.{Event}
+use Rattle.core_model.specs.declared.event.Event.TheVariants.{Claim}
 use Rattle.batcher_core.specs.declared.job.CoreJob.{CoreJob as StoredJob}
 use Rattle.batcher_core.specs.declared.state.State.{State as StoredState}
-use Rattle.batcher_core.specs.declared.state.task.Task.TheVariants.{Started}
+use Rattle.core_model.specs.declared.task.Task.TheVariants.{Started}
 use Rattle.seq_objects.specs.Pairs.{AreDistinct}
 use Rattle.seq_objects.specs.Spin.{spin_of}
 use Rattle.sp_order.specs.Plans.{Nodes}

@@ -1,6 +1,6 @@
 -- How many lists of ready nodes are not empty, and where a number stands that is claimed.
-use Rattle.batcher_core.specs.Lists.{times}
-use Rattle.batcher_core.specs.Measure.{total}
+use Rattle.core_model.specs.Lists.{times}
+use Rattle.core_model.specs.Measure.{total}
 use Rattle.batcher_core.specs.Places.{at}
 use Rattle.std.specs.Prelude.{List, [], get_or, length, ℕ, ◌-◌, ◌<◌, ◌∷◌, ◌≡◌, ◌≢◌, ◌≤◌, ◌⊎◌}
 

@@ -1,10 +1,10 @@
 -- What the job and the table of a core keep to while memory has not failed.
 use Rattle.batcher_core.specs.Abstraction.{core_state_of}
-use Rattle.batcher_core.specs.Code.Job.{LeafIn}
+use Rattle.core_model.specs.Ranges.{LeafIn}
 use Rattle.batcher_core.specs.Code.Sizes.{HasShop, Sizes}
-use Rattle.batcher_core.specs.Invariant.{Invariant}
-use Rattle.batcher_core.specs.Operations.{IsCall}
-use Rattle.batcher_core.specs.State.{core_job}
+use Rattle.core_model.specs.Invariant.{Invariant}
+use Rattle.core_model.specs.Operations.{IsCall}
+use Rattle.core_model.specs.State.{core_job}
 use Rattle.batcher_core.specs.declared.job.CoreJob.{CoreJob as StoredJob}
 use Rattle.batcher_core.specs.declared.state.State.{State as StoredState}
 use Rattle.seq_objects.specs.declared.act.Act.{Act}

@@ -1,15 +1,15 @@
 //! What the events of the gate write: post, win, take, answer, release and leave.
 ghost use Rattle.std.specs.Prelude.{◌≡◌, ◌<◌, length, None, Some, IfSome, IsSome, if◌then◌else◌};
-ghost use Rattle.batcher_core.specs.State.{put};
+ghost use Rattle.core_model.specs.State.{put};
 ghost use Rattle.batcher_core.specs.Abstraction.{state_of, ready_of};
 ghost use Rattle.batcher_core.specs.Code.Sizes.{SameSizes};
-ghost use Rattle.batcher_core.specs.Events.{is_pending as status_pending, new_hold, looked as hold_looked, answered as hold_answered};
-ghost use Rattle.batcher_core.specs.declared.state.status.Status.TheVariants.{Free, Pending, Executing, Served};
-ghost use Rattle.batcher_core.specs.declared.state.status.CallState.TheVariants.{Out, Got};
+ghost use Rattle.core_model.specs.Events.{is_pending as status_pending, new_hold, looked as hold_looked, answered as hold_answered};
+ghost use Rattle.core_model.specs.declared.status.Status.TheVariants.{Free, Pending, Executing, Served};
+ghost use Rattle.core_model.specs.declared.status.CallState.TheVariants.{Out, Got};
 
 use crate::state::State;
 use crate::state::hold::Hold;
-use crate::state::status::{CallState, Receipt, Status};
+use core_model::{CallState, Receipt, Status};
 
 /// Whether a call with this status is posted, and no worker has taken it.
 fn is_pending(status: Status) -> bool

@@ -1,19 +1,17 @@
 //! What the events of leaves and blocks write: claim, start, open, keep, end, finish and arrive.
 ghost use Rattle.std.specs.Prelude.{◌≡◌, ◌<◌, ◌+◌, ◌^◌, length, Some, ◌++◌, ◌∷◌, [], ℕ, IfOk};
-ghost use Rattle.batcher_core.specs.State.{put};
+ghost use Rattle.core_model.specs.State.{put};
 ghost use Rattle.batcher_core.specs.Abstraction.{state_of, ready_of};
 ghost use Rattle.batcher_core.specs.Code.Sizes.{SameSizes};
-ghost use Rattle.batcher_core.specs.Events.{task_after as next_task};
-ghost use Rattle.batcher_core.specs.declared.state.progress.Progress.TheVariants.{Done, Ran, Ready, Taken};
-ghost use Rattle.batcher_core.specs.declared.state.task.Task.TheVariants.{Started, Kept, Ended, Run};
-ghost use Rattle.batcher_core.specs.declared.state.status.CallState.TheVariants.{NotCalled};
+ghost use Rattle.core_model.specs.Events.{task_after as next_task};
+ghost use Rattle.core_model.specs.declared.progress.Progress.TheVariants.{Done, Ran, Ready, Taken};
+ghost use Rattle.core_model.specs.declared.task.Task.TheVariants.{Started, Kept, Ended, Run};
+ghost use Rattle.core_model.specs.declared.status.CallState.TheVariants.{NotCalled};
 ghost use Rattle.batcher_core.specs.Code.ReadyLists.{IsAtOneEnd};
-ghost use Rattle.batcher_core.specs.Lists.{without};
+ghost use Rattle.core_model.specs.Lists.{without};
 
 use crate::state::State;
-use crate::state::progress::Progress;
-use crate::state::status::CallState;
-use crate::state::task::Task;
+use core_model::{CallState, Progress, Task};
 use std::alloc::AllocError;
 
 /// The task of a worker that has finished a node: none after the root.

@@ -4,17 +4,17 @@ ghost use Rattle.sp_order.specs.Preorder.{nodes_of};
 ghost use Rattle.batch_history.specs.Book.{flat};
 ghost use Rattle.seq_objects.specs.Pairs.{AreDistinct};
 ghost use Rattle.batcher_core.specs.Code.Job.{job_of, HasLeaf};
-ghost use Rattle.batcher_core.specs.Operations.{place_of};
-ghost use Rattle.batcher_core.specs.Tasks.{names};
-ghost use Rattle.batcher_core.specs.Choice.{leaf_named as leaf_at, answer_with, choice_pending, choice_holding};
+ghost use Rattle.core_model.specs.Operations.{place_of};
+ghost use Rattle.core_model.specs.Tasks.{names};
+ghost use Rattle.core_model.specs.Choice.{leaf_named as leaf_at, answer_with, choice_pending, choice_holding};
 ghost use Rattle.batcher_core.specs.Abstraction.{state_of, hold_of, hold_view};
 ghost use Rattle.batcher_core.specs.Code.Lookups.{CanChoose};
 
 use crate::choose::receipt::receipt_of;
-use crate::event::Event;
 use crate::job::CoreJob;
 use crate::state::State;
 use crate::state::hold::Hold;
+use core_model::Event;
 
 impl State {
     /// The event of a worker whose call is pending: it wins the flag, if that is free.

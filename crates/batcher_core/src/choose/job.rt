@@ -1,17 +1,15 @@
 //! The choice of a worker that runs a node or looks for one to claim.
 ghost use Rattle.std.specs.Prelude.{◌≡◌, ◌<◌, ◌≤◌, ℕ, length, None, Some, IsTrue, IfSome};
 ghost use Rattle.sp_order.specs.Preorder.{nodes_of};
-ghost use Rattle.batcher_core.specs.Choice.{choice_run, choice_half, choice_started, choice_second, choice_parent, choice_arrive, choice_handed};
+ghost use Rattle.core_model.specs.Choice.{choice_run, choice_half, choice_started, choice_second, choice_parent, choice_arrive, choice_handed};
 ghost use Rattle.batcher_core.specs.Abstraction.{state_of, ready_of};
 ghost use Rattle.batcher_core.specs.Code.Lookups.{CanChoose, MoveIn, claim_choice, whole_choice};
 ghost use Rattle.batcher_core.specs.WorkDue.{work_due, steps_of as act_steps};
 ghost use Rattle.seq_objects.specs.Spin.{spin_of};
 
-use crate::event::Event;
 use crate::job::CoreJob;
 use crate::state::State;
-use crate::state::status::CallState;
-use crate::state::task::Task;
+use core_model::{CallState, Event, Task};
 use seq_objects::work::spin;
 use seq_objects::{Act, value};
 use sp_order::node::{Kind, Move};

@@ -2,11 +2,11 @@
 ghost use Rattle.std.specs.Prelude.{◌≡◌, ◌<◌, ◌^◌, length, map};
 ghost use Rattle.batch_history.specs.Book.{flat};
 ghost use Rattle.seq_objects.specs.Pairs.{AreDistinct};
-ghost use Rattle.batcher_core.specs.Operations.{place_in, place_of};
-ghost use Rattle.batcher_core.specs.Code.Batches.{receipt_at};
+ghost use Rattle.core_model.specs.Operations.{place_in, place_of};
+ghost use Rattle.batcher_core.specs.Code.Receipts.{receipt_at};
 
-use crate::state::status::Receipt;
 use batch_history::{Batch, Entry};
+use core_model::Receipt;
 
 /// The receipt of a leaf's entry in the batch with this number, if the batch has one. The entries are compared one
 /// after another.

@@ -1,8 +1,8 @@
 //! The hold of the worker that has the flag.
 ghost use Rattle.std.specs.Prelude.{◌≡◌, ◌<◌, ◌≤◌, Some, true, false};
-ghost use Rattle.batcher_core.specs.State.{put};
-ghost use Rattle.batcher_core.specs.Events.{new_hold, looked as hold_looked, published as hold_published, answered as hold_answered};
-ghost use Rattle.batcher_core.specs.Choice.{some_below, least_below, is_owed};
+ghost use Rattle.core_model.specs.State.{put};
+ghost use Rattle.core_model.specs.Events.{new_hold, looked as hold_looked, published as hold_published, answered as hold_answered};
+ghost use Rattle.core_model.specs.Choice.{some_below, least_below, is_owed};
 ghost use Rattle.batcher_core.specs.Places.{at};
 ghost use Rattle.batcher_core.specs.Abstraction.{hold_view};
 

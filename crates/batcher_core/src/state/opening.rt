@@ -1,16 +1,14 @@
 //! The opening state.
 ghost use Rattle.std.specs.Prelude.{◌≡◌, ◌<◌, ℕ, length, IfOk, replicate};
-ghost use Rattle.batcher_core.specs.State.{opening_state, opening_core};
+ghost use Rattle.core_model.specs.State.{opening_state, opening_core};
 ghost use Rattle.batcher_core.specs.Places.{at};
 ghost use Rattle.batcher_core.specs.Abstraction.{state_of, ready_of};
 ghost use Rattle.batcher_core.specs.Code.Sizes.{HasShop, Sizes};
-ghost use Rattle.batcher_core.specs.declared.state.progress.Progress.TheVariants.{Waiting};
+ghost use Rattle.core_model.specs.declared.progress.Progress.TheVariants.{Waiting};
 
 use crate::state::State;
-use crate::state::progress::Progress;
 use crate::state::ready::ReadyLists;
-use crate::state::status::{CallState, Status};
-use crate::state::task::Task;
+use core_model::{CallState, Progress, Status, Task};
 use launch_batch::Shop;
 use std::alloc::{AllocError, Global};
 

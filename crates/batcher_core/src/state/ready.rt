@@ -1,7 +1,7 @@
 //! The workers' lists of ready nodes.
 ghost use Rattle.std.specs.Prelude.{◌≡◌, ◌<◌, ◌≤◌, ◌-◌, ℕ, [], ◌∷◌, ◌++◌, length, take, drop, replicate, IfOk, IfErr, OnOk, OnErr, IsTrue, false, ◌↔◌, ◌≢◌};
-ghost use Rattle.batcher_core.specs.State.{put, opening_core};
-ghost use Rattle.batcher_core.specs.Lists.{without, times};
+ghost use Rattle.core_model.specs.State.{put, opening_core};
+ghost use Rattle.core_model.specs.Lists.{without, times};
 ghost use Rattle.batcher_core.specs.Places.{at};
 ghost use Rattle.batcher_core.specs.Code.ReadyLists.{one_if_non_empty as count_of, IsNewest, IsOldest, IsAtEnd, IsAtOneEnd};
 

@@ -1,10 +1,10 @@
 use Rattle.std.proofs.Common.{◌+◌, sym, ◌∙◌}
 use Rattle.std.proofs.lemmas.Nat.{mod_below}
 use Rattle.batcher_core.specs.Cores.{state_in}
-use Rattle.batcher_core.specs.Runs.{over}
+use Rattle.core_model.specs.Runs.{over}
 use Rattle.batcher_core.proofs.ReportLemmas.Reporting.{over_is}
 use Rattle.batcher_core.proofs.RunLemmas.Taken.{same_since, robin_before}
-use Rattle.batcher_core.proofs.RunLemmas.Rounds.{round_fewer}
+use Rattle.batcher_core.proofs.RunLemmas.CoreRounds.{round_fewer}
 use Rattle.batcher_core.proofs.driver.run_round_robin.Goals as goal
 
 pub loop-over-smaller : goal.loop-over-smaller

@@ -1,9 +1,9 @@
 use Rattle.std.proofs.Common.{◌≡◌, ◌<◌, false, []}
-use Rattle.batcher_core.specs.State.{CoreState}
-use Rattle.batcher_core.specs.Runs.{Drives}
+use Rattle.core_model.specs.State.{CoreState}
+use Rattle.core_model.specs.Runs.{Drives}
 use Rattle.batcher_core.specs.Cores.{job_in, state_in, is_over_in}
 use Rattle.batcher_core.proofs.RunLemmas.Taken.{SameJob}
-use Rattle.batcher_core.proofs.RunLemmas.Rounds.{turns_left}
+use Rattle.core_model.proofs.RunLemmas.Rounds.{turns_left}
 use Rattle.batcher_core.proofs.driver.run_round_robin.Given as goal
 
 abbrev pub invariant-loop-over : goal.invariant-loop-over

@@ -1,6 +1,6 @@
 use Rattle.std.proofs.Common.{◌≡◌, false, drop}
-use Rattle.batcher_core.specs.State.{CoreState}
-use Rattle.batcher_core.specs.Runs.{Drives}
+use Rattle.core_model.specs.State.{CoreState}
+use Rattle.core_model.specs.Runs.{Drives}
 use Rattle.batcher_core.specs.Cores.{job_in, state_in}
 use Rattle.batcher_core.proofs.RunLemmas.Taken.{SameJob}
 use Rattle.batcher_core.proofs.driver.run_schedule.Given as goal

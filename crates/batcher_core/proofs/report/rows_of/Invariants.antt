@@ -1,9 +1,9 @@
 use Rattle.std.proofs.Common.{◌≡◌, None, map}
 use Rattle.std.specs.List.{AllByRecursion, range_with_len}
 use Rattle.sp_order.specs.Preorder.{nodes_of}
-use Rattle.batcher_core.specs.declared.state.progress.Progress.TheVariants.{Waiting}
+use Rattle.core_model.specs.declared.progress.Progress.TheVariants.{Waiting}
 use Rattle.batcher_core.specs.Places.{at}
-use Rattle.batcher_core.specs.Reports.{TellsLeaf}
+use Rattle.core_model.specs.Reports.{TellsLeaf}
 use Rattle.batcher_core.proofs.report.rows_of.Given as goal
 
 abbrev pub invariant-loop-leaf : goal.invariant-loop-leaf

@@ -2,10 +2,10 @@ use Rattle.std.proofs.Common.{◌≡◌, ◌<◌, ◌%◌, false, arith, sym, �
 use Rattle.std.proofs.Math.Nat.{mod-eq_of_lt}
 use Rattle.batcher_core.specs.Cores.{job_in, state_in}
 use Rattle.batcher_core.specs.Places.{at}
-use Rattle.batcher_core.specs.Stopped.{LiveDrive}
+use Rattle.core_model.specs.Stopped.{LiveDrive}
 use Rattle.batcher_core.proofs.ReportLemmas.Reporting.{over_is}
 use Rattle.batcher_core.proofs.RunLemmas.Taken.{same_since}
-use Rattle.batcher_core.proofs.RunLemmas.LiveRuns.{over_anywhere}
+use Rattle.core_model.proofs.RunLemmas.LiveRuns.{over_anywhere}
 use Rattle.batcher_core.proofs.RunLemmas.LiveRounds.{round_end, turn_before, passed_before, round_rests, rests_past, lowers_after, rests_after}
 use Rattle.batcher_core.proofs.stopped.take_round.Goals as goal
 

@@ -1,9 +1,9 @@
 use Rattle.std.proofs.Common.{◌≡◌, ◌<◌, ◌≤◌, ◌%◌, true, false}
-use Rattle.batcher_core.specs.State.{CoreState}
+use Rattle.core_model.specs.State.{CoreState}
 use Rattle.batcher_core.specs.Cores.{job_in, state_in}
-use Rattle.batcher_core.specs.Measure.{measure}
+use Rattle.core_model.specs.Measure.{measure}
 use Rattle.batcher_core.specs.Places.{at}
-use Rattle.batcher_core.specs.Stopped.{LiveDrive}
+use Rattle.core_model.specs.Stopped.{LiveDrive}
 use Rattle.batcher_core.proofs.RunLemmas.Taken.{SameJob}
 use Rattle.batcher_core.proofs.RunLemmas.LiveRounds.{RestBelow}
 use Rattle.batcher_core.proofs.stopped.take_round.Given as goal

@@ -1,5 +1,5 @@
 use Rattle.std.proofs.Common.{ap, sym, ◌∙◌}
-use Rattle.batcher_core.specs.Code.Batches.{receipt_at}
+use Rattle.batcher_core.specs.Code.Receipts.{receipt_at}
 use Rattle.batcher_core.proofs.BookLemmas.Search.{found_here, passed_here, passed_all}
 use Rattle.batcher_core.proofs.choose.receipt.receipt_in.Goals as goal
 

@@ -1,5 +1,5 @@
 use Rattle.std.proofs.Common.{◌≡◌, drop}
-use Rattle.batcher_core.specs.Operations.{place_in}
+use Rattle.core_model.specs.Operations.{place_in}
 use Rattle.batcher_core.proofs.choose.receipt.receipt_in.Given as goal
 
 abbrev pub invariant-loop-place : goal.invariant-loop-place

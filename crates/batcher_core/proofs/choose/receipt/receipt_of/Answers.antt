@@ -1,6 +1,6 @@
 use Rattle.std.proofs.Common.{◌≡◌, ◌<◌, ◌+◌, ◌-◌, length, arith, ap, sym, ◌∙◌}
 use Rattle.std.proofs.Math.Seq.{take-length}
-use Rattle.batcher_core.specs.Code.Batches.{receipt_at}
+use Rattle.batcher_core.specs.Code.Receipts.{receipt_at}
 use Rattle.batcher_core.proofs.BookLemmas.Search.{batch_short, place_none, found_back, passed_back, distinct_back}
 use Rattle.batcher_core.proofs.choose.receipt.receipt_of.Goals as goal
 

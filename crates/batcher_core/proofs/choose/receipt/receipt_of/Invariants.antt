@@ -1,7 +1,7 @@
 use Rattle.std.proofs.Common.{◌≡◌, ◌≤◌, length, take, map}
 use Rattle.batch_history.specs.Book.{flat}
 use Rattle.seq_objects.specs.Pairs.{AreDistinct}
-use Rattle.batcher_core.specs.Operations.{place_of}
+use Rattle.core_model.specs.Operations.{place_of}
 use Rattle.batcher_core.proofs.choose.receipt.receipt_of.Given as goal
 
 abbrev pub invariant-loop-number : goal.invariant-loop-number

@@ -1,5 +1,5 @@
 use Rattle.std.proofs.Common.{◌≡◌, ◌-◌, ◌+◌, []}
-use Rattle.batcher_core.specs.Choice.{choice_steal}
+use Rattle.core_model.specs.Choice.{choice_steal}
 use Rattle.batcher_core.specs.Abstraction.{ready_of}
 use Rattle.batcher_core.proofs.state.State.choose_claim.Given as goal
 

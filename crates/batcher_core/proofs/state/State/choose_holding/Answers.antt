@@ -1,8 +1,8 @@
 use Rattle.std.proofs.Common.{sym, ◌∙◌}
-use Rattle.batcher_core.specs.Choice.{is_owed}
+use Rattle.core_model.specs.Choice.{is_owed}
 use Rattle.batcher_core.specs.Abstraction.{hold_view, state_of}
-use Rattle.batcher_core.proofs.ChoiceLemmas.Search.{least_is_chosen}
-use Rattle.batcher_core.proofs.ChoiceLemmas.Searches.{least_in}
+use Rattle.core_model.proofs.ChoiceLemmas.Search.{least_is_chosen}
+use Rattle.core_model.proofs.ChoiceLemmas.Searches.{least_in}
 use Rattle.batcher_core.proofs.state.State.choose_holding.Goals as goal
 
 pub choose_answer-requires-clause-other_in : goal.choose_answer-requires-clause-other_in

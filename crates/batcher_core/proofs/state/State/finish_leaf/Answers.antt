@@ -1,6 +1,6 @@
 use Rattle.std.proofs.Common.{refl}
 use Rattle.batcher_core.specs.Abstraction.{state_of}
-use Rattle.batcher_core.proofs.Words.{Waiting, Ran, Idle}
+use Rattle.batcher_core.specs.Words.{Waiting, Ran, Idle}
 use Rattle.batcher_core.proofs.CodeLemmas.Written.{at_written}
 use Rattle.batcher_core.proofs.state.State.finish_leaf.Goals as goal
 

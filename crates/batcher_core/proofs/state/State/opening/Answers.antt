@@ -1,6 +1,6 @@
 use Rattle.std.proofs.Common.{length, refl, ap, ◌∙◌}
 use Rattle.std.proofs.lemmas.List.{length-replicate}
-use Rattle.batcher_core.specs.State.{opening_state}
+use Rattle.core_model.specs.State.{opening_state}
 use Rattle.batcher_core.specs.Abstraction.{state_of, ready_of}
 use Rattle.batcher_core.proofs.CodeLemmas.Copies.{copied}
 use Rattle.batcher_core.proofs.state.State.opening.Goals as goal

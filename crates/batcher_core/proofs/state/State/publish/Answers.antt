@@ -1,7 +1,7 @@
 use Rattle.std.proofs.Common.{refl}
 use Rattle.batcher_core.specs.Abstraction.{book_of, state_of, ready_of}
 use Rattle.batcher_core.proofs.CodeLemmas.CoreFits.{looks}
-use Rattle.batcher_core.proofs.BookLemmas.Books.{served_then}
+use Rattle.core_model.proofs.BookLemmas.Books.{served_then}
 use Rattle.batcher_core.proofs.BatchLemmas.Publishing.{at_call, taken_owed, can_serve, served_batch, no_hold}
 use Rattle.batcher_core.proofs.state.State.publish.Goals as goal
 

@@ -1,7 +1,7 @@
 use Rattle.std.proofs.Common.{◌<◌, length, replicate, ap, ◌∙◌}
 use Rattle.std.proofs.lemmas.List.{length-replicate}
-use Rattle.batcher_core.specs.State.{put, opening_state}
-use Rattle.batcher_core.specs.declared.state.progress.Progress.TheVariants.{Waiting, Ready}
+use Rattle.core_model.specs.State.{put, opening_state}
+use Rattle.core_model.specs.declared.progress.Progress.TheVariants.{Waiting, Ready}
 use Rattle.batcher_core.proofs.CodeLemmas.Written.{at_written}
 use Rattle.batcher_core.proofs.CodeLemmas.Copies.{at_copies}
 use Rattle.batcher_core.proofs.state.opening.opening_nodes.Goals as goal

@@ -1,5 +1,5 @@
 use Rattle.std.proofs.Common.{◌≡◌, false}
-use Rattle.batcher_core.specs.Choice.{some_below}
+use Rattle.core_model.specs.Choice.{some_below}
 use Rattle.batcher_core.specs.Places.{at}
 use Rattle.batcher_core.proofs.state.hold.Hold.has_taken.Given as goal
 

@@ -1,7 +1,7 @@
 use Rattle.std.proofs.Common.{refl, sym, ◌∙◌}
-use Rattle.batcher_core.specs.Choice.{least_below, is_owed}
+use Rattle.core_model.specs.Choice.{least_below, is_owed}
 use Rattle.batcher_core.specs.Abstraction.{hold_view}
-use Rattle.batcher_core.proofs.ChoiceLemmas.Searches.{least_here, least_passed}
+use Rattle.core_model.proofs.ChoiceLemmas.Searches.{least_here, least_passed}
 use Rattle.batcher_core.proofs.state.hold.Hold.least_owed.Goals as goal
 
 pub loop-worker-init : goal.loop-worker-init

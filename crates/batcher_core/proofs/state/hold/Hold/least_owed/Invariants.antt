@@ -1,5 +1,5 @@
 use Rattle.std.proofs.Common.{◌≡◌, None}
-use Rattle.batcher_core.specs.Choice.{least_below, is_owed}
+use Rattle.core_model.specs.Choice.{least_below, is_owed}
 use Rattle.batcher_core.specs.Abstraction.{hold_view}
 use Rattle.batcher_core.proofs.state.hold.Hold.least_owed.Given as goal
 

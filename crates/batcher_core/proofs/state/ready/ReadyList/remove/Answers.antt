@@ -1,5 +1,6 @@
 use Rattle.std.proofs.Common.{refl, sym}
-use Rattle.batcher_core.proofs.ChoiceLemmas.Ends.{newest_taken, oldest_taken, none_there, without_none, newest_stands, oldest_stands}
+use Rattle.batcher_core.proofs.ChoiceLemmas.Ends.{newest_taken, oldest_taken, none_there, newest_stands, oldest_stands}
+use Rattle.core_model.proofs.ChoiceLemmas.Ready.{without_none}
 use Rattle.batcher_core.proofs.state.ready.ReadyList.remove.Goals as goal
 
 pub returns-then-is_newest-clause-list : goal.returns-then-is_newest-clause-list

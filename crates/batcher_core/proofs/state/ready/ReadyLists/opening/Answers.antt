@@ -1,5 +1,5 @@
 use Rattle.std.proofs.Common.{ℕ, List, [], refl, ap}
-use Rattle.batcher_core.specs.State.{opening_core}
+use Rattle.core_model.specs.State.{opening_core}
 use Rattle.batcher_core.proofs.CodeLemmas.Copies.{at_copies}
 use Rattle.batcher_core.proofs.state.ready.ReadyLists.opening.Goals as goal
 

@@ -1,6 +1,6 @@
 use Rattle.std.proofs.Common.{ℕ, ◌≡◌, ◌≢◌, ◌∙◌, List, [], length, arith, sym, subst}
-use Rattle.batcher_core.specs.State.{put}
-use Rattle.batcher_core.specs.Lists.{times, without}
+use Rattle.core_model.specs.State.{put}
+use Rattle.core_model.specs.Lists.{times, without}
 use Rattle.batcher_core.specs.Code.ReadyLists.{IsAtEnd}
 use Rattle.batcher_core.specs.Places.{at}
 use Rattle.batcher_core.proofs.ChoiceLemmas.Ends.{removed_one, removed_none, removed_all, none_so_far}

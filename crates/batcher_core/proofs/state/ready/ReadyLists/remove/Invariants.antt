@@ -1,5 +1,5 @@
 use Rattle.std.proofs.Common.{ℕ, ◌≡◌, ◌<◌, [], length}
-use Rattle.batcher_core.specs.Lists.{times}
+use Rattle.core_model.specs.Lists.{times}
 use Rattle.batcher_core.specs.Places.{at}
 use Rattle.batcher_core.proofs.state.ready.ReadyLists.remove.Given as goal
 

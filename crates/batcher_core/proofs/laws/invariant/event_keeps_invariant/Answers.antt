@@ -1,5 +1,0 @@
-use Rattle.batcher_core.proofs.Inductive.FromParts.{event_keeps_all}
-use Rattle.batcher_core.proofs.laws.invariant.event_keeps_invariant.Goals as goal
-
-pub returns : goal.returns
-returns c = event_keeps_all

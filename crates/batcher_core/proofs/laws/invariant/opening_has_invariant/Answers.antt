@@ -1,5 +1,0 @@
-use Rattle.batcher_core.proofs.InvariantLemmas.Reached.{opening_invariant}
-use Rattle.batcher_core.proofs.laws.invariant.opening_has_invariant.Goals as goal
-
-pub returns : goal.returns
-returns c job laws root some = opening_invariant job laws root some

@@ -1,8 +1,0 @@
-use Rattle.batcher_core.proofs.RunLemmas.Facts.{driven_reached, driven_done}
-use Rattle.batcher_core.proofs.laws.run.driven_is_reached.Goals as goal
-
-pub returns-clause-reached : goal.returns-clause-reached
-returns-clause-reached c job schedule state drives = driven_reached job schedule state drives
-
-pub returns-clause-done : goal.returns-clause-done
-returns-clause-done c job schedule state drives = driven_done job schedule state drives

@@ -1,6 +1,0 @@
-use Rattle.batcher_core.proofs.ChoiceLemmas.Choices.{choice_needs}
-use Rattle.batcher_core.proofs.Inductive.FromParts.{parts_carried}
-use Rattle.batcher_core.proofs.laws.turn.choice_has_its_needs.Goals as goal
-
-pub returns : goal.returns
-returns c job state worker event laws among inv chosen = choice_needs job state worker event laws among (parts_carried job state.state inv.parts) inv.lists chosen

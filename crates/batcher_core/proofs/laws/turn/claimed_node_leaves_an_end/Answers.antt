@@ -1,6 +1,0 @@
-use Rattle.batcher_core.proofs.ChoiceLemmas.Ready.{choice_ready}
-use Rattle.batcher_core.proofs.Inductive.FromParts.{parts_carried}
-use Rattle.batcher_core.proofs.laws.turn.claimed_node_leaves_an_end.Goals as goal
-
-pub returns : goal.returns
-returns c job state worker node laws among inv chosen = choice_ready job state worker node laws among (parts_carried job state.state inv.parts) inv.lists chosen

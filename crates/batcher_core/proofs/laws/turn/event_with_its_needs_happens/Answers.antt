@@ -1,6 +1,0 @@
-use Rattle.batcher_core.proofs.Inductive.FromParts.{parts_carried}
-use Rattle.batcher_core.proofs.RunLemmas.Existence.{happens_some}
-use Rattle.batcher_core.proofs.laws.turn.event_with_its_needs_happens.Goals as goal
-
-pub returns : goal.returns
-returns c job state worker event parts among needs = happens_some job state worker event (parts_carried job state parts) among needs

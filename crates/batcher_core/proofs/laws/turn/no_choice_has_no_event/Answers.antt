@@ -1,6 +1,0 @@
-use Rattle.batcher_core.proofs.ChoiceLemmas.Choices.{none_has_no_event}
-use Rattle.batcher_core.proofs.Inductive.FromParts.{parts_carried}
-use Rattle.batcher_core.proofs.laws.turn.no_choice_has_no_event.Goals as goal
-
-pub returns : goal.returns
-returns c job state worker laws among inv none event needs = none_has_no_event job state worker laws among (parts_carried job state.state inv.parts) inv.lists none event needs

@@ -1,5 +1,0 @@
-use Rattle.batcher_core.proofs.MeasureLemmas.Lowers.{opening_fuel}
-use Rattle.batcher_core.proofs.laws.turn.opening_measure_is_bounded.Goals as goal
-
-pub returns : goal.returns
-returns c job = opening_fuel job

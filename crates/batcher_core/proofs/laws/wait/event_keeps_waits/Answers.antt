@@ -1,6 +1,0 @@
-use Rattle.batcher_core.proofs.Inductive.FromParts.{parts_carried}
-use Rattle.batcher_core.proofs.WaitLemmas.Keeps.{waits_kept}
-use Rattle.batcher_core.proofs.laws.wait.event_keeps_waits.Goals as goal
-
-pub returns : goal.returns
-returns c job old new worker event waiter since laws parts = waits_kept job old new worker event waiter since laws (parts_carried job old parts)

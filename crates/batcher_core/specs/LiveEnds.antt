@@ -1,0 +1,29 @@
+-- What the live workers' turns made of a core, where some workers have stopped for good.
+use Rattle.batch_history.specs.Lawful.{Lawful}
+use Rattle.batcher_core.specs.Cores.{CoreView, job_in, state_in}
+use Rattle.batcher_core.specs.declared.stopped.Ended.{Ended}
+use Rattle.batcher_core.specs.declared.stopped.Ended.TheVariants.{Over, Stuck}
+use Rattle.core_model.specs.Invariant.{Invariant}
+use Rattle.core_model.specs.Reports.{IsReportOf}
+use Rattle.core_model.specs.State.{CoreState}
+use Rattle.core_model.specs.Stopped.{LiveDrive, NoLiveEvent}
+use Rattle.core_model.specs.Tasks.{is_done}
+use Rattle.sp_order.specs.Precedence.{leaves}
+use Rattle.std.specs.Prelude.{Bool, Some, false, true, ℕ, ◌≡◌}
+
+-- What the live workers' turns made of a core, from worker 0 on. It is over where the root of the state that they reached is
+-- done, and the report is that of this state; it is stuck where the root is not done and no live worker has an event, and then
+-- the core is handed back in this state.
+abbrev pub IsEndOf : CoreView → (ℕ → Bool) → Ended → Type 0
+IsEndOf core live (Over report) =
+    (last : CoreState) × LiveDrive (job_in core) live (state_in core) 0 last × (is_done (last.state.node 0) ≡ true)
+    × IsReportOf (job_in core) (leaves core.tree) last.state report
+    × Lawful (record { shape = Some core.tree; acts = core.acts }) core.workers report
+IsEndOf core live (Stuck left) =
+    (left.tree ≡ core.tree) × (left.acts ≡ core.acts) × (left.workers ≡ core.workers) × (left.spent ≡ false)
+    × LiveDrive (job_in core) live (state_in core) 0 (state_in left) × (is_done ((state_in left).state.node 0) ≡ false)
+    × NoLiveEvent (job_in core) live (state_in left) × Invariant (job_in core) (state_in left)
+
+abbrev pub IsOver : Ended → Type 0
+IsOver (Over report) = Unit {0}
+IsOver (Stuck left) = ⊥

@@ -1,0 +1,4 @@
+pub mod TakenCalls
+pub mod Replied
+pub mod Made
+pub mod Existence

@@ -1,0 +1,11 @@
+pub mod EntryLists
+pub mod Books
+pub mod CallsIn
+pub mod LeavesIn
+pub mod Room
+pub mod EntryCount
+pub mod EntryPlaces
+pub mod Standing
+pub mod OwnEntries
+pub mod Receipts
+pub mod UnservedCalls

@@ -1,0 +1,10 @@
+pub mod Words
+pub mod Inductive
+pub mod InvariantLemmas
+pub mod ChoiceLemmas
+pub mod MeasureLemmas
+pub mod BookLemmas
+pub mod BatchLemmas
+pub mod RunLemmas
+pub mod ReportLemmas
+pub mod WaitLemmas

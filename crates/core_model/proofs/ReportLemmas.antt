@@ -1,0 +1,9 @@
+pub mod RootTasks
+pub mod RootDone
+pub mod OneReport
+pub mod RowLists
+pub mod EndedRuns
+pub mod RowTicks
+pub mod RowOrder
+pub mod RowCalls
+pub mod Lawful

@@ -1,0 +1,11 @@
+use Rattle.sp_order.specs.Preorder.{nodes_of}
+use Rattle.core_model.specs.State.{core_job}
+use Rattle.sp_order.proofs.PlanLemmas.Laws.{has_root}
+use Rattle.core_model.proofs.InvariantLemmas.Reached.{reached_invariant}
+use Rattle.core_model.proofs.laws.invariant.reached_has_invariant.Goals as goal
+
+pub returns : goal.returns
+returns c tree acts workers state some reached =
+    let stands = c.plan_stands_for_tree.ensures tree in
+    let laws = c.plan_has_sides.ensures (nodes_of tree) tree stands in
+    reached_invariant (core_job tree acts workers) laws (has_root (nodes_of tree) tree stands) some state reached

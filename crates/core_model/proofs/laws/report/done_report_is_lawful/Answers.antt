@@ -1,0 +1,13 @@
+use Rattle.std.proofs.Common.{refl}
+use Rattle.sp_order.specs.Preorder.{nodes_of}
+use Rattle.core_model.specs.State.{core_job}
+use Rattle.core_model.proofs.ReportLemmas.EndedRuns.{run_ended}
+use Rattle.core_model.proofs.ReportLemmas.Lawful.{report_lawful}
+use Rattle.core_model.proofs.laws.report.done_report_is_lawful.Goals as goal
+
+pub returns : goal.returns
+returns c tree acts workers state report fits parts done is =
+    let stands = c.plan_stands_for_tree.ensures tree in
+    let ended = run_ended (core_job tree acts workers) tree state stands (c.plan_has_sides.ensures (nodes_of tree) tree stands)
+    (λ leaf low. (c.leaf_has_one_node.ensures (nodes_of tree) tree stands leaf ((nodes_of tree).node_of leaf) low).1 refl) parts done in
+    report_lawful tree acts workers state report fits (λ u v low low' before. (c.before_is_by_series.ensures (nodes_of tree) tree stands u v low low').0 before) ended is

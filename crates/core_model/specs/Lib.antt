@@ -1,0 +1,29 @@
+-- The rules of the core, over plain states: its events, its turns, its runs and its report, and the invariant, with what they
+-- take from the crates below.
+pub use Rattle.seq_objects.specs.Objects
+pub use Rattle.seq_objects.specs.Spin
+pub use Rattle.sp_order.specs.Precedence
+pub use Rattle.sp_order.specs.Plans
+pub use Rattle.sp_order.specs.PlanOf
+pub use Rattle.sp_order.specs.TreeEncoding
+pub use Rattle.sp_order.specs.Preorder
+pub use Rattle.seq_objects.specs.Pairs
+pub use Rattle.batch_history.specs.Book
+pub use Rattle.batch_history.specs.Lawful
+pub mod Words
+pub mod State
+pub mod Operations
+pub mod Serving
+pub mod Lists
+pub mod Events
+pub mod Tasks
+pub mod Invariant
+pub mod Choice
+pub mod Runs
+pub mod Ranges
+pub mod Measure
+pub mod Waits
+pub mod Entries
+pub mod Batches
+pub mod Reports
+pub mod Stopped

@@ -1,0 +1,48 @@
+-- The report of a state: a row for each leaf, with what the state has of its node, and the book.
+use Rattle.batch_history.specs.declared.report.Report.{Report}
+use Rattle.batch_history.specs.declared.row.Row.{Row}
+use Rattle.core_model.specs.Runs.{Drives}
+use Rattle.core_model.specs.State.{CoreJob, CoreState, State, core_job, opening_core}
+use Rattle.core_model.specs.Words.{Progress, Ran, Act, Tree, leaves}
+use Rattle.sp_order.specs.Jobs.{JobValue}
+use Rattle.std.specs.List.{AllByRecursion, range_with_len}
+use Rattle.std.specs.Prelude.{List, None, Option, Some, [], map, ℕ, ◌≡◌}
+
+-- a leaf has run that has come so far
+abbrev pub HasRun : Progress → Type 0
+HasRun progress = (worker : ℕ) × (start : ℕ) × (end : ℕ) × (progress ≡ Ran worker start end)
+
+-- the row tells the worker, the ticks and the value of a leaf that has run
+pub record IsRowFor (progress : Progress) (kept : Option ℕ) (row : Row) : Type 0 where
+  pub ran : progress ≡ Ran row.worker row.start row.end
+  pub value : kept ≡ Some row.value
+
+-- the row tells what is known of the node of its leaf
+abbrev pub TellsLeaf : (ℕ → ℕ) → (ℕ → Progress) → (ℕ → Option ℕ) → Row → Type 0
+TellsLeaf node_of node value row = IsRowFor (node (node_of row.leaf)) (value (node_of row.leaf)) row
+
+-- the row tells what the state has for the node of its leaf
+abbrev pub IsRowOf : CoreJob → State → Row → Type 0
+IsRowOf job s row = TellsLeaf job.plan.node_of s.node s.value row
+
+-- the report has the workers of the job, a row for each leaf, in leaf order, and the book of the state
+pub record IsReportOf (job : CoreJob) (leaf_total : ℕ) (s : State) (report : Report) : Type 0 where
+  pub workers : report.workers ≡ job.workers
+  pub leaves : map (λ row. row.leaf) report.rows ≡ range_with_len 0 leaf_total
+  pub rows : AllByRecursion (IsRowOf job s) report.rows
+  pub history : report.history ≡ s.book
+
+-- the report is that of the state to which the schedule, and then all workers round robin, drive this state
+pub record IsDrivenFrom (job : CoreJob) (leaf_total : ℕ) (first : CoreState) (schedule : List ℕ) (report : Report) : Type 0 where
+  pub last : CoreState
+  pub drives : Drives job first schedule 0 last
+  pub reports : IsReportOf job leaf_total last.state report
+
+abbrev pub IsDrivenShape : Option Tree → List Act → ℕ → List ℕ → Report → Type 0
+IsDrivenShape None acts workers schedule report = report ≡ record { workers = workers; history = []; rows = [] }
+IsDrivenShape (Some tree) acts workers schedule report =
+    IsDrivenFrom (core_job tree acts workers) (leaves tree) opening_core schedule report
+
+-- the report of a job that a schedule drives from its opening state. That of a job without leaves has no rows and no batches
+abbrev pub IsDrivenReport : JobValue → ℕ → List ℕ → Report → Type 0
+IsDrivenReport job workers schedule report = IsDrivenShape job.shape job.acts workers schedule report

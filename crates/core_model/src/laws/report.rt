@@ -1,0 +1,65 @@
+//! The laws of the end of a run, each as the contract of a function that does nothing.
+ghost use Rattle.std.specs.Prelude.{◌≡◌, ◌≢◌, ℕ, ◌<◌, true, None, Some, List, length};
+ghost use Rattle.seq_objects.specs.declared.act.Act.{Act};
+ghost use Rattle.sp_order.specs.Precedence.{Tree, leaves};
+ghost use Rattle.sp_order.specs.PlanOf.{IsPlanOf};
+ghost use Rattle.batch_history.specs.Lawful.{Lawful};
+ghost use Rattle.batch_history.specs.declared.report.Report.{Report};
+ghost use Rattle.core_model.specs.declared.task.Task.TheVariants.{Idle};
+ghost use Rattle.core_model.specs.declared.status.Status.TheVariants.{Free};
+ghost use Rattle.core_model.specs.State.{CoreJob, State, core_job};
+ghost use Rattle.core_model.specs.Tasks.{is_done};
+ghost use Rattle.core_model.specs.Invariant.{Parts};
+ghost use Rattle.core_model.specs.Reports.{HasRun, IsReportOf};
+
+use sp_order::laws::{
+    before_is_by_series, leaf_has_one_node, plan_has_sides, plan_stands_for_tree,
+};
+
+/// Where the root is done, each node is done, each worker is idle with its status free, and nobody has the flag.
+pub fn done_root_ends_all()
+    ensures { (job : CoreJob) (tree : Tree) (state : State) → IsPlanOf job.plan tree
+        → Parts job state
+        → is_done (state.node 0) ≡ true
+        → ((n : ℕ) → job.plan.kind n ≢ None → is_done (state.node n) ≡ true)
+        × ((w : ℕ) → state.task w ≡ Idle)
+        × ((w : ℕ) → state.status w ≡ Free)
+        × (state.hold ≡ None) }
+{
+    plan_has_sides();
+}
+
+/// Where the root is done, each leaf has run and has a value.
+pub fn done_leaves_have_run()
+    ensures { (job : CoreJob) (tree : Tree) (state : State) → IsPlanOf job.plan tree
+        → Parts job state
+        → is_done (state.node 0) ≡ true
+        → (leaf : ℕ) → leaf < leaves tree
+        → HasRun (state.node (job.plan.node_of leaf)) × (state.value (job.plan.node_of leaf) ≢ None) }
+{
+    plan_has_sides();
+    leaf_has_one_node();
+}
+
+/// The report of a state whose root is done is lawful.
+pub fn done_report_is_lawful()
+    ensures { (tree : Tree) (acts : List Act) (workers : ℕ) (state : State) (report : Report)
+        → length acts ≡ leaves tree
+        → Parts (core_job tree acts workers) state
+        → is_done (state.node 0) ≡ true
+        → IsReportOf (core_job tree acts workers) (leaves tree) state report
+        → Lawful (record { shape = Some tree; acts = acts }) workers report }
+{
+    plan_stands_for_tree();
+    plan_has_sides();
+    leaf_has_one_node();
+    before_is_by_series();
+}
+
+/// A state has one report at most.
+pub fn report_is_one()
+    ensures { (job : CoreJob) (leaf_total : ℕ) (state : State) (a b : Report)
+        → IsReportOf job leaf_total state a
+        → IsReportOf job leaf_total state b
+        → a ≡ b }
+{}

@@ -1,0 +1,80 @@
+//! The laws of how long a worker waits, each as the contract of a function that does nothing.
+ghost use Rattle.std.specs.Prelude.{◌≡◌, ℕ, ◌<◌, ◌≤◌, ◌+◌, ◌⊎◌, List, length};
+ghost use Rattle.seq_objects.specs.declared.act.Act.{Act};
+ghost use Rattle.sp_order.specs.Precedence.{Tree};
+ghost use Rattle.sp_order.specs.Plans.{IsPlan};
+ghost use Rattle.core_model.specs.declared.event.Event.{Event};
+ghost use Rattle.core_model.specs.declared.status.Status.TheVariants.{Pending, Served};
+ghost use Rattle.core_model.specs.declared.status.Receipt.{Receipt};
+ghost use Rattle.core_model.specs.State.{CoreJob, State, CoreState, core_job};
+ghost use Rattle.core_model.specs.Events.{Happens};
+ghost use Rattle.core_model.specs.Invariant.{Parts};
+ghost use Rattle.core_model.specs.Runs.{IsReached};
+ghost use Rattle.core_model.specs.Waits.{IsTrapped, WaitsSince, StaysTrapped};
+
+use sp_order::laws::{plan_has_sides, plan_stands_for_tree};
+
+/// A trapped worker waits since the batches that there are now.
+pub fn trapped_waits_from_now()
+    ensures { (job : CoreJob) (state : State) (worker : ℕ) → Parts job state
+        → IsTrapped state worker
+        → WaitsSince job state worker (length state.book) }
+{}
+
+/// Each event of a worker keeps what is said of a worker that waits, as long as that one stays trapped.
+pub fn event_keeps_waits()
+    ensures { (job : CoreJob) (old new : State) (worker : ℕ) (event : Event) (waiter since : ℕ)
+        → IsPlan job.plan
+        → Parts job old
+        → Happens job old worker event new
+        → IsTrapped new waiter
+        → WaitsSince job old waiter since
+        → WaitsSince job new waiter since }
+{}
+
+/// A worker that stays trapped from a state on waits since then.
+pub fn trapped_waits_since_then()
+    ensures kept { (job : CoreJob) (worker : ℕ) (first last : State) → IsPlan job.plan
+        → Parts job first
+        → StaysTrapped job worker first last
+        → WaitsSince job last worker (length first.book) }
+    ensures reached { (tree : Tree) (acts : List Act) (workers worker : ℕ)
+        (first : CoreState) (last : State)
+        → 0 < workers
+        → IsReached (core_job tree acts workers) first
+        → StaysTrapped (core_job tree acts workers) worker first.state last
+        → WaitsSince (core_job tree acts workers) last worker (length first.state.book) }
+{
+    plan_stands_for_tree();
+    plan_has_sides();
+}
+
+/// Where a worker stays trapped until its call is served, the receipt's batch is one of those that there were at the
+/// beginning, or one of the next two.
+pub fn two_batches_at_most()
+    ensures { (tree : Tree) (acts : List Act) (workers worker : ℕ)
+        (first : CoreState) (last : State) (receipt : Receipt)
+        → 0 < workers
+        → IsReached (core_job tree acts workers) first
+        → StaysTrapped (core_job tree acts workers) worker first.state last
+        → last.status worker ≡ Served receipt
+        → receipt.batch ≤ length first.state.book + 1 }
+{
+    plan_stands_for_tree();
+    plan_has_sides();
+}
+
+/// Where the worker's call is pending at the beginning, it is served in one of the next two batches.
+pub fn pending_call_is_in_next_two()
+    ensures { (tree : Tree) (acts : List Act) (workers worker : ℕ)
+        (first : CoreState) (last : State) (receipt : Receipt)
+        → 0 < workers
+        → IsReached (core_job tree acts workers) first
+        → first.state.status worker ≡ Pending
+        → StaysTrapped (core_job tree acts workers) worker first.state last
+        → last.status worker ≡ Served receipt
+        → (receipt.batch ≡ length first.state.book) ⊎ (receipt.batch ≡ length first.state.book + 1) }
+{
+    plan_stands_for_tree();
+    plan_has_sides();
+}

@@ -4,8 +4,8 @@ use mathlib.Core.Option.{none}
 use prog.Atomic.{either}
 use Rattle.atomic_table.specs.Table.{step}
 use Rattle.sp_order.specs.Precedence.{leaves}
-use Rattle.batcher_core.specs.Events.{value_in}
-use Rattle.batcher_core.specs.Operations.{leaf_of, place_of, IsReceipt}
+use Rattle.core_model.specs.Events.{value_in}
+use Rattle.core_model.specs.Operations.{leaf_of, place_of, IsReceipt}
 use Rattle.core_table.specs.CoreWords.{Entry, Receipt, Claim, OpenParRight, OpenParLeft, OpenSeqLeft, OpenSeqRight, Post, Win, Take, Publish, Answer, Release, Keep, FinishLeaf, FinishSeq, FinishPar, ArriveFirst, ArriveSecond, Idle, Run, Half, Started, Ended, Whole, Handed, NotCalled, Out, SeqNode, ParNode, IsSide, Ran}
 use Rattle.core_table.specs.declared.setting.Setting.{Setting}
 use Rattle.core_table.specs.declared.slot.OpRecord.{OpRecord}

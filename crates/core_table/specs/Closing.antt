@@ -4,8 +4,8 @@ use Rattle.std.specs.List.{AllByRecursion}
 use Rattle.sp_order.specs.Precedence.{leaves}
 use Rattle.batch_history.specs.declared.row.Row.{Row}
 use Rattle.batch_history.specs.declared.report.Report.{Report}
-use Rattle.batcher_core.specs.Tasks.{is_done}
-use Rattle.batcher_core.specs.Reports.{IsReportOf}
+use Rattle.core_model.specs.Tasks.{is_done}
+use Rattle.core_model.specs.Reports.{IsReportOf}
 use Rattle.core_table.specs.declared.setting.Setting.{Setting}
 use Rattle.core_table.specs.Words.{node_at, value_at}
 use Rattle.core_table.specs.Shows.{St, Shown, job_of}

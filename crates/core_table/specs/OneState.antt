@@ -1,7 +1,7 @@
 -- When two states are one, in all that a table keeps of a state.
 use Rattle.std.specs.Prelude.{ℕ, ◌≡◌, ◌<◌, Some}
-use Rattle.batcher_core.specs.State.{CoreJob, State}
-use Rattle.batcher_core.specs.Invariant.Values.{IsKept}
+use Rattle.core_model.specs.State.{CoreJob, State}
+use Rattle.core_model.specs.Invariant.Values.{IsKept}
 use Rattle.core_table.specs.CoreWords.{LeafNode}
 
 -- The states agree in each node, mark, task, status and call, in the hold, the tick, the book and the objects, and in the

@@ -3,8 +3,8 @@ use Rattle.std.specs.Prelude.{ℕ, ◌≡◌, ◌≢◌, ◌<◌, ◌+◌, Bool,
 use Rattle.atomic_table.specs.Seated.{TableId}
 use Rattle.atomic_table.specs.declared.shared.Seat.{Seat}
 use Rattle.core_table.specs.CoreWords.{Act, Tree, Kind, LeafNode, SeqNode, ParNode, OpenSecond, FinishParent, Arrive, Task, Idle, Run, Half, Started, Kept, Ended, Whole, Handed, Out}
-use Rattle.batcher_core.specs.State.{CoreJob}
-use Rattle.batcher_core.specs.Operations.{IsLeaf}
+use Rattle.core_model.specs.State.{CoreJob}
+use Rattle.core_model.specs.Operations.{IsLeaf}
 use Rattle.core_table.specs.declared.slot.Slot.{Slot}
 use Rattle.core_table.specs.declared.view.View.{View}
 use Rattle.core_table.specs.declared.setting.Setting.{Setting}

@@ -3,8 +3,8 @@ use Rattle.std.specs.Prelude.{ℕ, ◌≡◌, ◌≢◌, ◌≤◌, ◌+◌, ◌
 use Rattle.atomic_table.specs.Table.{Me, Step, rest}
 use Rattle.batch_history.specs.Book.{flat, IsHistory}
 use Rattle.core_table.specs.CoreWords.{Entry, Receipt, Idle, Run, Half, Started, Handed}
-use Rattle.batcher_core.specs.Events.{task_after}
-use Rattle.batcher_core.specs.Operations.{place_of}
+use Rattle.core_model.specs.Events.{task_after}
+use Rattle.core_model.specs.Operations.{place_of}
 use Rattle.core_table.specs.declared.slot.OpRecord.{OpRecord}
 use Rattle.core_table.specs.declared.slot.Slot.{Slot}
 use Rattle.core_table.specs.declared.slot.Slot.TheVariants as Slots
@@ -12,7 +12,7 @@ use Rattle.core_table.specs.declared.view.HoldView.{HoldView}
 use Rattle.core_table.specs.declared.view.View.{View}
 use Rattle.core_table.specs.Words.{flag_at, count_at, stop_at, node_at, mark_at}
 use Rattle.core_table.specs.Batches.{IsPublishDue}
-use Rattle.batcher_core.specs.Entries.{StandsAt}
+use Rattle.core_model.specs.Entries.{StandsAt}
 use Rattle.core_table.specs.Shows.{record_in, entry_of, reserved, IsFront}
 use Rattle.core_table.specs.Views.{with_task, claiming, refusing, ticked, opening, keeping, seeing_done, seeing_undone, hearing, enrolling, posting, winning, losing, taken_view, passing, published_view, answered_view, with_hold, releasing, leaving, staying, stopping, finding_stop, finding_none}
 

@@ -7,13 +7,13 @@ use Rattle.seq_objects.specs.Pairs.{AreDistinct}
 use Rattle.batch_history.specs.Book.{flat}
 use Rattle.batch_history.specs.Reserved.{ReservedView}
 use Rattle.core_table.specs.CoreWords.{Entry, LeafNode, Task, Idle, Started, Status, Free, Pending, Executing, Served, CallState, NotCalled, Out, Got}
-use Rattle.batcher_core.specs.State.{CoreJob, Hold, State, core_job}
-use Rattle.batcher_core.specs.Operations.{op_in, Place}
-use Rattle.batcher_core.specs.Entries.{entries_of}
-use Rattle.batcher_core.specs.Measure.{call_count}
-use Rattle.batcher_core.specs.Tasks.{is_done}
-use Rattle.batcher_core.specs.Invariant.{Parts}
-use Rattle.batcher_core.specs.Waits.{WaitsSince, task_place}
+use Rattle.core_model.specs.State.{CoreJob, Hold, State, core_job}
+use Rattle.core_model.specs.Operations.{op_in, Place}
+use Rattle.core_model.specs.Entries.{entries_of}
+use Rattle.core_model.specs.Measure.{call_count}
+use Rattle.core_model.specs.Tasks.{is_done}
+use Rattle.core_model.specs.Invariant.{Parts}
+use Rattle.core_model.specs.Waits.{WaitsSince, task_place}
 use Rattle.core_table.specs.declared.slot.OpRecord.{OpRecord}
 use Rattle.core_table.specs.declared.slot.Slot.{Slot}
 use Rattle.core_table.specs.declared.slot.Slot.TheVariants as Slots

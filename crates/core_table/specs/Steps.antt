@@ -3,8 +3,8 @@ use Rattle.std.specs.Prelude.{ℕ, ◌≡◌, ◌≢◌, ◌<◌, length, slice_
 use mathlib.Core.Option.{some}
 use lib.ListN.{get_elem?}
 use Rattle.atomic_table.specs.Table.{Act, Valid, carried_after, stepped}
-use Rattle.batcher_core.specs.State.{CoreJob, State}
-use Rattle.batcher_core.specs.Events.{Happens}
+use Rattle.core_model.specs.State.{CoreJob, State}
+use Rattle.core_model.specs.Events.{Happens}
 use Rattle.core_table.specs.CoreWords.{Event, Start, End, Leave, Receipt, Task, Idle, Run, Half, Started, Kept, Ended, Whole, Handed}
 use Rattle.core_table.specs.declared.slot.Slot.{Slot}
 use Rattle.core_table.specs.declared.view.View.{View}

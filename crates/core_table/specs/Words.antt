@@ -1,7 +1,7 @@
 -- Which word of the table says what of the state, and how it says it.
 use Rattle.std.specs.Prelude.{ℕ, ◌≡◌, ◌<◌, ◌+◌, ◌*◌, Option, None, Some, List, length, slice_index}
 use Rattle.core_table.specs.CoreWords.{Progress, Waiting, Ready, Taken, Done, Ran, Status, Free, Pending, Executing, Served}
-use Rattle.batcher_core.specs.State.{Hold}
+use Rattle.core_model.specs.State.{Hold}
 
 -- The words are numbered. First stand the statuses of the workers, then the flag, the number of batches, the tick and
 -- the stop word, then three words for each node: how far it has come, its join mark, and its value.

@@ -15,7 +15,7 @@ use crate::slot::Slot;
 use crate::table::{CoreTable, Pass};
 use atomic_table::Closed;
 use batch_history::{Report, Row, Rows};
-use batcher_core::laws::report::{done_leaves_have_run, done_report_is_lawful};
+use core_model::laws::report::{done_leaves_have_run, done_report_is_lawful};
 use sp_order::Plan;
 use sp_order::laws::{leaf_has_one_node, plan_has_sides, plan_stands_for_tree};
 use std::alloc::{AllocError, Global};

@@ -2,12 +2,12 @@
 ghost use Rattle.std.specs.Prelude.{List, ◌≡◌, ◌≢◌, ℕ, ◌+◌, ◌<◌, ◌≤◌, ◌^◌, ◌∷◌, [], true, false, None, Some, IfSome, IfNone, IfOk, IfErr, length};
 ghost use Rattle.batch_history.specs.declared.batch.Entry.{Entry};
 ghost use Rattle.core_table.specs.CoreWords.{NotCalled};
-ghost use Rattle.batcher_core.specs.Measure.{call_count};
-ghost use Rattle.batcher_core.specs.Operations.{place_of, IsReceipt};
+ghost use Rattle.core_model.specs.Measure.{call_count};
+ghost use Rattle.core_model.specs.Operations.{place_of, IsReceipt};
 ghost use Rattle.core_table.specs.declared.view.HoldView.{HoldView};
 ghost use Rattle.core_table.specs.declared.slot.OpRecord.{OpRecord as CallRecord};
 ghost use Rattle.core_table.specs.Shows.{IsRecordOf, record_in, among, entry_of, IsFront};
-ghost use Rattle.batcher_core.specs.Entries.{StandsAt};
+ghost use Rattle.core_model.specs.Entries.{StandsAt};
 ghost use Rattle.core_table.specs.Passes.{IsPassOf, job_in, view, IsTrapped};
 ghost use Rattle.core_table.specs.Batches.{IsPublishDue, IsReleaseDue};
 ghost use Rattle.core_table.specs.Views.{posting, winning, losing, leaving, staying, releasing, with_hold, taken_view, passing, published_view, answered_view};
@@ -19,7 +19,7 @@ use crate::slot::{OpRecord, Slot};
 use crate::table::{CoreTable, Pass};
 use crate::turns::{first_place, turn_by};
 use batch_history::Batch;
-use batcher_core::{CallState, Receipt};
+use core_model::{CallState, Receipt};
 use launch_batch::Shop;
 
 impl CoreTable {

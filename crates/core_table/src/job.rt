@@ -1,8 +1,8 @@
 //! The calls of the job side, and the looks.
 ghost use Rattle.std.specs.Prelude.{◌≡◌, ◌≢◌, ℕ, ◌+◌, ◌<◌, ◌≤◌, ◌∷◌, Some, IsTrue, IsFalse};
 ghost use Rattle.core_table.specs.CoreWords.{Idle, Run, Half, Started, Ended, Whole, Handed, Arrive as ArriveAt};
-ghost use Rattle.batcher_core.specs.Operations.{leaf_of};
-ghost use Rattle.batcher_core.specs.Events.{value_in, task_after as next_task};
+ghost use Rattle.core_model.specs.Operations.{leaf_of};
+ghost use Rattle.core_model.specs.Events.{value_in, task_after as next_task};
 ghost use Rattle.core_table.specs.Passes.{IsPassOf, job_in, view, IsNotTrapped, IsTickDue, IsOpenDue, IsFinishDue, IsFinished, IsArriveDue, opened_task};
 ghost use Rattle.core_table.specs.Views.{with_task, claiming, refusing, ticked, opening, keeping, seeing_done, seeing_undone, hearing, stopping, finding_stop, finding_none};
 
@@ -11,7 +11,7 @@ use crate::plays::{
     Arrive, Claim, Draw, Finish, Hear, Keep, LookAtRoot, LookAtStop, Open, OpenHalf, Stop, Stray,
 };
 use crate::table::{CoreTable, Pass};
-use batcher_core::{CallState, Task};
+use core_model::{CallState, Task};
 use sp_order::node::{Kind, Move};
 
 /// The task once its tick is drawn.

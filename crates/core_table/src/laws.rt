@@ -8,19 +8,19 @@ ghost use Rattle.core_table.specs.Calls.{IsSound, IsViewOf, CallsAreEvents};
 ghost use Rattle.core_table.specs.Code.Laws.{Laws};
 ghost use Rattle.core_table.specs.Shows.{St as TableState, Shown, job_of, IsFront};
 ghost use Rattle.core_table.specs.OneState.{AreOne};
-ghost use Rattle.batcher_core.specs.Entries.{StandsAt};
+ghost use Rattle.core_model.specs.Entries.{StandsAt};
 ghost use Rattle.batch_history.specs.declared.batch.Entry.{Entry};
 
 pub use crate::sending::tables_go_to_threads;
-use batcher_core::laws::book::{
+use core_model::laws::book::{
     calls_have_room, publish_adds_the_taken_call, receipt_is_of_the_own_entry,
 };
-use batcher_core::laws::invariant::{
+use core_model::laws::invariant::{
     event_keeps_parts, mark_before_arrival_is_below_two, moves_tell_sides, opening_has_parts,
     tick_is_at_most_two_a_node,
 };
-use batcher_core::laws::report::done_root_ends_all;
-use batcher_core::laws::wait::{event_keeps_waits, trapped_waits_from_now};
+use core_model::laws::report::done_root_ends_all;
+use core_model::laws::wait::{event_keeps_waits, trapped_waits_from_now};
 use sp_order::laws::{plan_has_root, plan_has_sides, plan_stands_for_tree};
 
 /// They hold of each job.

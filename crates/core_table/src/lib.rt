@@ -2,8 +2,8 @@
 //!
 //! At every moment between two steps of any passes the table shows one state of the core, with the invariant
 //! (`specs/Shows.antt`), and each call is one event of the core, or none. That an event keeps the invariant is a law of
-//! `batcher_core`, which is cited here and not proved again. No call takes a lock or waits. The crate stands on
-//! `batcher_core`, whose events and laws it shares, on `launch_batch` and `batch_history`, whose shop and book lie in
+//! `core_model`, which is cited here and not proved again. No call takes a lock or waits. The crate stands on
+//! `core_model`, whose events and laws it shares, on `launch_batch` and `batch_history`, whose shop and book lie in
 //! two of its slots, on `sp_order` and `seq_objects`, and on `atomic_table`, which has the words, the slots and the
 //! seats.
 #![tactic(auto)]

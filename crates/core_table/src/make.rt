@@ -2,8 +2,8 @@
 ghost use Rattle.std.specs.Prelude.{◌≡◌, ◌≢◌, ℕ, ◌+◌, ◌<◌, ◌≤◌, ◌∷◌, ◌++◌, [], Some, length, replicate, slice_set, slice_get, IsSome, IfSome, IfOk};
 ghost use Rattle.sp_order.specs.Precedence.{leaves};
 ghost use Rattle.sp_order.specs.Preorder.{nodes_of};
-ghost use Rattle.batcher_core.specs.State.{core_job};
-ghost use Rattle.batcher_core.specs.Measure.{call_count, one_if_call};
+ghost use Rattle.core_model.specs.State.{core_job};
+ghost use Rattle.core_model.specs.Measure.{call_count, one_if_call};
 ghost use Rattle.core_table.specs.Shows.{reserved};
 ghost use Rattle.core_table.specs.Passes.{tree_in, acts_in, job_in, opening_view, IsPassOf, view};
 
@@ -14,7 +14,7 @@ use crate::slot::Slot;
 use crate::table::{CoreTable, Pass};
 use atomic_table::{Refused, Table};
 use batch_history::ReservedHistory;
-use batcher_core::{CallState, Task};
+use core_model::{CallState, Task};
 use launch_batch::Shop;
 use seq_objects::Act;
 use sp_order::node::Kind;

@@ -1,7 +1,7 @@
 //! What the slots of a table hold.
 
 use batch_history::ReservedHistory;
-use batcher_core::Receipt;
+use core_model::Receipt;
 use launch_batch::Shop;
 use seq_objects::Op;
 

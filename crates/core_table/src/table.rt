@@ -8,7 +8,7 @@ use crate::setting::Setting;
 use crate::slot::Slot;
 use crate::view::View;
 use atomic_table::{Seat, Table};
-use batcher_core::{CallState, Task};
+use core_model::{CallState, Task};
 use seq_objects::Act;
 use sp_order::Plan;
 use std::alloc::Global;

@@ -2,7 +2,7 @@
 
 use crate::slot::OpRecord;
 use batch_history::Entry;
-use batcher_core::{CallState, Receipt, Task};
+use core_model::{CallState, Receipt, Task};
 use std::collections::LinkedList;
 
 /// A call that the holder of the flag took, with its worker.

@@ -3,10 +3,10 @@ use Rattle.std.proofs.Common.{ℕ, zero, suc, ◌≡◌, ◌<◌, ◌+◌, ◌/�
 use mathlib.Core.Option.{some, some-injective, some-ne-none}
 use lib.ListN.{get_elem?}
 use Rattle.atomic_table.specs.Table.{Final, Seen}
-use Rattle.batcher_core.specs.declared.state.progress.Progress.TheVariants.{Ran}
-use Rattle.batcher_core.specs.State.{CoreJob, Hold, State}
-use Rattle.batcher_core.specs.Tasks.{is_done}
-use Rattle.batcher_core.specs.Invariant.{Parts}
+use Rattle.core_model.specs.declared.progress.Progress.TheVariants.{Ran}
+use Rattle.core_model.specs.State.{CoreJob, Hold, State}
+use Rattle.core_model.specs.Tasks.{is_done}
+use Rattle.core_model.specs.Invariant.{Parts}
 use Rattle.core_table.specs.declared.view.View.{View}
 use Rattle.core_table.specs.declared.slot.Slot.{Slot}
 use Rattle.core_table.specs.declared.slot.Slot.TheVariants as Slots

@@ -4,11 +4,11 @@ use Rattle.std.specs.List.{AllByRecursion}
 use Rattle.batch_history.specs.declared.row.Row.{Row}
 use Rattle.sp_order.specs.declared.node.Kind.TheVariants.{LeafNode}
 use Rattle.sp_order.specs.Plans.{Nodes, IsPlan}
-use Rattle.batcher_core.specs.declared.state.progress.Progress.TheVariants.{Ran}
-use Rattle.batcher_core.specs.State.{CoreJob, State}
-use Rattle.batcher_core.specs.Invariant.Ticks.{start_of as start_of_node}
-use Rattle.batcher_core.specs.Invariant.{Parts}
-use Rattle.batcher_core.specs.Reports.{HasRun, IsRowOf}
+use Rattle.core_model.specs.declared.progress.Progress.TheVariants.{Ran}
+use Rattle.core_model.specs.State.{CoreJob, State}
+use Rattle.core_model.specs.Invariant.Ticks.{start_of as start_of_node}
+use Rattle.core_model.specs.Invariant.{Parts}
+use Rattle.core_model.specs.Reports.{HasRun, IsRowOf}
 use Rattle.core_table.specs.Words.{node_at, value_at, progress_code, HasValue, WordsShow}
 use Rattle.core_table.specs.Code.Laws.{Laws}
 use Rattle.core_table.specs.Closing.{RowInWords}

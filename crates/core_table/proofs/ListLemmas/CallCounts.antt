@@ -1,8 +1,8 @@
 -- A job has no more calls than nodes.
 use Rattle.std.proofs.Common.{ℕ, zero, suc, ◌≡◌, ◌<◌, ◌≤◌, ◌+◌, ◌^◌, ap, Option as Maybe, None, Some, arith}
-use Rattle.batcher_core.specs.State.{CoreJob}
-use Rattle.batcher_core.specs.Operations.{op_in}
-use Rattle.batcher_core.specs.Measure.{call_count, one_if_call, one_if, total}
+use Rattle.core_model.specs.State.{CoreJob}
+use Rattle.core_model.specs.Operations.{op_in}
+use Rattle.core_model.specs.Measure.{call_count, one_if_call, one_if, total}
 use Rattle.core_table.specs.CoreWords.{Kind, LeafNode, SeqNode, ParNode}
 
 pub one_at_most : (job : CoreJob) (kind : Maybe Kind) → one_if_call job kind ≤ 1

@@ -2,7 +2,7 @@
 use Rattle.std.proofs.Common.{ℕ, zero, suc, ◌≡◌, ◌≢◌, ◌<◌, ◌+◌, None, List, [], ◌∷◌, ◌++◌, map, length, get_or, arith, refl, ◌∙◌}
 use Rattle.batch_history.specs.declared.row.Row.{Row}
 use Rattle.std.specs.List.{AllByRecursion, range_with_len}
-use Rattle.batcher_core.specs.Operations.{op_in}
+use Rattle.core_model.specs.Operations.{op_in}
 use Rattle.core_table.specs.CoreWords.{Act, Work}
 
 pub each_so : {A : Type 0} (P Q : A → Type 0) → ((a : A) → P a → Q a) → (xs : List A) → AllByRecursion P xs → AllByRecursion Q xs

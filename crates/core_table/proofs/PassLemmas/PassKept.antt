@@ -4,7 +4,7 @@ use Rattle.std.proofs.lemmas.List.{map-append}
 use Rattle.atomic_table.specs.Table.{turned, rest}
 use Rattle.atomic_table.specs.Seated.{TableId}
 use Rattle.atomic_table.specs.declared.shared.Seat.{Seat}
-use Rattle.batcher_core.specs.declared.state.status.CallState.TheVariants.{Out}
+use Rattle.core_model.specs.declared.status.CallState.TheVariants.{Out}
 use Rattle.core_table.specs.declared.view.View.{View}
 use Rattle.core_table.specs.declared.view.HoldView.{HoldView}
 use Rattle.core_table.specs.declared.slot.Slot.{Slot}

@@ -7,10 +7,10 @@ use lib.ListN.{get_elem?}
 use lib.Seq.{set-get_or}
 use Rattle.atomic_table.specs.Table.{step, takes, Allows, Splits, opening}
 use Rattle.atomic_table.proofs.Lists.{at_set, set_here, set_else, at_longer, at_last}
-use Rattle.batcher_core.specs.declared.state.progress.Progress.TheVariants.{Waiting, Ready}
-use Rattle.batcher_core.specs.declared.state.status.Status.{Status}
-use Rattle.batcher_core.specs.declared.state.status.Status.TheVariants.{Free}
-use Rattle.batcher_core.specs.State.{put, CoreJob, Hold, opening_state}
+use Rattle.core_model.specs.declared.progress.Progress.TheVariants.{Waiting, Ready}
+use Rattle.core_model.specs.declared.status.Status.{Status}
+use Rattle.core_model.specs.declared.status.Status.TheVariants.{Free}
+use Rattle.core_model.specs.State.{put, CoreJob, Hold, opening_state}
 use Rattle.core_table.specs.declared.view.View.{View}
 use Rattle.core_table.specs.declared.slot.Slot.{Slot}
 use Rattle.core_table.specs.declared.slot.Slot.TheVariants as Slots

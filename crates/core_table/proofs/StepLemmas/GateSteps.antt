@@ -14,23 +14,23 @@ use Rattle.std.specs.List.{AllByRecursion}
 use Rattle.std.proofs.Common.{◌&&◌, not}
 use Rattle.seq_objects.specs.Pairs.{AreDistinct}
 use Rattle.batch_history.specs.Book.{flat}
-use Rattle.batcher_core.specs.Entries.{IsUnserved}
-use Rattle.batcher_core.specs.Measure.{call_count}
+use Rattle.core_model.specs.Entries.{IsUnserved}
+use Rattle.core_model.specs.Measure.{call_count}
 use Rattle.sp_order.specs.declared.node.Kind.TheVariants.{LeafNode}
-use Rattle.batcher_core.specs.declared.state.task.Task.{Task}
-use Rattle.batcher_core.specs.declared.state.task.Task.TheVariants.{Started}
-use Rattle.batcher_core.specs.declared.state.status.Receipt.{Receipt}
-use Rattle.batcher_core.specs.declared.state.status.Status.{Status}
-use Rattle.batcher_core.specs.declared.state.status.Status.TheVariants.{Free, Pending, Executing, Served}
-use Rattle.batcher_core.specs.declared.state.status.CallState.{CallState}
-use Rattle.batcher_core.specs.declared.state.status.CallState.TheVariants.{NotCalled, Out, Got}
-use Rattle.batcher_core.specs.declared.event.Event.TheVariants.{Post, Win, Take, Answer, Release, Leave}
-use Rattle.batcher_core.specs.State.{put, CoreJob, Hold, State}
-use Rattle.batcher_core.specs.Operations.{leaf_of, IsCall, Place, place_of, IsReceipt, receipt_for}
-use Rattle.batcher_core.specs.Events.{Happens, made, is_pending, new_hold}
-use Rattle.batcher_core.specs.Invariant.Statuses.{is_taken_by}
-use Rattle.batcher_core.specs.Invariant.{Parts}
-use Rattle.batcher_core.specs.Waits.{WaitsSince, task_place}
+use Rattle.core_model.specs.declared.task.Task.{Task}
+use Rattle.core_model.specs.declared.task.Task.TheVariants.{Started}
+use Rattle.core_model.specs.declared.status.Receipt.{Receipt}
+use Rattle.core_model.specs.declared.status.Status.{Status}
+use Rattle.core_model.specs.declared.status.Status.TheVariants.{Free, Pending, Executing, Served}
+use Rattle.core_model.specs.declared.status.CallState.{CallState}
+use Rattle.core_model.specs.declared.status.CallState.TheVariants.{NotCalled, Out, Got}
+use Rattle.core_model.specs.declared.event.Event.TheVariants.{Post, Win, Take, Answer, Release, Leave}
+use Rattle.core_model.specs.State.{put, CoreJob, Hold, State}
+use Rattle.core_model.specs.Operations.{leaf_of, IsCall, Place, place_of, IsReceipt, receipt_for}
+use Rattle.core_model.specs.Events.{Happens, made, is_pending, new_hold}
+use Rattle.core_model.specs.Invariant.Statuses.{is_taken_by}
+use Rattle.core_model.specs.Invariant.{Parts}
+use Rattle.core_model.specs.Waits.{WaitsSince, task_place}
 use Rattle.core_table.specs.declared.slot.OpRecord.{OpRecord}
 use Rattle.core_table.specs.declared.view.TakenCall.{TakenCall}
 use Rattle.core_table.specs.declared.view.HoldView.{HoldView}
@@ -46,7 +46,7 @@ use Rattle.core_table.specs.Plays as G
 use Rattle.core_table.proofs.TableLemmas.Words.{put_at, put_other, set_status, set_flag, flag_same}
 use Rattle.core_table.proofs.TableLemmas.Facts.{is_free, is_trapped, is_executing, not_in_book, is_call}
 use Rattle.core_table.proofs.TableLemmas.Moved.{mine_of, moved, looked, found, missed, true_false, record_took, free_untaken}
-use Rattle.batcher_core.specs.Entries.{StandsAt}
+use Rattle.core_model.specs.Entries.{StandsAt}
 use Rattle.core_table.proofs.StepLemmas.TakeOk.{pending_is_new, taken_is_new}
 use Rattle.core_table.proofs.TableLemmas.Through.{SameTold, told_again, through, hold_others, hold_won, hold_gone, hold_same, slots_record}
 

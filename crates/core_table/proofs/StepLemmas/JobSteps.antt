@@ -7,19 +7,19 @@ use lib.ListN.{get_elem?}
 use prog.Atomic.{either}
 use Rattle.atomic_table.specs.Table.{step, Act, keeps, Valid, carried_after, stepped}
 use Rattle.atomic_table.proofs.Lists.{exchanged}
-use Rattle.batcher_core.specs.declared.state.progress.Progress.{Progress}
-use Rattle.batcher_core.specs.declared.state.progress.Progress.TheVariants.{Waiting, Ready, Taken as IsTaken, Done, Ran}
-use Rattle.batcher_core.specs.declared.state.task.Task.{Task}
-use Rattle.batcher_core.specs.declared.state.task.Task.TheVariants.{Idle, Run, Half, Started, Kept, Ended, Whole, Handed}
-use Rattle.batcher_core.specs.declared.state.status.CallState.TheVariants.{NotCalled, Out}
-use Rattle.batcher_core.specs.declared.event.Event.{Event}
-use Rattle.batcher_core.specs.declared.event.Event.TheVariants.{Claim, Start, OpenParRight, OpenParLeft, OpenSeqLeft, OpenSeqRight, Keep, End, FinishLeaf, FinishSeq, FinishPar, ArriveFirst, ArriveSecond}
+use Rattle.core_model.specs.declared.progress.Progress.{Progress}
+use Rattle.core_model.specs.declared.progress.Progress.TheVariants.{Waiting, Ready, Taken as IsTaken, Done, Ran}
+use Rattle.core_model.specs.declared.task.Task.{Task}
+use Rattle.core_model.specs.declared.task.Task.TheVariants.{Idle, Run, Half, Started, Kept, Ended, Whole, Handed}
+use Rattle.core_model.specs.declared.status.CallState.TheVariants.{NotCalled, Out}
+use Rattle.core_model.specs.declared.event.Event.{Event}
+use Rattle.core_model.specs.declared.event.Event.TheVariants.{Claim, Start, OpenParRight, OpenParLeft, OpenSeqLeft, OpenSeqRight, Keep, End, FinishLeaf, FinishSeq, FinishPar, ArriveFirst, ArriveSecond}
 use Rattle.sp_order.specs.declared.node.Kind.TheVariants.{SeqNode, ParNode}
 use Rattle.sp_order.specs.Plans.{IsSide, parent_of}
-use Rattle.batcher_core.specs.Events.{Happens, task_after, value_in}
-use Rattle.batcher_core.specs.State.{put, CoreJob}
-use Rattle.batcher_core.specs.Tasks.{is_done}
-use Rattle.batcher_core.specs.Operations.{leaf_of, IsLeaf}
+use Rattle.core_model.specs.Events.{Happens, task_after, value_in}
+use Rattle.core_model.specs.State.{put, CoreJob}
+use Rattle.core_model.specs.Tasks.{is_done}
+use Rattle.core_model.specs.Operations.{leaf_of, IsLeaf}
 use Rattle.core_table.specs.declared.view.View.{View}
 use Rattle.core_table.specs.declared.slot.Slot.{Slot}
 use Rattle.core_table.specs.Words.{node_at, mark_at, value_at, tick_at, progress_code, WordsShow}

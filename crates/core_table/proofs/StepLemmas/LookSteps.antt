@@ -6,13 +6,13 @@ use lib.ListN.{get_elem?}
 use prog.Atomic.{either}
 use Rattle.atomic_table.specs.Table.{step, Act, keeps, Valid, carried_after, stepped}
 use Rattle.atomic_table.proofs.Lists.{exchanged}
-use Rattle.batcher_core.specs.declared.state.progress.Progress.{Progress}
-use Rattle.batcher_core.specs.declared.state.progress.Progress.TheVariants.{Waiting, Ready, Taken as IsTaken, Done, Ran}
-use Rattle.batcher_core.specs.declared.state.status.Status.{Status}
-use Rattle.batcher_core.specs.declared.state.status.Status.TheVariants.{Free, Pending, Executing, Served}
-use Rattle.batcher_core.specs.State.{CoreJob}
-use Rattle.batcher_core.specs.Tasks.{is_done}
-use Rattle.batcher_core.specs.Waits.{WaitsSince}
+use Rattle.core_model.specs.declared.progress.Progress.{Progress}
+use Rattle.core_model.specs.declared.progress.Progress.TheVariants.{Waiting, Ready, Taken as IsTaken, Done, Ran}
+use Rattle.core_model.specs.declared.status.Status.{Status}
+use Rattle.core_model.specs.declared.status.Status.TheVariants.{Free, Pending, Executing, Served}
+use Rattle.core_model.specs.State.{CoreJob}
+use Rattle.core_model.specs.Tasks.{is_done}
+use Rattle.core_model.specs.Waits.{WaitsSince}
 use Rattle.core_table.specs.declared.view.View.{View}
 use Rattle.core_table.specs.declared.slot.Slot.{Slot}
 use Rattle.core_table.specs.Words.{node_at, count_at, stop_at, progress_code, status_code}

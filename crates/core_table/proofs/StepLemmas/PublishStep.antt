@@ -6,19 +6,19 @@ use Rattle.atomic_table.specs.Table.{step, keeps, gives}
 use Rattle.atomic_table.proofs.Lists.{set_here, set_else}
 use Rattle.batch_history.specs.declared.batch.Entry.{Entry}
 use Rattle.batch_history.specs.Book.{flat, IsHistory}
-use Rattle.batcher_core.specs.declared.state.status.Status.{Status}
-use Rattle.batcher_core.specs.declared.event.Event.TheVariants.{Publish}
-use Rattle.batcher_core.specs.State.{CoreJob, Hold, State}
-use Rattle.batcher_core.specs.Operations.{op_in, Place}
-use Rattle.batcher_core.specs.Serving.{served}
-use Rattle.batcher_core.specs.Events.{Happens, published, IsTakenCall, IsBatchOf}
-use Rattle.batcher_core.specs.Invariant.Statuses.{is_taken_by}
-use Rattle.batcher_core.specs.declared.state.status.Status.TheVariants.{Free, Executing}
-use Rattle.batcher_core.specs.Invariant.{Parts}
-use Rattle.batcher_core.specs.Waits.{task_place}
+use Rattle.core_model.specs.declared.status.Status.{Status}
+use Rattle.core_model.specs.declared.event.Event.TheVariants.{Publish}
+use Rattle.core_model.specs.State.{CoreJob, Hold, State}
+use Rattle.core_model.specs.Operations.{op_in, Place}
+use Rattle.core_model.specs.Serving.{served}
+use Rattle.core_model.specs.Events.{Happens, published, IsTakenCall, IsBatchOf}
+use Rattle.core_model.specs.Invariant.Statuses.{is_taken_by}
+use Rattle.core_model.specs.declared.status.Status.TheVariants.{Free, Executing}
+use Rattle.core_model.specs.Invariant.{Parts}
+use Rattle.core_model.specs.Waits.{task_place}
 use Rattle.core_table.proofs.ListLemmas.Lists.{each_so, each_mapped}
-use Rattle.batcher_core.specs.Measure.{call_count}
-use Rattle.batcher_core.specs.Entries.{entries_of}
+use Rattle.core_model.specs.Measure.{call_count}
+use Rattle.core_model.specs.Entries.{entries_of}
 use Rattle.core_table.specs.declared.slot.OpRecord.{OpRecord}
 use Rattle.core_table.specs.declared.view.HoldView.{HoldView}
 use Rattle.core_table.specs.declared.view.View.{View}

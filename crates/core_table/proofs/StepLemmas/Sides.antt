@@ -2,9 +2,9 @@
 use Rattle.std.proofs.Common.{ℕ, ◌≡◌, ◌≢◌, ◌<◌, Option as Maybe, Some, None, ap}
 use Rattle.sp_order.specs.declared.node.Kind.{Kind}
 use Rattle.sp_order.specs.declared.node.Kind.TheVariants.{SeqNode, ParNode}
-use Rattle.batcher_core.specs.declared.state.task.Task.{Task}
-use Rattle.batcher_core.specs.declared.state.task.Task.TheVariants.{Started, Ended, Handed}
-use Rattle.batcher_core.specs.State.{CoreJob}
+use Rattle.core_model.specs.declared.task.Task.{Task}
+use Rattle.core_model.specs.declared.task.Task.TheVariants.{Started, Ended, Handed}
+use Rattle.core_model.specs.State.{CoreJob}
 use Rattle.core_table.specs.Passes.{TaskHere}
 use Rattle.sp_order.specs.Plans.{Nodes, IsPlan, parent_of}
 

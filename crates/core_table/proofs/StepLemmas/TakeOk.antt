@@ -1,13 +1,13 @@
 -- What a look that takes a call tells of its leaf: it is not in the book, and is none of those taken before.
 use Rattle.std.proofs.Common.{ℕ, ◌≡◌, ◌≢◌, None, Some, arith, refl, sym, ap, ◌∙◌}
-use Rattle.batcher_core.specs.declared.state.status.Receipt.{Receipt}
-use Rattle.batcher_core.specs.declared.state.status.Status.{Status}
-use Rattle.batcher_core.specs.declared.state.status.Status.TheVariants.{Pending, Executing, Served}
-use Rattle.batcher_core.specs.declared.state.status.CallState.{CallState}
-use Rattle.batcher_core.specs.declared.state.status.CallState.TheVariants.{Out, Got}
-use Rattle.batcher_core.specs.State.{CoreJob, State}
-use Rattle.batcher_core.specs.Operations.{place_of}
-use Rattle.batcher_core.specs.Invariant.{Parts}
+use Rattle.core_model.specs.declared.status.Receipt.{Receipt}
+use Rattle.core_model.specs.declared.status.Status.{Status}
+use Rattle.core_model.specs.declared.status.Status.TheVariants.{Pending, Executing, Served}
+use Rattle.core_model.specs.declared.status.CallState.{CallState}
+use Rattle.core_model.specs.declared.status.CallState.TheVariants.{Out, Got}
+use Rattle.core_model.specs.State.{CoreJob, State}
+use Rattle.core_model.specs.Operations.{place_of}
+use Rattle.core_model.specs.Invariant.{Parts}
 use Rattle.core_table.specs.declared.slot.OpRecord.{OpRecord}
 use Rattle.core_table.specs.declared.view.HoldView.{HoldView}
 use Rattle.core_table.specs.Code.Laws.{Laws}

@@ -1,18 +1,18 @@
 -- What the parts of the invariant tell of a worker and of its call, in the form in which the steps use it.
 use Rattle.std.proofs.Common.{ℕ, ◌≡◌, ◌≢◌, Bool, true, false, Option as Maybe, None, Some, refl, sym, ap, ◌∙◌, inl, inr}
 use Rattle.sp_order.specs.declared.node.Kind.TheVariants.{LeafNode}
-use Rattle.batcher_core.specs.declared.state.task.Task.TheVariants.{Started, Kept, Ended}
-use Rattle.batcher_core.specs.declared.state.progress.Progress.TheVariants.{Taken, Ran}
-use Rattle.batcher_core.specs.declared.state.status.Receipt.{Receipt}
-use Rattle.batcher_core.specs.declared.state.status.Status.{Status}
-use Rattle.batcher_core.specs.declared.state.status.Status.TheVariants.{Free, Pending, Executing, Served}
-use Rattle.batcher_core.specs.declared.state.status.CallState.TheVariants.{Out, Got}
-use Rattle.batcher_core.specs.State.{CoreJob, State}
-use Rattle.batcher_core.specs.Operations.{op_in, IsCall, Place, place_of}
-use Rattle.batcher_core.specs.Tasks.{names}
-use Rattle.batcher_core.specs.Invariant.Statuses.{is_taken_by}
-use Rattle.batcher_core.specs.Invariant.Hold.{is_published}
-use Rattle.batcher_core.specs.Invariant.{Parts}
+use Rattle.core_model.specs.declared.task.Task.TheVariants.{Started, Kept, Ended}
+use Rattle.core_model.specs.declared.progress.Progress.TheVariants.{Taken, Ran}
+use Rattle.core_model.specs.declared.status.Receipt.{Receipt}
+use Rattle.core_model.specs.declared.status.Status.{Status}
+use Rattle.core_model.specs.declared.status.Status.TheVariants.{Free, Pending, Executing, Served}
+use Rattle.core_model.specs.declared.status.CallState.TheVariants.{Out, Got}
+use Rattle.core_model.specs.State.{CoreJob, State}
+use Rattle.core_model.specs.Operations.{op_in, IsCall, Place, place_of}
+use Rattle.core_model.specs.Tasks.{names}
+use Rattle.core_model.specs.Invariant.Statuses.{is_taken_by}
+use Rattle.core_model.specs.Invariant.Hold.{is_published}
+use Rattle.core_model.specs.Invariant.{Parts}
 
 is_free_if : (st : Status) → (st ≢ Free → ⊥) → st ≡ Free
 is_free_if Free h = refl

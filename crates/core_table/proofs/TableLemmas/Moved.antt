@@ -9,20 +9,20 @@ use Rattle.atomic_table.specs.Table.{Allows}
 use Rattle.atomic_table.proofs.Lists.{at_set, set_here, set_else}
 use Rattle.batch_history.specs.declared.batch.Entry.{Entry}
 use Rattle.batch_history.specs.Book.{flat}
-use Rattle.batcher_core.specs.declared.state.progress.Progress.{Progress}
-use Rattle.batcher_core.specs.declared.state.task.Task.{Task}
-use Rattle.batcher_core.specs.declared.state.status.Status.{Status}
-use Rattle.batcher_core.specs.declared.state.status.Status.TheVariants.{Free}
-use Rattle.batcher_core.specs.declared.state.status.CallState.{CallState}
-use Rattle.batcher_core.specs.declared.state.status.CallState.TheVariants.{NotCalled, Out, Got}
-use Rattle.batcher_core.specs.declared.event.Event.{Event}
-use Rattle.batcher_core.specs.State.{put, CoreJob, State}
-use Rattle.batcher_core.specs.Operations.{Place}
-use Rattle.batcher_core.specs.Entries.{entries_of}
-use Rattle.batcher_core.specs.Events.{Happens}
-use Rattle.batcher_core.specs.Tasks.{is_done}
-use Rattle.batcher_core.specs.Invariant.{Parts}
-use Rattle.batcher_core.specs.Waits.{task_place}
+use Rattle.core_model.specs.declared.progress.Progress.{Progress}
+use Rattle.core_model.specs.declared.task.Task.{Task}
+use Rattle.core_model.specs.declared.status.Status.{Status}
+use Rattle.core_model.specs.declared.status.Status.TheVariants.{Free}
+use Rattle.core_model.specs.declared.status.CallState.{CallState}
+use Rattle.core_model.specs.declared.status.CallState.TheVariants.{NotCalled, Out, Got}
+use Rattle.core_model.specs.declared.event.Event.{Event}
+use Rattle.core_model.specs.State.{put, CoreJob, State}
+use Rattle.core_model.specs.Operations.{Place}
+use Rattle.core_model.specs.Entries.{entries_of}
+use Rattle.core_model.specs.Events.{Happens}
+use Rattle.core_model.specs.Tasks.{is_done}
+use Rattle.core_model.specs.Invariant.{Parts}
+use Rattle.core_model.specs.Waits.{task_place}
 use Rattle.core_table.specs.declared.slot.OpRecord.{OpRecord}
 use Rattle.core_table.specs.declared.view.TakenCall.{TakenCall}
 use Rattle.core_table.specs.declared.view.HoldView.{HoldView}

@@ -7,12 +7,12 @@ use Rattle.std.proofs.Common.{lt_of_not-le}
 use Rattle.batch_history.specs.declared.batch.Entry.{Entry}
 use Rattle.batch_history.specs.Book.{flat}
 use Rattle.seq_objects.specs.Objects as objects
-use Rattle.batcher_core.specs.State.{CoreJob, Hold, State}
-use Rattle.batcher_core.specs.Tasks.{is_done}
-use Rattle.batcher_core.specs.Invariant.{Parts}
-use Rattle.batcher_core.specs.Invariant.Ticks.{start_of as start_of_node}
-use Rattle.batcher_core.specs.Invariant.Values.{IsKept}
-use Rattle.batcher_core.specs.Serving.{served}
+use Rattle.core_model.specs.State.{CoreJob, Hold, State}
+use Rattle.core_model.specs.Tasks.{is_done}
+use Rattle.core_model.specs.Invariant.{Parts}
+use Rattle.core_model.specs.Invariant.Ticks.{start_of as start_of_node}
+use Rattle.core_model.specs.Invariant.Values.{IsKept}
+use Rattle.core_model.specs.Serving.{served}
 use Rattle.core_table.specs.CoreWords.{Progress, Waiting, Ready, Taken, Done, Ran, Status, Free, Pending, Executing, Served, Task, CallState, NotCalled, Out, Receipt, Kind}
 use Rattle.core_table.specs.declared.slot.Slot.{Slot}
 use Rattle.core_table.specs.declared.slot.Slot.TheVariants as Slots

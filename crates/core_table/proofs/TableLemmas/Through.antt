@@ -5,14 +5,14 @@ use mathlib.Core.Option.{Option, some}
 use lib.ListN.{get_elem?}
 use Rattle.atomic_table.proofs.Lists.{set_here, set_else}
 use Rattle.batch_history.specs.declared.batch.Entry.{Entry}
-use Rattle.batcher_core.specs.declared.state.task.Task.{Task}
-use Rattle.batcher_core.specs.declared.state.status.Status.{Status}
-use Rattle.batcher_core.specs.declared.state.status.CallState.TheVariants.{NotCalled}
-use Rattle.batcher_core.specs.declared.event.Event.{Event}
-use Rattle.batcher_core.specs.State.{put, CoreJob, Hold, State}
-use Rattle.batcher_core.specs.Events.{Happens}
-use Rattle.batcher_core.specs.Tasks.{is_done}
-use Rattle.batcher_core.specs.Invariant.{Parts}
+use Rattle.core_model.specs.declared.task.Task.{Task}
+use Rattle.core_model.specs.declared.status.Status.{Status}
+use Rattle.core_model.specs.declared.status.CallState.TheVariants.{NotCalled}
+use Rattle.core_model.specs.declared.event.Event.{Event}
+use Rattle.core_model.specs.State.{put, CoreJob, Hold, State}
+use Rattle.core_model.specs.Events.{Happens}
+use Rattle.core_model.specs.Tasks.{is_done}
+use Rattle.core_model.specs.Invariant.{Parts}
 use Rattle.core_table.specs.declared.view.HoldView.{HoldView}
 use Rattle.core_table.specs.declared.view.View.{View}
 use Rattle.core_table.specs.declared.slot.Slot.{Slot}

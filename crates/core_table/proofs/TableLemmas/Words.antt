@@ -2,9 +2,9 @@
 use Rattle.std.proofs.Common.{ℕ, ◌≡◌, ◌≢◌, ◌<◌, Option, Some, List, get_or, set, arith, refl, sym, ◌∙◌, subst, inl, inr, length-set, get_or-set_other, get_or-set_same}
 use Rattle.std.proofs.lemmas.Bool.Decides.{nat_tests}
 use Rattle.std.proofs.lemmas.Bool.{cases_eq}
-use Rattle.batcher_core.specs.declared.state.progress.Progress.{Progress}
-use Rattle.batcher_core.specs.declared.state.status.Status.{Status}
-use Rattle.batcher_core.specs.State.{put, Hold}
+use Rattle.core_model.specs.declared.progress.Progress.{Progress}
+use Rattle.core_model.specs.declared.status.Status.{Status}
+use Rattle.core_model.specs.State.{put, Hold}
 use Rattle.core_table.specs.Words.{flag_at, count_at, tick_at, stop_at, node_at, mark_at, value_at, progress_code, status_code, flag_code, HasValue, WordsShow}
 
 pub put_at : {A : Type 0} (f : ℕ → A) (w v : ℕ) (x : A) → v ≡ w → put f w x v ≡ x

@@ -3,15 +3,15 @@ use Rattle.std.specs.Prelude.{ℕ, ◌≡◌, ◌<◌, ◌≤◌, ◌+◌, ◌*�
 use Rattle.std.specs.List.{AllByRecursion}
 use Rattle.seq_objects.specs.Pairs.{AreDistinct}
 use Rattle.batch_history.specs.Book.{flat}
-use Rattle.batcher_core.specs.State.{CoreJob, State, opening_state}
-use Rattle.batcher_core.specs.Entries.{entries_of, StandsAt, IsUnserved}
-use Rattle.batcher_core.specs.Events.{Happens, HasStarted}
-use Rattle.batcher_core.specs.Measure.{call_count}
-use Rattle.batcher_core.specs.Operations.{IsCall, Place, op_in, place_of, receipt_for}
-use Rattle.batcher_core.specs.Tasks.{is_done}
-use Rattle.batcher_core.specs.Invariant.Statuses.{is_taken_by}
-use Rattle.batcher_core.specs.Invariant.{Parts}
-use Rattle.batcher_core.specs.Waits.{IsTrapped, WaitsSince, task_place}
+use Rattle.core_model.specs.State.{CoreJob, State, opening_state}
+use Rattle.core_model.specs.Entries.{entries_of, StandsAt, IsUnserved}
+use Rattle.core_model.specs.Events.{Happens, HasStarted}
+use Rattle.core_model.specs.Measure.{call_count}
+use Rattle.core_model.specs.Operations.{IsCall, Place, op_in, place_of, receipt_for}
+use Rattle.core_model.specs.Tasks.{is_done}
+use Rattle.core_model.specs.Invariant.Statuses.{is_taken_by}
+use Rattle.core_model.specs.Invariant.{Parts}
+use Rattle.core_model.specs.Waits.{IsTrapped, WaitsSince, task_place}
 use Rattle.core_table.specs.CoreWords.{IsPlan, IsSide, SeqNode, ParNode, OpenSecond, FinishParent, Arrive, Op, Event, Publish, Receipt, Served, Whole}
 
 pub record Laws (job : CoreJob) : Type 0 where

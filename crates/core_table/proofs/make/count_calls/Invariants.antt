@@ -1,7 +1,7 @@
 use Rattle.std.proofs.Common.{◌≡◌, ◌≤◌, ℕ}
 use Rattle.sp_order.specs.Preorder.{nodes_of}
-use Rattle.batcher_core.specs.State.{core_job}
-use Rattle.batcher_core.specs.Measure.{total, one_if_call}
+use Rattle.core_model.specs.State.{core_job}
+use Rattle.core_model.specs.Measure.{total, one_if_call}
 use Rattle.core_table.proofs.make.count_calls.Given as goal
 
 abbrev pub invariant-loop-node : goal.invariant-loop-node

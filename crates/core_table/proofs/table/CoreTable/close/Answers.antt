@@ -6,9 +6,9 @@ use Rattle.seq_objects.specs.declared.act.Act.{Act}
 use Rattle.sp_order.specs.Precedence.{leaves}
 use Rattle.sp_order.specs.Preorder.{nodes_of}
 use Rattle.batch_history.specs.Reserved.{ReservedView}
-use Rattle.batcher_core.specs.State.{State}
-use Rattle.batcher_core.specs.Tasks.{is_done}
-use Rattle.batcher_core.specs.Reports.{HasRun, IsReportOf}
+use Rattle.core_model.specs.State.{State}
+use Rattle.core_model.specs.Tasks.{is_done}
+use Rattle.core_model.specs.Reports.{HasRun, IsReportOf}
 use Rattle.core_table.specs.Shows.{reserved, room_of, job_of, IsFront}
 use Rattle.core_table.proofs.TableLemmas.Moved.{few_nodes}
 use Rattle.core_table.proofs.PassLemmas.PassKept.{books}

@@ -1,6 +1,6 @@
 use Rattle.std.proofs.Common.{◌≡◌, ℕ, ◌<◌, subst, sym, ◌∙◌, arith, Some}
-use Rattle.batcher_core.specs.Operations.{leaf_of}
-use Rattle.batcher_core.specs.Events.{value_in}
+use Rattle.core_model.specs.Operations.{leaf_of}
+use Rattle.core_model.specs.Events.{value_in}
 use Rattle.core_table.specs.Shows.{room_of, job_of}
 use Rattle.core_table.proofs.TableLemmas.Moved.{few_nodes}
 use Rattle.core_table.proofs.StepLemmas.Sides.{started_in}

@@ -4,8 +4,8 @@ use Rattle.seq_objects.specs.declared.act.Act.{Act}
 use Rattle.core_table.specs.declared.table.Pass.{Pass}
 use Rattle.core_table.specs.Words.{node_at}
 use Rattle.core_table.specs.Shows.{room_of, job_of}
-use Rattle.batcher_core.specs.State.{core_job}
-use Rattle.batcher_core.specs.Measure.{call_count}
+use Rattle.core_model.specs.State.{core_job}
+use Rattle.core_model.specs.Measure.{call_count}
 use Rattle.core_table.specs.Plays.{Sat}
 use Rattle.core_table.specs.Views.{enrolling, pass_of, rest_of}
 use Rattle.core_table.specs.Passes.{IsSeatOf}

@@ -1,6 +1,6 @@
 use Rattle.std.proofs.Common.{◌≡◌, sym, ap, ◌∙◌, arith, Some}
 use Rattle.sp_order.specs.declared.node.Kind.TheVariants.{SeqNode}
-use Rattle.batcher_core.specs.declared.state.task.Task.TheVariants.{Whole}
+use Rattle.core_model.specs.declared.task.Task.TheVariants.{Whole}
 use Rattle.core_table.specs.Shows.{room_of, job_of}
 use Rattle.core_table.proofs.TableLemmas.Moved.{few_nodes}
 use Rattle.core_table.proofs.StepLemmas.Sides.{block_in, seq_sides}

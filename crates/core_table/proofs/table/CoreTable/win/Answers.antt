@@ -1,5 +1,5 @@
 use Rattle.std.proofs.Common.{false, ◌≡◌, ◌+◌, [], ◌∷◌, ap, ◌∙◌, arith, refl}
-use Rattle.batcher_core.specs.declared.state.status.CallState.TheVariants.{Out}
+use Rattle.core_model.specs.declared.status.CallState.TheVariants.{Out}
 use Rattle.core_table.specs.declared.slot.Slot.TheVariants as Slots
 use Rattle.core_table.specs.Shows.{reserved, room_of, job_of}
 use Rattle.core_table.proofs.TableLemmas.Moved.{few_nodes}

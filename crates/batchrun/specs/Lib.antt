@@ -10,7 +10,7 @@ pub use Rattle.batch_history.specs.Book
 pub use Rattle.batch_history.specs.Lawful
 pub use Rattle.batch_history.specs.Text
 pub use Rattle.batch_history.specs.Summary
-pub use Rattle.batcher_core.specs.Reports
+pub use Rattle.core_model.specs.Reports
 pub mod Words
 pub mod Lines
 pub mod Outcomes

@@ -2,7 +2,7 @@
 ghost use Rattle.std.specs.Prelude.{◌<◌, ◌≤◌, IfOk};
 ghost use Rattle.std.specs.List.{AllByRecursion};
 ghost use Rattle.batch_history.specs.Lawful.{Lawful};
-ghost use Rattle.batcher_core.specs.Reports.{IsDrivenReport};
+ghost use Rattle.core_model.specs.Reports.{IsDrivenReport};
 
 use batch_history::{History, Report, Rows};
 use batcher_core::{Core, drive};

@@ -11,16 +11,16 @@ use Rattle.seq_objects.specs.declared.op.Op.TheVariants.{CounterAdd}
 use Rattle.seq_objects.specs.declared.op.Op.{Op}
 use Rattle.seq_objects.specs.Objects.{value_of}
 use Rattle.sp_order.specs.declared.node.Kind.{Kind}
-use Rattle.batcher_core.specs.declared.state.status.CallState.{CallState}
-use Rattle.batcher_core.specs.declared.state.status.CallState.TheVariants.{Got}
-use Rattle.batcher_core.specs.declared.state.status.Receipt.{Receipt}
-use Rattle.batcher_core.specs.declared.state.task.Task.{Task}
-use Rattle.batcher_core.specs.declared.state.task.Task.TheVariants.{Run, Half, Started, Kept, Ended, Whole}
-use Rattle.batcher_core.specs.Events.{value_in, task_after}
-use Rattle.batcher_core.specs.State.{CoreJob}
+use Rattle.core_model.specs.declared.status.CallState.{CallState}
+use Rattle.core_model.specs.declared.status.CallState.TheVariants.{Got}
+use Rattle.core_model.specs.declared.status.Receipt.{Receipt}
+use Rattle.core_model.specs.declared.task.Task.{Task}
+use Rattle.core_model.specs.declared.task.Task.TheVariants.{Run, Half, Started, Kept, Ended, Whole}
+use Rattle.core_model.specs.Events.{value_in, task_after}
+use Rattle.core_model.specs.State.{CoreJob}
 use Rattle.core_table.specs.declared.view.View.{View}
 use Rattle.core_table.specs.Views.{keeping, with_task, ticked}
-use Rattle.batcher_core.specs.Operations.{op_in, leaf_of}
+use Rattle.core_model.specs.Operations.{op_in, leaf_of}
 use Rattle.std.specs.Prelude.{slice_index_or}
 use Rattle.core_table.specs.declared.table.CoreTable.{CoreTable}
 use Rattle.core_table.specs.Passes.{job_in, IsInner, IsTickDue, IsOpenDue, IsArriveDue, IsFinished, half_if, opened_task}

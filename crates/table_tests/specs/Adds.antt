@@ -3,9 +3,9 @@ use Rattle.std.specs.Prelude.{ℕ, ◌≡◌, None, [], ◌∷◌}
 use Rattle.sp_order.specs.Precedence.{leaf, par}
 use Rattle.seq_objects.specs.declared.act.Act.TheVariants.{Call}
 use Rattle.seq_objects.specs.declared.op.Op.TheVariants.{CounterAdd}
-use Rattle.batcher_core.specs.declared.state.task.Task.{Task}
-use Rattle.batcher_core.specs.declared.state.task.Task.TheVariants.{Started}
-use Rattle.batcher_core.specs.declared.state.status.CallState.{CallState}
+use Rattle.core_model.specs.declared.task.Task.{Task}
+use Rattle.core_model.specs.declared.task.Task.TheVariants.{Started}
+use Rattle.core_model.specs.declared.status.CallState.{CallState}
 use Rattle.core_table.specs.declared.table.CoreTable.{CoreTable}
 use Rattle.core_table.specs.declared.table.Pass.{Pass}
 use Rattle.core_table.specs.Passes.{IsPassOf, tree_in, acts_in, job_in, view}

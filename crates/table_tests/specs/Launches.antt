@@ -5,9 +5,9 @@ use Rattle.seq_objects.specs.declared.call.Call.{Call}
 use Rattle.seq_objects.specs.Pairs.{AreDistinct}
 use Rattle.batch_history.specs.declared.batch.Entry.{Entry}
 use Rattle.batch_history.specs.Book.{flat}
-use Rattle.batcher_core.specs.Operations.{place_of}
-use Rattle.batcher_core.specs.declared.state.status.CallState.TheVariants.{Out}
-use Rattle.batcher_core.specs.declared.state.task.Task.TheVariants.{Started}
+use Rattle.core_model.specs.Operations.{place_of}
+use Rattle.core_model.specs.declared.status.CallState.TheVariants.{Out}
+use Rattle.core_model.specs.declared.task.Task.TheVariants.{Started}
 use Rattle.core_table.specs.declared.slot.OpRecord.{OpRecord}
 use Rattle.core_table.specs.declared.table.CoreTable.{CoreTable}
 use Rattle.core_table.specs.declared.table.Pass.{Pass}

@@ -1,14 +1,14 @@
 //! The job of two adds, and the steps of its workers at its leaves.
 ghost use Rattle.std.specs.Prelude.{◌≡◌, ◌<◌, ◌∷◌, [], Some, IfOk, IfErr, IfSome, IsTrue, IsFalse};
-ghost use Rattle.batcher_core.specs.declared.state.status.CallState.TheVariants.{NotCalled, Out, Got};
-ghost use Rattle.batcher_core.specs.declared.state.task.Task.TheVariants.{Idle, Run, Half, Started};
+ghost use Rattle.core_model.specs.declared.status.CallState.TheVariants.{NotCalled, Out, Got};
+ghost use Rattle.core_model.specs.declared.task.Task.TheVariants.{Idle, Run, Half, Started};
 ghost use Rattle.core_table.specs.Passes.{IsPassOf, view};
 ghost use Rattle.seq_objects.specs.declared.act.Act.TheVariants.{Call};
 ghost use Rattle.seq_objects.specs.declared.op.Op.TheVariants.{CounterAdd};
 ghost use Rattle.sp_order.specs.Precedence.{leaf, par};
 ghost use Rattle.table_tests.specs.Adds.{IsTwoAdds, IsAt, HasStarted};
 
-use batcher_core::Receipt;
+use core_model::Receipt;
 use core_table::{CoreTable, OpRecord, Pass};
 use seq_objects::{Act, Op, value};
 use sp_order::{Job, Shape};

@@ -2,15 +2,15 @@
 ghost use Rattle.std.specs.Prelude.{◌≡◌, ◌<◌, ◌≤◌, ◌+◌, ◌∷◌, ◌++◌, [], List, length, IfOk, IfSome, IfNone};
 ghost use Rattle.seq_objects.specs.Pieces.{AllMeet};
 ghost use Rattle.batch_history.specs.declared.batch.Entry.{Entry as EntryOf};
-ghost use Rattle.batcher_core.specs.declared.state.status.CallState.TheVariants.{Out};
+ghost use Rattle.core_model.specs.declared.status.CallState.TheVariants.{Out};
 ghost use Rattle.launch_batch.specs.Calls.{MayServe, IsServiceOf};
 ghost use Rattle.launch_batch.specs.Pieces.{Meets};
 ghost use Rattle.table_tests.specs.Adds.{IsTwoAdds, HasStarted};
 ghost use Rattle.table_tests.specs.Launches.{HasFlag, Answers};
 
 use batch_history::{Batch, Entry};
-use batcher_core::Receipt;
-use batcher_core::laws::book::entries_are_found_at_their_places;
+use core_model::Receipt;
+use core_model::laws::book::entries_are_found_at_their_places;
 use core_table::{CoreTable, Pass};
 use launch_batch::{PieceIn, PieceOut, Shop, run_piece};
 use seq_objects::Call;

@@ -1,6 +1,6 @@
 //! Two workers at the job of two adds, step by step, on one thread.
 ghost use Rattle.std.specs.Prelude.{◌≡◌, true, IfOk};
-ghost use Rattle.batcher_core.specs.declared.state.status.CallState.TheVariants.{NotCalled, Out};
+ghost use Rattle.core_model.specs.declared.status.CallState.TheVariants.{NotCalled, Out};
 ghost use Rattle.core_table.specs.Passes.{IsPassOf, view};
 ghost use Rattle.table_tests.specs.Adds.{IsTwoAdds, HasStarted};
 ghost use Rattle.table_tests.specs.Tables.{IsUnused};
@@ -9,7 +9,7 @@ use crate::adds::{claim, end, hear, leave, open_left, open_right, post, start, t
 use crate::launches::{end_launch, look, win};
 use crate::passes::last_pass;
 use batch_history::Report;
-use batcher_core::Receipt;
+use core_model::Receipt;
 use core_table::{CoreTable, Pass};
 use seq_objects::Reply;
 use std::alloc::{AllocError, Global};

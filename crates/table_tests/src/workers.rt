@@ -7,7 +7,7 @@ ghost use Rattle.worker_turns.specs.Opening.{seat_seen};
 ghost use Rattle.worker_turns.specs.Seats.{IsSeat};
 ghost use Rattle.worker_turns.specs.Workers.{IsMeOf, IsReady};
 
-use batcher_core::Receipt;
+use core_model::Receipt;
 use bt_io::Pause;
 use core_table::{CoreTable, Pass};
 use seq_objects::{spin, value};

@@ -2,7 +2,7 @@
 use Rattle.std.proofs.Common.{ℕ, ◌≡◌, ◌∙◌, ap, subst, List, Result, IfOk}
 use Rattle.seq_objects.specs.declared.act.Act.{Act}
 use Rattle.sp_order.specs.Precedence.{Tree}
-use Rattle.batcher_core.specs.State.{CoreState, CoreJob, core_job}
+use Rattle.core_model.specs.State.{CoreState, CoreJob, core_job}
 use Rattle.batcher_core.specs.declared.turn.Turn.{Turn}
 use Rattle.batcher_core.specs.Cores.{CoreView, job_in, state_in, IsTurnResult}
 

@@ -4,8 +4,8 @@ ghost use Rattle.seq_objects.specs.declared.act.Act.{Act};
 ghost use Rattle.sp_order.specs.Precedence.{Tree, leaf};
 ghost use Rattle.batch_history.specs.Lawful.{Lawful};
 ghost use Rattle.batcher_core.specs.Cores.{state_in};
-ghost use Rattle.batcher_core.specs.Invariant.{Invariant};
-ghost use Rattle.batcher_core.specs.State.{core_job};
+ghost use Rattle.core_model.specs.Invariant.{Invariant};
+ghost use Rattle.core_model.specs.State.{core_job};
 ghost use Rattle.worker_loop.specs.Runs.{RunView, IsCoreOf};
 ghost use Rattle.worker_loop.specs.Looks.{HasLooked};
 

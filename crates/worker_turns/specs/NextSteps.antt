@@ -6,9 +6,9 @@ use Rattle.sp_order.specs.declared.node.Kind.{Kind}
 use Rattle.sp_order.specs.declared.node.Kind.TheVariants.{LeafNode, SeqNode, ParNode}
 use Rattle.sp_order.specs.declared.node.Move.{Move}
 use Rattle.sp_order.specs.declared.node.Move.TheVariants as moves
-use Rattle.batcher_core.specs.State.{CoreJob}
-use Rattle.batcher_core.specs.Operations.{leaf_of}
-use Rattle.batcher_core.specs.declared.state.task.Task.TheVariants.{Half, Started, Kept, Ended, Whole, Handed}
+use Rattle.core_model.specs.State.{CoreJob}
+use Rattle.core_model.specs.Operations.{leaf_of}
+use Rattle.core_model.specs.declared.task.Task.TheVariants.{Half, Started, Kept, Ended, Whole, Handed}
 use Rattle.worker_turns.specs.Words.{Task, Idle, Run, CallState, NotCalled, Out, Got}
 use Rattle.worker_turns.specs.declared.step.Step.{Step}
 use Rattle.worker_turns.specs.declared.step.Step.TheVariants as steps

@@ -3,7 +3,7 @@ use Rattle.std.specs.Prelude.{ℕ, ◌≡◌, ◌≤◌, ◌+◌, Bool, true, fa
 use Rattle.seq_objects.specs.Spin.{spin_of}
 use Rattle.seq_objects.specs.Objects.{value_of}
 use Rattle.worker_turns.specs.Words.{Op, Call, Entry, Receipt, Task, Run, CallState, NotCalled, Out, Got}
-use Rattle.batcher_core.specs.Entries.{StandsAt}
+use Rattle.core_model.specs.Entries.{StandsAt}
 use Rattle.worker_turns.specs.declared.step.Step.{Step}
 use Rattle.worker_turns.specs.declared.step.Step.TheVariants as steps
 use Rattle.worker_turns.specs.Holds.{HoldSeen, new_hold, after_take, after_pass, after_publish, after_answer}

@@ -1,8 +1,8 @@
 -- What the turns see of a pass of the running table, and what is known of it between two of its calls.
 use Rattle.std.specs.Prelude.{ℕ, ◌≢◌, ◌≤◌, Option, None, Some, List, [], ◌∷◌, ◌++◌, map, option_map}
 use Rattle.sp_order.specs.Plans.{Nodes}
-use Rattle.batcher_core.specs.Operations.{IsLeaf}
-use Rattle.batcher_core.specs.declared.state.task.Task.TheVariants.{Half, Started, Kept, Ended, Whole, Handed}
+use Rattle.core_model.specs.Operations.{IsLeaf}
+use Rattle.core_model.specs.declared.task.Task.TheVariants.{Half, Started, Kept, Ended, Whole, Handed}
 use Rattle.core_table.specs.declared.slot.OpRecord.{OpRecord}
 use Rattle.core_table.specs.declared.view.TakenCall.{TakenCall}
 use Rattle.core_table.specs.declared.view.LeftCall.{LeftCall}

@@ -1,7 +1,7 @@
 //! A call, from its post to its receipt.
 ghost use Rattle.std.specs.Prelude.{◌≡◌, ◌≤◌, ◌+◌, Some, [], ◌∷◌, ◌++◌, IfOk, IfErr};
 ghost use Rattle.worker_turns.specs.Words.{Got};
-ghost use Rattle.batcher_core.specs.Entries.{StandsAt};
+ghost use Rattle.core_model.specs.Entries.{StandsAt};
 ghost use Rattle.piece_board.specs.Boards.{desk_view};
 ghost use Rattle.two_deques.specs.Hands.{held};
 ghost use Rattle.worker_turns.specs.declared.step.Step.TheVariants as Steps;
@@ -15,7 +15,7 @@ use crate::crew::{Crew, Me, Stop};
 use crate::rest::rest_after;
 use crate::table::Table;
 use crate::trapped::{Trapped, trapped_turn};
-use batcher_core::Receipt;
+use core_model::Receipt;
 use bt_io::{Pause, Point};
 use crossbeam_utils::Backoff;
 use seq_objects::Op;

@@ -13,7 +13,7 @@ use crate::crew::{Crew, Me, Stop};
 use crate::pieces::serve_pieces;
 use crate::table::Table;
 use batch_history::Entry;
-use batcher_core::Receipt;
+use core_model::Receipt;
 use bt_io::Pause;
 use launch_batch::Shop;
 use seq_objects::Call;

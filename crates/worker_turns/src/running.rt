@@ -1,6 +1,6 @@
 //! The running table as a table of the turns.
 ghost use Rattle.std.specs.Prelude.{◌≡◌, true, Some};
-ghost use Rattle.batcher_core.specs.Operations.{leaf_of};
+ghost use Rattle.core_model.specs.Operations.{leaf_of};
 ghost use Rattle.core_table.specs.Passes.{job_in, view, TaskHere};
 ghost use Rattle.worker_turns.specs.NextSteps.{step_run, step_started, step_whole, next_step};
 ghost use Rattle.worker_turns.specs.Seats.{pass_seen, IsSeat};
@@ -8,7 +8,7 @@ ghost use Rattle.worker_turns.specs.Seats.{pass_seen, IsSeat};
 use crate::step::Step;
 use crate::table::Table;
 use batch_history::Batch;
-use batcher_core::{CallState, Receipt, Task};
+use core_model::{CallState, Receipt, Task};
 use core_table::{CoreTable, OpRecord, Pass};
 use launch_batch::Shop;
 use seq_objects::{Act, Call, Op};

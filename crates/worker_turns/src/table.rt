@@ -14,7 +14,7 @@ ghost use Rattle.worker_turns.specs.Passes.{IsLeft, IsDue, staying, finding_stop
 
 use crate::step::Step;
 use batch_history::Batch;
-use batcher_core::Receipt;
+use core_model::Receipt;
 use launch_batch::Shop;
 use seq_objects::{Call, Op};
 

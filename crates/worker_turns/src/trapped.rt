@@ -13,7 +13,7 @@ use crate::found::Tried;
 use crate::launching::launch;
 use crate::pieces::{other_piece, own_piece};
 use crate::table::Table;
-use batcher_core::Receipt;
+use core_model::Receipt;
 use bt_io::{Pause, Point};
 use std::alloc::Global;
 use std::sync::Wait;

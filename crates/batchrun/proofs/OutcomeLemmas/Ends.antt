@@ -8,7 +8,7 @@ use Rattle.sp_order.specs.Jobs.{JobValue}
 use Rattle.batch_history.specs.Lawful.{HasRows, Lawful}
 use Rattle.batch_history.specs.declared.row.Row.{Row}
 use Rattle.batch_history.specs.declared.report.Report.{Report}
-use Rattle.batcher_core.specs.Reports.{IsDrivenReport}
+use Rattle.core_model.specs.Reports.{IsDrivenReport}
 use Rattle.job_lang.specs.Language.{IsJobOf, IsFaultOf}
 use Rattle.batch_history.specs.Text.{report_text}
 use Rattle.batchrun.specs.Outcomes.{WasRead, HasRun, HasDriven, Prints, FileCause, FileCompletes, IsUnlessMemory, IsFileAssured, FailsPast}

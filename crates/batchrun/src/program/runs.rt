@@ -5,7 +5,7 @@ ghost use Rattle.batch_history.specs.Lawful.{Lawful};
 ghost use Rattle.batch_history.specs.Text.{report_text};
 ghost use Rattle.batch_history.specs.Summary.{CanBeSummed, summary_of_report, summary_of_job};
 ghost use Rattle.batch_history.specs.declared.report.Report.{Report};
-ghost use Rattle.batcher_core.specs.Reports.{IsDrivenReport};
+ghost use Rattle.core_model.specs.Reports.{IsDrivenReport};
 ghost use Rattle.job_lang.specs.Generator.{generated};
 ghost use Rattle.batchrun.specs.Words.{workers_named};
 ghost use Rattle.batchrun.specs.Outcomes.{HasRun, HasDriven, Prints, FileCause, MadeCause, FailsPast, IsUnlessMemory};

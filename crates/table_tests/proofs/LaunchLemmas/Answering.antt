@@ -13,7 +13,7 @@ use Rattle.batch_history.specs.Serving.{call_in, calls_in}
 use Rattle.launch_batch.specs.Calls.{IsServiceOf}
 use Rattle.launch_batch.proofs.ListLemmas.Elements.{each_mapped, each_unmapped}
 use Rattle.launch_batch.proofs.ListLemmas.Same.{each_same, distinct_same, length_same}
-use Rattle.batcher_core.specs.Operations.{Place, place_in, place_of, or_else, IsReceipt}
+use Rattle.core_model.specs.Operations.{Place, place_in, place_of, or_else, IsReceipt}
 use Rattle.core_table.specs.declared.view.HoldView.{HoldView}
 use Rattle.core_table.specs.Batches.{call_of, IsPublishDue, IsReleaseDue}
 use Rattle.core_table.specs.Shows.{record_in, took_in, among}

@@ -4,14 +4,14 @@ use Rattle.sp_order.specs.Precedence.{Tree}
 use Rattle.sp_order.specs.Preorder.{nodes_of}
 use Rattle.seq_objects.specs.declared.call.Call.{Call}
 use Rattle.batch_history.specs.declared.batch.Entry.{Entry}
-use Rattle.batcher_core.specs.Measure.{call_count}
+use Rattle.core_model.specs.Measure.{call_count}
 use Rattle.launch_batch.specs.Calls.{MayServe, IsServiceOf}
 use Rattle.core_table.specs.declared.slot.OpRecord.{OpRecord}
 use Rattle.core_table.specs.declared.table.CoreTable.{CoreTable}
 use Rattle.core_table.specs.declared.table.Pass.{Pass}
 use Rattle.core_table.specs.declared.view.HoldView.{HoldView}
 use Rattle.core_table.specs.declared.view.View.{View}
-use Rattle.batcher_core.specs.Operations.{place_in, place_of, or_else, IsReceipt}
+use Rattle.core_model.specs.Operations.{place_in, place_of, or_else, IsReceipt}
 use Rattle.core_table.specs.Shows.{record_in, among}
 use Rattle.core_table.specs.Batches.{call_of, IsPublishDue, IsReleaseDue}
 use Rattle.core_table.specs.Passes.{IsPassOf, job_in, view}

@@ -10,7 +10,7 @@ use Rattle.batch_history.specs.declared.batch.Entry.{Entry}
 use Rattle.batch_history.specs.Book.{flat}
 use Rattle.launch_batch.specs.Calls.{MayServe}
 use Rattle.launch_batch.proofs.ListLemmas.Elements.{each_mapped}
-use Rattle.batcher_core.specs.Operations.{Place, place_in, place_from, place_of, or_else}
+use Rattle.core_model.specs.Operations.{Place, place_in, place_from, place_of, or_else}
 use Rattle.core_table.specs.declared.slot.OpRecord.{OpRecord}
 use Rattle.core_table.specs.declared.view.HoldView.{HoldView}
 use Rattle.core_table.specs.declared.view.TakenCall.{TakenCall}

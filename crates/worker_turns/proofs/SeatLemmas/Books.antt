@@ -5,8 +5,8 @@ use Rattle.std.specs.List.{AllByRecursion}
 use Rattle.seq_objects.specs.Pairs.{AreDistinct}
 use Rattle.launch_batch.proofs.ListLemmas.Elements.{each_mapped, each_unmapped}
 use Rattle.batch_history.specs.Book.{flat}
-use Rattle.batcher_core.specs.Operations.{Place, place_in, place_of, or_else, IsReceipt}
-use Rattle.batcher_core.proofs.BookLemmas.Books.{each_in_book, found_in_book, place_append}
+use Rattle.core_model.specs.Operations.{Place, place_in, place_of, or_else, IsReceipt}
+use Rattle.core_model.proofs.BookLemmas.Books.{each_in_book, found_in_book, place_append}
 use Rattle.worker_turns.specs.Words.{Entry, Receipt}
 use Rattle.worker_turns.proofs.SeatLemmas.Taken.{if_yes, if_no}
 

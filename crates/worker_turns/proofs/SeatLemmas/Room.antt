@@ -11,10 +11,10 @@ use Rattle.sp_order.specs.Precedence.{Tree, leaf, seq, par, leaves}
 use Rattle.sp_order.specs.PlanOf.{OccursAt, IsPlanOf, node_count}
 use Rattle.sp_order.specs.Plans.{Nodes}
 use Rattle.sp_order.proofs.PlanLemmas.Occurrences.{has_parent, stands_at}
-use Rattle.batcher_core.specs.State.{CoreJob}
-use Rattle.batcher_core.specs.Measure.{call_count, one_if_call, total}
-use Rattle.batcher_core.specs.Operations.{leaf_of}
-use Rattle.batcher_core.specs.declared.state.task.Task.TheVariants.{Half, Started, Kept, Ended, Whole, Handed}
+use Rattle.core_model.specs.State.{CoreJob}
+use Rattle.core_model.specs.Measure.{call_count, one_if_call, total}
+use Rattle.core_model.specs.Operations.{leaf_of}
+use Rattle.core_model.specs.declared.task.Task.TheVariants.{Half, Started, Kept, Ended, Whole, Handed}
 use Rattle.core_table.specs.Passes.{TaskHere}
 use Rattle.core_table.proofs.ListLemmas.CallCounts.{one_at_most, total_next}
 use Rattle.worker_turns.specs.Words.{Task, Idle, Run, CallState, NotCalled, Out, Got}

@@ -1,7 +1,7 @@
 -- A pass stays one of its table, and what is seen of it after each step follows from what its view says.
 use Rattle.std.proofs.Common.{ℕ, ◌≡◌, ◌≤◌, ◌+◌, Bool, true, false, List, [], ◌∷◌, refl, sym, ap, ◌∙◌, subst}
 use Rattle.std.specs.Prelude.{Option, None, Some, option_map, IfSome, IfNone, IfOk, IfErr, IsTrue, IsFalse, Result, Ok, Err}
-use Rattle.batcher_core.specs.Entries.{StandsAt}
+use Rattle.core_model.specs.Entries.{StandsAt}
 use Rattle.core_table.specs.declared.slot.OpRecord.{OpRecord}
 use Rattle.core_table.specs.declared.view.HoldView.{HoldView}
 use Rattle.core_table.specs.declared.view.LeftCall.{LeftCall}

@@ -10,7 +10,7 @@ use Rattle.launch_batch.proofs.ListLemmas.Elements.{each_unmapped}
 use Rattle.launch_batch.proofs.ListLemmas.Same.{distinct_same, length_same}
 use Rattle.batch_history.specs.Book.{flat}
 use Rattle.batch_history.specs.Serving.{call_in, calls_in}
-use Rattle.batcher_core.specs.Operations.{place_of, IsReceipt}
+use Rattle.core_model.specs.Operations.{place_of, IsReceipt}
 use Rattle.core_table.specs.declared.slot.OpRecord.{OpRecord}
 use Rattle.core_table.specs.declared.view.HoldView.{HoldView}
 use Rattle.core_table.specs.Shows.{took_in, record_in, among}

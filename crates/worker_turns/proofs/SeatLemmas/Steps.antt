@@ -10,10 +10,10 @@ use Rattle.sp_order.specs.declared.node.Kind.TheVariants.{LeafNode, SeqNode, Par
 use Rattle.sp_order.specs.declared.node.Move.{Move}
 use Rattle.sp_order.specs.declared.node.Move.TheVariants as moves
 use Rattle.sp_order.specs.Plans.{Nodes}
-use Rattle.batcher_core.specs.State.{CoreJob}
-use Rattle.batcher_core.specs.Operations.{leaf_of, op_in, IsLeaf}
-use Rattle.batcher_core.specs.Events.{value_in, task_after}
-use Rattle.batcher_core.specs.declared.state.task.Task.TheVariants.{Half, Started, Kept, Ended, Whole, Handed}
+use Rattle.core_model.specs.State.{CoreJob}
+use Rattle.core_model.specs.Operations.{leaf_of, op_in, IsLeaf}
+use Rattle.core_model.specs.Events.{value_in, task_after}
+use Rattle.core_model.specs.declared.task.Task.TheVariants.{Half, Started, Kept, Ended, Whole, Handed}
 use Rattle.core_table.specs.Passes.{IsTickDue, IsOpenDue, IsFinishDue, IsArriveDue, IsInner, opened_task, half_if}
 use Rattle.core_table.specs.Shows.{IsRecordOf}
 use Rattle.core_table.specs.Views.{ticked}

@@ -1,7 +1,7 @@
 //! What the turns, and a launch, leave as it was.
 ghost use Rattle.std.specs.Prelude.{◌≡◌, ℕ, List, true};
 ghost use Rattle.batch_history.specs.declared.batch.Entry.{Entry};
-ghost use Rattle.batcher_core.specs.declared.state.status.Receipt.{Receipt};
+ghost use Rattle.core_model.specs.declared.status.Receipt.{Receipt};
 ghost use Rattle.worker_turns.specs.declared.trapped.Trapped.{Trapped as TrappedAnswer};
 ghost use Rattle.worker_turns.specs.declared.trapped.Trapped.TheVariants as TrappedAnswers;
 ghost use Rattle.worker_turns.specs.declared.free.Did.{Did as FreeAnswer};

@@ -1,6 +1,6 @@
 //! What the answers of a trapped worker's turn mean.
 ghost use Rattle.std.specs.Prelude.{ℕ};
-ghost use Rattle.batcher_core.specs.declared.state.status.Receipt.{Receipt};
+ghost use Rattle.core_model.specs.declared.status.Receipt.{Receipt};
 ghost use Rattle.worker_turns.specs.declared.trapped.Trapped.TheVariants as Answers;
 ghost use Rattle.worker_turns.specs.Workers.{MeSeen};
 ghost use Rattle.worker_turns.specs.Trapped.{IsTrappedTurn};

@@ -4,7 +4,7 @@ use Rattle.core_table.specs.Passes.{view, job_in, IsPassOf}
 use Rattle.core_table.specs.declared.table.CoreTable.{CoreTable}
 use Rattle.core_table.specs.declared.table.Pass.{Pass}
 use Rattle.core_table.specs.Views as views
-use Rattle.batcher_core.specs.declared.state.task.Task.TheVariants.{Whole, Handed}
+use Rattle.core_model.specs.declared.task.Task.TheVariants.{Whole, Handed}
 use Rattle.worker_turns.specs.Words.{Idle}
 use Rattle.worker_turns.specs.Passes as passes
 use Rattle.worker_turns.specs.Seats.{pass_seen, IsSeat}

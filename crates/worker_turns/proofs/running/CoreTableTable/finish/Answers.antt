@@ -1,7 +1,7 @@
 use Rattle.std.proofs.Common.{subst}
 use Rattle.core_table.specs.Passes.{view, job_in}
 use Rattle.core_table.specs.Views as views
-use Rattle.batcher_core.specs.Events.{task_after}
+use Rattle.core_model.specs.Events.{task_after}
 use Rattle.worker_turns.proofs.SeatLemmas.Steps.{not_out, IsStepDue, step_due, after_fits}
 use Rattle.worker_turns.proofs.SeatLemmas.Seats.{seat_by, task_seen}
 use Rattle.worker_turns.proofs.running.CoreTableTable.finish.Goals as goal

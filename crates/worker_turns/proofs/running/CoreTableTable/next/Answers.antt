@@ -1,6 +1,6 @@
 use Rattle.std.proofs.Common.{◌∙◌, sym, subst, ap}
 use Rattle.std.specs.Prelude.{IsNone}
-use Rattle.batcher_core.specs.declared.state.task.Task.{Task}
+use Rattle.core_model.specs.declared.task.Task.{Task}
 use Rattle.core_table.specs.Passes.{view, job_in, tree_in, TaskHere}
 use Rattle.worker_turns.proofs.SeatLemmas.Steps.{not_out}
 use Rattle.worker_turns.specs.NextSteps.{next_step}

@@ -3,7 +3,7 @@ use Rattle.core_table.specs.declared.view.View.{View}
 use Rattle.core_table.specs.Passes.{view, job_in}
 use Rattle.core_table.specs.Passes.{tree_in}
 use Rattle.core_table.specs.Views as views
-use Rattle.batcher_core.specs.Measure.{call_count}
+use Rattle.core_model.specs.Measure.{call_count}
 use Rattle.worker_turns.specs.Holds.{IsLooking, after_take, after_pass}
 use Rattle.worker_turns.specs.Seats.{taken_call}
 use Rattle.worker_turns.proofs.SeatLemmas.Steps.{is_out}

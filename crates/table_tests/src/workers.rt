@@ -43,15 +43,13 @@ fn make_step<T: Table, G: Pause, R: Wait>(
     ensures free { IfOk result (λ _. (desk_view me.new.desk).posted ≡ []) }
 {
     match step {
-        Step::Start(_) | Step::End => {
-            crew.table.tick(&mut me.pass);
-        }
+        Step::Start(_) | Step::End => crew.table.tick(&mut me.pass),
         Step::Open => {
             crew.table.open_node(&mut me.pass);
         }
         Step::Spin(n) => crew.table.keep(&mut me.pass, u64::from(spin(n))),
-        Step::Call { leaf, op } => {
-            let called = call(rt, alloc, crew, me, leaf, op)?;
+        Step::Call { leaf, op: _ } => {
+            let called = call(rt, alloc, crew, me, leaf)?;
             made.push(Made {
                 leaf,
                 receipt: called.receipt,

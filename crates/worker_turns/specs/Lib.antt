@@ -6,6 +6,7 @@ pub mod Passes
 pub mod Workers
 pub mod Pieces
 pub mod Launches
+pub mod Callings
 pub mod Trapped
 pub mod Free
 pub mod Meanings

@@ -1,11 +1,11 @@
 //! A call, from its post to its receipt.
 ghost use Rattle.std.specs.Prelude.{◌≡◌, ◌≤◌, ◌+◌, Some, [], ◌∷◌, ◌++◌, IfOk, IfErr};
 ghost use Rattle.worker_turns.specs.Words.{Got};
-ghost use Rattle.core_model.specs.Entries.{StandsAt};
 ghost use Rattle.piece_board.specs.Boards.{desk_view};
 ghost use Rattle.two_deques.specs.Hands.{held};
 ghost use Rattle.worker_turns.specs.declared.step.Step.TheVariants as Steps;
 ghost use Rattle.worker_turns.specs.Passes.{IsFree, IsFront};
+ghost use Rattle.worker_turns.specs.Callings.{IsCallDue, IsServedAs};
 ghost use Rattle.worker_turns.specs.Workers.{IsMeOf};
 ghost use Rattle.worker_turns.specs.Launches.{IsStop};
 ghost use Rattle.worker_turns.specs.Trapped.{IsJobSame};
@@ -13,6 +13,7 @@ ghost use Rattle.worker_turns.specs.Free.{Helps};
 
 use crate::crew::{Crew, Me, Stop};
 use crate::rest::rest_after;
+use crate::step::Step;
 use crate::table::Table;
 use crate::trapped::{Trapped, trapped_turn};
 use core_model::Receipt;
@@ -29,32 +30,42 @@ pub struct Called {
     pub receipt: Receipt,
 }
 
-/// Makes the call of a leaf: posts it, and takes trapped turns until the worker has left with its receipt.
+/// The operation of the call that is due.
+fn op_due<T: Table>(table: &T, pass: &T::Pass, leaf: u32) -> Op
+    requires pass { T.gave table.now pass.now }
+    requires free { IsFree (T.seen pass.now) }
+    requires due { IsCallDue leaf
+        (T.next_of table.now (T.seen pass.now).task (T.seen pass.now).call) }
+    ensures { T.next_of table.now (T.seen pass.now).task (T.seen pass.now).call
+        ≡ Some (Steps.Call leaf result) }
+{
+    match table.next(pass) {
+        Some(Step::Call { leaf: _, op }) => op,
+        _ => unreachable!(),
+    }
+}
+
+/// Makes the call of a leaf, with the operation that the table tells: posts it, and takes trapped turns until the worker
+/// has left with its receipt.
 pub fn call<T: Table, G: Pause, R: Wait>(
     rt: &R,
     alloc: Global,
     crew: &Crew<T, G>,
     me: &mut Me<T::Pass>,
     leaf: u32,
-    op: Op,
 ) -> Result<Called, Stop>
     requires me { IsMeOf (T.gave crew.now.table) T.seen crew.now.decks crew.now.board me.old }
     requires free_pass { IsFree (T.seen me.old.pass) }
-    requires due { T.next_of crew.now.table (T.seen me.old.pass).task (T.seen me.old.pass).call
-        ≡ Some (Steps.Call leaf op) }
+    requires due { IsCallDue leaf
+        (T.next_of crew.now.table (T.seen me.old.pass).task (T.seen me.old.pass).call) }
     requires free { (desk_view me.old.desk).posted ≡ [] }
     requires workers { crew.now.workers ≡ T.workers crew.now.table }
     ensures pass { T.gave crew.now.table me.new.pass }
     ensures me { IfOk result (λ _.
         IsMeOf (T.gave crew.now.table) T.seen crew.now.decks crew.now.board me.new) }
-    ensures stands { IfOk result (λ called. StandsAt (T.seen me.new.pass).book_seen
-        called.receipt.batch called.receipt.place
-        (record {
-          leaf = leaf;
-          worker = (T.seen me.old.pass).worker;
-          op = op;
-          reply = called.receipt.reply;
-        })) }
+    ensures stands { IfOk result (λ called. IsServedAs
+        (T.next_of crew.now.table (T.seen me.old.pass).task (T.seen me.old.pass).call)
+        leaf (T.seen me.old.pass).worker called.receipt (T.seen me.new.pass).book_seen) }
     ensures first { IfOk result (λ called. (T.seen me.new.pass).first_since ≡ Some called.since) }
     ensures soon { IfOk result (λ called. called.receipt.batch ≤ called.since + 1) }
     ensures late { IfOk result (λ called. (T.seen me.old.pass).greatest ≤ called.receipt.batch) }
@@ -70,6 +81,7 @@ pub fn call<T: Table, G: Pause, R: Wait>(
     ensures helps { IfOk result (λ _. Helps (desk_view me.old.desk) (desk_view me.new.desk)) }
     ensures stopped { IfErr result (λ stop. IsStop stop (T.seen me.old.pass) (T.seen me.new.pass)) }
 {
+    let op = op_due(&crew.table, &me.pass, leaf);
     crew.table.post(&mut me.pass, leaf, op);
     let since = crew.table.since(&mut me.pass);
     crew.pause.at(Point::Posted(leaf), me.hand.worker());

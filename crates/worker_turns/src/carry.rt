@@ -44,9 +44,7 @@ fn make_step<T: Table, G: Pause, R: Wait>(
             crew.table.tick(&mut me.pass);
             crew.pause.at(Point::LeafStart(leaf), me.hand.worker());
         }
-        Step::End => {
-            crew.table.tick(&mut me.pass);
-        }
+        Step::End => crew.table.tick(&mut me.pass),
         Step::Open => {
             let node = crew.table.open_node(&mut me.pass);
             if crew.decks.push_core(&mut me.hand, node).is_err() {
@@ -54,8 +52,8 @@ fn make_step<T: Table, G: Pause, R: Wait>(
             }
         }
         Step::Spin(n) => crew.table.keep(&mut me.pass, u64::from(spin(n))),
-        Step::Call { leaf, op } => {
-            call(rt, alloc, crew, me, leaf, op)?;
+        Step::Call { leaf, op: _ } => {
+            call(rt, alloc, crew, me, leaf)?;
         }
         Step::Got(reply) => crew.table.keep(&mut me.pass, value(reply)),
         Step::Finish => crew.table.finish(&mut me.pass),

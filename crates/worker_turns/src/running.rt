@@ -111,8 +111,8 @@ impl Table for CoreTable {
         CoreTable::claim(self, pass, node)
     }
 
-    fn tick(&self, pass: &mut Pass) -> u64 {
-        CoreTable::tick(self, pass)
+    fn tick(&self, pass: &mut Pass) {
+        CoreTable::tick(self, pass);
     }
 
     fn open_node(&self, pass: &mut Pass) -> u32 {

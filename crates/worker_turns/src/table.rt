@@ -58,7 +58,7 @@ pub trait Table {
         ensures refused { result ≡ false → seen pass.new ≡ refusing node (seen pass.old) };
 
     /// Draws the tick of a start or an end.
-    fn tick(&self, pass: &mut Self::Pass) -> u64
+    fn tick(&self, pass: &mut Self::Pass)
         requires pass { gave self.now pass.old }
         requires free { IsFree (seen pass.old) }
         requires due { IsTick (next_of self.now (seen pass.old).task (seen pass.old).call) }

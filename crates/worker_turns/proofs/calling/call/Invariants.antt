@@ -1,6 +1,8 @@
 use Rattle.std.proofs.Common.{◌≡◌, Some, []}
 use Rattle.two_deques.specs.Hands.{held}
 use Rattle.piece_board.specs.Boards.{desk_view}
+use Rattle.worker_turns.specs.declared.step.Step.TheVariants as steps
+use Rattle.worker_turns.specs.Words.{Op}
 use Rattle.worker_turns.specs.Passes.{IsTrapped}
 use Rattle.worker_turns.specs.Workers.{IsMeOf}
 use Rattle.worker_turns.specs.Trapped.{IsJobSame}
@@ -12,7 +14,9 @@ invariant-loop g l = record {
   me : IsMeOf (g.T.Table.gave l.crew.table) g.T.Table.seen l.crew.decks l.crew.board l.me;
   trapped : IsTrapped (g.T.Table.seen l.me.pass);
   job : IsJobSame (g.T.Table.seen l.fn.me.pass) (g.T.Table.seen l.me.pass);
-  posted : (g.T.Table.seen l.me.pass).posted ≡ Some (l.fn.leaf, l.fn.op);
+  posted : (op : Op)
+      × (g.T.Table.next_of l.crew.table (g.T.Table.seen l.fn.me.pass).task (g.T.Table.seen l.fn.me.pass).call ≡ Some (steps.Call l.fn.leaf op))
+      × ((g.T.Table.seen l.me.pass).posted ≡ Some (l.fn.leaf, op));
   left : (g.T.Table.seen l.me.pass).left ≡ (g.T.Table.seen l.fn.me.pass).left;
   book : (g.T.Table.seen l.me.pass).book_seen ≡ (g.T.Table.seen l.fn.me.pass).book_seen;
   before : (g.T.Table.seen l.me.pass).before ≡ (g.T.Table.seen l.fn.me.pass).greatest;

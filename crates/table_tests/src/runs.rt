@@ -1,9 +1,9 @@
 //! Runs over the running table in two threads: their reports replayed by the serial objects, and beside the receipts.
 ghost use Rattle.std.specs.Prelude.{◌≡◌, ◌<◌, ◌≤◌, ◌+◌, ◌*◌, ◌^◌, IfOk};
 ghost use Rattle.core_table.specs.Passes.{job_in};
-ghost use Rattle.worker_turns.specs.Opening.{seat_seen};
-ghost use Rattle.worker_turns.specs.Seats.{IsSeat};
-ghost use Rattle.worker_turns.specs.Workers.{IsReady};
+ghost use Rattle.worker_crew.specs.Opening.{seat_seen};
+ghost use Rattle.worker_crew.specs.Seats.{IsSeat};
+ghost use Rattle.worker_crew.specs.Workers.{IsReady};
 
 use crate::workers::{Made, Team};
 use batch_history::Report;
@@ -16,7 +16,7 @@ use std::alloc::{AllocError, Global};
 use std::sync::Wait;
 use std::test::Fail;
 use std::thread::{Threads, join_mut};
-use worker_turns::sending::{crews_go_to_threads, workers_go_to_threads};
+use worker_crew::sending::{crews_go_to_threads, workers_go_to_threads};
 use worker_turns::{Crew, Me, Stop};
 
 /// Whether two replies are the same.

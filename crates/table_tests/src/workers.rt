@@ -1,11 +1,11 @@
 //! Two workers of a running table, each in a thread, that claim whatever node they find ready.
 ghost use Rattle.std.specs.Prelude.{◌≡◌, [], Some, IfOk};
 ghost use Rattle.piece_board.specs.Boards.{desk_view};
-ghost use Rattle.worker_turns.specs.Passes.{IsFree};
+ghost use Rattle.worker_crew.specs.Passes.{IsFree};
 ghost use Rattle.core_table.specs.Passes.{job_in};
-ghost use Rattle.worker_turns.specs.Opening.{seat_seen};
-ghost use Rattle.worker_turns.specs.Seats.{IsSeat};
-ghost use Rattle.worker_turns.specs.Workers.{IsMeOf, IsReady};
+ghost use Rattle.worker_crew.specs.Opening.{seat_seen};
+ghost use Rattle.worker_crew.specs.Seats.{IsSeat};
+ghost use Rattle.worker_crew.specs.Workers.{IsMeOf, IsReady};
 
 use core_model::Receipt;
 use bt_io::Pause;

@@ -3,10 +3,10 @@ ghost use Rattle.std.specs.Prelude.{◌≡◌, ◌<◌, ◌≤◌, ℕ, Some, If
 ghost use Rattle.batch_history.specs.Lawful.{Lawful};
 ghost use Rattle.core_table.specs.declared.table.Pass.{Pass as PassOf};
 ghost use Rattle.core_table.specs.Passes.{tree_in, acts_in, job_in, IsPassOf};
-ghost use Rattle.worker_turns.specs.declared.crew.Me.{Me as MeOf};
-ghost use Rattle.worker_turns.specs.Workers.{IsReady};
-ghost use Rattle.worker_turns.specs.Seats.{IsSeat};
-ghost use Rattle.worker_turns.specs.Opening.{seat_seen, AreAtStart};
+ghost use Rattle.worker_crew.specs.declared.crew.Me.{Me as MeOf};
+ghost use Rattle.worker_crew.specs.Workers.{IsReady};
+ghost use Rattle.worker_crew.specs.Seats.{IsSeat};
+ghost use Rattle.worker_crew.specs.Opening.{seat_seen, AreAtStart};
 
 use crate::empty::report_of_empty;
 use crate::start::wait_for_others;
@@ -19,7 +19,7 @@ use std::sync::Wait;
 use std::sync::atomic::AtomicU64;
 use std::thread;
 use std::thread::Threads;
-use worker_turns::sending::{crews_go_to_threads, workers_go_to_threads};
+use worker_crew::sending::{crews_go_to_threads, workers_go_to_threads};
 use worker_turns::{Crew, Me, work};
 
 /// What threads share of a run over the running table. The threads are started over a type that is said to be shared,

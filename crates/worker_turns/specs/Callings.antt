@@ -1,9 +1,9 @@
 -- The call that a task asks for, and where its entry stands.
 use Rattle.std.specs.Prelude.{ℕ, ◌≡◌, Option, None, Some, List}
 use Rattle.core_model.specs.Entries.{StandsAt}
-use Rattle.worker_turns.specs.declared.step.Step.{Step}
-use Rattle.worker_turns.specs.declared.step.Step.TheVariants as steps
-use Rattle.worker_turns.specs.Words.{Op, Entry, Receipt}
+use Rattle.worker_crew.specs.declared.step.Step.{Step}
+use Rattle.worker_crew.specs.declared.step.Step.TheVariants as steps
+use Rattle.worker_crew.specs.Words.{Op, Entry, Receipt}
 
 -- the call of this leaf is to be made, with whatever operation
 abbrev pub IsCallDue : ℕ → Option Step → Type 0

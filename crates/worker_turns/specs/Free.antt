@@ -10,8 +10,8 @@ use Rattle.worker_turns.specs.declared.found.Other.{Other}
 use Rattle.worker_turns.specs.declared.found.Other.TheVariants.{Alone, Node, Piece}
 use Rattle.worker_turns.specs.declared.free.Did.{Did}
 use Rattle.worker_turns.specs.declared.free.Did.TheVariants as did
-use Rattle.worker_turns.specs.Passes.{PassSeen, IsFront, claiming, refusing}
-use Rattle.worker_turns.specs.Workers.{MeSeen}
+use Rattle.worker_crew.specs.Passes.{PassSeen, IsFront, claiming, refusing}
+use Rattle.worker_crew.specs.Workers.{MeSeen}
 use Rattle.worker_turns.specs.Pieces.{Desk, IsPop, IsSteal, spot_of, desk_after, NotRan, IsOwnPiece}
 
 abbrev pub node_of : Found → Option ℕ

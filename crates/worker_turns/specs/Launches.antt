@@ -2,15 +2,15 @@
 use Rattle.std.specs.Prelude.{ℕ, ◌≡◌, ◌≤◌, ◌+◌, ◌⊎◌, None, Some, List, [], ◌++◌, length}
 use Rattle.seq_objects.specs.declared.call.Call.{Call}
 use Rattle.seq_objects.specs.Batches.{AreInBatchOrder}
-use Rattle.worker_turns.specs.Words.{Entry}
+use Rattle.worker_crew.specs.Words.{Entry}
 use Rattle.launch_batch.specs.Calls.{AreSame}
 use Rattle.launch_batch.specs.Places.{places}
-use Rattle.worker_turns.specs.declared.crew.Stop.{Stop}
-use Rattle.worker_turns.specs.declared.crew.Stop.TheVariants.{Memory, Stopped}
-use Rattle.worker_turns.specs.Holds.{HoldSeen, TookNone, ServedAll}
-use Rattle.worker_turns.specs.Passes.{PassSeen}
+use Rattle.worker_crew.specs.declared.crew.Stop.{Stop}
+use Rattle.worker_crew.specs.declared.crew.Stop.TheVariants.{Memory, Stopped}
+use Rattle.worker_crew.specs.Holds.{HoldSeen, TookNone, ServedAll}
+use Rattle.worker_crew.specs.Passes.{PassSeen}
 use Rattle.worker_turns.specs.Pieces.{Desk}
-use Rattle.worker_turns.specs.Workers.{MeSeen}
+use Rattle.worker_crew.specs.Workers.{MeSeen}
 
 -- The pieces at these places of the own row were each posted once and collected once, and the row is free. Between,
 -- each piece that was claimed was finished.

@@ -12,7 +12,7 @@ use Rattle.launch_batch.specs.declared.piece.PieceIn.{PieceIn}
 use Rattle.launch_batch.specs.Pieces.{place_of}
 use Rattle.worker_turns.specs.declared.found.Tried.{Tried}
 use Rattle.worker_turns.specs.declared.found.Tried.TheVariants.{Ran, Dropped, Dry}
-use Rattle.worker_turns.specs.Workers.{MeSeen}
+use Rattle.worker_crew.specs.Workers.{MeSeen}
 
 abbrev pub Desk : Type 0
 Desk = DeskView PieceIn

@@ -1,13 +1,13 @@
 -- What each answer of a trapped worker's turn says: the path that it took.
 use Rattle.std.specs.Prelude.{ℕ, ◌≡◌, ◌⊎◌, None, List}
 use Rattle.two_deques.specs.declared.spot.Spot.{Spot}
-use Rattle.worker_turns.specs.Words.{Entry}
+use Rattle.worker_crew.specs.Words.{Entry}
 use Rattle.worker_turns.specs.declared.found.Tried.{Tried}
 use Rattle.worker_turns.specs.declared.found.Tried.TheVariants.{Ran}
 use Rattle.worker_turns.specs.declared.trapped.Trapped.{Trapped}
 use Rattle.worker_turns.specs.declared.trapped.Trapped.TheVariants.{Left, Piece, Launched, Nothing}
-use Rattle.worker_turns.specs.Passes.{PassSeen, staying, losing, winning, IsLeft, IsDue}
-use Rattle.worker_turns.specs.Workers.{MeSeen}
+use Rattle.worker_crew.specs.Passes.{PassSeen, staying, losing, winning, IsLeft, IsDue}
+use Rattle.worker_crew.specs.Workers.{MeSeen}
 use Rattle.worker_turns.specs.Pieces.{NotRan, IsOwnPiece, IsOtherPiece}
 use Rattle.worker_turns.specs.Launches.{Launches}
 

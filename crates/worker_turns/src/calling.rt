@@ -1,27 +1,25 @@
 //! A call, from its post to its receipt.
 ghost use Rattle.std.specs.Prelude.{◌≡◌, ◌≤◌, ◌+◌, Some, [], ◌∷◌, ◌++◌, IfOk, IfErr};
-ghost use Rattle.worker_turns.specs.Words.{Got};
+ghost use Rattle.worker_crew.specs.Words.{Got};
 ghost use Rattle.piece_board.specs.Boards.{desk_view};
 ghost use Rattle.two_deques.specs.Hands.{held};
-ghost use Rattle.worker_turns.specs.declared.step.Step.TheVariants as Steps;
-ghost use Rattle.worker_turns.specs.Passes.{IsFree, IsFront};
+ghost use Rattle.worker_crew.specs.declared.step.Step.TheVariants as Steps;
+ghost use Rattle.worker_crew.specs.Passes.{IsFree, IsFront};
 ghost use Rattle.worker_turns.specs.Callings.{IsCallDue, IsServedAs};
-ghost use Rattle.worker_turns.specs.Workers.{IsMeOf};
+ghost use Rattle.worker_crew.specs.Workers.{IsMeOf};
 ghost use Rattle.worker_turns.specs.Launches.{IsStop};
 ghost use Rattle.worker_turns.specs.Trapped.{IsJobSame};
 ghost use Rattle.worker_turns.specs.Free.{Helps};
 
-use crate::crew::{Crew, Me, Stop};
 use crate::rest::rest_after;
-use crate::step::Step;
-use crate::table::Table;
 use crate::trapped::{Trapped, trapped_turn};
-use core_model::Receipt;
 use bt_io::{Pause, Point};
+use core_model::Receipt;
 use crossbeam_utils::Backoff;
 use seq_objects::Op;
 use std::alloc::Global;
 use std::sync::Wait;
+use worker_crew::{Crew, Me, Step, Stop, Table};
 
 /// The receipt of a call, and how many batches there were when it had just been posted.
 #[derive(Clone, Copy)]

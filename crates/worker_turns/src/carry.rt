@@ -1,21 +1,19 @@
 //! How a claimed node is carried on.
 ghost use Rattle.std.specs.Prelude.{◌≡◌, Some, [], IfOk, IfErr};
-ghost use Rattle.worker_turns.specs.Words.{Idle};
+ghost use Rattle.worker_crew.specs.Words.{Idle};
 ghost use Rattle.piece_board.specs.Boards.{desk_view};
-ghost use Rattle.worker_turns.specs.Passes.{IsFree};
-ghost use Rattle.worker_turns.specs.Workers.{me_seen, IsMeOf};
+ghost use Rattle.worker_crew.specs.Passes.{IsFree};
+ghost use Rattle.worker_crew.specs.Workers.{me_seen, IsMeOf};
 ghost use Rattle.worker_turns.specs.Launches.{IsStop};
 ghost use Rattle.worker_turns.specs.Free.{Carried};
 
 use crate::calling::call;
-use crate::crew::{Crew, Me, Stop};
-use crate::step::Step;
-use crate::table::Table;
 use bt_io::{Pause, Point};
 use seq_objects::value;
 use seq_objects::work::spin;
 use std::alloc::Global;
 use std::sync::Wait;
+use worker_crew::{Crew, Me, Step, Stop, Table};
 
 /// Makes one step of the task.
 fn make_step<T: Table, G: Pause, R: Wait>(

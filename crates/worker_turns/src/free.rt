@@ -1,22 +1,21 @@
 //! The turn of a free worker.
 ghost use Rattle.std.specs.Prelude.{◌≡◌, [], IfOk, IfErr};
-ghost use Rattle.worker_turns.specs.Words.{Idle};
+ghost use Rattle.worker_crew.specs.Words.{Idle};
 ghost use Rattle.piece_board.specs.Boards.{desk_view};
-ghost use Rattle.worker_turns.specs.declared.crew.Stop.TheVariants.{Memory};
-ghost use Rattle.worker_turns.specs.Passes.{IsFree};
-ghost use Rattle.worker_turns.specs.Workers.{me_seen, IsMeOf};
+ghost use Rattle.worker_crew.specs.declared.crew.Stop.TheVariants.{Memory};
+ghost use Rattle.worker_crew.specs.Passes.{IsFree};
+ghost use Rattle.worker_crew.specs.Workers.{me_seen, IsMeOf};
 ghost use Rattle.worker_turns.specs.Launches.{IsStop};
 ghost use Rattle.worker_turns.specs.Free.{node_of, pass_after, IsOwnNode, IsOther, IsFreeTurn};
 
 use crate::carry::carry_on;
-use crate::crew::{Crew, Me, Stop};
 use crate::found::{Found, Other, Tried};
 use crate::pieces::{own_piece, run_found};
-use crate::table::Table;
 use bt_io::Pause;
 use std::alloc::Global;
 use std::sync::Wait;
 use two_deques::Deck;
+use worker_crew::{Crew, Me, Stop, Table};
 
 /// What a free worker's turn did.
 #[derive(Clone, Copy)]

@@ -2,23 +2,22 @@
 ghost use Rattle.std.specs.Prelude.{◌≡◌, ◌≢◌, true, [], Some, IfOk, IfErr};
 ghost use Rattle.launch_batch.specs.Calls.{MayServe};
 ghost use Rattle.piece_board.specs.Boards.{desk_view};
-ghost use Rattle.worker_turns.specs.declared.crew.Stop.TheVariants.{Memory};
-ghost use Rattle.worker_turns.specs.Holds.{new_hold, AreFit, workers_in};
-ghost use Rattle.worker_turns.specs.Passes.{is_trapped, Holds, IsHeld};
-ghost use Rattle.worker_turns.specs.Workers.{me_seen, IsMeOf};
+ghost use Rattle.worker_crew.specs.declared.crew.Stop.TheVariants.{Memory};
+ghost use Rattle.worker_crew.specs.Holds.{new_hold, AreFit, workers_in};
+ghost use Rattle.worker_crew.specs.Passes.{is_trapped, Holds, IsHeld};
+ghost use Rattle.worker_crew.specs.Workers.{me_seen, IsMeOf};
 ghost use Rattle.worker_turns.specs.Launches.{Launches, IsStop};
 ghost use Rattle.worker_turns.specs.Code.Serving.{looked, taken_hold, answered_all, IsNewHold, IsAnswerable, ServesBatch};
 
-use crate::crew::{Crew, Me, Stop};
 use crate::pieces::serve_pieces;
-use crate::table::Table;
 use batch_history::Entry;
-use core_model::Receipt;
 use bt_io::Pause;
+use core_model::Receipt;
 use launch_batch::Shop;
 use seq_objects::Call;
 use std::alloc::Global;
 use std::sync::Wait;
+use worker_crew::{Crew, Me, Stop, Table};
 
 /// Looks at each worker once, and takes the calls that are pending.
 fn take_all<T: Table>(

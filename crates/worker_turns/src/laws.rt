@@ -1,15 +1,13 @@
 //! What the answers of the turns mean, each law as the contract of a function that does nothing. The clauses of the turns
 //! say each answer as a path, from what was seen of the worker before to what is seen after; the laws read the counts and
 //! lists that rose, and what stayed as it was, off these paths.
-ghost use Rattle.worker_turns.specs.Workers.{me_seen, IsMeOf};
+ghost use Rattle.worker_crew.specs.Workers.{me_seen, IsMeOf};
 ghost use Rattle.worker_turns.specs.Meanings.Gains.{HasAllEnds};
 
-use crate::crew::{Crew, Me};
-use crate::table::Table;
+use worker_crew::{Crew, Me, Table};
 
 pub mod free;
 pub mod launches;
-pub mod seats;
 pub mod stays;
 pub mod trapped;
 

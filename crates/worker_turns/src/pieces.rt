@@ -2,18 +2,17 @@
 ghost use Rattle.std.specs.Prelude.{◌≡◌, ◌≢◌, ◌<◌, IfOk, IfErr, IfSome, IfNone};
 ghost use Rattle.piece_board.specs.Boards.{desk_view, IsDeskOf};
 ghost use Rattle.two_deques.specs.Hands.{held, workers_of, IsHandOf};
-ghost use Rattle.worker_turns.specs.declared.crew.Stop.TheVariants.{Memory};
-ghost use Rattle.worker_turns.specs.Workers.{me_seen, IsMeOf};
+ghost use Rattle.worker_crew.specs.declared.crew.Stop.TheVariants.{Memory};
+ghost use Rattle.worker_crew.specs.Workers.{me_seen, IsMeOf};
 ghost use Rattle.worker_turns.specs.Pieces.{spot_of, desk_after, piece_try, after_piece_try, IsOwnPiece, IsOtherPiece};
 
-use crate::crew::{Crew, Me, Stop};
 use crate::found::Tried;
-use crate::table::Table;
 use bt_io::{Pause, Point};
 use launch_batch::run_piece;
 use std::alloc::Global;
 use std::sync::Wait;
 use two_deques::{Deck, Spot, Tries};
+use worker_crew::{Crew, Me, Stop, Table};
 
 mod serving;
 

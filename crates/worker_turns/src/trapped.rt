@@ -2,21 +2,20 @@
 ghost use Rattle.std.specs.Prelude.{◌≡◌, [], IfOk, IfErr};
 ghost use Rattle.piece_board.specs.Boards.{desk_view};
 ghost use Rattle.two_deques.specs.Hands.{held};
-ghost use Rattle.worker_turns.specs.Passes.{IsTrapped};
-ghost use Rattle.worker_turns.specs.Workers.{me_seen, IsMeOf};
+ghost use Rattle.worker_crew.specs.Passes.{IsTrapped};
+ghost use Rattle.worker_crew.specs.Workers.{me_seen, IsMeOf};
 ghost use Rattle.worker_turns.specs.Launches.{IsStop};
 ghost use Rattle.worker_turns.specs.Trapped.{IsTrappedTurn, StaysTrapped};
 ghost use Rattle.worker_turns.specs.Free.{Helps};
 
-use crate::crew::{Crew, Me, Stop};
 use crate::found::Tried;
 use crate::launching::launch;
 use crate::pieces::{other_piece, own_piece};
-use crate::table::Table;
-use core_model::Receipt;
 use bt_io::{Pause, Point};
+use core_model::Receipt;
 use std::alloc::Global;
 use std::sync::Wait;
+use worker_crew::{Crew, Me, Stop, Table};
 
 /// What a trapped worker's turn did.
 #[derive(Clone, Copy)]

@@ -1,16 +1,15 @@
 //! The loop of one worker.
 ghost use Rattle.std.specs.Prelude.{◌≡◌, ◌⊎◌, true, false};
-ghost use Rattle.worker_turns.specs.Workers.{IsReady};
+ghost use Rattle.worker_crew.specs.Workers.{IsReady};
 ghost use Rattle.worker_turns.specs.Launches.{KnowsStop};
 
-use crate::crew::{Crew, Me, Stop};
 use crate::free::{Did, free_turn};
 use crate::rest::rest_after;
-use crate::table::Table;
 use bt_io::Pause;
 use crossbeam_utils::Backoff;
 use std::alloc::Global;
 use std::sync::Wait;
+use worker_crew::{Crew, Me, Stop, Table};
 
 /// One turn of a worker, and its rest. The answer is whether it goes on. Where memory ran out in the turn it sets the
 /// stop word, for the others.

@@ -1,9 +1,9 @@
 -- One step after another of a task that is carried on.
 use Rattle.std.proofs.Common.{◌≡◌, ℕ, ◌+◌, List, [], ◌++◌, length, sym, refl, ap, ◌∙◌, arith, append_assoc, append-nil, length-append}
 use Rattle.two_deques.specs.Ends.{HeldEnds}
-use Rattle.worker_turns.specs.Words.{Task, CallState}
-use Rattle.worker_turns.specs.Passes.{PassSeen, IsFront}
-use Rattle.worker_turns.specs.Workers.{MeSeen}
+use Rattle.worker_crew.specs.Words.{Task, CallState}
+use Rattle.worker_crew.specs.Passes.{PassSeen, IsFront}
+use Rattle.worker_crew.specs.Workers.{MeSeen}
 use Rattle.worker_turns.specs.Pieces.{Desk, Works}
 use Rattle.worker_turns.specs.Trapped.{IsJobSame}
 use Rattle.worker_turns.specs.Free.{Helps, Carried}

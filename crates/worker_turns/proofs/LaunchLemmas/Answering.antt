@@ -2,9 +2,9 @@
 use Rattle.std.proofs.Common.{◌≡◌, ℕ, zero, suc, ◌+◌, ◌<◌, Option, None, Some, List, [], ◌∷◌, ◌++◌, length, take, get_or, sym, refl, ap, ◌∙◌, subst, arith}
 use Rattle.std.specs.Prelude.{slice_get}
 use Rattle.std.proofs.lemmas.List.{take_more, length-map}
-use Rattle.worker_turns.specs.Words.{Entry, Receipt}
-use Rattle.worker_turns.specs.Holds.{HoldSeen, workers_in, IsAnswerDue, after_answer}
-use Rattle.worker_turns.specs.Passes.{PassSeen, Holds, IsHeld, in_hold, answering}
+use Rattle.worker_crew.specs.Words.{Entry, Receipt}
+use Rattle.worker_crew.specs.Holds.{HoldSeen, workers_in, IsAnswerDue, after_answer}
+use Rattle.worker_crew.specs.Passes.{PassSeen, Holds, IsHeld, in_hold, answering}
 use Rattle.worker_turns.specs.Code.Serving.{after_answers, answered_all, IsAnswerable}
 use Rattle.worker_turns.proofs.PieceLemmas.Collecting.{map_at}
 

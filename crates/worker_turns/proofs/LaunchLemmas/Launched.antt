@@ -1,10 +1,10 @@
 -- The release of a launch, and what it leaves.
 use Rattle.std.proofs.Common.{◌≡◌, ◌≢◌, ℕ, true, None, Some, List, [], inl, inr, sym, refl, ap, ◌∙◌, subst, arith, append-nil}
-use Rattle.worker_turns.specs.Words.{Call, Entry}
+use Rattle.worker_crew.specs.Words.{Call, Entry}
 use Rattle.launch_batch.specs.Calls.{MayServe}
-use Rattle.worker_turns.specs.Holds.{HoldSeen, new_hold, AreFit, IsReleaseDue}
-use Rattle.worker_turns.specs.Passes.{PassSeen, Holds, IsHeld, is_trapped, in_hold, releasing}
-use Rattle.worker_turns.specs.Workers.{MeSeen}
+use Rattle.worker_crew.specs.Holds.{HoldSeen, new_hold, AreFit, IsReleaseDue}
+use Rattle.worker_crew.specs.Passes.{PassSeen, Holds, IsHeld, is_trapped, in_hold, releasing}
+use Rattle.worker_crew.specs.Workers.{MeSeen}
 use Rattle.worker_turns.specs.Launches.{Launches}
 use Rattle.worker_turns.specs.Code.Serving.{after_looks, looked, taken_hold, served_hold, ServesBatch}
 

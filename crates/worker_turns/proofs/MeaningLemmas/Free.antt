@@ -8,8 +8,8 @@ use Rattle.worker_turns.specs.declared.found.Found.TheVariants.{Claimed, Refused
 use Rattle.worker_turns.specs.declared.found.Other.{Other}
 use Rattle.worker_turns.specs.declared.found.Other.TheVariants.{Alone, Node, Piece}
 use Rattle.worker_turns.specs.declared.free.Did.TheVariants as did
-use Rattle.worker_turns.specs.Passes.{PassSeen}
-use Rattle.worker_turns.specs.Workers.{MeSeen}
+use Rattle.worker_crew.specs.Passes.{PassSeen}
+use Rattle.worker_crew.specs.Workers.{MeSeen}
 use Rattle.worker_turns.specs.Pieces.{IsOwnPiece, IsSteal}
 use Rattle.worker_turns.specs.Free.{IsOwnNode, IsOther, GaveNothing, Carried, IsFreeTurn}
 use Rattle.worker_turns.specs.Meanings.Gains.{Took, Gained, HasAllEnds}

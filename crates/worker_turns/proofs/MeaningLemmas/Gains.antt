@@ -11,7 +11,7 @@ use Rattle.two_deques.specs.Hands.{held, workers_of, IsHandOf}
 use Rattle.two_deques.specs.Tries.{TriesView, try_of, after_try}
 use Rattle.piece_board.specs.declared.view.DeskView.{DeskView}
 use Rattle.launch_batch.specs.declared.piece.PieceIn.{PieceIn}
-use Rattle.worker_turns.specs.Passes.{PassSeen}
+use Rattle.worker_crew.specs.Passes.{PassSeen}
 use Rattle.worker_turns.specs.Pieces.{IsPop, IsSteal, by_deck, piece_try}
 use Rattle.worker_turns.specs.Meanings.Gains.{Took, HasAllEnds, FruitlessRose}
 

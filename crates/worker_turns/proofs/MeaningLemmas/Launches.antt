@@ -2,11 +2,11 @@
 use Rattle.std.proofs.Common.{◌≡◌, ℕ, ◌+◌, ◌⊎◌, List, [], ◌++◌, length, refl, ap, ◌∙◌, subst, inl, inr, arith, append-nil}
 use Rattle.two_deques.specs.declared.spot.Spot.{Spot}
 use Rattle.two_deques.specs.Ends.{HeldEnds}
-use Rattle.worker_turns.specs.Words.{Entry}
+use Rattle.worker_crew.specs.Words.{Entry}
 use Rattle.worker_turns.specs.declared.trapped.Trapped.TheVariants.{Launched}
-use Rattle.worker_turns.specs.Passes.{PassSeen}
-use Rattle.worker_turns.specs.Holds.{HoldSeen, TookNone, ServedAll}
-use Rattle.worker_turns.specs.Workers.{MeSeen}
+use Rattle.worker_crew.specs.Passes.{PassSeen}
+use Rattle.worker_crew.specs.Holds.{HoldSeen, TookNone, ServedAll}
+use Rattle.worker_crew.specs.Workers.{MeSeen}
 use Rattle.worker_turns.specs.Pieces.{Desk, spot_of}
 use Rattle.worker_turns.specs.Launches.{Serves, ArePlaces, Launches}
 use Rattle.worker_turns.specs.Trapped.{IsTrappedTurn, won_after}

@@ -1,6 +1,6 @@
 -- What is read off the paths of what a turn, or a launch, leaves as it was.
 use Rattle.std.proofs.Common.{◌≡◌, ℕ, ◌+◌, true, Option, None, Some, List, [], ◌∷◌, ◌++◌, sym, refl, ap, ◌∙◌, subst, inl, inr}
-use Rattle.worker_turns.specs.Words.{Entry, Receipt, CallState, Got}
+use Rattle.worker_crew.specs.Words.{Entry, Receipt, CallState, Got}
 use Rattle.worker_turns.specs.declared.found.Tried.{Tried}
 use Rattle.worker_turns.specs.declared.found.Tried.TheVariants.{Ran, Dropped, Dry}
 use Rattle.worker_turns.specs.declared.found.Other.{Other}
@@ -11,9 +11,9 @@ use Rattle.worker_turns.specs.declared.trapped.Trapped.{Trapped}
 use Rattle.worker_turns.specs.declared.trapped.Trapped.TheVariants.{Left, Piece, Launched, Nothing}
 use Rattle.worker_turns.specs.declared.free.Did.{Did}
 use Rattle.worker_turns.specs.declared.free.Did.TheVariants as did
-use Rattle.worker_turns.specs.Holds.{HoldSeen}
-use Rattle.worker_turns.specs.Passes.{PassSeen, is_trapped, IsTrapped, leaving, losing, staying, winning}
-use Rattle.worker_turns.specs.Workers.{MeSeen}
+use Rattle.worker_crew.specs.Holds.{HoldSeen}
+use Rattle.worker_crew.specs.Passes.{PassSeen, is_trapped, IsTrapped, leaving, losing, staying, winning}
+use Rattle.worker_crew.specs.Workers.{MeSeen}
 use Rattle.worker_turns.specs.Pieces.{Desk, desk_after, NotRan, IsOwnPiece, IsOtherPiece}
 use Rattle.worker_turns.specs.Launches.{Serves, Launches}
 use Rattle.worker_turns.specs.Trapped.{IsTrappedTurn, IsJobSame, refused_both}

@@ -3,12 +3,12 @@ use Rattle.std.proofs.Common.{◌≡◌, ℕ, ◌<◌, Some, List, [], ◌∷◌
 use Rattle.std.proofs.lemmas.List.{map-append}
 use Rattle.two_deques.specs.declared.spot.Spot.{Spot}
 use Rattle.two_deques.specs.Ends.{HeldEnds, risen}
-use Rattle.worker_turns.specs.Words.{Receipt}
+use Rattle.worker_crew.specs.Words.{Receipt}
 use Rattle.worker_turns.specs.declared.found.Tried.{Tried}
 use Rattle.worker_turns.specs.declared.found.Tried.TheVariants.{Ran, Dropped, Dry}
 use Rattle.worker_turns.specs.declared.trapped.Trapped.TheVariants.{Left, Piece, Nothing}
-use Rattle.worker_turns.specs.Passes.{PassSeen, IsLeft}
-use Rattle.worker_turns.specs.Workers.{MeSeen}
+use Rattle.worker_crew.specs.Passes.{PassSeen, IsLeft}
+use Rattle.worker_crew.specs.Workers.{MeSeen}
 use Rattle.worker_turns.specs.Pieces.{Desk, spot_of, desk_after, NotRan, IsPop, IsOwnPiece, IsOtherPiece}
 use Rattle.worker_turns.specs.Trapped.{IsTrappedTurn, refused_both}
 use Rattle.worker_turns.specs.Meanings.Gains.{GrewBy, on_board, Gained, next_victim, HasEachEnd, HasAllEnds}

@@ -1,6 +1,6 @@
 -- The pieces are posted one by one, at ascending places.
-use Rattle.std.proofs.Common.{◌≡◌, ℕ, zero, suc, ◌+◌, ◌<◌, None, List, [], ◌∷◌, ◌++◌, length, map, take, drop, get_or, sym, refl, ap, ◌∙◌, subst, arith}
-use Rattle.std.proofs.lemmas.List.{take_more, map-append, drop-drop, get_or-drop}
+use Rattle.std.proofs.Common.{◌≡◌, ℕ, zero, suc, ◌+◌, ◌<◌, None, List, [], ◌∷◌, ◌++◌, length, map, take, get_or, sym, refl, ap, ◌∙◌, subst, arith}
+use Rattle.std.proofs.lemmas.List.{take_more, map-append}
 use Rattle.std.proofs.lemmas.Bool.Decides.{nat_tests}
 use Rattle.std.specs.List.{AllByRecursion}
 use Rattle.seq_objects.specs.Orders.{StrictlyAscends}
@@ -36,9 +36,3 @@ module _ {X : Type 0} where
   more_mapped g xs before after k x inside at was now =
       let more : take (k + 1) xs ≡ take k xs ++ x ∷ [] = take_more xs k x inside ∙ ap (λ y. take k xs ++ y ∷ []) (sym at) in
       now ∙ ap (λ l. l ++ g x ∷ []) was ∙ sym (ap (map g) more ∙ map-append g (take k xs) (x ∷ []))
-
-  pub left_then : (all left rest : List X) (k : ℕ) → left ≡ drop k all → rest ≡ take 0 left ++ drop (0 + 1) left → rest ≡ drop (k + 1) all
-  left_then all left rest k is taken = taken ∙ ap (λ l. drop 1 l) is ∙ drop-drop 1 k all ∙ ap (λ (j : ℕ). drop j all) (omega arith)
-
-  pub next_of : (all left : List X) (k : ℕ) (x : X) → left ≡ drop k all → x ≡ get_or left 0 x → x ≡ get_or all k x
-  next_of all left k x is at = at ∙ ap (λ l. get_or l 0 x) is ∙ get_or-drop k all 0 x ∙ ap (λ (j : ℕ). get_or all j x) (omega arith)

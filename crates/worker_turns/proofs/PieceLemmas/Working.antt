@@ -10,7 +10,7 @@ use Rattle.launch_batch.specs.declared.piece.PieceIn.{PieceIn}
 use Rattle.worker_turns.specs.declared.found.Tried.{Tried}
 use Rattle.worker_turns.specs.declared.found.Tried.TheVariants.{Ran, Dropped, Dry}
 use Rattle.launch_batch.specs.Pieces.{place_of}
-use Rattle.worker_turns.specs.Workers.{MeSeen}
+use Rattle.worker_crew.specs.Workers.{MeSeen}
 use Rattle.worker_turns.specs.Pieces.{IsOwnPiece, IsOtherPiece, Desk, with_place, after_posts, after_run, desk_after, after_works, Works}
 
 -- the first entry is gone

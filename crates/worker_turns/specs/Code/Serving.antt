@@ -1,11 +1,11 @@
 -- The hold in the course of a launch.
 use Rattle.std.specs.Prelude.{ℕ, ◌≡◌, true, Some, List, [], ◌∷◌, ◌++◌, length}
 use Rattle.seq_objects.specs.declared.call.Call.{Call}
-use Rattle.worker_turns.specs.Words.{Entry}
+use Rattle.worker_crew.specs.Words.{Entry}
 use Rattle.launch_batch.specs.Calls.{IsServiceOf}
-use Rattle.worker_turns.specs.Holds.{HoldSeen, new_hold, workers_in, IsPublished}
-use Rattle.worker_turns.specs.Passes.{PassSeen, in_hold}
-use Rattle.worker_turns.specs.Workers.{MeSeen}
+use Rattle.worker_crew.specs.Holds.{HoldSeen, new_hold, workers_in, IsPublished}
+use Rattle.worker_crew.specs.Passes.{PassSeen, in_hold}
+use Rattle.worker_crew.specs.Workers.{MeSeen}
 use Rattle.worker_turns.specs.Launches.{Serves, ArePlaces}
 
 -- the flag was just won

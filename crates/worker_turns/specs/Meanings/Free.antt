@@ -5,8 +5,8 @@ use Rattle.two_deques.specs.declared.tries.Deck.{Deck}
 use Rattle.two_deques.specs.declared.tries.Deck.TheVariants.{CoreDeck, BatchDeck}
 use Rattle.two_deques.specs.Ends.{HeldEnds}
 use Rattle.two_deques.specs.Tries.{try_of}
-use Rattle.worker_turns.specs.Passes.{PassSeen}
-use Rattle.worker_turns.specs.Workers.{MeSeen}
+use Rattle.worker_crew.specs.Passes.{PassSeen}
+use Rattle.worker_crew.specs.Workers.{MeSeen}
 use Rattle.worker_turns.specs.Meanings.Gains.{GrewBy, on_board, EmptyPopsRose, FruitlessRose, Took, Gained, GainedNone}
 
 -- the worker at one of whose deques the next steal is tried

@@ -1,11 +1,11 @@
 -- What a turn, or a launch, leaves as it was.
 use Rattle.std.specs.Prelude.{◌≡◌}
-use Rattle.worker_turns.specs.Words.{Receipt, Got}
+use Rattle.worker_crew.specs.Words.{Receipt, Got}
 use Rattle.worker_turns.specs.declared.trapped.Trapped.{Trapped}
 use Rattle.worker_turns.specs.declared.trapped.Trapped.TheVariants.{Left, Piece, Launched, Nothing}
-use Rattle.worker_turns.specs.Passes.{PassSeen, IsFree, IsTrapped}
+use Rattle.worker_crew.specs.Passes.{PassSeen, IsFree, IsTrapped}
 use Rattle.worker_turns.specs.Pieces.{Desk}
-use Rattle.worker_turns.specs.Workers.{MeSeen}
+use Rattle.worker_crew.specs.Workers.{MeSeen}
 use Rattle.worker_turns.specs.Trapped.{IsJobSame, IsCallSame}
 
 -- the numbers of batches that the pass was told are as they were

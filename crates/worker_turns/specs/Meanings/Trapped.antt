@@ -2,9 +2,9 @@
 use Rattle.std.specs.Prelude.{◌≡◌, ◌+◌, ◌⊎◌, List, [], ◌∷◌, ◌++◌, map}
 use Rattle.two_deques.specs.declared.spot.Spot.{Spot}
 use Rattle.two_deques.specs.Ends.{HeldEnds}
-use Rattle.worker_turns.specs.Words.{Receipt}
-use Rattle.worker_turns.specs.Passes.{PassSeen, IsLeft}
-use Rattle.worker_turns.specs.Workers.{MeSeen}
+use Rattle.worker_crew.specs.Words.{Receipt}
+use Rattle.worker_crew.specs.Passes.{PassSeen, IsLeft}
+use Rattle.worker_crew.specs.Workers.{MeSeen}
 use Rattle.worker_turns.specs.Meanings.Gains.{GrewBy, on_board, EmptyPopsRose, FruitlessRose, Gained, next_victim}
 
 -- The own deque of pieces gave none that could be run: its pops that gave nothing rose, or the own list lost its last spot,

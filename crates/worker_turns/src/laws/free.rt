@@ -1,6 +1,6 @@
 //! What the answers of a free worker's turn mean.
 ghost use Rattle.worker_turns.specs.declared.free.Did.TheVariants as Answers;
-ghost use Rattle.worker_turns.specs.Workers.{MeSeen};
+ghost use Rattle.worker_crew.specs.Workers.{MeSeen};
 ghost use Rattle.worker_turns.specs.Free.{IsFreeTurn};
 ghost use Rattle.worker_turns.specs.Meanings.Gains.{HasAllEnds};
 ghost use Rattle.worker_turns.specs.Meanings.Free.{DidRun, DidRunPiece, DidFindNothing};

@@ -1,7 +1,7 @@
 //! What a launch means.
 ghost use Rattle.std.specs.Prelude.{ℕ, List};
 ghost use Rattle.batch_history.specs.declared.batch.Entry.{Entry};
-ghost use Rattle.worker_turns.specs.Workers.{MeSeen};
+ghost use Rattle.worker_crew.specs.Workers.{MeSeen};
 ghost use Rattle.worker_turns.specs.Launches.{Launches};
 ghost use Rattle.worker_turns.specs.Meanings.Launches.{HasLaunched};
 

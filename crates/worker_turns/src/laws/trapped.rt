@@ -2,7 +2,7 @@
 ghost use Rattle.std.specs.Prelude.{ℕ};
 ghost use Rattle.core_model.specs.declared.status.Receipt.{Receipt};
 ghost use Rattle.worker_turns.specs.declared.trapped.Trapped.TheVariants as Answers;
-ghost use Rattle.worker_turns.specs.Workers.{MeSeen};
+ghost use Rattle.worker_crew.specs.Workers.{MeSeen};
 ghost use Rattle.worker_turns.specs.Trapped.{IsTrappedTurn};
 ghost use Rattle.worker_turns.specs.Meanings.Gains.{HasAllEnds};
 ghost use Rattle.worker_turns.specs.Meanings.Trapped.{DidNothing, DidLeave, DidPiece};

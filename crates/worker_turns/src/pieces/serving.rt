@@ -7,22 +7,21 @@ ghost use Rattle.launch_batch.specs.declared.piece.PieceIn.{PieceIn as Input};
 ghost use Rattle.launch_batch.specs.Pieces.{place_of, Meets};
 ghost use Rattle.piece_board.specs.Boards.{desk_view};
 ghost use Rattle.two_deques.specs.Hands.{held};
-ghost use Rattle.worker_turns.specs.declared.crew.Stop.TheVariants.{Memory};
-ghost use Rattle.worker_turns.specs.Workers.{IsMeOf};
+ghost use Rattle.worker_crew.specs.declared.crew.Stop.TheVariants.{Memory};
+ghost use Rattle.worker_crew.specs.Workers.{IsMeOf};
 ghost use Rattle.worker_turns.specs.Pieces.{Works, after_posts, with_place};
 ghost use Rattle.worker_turns.specs.Launches.{Serves, IsStop};
 
-use crate::crew::{Crew, Me, Stop};
 use crate::found::Tried;
 use crate::pieces::{other_piece, own_piece};
 use crate::rest::rest_after;
-use crate::table::Table;
 use bt_io::Pause;
 use crossbeam_utils::Backoff;
 use launch_batch::{PieceIn, PieceOut};
 use std::alloc::Global;
 use std::sync::Wait;
 use two_deques::Spot;
+use worker_crew::{Crew, Me, Stop, Table};
 
 /// Posts each piece at its place of the own row, and pushes its spot on the own deque of pieces. The answer is the
 /// places.

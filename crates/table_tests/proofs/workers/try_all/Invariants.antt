@@ -1,4 +1,4 @@
-use Rattle.worker_turns.specs.Workers.{IsReady}
+use Rattle.worker_crew.specs.Workers.{IsReady}
 use Rattle.table_tests.proofs.workers.try_all.Given as goal
 
 abbrev pub invariant-loop-node : goal.invariant-loop-node

@@ -1,7 +1,7 @@
 use Rattle.std.proofs.Common.{◌≡◌, []}
 use Rattle.piece_board.specs.Boards.{desk_view}
-use Rattle.worker_turns.specs.Passes.{IsFree}
-use Rattle.worker_turns.specs.Workers.{IsMeOf}
+use Rattle.worker_crew.specs.Passes.{IsFree}
+use Rattle.worker_crew.specs.Workers.{IsMeOf}
 use Rattle.table_tests.proofs.workers.try_node.Given as goal
 
 abbrev pub invariant-loop : goal.invariant-loop

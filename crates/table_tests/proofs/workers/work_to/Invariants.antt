@@ -1,4 +1,4 @@
-use Rattle.worker_turns.specs.Workers.{IsReady}
+use Rattle.worker_crew.specs.Workers.{IsReady}
 use Rattle.table_tests.proofs.workers.work_to.Given as goal
 
 abbrev pub invariant-loop : goal.invariant-loop

@@ -1,10 +1,10 @@
 use Rattle.std.proofs.Common.{◌≡◌, Some, []}
 use Rattle.two_deques.specs.Hands.{held}
 use Rattle.piece_board.specs.Boards.{desk_view}
-use Rattle.worker_turns.specs.declared.step.Step.TheVariants as steps
-use Rattle.worker_turns.specs.Words.{Op}
-use Rattle.worker_turns.specs.Passes.{IsTrapped}
-use Rattle.worker_turns.specs.Workers.{IsMeOf}
+use Rattle.worker_crew.specs.declared.step.Step.TheVariants as steps
+use Rattle.worker_crew.specs.Words.{Op}
+use Rattle.worker_crew.specs.Passes.{IsTrapped}
+use Rattle.worker_crew.specs.Workers.{IsMeOf}
 use Rattle.worker_turns.specs.Trapped.{IsJobSame}
 use Rattle.worker_turns.specs.Free.{Helps}
 use Rattle.worker_turns.proofs.calling.call.Given as goal

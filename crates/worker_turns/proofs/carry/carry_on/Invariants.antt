@@ -1,7 +1,7 @@
 use Rattle.std.proofs.Common.{◌≡◌, []}
 use Rattle.piece_board.specs.Boards.{desk_view}
-use Rattle.worker_turns.specs.Passes.{IsFree}
-use Rattle.worker_turns.specs.Workers.{IsMeOf, me_seen}
+use Rattle.worker_crew.specs.Passes.{IsFree}
+use Rattle.worker_crew.specs.Workers.{IsMeOf, me_seen}
 use Rattle.worker_turns.specs.Free.{Carried}
 use Rattle.worker_turns.proofs.carry.carry_on.Given as goal
 

@@ -1,8 +1,8 @@
 use Rattle.std.proofs.Common.{rules, subst, inr}
 use Rattle.worker_turns.specs.declared.found.Tried.{Tried}
 use Rattle.worker_turns.specs.declared.found.Found.TheVariants.{NoNode}
-use Rattle.worker_turns.specs.Passes.{PassSeen}
-use Rattle.worker_turns.specs.Workers.{me_seen}
+use Rattle.worker_crew.specs.Passes.{PassSeen}
+use Rattle.worker_crew.specs.Workers.{me_seen}
 use Rattle.worker_turns.specs.Pieces.{IsOwnPiece}
 use Rattle.worker_turns.specs.Free.{IsOwnNode}
 use Rattle.worker_turns.proofs.free.free_turn.Goals as goal

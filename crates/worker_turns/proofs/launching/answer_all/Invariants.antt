@@ -1,5 +1,5 @@
 use Rattle.std.proofs.Common.{◌≡◌, ◌≤◌, length, take}
-use Rattle.worker_turns.specs.Holds.{workers_in}
+use Rattle.worker_crew.specs.Holds.{workers_in}
 use Rattle.worker_turns.specs.Code.Serving.{answered_all}
 use Rattle.worker_turns.proofs.launching.answer_all.Given as goal
 

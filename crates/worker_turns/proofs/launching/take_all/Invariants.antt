@@ -1,6 +1,6 @@
 use Rattle.std.proofs.Common.{◌≡◌, ◌≤◌}
-use Rattle.worker_turns.specs.Holds.{AreFit}
-use Rattle.worker_turns.specs.Passes.{Holds}
+use Rattle.worker_crew.specs.Holds.{AreFit}
+use Rattle.worker_crew.specs.Passes.{Holds}
 use Rattle.worker_turns.specs.Code.Serving.{looked}
 use Rattle.worker_turns.proofs.launching.take_all.Given as goal
 

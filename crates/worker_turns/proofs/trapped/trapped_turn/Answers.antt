@@ -1,6 +1,6 @@
 use Rattle.std.proofs.Common.{rules, ◌≡◌, subst}
-use Rattle.worker_turns.specs.Passes.{PassSeen, losing, staying}
-use Rattle.worker_turns.specs.Workers.{me_seen}
+use Rattle.worker_crew.specs.Passes.{PassSeen, losing, staying}
+use Rattle.worker_crew.specs.Workers.{me_seen}
 use Rattle.worker_turns.specs.Pieces.{IsOwnPiece, IsOtherPiece}
 use Rattle.worker_turns.proofs.PieceLemmas.Working.{own_works, other_works}
 use Rattle.worker_turns.proofs.CarryLemmas.Steps.{helps_then, helps_works}

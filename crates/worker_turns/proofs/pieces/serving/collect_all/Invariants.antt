@@ -4,7 +4,7 @@ use Rattle.piece_board.specs.Boards.{desk_view}
 use Rattle.seq_objects.specs.Pieces.{AllMeet}
 use Rattle.launch_batch.specs.declared.piece.PieceIn.{PieceIn}
 use Rattle.launch_batch.specs.Pieces.{Meets}
-use Rattle.worker_turns.specs.Workers.{IsMeOf}
+use Rattle.worker_crew.specs.Workers.{IsMeOf}
 use Rattle.worker_turns.specs.Pieces.{Works, with_place}
 use Rattle.worker_turns.proofs.pieces.serving.collect_all.Given as goal
 

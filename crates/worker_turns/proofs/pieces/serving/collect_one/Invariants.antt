@@ -1,7 +1,7 @@
 use Rattle.std.proofs.Common.{◌≡◌}
 use Rattle.two_deques.specs.Hands.{held}
 use Rattle.piece_board.specs.Boards.{desk_view}
-use Rattle.worker_turns.specs.Workers.{IsMeOf}
+use Rattle.worker_crew.specs.Workers.{IsMeOf}
 use Rattle.worker_turns.specs.Pieces.{Works}
 use Rattle.worker_turns.proofs.pieces.serving.collect_one.Given as goal
 

@@ -2,7 +2,8 @@ use Rattle.std.proofs.Common.{rules, ◌<◌, ◌∷◌, ◌++◌, [], length, a
 use Rattle.launch_batch.specs.Pieces.{place_of}
 use Rattle.piece_board.specs.Boards.{desk_view}
 use Rattle.piece_board.specs.Boards.{desk_view}
-use Rattle.worker_turns.proofs.PieceLemmas.Posting.{at_below, next_of, left_then, more_mapped}
+use Rattle.worker_turns.proofs.PieceLemmas.Posting.{at_below, more_mapped}
+use Rattle.worker_crew.proofs.OpeningLemmas.Taking.{next_of, left_then}
 use Rattle.worker_turns.proofs.PieceLemmas.Working.{posted_more, free_next}
 use Rattle.worker_turns.proofs.pieces.serving.post_all.Goals as goal
 

@@ -2,7 +2,7 @@ use Rattle.std.proofs.Common.{◌≡◌, ◌≤◌, map, take, drop, length}
 use Rattle.two_deques.specs.Hands.{held}
 use Rattle.piece_board.specs.Boards.{desk_view}
 use Rattle.launch_batch.specs.Pieces.{place_of}
-use Rattle.worker_turns.specs.Workers.{IsMeOf}
+use Rattle.worker_crew.specs.Workers.{IsMeOf}
 use Rattle.worker_turns.specs.Pieces.{after_posts}
 use Rattle.worker_turns.proofs.pieces.serving.post_all.Given as goal
 

@@ -1,0 +1,64 @@
+-- The workers are put together one by one, each of its pass, its hand, its desk and its tries.
+use Rattle.std.proofs.Common.{◌≡◌, ◌≢◌, ℕ, ◌+◌, ◌<◌, ◌==◌, List, [], ◌∷◌, ◌++◌, sym, ap, ◌∙◌, subst, arith, refl, true, false, Bool, if◌then◌else◌}
+use Rattle.std.proofs.lemmas.List.{get_or_append_left, get_or_push, length_push}
+use mathlib.Core.Logic.{dite}
+use native.Mathlib.Decide.{ℕ_discrete}
+use Rattle.two_deques.specs.declared.decks.Decks.{Decks}
+use Rattle.two_deques.specs.Hands.{Held, held, workers_of, fresh_hand, IsHandOf}
+use Rattle.two_deques.specs.Tries.{TriesView, first_tries}
+use Rattle.piece_board.specs.declared.board.Board.{Board}
+use Rattle.piece_board.specs.declared.view.DeskView.{DeskView}
+use Rattle.piece_board.specs.Boards.{desk_view, IsDeskOf}
+use Rattle.piece_board.specs.Desks.{fresh_desk}
+use Rattle.launch_batch.specs.declared.piece.PieceIn.{PieceIn}
+use Rattle.launch_batch.specs.declared.piece.PieceOut.{PieceOut}
+use Rattle.worker_crew.specs.declared.batch_pieces.BatchPieces.{BatchPieces}
+use Rattle.worker_crew.specs.declared.crew.Me.{Me}
+use Rattle.worker_crew.specs.Passes.{PassSeen}
+use Rattle.worker_crew.specs.Opening.{with_root, opening_hand, IsFreshPass, IsAtStart, AreAtStart}
+
+worker_by : (b : Bool) (h : Held) → (if b then with_root h else h).worker ≡ h.worker
+worker_by true h = refl
+worker_by false h = refl
+
+module _ {Pass : Type 0} (gave : Pass → Type 0) (seen : Pass → PassSeen) (decks : Decks)
+    (board : Board BatchPieces PieceIn PieceOut) (workers : ℕ) where
+  pub at_start : (worker : ℕ) (me : Me Pass) → gave me.pass × IsFreshPass worker (seen me.pass) → IsHandOf decks me.hand → held me.hand ≡ opening_hand worker workers
+      → IsDeskOf board me.desk → desk_view me.desk ≡ fresh_desk worker → me.tries ≡ first_tries worker workers
+      → workers_of decks ≡ workers → IsAtStart gave seen decks board workers worker me
+  at_start worker me pass hand opening desk fresh tries count =
+      let own : (held me.hand).worker ≡ worker =
+      ap (λ (h : Held). h.worker) opening ∙ worker_by (worker == 0) (fresh_hand worker workers) in record {
+        ready = record {
+          own = record {
+            pass = pass.0;
+            hand = hand;
+            desk = desk;
+            worker = pass.1.worker_is ∙ sym own;
+            row = ap (λ (d : DeskView PieceIn). d.row) fresh ∙ sym own;
+            tries = ap (λ (t : TriesView). t.worker) tries ∙ sym own;
+            workers = ap (λ (t : TriesView). t.workers) tries ∙ sym count;
+          };
+          free = pass.1.free;
+          idle = pass.1.idle;
+          row = ap (λ (d : DeskView PieceIn). d.posted) fresh;
+        };
+        hand = opening;
+        desk = fresh;
+        tries = tries;
+      }
+
+  pub one_more : (n : ℕ) (mes : List (Me Pass)) (me : Me Pass) → AreAtStart gave seen decks board workers n mes
+      → IsAtStart gave seen decks board workers n me
+      → AreAtStart gave seen decks board workers (n + 1) (mes ++ me ∷ [])
+  one_more n mes me so_far start = record {
+    count = omega (arith, length_push mes me, so_far.count);
+    each = λ w other lt at. dite (ℕ_discrete w n)
+        (λ (is : w ≡ n).
+        let same : me ≡ other = sym (at ∙ get_or_push mes me other w (so_far.count ∙ sym is)) in
+        subst (λ (q : Me Pass). IsAtStart gave seen decks board workers w q) same
+        (subst (λ (k : ℕ). IsAtStart gave seen decks board workers k me) (sym is) start))
+        (λ (ne : w ≢ n).
+        let less : w < n = omega (arith, lt, ne) in
+        so_far.each w other less (at ∙ get_or_append_left mes (me ∷ []) other w (omega (arith, so_far.count, less))));
+  }

@@ -1,0 +1,104 @@
+-- A call that is taken can be served with those that were taken before.
+use Rattle.std.proofs.Common.{ℕ, ◌≡◌, ◌≢◌, ◌<◌, ◌≤◌, ◌+◌, Option, None, Some, List, [], ◌∷◌, ◌++◌, length, map, arith, refl, sym, ap, ◌∙◌, subst, length-append}
+use Rattle.std.specs.Prelude.{option_map}
+use Rattle.std.specs.List.{AllByRecursion}
+use Rattle.seq_objects.specs.Pairs.{AreDistinct}
+use Rattle.seq_objects.proofs.Elements.{each_append, each_so}
+use Rattle.launch_batch.specs.Calls.{MayServe}
+use Rattle.launch_batch.proofs.ListLemmas.Elements.{each_mapped, map_append}
+use Rattle.batch_history.specs.Book.{flat}
+use Rattle.core_table.specs.declared.slot.OpRecord.{OpRecord}
+use Rattle.core_table.specs.declared.view.TakenCall.{TakenCall}
+use Rattle.core_table.specs.declared.view.HoldView.{HoldView}
+use Rattle.core_table.specs.Plays.{IsNewCall}
+use Rattle.core_table.specs.Views.{taken_view, passed_view}
+use Rattle.worker_crew.specs.Words.{Call, Entry}
+use Rattle.worker_crew.specs.Holds.{AreFit, StayFit}
+use Rattle.worker_crew.specs.Seats.{taken_call, hold_seen}
+use Rattle.worker_crew.proofs.SeatLemmas.Turned.{Among, all_among, distinct_last}
+use Rattle.worker_crew.proofs.SeatLemmas.Taken.{calls_taken, worker_of, record_taken}
+use Rattle.worker_crew.proofs.SeatLemmas.Books.{new_leaf}
+
+-- what calls that may be served are, and none at all too
+record AreServable (book : List (List Entry)) (calls : List Call) : Type 0 where
+  workers : AreDistinct (map (λ (c : Call). c.worker) calls)
+  below : AllByRecursion (λ (c : Call). c.worker < 32) calls
+  leaves : AreDistinct (map (λ (c : Call). c.leaf) calls)
+  new : AllByRecursion (λ leaf. AllByRecursion (λ other. leaf ≢ other) (map (λ (entry : Entry). entry.leaf) (flat book))) (map (λ (c : Call). c.leaf) calls)
+
+servable : (book : List (List Entry)) (calls : List Call) → (calls ≢ [] → MayServe book calls) → AreServable book calls
+servable book [] serve = record { workers = tt; below = tt; leaves = tt; new = tt }
+servable book (call ∷ calls) serve =
+    let may = serve (λ e. absurd (cc)) in
+    record { workers = may.workers; below = may.below; leaves = may.leaves; new = may.new }
+
+one_more : (book : List (List Entry)) (calls : List Call) (call : Call) (looks : ℕ) → AreServable book calls → AllByRecursion (λ (c : Call). c.worker < looks) calls
+    → call.worker ≡ looks → looks < 32 → AllByRecursion (λ (c : Call). c.leaf ≢ call.leaf) calls
+    → AllByRecursion (λ other. call.leaf ≢ other) (map (λ (entry : Entry). entry.leaf) (flat book))
+    → length (flat book) + length calls + 1 ≤ 20000 → MayServe book (calls ++ call ∷ [])
+one_more book calls call looks fit low is few apart new most =
+    let long = length-append calls (call ∷ []) in
+    let worker = λ (c : Call). c.worker in
+    let leaf = λ (c : Call). c.leaf in
+    record {
+      some = omega (arith, long);
+      workers = subst AreDistinct (sym (map_append worker calls (call ∷ [])))
+          (distinct_last (map worker calls) call.worker fit.workers
+          (each_mapped worker (λ (c : Call). c.worker < looks) (λ n. n ≢ call.worker) (λ c low' e. omega (arith, low', e, is)) calls low));
+      below = each_append (λ (c : Call). c.worker < 32) calls (call ∷ []) fit.below (omega (arith, is, few), tt);
+      leaves = subst AreDistinct (sym (map_append leaf calls (call ∷ [])))
+          (distinct_last (map leaf calls) call.leaf fit.leaves (each_mapped leaf (λ (c : Call). c.leaf ≢ call.leaf) (λ n. n ≢ call.leaf) (λ c ne. ne) calls apart));
+      new = subst (AllByRecursion (λ n. AllByRecursion (λ other. n ≢ other) (map (λ (entry : Entry). entry.leaf) (flat book)))) (sym (map_append leaf calls (call ∷ [])))
+          (each_append (λ n. AllByRecursion (λ other. n ≢ other) (map (λ (entry : Entry). entry.leaf) (flat book))) (map leaf calls) (call.leaf ∷ []) fit.new (new, tt));
+      most = omega (arith, long, most);
+    }
+
+-- how many they are, in the one order as in the other
+turned_length : (taken : List TakenCall) → length (calls_taken taken) ≡ length taken
+turned_length [] = refl
+turned_length (t ∷ taken) = let more = turned_length taken in let long = length-append (calls_taken taken) (taken_call t ∷ []) in omega (arith, more, long)
+
+module _ (h : HoldView) (u room : ℕ) (call : OpRecord) where
+  -- none of the calls that were taken before is of this leaf
+  apart_from : IsNewCall room h call → AreDistinct (map worker_of (calls_taken h.taken)) → AllByRecursion (λ (c : Call). c.leaf ≢ call.leaf) (calls_taken h.taken)
+  apart_from new distinct =
+      each_so (λ (c : Call). Among c (calls_taken h.taken)) (λ (c : Call). c.leaf ≢ call.leaf)
+      (λ c there. new.apart c.worker (record { leaf = c.leaf; op = c.op }) (record_taken h.taken c distinct there)) (calls_taken h.taken) (all_among (calls_taken h.taken))
+
+  fit_taken : IsNewCall room h call → room ≤ 20000 → u ≡ h.looks → u < 32 → AreFit (hold_seen h) → AreFit (hold_seen (taken_view h u call))
+  fit_taken new few is low fit =
+      let old = servable h.book (calls_taken h.taken) fit.serve in
+      let mine : Call = record { worker = u; leaf = call.leaf; op = call.op } in
+      let all = turned_length h.taken in
+      let fits = new.fits in
+      record {
+        below = each_append (λ (c : Call). c.worker < h.looks + 1) (calls_taken h.taken) (mine ∷ [])
+            (each_so (λ (c : Call). c.worker < h.looks) (λ (c : Call). c.worker < h.looks + 1) (λ c below. omega (arith, below)) (calls_taken h.taken) fit.below)
+            (omega (arith, is), tt);
+        serve = λ some. one_more h.book (calls_taken h.taken) mine h.looks old fit.below is (omega (arith, is, low))
+            (apart_from new old.workers) (new_leaf h.book call.leaf new.unbooked) (omega (arith, all, fits, few));
+      }
+
+fit_passed : (h : HoldView) → AreFit (hold_seen h) → AreFit (hold_seen (passed_view h))
+fit_passed h fit = record {
+  below = each_so (λ (c : Call). c.worker < h.looks) (λ (c : Call). c.worker < h.looks + 1) (λ c below. omega (arith, below)) (calls_taken h.taken) fit.below;
+  serve = fit.serve;
+}
+
+stay_by : (h k : HoldView) (old new : Option HoldView) → old ≡ Some h → new ≡ Some k → (AreFit (hold_seen h) → AreFit (hold_seen k)) → StayFit (option_map hold_seen old) (option_map hold_seen new)
+stay_by h k None new was now keeps = absurd (cc)
+stay_by h k (Some h') None was now keeps = absurd (cc)
+stay_by h k (Some h') (Some k') was now keeps = λ a b is_a is_b fit.
+    let first_is : h' ≡ h = cc in
+    let last_is : k' ≡ k = cc in
+    let first : hold_seen h' ≡ a = cc in
+    let last : hold_seen k' ≡ b = cc in
+    subst AreFit (sym (ap hold_seen last_is) ∙ last) (keeps (subst AreFit (sym first ∙ ap hold_seen first_is) fit))
+
+-- by what a look says
+pub take_fits : (h : HoldView) (u room : ℕ) (call : OpRecord) (old new : Option HoldView) → old ≡ Some h → new ≡ Some (taken_view h u call) → IsNewCall room h call → room ≤ 20000 → u ≡ h.looks → u < 32
+    → StayFit (option_map hold_seen old) (option_map hold_seen new)
+take_fits h u room call old new was now is_new few is low = stay_by h (taken_view h u call) old new was now (fit_taken h u room call is_new few is low)
+
+pub pass_fits : (h : HoldView) (old new : Option HoldView) → old ≡ Some h → new ≡ Some (passed_view h) → StayFit (option_map hold_seen old) (option_map hold_seen new)
+pass_fits h old new was now = stay_by h (passed_view h) old new was now (fit_passed h)

@@ -1,0 +1,48 @@
+use Rattle.std.proofs.Common.{subst, true, false, Bool, ◌≡◌, ℕ, refl}
+use Rattle.std.specs.Prelude.{IsTrue, IsFalse}
+use Rattle.core_table.specs.Passes.{view, job_in, IsPassOf}
+use Rattle.core_table.specs.declared.table.CoreTable.{CoreTable}
+use Rattle.core_table.specs.declared.table.Pass.{Pass}
+use Rattle.core_table.specs.Views as views
+use Rattle.core_model.specs.declared.task.Task.TheVariants.{Whole, Handed}
+use Rattle.worker_crew.specs.Words.{Idle}
+use Rattle.worker_crew.specs.Passes as passes
+use Rattle.worker_crew.specs.Seats.{pass_seen, IsSeat}
+use Rattle.worker_crew.proofs.SeatLemmas.Steps.{not_out, IsStepDue, step_due}
+use Rattle.worker_crew.proofs.SeatLemmas.Seats.{seat_by, task_seen}
+use Rattle.worker_crew.proofs.running.CoreTableTable.arrive.Goals as goal
+
+-- it arrived first or second
+module _ (table : CoreTable) (old new : Pass) (P : ℕ → ℕ → Type 0) where
+  abbrev First : Bool → Type 0
+  First b = IsFalse b → view new ≡ views.with_task (view old) Idle
+
+  abbrev Second : Bool → Type 0
+  Second b = IsTrue b → (n : ℕ) × (p : ℕ) × ((view old).task ≡ Whole n) × P n p × (view new ≡ views.with_task (view old) (Handed p))
+
+  seat : (b : Bool) → IsSeat table old → IsPassOf table new → First b → Second b → IsSeat table new
+  seat true was now first second = let s = second refl in seat_by table new (views.with_task (view old) (Handed s.1)) now s.4 (tt, was.looks)
+  seat false was now first second = seat_by table new (views.with_task (view old) Idle) now (first refl) (tt, was.looks)
+
+  seen : (b : Bool) → First b → Second b → pass_seen (view new) ≡ passes.with_task (view new).task (pass_seen (view old))
+  seen true first second = let s = second refl in task_seen (view new) (view old) (Handed s.1) s.4
+  seen false first second = task_seen (view new) (view old) Idle (first refl)
+
+pub arrive-requires-clause-pass : goal.arrive-requires-clause-pass
+arrive-requires-clause-pass c = c.requires.pass.pass_of
+
+pub arrive-requires-clause-free : goal.arrive-requires-clause-free
+arrive-requires-clause-free c = not_out (view c.args.pass.now).call c.requires.free.0
+
+pub arrive-requires-clause-due : goal.arrive-requires-clause-due
+arrive-requires-clause-due c =
+    let v = view c.args.pass.now in
+    let job = job_in c.args.self.now in
+    subst (IsStepDue job v.task v.call) c.requires.due (step_due job v.task v.call c.requires.pass.task)
+
+pub returns-clause-pass : goal.returns-clause-pass
+returns-clause-pass c =
+    seat c.args.self.now c.args.pass.now c.arrive.new.pass _ c.arrive.result c.requires.pass c.arrive.ensures.pass c.arrive.ensures.first c.arrive.ensures.second
+
+pub returns-clause-arrived : goal.returns-clause-arrived
+returns-clause-arrived c = seen c.args.self.now c.args.pass.now c.arrive.new.pass _ c.arrive.result c.arrive.ensures.first c.arrive.ensures.second

@@ -1,0 +1,23 @@
+use Rattle.std.proofs.Common.{◌∙◌, sym, subst, ap}
+use Rattle.std.specs.Prelude.{IsNone}
+use Rattle.core_model.specs.declared.task.Task.{Task}
+use Rattle.core_table.specs.Passes.{view, job_in, tree_in, TaskHere}
+use Rattle.worker_crew.proofs.SeatLemmas.Steps.{not_out}
+use Rattle.worker_crew.specs.NextSteps.{next_step}
+use Rattle.worker_crew.proofs.SeatLemmas.Room.{idle_by}
+use Rattle.worker_crew.proofs.running.CoreTableTable.next.Goals as goal
+
+pub next_step-requires : goal.next_step-requires
+next_step-requires c = subst (TaskHere (job_in c.args.self.now)) (sym c.task.ensures) c.requires.pass.pass_of.5
+
+pub returns-clause-next : goal.returns-clause-next
+returns-clause-next c =
+    let job = job_in c.args.self.now in
+    c.next_step.ensures ∙ ap (λ (t : Task). next_step job t c.call.result) c.task.ensures ∙ ap (next_step job (view c.args.pass.now).task) c.call.ensures
+
+pub returns-clause-idle : goal.returns-clause-idle
+returns-clause-idle c none =
+    let table = c.args.self.now in
+    let v = view c.args.pass.now in
+    idle_by (job_in table) (tree_in table) v.task v.call (c.plan_stands_for_tree.ensures (tree_in table)) c.requires.pass.pass_of.5 c.requires.pass.task
+    (not_out v.call c.requires.free.0) (subst IsNone (returns-clause-next c) none)

@@ -1,0 +1,34 @@
+use Rattle.std.proofs.Common.{ap, subst}
+use Rattle.core_table.specs.declared.view.View.{View}
+use Rattle.core_table.specs.Passes.{view, job_in}
+use Rattle.core_table.specs.Views as views
+use Rattle.worker_crew.specs.Seats.{pass_seen}
+use Rattle.worker_crew.proofs.SeatLemmas.Steps.{IsStepDue, step_due}
+use Rattle.worker_crew.proofs.SeatLemmas.Seats.{seat_by, fits_of}
+use Rattle.worker_crew.proofs.running.CoreTableTable.post.Goals as goal
+
+pub post-requires-clause-pass : goal.post-requires-clause-pass
+post-requires-clause-pass c = c.requires.pass.pass_of
+
+pub post-requires-clause-free : goal.post-requires-clause-free
+post-requires-clause-free c =
+    let v = view c.args.pass.now in
+    let job = job_in c.args.self.now in
+    (subst (IsStepDue job v.task v.call) c.requires.due (step_due job v.task v.call c.requires.pass.task)).0
+
+pub post-requires-clause-due : goal.post-requires-clause-due
+post-requires-clause-due c =
+    let v = view c.args.pass.now in
+    let job = job_in c.args.self.now in
+    (subst (IsStepDue job v.task v.call) c.requires.due (step_due job v.task v.call c.requires.pass.task)).1
+
+pub returns-clause-pass : goal.returns-clause-pass
+returns-clause-pass c =
+    seat_by c.args.self.now c.post.new.pass (views.posting (view c.args.pass.now) (record { leaf = c.args.leaf; op = c.args.op })) c.post.ensures.pass c.post.ensures.posted
+    (fits_of c.args.self.now c.args.pass.now c.requires.pass)
+
+pub returns-clause-posted : goal.returns-clause-posted
+returns-clause-posted c = ap pass_seen c.post.ensures.posted
+
+pub returns-clause-just_posted : goal.returns-clause-just_posted
+returns-clause-just_posted c = ap (λ (v : View). v.just_posted) c.post.ensures.posted

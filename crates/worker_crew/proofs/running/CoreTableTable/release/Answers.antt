@@ -1,0 +1,28 @@
+use Rattle.std.proofs.Common.{ap}
+use Rattle.core_table.specs.Passes.{view, job_in}
+use Rattle.core_table.specs.Views as views
+use Rattle.worker_crew.specs.Holds.{IsReleaseDue}
+use Rattle.worker_crew.specs.Seats.{pass_seen}
+use Rattle.worker_crew.proofs.SeatLemmas.Steps.{is_out}
+use Rattle.worker_crew.proofs.SeatLemmas.Seats.{seat_by, held}
+use Rattle.worker_crew.proofs.SeatLemmas.Serving.{release_due}
+use Rattle.worker_crew.proofs.running.CoreTableTable.release.Goals as goal
+
+pub release-requires-clause-pass : goal.release-requires-clause-pass
+release-requires-clause-pass c = c.requires.pass.pass_of
+
+pub release-requires-clause-trapped : goal.release-requires-clause-trapped
+release-requires-clause-trapped c = is_out (view c.args.pass.now).call c.requires.held.0
+
+pub release-requires-clause-due : goal.release-requires-clause-due
+release-requires-clause-due c =
+    let workers = (job_in c.args.self.now).workers in
+    let h = held (IsReleaseDue workers c.args.shop) (view c.args.pass.now).hold c.requires.held.1 in
+    (h.0, h.1, release_due workers h.0 c.args.shop h.2, h.2.book)
+
+pub returns-clause-pass : goal.returns-clause-pass
+returns-clause-pass c =
+    seat_by c.args.self.now c.release.new.pass (views.releasing (view c.args.pass.now)) c.release.ensures.pass c.release.ensures.released (c.requires.pass.task, tt)
+
+pub returns-clause-released : goal.returns-clause-released
+returns-clause-released c = ap pass_seen c.release.ensures.released

@@ -1,0 +1,59 @@
+-- How the workers stand when a run begins.
+use Rattle.std.specs.Prelude.{ℕ, ◌≡◌, ◌<◌, ◌==◌, Bool, true, false, List, length, slice_index_or, if◌then◌else◌}
+use Rattle.seq_objects.specs.declared.act.Act.{Act}
+use Rattle.seq_objects.specs.declared.act.Act.TheVariants.{Work, Call}
+use Rattle.two_deques.specs.declared.decks.Decks.{Decks}
+use Rattle.two_deques.specs.Ends.{after_push}
+use Rattle.two_deques.specs.Hands.{Held, held, fresh_hand}
+use Rattle.two_deques.specs.Tries.{first_tries}
+use Rattle.piece_board.specs.declared.board.Board.{Board}
+use Rattle.piece_board.specs.Boards.{desk_view}
+use Rattle.piece_board.specs.Desks.{fresh_desk}
+use Rattle.launch_batch.specs.declared.piece.PieceIn.{PieceIn}
+use Rattle.launch_batch.specs.declared.piece.PieceOut.{PieceOut}
+use Rattle.worker_crew.specs.declared.batch_pieces.BatchPieces.{BatchPieces}
+use Rattle.worker_crew.specs.declared.crew.Me.{Me}
+use Rattle.core_table.specs.declared.table.Pass.{Pass as Seat}
+use Rattle.core_table.specs.Passes.{view}
+use Rattle.worker_crew.specs.Seats.{pass_seen}
+use Rattle.worker_crew.specs.Words.{Idle}
+use Rattle.worker_crew.specs.Passes.{PassSeen, IsFree}
+use Rattle.worker_crew.specs.Workers.{IsReady}
+
+-- whether a leaf with this act calls
+abbrev pub is_call : Act → Bool
+is_call (Work steps) = false
+is_call (Call op) = true
+
+-- the hand has pushed node 0, the root
+abbrev pub with_root : Held → Held
+with_root h = record h { core = after_push 0 h.core }
+
+-- the hand of this worker, among so many: node 0 stands on the deque of worker 0, and the others are empty
+abbrev pub opening_hand : ℕ → ℕ → Held
+opening_hand worker workers =
+    if worker == 0 then with_root (fresh_hand worker workers) else fresh_hand worker workers
+
+-- what the turns see of a pass of the running table
+abbrev pub seat_seen : Seat → PassSeen
+seat_seen pass = pass_seen (view pass)
+
+-- the pass is that of this worker, which has nothing in hand
+pub record IsFreshPass (worker : ℕ) (pass : PassSeen) : Type 0 where
+  pub worker_is : pass.worker ≡ worker
+  pub free : IsFree pass
+  pub idle : pass.task ≡ Idle
+
+module _ {Pass : Type 0} (gave : Pass → Type 0) (seen : Pass → PassSeen) (decks : Decks)
+    (board : Board BatchPieces PieceIn PieceOut) (workers : ℕ) where
+  -- it is this worker, among so many, and has done nothing
+  pub record IsAtStart (worker : ℕ) (me : Me Pass) : Type 0 where
+    pub ready : IsReady gave seen decks board me
+    pub hand : held me.hand ≡ opening_hand worker workers
+    pub desk : desk_view me.desk ≡ fresh_desk worker
+    pub tries : me.tries ≡ first_tries worker workers
+
+  -- the first so many workers, in their order, as they are at the start
+  pub record AreAtStart (n : ℕ) (mes : List (Me Pass)) : Type 0 where
+    pub count : length mes ≡ n
+    pub each : (w : ℕ) (me : Me Pass) → w < n → me ≡ slice_index_or mes w me → IsAtStart w me

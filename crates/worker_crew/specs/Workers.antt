@@ -1,0 +1,55 @@
+-- What contracts see of one worker, and which workers belong to which table, deques and board.
+use Rattle.std.specs.Prelude.{ℕ, ◌≡◌, []}
+use Rattle.two_deques.specs.declared.spot.Spot.{Spot}
+use Rattle.two_deques.specs.declared.decks.Decks.{Decks}
+use Rattle.two_deques.specs.Ends.{HeldEnds}
+use Rattle.two_deques.specs.Hands.{held, workers_of, IsHandOf}
+use Rattle.two_deques.specs.Tries.{TriesView}
+use Rattle.piece_board.specs.declared.board.Board.{Board}
+use Rattle.piece_board.specs.declared.view.DeskView.{DeskView}
+use Rattle.piece_board.specs.Boards.{desk_view, IsDeskOf}
+use Rattle.launch_batch.specs.declared.piece.PieceIn.{PieceIn}
+use Rattle.launch_batch.specs.declared.piece.PieceOut.{PieceOut}
+use Rattle.worker_crew.specs.declared.batch_pieces.BatchPieces.{BatchPieces}
+use Rattle.worker_crew.specs.declared.crew.Me.{Me}
+use Rattle.worker_crew.specs.Words.{Idle}
+use Rattle.worker_crew.specs.Passes.{PassSeen, IsFree}
+
+-- its pass, its ends of the deques of nodes and of those of pieces, its desk, and its tries
+pub record MeSeen : Type 0 where
+  pub pass : PassSeen
+  pub core : HeldEnds ℕ
+  pub batch : HeldEnds Spot
+  pub desk : DeskView PieceIn
+  pub tries : TriesView
+
+module _ {Pass : Type 0} where
+  abbrev pub me_seen : (Pass → PassSeen) → Me Pass → MeSeen
+  me_seen seen me = record {
+    pass = seen me.pass;
+    core = (held me.hand).core;
+    batch = (held me.hand).batch;
+    desk = desk_view me.desk;
+    tries = me.tries;
+  }
+
+  -- All that the worker has is its own, of this table, these deques and this board. Each of the workers has a pass, a
+  -- hand and a desk.
+  pub record IsMeOf (gave : Pass → Type 0) (seen : Pass → PassSeen) (decks : Decks)
+      (board : Board BatchPieces PieceIn PieceOut) (me : Me Pass) : Type 0 where
+    pub pass : gave me.pass
+    pub hand : IsHandOf decks me.hand
+    pub desk : IsDeskOf board me.desk
+    pub worker : (seen me.pass).worker ≡ (held me.hand).worker
+    pub row : (desk_view me.desk).row ≡ (held me.hand).worker
+    pub tries : me.tries.worker ≡ (held me.hand).worker
+    pub workers : me.tries.workers ≡ workers_of decks
+
+  -- It may take the turn of a free worker: no call of its is out, it has no node in hand, and all places of its row are
+  -- free.
+  pub record IsReady (gave : Pass → Type 0) (seen : Pass → PassSeen) (decks : Decks)
+      (board : Board BatchPieces PieceIn PieceOut) (me : Me Pass) : Type 0 where
+    pub own : IsMeOf gave seen decks board me
+    pub free : IsFree (seen me.pass)
+    pub idle : (seen me.pass).task ≡ Idle
+    pub row : (desk_view me.desk).posted ≡ []

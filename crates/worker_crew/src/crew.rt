@@ -1,0 +1,54 @@
+//! One worker, and what all workers share.
+ghost use Rattle.std.specs.Prelude.{◌≡◌};
+ghost use Rattle.worker_crew.specs.declared.crew.Stop.TheVariants.{Memory};
+
+mod opening;
+
+use crate::batch_pieces::BatchPieces;
+use piece_board::{Board, Desk};
+use std::alloc::{AllocError, AllocFailed};
+use two_deques::{Decks, Hand, Tries};
+
+/// What all workers share: the table, the deques, the board, how many they are, and the gate.
+#[derive(Drop)]
+pub struct Crew<'a, T, G> {
+    pub table: T,
+    pub decks: Decks,
+    pub board: Board<BatchPieces>,
+    pub workers: u32,
+    pub pause: &'a G,
+}
+
+/// What one worker has: its pass, its hand, its desk, and whom it tries to steal from.
+#[derive(Drop)]
+pub struct Me<P> {
+    pub pass: P,
+    pub hand: Hand,
+    pub desk: Desk<BatchPieces>,
+    pub tries: Tries,
+}
+
+/// Why a turn ends without an answer. The run ends then.
+#[derive(Clone, Copy)]
+pub enum Stop {
+    /// Memory ran out, or a deque refused a push.
+    Memory,
+    /// The stop word was set.
+    Stopped,
+}
+
+impl From<AllocError> for Stop {
+    ghost from_gives = { λ _ e. e ≡ Memory };
+
+    fn from(_error: AllocError) -> Stop {
+        Stop::Memory
+    }
+}
+
+impl<T: Drop> From<AllocFailed<T>> for Stop {
+    ghost from_gives = { λ _ e. e ≡ Memory };
+
+    fn from(_error: AllocFailed<T>) -> Stop {
+        Stop::Memory
+    }
+}

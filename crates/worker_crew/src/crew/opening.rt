@@ -1,0 +1,126 @@
+//! The workers at the start of a run over the running table.
+ghost use Rattle.std.specs.Prelude.{◌≡◌, ◌*◌, ◌<◌, ◌≤◌, ℕ, length, slice_index_or, Some, IsSome, IfOk};
+ghost use Rattle.std.specs.List.{count_by};
+ghost use Rattle.sp_order.specs.Preorder.{nodes_of};
+ghost use Rattle.core_table.specs.Passes.{tree_in, acts_in, job_in};
+ghost use Rattle.two_deques.specs.Hands.{core_room_of, batch_room_of};
+ghost use Rattle.two_deques.specs.Hands.{held, workers_of, fresh_hand, IsHandOf, AreHands};
+ghost use Rattle.piece_board.specs.Boards.{workers_of as rows_of, AreDesks};
+ghost use Rattle.worker_crew.specs.Seats.{IsSeat};
+ghost use Rattle.worker_crew.specs.Opening.{seat_seen};
+ghost use Rattle.worker_crew.specs.Opening.{is_call, opening_hand, IsFreshPass, AreAtStart};
+
+use crate::batch_pieces::BatchPieces;
+use crate::crew::{Crew, Me};
+use crate::table::Table;
+use bt_io::Pause;
+use core_table::{CoreTable, Pass};
+use piece_board::{Board, Desk};
+use seq_objects::Act;
+use sp_order::Job;
+use std::alloc::{AllocError, Global};
+use two_deques::{Decks, Hand, Tries};
+
+/// How many of the leaves call.
+fn count_calls(acts: &[Act]) -> u32
+    requires most { length acts.now ≤ 20000 }
+    ensures { result ≡ count_by is_call acts.now }
+{
+    let mut count = 0;
+    for at in 0..acts.len() {
+        if matches!(acts[at], Act::Call(_)) {
+            count += 1;
+        }
+    }
+    count
+}
+
+/// The hand with which a worker begins: worker 0 pushes the root.
+fn opening(decks: &Decks, hand: Hand) -> Result<Hand, AllocError>
+    requires hand { IsHandOf decks.now hand }
+    requires fresh { held hand ≡ fresh_hand (held hand).worker (workers_of decks.now) }
+    ensures hand { IfOk result (λ own. IsHandOf decks.now own) }
+    ensures opening { IfOk result (λ own.
+        held own ≡ opening_hand (held hand).worker (workers_of decks.now)) }
+{
+    let mut hand = hand;
+    if hand.worker() == 0 && decks.push_core(&mut hand, 0).is_err() {
+        return Err(AllocError);
+    }
+    Ok(hand)
+}
+
+/// What each worker has at the start, in the order of the workers.
+fn mes_of<T: Table, G: Pause>(
+    alloc: Global,
+    crew: &Crew<T, G>,
+    passes: Vec<T::Pass>,
+    hands: Vec<Hand>,
+    desks: Vec<Desk<BatchPieces>>,
+) -> Result<Vec<Me<T::Pass>>, AllocError>
+where
+    T::Pass: Drop,
+    requires workers { (crew.now.workers ≡ workers_of crew.now.decks) × (crew.now.workers ≤ 32)
+        × (rows_of crew.now.board ≡ crew.now.workers) }
+    requires count { length passes.items ≡ crew.now.workers }
+    requires passes { (w : ℕ) (pass : T.Pass) → w < crew.now.workers
+        → pass ≡ slice_index_or passes.items w pass
+        → T.gave crew.now.table pass × IsFreshPass w (T.seen pass) }
+    requires hands { AreHands crew.now.decks hands.items }
+    requires desks { AreDesks crew.now.board desks.items }
+    ensures { IfOk result (λ mes. AreAtStart (T.gave crew.now.table) T.seen crew.now.decks
+        crew.now.board crew.now.workers crew.now.workers mes.items) }
+{
+    let mut passes = passes;
+    let mut hands = hands;
+    let mut desks = desks;
+    let mut mes = Vec::new(alloc);
+    for worker in 0..crew.workers {
+        mes.push(Me {
+            pass: passes.remove(0),
+            hand: opening(&crew.decks, hands.remove(0))?,
+            desk: desks.remove(0),
+            tries: Tries::new(worker, crew.workers),
+        })?;
+    }
+    Ok(mes)
+}
+
+impl<'a, G: Pause> Crew<'a, CoreTable, G> {
+    /// The crew of a job that has leaves, over the running table, and its workers, in their order. Node 0 stands on the
+    /// deque of worker 0. The deques of nodes are sure to take each node once, and those of pieces eight of each call.
+    pub fn make(
+        alloc: Global,
+        job: &Job,
+        workers: u32,
+        pause: &'a G,
+    ) -> Result<(Crew<'a, CoreTable, G>, Vec<Me<Pass>>), AllocError>
+        requires leaves { IsSome job.now.shape }
+        requires some_workers { 0 < workers }
+        requires few_workers { workers ≤ 32 }
+        ensures job { IfOk result (λ made. (Some (tree_in made.0.table) ≡ job.now.shape)
+            × (acts_in made.0.table ≡ job.now.acts) × ((job_in made.0.table).workers ≡ workers)) }
+        ensures workers { IfOk result (λ made. (made.0.workers ≡ workers)
+            × (workers_of made.0.decks ≡ workers)) }
+        ensures rooms { IfOk result (λ made.
+            (core_room_of made.0.decks ≡ (nodes_of (tree_in made.0.table)).count)
+            × (batch_room_of made.0.decks ≡ 8 * count_by is_call job.now.acts)) }
+        ensures start { IfOk result (λ made. AreAtStart (IsSeat made.0.table) seat_seen made.0.decks
+            made.0.board workers workers made.1.items) }
+    {
+        let (table, passes) = CoreTable::make(alloc, job, workers)?;
+        let nodes = table.plan().nodes();
+        let calls = count_calls(job.acts());
+        let (decks, hands) = Decks::make(alloc, workers, nodes, 8 * calls)?;
+        let (board, desks) = Board::make(alloc, workers)?;
+        let crew = Crew {
+            table,
+            decks,
+            board,
+            workers,
+            pause,
+        };
+        let mes = mes_of(alloc, &crew, passes, hands, desks)?;
+        Ok((crew, mes))
+    }
+}

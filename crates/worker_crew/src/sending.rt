@@ -1,0 +1,72 @@
+//! That threads can share what a crew has, and that its workers can go to them.
+//!
+//! A prover's search that goes through all parts of a crew at once comes to its limit. So it is led from part to part.
+ghost use denote.Ref.{NamedLft};
+ghost use denote.Param.Send.{IsSend, IsSync};
+ghost use Rattle.launch_batch.specs.contracts.piece.PieceIn.{the_row as in_row};
+ghost use Rattle.launch_batch.specs.contracts.piece.PieceOut.{the_row as out_row};
+ghost use Rattle.piece_board.specs.contracts.board.Board.{the_row as board_row};
+ghost use Rattle.piece_board.specs.contracts.board.Desk.{the_row as desk_row};
+ghost use Rattle.two_deques.specs.contracts.decks.Decks.{the_row as decks_row};
+ghost use Rattle.two_deques.specs.contracts.hand.Hand.{the_row as hand_row};
+ghost use Rattle.core_table.specs.contracts.table.CoreTable.{the_row as table_row};
+ghost use Rattle.core_table.specs.contracts.table.Pass.{the_row as pass_row};
+ghost use Rattle.worker_crew.specs.contracts.batch_pieces.BatchPieces.{the_row as pieces_row};
+ghost use Rattle.worker_crew.specs.contracts.batch_pieces.BatchPiecesWork.TheImpl.{ghosts};
+ghost use Rattle.worker_crew.specs.contracts.crew.Crew.{the_row as crew_row};
+ghost use Rattle.worker_crew.specs.contracts.crew.Me.{the_row as me_row};
+
+use crate::batch_pieces::BatchPieces;
+use core_table::laws::tables_go_to_threads;
+use launch_batch::{PieceIn, PieceOut};
+use piece_board::{Board, Desk};
+use two_deques::{Decks, Hand};
+
+/// It can be sent. It is for proofs, and does nothing.
+fn is_sent<T: Send>()
+    ensures { IsSend T.row }
+{}
+
+/// It can be shared. It is for proofs, and does nothing.
+fn is_shared<T: Sync>()
+    ensures { IsSync T.row }
+{}
+
+/// The board can be shared, and a desk sent. It is for proofs, and does nothing.
+fn boards_go_to_threads()
+    ensures shared { IsSync (board_row pieces_row in_row out_row ghosts) }
+    ensures sent { IsSend (desk_row pieces_row in_row out_row ghosts) }
+{
+    is_sent::<PieceIn>();
+    is_sent::<PieceOut>();
+    is_shared::<Board<BatchPieces>>();
+    is_sent::<Desk<BatchPieces>>();
+}
+
+/// And so can the deques, and a hand.
+fn decks_go_to_threads()
+    ensures shared { IsSync decks_row }
+    ensures sent { IsSend hand_row }
+{
+    is_shared::<Decks>();
+    is_sent::<Hand>();
+}
+
+/// A worker of the running table can go to a thread, and its pass can come back.
+pub fn workers_go_to_threads()
+    ensures worker { IsSend (me_row pass_row) }
+    ensures pass { IsSend pass_row }
+{
+    tables_go_to_threads();
+    boards_go_to_threads();
+    decks_go_to_threads();
+}
+
+/// All threads can share a crew over the running table.
+pub fn crews_go_to_threads<G: Sync>()
+    ensures { (l : NamedLft) → IsSync (crew_row l table_row G.row) }
+{
+    tables_go_to_threads();
+    boards_go_to_threads();
+    decks_go_to_threads();
+}

@@ -1,9 +1,9 @@
 -- The line that each status has on err, and the number with which the process exits.
 use Rattle.std.specs.Prelude.{ℕ, List, [], ◌++◌, codes}
 use Rattle.std.specs.Fmt.{decimal}
-use Rattle.job_lang.specs.Lines.{line_in}
-use Rattle.job_lang.specs.declared.fault.JobFault.{JobFault}
-use Rattle.job_lang.specs.declared.fault.JobFault.TheVariants.{Byte, Grammar, Number, Nesting, Leaves, Argument}
+use Rattle.job_syntax.specs.Lines.{line_in}
+use Rattle.job_syntax.specs.declared.fault.JobFault.{JobFault}
+use Rattle.job_syntax.specs.declared.fault.JobFault.TheVariants.{Byte, Grammar, Number, Nesting, Leaves, Argument}
 use Rattle.batchrun.specs.declared.status.Refusal.TheVariants.{TooLong, Job}
 use Rattle.batchrun.specs.declared.status.Status.{Status}
 use Rattle.batchrun.specs.declared.status.Status.TheVariants.{Done, Made, Usage, ReadFault, Refused, WriteFault, Memory}

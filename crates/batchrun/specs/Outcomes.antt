@@ -9,7 +9,7 @@ use Rattle.batch_history.specs.Lawful.{Lawful}
 use Rattle.batch_history.specs.Text.{report_text}
 use Rattle.core_model.specs.Reports.{IsDrivenReport}
 use Rattle.job_lang.specs.Language.{IsJobOf, IsFaultOf}
-use Rattle.job_lang.specs.declared.fault.JobFault.{JobFault}
+use Rattle.job_syntax.specs.declared.fault.JobFault.{JobFault}
 use Rattle.batchrun.specs.declared.status.Refusal.TheVariants.{TooLong, Job}
 use Rattle.batchrun.specs.declared.status.Status.{Status}
 use Rattle.batchrun.specs.declared.status.Status.TheVariants.{Done, Made, Usage, ReadFault, Refused, WriteFault, Memory}

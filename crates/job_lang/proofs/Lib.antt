@@ -1,6 +1,7 @@
+pub mod EachOf
 pub mod ExpandLemmas
 pub mod GeneratorLemmas
-pub mod LexerLemmas
 pub mod LimitLemmas
-pub mod ParserLemmas
+pub mod ReaderLemmas
+pub mod Weights
 pub mod WriterLemmas

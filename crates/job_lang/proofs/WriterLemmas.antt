@@ -1,4 +1,5 @@
 pub mod Bytes
+pub mod Decimals
 pub mod Fronts
 pub mod Items
 pub mod Jobs

@@ -1,20 +1,7 @@
--- How many leaves items make, and how deep their blocks nest. Counts have no bound.
-use Rattle.std.specs.Prelude.{ℕ, ◌+◌, ◌*◌, max, Some}
-use Rattle.job_lang.specs.declared.lexer.word.Word.{Word}
-use Rattle.job_lang.specs.declared.lexer.word.Word.TheVariants.{Number}
-use Rattle.job_lang.specs.Grammar.{Items, nothing, leaf_then, block_then, BlockKind, seq_block, par_block, for_loop, pfor_loop}
-
--- the number that a word says
-abbrev pub word_number : Word → ℕ
-word_number (Number (Some number)) = number
-word_number _ = 0
-
--- how often a block runs its items
-abbrev pub copies_of : BlockKind → ℕ
-copies_of seq_block = 1
-copies_of par_block = 1
-copies_of (for_loop copies) = word_number copies
-copies_of (pfor_loop copies) = word_number copies
+-- How many leaves items make. Counts have no bound.
+use Rattle.std.specs.Prelude.{ℕ, ◌+◌, ◌*◌}
+use Rattle.job_syntax.specs.Blocks.{copies_of}
+use Rattle.job_syntax.specs.Grammar.{Items, nothing, leaf_then, block_then}
 
 -- a leaf counts once, and a block as often as it has copies
 abbrev pub count : Items → ℕ
@@ -27,9 +14,3 @@ abbrev pub count_first : Items → ℕ
 count_first nothing = 0
 count_first (leaf_then leaf more) = 1
 count_first (block_then kind body more) = copies_of kind * count body
-
--- how many blocks are open where most are
-abbrev pub nesting : Items → ℕ
-nesting nothing = 0
-nesting (leaf_then leaf more) = nesting more
-nesting (block_then kind body more) = max (nesting body + 1) (nesting more)

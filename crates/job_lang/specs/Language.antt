@@ -1,24 +1,16 @@
 -- The job language: which texts are jobs, of which job each is, and which fault a text has that is none.
-use Rattle.std.specs.Prelude.{◌≡◌, ℕ, ◌≤◌, List, None, Some, IsTrue}
-use Rattle.std.specs.List.{AllByRecursion}
+use Rattle.std.specs.Prelude.{◌≡◌, ℕ, ◌≤◌, List, None, Some}
 use Rattle.sp_order.specs.Jobs.{JobValue}
-use Rattle.job_lang.specs.declared.lexer.word.WordOnLine.{WordOnLine}
-use Rattle.job_lang.specs.declared.fault.JobFault.{JobFault}
-use Rattle.job_lang.specs.declared.fault.JobFault.TheVariants as fault
-use Rattle.job_lang.specs.Text.{forbidden_line, last_line}
-use Rattle.job_lang.specs.Words.{words_on_lines}
-use Rattle.job_lang.specs.Grammar.{Items, Derives}
-use Rattle.job_lang.specs.Faults.{words_of, has_good_numbers, IsReadingFault}
-use Rattle.job_lang.specs.Counts.{count, nesting}
+use Rattle.job_syntax.specs.declared.fault.JobFault.{JobFault}
+use Rattle.job_syntax.specs.declared.fault.JobFault.TheVariants as fault
+use Rattle.job_syntax.specs.Text.{forbidden_line, last_line}
+use Rattle.job_syntax.specs.Words.{words_on_lines}
+use Rattle.job_syntax.specs.Grammar.{Items}
+use Rattle.job_syntax.specs.ItemsOf.{AreItemsOf}
+use Rattle.job_syntax.specs.Faults.{IsReadingFault}
+use Rattle.job_lang.specs.Counts.{count}
 use Rattle.job_lang.specs.Meaning.{job_of}
 use Rattle.job_lang.specs.Limits.{IsLeavesLine, argument_line}
-
--- The grammar gives the tokens these items: the loose grammar derives them, each number is spelled well and fits 32 bits,
--- and at most 32 blocks are open at once.
-pub record AreItemsOf (tokens : List WordOnLine) (items : Items) : Type 0 where
-  pub derives : Derives (words_of tokens) items
-  pub numbers : AllByRecursion (λ token. IsTrue (has_good_numbers token.word)) tokens
-  pub nests : nesting items ≤ 32
 
 -- The text is a job's: no byte outside comments is forbidden, the grammar gives it items, these have at most 20,000 leaves,
 -- no argument is out of range in a copy, and the job is that of the items.

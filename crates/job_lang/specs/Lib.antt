@@ -1,15 +1,16 @@
--- The job language, from the bytes of a text to the job that it stands for. `Code` is what only the code cites.
-pub mod Text
-pub mod Words
-pub mod Grammar
-pub mod Faults
+-- The job language, from the items of a text to the job that it stands for, with what it takes from job_syntax. `Code` is
+-- what only the code cites.
+pub use Rattle.job_syntax.specs.Text
+pub use Rattle.job_syntax.specs.Words
+pub use Rattle.job_syntax.specs.Grammar
+pub use Rattle.job_syntax.specs.Faults
+pub use Rattle.job_syntax.specs.ItemsOf
 pub mod Counts
 pub mod Joins
 pub mod Meaning
 pub mod Limits
 pub mod Language
 pub mod Canonical
-pub mod Lines
 pub mod Generator
 pub mod ActNumbers
 pub mod Code

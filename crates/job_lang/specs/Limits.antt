@@ -1,12 +1,13 @@
 -- The limits of a text whose tokens have no fault: it has too many leaves, or an argument is out of range, since it does
 -- not fit 32 bits in some copy.
 use Rattle.std.specs.Prelude.{◌≡◌, ℕ, ◌+◌, ◌-◌, ◌*◌, ◌<◌, ◌≤◌, ◌^◌, List, [], ◌∷◌, ◌++◌, filter, Bool, true, false, ◌&&◌, Option, Some, None, nat_le}
-use Rattle.job_lang.specs.declared.lexer.word.Word.{Word}
-use Rattle.job_lang.specs.declared.lexer.word.Word.TheVariants.{Copies}
-use Rattle.job_lang.specs.declared.lexer.word.WordOnLine.{WordOnLine}
-use Rattle.job_lang.specs.Grammar.{Items, nothing, leaf_then, block_then, BlockKind, seq_block, par_block, for_loop, pfor_loop, Leaf, with_argument, items_words, ◌then◌}
-use Rattle.job_lang.specs.Faults.{words_of}
-use Rattle.job_lang.specs.Counts.{word_number, count, count_first}
+use Rattle.job_syntax.specs.declared.lexer.word.Word.{Word}
+use Rattle.job_syntax.specs.declared.lexer.word.Word.TheVariants.{Copies}
+use Rattle.job_syntax.specs.declared.lexer.word.WordOnLine.{WordOnLine}
+use Rattle.job_syntax.specs.Grammar.{Items, nothing, leaf_then, block_then, BlockKind, seq_block, par_block, for_loop, pfor_loop, Leaf, with_argument, items_words, ◌then◌}
+use Rattle.job_syntax.specs.Faults.{words_of}
+use Rattle.job_syntax.specs.Blocks.{word_number}
+use Rattle.job_lang.specs.Counts.{count, count_first}
 
 -- The line of the first token of the first item of the job with which the leaves are more than 20,000.
 pub record IsLeavesLine (tokens : List WordOnLine) (items : Items) (line : ℕ) : Type 0 where

@@ -3,18 +3,18 @@ ghost use Rattle.std.specs.Prelude.{◌≡◌, ℕ, ◌<◌, ◌≤◌, ◌++◌
 ghost use Rattle.std.specs.Option.{option_map};
 ghost use Rattle.sp_order.specs.Precedence.{tree_of, seq};
 ghost use Rattle.job_lang.specs.Counts.{count};
-ghost use Rattle.job_lang.specs.Grammar.{block_then, nothing};
+ghost use Rattle.job_syntax.specs.Grammar.{block_then, nothing};
 ghost use Rattle.job_lang.specs.Meaning.{number_in, act_with, act_of, each_copy, join_list, acts_in, shapes_in, job_of};
 ghost use Rattle.job_lang.specs.Code.Orders.{join_by, join_in};
 ghost use Rattle.job_lang.specs.Code.Ranges.{FitsArgument, FitsLeaf, Fits};
-ghost use Rattle.job_lang.specs.Code.Views.{argument_word, unary_op_of, leaf_of, block_kind_of, item_of, items_of};
+ghost use Rattle.job_syntax.specs.Views.{argument_word, unary_op_of, leaf_of, block_kind_of, item_of, items_of};
 
 pub(crate) mod join;
 mod prune;
 
 use crate::expand::join::{Order, join};
 use crate::expand::prune::take_out_empty;
-use crate::item::{Argument, BlockKind, Item, Leaf, UnaryOp};
+use job_syntax::{Argument, BlockKind, Item, Leaf, UnaryOp};
 use seq_objects::{Act, Op};
 use sp_order::{Job, Shape};
 use std::alloc::{AllocError, Global};
@@ -70,7 +70,7 @@ fn order_in(kind: BlockKind) -> Order
 
 /// The shapes of the items in copy `copy`. What their leaves do goes to the end of `acts`.
 #[cycle(expanding)]
-#[tactic(auto, using(crate::proofs::ExpandLemmas::Copies::fits_item, crate::proofs::ParserLemmas::Weights::weight_item))]
+#[tactic(auto, using(crate::proofs::ExpandLemmas::Copies::fits_item, crate::proofs::Weights::weight_item))]
 fn shapes_in(
     alloc: Global,
     copy: u32,
@@ -92,7 +92,7 @@ fn shapes_in(
 
 /// The shape of the item in copy `copy`, if it has leaves there.
 #[cycle(expanding)]
-#[tactic(auto, using(crate::proofs::ExpandLemmas::Copies::block_shapes, crate::proofs::ExpandLemmas::Copies::block_acts, crate::proofs::ExpandLemmas::Copies::block_fits, crate::proofs::ParserLemmas::Weights::weight_block))]
+#[tactic(auto, using(crate::proofs::ExpandLemmas::Copies::block_shapes, crate::proofs::ExpandLemmas::Copies::block_acts, crate::proofs::ExpandLemmas::Copies::block_fits, crate::proofs::Weights::weight_block))]
 fn shape_in(
     alloc: Global,
     copy: u32,

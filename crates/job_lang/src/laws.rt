@@ -14,7 +14,7 @@ ghost use Rattle.job_lang.specs.Canonical.{canonical_text};
 ghost use Rattle.job_lang.specs.Generator.{generated};
 ghost use Rattle.job_lang.specs.ActNumbers.{op_number, IsSmall};
 ghost use Rattle.job_lang.specs.Language.{IsJobOf, Accepts, IsFaultOf};
-ghost use Rattle.job_lang.specs.declared.fault.JobFault.{JobFault};
+ghost use Rattle.job_syntax.specs.declared.fault.JobFault.{JobFault};
 
 /// Each text has one job or one fault, and not both.
 pub fn texts_have_one_job_or_fault()

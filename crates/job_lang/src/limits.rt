@@ -1,21 +1,19 @@
 //! The limits of a job whose words have no fault: its leaves, and the range of its arguments.
 ghost use Rattle.std.specs.Prelude.{◌≡◌, ◌<◌, ◌≤◌, ◌^◌, IfSome, IfNone, length};
 ghost use Rattle.job_lang.specs.Counts.{count};
-ghost use Rattle.job_lang.specs.Faults.{words_of};
-ghost use Rattle.job_lang.specs.Grammar.{items_words};
+ghost use Rattle.job_syntax.specs.Faults.{words_of};
+ghost use Rattle.job_syntax.specs.Grammar.{items_words};
 ghost use Rattle.job_lang.specs.Limits.{IsLeavesLine, argument_line};
-ghost use Rattle.job_lang.specs.Code.Views.{items_of};
+ghost use Rattle.job_syntax.specs.Views.{items_of};
 
 mod argument_range;
 mod leaf_count;
 mod word_count;
 
-use crate::item::Item;
-use crate::lexer::word::WordOnLine;
 use crate::limits::argument_range::out_of_range_in_items;
 use crate::limits::leaf_count::count_item;
 use crate::limits::word_count::item_word_count;
-use crate::parser::cursor::Cursor;
+use job_syntax::{Cursor, Item, WordOnLine};
 
 /// The most leaves of a job.
 const MOST_LEAVES: u64 = 20_000;

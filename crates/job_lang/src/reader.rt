@@ -2,21 +2,17 @@
 ghost use Rattle.std.specs.Prelude.{◌≡◌, ◌≤◌, ◌⊎◌, Ok, Err, IfOk, length};
 ghost use Rattle.sp_order.specs.Jobs.{JobValue};
 ghost use Rattle.job_lang.specs.Language.{IsJobOf, IsFaultOf};
-ghost use Rattle.job_lang.specs.declared.fault.JobFault.{JobFault};
-ghost use Rattle.job_lang.specs.declared.error.JobErr.TheVariants.{Bad, Memory};
+ghost use Rattle.job_syntax.specs.declared.fault.JobFault.{JobFault};
+ghost use Rattle.job_syntax.specs.declared.error.JobErr.TheVariants.{Bad, Memory};
 
-use crate::error::JobErr;
 use crate::expand::expand;
-use crate::fault::JobFault;
-use crate::lexer::text::{forbidden_line, last_line};
-use crate::lexer::words_in;
 use crate::limits::{argument_line, leaves_line};
-use crate::parser::read_items;
+use job_syntax::{JobErr, JobFault, forbidden_line, last_line, read_items, words_in};
 use sp_order::Job;
 use std::alloc::Global;
 
 /// Reads a text, and answers its job or its fault.
-#[tactic(auto, using(crate::proofs::ParserLemmas::ReadingFaults::reading_fault, crate::proofs::LimitLemmas::Arguments::numbers_fit))]
+#[tactic(auto, using(crate::proofs::ReaderLemmas::ReadingFaults::reading_fault, crate::proofs::LimitLemmas::Arguments::numbers_fit))]
 fn read(alloc: Global, text: &[u8]) -> Result<Job, JobErr>
     requires { length text.now ≤ 1048576 }
     ensures job { IfOk result (λ job. IsJobOf text.now job) }

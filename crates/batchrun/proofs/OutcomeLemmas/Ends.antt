@@ -14,7 +14,7 @@ use Rattle.batch_history.specs.Text.{report_text}
 use Rattle.batchrun.specs.Outcomes.{WasRead, HasRun, HasDriven, Prints, FileCause, FileCompletes, IsUnlessMemory, IsFileAssured, FailsPast}
 use Rattle.batchrun.specs.Code.Reading.{HasJob}
 use Rattle.batchrun.proofs.OutcomeLemmas.Headlines.{prints_with}
-use Rattle.job_lang.specs.declared.fault.JobFault.{JobFault}
+use Rattle.job_syntax.specs.declared.fault.JobFault.{JobFault}
 use Rattle.batchrun.specs.declared.status.Refusal.TheVariants.{TooLong, Job}
 use Rattle.batchrun.specs.declared.status.Status.{Status}
 use Rattle.batchrun.specs.declared.status.Status.TheVariants.{Done, Made, Usage, ReadFault, Refused, WriteFault, Memory}

@@ -2,13 +2,13 @@
 use Rattle.std.proofs.Common.{◌≡◌, ℕ, zero, suc, ◌+◌, ◌<◌, List, [], ◌∷◌, ◌++◌, length, take, get_or, Vec, Global, refl, sym, ap, ◌∙◌, arith, append_assoc, subst}
 use Rattle.seq_objects.specs.declared.act.Act.{Act}
 use Rattle.sp_order.specs.Precedence.{Tree}
-use Rattle.job_lang.specs.declared.item.Item.{Item, Block}
-use Rattle.job_lang.specs.declared.item.BlockKind.{BlockKind as CodeBlockKind}
-use Rattle.job_lang.specs.Grammar.{Items, nothing, leaf_then, block_then, seq_block, par_block, for_loop, pfor_loop, ◌then◌}
+use Rattle.job_syntax.specs.declared.item.Item.{Item, Block}
+use Rattle.job_syntax.specs.declared.item.BlockKind.{BlockKind as CodeBlockKind}
+use Rattle.job_syntax.specs.Grammar.{Items, nothing, leaf_then, block_then, seq_block, par_block, for_loop, pfor_loop, ◌then◌}
 use Rattle.job_lang.specs.Meaning.{shapes_in, acts_in}
 use Rattle.job_lang.specs.Code.Ranges.{Fits}
-use Rattle.job_lang.specs.Code.Views.{items_of, item_of, block_kind_of}
-use Rattle.job_lang.proofs.ParserLemmas.Levels.{items_of_more, item_of_block}
+use Rattle.job_syntax.specs.Views.{items_of, item_of, block_kind_of}
+use Rattle.job_syntax.proofs.ParserLemmas.Levels.{items_of_more, item_of_block}
 
 pub shapes_then : (c : ℕ) (a b : Items) → shapes_in c (a then b) ≡ shapes_in c a ++ shapes_in c b
 shapes_then c nothing b = refl

@@ -5,8 +5,9 @@ use Rattle.std.proofs.lemmas.List.Sums.{sum_by-take-drop, sum_by-append, sum_by-
 use Rattle.seq_objects.specs.declared.act.Act.{Act}
 use Rattle.sp_order.specs.Precedence.{Tree, leaf, seq, par, leaves, leaf_count}
 use Rattle.job_lang.specs.Joins.{join_within, join_of, both, half}
-use Rattle.job_lang.specs.Grammar.{Items, nothing, leaf_then, block_then, seq_block, par_block, for_loop, pfor_loop}
-use Rattle.job_lang.specs.Counts.{count, word_number}
+use Rattle.job_syntax.specs.Grammar.{Items, nothing, leaf_then, block_then, seq_block, par_block, for_loop, pfor_loop}
+use Rattle.job_syntax.specs.Blocks.{word_number}
+use Rattle.job_lang.specs.Counts.{count}
 use Rattle.job_lang.specs.Meaning.{shapes_in, acts_in, each_copy, join_list}
 
 module _ (kind : Tree → Tree → Tree) (adds : (a b : Tree) → leaves (kind a b) ≡ leaves a + leaves b) where

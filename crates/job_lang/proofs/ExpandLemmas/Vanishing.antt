@@ -3,8 +3,8 @@ use Rattle.std.proofs.Common.{◌≡◌, ℕ, zero, suc, List, [], ◌∷◌, �
 use Rattle.std.specs.Prelude.{◌||◌, ◌==◌, if◌then◌else◌}
 use Rattle.seq_objects.specs.declared.act.Act.{Act}
 use Rattle.sp_order.specs.Precedence.{Tree, leaf as one_leaf, seq, par}
-use Rattle.job_lang.specs.Grammar.{Items, nothing, leaf_then, block_then, BlockKind, seq_block, par_block, for_loop, pfor_loop}
-use Rattle.job_lang.specs.Counts.{word_number, copies_of}
+use Rattle.job_syntax.specs.Grammar.{Items, nothing, leaf_then, block_then, BlockKind, seq_block, par_block, for_loop, pfor_loop}
+use Rattle.job_syntax.specs.Blocks.{word_number, copies_of}
 use Rattle.job_lang.specs.Meaning.{shapes_in, acts_in, act_of, each_copy, join_list}
 use Rattle.job_lang.specs.Code.Ranges.{Fits}
 use Rattle.job_lang.specs.Code.Pruning.{is_nothing, full_block_then, without_empty}

@@ -14,7 +14,7 @@ use Rattle.sp_order.specs.Phases.{ComesBefore, FillsFirst}
 use Rattle.job_lang.specs.Joins.{half, both, join_within, join_of}
 use Rattle.job_lang.specs.Generator.{growing_ops, finds_for, calls, pops_for, takes_for, part, all_ops, job_growing_by, generated}
 use Rattle.job_lang.proofs.ExpandLemmas.Leaves.{join_within_leaves}
-use Rattle.job_lang.proofs.ParserLemmas.EachOf.{each_append}
+use Rattle.job_lang.proofs.EachOf.{each_append}
 use Rattle.job_lang.proofs.GeneratorLemmas.Phases.{total_append}
 use Rattle.job_lang.proofs.GeneratorLemmas.Counts.{later_ops, later_parts, later_leaves, length_acts, each_leaf}
 use Rattle.job_lang.proofs.GeneratorLemmas.Draws.{Grows, all_grow, length_growing}

@@ -17,7 +17,7 @@ use Rattle.job_lang.specs.Language.{IsJobOf}
 use Rattle.job_lang.specs.Generator.{growing_ops, finds_for, calls, pops_for, takes_for, part, all_ops, all_parts, job_growing_by, generated}
 use Rattle.job_lang.proofs.GeneratorLemmas.Counts.{later_ops, answers, length_pops, length_takes, length_acts, later_some, few_acts, leaves_are_acts}
 use Rattle.job_lang.proofs.GeneratorLemmas.Draws.{Grows, all_grow, length_growing}
-use Rattle.job_lang.proofs.ParserLemmas.EachOf.{each_append, each_of_first, each_of_rest}
+use Rattle.job_lang.proofs.EachOf.{each_append, each_of_first, each_of_rest}
 use Rattle.job_lang.proofs.WriterLemmas.Jobs.{canonical_is_job, canonical_is_short}
 
 -- trees that are all at most so deep

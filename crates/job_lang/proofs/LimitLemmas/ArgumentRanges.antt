@@ -1,14 +1,14 @@
 -- The flags of arguments out of range, item after item, and where the first of them is found.
 use Rattle.std.proofs.Common.{◌≡◌, ℕ, ◌+◌, ◌<◌, List, [], ◌∷◌, ◌++◌, length, take, drop, get_or, Vec, Global, Bool, true, false, Option, Some, None, refl, sym, ap, ◌∙◌, append_assoc, append-nil}
-use Rattle.job_lang.specs.declared.lexer.word.WordOnLine.{WordOnLine}
-use Rattle.job_lang.specs.declared.item.Item.{Item, Leaf as ItemLeaf, Block}
-use Rattle.job_lang.specs.declared.item.Leaf.{Leaf as CodeLeaf}
-use Rattle.job_lang.specs.declared.item.BlockKind.{BlockKind as CodeBlockKind}
-use Rattle.job_lang.specs.Grammar.{Items, nothing, leaf_then, block_then, ◌then◌}
+use Rattle.job_syntax.specs.declared.lexer.word.WordOnLine.{WordOnLine}
+use Rattle.job_syntax.specs.declared.item.Item.{Item, Leaf as ItemLeaf, Block}
+use Rattle.job_syntax.specs.declared.item.Leaf.{Leaf as CodeLeaf}
+use Rattle.job_syntax.specs.declared.item.BlockKind.{BlockKind as CodeBlockKind}
+use Rattle.job_syntax.specs.Grammar.{Items, nothing, leaf_then, block_then, ◌then◌}
 use Rattle.job_lang.specs.Limits.{copies_inside, leaf_range_flags, range_flags, first_line, argument_line}
 use Rattle.job_lang.specs.Code.Searches.{dependents, found_or, Finds}
-use Rattle.job_lang.specs.Code.Views.{items_of, item_of, leaf_of, block_kind_of}
-use Rattle.job_lang.proofs.ParserLemmas.Levels.{items_of_more, items_of_parts, item_of_leaf, item_of_block}
+use Rattle.job_syntax.specs.Views.{items_of, item_of, leaf_of, block_kind_of}
+use Rattle.job_syntax.proofs.ParserLemmas.Levels.{items_of_more, items_of_parts, item_of_leaf, item_of_block}
 
 pub range_flags_then : (c : ℕ) (a b : Items) → range_flags c (a then b) ≡ range_flags c a ++ range_flags c b
 range_flags_then c nothing b = refl

@@ -4,12 +4,12 @@ use Rattle.std.specs.Prelude.{◌&&◌, nat_le, if◌then◌else◌}
 use Rattle.std.proofs.Math.Nat.{mul-le-mul_left}
 use Rattle.std.proofs.lemmas.Bool.{le-leb, leb-false}
 use Rattle.std.proofs.lemmas.List.Elements.{filter-append}
-use Rattle.job_lang.specs.declared.lexer.word.Word.{Word}
-use Rattle.job_lang.specs.declared.lexer.word.Word.TheVariants.{Open, Close, Copies}
-use Rattle.job_lang.specs.declared.lexer.word.WordOnLine.{WordOnLine}
-use Rattle.job_lang.specs.Grammar.{Items, nothing, leaf_then, block_then, seq_block, par_block, for_loop, pfor_loop, Leaf, with_argument, stack_pop, queue_take, unary_op_words, leaf_words, kind_words, items_words, IsLeaf, AreItems, Derives}
-use Rattle.job_lang.specs.Faults.{words_of}
-use Rattle.job_lang.specs.Counts.{word_number}
+use Rattle.job_syntax.specs.declared.lexer.word.Word.{Word}
+use Rattle.job_syntax.specs.declared.lexer.word.Word.TheVariants.{Open, Close, Copies}
+use Rattle.job_syntax.specs.declared.lexer.word.WordOnLine.{WordOnLine}
+use Rattle.job_syntax.specs.Grammar.{Items, nothing, leaf_then, block_then, seq_block, par_block, for_loop, pfor_loop, Leaf, with_argument, stack_pop, queue_take, unary_op_words, leaf_words, kind_words, items_words, IsLeaf, AreItems, Derives}
+use Rattle.job_syntax.specs.Faults.{words_of}
+use Rattle.job_syntax.specs.Blocks.{word_number}
 use Rattle.job_lang.specs.Limits.{copies_inside, is_out_of_range, leaf_range_flags, range_flags, depends_on_copy, first_line, argument_line}
 use Rattle.job_lang.specs.Code.Ranges.{FitsLeaf, Fits}
 use Rattle.job_lang.specs.Code.Searches.{dependents}

@@ -2,13 +2,14 @@
 use Rattle.std.proofs.Common.{Vec, Global, ◌≡◌, ℕ, zero, suc, ◌+◌, ◌*◌, ◌<◌, ◌≤◌, min, List, length, take, get_or, sym, ap, ◌∙◌, arith, inl, inr}
 use Rattle.std.proofs.Math.Nat.{mul-le-mul_left}
 use Rattle.std.proofs.lemmas.Bool.{cases_lt}
-use Rattle.job_lang.specs.declared.item.Item.{Item, Leaf as ItemLeaf, Block}
-use Rattle.job_lang.specs.declared.item.Leaf.{Leaf as CodeLeaf}
-use Rattle.job_lang.specs.declared.item.BlockKind.{BlockKind as CodeBlockKind}
-use Rattle.job_lang.specs.Grammar.{Items, nothing, leaf_then, block_then, ◌then◌}
-use Rattle.job_lang.specs.Counts.{count, copies_of}
-use Rattle.job_lang.specs.Code.Views.{items_of, item_of, block_kind_of}
-use Rattle.job_lang.proofs.ParserLemmas.Levels.{items_of_more, item_of_leaf, item_of_block}
+use Rattle.job_syntax.specs.declared.item.Item.{Item, Leaf as ItemLeaf, Block}
+use Rattle.job_syntax.specs.declared.item.Leaf.{Leaf as CodeLeaf}
+use Rattle.job_syntax.specs.declared.item.BlockKind.{BlockKind as CodeBlockKind}
+use Rattle.job_syntax.specs.Grammar.{Items, nothing, leaf_then, block_then, ◌then◌}
+use Rattle.job_syntax.specs.Blocks.{copies_of}
+use Rattle.job_lang.specs.Counts.{count}
+use Rattle.job_syntax.specs.Views.{items_of, item_of, block_kind_of}
+use Rattle.job_syntax.proofs.ParserLemmas.Levels.{items_of_more, item_of_leaf, item_of_block}
 
 pub count_then : (a b : Items) → count (a then b) ≡ count a + count b
 count_then nothing b = omega arith

@@ -2,15 +2,15 @@
 use Rattle.std.proofs.Common.{◌≡◌, ℕ, suc, ◌+◌, ◌<◌, ◌≤◌, List, ◌∷◌, ◌++◌, length, take, drop, get_or, refl, sym, ap, ◌∙◌, arith, length-append, add-one}
 use Rattle.std.proofs.lemmas.List.{take-append-drop, length-map}
 use Rattle.std.proofs.Math.Seq.{drop-cons}
-use Rattle.job_lang.specs.declared.lexer.word.WordOnLine.{WordOnLine}
-use Rattle.job_lang.specs.declared.item.Item.{Item}
-use Rattle.job_lang.specs.declared.item.Item.TheOpen.{Item-F}
-use Rattle.job_lang.specs.Grammar.{Items, ◌then◌, items_words}
-use Rattle.job_lang.specs.Faults.{words_of}
+use Rattle.job_syntax.specs.declared.lexer.word.WordOnLine.{WordOnLine}
+use Rattle.job_syntax.specs.declared.item.Item.{Item}
+use Rattle.job_syntax.specs.declared.item.Item.TheOpen.{Item-F}
+use Rattle.job_syntax.specs.Grammar.{Items, ◌then◌, items_words}
+use Rattle.job_syntax.specs.Faults.{words_of}
 use Rattle.job_lang.specs.Counts.{count, count_first}
 use Rattle.job_lang.specs.Limits.{IsLeavesLine}
-use Rattle.job_lang.specs.Code.Views.{items_of, item_of, item_step, leaf_of}
-use Rattle.job_lang.proofs.ParserLemmas.Levels.{level_of, items_of_parts}
+use Rattle.job_syntax.specs.Views.{items_of, item_of, item_step, leaf_of}
+use Rattle.job_syntax.proofs.ParserLemmas.Levels.{level_of, items_of_parts}
 use Rattle.job_lang.proofs.LimitLemmas.WordCounts.{front_words, leaf_writes, word_count_more, front_word_count}
 
 step_counts : (x : Item-F Items) (more : Items) → count_first (item_step x then more) ≡ count (item_step x)

@@ -2,10 +2,11 @@
 use Rattle.std.proofs.Common.{◌≡◌, ℕ, zero, suc, ◌+◌, ◌-◌, ◌*◌, ◌<◌, ◌≤◌, List, [], ◌∷◌, ◌++◌, length, take, drop, refl, sym, ap, ◌∙◌, arith, inl, inr, length-append}
 use Rattle.std.proofs.lemmas.Bool.{cases_lt}
 use Rattle.std.proofs.lemmas.List.{take-append-drop, length-map}
-use Rattle.job_lang.specs.declared.lexer.word.WordOnLine.{WordOnLine}
-use Rattle.job_lang.specs.Grammar.{Items, nothing, leaf_then, block_then, Leaf, BlockKind, ◌then◌, items_words}
-use Rattle.job_lang.specs.Faults.{words_of}
-use Rattle.job_lang.specs.Counts.{count, count_first, copies_of}
+use Rattle.job_syntax.specs.declared.lexer.word.WordOnLine.{WordOnLine}
+use Rattle.job_syntax.specs.Grammar.{Items, nothing, leaf_then, block_then, Leaf, BlockKind, ◌then◌, items_words}
+use Rattle.job_syntax.specs.Faults.{words_of}
+use Rattle.job_syntax.specs.Blocks.{copies_of}
+use Rattle.job_lang.specs.Counts.{count, count_first}
 use Rattle.job_lang.specs.Limits.{IsLeavesLine}
 use Rattle.job_lang.proofs.LimitLemmas.Cuts.{count_then}
 use Rattle.job_lang.proofs.LimitLemmas.WordCounts.{front_words, behind_words, leaf_writes}

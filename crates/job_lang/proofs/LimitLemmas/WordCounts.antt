@@ -2,15 +2,15 @@
 use Rattle.std.proofs.Common.{◌≡◌, ℕ, ◌+◌, ◌<◌, ◌≤◌, List, length, take, drop, get_or, Vec, Global, sym, ap, ◌∙◌, arith, append-nil, length-append}
 use Rattle.std.proofs.Math.Seq.{take-append_seam, drop-append_seam}
 use Rattle.std.proofs.lemmas.List.{take-map, drop-map}
-use Rattle.job_lang.specs.declared.lexer.word.WordOnLine.{WordOnLine}
-use Rattle.job_lang.specs.declared.item.Item.{Item, Leaf as ItemLeaf, Block}
-use Rattle.job_lang.specs.declared.item.Leaf.{Leaf as CodeLeaf}
-use Rattle.job_lang.specs.declared.item.BlockKind.{BlockKind as CodeBlockKind}
-use Rattle.job_lang.specs.Grammar.{Items, ◌then◌, Leaf, with_argument, stack_pop, queue_take, leaf_words, kind_words, items_words}
-use Rattle.job_lang.specs.Faults.{words_of}
-use Rattle.job_lang.specs.Code.Views.{items_of, item_of, leaf_of, block_kind_of}
-use Rattle.job_lang.proofs.ParserLemmas.Derivations.{words_then}
-use Rattle.job_lang.proofs.ParserLemmas.Levels.{items_of_more, items_of_parts, item_of_leaf, item_of_block}
+use Rattle.job_syntax.specs.declared.lexer.word.WordOnLine.{WordOnLine}
+use Rattle.job_syntax.specs.declared.item.Item.{Item, Leaf as ItemLeaf, Block}
+use Rattle.job_syntax.specs.declared.item.Leaf.{Leaf as CodeLeaf}
+use Rattle.job_syntax.specs.declared.item.BlockKind.{BlockKind as CodeBlockKind}
+use Rattle.job_syntax.specs.Grammar.{Items, ◌then◌, Leaf, with_argument, stack_pop, queue_take, leaf_words, kind_words, items_words}
+use Rattle.job_syntax.specs.Faults.{words_of}
+use Rattle.job_syntax.specs.Views.{items_of, item_of, leaf_of, block_kind_of}
+use Rattle.job_syntax.proofs.ParserLemmas.Derivations.{words_then}
+use Rattle.job_syntax.proofs.ParserLemmas.Levels.{items_of_more, items_of_parts, item_of_leaf, item_of_block}
 
 -- the words of the first items are the first words, and those of the others are the words behind
 pub front_words : (tokens : List WordOnLine) (before rest : Items) → items_words (before then rest) ≡ words_of tokens → items_words before ≡ words_of (take (length (items_words before)) tokens)

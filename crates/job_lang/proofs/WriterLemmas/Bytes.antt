@@ -13,10 +13,10 @@ use Rattle.seq_objects.specs.declared.op.Op.{Op}
 use Rattle.seq_objects.specs.declared.op.Op.TheVariants.{CounterAdd, Push, Pop, TreeInsert, TreeRemove, TreeFind, TreeNext, PqInsert, PqTake}
 use Rattle.sp_order.specs.Precedence.{Tree, leaf, seq, par, leaves}
 use Rattle.job_lang.specs.ActNumbers.{op_number, act_number, IsSmall, AreSmall}
-use Rattle.job_lang.specs.Text.{is_allowed, is_hash, bare, forbidden_line_from, line_behind}
+use Rattle.job_syntax.specs.Text.{is_allowed, is_hash, bare, forbidden_line_from, line_behind}
 use Rattle.job_lang.specs.Canonical.{act_text, tree_text}
-use Rattle.job_lang.proofs.ParserLemmas.EachOf.{each_of_first, each_of_rest}
-use Rattle.job_lang.proofs.LexerLemmas.Decimals.{each_byte}
+use Rattle.job_lang.proofs.EachOf.{each_of_first, each_of_rest}
+use Rattle.job_lang.proofs.WriterLemmas.Decimals.{each_byte}
 
 -- a byte that is allowed and begins no comment
 abbrev pub is_plain : ℕ → Bool

@@ -10,15 +10,16 @@ use Rattle.seq_objects.specs.declared.op.Op.TheVariants.{CounterAdd, Push, Pop, 
 use Rattle.sp_order.specs.Precedence.{Tree, leaf, seq, par, leaves}
 use Rattle.sp_order.specs.Depth.{tree_depth}
 use Rattle.sp_order.specs.Jobs.{JobValue}
-use Rattle.job_lang.specs.declared.lexer.word.Word.{Word}
-use Rattle.job_lang.specs.declared.lexer.word.Word.TheVariants.{Close, Number}
-use Rattle.job_lang.specs.Grammar.{Items, nothing, leaf_then, block_then, seq_block, par_block, Leaf, with_argument, stack_pop, queue_take, work, counter_add, stack_push, tree_insert, tree_remove, tree_find, tree_next, queue_insert, items_words, AreItems}
-use Rattle.job_lang.specs.Faults.{has_good_numbers}
-use Rattle.job_lang.specs.Counts.{count, nesting}
+use Rattle.job_syntax.specs.declared.lexer.word.Word.{Word}
+use Rattle.job_syntax.specs.declared.lexer.word.Word.TheVariants.{Close, Number}
+use Rattle.job_syntax.specs.Grammar.{Items, nothing, leaf_then, block_then, seq_block, par_block, Leaf, with_argument, stack_pop, queue_take, work, counter_add, stack_push, tree_insert, tree_remove, tree_find, tree_next, queue_insert, items_words, AreItems}
+use Rattle.job_syntax.specs.Faults.{has_good_numbers}
+use Rattle.job_syntax.specs.Blocks.{nesting}
+use Rattle.job_lang.specs.Counts.{count}
 use Rattle.job_lang.specs.Joins.{join_of}
 use Rattle.job_lang.specs.Meaning.{act_of, acts_in, shapes_in, job_of}
 use Rattle.job_lang.specs.Limits.{leaf_range_flags, range_flags}
-use Rattle.job_lang.proofs.ParserLemmas.EachOf.{each_append}
+use Rattle.job_lang.proofs.EachOf.{each_append}
 
 -- the leaf that writes an act
 abbrev pub leaf_of_op : Op → Leaf

@@ -8,16 +8,16 @@ use Rattle.seq_objects.specs.declared.op.Op.{Op}
 use Rattle.sp_order.specs.Precedence.{Tree, leaf, leaves, leaf_count}
 use Rattle.sp_order.specs.Depth.{tree_depth, depth_of}
 use Rattle.sp_order.specs.Jobs.{JobValue, IsJob}
-use Rattle.job_lang.specs.declared.lexer.word.WordOnLine.{WordOnLine}
+use Rattle.job_syntax.specs.declared.lexer.word.WordOnLine.{WordOnLine}
 use Rattle.job_lang.specs.ActNumbers.{op_number, IsSmall, AreSmall}
-use Rattle.job_lang.specs.Text.{begins_in_chunk, forbidden_line_from}
-use Rattle.job_lang.specs.Words.{words_on_lines}
-use Rattle.job_lang.specs.Grammar.{nothing}
-use Rattle.job_lang.specs.Faults.{has_good_numbers}
+use Rattle.job_syntax.specs.Text.{begins_in_chunk, forbidden_line_from}
+use Rattle.job_syntax.specs.Words.{words_on_lines}
+use Rattle.job_syntax.specs.Grammar.{nothing}
+use Rattle.job_syntax.specs.Faults.{has_good_numbers}
 use Rattle.job_lang.specs.Limits.{first_line, depends_on_copy}
 use Rattle.job_lang.specs.Language.{IsJobOf}
 use Rattle.job_lang.specs.Canonical.{tree_text, shape_text, canonical_text}
-use Rattle.job_lang.proofs.ParserLemmas.EachOf.{each_before_map}
+use Rattle.job_lang.proofs.EachOf.{each_before_map}
 use Rattle.job_lang.proofs.WriterLemmas.Items.{AreGood, tree_items, job_again, tree_count, tree_nesting, tree_range_flags, tree_fits, tree_good}
 use Rattle.job_lang.proofs.WriterLemmas.Bytes.{ArePlain, bare_same, none_forbidden, plain_append, plain_tree, short_tree}
 use Rattle.job_lang.proofs.WriterLemmas.Words.{said_from, tree_said}

@@ -7,15 +7,15 @@ use Rattle.seq_objects.specs.declared.act.Act.TheVariants.{Work, Call}
 use Rattle.seq_objects.specs.declared.op.Op.{Op}
 use Rattle.seq_objects.specs.declared.op.Op.TheVariants.{CounterAdd, Push, Pop, TreeInsert, TreeRemove, TreeFind, TreeNext, PqInsert, PqTake}
 use Rattle.sp_order.specs.Precedence.{Tree, leaf, seq, par, leaves}
-use Rattle.job_lang.specs.declared.lexer.word.Word.{Word}
-use Rattle.job_lang.specs.declared.lexer.word.Word.TheVariants as word
+use Rattle.job_syntax.specs.declared.lexer.word.Word.{Word}
+use Rattle.job_syntax.specs.declared.lexer.word.Word.TheVariants as word
 use Rattle.job_lang.specs.ActNumbers.{op_number, act_number, IsSmall, AreSmall}
-use Rattle.job_lang.specs.Text.{tokens_from, begins_in_chunk}
-use Rattle.job_lang.specs.Words.{word_on_line}
-use Rattle.job_lang.specs.Grammar.{Items, nothing, items_words, leaf_words}
-use Rattle.job_lang.specs.Faults.{words_of}
+use Rattle.job_syntax.specs.Text.{tokens_from, begins_in_chunk}
+use Rattle.job_syntax.specs.Words.{word_on_line}
+use Rattle.job_syntax.specs.Grammar.{Items, nothing, items_words, leaf_words}
+use Rattle.job_syntax.specs.Faults.{words_of}
 use Rattle.job_lang.specs.Canonical.{act_text, tree_text}
-use Rattle.job_lang.proofs.LexerLemmas.Decimals.{chunk_token, decimal_token, decimal_word}
+use Rattle.job_lang.proofs.WriterLemmas.Decimals.{chunk_token, decimal_token, decimal_word}
 use Rattle.job_lang.proofs.WriterLemmas.Bytes.{first_small, last_small}
 use Rattle.job_lang.proofs.WriterLemmas.Items.{leaf_of_op, leaf_of_act, tree_items, left_length, right_length}
 

@@ -1,7 +1,7 @@
 -- The ways to join shapes in the code, as those of trees.
 use Rattle.job_lang.specs.declared.expand.join.Order.{Order}
 use Rattle.job_lang.specs.declared.expand.join.Order.TheVariants.{Series, Parallel}
-use Rattle.job_lang.specs.Grammar.{BlockKind, seq_block, par_block, for_loop, pfor_loop}
+use Rattle.job_syntax.specs.Grammar.{BlockKind, seq_block, par_block, for_loop, pfor_loop}
 use Rattle.sp_order.specs.Precedence.{Tree, seq, par}
 
 abbrev pub join_by : Order → Tree → Tree → Tree

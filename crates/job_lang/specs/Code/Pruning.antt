@@ -1,7 +1,7 @@
 -- Items without those that make no leaf, at every level.
 use Rattle.std.specs.Prelude.{Bool, true, false, ◌||◌, if◌then◌else◌, ◌==◌}
-use Rattle.job_lang.specs.Grammar.{Items, nothing, leaf_then, block_then, BlockKind}
-use Rattle.job_lang.specs.Counts.{copies_of}
+use Rattle.job_syntax.specs.Grammar.{Items, nothing, leaf_then, block_then, BlockKind}
+use Rattle.job_syntax.specs.Blocks.{copies_of}
 
 abbrev pub is_nothing : Items → Bool
 is_nothing nothing = true

@@ -1,9 +1,9 @@
 -- Each number that depends on the copy fits 32 bits.
 use Rattle.std.specs.Prelude.{ℕ, ◌+◌, ◌*◌, ◌<◌, ◌^◌, Some}
-use Rattle.job_lang.specs.declared.lexer.word.Word.{Word}
-use Rattle.job_lang.specs.declared.lexer.word.Word.TheVariants.{Copies}
-use Rattle.job_lang.specs.Grammar.{Items, nothing, leaf_then, block_then, seq_block, par_block, for_loop, pfor_loop, Leaf, with_argument, stack_pop, queue_take}
-use Rattle.job_lang.specs.Counts.{word_number}
+use Rattle.job_syntax.specs.declared.lexer.word.Word.{Word}
+use Rattle.job_syntax.specs.declared.lexer.word.Word.TheVariants.{Copies}
+use Rattle.job_syntax.specs.Grammar.{Items, nothing, leaf_then, block_then, seq_block, par_block, for_loop, pfor_loop, Leaf, with_argument, stack_pop, queue_take}
+use Rattle.job_syntax.specs.Blocks.{word_number}
 
 abbrev pub FitsArgument : ℕ → Word → Type 0
 FitsArgument copy (Copies (Some by)) = by.0 * copy + by.1 < 2 ^ 32

@@ -1,6 +1,6 @@
 -- How the arguments that depend on the copy are scanned.
 use Rattle.std.specs.Prelude.{◌≡◌, ℕ, List, ◌++◌, filter, Bool, Option, Some, None}
-use Rattle.job_lang.specs.declared.lexer.word.WordOnLine.{WordOnLine}
+use Rattle.job_syntax.specs.declared.lexer.word.WordOnLine.{WordOnLine}
 use Rattle.job_lang.specs.Limits.{depends_on_copy, first_line}
 
 -- the words that depend on the copy

@@ -1,9 +1,9 @@
 //! Items without those that make no leaf, so that each visit of an item in a copy makes one.
 ghost use Rattle.std.specs.Prelude.{◌≡◌, not};
-ghost use Rattle.job_lang.specs.Code.Views.{items_of, item_of};
+ghost use Rattle.job_syntax.specs.Views.{items_of, item_of};
 ghost use Rattle.job_lang.specs.Code.Pruning.{is_nothing, only_full, without_empty};
 
-use crate::item::Item;
+use job_syntax::Item;
 
 /// Whether the item is a leaf, or a block that has a copy and items.
 fn is_full(item: &Item) -> bool

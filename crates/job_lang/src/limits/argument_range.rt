@@ -2,11 +2,9 @@
 ghost use Rattle.std.specs.Prelude.{◌≡◌, [], ◌∷◌, IfSome, IfNone};
 ghost use Rattle.job_lang.specs.Limits.{copies_inside, is_out_of_range, leaf_range_flags, range_flags};
 ghost use Rattle.job_lang.specs.Code.Searches.{dependents, Finds};
-ghost use Rattle.job_lang.specs.Code.Views.{argument_word, leaf_of, block_kind_of, item_of, items_of};
+ghost use Rattle.job_syntax.specs.Views.{argument_word, leaf_of, block_kind_of, item_of, items_of};
 
-use crate::item::{Argument, BlockKind, Item, Leaf};
-use crate::lexer::word::{Word, WordOnLine};
-use crate::parser::cursor::Cursor;
+use job_syntax::{Argument, BlockKind, Cursor, Item, Leaf, Word, WordOnLine};
 
 /// Takes the words up to the next that depends on the copy, and answers that one.
 fn next_dependent(words: &mut Cursor) -> Option<WordOnLine>

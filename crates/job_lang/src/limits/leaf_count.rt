@@ -1,9 +1,9 @@
 //! The number of leaves that items make, up to one more than a job may have.
 ghost use Rattle.std.specs.Prelude.{◌≡◌, min};
 ghost use Rattle.job_lang.specs.Counts.{count};
-ghost use Rattle.job_lang.specs.Code.Views.{items_of, item_of};
+ghost use Rattle.job_syntax.specs.Views.{items_of, item_of};
 
-use crate::item::Item;
+use job_syntax::Item;
 
 /// One more leaf than a job may have. A count goes no further, so that it does not overflow.
 const CUT: u64 = 20_001;

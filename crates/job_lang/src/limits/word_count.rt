@@ -1,9 +1,9 @@
 //! The number of words that items write, which tells where among the words an item begins.
 ghost use Rattle.std.specs.Prelude.{◌≡◌, ◌<◌, ◌^◌, length};
-ghost use Rattle.job_lang.specs.Grammar.{unary_op_words, leaf_words, kind_words, items_words};
-ghost use Rattle.job_lang.specs.Code.Views.{unary_op_of, leaf_of, block_kind_of, item_of, items_of};
+ghost use Rattle.job_syntax.specs.Grammar.{unary_op_words, leaf_words, kind_words, items_words};
+ghost use Rattle.job_syntax.specs.Views.{unary_op_of, leaf_of, block_kind_of, item_of, items_of};
 
-use crate::item::{BlockKind, Item, Leaf, UnaryOp};
+use job_syntax::{BlockKind, Item, Leaf, UnaryOp};
 
 fn unary_op_word_count(op: UnaryOp) -> usize
     ensures { result ≡ length (unary_op_words (unary_op_of op)) }
@@ -41,7 +41,7 @@ fn kind_word_count(kind: BlockKind) -> usize
 
 /// The number of words that the items write.
 #[cycle(counting_words)]
-#[tactic(auto, using(crate::proofs::LimitLemmas::WordCounts::word_count_item, crate::proofs::ParserLemmas::Weights::weight_item))]
+#[tactic(auto, using(crate::proofs::LimitLemmas::WordCounts::word_count_item, crate::proofs::Weights::weight_item))]
 fn items_word_count(items: &[Item]) -> usize
     requires { length (items_words (items_of items.now)) < 2 ^ 63 }
     ensures { result ≡ length (items_words (items_of items.now)) }
@@ -55,7 +55,7 @@ fn items_word_count(items: &[Item]) -> usize
 
 /// The number of words that the item writes.
 #[cycle(counting_words)]
-#[tactic(auto, using(crate::proofs::LimitLemmas::WordCounts::leaf_item_word_count, crate::proofs::LimitLemmas::WordCounts::block_item_word_count, crate::proofs::ParserLemmas::Weights::weight_block))]
+#[tactic(auto, using(crate::proofs::LimitLemmas::WordCounts::leaf_item_word_count, crate::proofs::LimitLemmas::WordCounts::block_item_word_count, crate::proofs::Weights::weight_block))]
 pub(crate) fn item_word_count(item: &Item) -> usize
     requires { length (items_words (item_of item.now)) < 2 ^ 63 }
     ensures { result ≡ length (items_words (item_of item.now)) }

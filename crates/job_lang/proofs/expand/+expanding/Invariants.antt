@@ -1,8 +1,8 @@
 use Rattle.std.proofs.Common.{◌≡◌, ◌++◌, ◌+◌, map, take}
 use Rattle.sp_order.specs.Precedence.{tree_of, seq}
 use Rattle.job_lang.specs.Meaning.{shapes_in, acts_in, each_copy, join_list}
-use Rattle.job_lang.specs.Code.Views.{items_of, item_of}
-use Rattle.job_lang.proofs.ParserLemmas.Weights.{weight}
+use Rattle.job_syntax.specs.Views.{items_of, item_of}
+use Rattle.job_lang.proofs.Weights.{weight}
 use Rattle.job_lang.proofs.expand.+expanding.Given as goal
 
 abbrev pub invariant-shapes_of_copies-loop-copy : goal.invariant-shapes_of_copies-loop-copy

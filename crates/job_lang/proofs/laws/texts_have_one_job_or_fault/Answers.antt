@@ -1,4 +1,4 @@
-use Rattle.job_lang.proofs.ParserLemmas.Answering.{one_job, one_fault, not_both, job_or_fault}
+use Rattle.job_lang.proofs.ReaderLemmas.Answering.{one_job, one_fault, not_both, job_or_fault}
 use Rattle.job_lang.proofs.laws.texts_have_one_job_or_fault.Goals as goal
 
 pub returns-clause-one_job : goal.returns-clause-one_job

@@ -1,6 +1,6 @@
 use Rattle.std.proofs.Common.{ap, ◌∙◌}
 use Rattle.job_lang.specs.Limits.{argument_line}
-use Rattle.job_lang.specs.Code.Views.{items_of}
+use Rattle.job_syntax.specs.Views.{items_of}
 use Rattle.job_lang.proofs.LimitLemmas.ArgumentRanges.{found_line}
 use Rattle.job_lang.proofs.limits.argument_line.Goals as goal
 

@@ -1,5 +1,5 @@
 use Rattle.std.proofs.Common.{arith, refl}
-use Rattle.job_lang.specs.declared.lexer.word.Word.TheVariants.{Open}
+use Rattle.job_syntax.specs.declared.lexer.word.Word.TheVariants.{Open}
 use Rattle.job_lang.proofs.LimitLemmas.Cuts.{count_more}
 use Rattle.job_lang.proofs.LimitLemmas.WordCounts.{word_count_more}
 use Rattle.job_lang.proofs.LimitLemmas.LeavesLines.{first_word, last_word, leaves_line_of}

@@ -1,4 +1,4 @@
-use Rattle.job_lang.proofs.ParserLemmas.Answering.{answers_job, answers_fault}
+use Rattle.job_lang.proofs.ReaderLemmas.Answering.{answers_job, answers_fault}
 use Rattle.job_lang.proofs.reader.read_job.Goals as goal
 
 pub returns-clause-accepts : goal.returns-clause-accepts

@@ -3,7 +3,7 @@ use Rattle.std.proofs.lemmas.Result.{on_ok_weaker}
 use Rattle.sp_order.specs.Precedence.{tree_of, leaves}
 use Rattle.job_lang.specs.ActNumbers.{act_number, IsSmall, AreSmall}
 use Rattle.job_lang.proofs.WriterLemmas.Fronts.{seq_text, par_text}
-use Rattle.job_lang.proofs.ParserLemmas.EachOf.{each_of_both}
+use Rattle.job_lang.proofs.EachOf.{each_of_both}
 use Rattle.job_lang.proofs.writer.+shapes.Goals as goal
 
 pub push_shape-returns-in_ok-push_str-in-Seq-clause-text : goal.push_shape-returns-in_ok-push_str-in-Seq-clause-text

@@ -1,6 +1,6 @@
 use Rattle.std.proofs.Common.{◌≡◌, ◌++◌, codes, ap, ◌∙◌}
 use Rattle.std.specs.Fmt.{decimal}
-use Rattle.job_lang.specs.Lines.{line_in}
+use Rattle.job_syntax.specs.Lines.{line_in}
 use Rattle.batchrun.specs.Lines.{fault_words}
 use Rattle.std.proofs.KnownBytes.{Appends-trans}
 use Rattle.batchrun.proofs.OutcomeLemmas.Fronts.{front_of_first, front_of_next, whole_of_next}

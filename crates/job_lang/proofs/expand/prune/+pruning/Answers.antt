@@ -1,6 +1,6 @@
 use Rattle.std.proofs.Common.{rules, refl, sym, ap, ◌∙◌, subst, ◌≡◌, ◌++◌, length, take, drop, arith}
 use Rattle.std.proofs.Math.Seq.{take-append_seam}
-use Rattle.job_lang.specs.Code.Views.{item_of, items_of}
+use Rattle.job_syntax.specs.Views.{item_of, items_of}
 use Rattle.job_lang.specs.Code.Pruning.{only_full, without_empty}
 use Rattle.job_lang.proofs.ExpandLemmas.Pruning.{ArePrunedInside, one_more_inside, all_inside}
 use Rattle.job_lang.proofs.expand.prune.+pruning.Goals as goal

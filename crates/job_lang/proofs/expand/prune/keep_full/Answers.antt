@@ -1,6 +1,6 @@
 use Rattle.std.proofs.Common.{rules, ap, ◌∙◌}
 use Rattle.std.proofs.lemmas.Fn.{filter_same}
-use Rattle.job_lang.specs.Code.Views.{items_of}
+use Rattle.job_syntax.specs.Views.{items_of}
 use Rattle.job_lang.proofs.ExpandLemmas.Pruning.{is_full, full_items}
 use Rattle.job_lang.proofs.expand.prune.keep_full.Goals as goal
 

@@ -1,6 +1,6 @@
 use Rattle.std.proofs.Common.{◌≡◌, min, take}
 use Rattle.job_lang.specs.Counts.{count}
-use Rattle.job_lang.specs.Code.Views.{items_of}
+use Rattle.job_syntax.specs.Views.{items_of}
 use Rattle.job_lang.proofs.limits.leaf_count.+counting_leaves.Given as goal
 
 abbrev pub invariant-count_items-loop-item : goal.invariant-count_items-loop-item

@@ -1,5 +1,0 @@
-pub mod Chunks
-pub mod Decimals
-pub mod Numbers
-pub mod Quoted
-pub mod Skips

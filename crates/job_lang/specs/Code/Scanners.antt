@@ -1,7 +1,0 @@
--- The tokens that are left to a scanner.
-use Rattle.std.specs.Prelude.{List, false}
-use Rattle.job_lang.specs.declared.lexer.scanner.Scanner.{Scanner}
-use Rattle.job_lang.specs.Text.{Token, tokens_from, bare}
-
-abbrev pub tokens_left : Scanner → List Token
-tokens_left scanner = tokens_from scanner.line (bare false scanner.text.now)

@@ -1,0 +1,10 @@
+pub mod Completions
+pub mod Derivations
+pub mod Levels
+pub mod MachineAnswers
+pub mod Nestings
+pub mod OneFault
+pub mod OpenStacks
+pub mod Reached
+pub mod ReadingLaws
+pub mod Runs

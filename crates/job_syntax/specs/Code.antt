@@ -1,0 +1,8 @@
+-- What only the code and its proofs cite: no public contract speaks of it.
+pub mod Calls
+pub mod Cursors
+pub mod Fronts
+pub mod Machine
+pub mod OpenBlocks
+pub mod Scanners
+pub mod Steps

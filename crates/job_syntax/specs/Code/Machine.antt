@@ -1,0 +1,142 @@
+-- A machine that reads one word at a time.
+use Rattle.std.specs.Prelude.{ℕ, List, [], ◌∷◌, Bool, false, ◌||◌, Option, Some, None, if◌then◌else◌, option_and_then, nat_le, length, Result, Ok, Err}
+use Rattle.job_syntax.specs.declared.lexer.word.Word.{Word}
+use Rattle.job_syntax.specs.declared.lexer.word.Word.TheVariants.{Open, Close, Work, Counter, Stack, Tree, Queue, Add, Push, Pop, Insert, Remove, Find, Next, Take, Seq, Par, For, Pfor}
+use Rattle.job_syntax.specs.declared.lexer.word.WordOnLine.{WordOnLine}
+use Rattle.job_syntax.specs.declared.fault.JobFault.{JobFault}
+use Rattle.job_syntax.specs.declared.fault.JobFault.TheVariants as fault
+use Rattle.job_syntax.specs.declared.parser.call.Object.{Object}
+use Rattle.job_syntax.specs.declared.parser.call.Object.TheVariants as object
+use Rattle.job_syntax.specs.Grammar.{Items, nothing, leaf_then, block_then, ◌then◌, BlockKind, seq_block, par_block, for_loop, pfor_loop, Leaf, with_argument, stack_pop, queue_take, UnaryOp, work, counter_add, stack_push, tree_insert, tree_remove, tree_find, tree_next, queue_insert, is_loop, is_number, is_argument}
+use Rattle.job_syntax.specs.Faults.{has_good_numbers}
+
+-- an open block: the items before it, and what opened it
+pub record OpenBlock : Type 0 where
+  pub before : Items
+  pub kind : BlockKind
+
+-- a call whose argument is still to come, or one that is whole
+pub data ParsedCall : Type 0 where
+  unary : UnaryOp → ParsedCall
+  whole : Leaf → ParsedCall
+
+-- the call that a word behind the name of an object says
+abbrev pub call_behind : Object → Word → Option ParsedCall
+call_behind object.Counter Add = Some (unary counter_add)
+call_behind object.Stack Push = Some (unary stack_push)
+call_behind object.Stack Pop = Some (whole stack_pop)
+call_behind object.Tree Insert = Some (unary tree_insert)
+call_behind object.Tree Remove = Some (unary tree_remove)
+call_behind object.Tree Find = Some (unary tree_find)
+call_behind object.Tree Next = Some (unary tree_next)
+call_behind object.Queue Insert = Some (unary queue_insert)
+call_behind object.Queue Take = Some (whole queue_take)
+call_behind _ _ = None
+
+-- what has to come next
+pub data Place : Type 0 where
+  an_item : Place
+  an_argument : UnaryOp → Place
+  a_call : Object → Place
+  for_copies : Place
+  pfor_copies : Place
+  a_brace : BlockKind → Place
+
+-- the open blocks, the innermost first, the items so far in the innermost, and what comes next
+pub record State : Type 0 where
+  pub blocks : List OpenBlock
+  pub items : Items
+  pub place : Place
+
+abbrev pub at : List OpenBlock → Items → Place → State
+at blocks items place = record { blocks = blocks; items = items; place = place }
+
+abbrev pub start : State
+start = at [] nothing an_item
+
+-- whether one of the open blocks is a loop
+abbrev pub are_looped : List OpenBlock → Bool
+are_looped [] = false
+are_looped (block ∷ blocks) = are_looped blocks || is_loop block.kind
+
+-- the state behind one more leaf
+abbrev pub with_leaf : List OpenBlock → Items → Leaf → State
+with_leaf blocks items leaf = at blocks (items then leaf_then leaf nothing) an_item
+
+-- the state inside one more block
+abbrev pub after_open : List OpenBlock → Items → BlockKind → State
+after_open blocks items kind = at (record { before = items; kind = kind } ∷ blocks) nothing an_item
+
+-- the state behind the innermost block, if one is open
+abbrev pub after_close : List OpenBlock → Items → Option State
+after_close [] items = None
+after_close (block ∷ blocks) items = Some (at blocks (block.before then block_then block.kind items nothing) an_item)
+
+abbrev pub item_step : List OpenBlock → Items → Word → Option State
+item_step blocks items Close = after_close blocks items
+item_step blocks items Work = Some (at blocks items (an_argument work))
+item_step blocks items Counter = Some (at blocks items (a_call object.Counter))
+item_step blocks items Stack = Some (at blocks items (a_call object.Stack))
+item_step blocks items Tree = Some (at blocks items (a_call object.Tree))
+item_step blocks items Queue = Some (at blocks items (a_call object.Queue))
+item_step blocks items Seq = Some (at blocks items (a_brace seq_block))
+item_step blocks items Par = Some (at blocks items (a_brace par_block))
+item_step blocks items For = Some (at blocks items for_copies)
+item_step blocks items Pfor = Some (at blocks items pfor_copies)
+item_step blocks items _ = None
+
+abbrev pub behind_call : List OpenBlock → Items → ParsedCall → State
+behind_call blocks items (unary op) = at blocks items (an_argument op)
+behind_call blocks items (whole leaf) = with_leaf blocks items leaf
+
+abbrev pub call_step : List OpenBlock → Items → Option ParsedCall → Option State
+call_step blocks items None = None
+call_step blocks items (Some call) = Some (behind_call blocks items call)
+
+abbrev pub brace_step : List OpenBlock → Items → BlockKind → Word → Option State
+brace_step blocks items kind Open = Some (after_open blocks items kind)
+brace_step blocks items kind _ = None
+
+abbrev pub step_at : List OpenBlock → Items → Place → Word → Option State
+step_at blocks items an_item word = item_step blocks items word
+step_at blocks items (an_argument op) word =
+    if is_argument (are_looped blocks) word then Some (with_leaf blocks items (with_argument op word)) else None
+step_at blocks items (a_call of) word = call_step blocks items (call_behind of word)
+step_at blocks items for_copies word = if is_number word then Some (at blocks items (a_brace (for_loop word))) else None
+step_at blocks items pfor_copies word = if is_number word then Some (at blocks items (a_brace (pfor_loop word))) else None
+step_at blocks items (a_brace kind) word = brace_step blocks items kind word
+
+abbrev pub step : State → Word → Option State
+step state word = step_at state.blocks state.items state.place word
+
+-- the state to which the words lead
+abbrev pub run : Option State → List Word → Option State
+run state [] = state
+run state (word ∷ words) = run (option_and_then (λ state. step state word) state) words
+
+-- a `{` needs a place among the open blocks
+abbrev pub within_nesting : ℕ → ℕ → Word → State → Result State JobFault
+within_nesting line open_now Open new = if nat_le 32 open_now then Err (fault.Nesting line) else Ok new
+within_nesting line open_now _ new = Ok new
+
+-- one token and where it leads, with the faults of numbers and of nesting
+abbrev pub checked_step : State → WordOnLine → Option State → Result State JobFault
+checked_step state token None = Err (fault.Grammar token.line)
+checked_step state token (Some new) =
+    if has_good_numbers token.word then within_nesting token.line (length state.blocks) token.word new
+    else Err (fault.Number token.line)
+
+-- the end of the tokens, where the last line is given
+abbrev pub end_at : ℕ → Place → List OpenBlock → Items → Result Items JobFault
+end_at last an_item [] items = Ok items
+end_at last _ _ items = Err (fault.Grammar last)
+
+abbrev pub on_state : (State → Result Items JobFault) → Result State JobFault → Result Items JobFault
+on_state f (Ok state) = f state
+on_state f (Err found) = Err found
+
+-- the items of the tokens from a state on, or the first fault
+abbrev pub read_from : ℕ → State → List WordOnLine → Result Items JobFault
+read_from last state [] = end_at last state.place state.blocks state.items
+read_from last state (token ∷ tokens) =
+    on_state (λ state. read_from last state tokens) (checked_step state token (step state token.word))

@@ -1,0 +1,125 @@
+-- The loose grammar, as derivations over whole lists of words. In it a number is any run of digits, and blocks nest
+-- without a limit.
+--
+--   job      = items
+--   items    = nothing | item items
+--   item     = "work" argument | call | block
+--   call     = "counter" "add" argument
+--            | "stack" "push" argument | "stack" "pop"
+--            | "tree" "insert" argument | "tree" "remove" argument | "tree" "find" argument | "tree" "next" argument
+--            | "queue" "insert" argument | "queue" "take"
+--   block    = "seq" "{" items "}" | "par" "{" items "}"
+--            | "for" number "{" items "}" | "pfor" number "{" items "}"
+--   argument = number, or inside a loop a number that depends on the copy
+use Rattle.std.specs.Prelude.{◌≡◌, ℕ, List, [], ◌∷◌, ◌++◌, map, Bool, true, false, ◌||◌, IsTrue}
+use Rattle.job_syntax.specs.declared.lexer.word.Word.{Word}
+use Rattle.job_syntax.specs.declared.lexer.word.Word.TheVariants.{Open, Close, Work, Counter, Stack, Tree, Queue, Add, Push, Pop, Insert, Remove, Find, Next, Take, Seq, Par, For, Pfor, Number, Copies}
+use Rattle.job_syntax.specs.Words.{word_of}
+
+-- an operation with an argument
+pub data UnaryOp : Type 0 where
+  work : UnaryOp
+  counter_add : UnaryOp
+  stack_push : UnaryOp
+  tree_insert : UnaryOp
+  tree_remove : UnaryOp
+  tree_find : UnaryOp
+  tree_next : UnaryOp
+  queue_insert : UnaryOp
+
+-- an operation, and its argument if it has one
+pub data Leaf : Type 0 where
+  with_argument : UnaryOp → (argument : Word) → Leaf
+  stack_pop : Leaf
+  queue_take : Leaf
+
+-- what opens a block: its word, and for a loop the number of copies
+pub data BlockKind : Type 0 where
+  seq_block : BlockKind
+  par_block : BlockKind
+  for_loop : (copies : Word) → BlockKind
+  pfor_loop : (copies : Word) → BlockKind
+
+-- A derivation of items: nothing, a leaf and more items, or a block with its body and more items.
+pub data Items : Type 0 where
+  nothing : Items
+  leaf_then : Leaf → (more : Items) → Items
+  block_then : BlockKind → (body : Items) → (more : Items) → Items
+
+-- the words that each rule writes
+abbrev pub unary_op_words : UnaryOp → List Word
+unary_op_words work = Work ∷ []
+unary_op_words counter_add = Counter ∷ Add ∷ []
+unary_op_words stack_push = Stack ∷ Push ∷ []
+unary_op_words tree_insert = Tree ∷ Insert ∷ []
+unary_op_words tree_remove = Tree ∷ Remove ∷ []
+unary_op_words tree_find = Tree ∷ Find ∷ []
+unary_op_words tree_next = Tree ∷ Next ∷ []
+unary_op_words queue_insert = Queue ∷ Insert ∷ []
+
+abbrev pub leaf_words : Leaf → List Word
+leaf_words (with_argument op argument) = unary_op_words op ++ argument ∷ []
+leaf_words stack_pop = Stack ∷ Pop ∷ []
+leaf_words queue_take = Queue ∷ Take ∷ []
+
+abbrev pub kind_words : BlockKind → List Word
+kind_words seq_block = Seq ∷ []
+kind_words par_block = Par ∷ []
+kind_words (for_loop copies) = For ∷ copies ∷ []
+kind_words (pfor_loop copies) = Pfor ∷ copies ∷ []
+
+abbrev pub items_words : Items → List Word
+items_words nothing = []
+items_words (leaf_then leaf more) = leaf_words leaf ++ items_words more
+items_words (block_then kind body more) = kind_words kind ++ Open ∷ (items_words body ++ Close ∷ items_words more)
+
+abbrev pub is_number : Word → Bool
+is_number (Number number) = true
+is_number _ = false
+
+-- whether a word is an argument, inside a loop or outside every loop
+abbrev pub is_argument : Bool → Word → Bool
+is_argument looped (Number number) = true
+is_argument looped (Copies copies) = looped
+is_argument looped _ = false
+
+abbrev pub is_loop : BlockKind → Bool
+is_loop seq_block = false
+is_loop par_block = false
+is_loop (for_loop copies) = true
+is_loop (pfor_loop copies) = true
+
+abbrev pub IsLeaf : Bool → Leaf → Type 0
+IsLeaf looped (with_argument op argument) = IsTrue (is_argument looped argument)
+IsLeaf looped stack_pop = Unit {0}
+IsLeaf looped queue_take = Unit {0}
+
+abbrev pub IsBlockKind : BlockKind → Type 0
+IsBlockKind seq_block = Unit {0}
+IsBlockKind par_block = Unit {0}
+IsBlockKind (for_loop copies) = IsTrue (is_number copies)
+IsBlockKind (pfor_loop copies) = IsTrue (is_number copies)
+
+-- each word in the place of a number or of an argument is one; the flag says whether a loop is open
+abbrev pub AreItems : Bool → Items → Type 0
+AreItems looped nothing = Unit {0}
+AreItems looped (leaf_then leaf more) = IsLeaf looped leaf × AreItems looped more
+AreItems looped (block_then kind body more) = IsBlockKind kind × AreItems (looped || is_loop kind) body × AreItems looped more
+
+-- the loose grammar derives the words, by these items
+pub record Derives (words : List Word) (items : Items) : Type 0 where
+  pub writes : items_words items ≡ words
+  pub fits : AreItems false items
+
+-- some list of further tokens makes of the words a list that the loose grammar derives
+pub record CanGoOn (words : List Word) : Type 0 where
+  pub further : List (List ℕ)
+  pub items : Items
+  pub derives : Derives (words ++ map word_of further) items
+
+-- items one after another
+infixl 6 ◌then◌
+abbrev pub ◌then◌ : Items → Items → Items
+nothing then last = last
+(leaf_then leaf more) then last = leaf_then leaf (more then last)
+(block_then kind body more) then last = block_then kind body (more then last)

@@ -1,0 +1,11 @@
+-- The syntax of the job language, from the bytes of a text to its items, or to its first fault of reading. `Code` is what
+-- only the code cites.
+pub mod Text
+pub mod Words
+pub mod Grammar
+pub mod Faults
+pub mod Blocks
+pub mod ItemsOf
+pub mod Lines
+pub mod Views
+pub mod Code

@@ -1,0 +1,58 @@
+-- The items of the code as derivations.
+use Rattle.std.specs.Prelude.{List, [], ◌∷◌, Some, map}
+use Rattle.job_syntax.specs.declared.lexer.word.Word.{Word}
+use Rattle.job_syntax.specs.declared.lexer.word.Word.TheVariants.{Number, Copies}
+use Rattle.job_syntax.specs.declared.item.Argument.{Argument}
+use Rattle.job_syntax.specs.declared.item.Argument.TheVariants as argument
+use Rattle.job_syntax.specs.declared.item.UnaryOp.{UnaryOp}
+use Rattle.job_syntax.specs.declared.item.UnaryOp.TheVariants as op
+use Rattle.job_syntax.specs.declared.item.Leaf.{Leaf}
+use Rattle.job_syntax.specs.declared.item.Leaf.TheVariants as leaf
+use Rattle.job_syntax.specs.declared.item.BlockKind.{BlockKind}
+use Rattle.job_syntax.specs.declared.item.BlockKind.TheVariants as kind
+use Rattle.job_syntax.specs.declared.item.Item.{Item, fold-Item}
+use Rattle.job_syntax.specs.declared.item.Item.TheOpen.{Item-F}
+use Rattle.job_syntax.specs.Grammar.{◌then◌}
+use Rattle.job_syntax.specs.Grammar as grammar
+
+abbrev pub argument_word : Argument → Word
+argument_word (argument.Number number) = Number (Some number)
+argument_word (argument.Copies factor addend) = Copies (Some (factor, addend))
+
+abbrev pub unary_op_of : UnaryOp → grammar.UnaryOp
+unary_op_of op.Work = grammar.work
+unary_op_of op.CounterAdd = grammar.counter_add
+unary_op_of op.StackPush = grammar.stack_push
+unary_op_of op.TreeInsert = grammar.tree_insert
+unary_op_of op.TreeRemove = grammar.tree_remove
+unary_op_of op.TreeFind = grammar.tree_find
+unary_op_of op.TreeNext = grammar.tree_next
+unary_op_of op.QueueInsert = grammar.queue_insert
+
+abbrev pub leaf_of : Leaf → grammar.Leaf
+leaf_of (leaf.WithArgument op argument) = grammar.with_argument (unary_op_of op) (argument_word argument)
+leaf_of leaf.StackPop = grammar.stack_pop
+leaf_of leaf.QueueTake = grammar.queue_take
+
+abbrev pub block_kind_of : BlockKind → grammar.BlockKind
+block_kind_of kind.Seq = grammar.seq_block
+block_kind_of kind.Par = grammar.par_block
+block_kind_of (kind.For copies) = grammar.for_loop (Number (Some copies))
+block_kind_of (kind.Pfor copies) = grammar.pfor_loop (Number (Some copies))
+
+-- derivations one after another
+abbrev pub one_after_another : List grammar.Items → grammar.Items
+one_after_another [] = grammar.nothing
+one_after_another (items ∷ more) = items then one_after_another more
+
+-- one level of an item, where the items inside are derivations already
+abbrev pub item_step : Item-F grammar.Items → grammar.Items
+item_step (Item-F.Leaf leaf) = grammar.leaf_then (leaf_of leaf) grammar.nothing
+item_step (Item-F.Block kind inside) = grammar.block_then (block_kind_of kind) (one_after_another inside.items) grammar.nothing
+
+-- an item, as a derivation of one
+abbrev pub item_of : Item → grammar.Items
+item_of = fold-Item grammar.Items item_step
+
+abbrev pub items_of : List Item → grammar.Items
+items_of items = one_after_another (map item_of items)

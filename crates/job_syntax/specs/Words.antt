@@ -1,0 +1,89 @@
+-- What each token says.
+use Rattle.std.specs.Prelude.{ℕ, ◌+◌, ◌-◌, ◌*◌, ◌^◌, List, [], ◌∷◌, length, take, drop, map, Bool, false, ◌||◌, ◌&&◌, not, Option, Some, None, if◌then◌else◌, ◌==◌, nat_le, nat_lt, codes}
+use Rattle.std.specs.Str.{bytes_eq}
+use Rattle.std.specs.List.{list_all}
+use Rattle.job_syntax.specs.Text.{Token, tokens}
+use Rattle.job_syntax.specs.declared.lexer.word.Word.{Word}
+use Rattle.job_syntax.specs.declared.lexer.word.Word.TheVariants.{Open, Close, Work, Counter, Stack, Tree, Queue, Add, Push, Pop, Insert, Remove, Find, Next, Take, Seq, Par, For, Pfor, Number, Copies, Other}
+use Rattle.job_syntax.specs.declared.lexer.word.WordOnLine.{WordOnLine}
+
+-- `0` to `9`
+abbrev pub is_digit : ℕ → Bool
+is_digit byte = nat_le 48 byte && nat_le byte 57
+
+-- digits alone, and at least one
+abbrev pub are_digits : List ℕ → Bool
+are_digits [] = false
+are_digits (byte ∷ text) = list_all is_digit (byte ∷ text)
+
+-- the number that digits say, behind those that said the first number
+abbrev pub digits_from : ℕ → List ℕ → ℕ
+digits_from number [] = number
+digits_from number (digit ∷ digits) = digits_from (10 * number + (digit - 48)) digits
+
+-- there is no leading zero but that of `0` itself
+abbrev pub begins_well : List ℕ → Bool
+begins_well [] = false
+begins_well (digit ∷ digits) = not (digit == 48) || length digits == 0
+
+-- the number of a run of digits, if it is spelled well and fits 32 bits
+abbrev pub number_of : List ℕ → Option ℕ
+number_of digits = if begins_well digits && nat_lt (digits_from 0 digits) (2 ^ 32) then Some (digits_from 0 digits) else None
+
+-- the bytes before the first `+`, and those behind it
+abbrev pub before_plus : List ℕ → List ℕ
+before_plus [] = []
+before_plus (byte ∷ text) = if byte == 43 then [] else byte ∷ before_plus text
+
+abbrev pub behind_plus : List ℕ → List ℕ
+behind_plus [] = []
+behind_plus (byte ∷ text) = if byte == 43 then text else behind_plus text
+
+abbrev pub pair_of : Option ℕ → Option ℕ → Option (ℕ × ℕ)
+pair_of (Some factor) (Some addend) = Some (factor, addend)
+pair_of _ _ = None
+
+-- what stands behind `@*`: digits, a plus sign, digits
+abbrev pub copies_word : List ℕ → Word
+copies_word text =
+    if are_digits (before_plus text) && are_digits (behind_plus text)
+    then Copies (pair_of (number_of (before_plus text)) (number_of (behind_plus text)))
+    else Other
+
+-- a token that is none of the quoted words
+abbrev pub argument_word : List ℕ → Word
+argument_word text =
+    if are_digits text then Number (number_of text)
+    else if bytes_eq text (codes "@") then Copies (Some (1, 0))
+    else if bytes_eq (take 2 text) (codes "@*") then copies_word (drop 2 text)
+    else Other
+
+abbrev pub word_of : List ℕ → Word
+word_of text =
+    if bytes_eq text (codes "{") then Open
+    else if bytes_eq text (codes "}") then Close
+    else if bytes_eq text (codes "work") then Work
+    else if bytes_eq text (codes "counter") then Counter
+    else if bytes_eq text (codes "stack") then Stack
+    else if bytes_eq text (codes "tree") then Tree
+    else if bytes_eq text (codes "queue") then Queue
+    else if bytes_eq text (codes "add") then Add
+    else if bytes_eq text (codes "push") then Push
+    else if bytes_eq text (codes "pop") then Pop
+    else if bytes_eq text (codes "insert") then Insert
+    else if bytes_eq text (codes "remove") then Remove
+    else if bytes_eq text (codes "find") then Find
+    else if bytes_eq text (codes "next") then Next
+    else if bytes_eq text (codes "take") then Take
+    else if bytes_eq text (codes "seq") then Seq
+    else if bytes_eq text (codes "par") then Par
+    else if bytes_eq text (codes "for") then For
+    else if bytes_eq text (codes "pfor") then Pfor
+    else argument_word text
+
+-- the words of a text, each with its line
+abbrev pub word_on_line : Token → WordOnLine
+word_on_line token = record { word = word_of token.text; line = token.line }
+
+abbrev pub words_on_lines : List ℕ → List WordOnLine
+words_on_lines text = map word_on_line (tokens text)

@@ -1,0 +1,70 @@
+//! The items of a text, before the copies of its loops are made.
+
+/// The argument of a leaf.
+#[derive(Clone, Copy)]
+pub enum Argument {
+    Number(u32),
+    /// The number of the copy times a factor, plus an addend.
+    Copies(u32, u32),
+}
+
+/// An operation with an argument.
+#[derive(Clone, Copy)]
+pub enum UnaryOp {
+    Work,
+    CounterAdd,
+    StackPush,
+    TreeInsert,
+    TreeRemove,
+    TreeFind,
+    TreeNext,
+    QueueInsert,
+}
+
+/// An operation, and its argument if it has one.
+#[derive(Clone, Copy)]
+pub enum Leaf {
+    WithArgument(UnaryOp, Argument),
+    StackPop,
+    QueueTake,
+}
+
+/// What opens a block: its word, and for a loop the number of copies.
+#[derive(Clone, Copy)]
+pub enum BlockKind {
+    Seq,
+    Par,
+    For(u32),
+    Pfor(u32),
+}
+
+impl BlockKind {
+    ghost use Rattle.std.specs.Prelude.{◌≡◌};
+    ghost use Rattle.job_syntax.specs.Blocks.{copies_of};
+    ghost use Rattle.job_syntax.specs.Grammar.{is_loop};
+    ghost use Rattle.job_syntax.specs.Views.{block_kind_of};
+
+    /// How often the block runs its items.
+    pub fn copies(self) -> u32
+        ensures { result ≡ copies_of (block_kind_of self) }
+    {
+        match self {
+            BlockKind::Seq | BlockKind::Par => 1,
+            BlockKind::For(copies) | BlockKind::Pfor(copies) => copies,
+        }
+    }
+
+    /// Whether the block is a loop.
+    pub fn is_loop(self) -> bool
+        ensures { result ≡ is_loop (block_kind_of self) }
+    {
+        matches!(self, BlockKind::For(_) | BlockKind::Pfor(_))
+    }
+}
+
+/// A leaf, or a block and its items. Blocks nest at most 32 deep.
+#[derive(Drop)]
+pub enum Item {
+    Leaf(Leaf),
+    Block(BlockKind, Vec<Item>),
+}

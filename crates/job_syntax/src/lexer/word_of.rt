@@ -1,0 +1,122 @@
+//! The word that a token says: a quoted word of the grammar, a number, or one that depends on the copy.
+ghost use Rattle.std.specs.Prelude.{◌≡◌, ◌+◌, ◌<◌, [], IfSome, IfNone, IsTrue, not, length, take, drop};
+ghost use Rattle.job_syntax.specs.Words.{are_digits, begins_well, number_of, before_plus, behind_plus, copies_word, argument_word, word_of};
+
+use crate::lexer::word::Word;
+
+/// Whether a text is a run of digits.
+fn are_digits(text: &[u8]) -> bool
+    ensures { result ≡ are_digits text.now }
+{
+    !text.is_empty() && text.iter().all(|byte| byte.is_ascii_digit())
+}
+
+/// Whether a run of digits begins with a zero, and has more digits.
+fn has_leading_zero(digits: &[u8]) -> bool
+    requires { IsTrue (are_digits digits.now) }
+    ensures { result ≡ not (begins_well digits.now) }
+{
+    matches!(digits, [b'0', _, ..])
+}
+
+/// The number of a run of digits, if it has no leading zero and fits.
+fn number_of(digits: &[u8]) -> Option<u32>
+    requires { IsTrue (are_digits digits.now) }
+    ensures { result ≡ number_of digits.now }
+{
+    if has_leading_zero(digits) {
+        return None;
+    }
+    let mut number: u32 = 0;
+    for digit in digits {
+        number = number
+            .checked_mul(10)?
+            .checked_add(u32::from(*digit - b'0'))?;
+    }
+    Some(number)
+}
+
+/// The index of the first plus sign.
+fn plus_in(text: &[u8]) -> Option<usize>
+    ensures none { IfNone result (behind_plus text.now ≡ []) }
+    ensures within { IfSome result (λ plus. plus < length text.now) }
+    ensures before { IfSome result (λ plus. before_plus text.now ≡ take plus text.now) }
+    ensures behind { IfSome result (λ plus. behind_plus text.now ≡ drop (plus + 1) text.now) }
+{
+    for (index, byte) in text.iter().enumerate() {
+        if *byte == b'+' {
+            return Some(index);
+        }
+    }
+    None
+}
+
+/// The word of a token that begins with `@*`, where `text` is what stands behind that.
+fn copies_word(text: &[u8]) -> Word
+    ensures { result ≡ copies_word text.now }
+{
+    let Some(plus) = plus_in(text) else {
+        return Word::Other;
+    };
+    let factor = &text[..plus];
+    let addend = &text[plus + 1..];
+    if are_digits(factor) && are_digits(addend) {
+        Word::Copies(number_of(factor).zip(number_of(addend)))
+    } else {
+        Word::Other
+    }
+}
+
+/// The word of a token that is none of the quoted words.
+fn argument_word(text: &[u8]) -> Word
+    ensures { result ≡ argument_word text.now }
+{
+    if are_digits(text) {
+        return Word::Number(number_of(text));
+    }
+    match text {
+        [b'@'] => Word::Copies(Some((1, 0))),
+        [b'@', b'*', rest @ ..] => copies_word(rest),
+        _ => Word::Other,
+    }
+}
+
+/// The word of a token that is a quoted word of the grammar.
+fn quoted_word(text: &[u8]) -> Option<Word>
+    ensures some { IfSome result (λ word. word_of text.now ≡ word) }
+    ensures none { IfNone result (word_of text.now ≡ argument_word text.now) }
+{
+    let word = match text {
+        b"{" => Word::Open,
+        b"}" => Word::Close,
+        b"work" => Word::Work,
+        b"counter" => Word::Counter,
+        b"stack" => Word::Stack,
+        b"tree" => Word::Tree,
+        b"queue" => Word::Queue,
+        b"add" => Word::Add,
+        b"push" => Word::Push,
+        b"pop" => Word::Pop,
+        b"insert" => Word::Insert,
+        b"remove" => Word::Remove,
+        b"find" => Word::Find,
+        b"next" => Word::Next,
+        b"take" => Word::Take,
+        b"seq" => Word::Seq,
+        b"par" => Word::Par,
+        b"for" => Word::For,
+        b"pfor" => Word::Pfor,
+        _ => return None,
+    };
+    Some(word)
+}
+
+/// The word that a token says.
+pub(crate) fn word_of(text: &[u8]) -> Word
+    ensures { result ≡ word_of text.now }
+{
+    match quoted_word(text) {
+        Some(word) => word,
+        None => argument_word(text),
+    }
+}

@@ -1,0 +1,137 @@
+//! Reads the words of a text once, with a stack of open blocks.
+ghost use Rattle.std.specs.Prelude.{◌≡◌, ◌≤◌, ◌∷◌, Err, IfOk, length};
+ghost use Rattle.job_syntax.specs.Faults.{IsReadingFault};
+ghost use Rattle.job_syntax.specs.ItemsOf.{AreItemsOf};
+ghost use Rattle.job_syntax.specs.Code.Machine.{at, start, an_argument, a_call, a_brace, read_from};
+ghost use Rattle.job_syntax.specs.Code.OpenBlocks.{view};
+ghost use Rattle.job_syntax.specs.Code.Steps.{Steps, Gives};
+ghost use Rattle.job_syntax.specs.Views.{items_of, unary_op_of, block_kind_of};
+ghost use Rattle.job_syntax.specs.declared.error.JobErr.TheVariants.{Bad};
+
+mod blocks;
+mod call;
+pub(crate) mod cursor;
+
+use crate::error::JobErr;
+use crate::fault::JobFault;
+use crate::item::{BlockKind, Item, Leaf, UnaryOp};
+use crate::lexer::word::{Word, WordOnLine};
+use crate::parser::blocks::BlockStack;
+use crate::parser::call::{Object, ParsedCall};
+use crate::parser::cursor::Cursor;
+use std::alloc::Global;
+
+/// Reads the argument of an operation, and adds the leaf.
+fn read_argument(
+    stack: &mut BlockStack,
+    op: UnaryOp,
+    words: &mut Cursor,
+    last: u32,
+) -> Result<(), JobErr>
+    ensures steps { Steps last
+        (at (view stack.old).blocks (view stack.old).items (an_argument (unary_op_of op))) words.old
+        (view stack.new) words.new result }
+    ensures shorter { length words.new ≤ length words.old }
+{
+    let argument = words.argument(last, stack.is_looped())?;
+    stack.add(Leaf::WithArgument(op, argument))?;
+    Ok(())
+}
+
+/// Reads the call of an object, and adds the leaf.
+fn read_call(
+    stack: &mut BlockStack,
+    object: Object,
+    words: &mut Cursor,
+    last: u32,
+) -> Result<(), JobErr>
+    ensures steps { Steps last
+        (at (view stack.old).blocks (view stack.old).items (a_call object)) words.old
+        (view stack.new) words.new result }
+    ensures shorter { length words.new ≤ length words.old }
+{
+    match words.call(last, object)? {
+        ParsedCall::WithArgument(op) => read_argument(stack, op, words, last),
+        ParsedCall::Whole(leaf) => {
+            stack.add(leaf)?;
+            Ok(())
+        }
+    }
+}
+
+/// Reads the `{` of a block, and opens the block.
+fn read_brace(
+    stack: &mut BlockStack,
+    kind: BlockKind,
+    words: &mut Cursor,
+    last: u32,
+) -> Result<(), JobErr>
+    ensures steps { Steps last
+        (at (view stack.old).blocks (view stack.old).items (a_brace (block_kind_of kind))) words.old
+        (view stack.new) words.new result }
+    ensures shorter { length words.new ≤ length words.old }
+{
+    words.brace(last, stack.depth())?;
+    stack.open(kind)?;
+    Ok(())
+}
+
+/// Reads what the word begins: a leaf, or the start of a block up to its `{`. Or closes a block.
+fn read_step(
+    stack: &mut BlockStack,
+    token: WordOnLine,
+    words: &mut Cursor,
+    last: u32,
+) -> Result<(), JobErr>
+    ensures steps { Steps last (view stack.old) (token ∷ words.old) (view stack.new) words.new result }
+    ensures shorter { length words.new ≤ length words.old }
+{
+    match token.word {
+        Word::Work => read_argument(stack, UnaryOp::Work, words, last),
+        Word::Counter => read_call(stack, Object::Counter, words, last),
+        Word::Stack => read_call(stack, Object::Stack, words, last),
+        Word::Tree => read_call(stack, Object::Tree, words, last),
+        Word::Queue => read_call(stack, Object::Queue, words, last),
+        Word::Close if stack.is_outside() => {
+            Err(JobErr::Bad(JobFault::Grammar { line: token.line }))
+        }
+        Word::Close => {
+            stack.close()?;
+            Ok(())
+        }
+        Word::Seq => read_brace(stack, BlockKind::Seq, words, last),
+        Word::Par => read_brace(stack, BlockKind::Par, words, last),
+        Word::For => {
+            let copies = words.number(last)?;
+            read_brace(stack, BlockKind::For(copies), words, last)
+        }
+        Word::Pfor => {
+            let copies = words.number(last)?;
+            read_brace(stack, BlockKind::Pfor(copies), words, last)
+        }
+        _ => Err(JobErr::Bad(JobFault::Grammar { line: token.line })),
+    }
+}
+
+/// Reads the words to their end.
+fn read_all(alloc: Global, mut words: Cursor, last: u32) -> Result<Vec<Item>, JobErr>
+    ensures { Gives (λ items. items_of items.items) result (read_from last start words.entry) }
+{
+    let mut stack = BlockStack::new(alloc);
+    while let Some(token) = words.next() {
+        read_step(&mut stack, token, &mut words, last)?;
+    }
+    if stack.is_outside() {
+        Ok(stack.into_items())
+    } else {
+        Err(JobErr::Bad(JobFault::Grammar { line: last }))
+    }
+}
+
+/// The items that the words write, or the first fault. An end that comes too early is a fault of the last line.
+pub fn read_items(alloc: Global, words: &[WordOnLine], last: u32) -> Result<Vec<Item>, JobErr>
+    ensures items { IfOk result (λ items. AreItemsOf words.now (items_of items.items)) }
+    ensures fault { (fault : JobFault) → result ≡ Err (Bad fault) → IsReadingFault last words.now fault }
+{
+    read_all(alloc, Cursor::new(words), last)
+}

@@ -1,0 +1,111 @@
+//! The stack of open blocks, with the items read so far.
+ghost use Rattle.std.specs.Prelude.{◌≡◌, ◌≢◌, ◌↔◌, [], ◌∷◌, Some, OnOk, IsTrue, length};
+ghost use Rattle.std.specs.List.{list_any};
+ghost use Rattle.job_syntax.specs.Grammar.{is_loop};
+ghost use Rattle.job_syntax.specs.Views.{block_kind_of};
+ghost use Rattle.job_syntax.specs.Code.Machine.{start, are_looped, with_leaf, after_open, after_close};
+
+use crate::item::{BlockKind, Item, Leaf};
+use std::alloc::{AllocError, Global};
+use std::mem;
+
+/// An open block: the items before it, and what opened it.
+#[derive(Drop)]
+pub(crate) struct OpenBlock {
+    pub(crate) before: Vec<Item>,
+    pub(crate) kind: BlockKind,
+}
+
+/// The open blocks, the innermost last, and the items so far in the innermost.
+#[derive(Drop)]
+pub(crate) struct BlockStack {
+    alloc: Global,
+    blocks: Vec<OpenBlock>,
+    items: Vec<Item>,
+}
+
+fn any_loop(blocks: &[OpenBlock]) -> bool
+    ensures { result ≡ list_any (λ block. is_loop (block_kind_of block.kind)) blocks.now }
+{
+    blocks.iter().any(|block| block.kind.is_loop())
+}
+
+impl BlockStack {
+    ghost use Rattle.job_syntax.specs.Views.{items_of, leaf_of};
+    ghost use Rattle.job_syntax.specs.Code.OpenBlocks.{view};
+
+    pub(crate) fn new(alloc: Global) -> BlockStack
+        ensures { view result ≡ start }
+    {
+        BlockStack {
+            alloc,
+            blocks: Vec::new(alloc),
+            items: Vec::new(alloc),
+        }
+    }
+
+    /// Whether a loop is open.
+    #[tactic(auto, using(crate::proofs::ParserLemmas::OpenStacks::are_looped_now))]
+    pub(crate) fn is_looped(&self) -> bool
+        ensures { result ≡ are_looped (view self.now).blocks }
+    {
+        any_loop(&self.blocks)
+    }
+
+    /// Whether no block is open.
+    pub(crate) fn is_outside(&self) -> bool
+        ensures { IsTrue result ↔ ((view self.now).blocks ≡ []) }
+    {
+        self.blocks.is_empty()
+    }
+
+    /// How many blocks are open.
+    #[tactic(auto, using(crate::proofs::ParserLemmas::OpenStacks::depth_now))]
+    pub(crate) fn depth(&self) -> usize
+        ensures { result ≡ length (view self.now).blocks }
+    {
+        self.blocks.len()
+    }
+
+    /// Adds a leaf to the innermost block.
+    #[tactic(auto, using(crate::proofs::ParserLemmas::OpenStacks::leaf_added))]
+    pub(crate) fn add(&mut self, leaf: Leaf) -> Result<(), AllocError>
+        ensures { OnOk result
+            (view self.new ≡ with_leaf (view self.old).blocks (view self.old).items (leaf_of leaf)) }
+    {
+        self.items.push(Item::Leaf(leaf))?;
+        Ok(())
+    }
+
+    /// Opens a block.
+    #[tactic(auto, using(crate::proofs::ParserLemmas::OpenStacks::blocks_on_push))]
+    pub(crate) fn open(&mut self, kind: BlockKind) -> Result<(), AllocError>
+        ensures { OnOk result
+            (view self.new ≡ after_open (view self.old).blocks (view self.old).items (block_kind_of kind)) }
+    {
+        let before = mem::replace(&mut self.items, Vec::new(self.alloc));
+        self.blocks.push(OpenBlock { before, kind })?;
+        Ok(())
+    }
+
+    /// Closes the innermost block.
+    pub(crate) fn close(&mut self) -> Result<(), AllocError>
+        requires { (view self.old).blocks ≢ [] }
+        ensures { OnOk result
+            (after_close (view self.old).blocks (view self.old).items ≡ Some (view self.new)) }
+    {
+        if let Some(OpenBlock { before, kind }) = self.blocks.pop() {
+            let body = mem::replace(&mut self.items, before);
+            self.items.push(Item::Block(kind, body))?;
+        }
+        Ok(())
+    }
+
+    /// The items of the innermost block.
+    pub(crate) fn into_items(self) -> Vec<Item>
+        ensures { items_of result.items ≡ (view self).items }
+    {
+        let BlockStack { items, .. } = self;
+        items
+    }
+}

@@ -1,0 +1,130 @@
+//! The words that are left to read.
+ghost use Rattle.std.specs.Prelude.{◌≡◌, ◌≤◌, [], ◌∷◌, Ok, Err, MatchOption, MatchResult, length};
+
+use crate::fault::JobFault;
+use crate::item::Argument;
+use crate::lexer::word::{Word, WordOnLine};
+use crate::parser::call::{Object, ParsedCall, call_behind};
+use std::marker::Model;
+
+/// The most blocks that are open at once.
+const MAX_OPEN_BLOCKS: usize = 32;
+
+/// The words that are left to read. A call takes what has to come next, or answers the fault that it finds: at the end of
+/// the words one on the last line.
+#[derive(Drop)]
+pub struct Cursor<'a> {
+    rest: &'a [WordOnLine],
+}
+
+impl<'a> Model for Cursor<'a> {
+    ghost use Rattle.job_syntax.specs.declared.lexer.word.WordOnLine.{WordOnLine};
+    ghost use Rattle.std.specs.Prelude.{List};
+
+    ghost Value = { List WordOnLine };
+
+    ghost view = { λ cursor. cursor.rest.now };
+}
+
+impl<'a> Cursor<'a> {
+    /// Stands before the first of the words.
+    pub fn new(words: &'a [WordOnLine]) -> Cursor<'a>
+        ensures { result ≡ words.now }
+    {
+        Cursor { rest: words }
+    }
+
+    /// The next word, if one is left.
+    pub fn next(&mut self) -> Option<WordOnLine>
+        ensures { MatchOption result ((self.old ≡ []) × (self.new ≡ []))
+            (λ token. self.old ≡ token ∷ self.new) }
+    {
+        match self.rest {
+            [] => None,
+            [first, rest @ ..] => {
+                let token = *first;
+                self.rest = rest;
+                Some(token)
+            }
+        }
+    }
+}
+
+impl<'a> Cursor<'a> {
+    ghost use Rattle.job_syntax.specs.Grammar.{is_argument, is_number};
+    ghost use Rattle.job_syntax.specs.Code.Calls.{call_view};
+    ghost use Rattle.job_syntax.specs.Code.Cursors.{word_at, brace_at, call_at};
+    ghost use Rattle.job_syntax.specs.Views.{argument_word};
+    ghost use Rattle.job_syntax.specs.declared.lexer.word.Word.TheVariants.{Number};
+
+    /// An argument, inside a loop or outside every loop.
+    pub(crate) fn argument(&mut self, last: u32, looped: bool) -> Result<Argument, JobFault>
+        ensures gives { MatchResult result
+            (λ argument. word_at last (is_argument looped) self.old ≡ Ok (argument_word argument, self.new))
+            (λ found. word_at last (is_argument looped) self.old ≡ Err found) }
+        ensures shorter { length self.new ≤ length self.old }
+    {
+        let Some(token) = self.next() else {
+            return Err(JobFault::Grammar { line: last });
+        };
+        match token.word {
+            Word::Number(Some(number)) => Ok(Argument::Number(number)),
+            Word::Number(None) => Err(JobFault::Number { line: token.line }),
+            Word::Copies(Some((factor, addend))) if looped => Ok(Argument::Copies(factor, addend)),
+            Word::Copies(None) if looped => Err(JobFault::Number { line: token.line }),
+            _ => Err(JobFault::Grammar { line: token.line }),
+        }
+    }
+
+    /// A number.
+    pub(crate) fn number(&mut self, last: u32) -> Result<u32, JobFault>
+        ensures gives { MatchResult result
+            (λ number. word_at last is_number self.old ≡ Ok (Number (Some number), self.new))
+            (λ found. word_at last is_number self.old ≡ Err found) }
+        ensures shorter { length self.new ≤ length self.old }
+    {
+        let Some(token) = self.next() else {
+            return Err(JobFault::Grammar { line: last });
+        };
+        match token.word {
+            Word::Number(Some(number)) => Ok(number),
+            Word::Number(None) => Err(JobFault::Number { line: token.line }),
+            _ => Err(JobFault::Grammar { line: token.line }),
+        }
+    }
+
+    /// A `{`, where `open_now` blocks are open.
+    pub(crate) fn brace(&mut self, last: u32, open_now: usize) -> Result<(), JobFault>
+        ensures gives { MatchResult result
+            (λ _. brace_at last open_now self.old ≡ Ok self.new)
+            (λ found. brace_at last open_now self.old ≡ Err found) }
+        ensures shorter { length self.new ≤ length self.old }
+    {
+        let Some(token) = self.next() else {
+            return Err(JobFault::Grammar { line: last });
+        };
+        match token.word {
+            Word::Open if open_now >= MAX_OPEN_BLOCKS => Err(JobFault::Nesting {
+                line: token.line,
+            }),
+            Word::Open => Ok(()),
+            _ => Err(JobFault::Grammar { line: token.line }),
+        }
+    }
+
+    /// The call of an object whose name was read.
+    pub(crate) fn call(&mut self, last: u32, object: Object) -> Result<ParsedCall, JobFault>
+        ensures gives { MatchResult result
+            (λ call. call_at last object self.old ≡ Ok (call_view call, self.new))
+            (λ found. call_at last object self.old ≡ Err found) }
+        ensures shorter { length self.new ≤ length self.old }
+    {
+        let Some(token) = self.next() else {
+            return Err(JobFault::Grammar { line: last });
+        };
+        match call_behind(object, token.word) {
+            Some(call) => Ok(call),
+            None => Err(JobFault::Grammar { line: token.line }),
+        }
+    }
+}

@@ -10,6 +10,7 @@ ghost use Rattle.worker_crew.specs.Opening.{seat_seen, AreAtStart};
 
 use crate::empty::report_of_empty;
 use crate::start::wait_for_others;
+use crate::{Crew, Me};
 use batch_history::Report;
 use bt_io::Pause;
 use core_table::{CoreTable, Pass};
@@ -20,7 +21,7 @@ use std::sync::atomic::AtomicU64;
 use std::thread;
 use std::thread::Threads;
 use worker_crew::sending::{crews_go_to_threads, workers_go_to_threads};
-use worker_turns::{Crew, Me, work};
+use worker_turns::work;
 
 /// What threads share of a run over the running table. The threads are started over a type that is said to be shared,
 /// and that a crew can be shared is shown once.
@@ -32,18 +33,18 @@ trait Team {
     ghost gave: { Self → PassOf → Type 0 };
 
     /// Lets the worker work until the run has ended for it. It gives its pass back.
-    fn work<R: Wait>(&self, rt: &R, alloc: Global, me: Me<Pass>) -> Pass
+    fn work<R: Wait>(&self, rt: &R, alloc: Global, me: Me) -> Pass
         requires { ready self.now me }
         ensures { gave self.now result };
 }
 
-impl<'a, G: Pause> Team for Crew<'a, CoreTable, G> {
+impl<'a, G: Pause> Team for Crew<'a, G> {
     ghost ready = { λ crew me. (crew.workers ≡ (job_in crew.table).workers)
         × IsReady (IsSeat crew.table) seat_seen crew.decks crew.board me };
 
     ghost gave = { λ crew pass. IsPassOf crew.table pass };
 
-    fn work<R: Wait>(&self, rt: &R, alloc: Global, me: Me<Pass>) -> Pass {
+    fn work<R: Wait>(&self, rt: &R, alloc: Global, me: Me) -> Pass {
         work(rt, alloc, self, me)
     }
 }
@@ -55,7 +56,7 @@ fn work_in_threads<C: Team + Sync, R: Threads + Wait + Sync>(
     alloc: Global,
     team: &C,
     workers: u32,
-    mes: Vec<Me<Pass>>,
+    mes: Vec<Me>,
 ) -> Result<Vec<Pass>, AllocError>
     requires ready { (w : ℕ) (me : MeOf PassOf) → w < length mes.items
         → me ≡ slice_index_or mes.items w me → C.ready team.now me }
@@ -69,7 +70,7 @@ fn work_in_threads<C: Team + Sync, R: Threads + Wait + Sync>(
     thread::map_vec(
         rt,
         mes,
-        &|me: Me<Pass>| -> Pass
+        &|me: Me| -> Pass
             requires { C.ready team.now me }
             ensures { C.gave team.entry.now result }
         {
@@ -83,8 +84,8 @@ fn work_in_threads<C: Team + Sync, R: Threads + Wait + Sync>(
 fn work_as_crew<R: Threads + Wait + Sync, G: Pause + Sync>(
     rt: &R,
     alloc: Global,
-    crew: &Crew<CoreTable, G>,
-    mes: Vec<Me<Pass>>,
+    crew: &Crew<G>,
+    mes: Vec<Me>,
 ) -> Result<Vec<Pass>, AllocError>
     requires workers { crew.now.workers ≡ (job_in crew.now.table).workers }
     requires start { AreAtStart (IsSeat crew.now.table) seat_seen crew.now.decks crew.now.board

@@ -24,5 +24,13 @@ mod sending;
 mod start;
 mod worker;
 
+use core_table::{CoreTable, Pass};
 pub use crew::run_table;
 pub use locked::run_locked;
+pub use worker_turns::{Called, Did, Stop, Trapped, call, free_turn, launch, trapped_turn};
+
+/// What all workers of a run over the running table share. `Crew::make` makes it, and the workers.
+pub type Crew<'a, G> = worker_crew::Crew<'a, CoreTable, G>;
+
+/// One worker of a run over the running table.
+pub type Me = worker_crew::Me<Pass>;

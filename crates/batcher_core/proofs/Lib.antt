@@ -1,6 +1,3 @@
-pub mod ChoiceLemmas
-pub mod RunLemmas
-pub mod BookLemmas
-pub mod BatchLemmas
-pub mod ReportLemmas
 pub mod CodeLemmas
+pub mod RunLemmas
+pub mod ReportLemmas

@@ -1,12 +1,12 @@
 -- What callers see of a core: its job, its state, what is due, when it is over, and what its turns answer.
-use Rattle.batcher_core.specs.Abstraction.{core_state_of, state_of}
+use Rattle.core_state.specs.Abstraction.{core_state_of, state_of}
 use Rattle.core_model.specs.Choice.{choice}
 use Rattle.core_model.specs.Runs.{IsStep}
 use Rattle.core_model.specs.State.{CoreJob, CoreState, core_job}
 use Rattle.core_model.specs.Tasks.{is_done}
-use Rattle.batcher_core.specs.WorkDue.{work_due}
+use Rattle.core_parts.specs.WorkDue.{work_due}
 use Rattle.core_model.specs.declared.event.Event.{Event}
-use Rattle.batcher_core.specs.declared.state.State.{State as StoredState}
+use Rattle.core_state.specs.declared.state.State.{State as StoredState}
 use Rattle.batcher_core.specs.declared.turn.Turn.{Turn}
 use Rattle.batcher_core.specs.declared.turn.Turn.TheVariants.{Idle, Moved, Spin}
 use Rattle.seq_objects.specs.declared.act.Act.{Act}

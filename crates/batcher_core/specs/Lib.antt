@@ -1,5 +1,5 @@
--- What callers see of a core: the state that it stands for, its turns and its ends, with what they take from the crates below.
--- The rules are those of `core_model`. `Code` is what only the code cites.
+-- What callers see of a core: its job and its state, its turns and its ends, with what they take from the crates below. The rules
+-- are those of `core_model`.
 pub use Rattle.sp_order.specs.Precedence
 pub use Rattle.sp_order.specs.Plans
 pub use Rattle.sp_order.specs.Preorder
@@ -11,11 +11,6 @@ pub use Rattle.core_model.specs.Choice
 pub use Rattle.core_model.specs.Runs
 pub use Rattle.core_model.specs.Reports
 pub use Rattle.core_model.specs.Stopped
-pub mod Words
-pub mod Places
-pub mod Abstraction
-pub mod WorkDue
 pub mod Cores
 pub mod Doings
 pub mod LiveEnds
-pub mod Code

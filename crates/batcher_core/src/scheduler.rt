@@ -11,18 +11,17 @@ ghost use Rattle.core_model.specs.Reports.{IsReportOf, IsRowOf};
 ghost use Rattle.sp_order.specs.Preorder.{nodes_of};
 ghost use Rattle.std.specs.List.{AllByRecursion, range_with_len};
 ghost use Rattle.batcher_core.specs.Cores.{job_in, state_in, due_in, moved_if, turn_answer, is_over_in, IsTurnResult};
-ghost use Rattle.batcher_core.specs.Code.Representation.{RepInvariant};
+ghost use Rattle.core_state.specs.Code.Representation.{RepInvariant};
 ghost use Rattle.batcher_core.specs.Doings.{doing_in};
 
-use crate::doing::Doing;
-use crate::job::CoreJob;
 use crate::report::rows_of;
 use crate::spun::Spun;
-use crate::state::{State, history_of};
 use crate::turn::Turn;
 use batch_history::{History, Report, Row, Rows};
 use core_model::Event;
 use core_model::laws::report::{done_leaves_have_run, done_report_is_lawful};
+use core_parts::CoreJob;
+use core_state::{Doing, State, history_of};
 use sp_order::laws::{plan_has_sides, plan_stands_for_tree};
 use sp_order::{Job, Plan};
 use std::alloc::{AllocError, Global};
@@ -43,7 +42,7 @@ impl Model for Core {
     ghost use Rattle.std.specs.Coded.{codes};
     ghost use Rattle.sp_order.specs.TreeEncoding.{coded_tree};
     ghost use Rattle.batcher_core.specs.Cores.{CoreView};
-    ghost use Rattle.batcher_core.specs.Code.Representation.{Represents};
+    ghost use Rattle.core_state.specs.Code.Representation.{Represents};
 
     ghost Value = { CoreView };
 
@@ -200,7 +199,7 @@ impl Core {
     /// The ready nodes of a worker, the oldest first. Beyond the workers there are none.
     ///
     /// Memory: none.
-    #[tactic(auto, unfolding(crate::specs::Abstraction::ready_of))]
+    #[tactic(auto, unfolding(core_state::specs::Abstraction::ready_of))]
     pub fn ready(&self, worker: u32) -> &[u32]
         ensures { result.now ≡ (state_in self.now).ready worker }
     {

@@ -3,11 +3,11 @@ use Rattle.std.proofs.Common.{ℕ, ◌≡◌, ◌<◌, ◌≤◌, Option, Some, 
 use Rattle.core_model.proofs.Words.{Act, Tree, IsPlan, IsPlanOf, core_job}
 use Rattle.sp_order.specs.Precedence.{leaf_count}
 use Rattle.sp_order.specs.Preorder.{nodes_of}
-use Rattle.batcher_core.specs.declared.state.State.{State as StoredState}
+use Rattle.core_state.specs.declared.state.State.{State as StoredState}
 use Rattle.core_model.specs.State.{opening_state, opening_core}
-use Rattle.batcher_core.specs.Abstraction.{state_of, ready_of, core_state_of}
-use Rattle.batcher_core.specs.Code.Sizes.{HasShop, Sizes}
-use Rattle.batcher_core.specs.Code.Representation.{RepInvariant}
+use Rattle.core_state.specs.Abstraction.{state_of, ready_of, core_state_of}
+use Rattle.core_state.specs.Code.Sizes.{HasShop, Sizes}
+use Rattle.core_state.specs.Code.Representation.{RepInvariant}
 use Rattle.sp_order.proofs.PlanLemmas.Laws.{has_root}
 use Rattle.core_model.proofs.BookLemmas.LeavesIn.{leaves_in}
 use Rattle.core_model.proofs.BookLemmas.CallsIn.{calls_in}

@@ -1,21 +1,21 @@
 -- A turn keeps what the core keeps to, and makes what it answers.
 use Rattle.std.proofs.Common.{ℕ, ◌≡◌, ◌<◌, Some, None, List, refl, ◌∙◌}
 use Rattle.core_model.proofs.Words.{Act, Tree, core_job}
-use Rattle.batcher_core.specs.Words.{Event}
+use Rattle.core_parts.specs.Words.{Event}
 use Rattle.sp_order.specs.Preorder.{nodes_of}
-use Rattle.batcher_core.specs.declared.state.State.{State as StoredState}
+use Rattle.core_state.specs.declared.state.State.{State as StoredState}
 use Rattle.batcher_core.specs.declared.turn.Turn.TheVariants.{Moved, Idle}
 use Rattle.core_model.specs.Lists.{ready_after}
 use Rattle.core_model.specs.Events.{Does, Happens}
 use Rattle.core_model.specs.Choice.{choice}
-use Rattle.batcher_core.specs.Abstraction.{state_of, ready_of, core_state_of}
-use Rattle.batcher_core.specs.Code.Sizes.{Sizes, SameSizes}
-use Rattle.batcher_core.specs.Code.Representation.{RepInvariant}
+use Rattle.core_state.specs.Abstraction.{state_of, ready_of, core_state_of}
+use Rattle.core_state.specs.Code.Sizes.{Sizes, SameSizes}
+use Rattle.core_state.specs.Code.Representation.{RepInvariant}
 use Rattle.batcher_core.specs.Cores.{IsTurnResult}
 use Rattle.core_model.proofs.ChoiceLemmas.Choices.{none_has_no_event}
-use Rattle.batcher_core.proofs.ChoiceLemmas.Allowed.{chosen_needs}
+use Rattle.core_state.proofs.ChoiceLemmas.Allowed.{chosen_needs}
 use Rattle.core_model.proofs.Inductive.FromParts.{event_keeps_all}
-use Rattle.batcher_core.proofs.CodeLemmas.KeptParts.{kept_parts}
+use Rattle.core_state.proofs.CodeLemmas.KeptParts.{kept_parts}
 
 sizes_kept : (old new : StoredState) (nodes workers : ℕ) → Sizes old nodes workers → SameSizes old new → Sizes new nodes workers
 sizes_kept old new nodes workers h same = record {

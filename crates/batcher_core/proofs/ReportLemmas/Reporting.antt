@@ -4,8 +4,8 @@ use Rattle.std.specs.List.{AllByRecursion, range_with_len}
 use Rattle.core_model.proofs.Words.{Act, Tree, leaves, core_job}
 use Rattle.sp_order.specs.Preorder.{nodes_of}
 use Rattle.batch_history.specs.declared.row.Row.{Row}
-use Rattle.batcher_core.specs.declared.state.State.{State as StoredState}
-use Rattle.batcher_core.specs.Abstraction.{book_of, state_of}
+use Rattle.core_state.specs.declared.state.State.{State as StoredState}
+use Rattle.core_state.specs.Abstraction.{book_of, state_of}
 use Rattle.core_model.specs.Reports.{TellsLeaf, IsReportOf}
 
 -- a core that is over is not spent, and its root is done

@@ -5,8 +5,8 @@ use Rattle.core_model.proofs.Words.{IsPlanOf, CoreJob}
 use Rattle.core_model.specs.Runs.{IsTurn}
 use Rattle.core_model.proofs.RunLemmas.Rounds.{turns_left, turns_fewer}
 use Rattle.batcher_core.specs.Cores.{CoreView, job_in, state_in, is_over_in}
-use Rattle.batcher_core.specs.Code.Representation.{RepInvariant}
-use Rattle.batcher_core.proofs.CodeLemmas.KeptParts.{kept_parts}
+use Rattle.core_state.specs.Code.Representation.{RepInvariant}
+use Rattle.core_state.proofs.CodeLemmas.KeptParts.{kept_parts}
 use Rattle.batcher_core.proofs.RunLemmas.Taken.{SameJob, job_same, goes_on}
 
 -- each turn lowers the count of those that are left

@@ -2,7 +2,7 @@ use Rattle.std.proofs.Common.{None, [], ◌∷◌}
 use Rattle.sp_order.specs.Preorder.{nodes_of}
 use Rattle.batch_history.specs.declared.row.Row.{Row}
 use Rattle.core_model.specs.declared.progress.Progress.TheVariants.{Waiting}
-use Rattle.batcher_core.specs.Places.{at}
+use Rattle.core_parts.specs.Places.{at}
 use Rattle.core_model.specs.Reports.{TellsLeaf}
 use Rattle.core_model.proofs.BookLemmas.EntryLists.{each_append}
 use Rattle.batcher_core.proofs.ReportLemmas.MadeRows.{run_within, next_row, told_next}

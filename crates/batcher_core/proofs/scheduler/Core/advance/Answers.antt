@@ -1,5 +1,5 @@
 use Rattle.std.proofs.Common.{sym, ◌∙◌}
-use Rattle.batcher_core.proofs.ChoiceLemmas.Allowed.{chosen_in_range, chosen_needs, chosen_at_end}
+use Rattle.core_state.proofs.ChoiceLemmas.Allowed.{chosen_in_range, chosen_needs, chosen_at_end}
 use Rattle.batcher_core.proofs.CodeLemmas.Turning.{fits_after, makes_event, makes_none}
 use Rattle.batcher_core.proofs.scheduler.Core.advance.Goals as goal
 

@@ -1,4 +1,4 @@
-use Rattle.batcher_core.proofs.CodeLemmas.CoreFits.{looks}
+use Rattle.core_state.proofs.CodeLemmas.CoreFits.{looks}
 use Rattle.batcher_core.proofs.scheduler.Core.choice.Goals as goal
 
 pub choose-requires-clause-looks : goal.choose-requires-clause-looks

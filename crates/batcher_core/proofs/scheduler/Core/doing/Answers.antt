@@ -1,4 +1,4 @@
-use Rattle.batcher_core.proofs.CodeLemmas.CoreFits.{looks, trapped_has_leaf}
+use Rattle.core_state.proofs.CodeLemmas.CoreFits.{looks, trapped_has_leaf}
 use Rattle.batcher_core.proofs.scheduler.Core.doing.Goals as goal
 
 pub doing-requires-clause-looks : goal.doing-requires-clause-looks

@@ -1,4 +1,4 @@
-use Rattle.batcher_core.proofs.CodeLemmas.CoreFits.{looks}
+use Rattle.core_state.proofs.CodeLemmas.CoreFits.{looks}
 use Rattle.batcher_core.proofs.scheduler.Core.due.Goals as goal
 
 pub work_due-requires-clause-looks : goal.work_due-requires-clause-looks

@@ -1,5 +1,5 @@
 use Rattle.std.proofs.Common.{sym, ◌∙◌, ap}
-use Rattle.batcher_core.specs.Abstraction.{book_of, state_of}
+use Rattle.core_state.specs.Abstraction.{book_of, state_of}
 use Rattle.batcher_core.proofs.scheduler.Core.history.Goals as goal
 
 pub returns : goal.returns

@@ -1,5 +1,5 @@
 use Rattle.std.proofs.Common.{sym}
-use Rattle.batcher_core.specs.Abstraction.{state_of}
+use Rattle.core_state.specs.Abstraction.{state_of}
 use Rattle.batcher_core.proofs.ReportLemmas.Reporting.{over_is, reported}
 use Rattle.batcher_core.proofs.scheduler.Core.report.Goals as goal
 

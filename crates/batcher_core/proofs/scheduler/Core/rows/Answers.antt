@@ -1,6 +1,6 @@
 use Rattle.std.proofs.Common.{◌≡◌, arith, sym, ◌∙◌}
 use Rattle.core_model.proofs.Words.{leaves, core_job}
-use Rattle.batcher_core.specs.Abstraction.{state_of}
+use Rattle.core_state.specs.Abstraction.{state_of}
 use Rattle.core_model.proofs.BookLemmas.LeavesIn.{leaves_few}
 use Rattle.batcher_core.proofs.ReportLemmas.Reporting.{over_is}
 use Rattle.batcher_core.proofs.scheduler.Core.rows.Goals as goal

@@ -1,8 +1,0 @@
-use Rattle.batcher_core.proofs.ChoiceLemmas.Allowed.{room}
-use Rattle.batcher_core.proofs.state.State.apply.Goals as goal
-
-pub start-requires-clause-room : goal.start-requires-clause-room
-start-requires-clause-room c = room _ _ _ _ c.args.worker c.requires.fits
-
-pub end-requires-clause-room : goal.end-requires-clause-room
-end-requires-clause-room c = room _ _ _ _ c.args.worker c.requires.fits

@@ -1,0 +1,3 @@
+pub mod Written
+pub mod NonEmpty
+pub mod Copies

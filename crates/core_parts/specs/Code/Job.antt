@@ -1,0 +1,43 @@
+-- What contracts see of the job that a core runs, and what its nodes and its leaves are below.
+use Rattle.core_model.specs.Operations.{IsLeaf}
+use Rattle.core_model.specs.State.{CoreJob, core_job}
+use Rattle.core_parts.specs.declared.job.CoreJob.{CoreJob as StoredJob}
+use Rattle.core_model.specs.declared.task.Task.{Task}
+use Rattle.core_model.specs.declared.task.Task.TheVariants.{Ended, Half, Handed, Idle, Kept, Run, Started, Whole}
+use Rattle.sp_order.specs.Plans.{Nodes}
+use Rattle.sp_order.specs.declared.node.Kind.{Kind}
+use Rattle.sp_order.specs.declared.node.Kind.TheVariants.{LeafNode, ParNode, SeqNode}
+use Rattle.std.specs.Prelude.{None, Option, Some, ℕ, ◌<◌}
+
+-- the job, as the rules speak of it
+abbrev pub job_of : StoredJob → CoreJob
+job_of job = core_job job.plan job.acts.items job.workers
+
+-- the leaf at a node of this kind
+abbrev pub leaf_at : Option Kind → Option ℕ
+leaf_at None = None
+leaf_at (Some (LeafNode leaf)) = Some leaf
+leaf_at (Some (SeqNode left right)) = None
+leaf_at (Some (ParNode left right)) = None
+
+-- the node that a task names is below this number
+abbrev pub TaskIn : ℕ → Task → Type 0
+TaskIn nodes Idle = Unit {0}
+TaskIn nodes (Run n) = n < nodes
+TaskIn nodes (Half n) = n < nodes
+TaskIn nodes (Started n s) = n < nodes
+TaskIn nodes (Kept n s) = n < nodes
+TaskIn nodes (Ended n s e) = n < nodes
+TaskIn nodes (Whole n) = n < nodes
+TaskIn nodes (Handed n) = n < nodes
+
+-- the task is started at a leaf
+abbrev pub HasLeaf : Nodes → Task → Type 0
+HasLeaf plan Idle = ⊥
+HasLeaf plan (Run n) = ⊥
+HasLeaf plan (Half n) = ⊥
+HasLeaf plan (Started n s) = IsLeaf (plan.kind n)
+HasLeaf plan (Kept n s) = ⊥
+HasLeaf plan (Ended n s e) = ⊥
+HasLeaf plan (Whole n) = ⊥
+HasLeaf plan (Handed n) = ⊥

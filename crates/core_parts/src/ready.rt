@@ -1,0 +1,250 @@
+//! The workers' lists of ready nodes.
+ghost use Rattle.std.specs.Prelude.{◌≡◌, ◌<◌, ◌≤◌, ◌-◌, ℕ, [], ◌∷◌, ◌++◌, length, take, drop, replicate, IfOk, IfErr, OnOk, OnErr, IsTrue, false, ◌↔◌, ◌≢◌};
+ghost use Rattle.core_model.specs.State.{put, opening_core};
+ghost use Rattle.core_model.specs.Lists.{without, times};
+ghost use Rattle.core_parts.specs.Places.{at};
+ghost use Rattle.core_parts.specs.Code.ReadyLists.{one_if_non_empty as count_of, IsNewest, IsOldest, IsAtEnd, IsAtOneEnd};
+
+use std::alloc::{AllocError, Global};
+use std::marker::Model;
+
+/// The ready nodes of one worker, the oldest first. A claim of the oldest is a step of `first`, and a list with no node
+/// left begins anew, so a claim at either end takes the same time however long the list is.
+#[derive(Drop)]
+pub struct ReadyList {
+    items: Vec<u32>,
+    /// The place of the oldest node.
+    first: usize,
+}
+
+impl Model for ReadyList {
+    ghost use Rattle.std.specs.Prelude.{ℕ, List, ◌≤◌, length, drop};
+
+    ghost Value = { List ℕ };
+
+    ghost view = { λ l. drop l.first l.items.items };
+
+    ghost invariant = { λ l. l.first ≤ length l.items.items };
+}
+
+/// Empties a list of which all nodes are claimed, and gives the place of its oldest node.
+fn begin_anew(items: &mut Vec<u32>, first: usize) -> usize
+    requires { first ≤ length items.old.items }
+    ensures within { result ≤ length items.new.items }
+    ensures nodes { drop result items.new.items ≡ drop first items.old.items }
+{
+    if first < items.len() {
+        return first;
+    }
+    items.clear();
+    0
+}
+
+impl ReadyList {
+    /// The list with no nodes.
+    ///
+    /// Memory: none.
+    fn new(alloc: Global) -> ReadyList
+        ensures { result ≡ [] }
+    {
+        ReadyList {
+            items: Vec::new(alloc),
+            first: 0,
+        }
+    }
+
+    /// Its nodes, the oldest first.
+    fn as_slice(&self) -> &[u32]
+        ensures { result.now ≡ self.now }
+    {
+        &self.items[self.first..]
+    }
+
+    /// 1 where it has a node, and 0 where it has none.
+    fn one_if_non_empty(&self) -> usize
+        ensures { result ≡ count_of self.now }
+    {
+        if self.as_slice().is_empty() { 0 } else { 1 }
+    }
+
+    /// Puts a node at the newest end.
+    fn push(&mut self, node: u32) -> Result<(), AllocError>
+        ensures done { OnOk result (self.new ≡ self.old ++ node ∷ []) }
+        ensures unchanged { OnErr result (self.new ≡ self.old) }
+    {
+        self.items.push(node)?;
+        Ok(())
+    }
+
+    /// Whether the node is the newest.
+    fn is_newest(&self, node: u32) -> bool
+        ensures { IsTrue result ↔ IsNewest node self.now }
+    {
+        match self.as_slice().last() {
+            None => false,
+            Some(newest) => *newest == node,
+        }
+    }
+
+    /// Whether the node is the oldest.
+    fn is_oldest(&self, node: u32) -> bool
+        ensures { IsTrue result ↔ IsOldest node self.now }
+    {
+        match self.as_slice().first() {
+            None => false,
+            Some(oldest) => *oldest == node,
+        }
+    }
+
+    /// Takes the newest node away.
+    fn drop_newest(&mut self)
+        requires { 0 < length self.old }
+        ensures { self.new ≡ take (length self.old - 1) self.old }
+    {
+        let _ = self.items.pop();
+        self.first = begin_anew(&mut self.items, self.first);
+    }
+
+    /// Takes the oldest node away.
+    fn drop_oldest(&mut self)
+        requires { 0 < length self.old }
+        ensures { self.new ≡ drop 1 self.old }
+    {
+        self.first = begin_anew(&mut self.items, self.first + 1);
+    }
+
+    /// Takes away a node that stands once in the list, at one of its ends, or not at all. Answers whether it stood there.
+    fn remove(&mut self, node: u32) -> bool
+        requires { IsAtEnd node self.old }
+        ensures list { self.new ≡ without node self.old }
+        ensures found { IsTrue result → times node self.old ≢ 0 }
+        ensures absent { result ≡ false → times node self.old ≡ 0 }
+    {
+        if self.is_newest(node) {
+            self.drop_newest();
+            return true;
+        }
+        if self.is_oldest(node) {
+            self.drop_oldest();
+            return true;
+        }
+        false
+    }
+}
+
+/// A list of ready nodes for each worker, and the number of lists that have a node, by which a worker without a task
+/// sees at once that there is nothing to claim. Contracts see the lists.
+#[derive(Drop)]
+pub struct ReadyLists {
+    lists: Vec<ReadyList>,
+    /// The number of lists that have a node.
+    non_empty: usize,
+}
+
+impl Model for ReadyLists {
+    ghost use Rattle.std.specs.Prelude.{ℕ, List, ◌≡◌};
+    ghost use Rattle.core_parts.specs.Code.ReadyLists.{non_empty_in};
+
+    ghost Value = { List (List ℕ) };
+
+    ghost view = { λ r. r.lists.items };
+
+    ghost invariant = { λ r. r.non_empty ≡ non_empty_in r.lists.items };
+}
+
+impl ReadyLists {
+    /// Lists without nodes, one for each of `workers`.
+    fn empty(alloc: Global, workers: u32) -> Result<ReadyLists, AllocError>
+        ensures { IfOk result (λ lists. lists ≡ replicate workers []) }
+    {
+        let mut lists = Vec::new(alloc);
+        for worker in 0..workers {
+            lists.push(ReadyList::new(alloc))?;
+        }
+        Ok(ReadyLists {
+            lists,
+            non_empty: 0,
+        })
+    }
+
+    /// The lists at the opening: that of worker 0 has the root, and the others are empty.
+    pub fn opening(alloc: Global, workers: u32) -> Result<ReadyLists, AllocError>
+        requires { 0 < workers }
+        ensures len { IfOk result (λ lists. length lists ≡ workers) }
+        ensures lists { IfOk result (λ lists. at lists [] ≡ opening_core.ready) }
+    {
+        let mut lists = ReadyLists::empty(alloc, workers)?;
+        lists.push(0, 0)?;
+        Ok(lists)
+    }
+
+    /// The nodes of a worker, the oldest first. Beyond the workers there are none.
+    ///
+    /// Memory: none.
+    pub fn of(&self, worker: u32) -> &[u32]
+        ensures { result.now ≡ at self.now [] worker }
+    {
+        match self.lists.get(worker as usize) {
+            Some(list) => list.as_slice(),
+            None => &[],
+        }
+    }
+
+    /// Whether no list has a node.
+    pub fn are_empty(&self) -> bool
+        ensures { IsTrue result → (worker : ℕ) → at self.now [] worker ≡ [] }
+    {
+        self.non_empty == 0
+    }
+
+    /// Puts a node at the newest end of a worker's list.
+    pub fn push(&mut self, worker: u32, node: u32) -> Result<(), AllocError>
+        requires { worker < length self.old }
+        ensures len { length self.new ≡ length self.old }
+        ensures lists { IfOk result (λ _. at self.new []
+            ≡ put (at self.old []) worker (at self.old [] worker ++ node ∷ [])) }
+        ensures unchanged { IfErr result (λ _. at self.new [] ≡ at self.old []) }
+    {
+        let list = &mut self.lists[worker as usize];
+        let before = list.one_if_non_empty();
+        list.push(node)?;
+        self.non_empty = self.non_empty - before + list.one_if_non_empty();
+        Ok(())
+    }
+
+    /// Takes a node away from the list of a worker, if it stands there. Answers whether it did.
+    fn remove_from(&mut self, worker: usize, node: u32) -> bool
+        requires worker_in { worker < length self.old }
+        requires at_end { IsAtEnd node (at self.old [] worker) }
+        ensures len { length self.new ≡ length self.old }
+        ensures lists { at self.new []
+            ≡ put (at self.old []) worker (without node (at self.old [] worker)) }
+        ensures found { IsTrue result → times node (at self.old [] worker) ≢ 0 }
+        ensures absent { result ≡ false → times node (at self.old [] worker) ≡ 0 }
+    {
+        let list = &mut self.lists[worker];
+        let found = list.remove(node);
+        if found {
+            self.non_empty = self.non_empty - 1 + list.one_if_non_empty();
+        }
+        found
+    }
+
+    /// Takes away a node that stands at an end of one list, or in none. The list of `worker` is looked at first, and no
+    /// list behind that in which the node stood.
+    pub fn remove(&mut self, worker: u32, node: u32)
+        requires worker_in { worker < length self.old }
+        requires at_end { IsAtOneEnd node (at self.old []) }
+        ensures len { length self.new ≡ length self.old }
+        ensures lists { at self.new [] ≡ λ v. without node (at self.old [] v) }
+    {
+        if self.remove_from(worker as usize, node) {
+            return;
+        }
+        for other in 0..self.lists.len() {
+            if self.remove_from(other, node) {
+                return;
+            }
+        }
+    }
+}

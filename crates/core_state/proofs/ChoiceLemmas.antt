@@ -1,0 +1,3 @@
+pub mod ClaimEnds
+pub mod Steals
+pub mod Allowed

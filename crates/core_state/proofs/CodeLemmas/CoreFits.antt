@@ -1,0 +1,80 @@
+-- What the choice of a turn looks up is there, in what a core keeps to.
+use Rattle.std.proofs.Common.{ℕ, ◌≡◌, ◌≢◌, ◌<◌, Some, arith, refl, sym, ◌∙◌}
+use Rattle.core_model.proofs.Words.{Nodes, IsPlan, Move, Root, OpenSecond, FinishParent, Arrive, CoreJob, names}
+use Rattle.core_parts.specs.Words.{Progress, Task, Idle, Run, Half, Started, Kept, Ended, Whole, Handed, Free, NotCalled, Out}
+use Rattle.sp_order.specs.Preorder.{nodes_of}
+use Rattle.core_state.specs.declared.state.State.{State as StoredState}
+use Rattle.core_parts.specs.Code.Job.{job_of, HasLeaf, TaskIn}
+use Rattle.core_model.specs.Invariant.Statuses.{IsAtCall, is_taken_by}
+use Rattle.core_parts.specs.declared.job.CoreJob.{CoreJob as StoredJob}
+use Rattle.core_model.proofs.ChoiceLemmas.Gate.{taken_row}
+use Rattle.core_model.specs.Operations.{IsLeaf}
+use Rattle.core_model.specs.Invariant.Tasks.{TaskFits}
+use Rattle.core_state.specs.Abstraction.{book_of, state_of}
+use Rattle.core_state.specs.Code.Lookups.{MoveIn, CanChoose}
+use Rattle.core_state.specs.Code.Representation.{Represents}
+use Rattle.core_model.proofs.InvariantLemmas.InRange.{parent_in, named_in}
+use Rattle.core_model.proofs.BookLemmas.Room.{book_room}
+use Rattle.core_state.proofs.CodeLemmas.KeptParts.{kept_parts}
+
+task_in : (nodes : ℕ) (task : Task) → ((n : ℕ) → names task ≡ Some n → n < nodes) → TaskIn nodes task
+task_in nodes Idle h = tt
+task_in nodes (Run n) h = h n refl
+task_in nodes (Half n) h = h n refl
+task_in nodes (Started n s) h = h n refl
+task_in nodes (Kept n s) h = h n refl
+task_in nodes (Ended n s e) h = h n refl
+task_in nodes (Whole n) h = h n refl
+task_in nodes (Handed n) h = h n refl
+
+move_in : (plan : Nodes) → IsPlan plan → (n : ℕ) (move : Move) → plan.after n ≡ move → MoveIn plan.count move
+move_in plan laws n Root e = tt
+move_in plan laws n (OpenSecond p) e = parent_in plan laws p n (rw e refl)
+move_in plan laws n (FinishParent p) e = parent_in plan laws p n (rw e refl)
+move_in plan laws n (Arrive p) e = parent_in plan laws p n (rw e refl)
+
+started_leaf : (plan : Nodes) (node : ℕ → Progress) (mark : ℕ → ℕ) (task : Task) (n start : ℕ) → TaskFits plan node mark task → task ≡ Started n start → IsLeaf (plan.kind n)
+started_leaf plan node mark task n start h e = (rw e at h).0
+
+book_is : (t : StoredState) → (state_of t).book ≡ book_of t.shop
+unfolding state_of
+book_is t = refl
+
+-- a worker that is at a call has started a leaf
+has_leaf : (job : CoreJob) (node : ℕ → Progress) (mark : ℕ → ℕ) (task : Task) → TaskFits job.plan node mark task → IsAtCall job task → HasLeaf job.plan task
+has_leaf job node mark Idle fits call = absurd call
+has_leaf job node mark (Run n) fits call = absurd call
+has_leaf job node mark (Half n) fits call = absurd call
+has_leaf job node mark (Started n s) fits call = fits.0
+has_leaf job node mark (Kept n s) fits call = absurd call
+has_leaf job node mark (Ended n s e) fits call = absurd call
+has_leaf job node mark (Whole n) fits call = absurd call
+has_leaf job node mark (Handed n) fits call = absurd call
+
+pub looks : (job : StoredJob) (t : StoredState) → Represents job t → CanChoose job t
+looks job t h =
+    let kept = kept_parts job.plan job.acts.items job.workers t h in
+    let room = rw (book_is t) at (book_room (job_of job) (state_of t) kept h.calls_in) in
+    let most = h.most in
+    record {
+      few = h.few;
+      sizes = h.sizes;
+      tasks_in = λ w. task_in (nodes_of job.plan).count ((state_of t).task w) (λ n name. named_in (job_of job) (state_of t) h.laws kept w n name);
+      at_leaf = λ w n start e. started_leaf (nodes_of job.plan) (state_of t).node (state_of t).mark ((state_of t).task w) n start (kept.tasks.fits w) e;
+      moves_in = λ n. move_in (nodes_of job.plan) h.laws n ((nodes_of job.plan).after n) refl;
+      leaves_in = h.leaves_in;
+      owed = λ w taken. has_leaf (job_of job) (state_of t).node (state_of t).mark ((state_of t).task w) (kept.tasks.fits w)
+          (taken_row (job_of job) (state_of t).book ((state_of t).task w) ((state_of t).status w) ((state_of t).call w) (is_taken_by (state_of t).hold w) taken (kept.statuses w)).1;
+      shop = h.shop;
+      leaves = rw (book_is t) at kept.book.leaves;
+      few_batches = omega (arith, room.0, room.1, most);
+      few_entries = omega (arith, room.0, most);
+    }
+
+-- a worker that is trapped has started a leaf
+pub trapped_has_leaf : (job : StoredJob) (t : StoredState) → Represents job t → (w : ℕ) → (state_of t).status w ≢ Free → HasLeaf (nodes_of job.plan) ((state_of t).task w)
+trapped_has_leaf job t h w trapped =
+    let kept = kept_parts job.plan job.acts.items job.workers t h in
+    let out = (h.inv.parts.statuses.out w).1 trapped in
+    has_leaf (job_of job) (state_of t).node (state_of t).mark ((state_of t).task w) (kept.tasks.fits w)
+    (h.inv.parts.statuses.at_call w (λ none. let clash : NotCalled ≡ Out = sym none ∙ out in cc))

@@ -1,0 +1,12 @@
+use Rattle.std.proofs.Common.{refl}
+use Rattle.core_state.specs.Abstraction.{state_of}
+use Rattle.core_parts.specs.Words.{Waiting, Ready, Idle}
+use Rattle.core_parts.proofs.CodeLemmas.Written.{at_written}
+use Rattle.core_state.proofs.state.State.open.Goals as goal
+
+pub returns-clause-event : goal.returns-clause-event
+unfolding state_of
+returns-clause-event c =
+    let a = at_written c.args.self.now.nodes.items c.args.node Ready Waiting c.requires.node_in in
+    let b = at_written c.args.self.now.tasks.items c.args.worker c.args.then Idle c.requires.worker_in in
+    rw (a, b) refl

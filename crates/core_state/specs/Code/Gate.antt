@@ -1,0 +1,13 @@
+-- Which events are of the gate: those of calls and of the flag.
+use Rattle.core_parts.specs.Words.{Event, Answer, Leave, Post, Publish, Release, Take, Win}
+
+-- the event is of a call or of the flag
+abbrev pub IsOfGate : Event → Type 0
+IsOfGate (Post n start) = Unit {0}
+IsOfGate Win = Unit {0}
+IsOfGate (Take u) = Unit {0}
+IsOfGate Publish = Unit {0}
+IsOfGate (Answer u receipt) = Unit {0}
+IsOfGate Release = Unit {0}
+IsOfGate (Leave receipt) = Unit {0}
+IsOfGate event = ⊥

@@ -1,0 +1,103 @@
+//! What an event does to the state: one function for each row of the rules, and the dispatch to it.
+ghost use Rattle.std.specs.Prelude.{◌≡◌, ◌<◌, ℕ, IfOk};
+ghost use Rattle.sp_order.specs.Preorder.{nodes_of};
+ghost use Rattle.core_parts.specs.Code.Job.{job_of};
+ghost use Rattle.core_model.specs.Events.{Needs, Does};
+ghost use Rattle.core_model.specs.Ranges.{IsInRange};
+ghost use Rattle.core_state.specs.Code.Gate.{IsOfGate};
+ghost use Rattle.core_parts.specs.Code.ReadyLists.{IsAtOneEnd};
+ghost use Rattle.core_state.specs.Abstraction.{state_of, ready_of};
+ghost use Rattle.core_state.specs.Code.Sizes.{SameSizes};
+ghost use Rattle.core_model.specs.Lists.{ready_after};
+ghost use Rattle.core_model.specs.declared.event.Event.TheVariants.{Claim};
+ghost use Rattle.core_state.specs.Code.Representation.{Represents};
+
+mod gate;
+mod job;
+mod publish;
+
+use crate::state::State;
+use core_model::{Event, Task};
+use core_parts::CoreJob;
+use std::alloc::{AllocError, Global};
+
+impl State {
+    /// Does an event of a call or of the flag. After want of memory the state may be part of the way.
+    #[inline(always)]
+    fn apply_to_gate(
+        &mut self,
+        alloc: Global,
+        job: &CoreJob,
+        worker: u32,
+        event: Event,
+    ) -> Result<(), AllocError>
+        requires kind { IsOfGate event }
+        requires fits { Represents job.now self.old }
+        requires worker_in { worker < job.now.workers }
+        requires in_range { IsInRange (nodes_of job.now.plan).count job.now.workers event }
+        requires needs { Needs (job_of job.now) (state_of self.old) worker event }
+        ensures sizes { IfOk result (λ _. SameSizes self.old self.new) }
+        ensures event { IfOk result
+            (λ _. Does (job_of job.now) (state_of self.old) worker event (state_of self.new)) }
+        ensures lists { IfOk result (λ _. ready_of self.new
+            ≡ ready_after worker event (ready_of self.old)) }
+    {
+        match event {
+            Event::Post { .. } => self.post(worker),
+            Event::Win => self.win(worker),
+            Event::Take(other) => self.take(other),
+            Event::Publish => self.publish(alloc, job, worker)?,
+            Event::Answer {
+                worker: other,
+                receipt,
+            } => self.answer(other, receipt),
+            Event::Release => self.release(),
+            Event::Leave(receipt) => self.leave(worker, receipt),
+            _ => unreachable!(),
+        }
+        Ok(())
+    }
+
+    /// Does an event of a worker. After want of memory the state may be part of the way.
+    #[inline(always)]
+    pub fn apply(
+        &mut self,
+        alloc: Global,
+        job: &CoreJob,
+        worker: u32,
+        event: Event,
+    ) -> Result<(), AllocError>
+        requires fits { Represents job.now self.old }
+        requires worker_in { worker < job.now.workers }
+        requires in_range { IsInRange (nodes_of job.now.plan).count job.now.workers event }
+        requires needs { Needs (job_of job.now) (state_of self.old) worker event }
+        requires at_end { (n : ℕ) → event ≡ Claim n → IsAtOneEnd n (ready_of self.old) }
+        ensures sizes { IfOk result (λ _. SameSizes self.old self.new) }
+        ensures event { IfOk result
+            (λ _. Does (job_of job.now) (state_of self.old) worker event (state_of self.new)) }
+        ensures lists { IfOk result (λ _. ready_of self.new
+            ≡ ready_after worker event (ready_of self.old)) }
+    {
+        match event {
+            Event::Claim(node) => self.claim(worker, node),
+            Event::Start(node) => self.start(worker, node),
+            Event::OpenParRight { parent, right, .. } => {
+                self.open(worker, right, Task::Half(parent))?;
+            }
+            Event::OpenParLeft { left, .. } => self.open(worker, left, Task::Idle)?,
+            Event::OpenSeqLeft { left, .. } => self.open(worker, left, Task::Idle)?,
+            Event::OpenSeqRight { right, .. } => self.open(worker, right, Task::Idle)?,
+            Event::Keep { node, start, value } => self.keep(worker, node, start, value),
+            Event::End { node, start } => self.end(worker, node, start),
+            Event::FinishLeaf { node, start, end } => self.finish_leaf(worker, node, start, end),
+            Event::FinishSeq { parent, .. } => self.finish_block(worker, parent),
+            Event::FinishPar { parent, .. } => self.finish_block(worker, parent),
+            Event::ArriveFirst { parent, .. } => self.arrive(worker, parent, 1, Task::Idle),
+            Event::ArriveSecond { parent, .. } => {
+                self.arrive(worker, parent, 2, Task::Handed(parent));
+            }
+            _ => self.apply_to_gate(alloc, job, worker, event)?,
+        }
+        Ok(())
+    }
+}

@@ -1,0 +1,105 @@
+//! The choice of a worker's turn: the event that it makes in this state, if it can make one. Nothing is written here.
+ghost use Rattle.std.specs.Prelude.{◌≡◌, ◌<◌, length, None, IsTrue};
+ghost use Rattle.core_parts.specs.Code.Job.{job_of};
+ghost use Rattle.core_model.specs.Choice.{choice, choice_by, choice_free};
+ghost use Rattle.core_state.specs.Abstraction.{state_of, core_state_of};
+ghost use Rattle.core_state.specs.Code.Lookups.{CanChoose, IsWorkOf};
+
+mod gate;
+mod job;
+
+use crate::state::State;
+use core_model::{Event, Status, Task};
+use core_parts::CoreJob;
+use core_parts::chosen::{of_half, of_handed, of_run, of_started};
+
+impl State {
+    /// The event of a worker whose status is free, by its task. `work` is the value of the work that is due, if some
+    /// is due.
+    #[tactic(auto, unfolding(crate::specs::Abstraction::state_of, crate::specs::Abstraction::ready_of))]
+    #[inline(always)]
+    pub(crate) fn choose_free(&self, job: &CoreJob, worker: u32, work: Option<u64>) -> Option<Event>
+        requires looks { CanChoose job.now self.now }
+        requires worker_in { worker < job.now.workers }
+        requires work { IsWorkOf job.now self.now worker work }
+        ensures { result ≡ choice_free (job_of job.now) (core_state_of self.now) worker
+            ((state_of self.now).task worker) }
+    {
+        match self.tasks[worker as usize] {
+            Task::Idle => self.choose_claim(job.workers, worker),
+            Task::Run(node) => of_run(job.plan.kind(node), node),
+            Task::Half(node) => of_half(job.plan.kind(node), node),
+            Task::Started { node, start } => {
+                let act = job.act_at(node);
+                of_started(act, self.calls[worker as usize], node, start, work)
+            }
+            Task::Kept { node, start } => Some(Event::End { node, start }),
+            Task::Ended { node, start, end } => Some(Event::FinishLeaf { node, start, end }),
+            Task::Whole(node) => self.choose_whole(job, node),
+            Task::Handed(node) => of_handed(job.plan.kind(node), node),
+        }
+    }
+
+    /// The event of a worker that does not hold the flag, by its status.
+    #[tactic(auto, unfolding(crate::specs::Abstraction::state_of))]
+    #[inline(always)]
+    fn choose_by_status(&self, job: &CoreJob, worker: u32, work: Option<u64>) -> Option<Event>
+        requires looks { CanChoose job.now self.now }
+        requires worker_in { worker < job.now.workers }
+        requires work { IsWorkOf job.now self.now worker work }
+        ensures { result ≡ choice_by (job_of job.now) (core_state_of self.now) worker
+            ((state_of self.now).status worker) }
+    {
+        match self.statuses[worker as usize] {
+            Status::Free => self.choose_free(job, worker, work),
+            Status::Pending => self.choose_pending(),
+            Status::Executing => None,
+            Status::Served(receipt) => Some(Event::Leave(receipt)),
+        }
+    }
+
+    /// Whether it is seen at once that a worker has no event: it has nothing in hand where no list has a node, or its
+    /// call waits for the worker that has the flag. A worker of which this is false may have none either.
+    ///
+    /// Memory: none.
+    #[inline(always)]
+    #[tactic(auto, unfolding(crate::specs::Abstraction::state_of, crate::specs::Abstraction::ready_of))]
+    pub fn surely_rests(&self, job: &CoreJob, worker: u32) -> bool
+        requires worker_in { worker < job.now.workers }
+        requires tasks_in { length self.now.tasks.items ≡ job.now.workers }
+        requires statuses_in { length self.now.statuses.items ≡ job.now.workers }
+        ensures { IsTrue result → choice (job_of job.now) (core_state_of self.now) worker ≡ None }
+    {
+        if let Some(hold) = &self.hold {
+            if hold.worker == worker {
+                return false;
+            }
+        }
+        match self.statuses[worker as usize] {
+            Status::Free => match self.tasks[worker as usize] {
+                Task::Idle => self.nothing_to_claim(job.workers, worker),
+                _ => false,
+            },
+            Status::Pending => self.hold.is_some(),
+            Status::Executing => true,
+            Status::Served(_) => false,
+        }
+    }
+
+    /// The event of a worker's turn, or none where the worker can do nothing in this state.
+    ///
+    /// Memory: none.
+    #[tactic(auto, unfolding(crate::specs::Abstraction::state_of))]
+    #[inline(always)]
+    pub fn choose(&self, job: &CoreJob, worker: u32, work: Option<u64>) -> Option<Event>
+        requires looks { CanChoose job.now self.now }
+        requires worker_in { worker < job.now.workers }
+        requires work { IsWorkOf job.now self.now worker work }
+        ensures { result ≡ choice (job_of job.now) (core_state_of self.now) worker }
+    {
+        match &self.hold {
+            Some(hold) if hold.worker == worker => self.choose_holding(job, hold),
+            _ => self.choose_by_status(job, worker, work),
+        }
+    }
+}

@@ -1,0 +1,86 @@
+//! The choice of a worker whose node is done or that looks for one to claim, and the work that is due.
+ghost use Rattle.std.specs.Prelude.{◌≡◌, ◌<◌, ◌≤◌, length, None, IsTrue};
+ghost use Rattle.sp_order.specs.Preorder.{nodes_of};
+ghost use Rattle.core_state.specs.Abstraction.{state_of, ready_of};
+ghost use Rattle.core_state.specs.Code.Lookups.{CanChoose, MoveIn, claim_choice, whole_choice};
+ghost use Rattle.core_parts.specs.WorkDue.{work_due};
+
+use crate::state::State;
+use core_model::{Event, Task};
+use core_parts::CoreJob;
+use core_parts::chosen::{of_arrive, of_parent, of_second, steps_of};
+use sp_order::node::Move;
+
+impl State {
+    /// The event of a worker without a task: it claims the newest node of its own list or, where that is empty, the
+    /// oldest of the next list that has a node, in the order of the workers' numbers. Where no list has a node it looks
+    /// at none of them; else it looks at each list at most once.
+    #[tactic(auto, unfolding(crate::specs::Abstraction::ready_of))]
+    pub(crate) fn choose_claim(&self, workers: u32, worker: u32) -> Option<Event>
+        requires worker_in { worker < workers }
+        requires few { workers ≤ 32 }
+        ensures { result
+            ≡ claim_choice workers (ready_of self.now) worker (ready_of self.now worker) }
+    {
+        if self.ready.are_empty() {
+            return None;
+        }
+        if let Some(node) = self.ready.of(worker).last() {
+            return Some(Event::Claim(*node));
+        }
+        for k in 1..workers {
+            let other = (worker + k) % workers;
+            if let Some(node) = self.ready.of(other).first() {
+                return Some(Event::Claim(*node));
+            }
+        }
+        None
+    }
+
+    /// Whether no list has a node, so that a worker without a task has none to claim.
+    #[inline(always)]
+    pub(crate) fn nothing_to_claim(&self, workers: u32, worker: u32) -> bool
+        ensures { IsTrue result
+            → claim_choice workers (ready_of self.now) worker (ready_of self.now worker) ≡ None }
+    {
+        self.ready.are_empty()
+    }
+
+    /// The event of a worker whose node is done, by the move that the plan has after that node.
+    #[tactic(auto, unfolding(crate::specs::Abstraction::state_of))]
+    pub(crate) fn choose_whole(&self, job: &CoreJob, node: u32) -> Option<Event>
+        requires node_in { node < (nodes_of job.now.plan).count }
+        requires marks_in { length self.now.marks.items ≡ (nodes_of job.now.plan).count }
+        requires moves_in { MoveIn (nodes_of job.now.plan).count ((nodes_of job.now.plan).after node) }
+        ensures { result ≡ whole_choice (nodes_of job.now.plan) (state_of self.now).mark
+            ((nodes_of job.now.plan).after node) node }
+    {
+        match job.plan.after(node) {
+            Move::Root => None,
+            Move::OpenSecond(parent) => of_second(job.plan.kind(parent), parent),
+            Move::FinishParent(parent) => of_parent(job.plan.kind(parent), parent),
+            Move::Arrive(parent) => {
+                of_arrive(
+                    job.plan.kind(parent),
+                    parent,
+                    self.marks[parent as usize],
+                    node,
+                )
+            }
+        }
+    }
+
+    /// The number of steps of the leaf that the worker has started, if it has started one that works.
+    #[tactic(auto, unfolding(crate::specs::Abstraction::state_of))]
+    pub fn work_due(&self, job: &CoreJob, worker: u32) -> Option<u32>
+        requires looks { CanChoose job.now self.now }
+        requires worker_in { worker < job.now.workers }
+        ensures { result
+            ≡ work_due (nodes_of job.now.plan) job.now.acts.items ((state_of self.now).task worker) }
+    {
+        match self.tasks[worker as usize] {
+            Task::Started { node, .. } => steps_of(job.act_at(node)),
+            _ => None,
+        }
+    }
+}

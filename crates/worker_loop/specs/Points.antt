@@ -1,7 +1,7 @@
 -- The points of the gate to which an event brings a worker.
 use Rattle.std.specs.Prelude.{Option, Some, None}
-use Rattle.batcher_core.specs.declared.doing.Doing.{Doing}
-use Rattle.batcher_core.specs.declared.doing.Doing.TheVariants.{Started, Calling, Other}
+use Rattle.core_state.specs.declared.doing.Doing.{Doing}
+use Rattle.core_state.specs.declared.doing.Doing.TheVariants.{Started, Calling, Other}
 use Rattle.bt_io.specs.declared.pause.Point.{Point}
 use Rattle.bt_io.specs.declared.pause.Point.TheVariants.{LeafStart, Posted}
 

@@ -2,8 +2,8 @@ use denote.Exit.{yes}
 use denote.Param.Send.{IsSend, sendable}
 use Rattle.std.proofs.Crossing.{crosses}
 use Rattle.launch_batch.specs.contracts.shop.Shop as shop
-use Rattle.batcher_core.specs.contracts.job.CoreJob as job
-use Rattle.batcher_core.specs.contracts.state.State as state
+use Rattle.core_parts.specs.contracts.job.CoreJob as job
+use Rattle.core_state.specs.contracts.state.State as state
 use Rattle.worker_loop.proofs.sending.cores_are_sent.Goals as goal
 
 state_is_sent : IsSend shop.the_row → IsSend (state.the_field).row

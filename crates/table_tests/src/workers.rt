@@ -7,8 +7,8 @@ ghost use Rattle.worker_crew.specs.Opening.{seat_seen};
 ghost use Rattle.worker_crew.specs.Seats.{IsSeat};
 ghost use Rattle.worker_crew.specs.Workers.{IsMeOf, IsReady};
 
-use core_model::Receipt;
 use bt_io::Pause;
+use core_model::Receipt;
 use core_table::{CoreTable, Pass};
 use seq_objects::{spin, value};
 use std::alloc::Global;

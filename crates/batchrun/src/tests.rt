@@ -2,18 +2,14 @@
 ghost use Rattle.std.specs.Prelude.{◌<◌};
 
 mod bad_input;
-mod bytes;
 mod failing_streams;
 mod faults;
 mod generated;
-mod history;
 mod jobs;
 mod language;
 mod operations;
 mod schedules;
-mod stopped;
 mod threads;
-mod turns;
 mod words;
 
 use crate::outcome::Outcome;

@@ -1,5 +1,5 @@
 use Rattle.std.proofs.Common.{refl, arith}
-use Rattle.batchrun.proofs.tests.stopped.go_on.Goals as goal
+use Rattle.core_tests.proofs.stopped.go_on.Goals as goal
 
 -- worker 1 is live
 pub drive_some-requires-clause-some : goal.drive_some-requires-clause-some

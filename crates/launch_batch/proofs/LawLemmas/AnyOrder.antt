@@ -5,7 +5,7 @@ use Rattle.key_sets.specs.Keys.{StrictlyAscends}
 use Rattle.seq_objects.proofs.Elements.{each_so}
 use Rattle.launch_batch.proofs.ListLemmas.Elements.{each_unmapped}
 use Rattle.launch_batch.proofs.ListLemmas.Same.{each_same}
-use Rattle.launch_batch.proofs.LawLemmas.Among.{Among, all_among, each_among, among_same}
+use Rattle.launch_batch.proofs.ListLemmas.Among.{Among, all_among, each_among, among_same}
 
 -- a piece is found by its place
 by_place : (ins : List PieceIn) (a b : PieceIn) → StrictlyAscends (map place_of ins) → Among a ins → Among b ins → place_of a ≡ place_of b → a ≡ b

@@ -2,7 +2,7 @@
 use Rattle.std.proofs.Common.{◌≡◌, inl, inr, List, [], ◌∷◌, refl, sym, ap, subst, ◌∙◌}
 use Rattle.launch_batch.proofs.Words.{AllByRecursion, Call, Reply, Objects, after, reply_to, AreInBatchOrder, Entry, IsLegalFrom, served_book, call_in, calls_in, IsServiceOf}
 use Rattle.seq_objects.proofs.CallOrder.{IsFirst, one_way}
-use Rattle.launch_batch.proofs.LawLemmas.Among.{Among, each_among, among_same, same_among}
+use Rattle.launch_batch.proofs.ListLemmas.Among.{Among, each_among, among_same, same_among}
 
 not_both : (x y : Call) → IsFirst x y → IsFirst y x → ⊥
 not_both x y first second = one_way x.op y.op x.worker y.worker first second

@@ -15,7 +15,8 @@ use Rattle.core_table.specs.Views.{taken_view, passed_view}
 use Rattle.worker_crew.specs.Words.{Call, Entry}
 use Rattle.worker_crew.specs.Holds.{AreFit, StayFit}
 use Rattle.worker_crew.specs.Seats.{taken_call, hold_seen}
-use Rattle.worker_crew.proofs.SeatLemmas.Turned.{Among, all_among, distinct_last}
+use Rattle.launch_batch.proofs.ListLemmas.Among.{Among, all_among}
+use Rattle.worker_crew.proofs.SeatLemmas.Turned.{distinct_last}
 use Rattle.worker_crew.proofs.SeatLemmas.Taken.{calls_taken, worker_of, record_taken}
 use Rattle.worker_crew.proofs.SeatLemmas.Books.{new_leaf}
 

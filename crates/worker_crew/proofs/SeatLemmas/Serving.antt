@@ -19,7 +19,8 @@ use Rattle.core_table.specs.Batches.{call_of, ServesTaken}
 use Rattle.worker_crew.specs.Words.{Call, Entry, Receipt}
 use Rattle.worker_crew.specs.Holds.{workers_in, IsPublishDue, IsAnswerDue, IsReleaseDue}
 use Rattle.worker_crew.specs.Seats.{hold_seen}
-use Rattle.worker_crew.proofs.SeatLemmas.Turned.{Among, all_among, each_among, among_same, same_among, each_turned_back}
+use Rattle.launch_batch.proofs.ListLemmas.Among.{Among, all_among, each_among, among_same, same_among}
+use Rattle.worker_crew.proofs.SeatLemmas.Turned.{each_turned_back}
 use Rattle.worker_crew.proofs.SeatLemmas.Taken.{calls_taken, worker_of, record_taken, took_taken, taken_took, among_seen, not_among}
 use Rattle.worker_crew.proofs.SeatLemmas.Books.{get_each, receipt_due}
 

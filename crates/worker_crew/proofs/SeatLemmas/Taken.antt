@@ -10,7 +10,8 @@ use Rattle.core_table.specs.declared.slot.OpRecord.{OpRecord}
 use Rattle.core_table.specs.declared.view.TakenCall.{TakenCall}
 use Rattle.core_table.specs.Shows.{took_in, record_in, among}
 use Rattle.worker_crew.specs.Seats.{oldest_first, taken_call}
-use Rattle.worker_crew.proofs.SeatLemmas.Turned.{Among, each_among, among_turned, among_turned_back, distinct_turned_back}
+use Rattle.launch_batch.proofs.ListLemmas.Among.{Among, each_among}
+use Rattle.worker_crew.proofs.SeatLemmas.Turned.{among_turned, among_turned_back, distinct_turned_back}
 
 pub if_no : {A : Type 0} (a b : ℕ) (p q : A) → a ≢ b → (if a == b then p else q) ≡ q
 if_no a b p q e = grind (arith, nat_tests)

@@ -1,50 +1,13 @@
--- What is among the elements of a list, and lists the other way round.
-use Rattle.std.proofs.Common.{ℕ, ◌≡◌, ◌≢◌, ◌⊎◌, inl, inr, List, [], ◌∷◌, ◌++◌, map, refl, sym, subst}
+-- Lists the other way round.
+use Rattle.std.proofs.Common.{ℕ, ◌≢◌, List, [], ◌∷◌, ◌++◌, map, sym, subst}
 use Rattle.std.specs.List.{AllByRecursion}
 use Rattle.std.proofs.lemmas.List.{append-nil}
 use Rattle.seq_objects.specs.Pairs.{EachPair, AreDistinct}
-use Rattle.seq_objects.proofs.Elements.{each_append, each_front, each_so}
+use Rattle.seq_objects.proofs.Elements.{each_append, each_front}
 use Rattle.seq_objects.proofs.CallOrder.{pairs_between}
 use Rattle.launch_batch.proofs.ListLemmas.Elements.{each_mapped, each_unmapped, map_append}
-use Rattle.launch_batch.specs.Calls.{AreSame}
-use Rattle.launch_batch.proofs.ListLemmas.Same.{each_same}
+use Rattle.launch_batch.proofs.ListLemmas.Among.{Among, each_among, all_among}
 use Rattle.worker_crew.specs.Seats.{oldest_first}
-
-abbrev pub Among : {X : Type 0} → X → List X → Type 0
-Among x [] = ⊥
-Among x (y ∷ ys) = (x ≡ y) ⊎ Among x ys
-
-pub each_among : {X : Type 0} (P : X → Type 0) (xs : List X) (x : X) → AllByRecursion P xs → Among x xs → P x
-each_among P [] x all there = absurd there
-each_among P (y ∷ xs) x all there = elim there [
-  | inl is ↦ subst P (sym is) all.0
-  | inr later ↦ each_among P xs x all.1 later
-]
-
--- each element is among them
-pub all_among : {X : Type 0} (xs : List X) → AllByRecursion (λ x. Among x xs) xs
-all_among [] = tt
-all_among (y ∷ xs) = (inl refl, each_so (λ x. Among x xs) (λ x. Among x (y ∷ xs)) (λ x there. inr there) xs (all_among xs))
-
--- what is among a list is among the same elements in another order, and the other way round
-pub same_among : {X : Type 0} (xs others : List X) → AreSame xs others → (x : X) → Among x others → Among x xs
-same_among xs others same x there = each_among (λ y. Among y xs) others x (each_same (λ y. Among y xs) xs others same (all_among xs)) there
-
-among_back : {X : Type 0} (x y : X) (before later : List X) → Among x (y ∷ before ++ later) → Among x (before ++ y ∷ later)
-among_back x y [] later there = there
-among_back x y (z ∷ before) later there = elim there [
-  | inl is ↦ inr (among_back x y before later (inl is))
-  | inr (inl is) ↦ inl is
-  | inr (inr more) ↦ inr (among_back x y before later (inr more))
-]
-
-pub among_same : {X : Type 0} (xs others : List X) → AreSame xs others → (x : X) → Among x xs → Among x others
-among_same [] others same x there = absurd there
-among_same (y ∷ xs) others same x there =
-    subst (Among x) (sym same.2) (among_back x y same.0 same.1 (elim there [
-      | inl is ↦ inl is
-      | inr more ↦ inr (among_same xs (same.0 ++ same.1) same.3 x more)
-    ]))
 
 pub each_turned : {X : Type 0} (P : X → Type 0) (xs : List X) → AllByRecursion P xs → AllByRecursion P (oldest_first xs)
 each_turned P [] h = tt

@@ -1,8 +1,9 @@
 //! A run in threads over the running table.
-ghost use Rattle.std.specs.Prelude.{◌≡◌, ◌<◌, ◌≤◌, ℕ, Some, IfOk, length, slice_index_or};
+ghost use Rattle.std.specs.Prelude.{◌≡◌, ◌<◌, ◌≤◌, ℕ, true, Some, IfOk, length, slice_index_or};
 ghost use Rattle.batch_history.specs.Lawful.{Lawful};
 ghost use Rattle.core_table.specs.declared.table.Pass.{Pass as PassOf};
-ghost use Rattle.core_table.specs.Passes.{tree_in, acts_in, job_in, IsPassOf};
+ghost use Rattle.core_table.specs.Passes.{tree_in, acts_in, job_in, view, IsPassOf};
+ghost use Rattle.core_table.specs.Views.{seeing_done, finding_none};
 ghost use Rattle.worker_crew.specs.declared.crew.Me.{Me as MeOf};
 ghost use Rattle.worker_crew.specs.Workers.{IsReady};
 ghost use Rattle.worker_crew.specs.Seats.{IsSeat};
@@ -98,6 +99,15 @@ fn work_as_crew<R: Threads + Wait + Sync, G: Pause + Sync>(
     work_in_threads(rt, alloc, crew, crew.workers, mes)
 }
 
+/// Whether the run came to its end: no worker has set the stop word, and the root is done.
+fn has_ended(table: &CoreTable, pass: &mut Pass) -> bool
+    requires pass { IsPassOf table.now pass.old }
+    ensures pass { IsPassOf table.now pass.new }
+    ensures ended { result ≡ true → view pass.new ≡ seeing_done (finding_none (view pass.old)) }
+{
+    !table.stopped(pass) && table.root_done(pass)
+}
+
 /// The report of a run that has come to its end. Memory ran out where a worker has set the stop word, or the root is
 /// not done.
 fn close(alloc: Global, table: CoreTable, pass: Pass) -> Result<Report, AllocError>
@@ -106,7 +116,7 @@ fn close(alloc: Global, table: CoreTable, pass: Pass) -> Result<Report, AllocErr
         (record { shape = Some (tree_in table); acts = acts_in table }) (job_in table).workers report) }
 {
     let mut pass = pass;
-    if table.stopped(&mut pass) || !table.root_done(&mut pass) {
+    if !has_ended(&table, &mut pass) {
         return Err(AllocError);
     }
     table.close(alloc, pass)

@@ -124,6 +124,7 @@ left_means workers receipt old new ends (own, a, unrun, p, left, same) =
       spots = record { own = lost.own; took = took_none _ old.batch new.batch lost.stolen };
       dropped = ap (λ (m : MeSeen). m.desk.refused) (same ∙ ap (λ (m : MeSeen). record m { pass = new.pass }) (own_none own old a unrun p));
       own = own_gave_none own old.batch new.batch unrun pop;
+      fruitless = lost.fruitless;
       tries = ap (λ (m : MeSeen). m.tries) same ∙ ap (λ (m : MeSeen). m.tries) p.same;
     }
 

@@ -36,13 +36,14 @@ pub record DidNothing (old new : MeSeen) : Type 0 where
   pub steal : StealGaveNone taken old new
 
 -- Left: the receipt is that of its leave. The spots that left the own list are the ones by which the desk's refused spots
--- grew; there was no try to win, and no steal.
+-- grew; there was no try to win, and no steal, so that the fruitless steals stand too.
 pub record DidLeave (receipt : Receipt) (old new : MeSeen) : Type 0 where
   pub left : IsLeft receipt old.pass new.pass
   pub lost : List Spot
   pub spots : Gained (next_victim old) lost [] old.batch new.batch
   pub dropped : GrewBy (map on_board lost) old.desk.refused new.desk.refused
   pub own : OwnGaveNone lost old.batch new.batch
+  pub fruitless : new.batch.fruitless_steals ≡ old.batch.fruitless_steals
   pub tries : new.tries ≡ old.tries
 
 -- How the piece was come by: it was the own list's last, and nothing else was tried; or all three before the steal gave

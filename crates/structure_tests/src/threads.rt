@@ -118,7 +118,7 @@ fn two_workers_run_pieces_of_one_batch_at_one_time(rt: HostRuntime) -> Result<()
     assert!(rt; gate.posts.was_kept());
     assert!(rt; gate.pieces.was_kept());
     assert_eq!(rt; size_of(report.history.batches().first()), 2);
-    assert_eq!(rt; gate.place_count(), 8);
+    assert_eq!(rt; gate.first_batch_places(), 8);
     Ok(())
 }
 

@@ -33,12 +33,14 @@ impl Pause for AtPosts {
 }
 
 /// The workers meet where each has posted its first call, and again where each is about to run its first piece. It notes
-/// the places of the pieces.
+/// the places of the first batch's pieces.
 #[derive(Drop)]
 pub struct AtCalls {
     pub posts: Meeting,
     pub pieces: Meeting,
-    /// Bit p is set once a worker has come to a piece at place p.
+    /// How often the flag was won.
+    wins: AtomicU64,
+    /// Bit p is set once a worker has come to a piece of the first batch at place p.
     places: AtomicU64,
 }
 
@@ -48,12 +50,15 @@ impl AtCalls {
         AtCalls {
             posts: Meeting::new(),
             pieces: Meeting::new(),
+            wins: AtomicU64::new(0),
             places: AtomicU64::new(0),
         }
     }
 
-    /// How many places had a piece.
-    pub fn place_count(&self) -> u32 {
+    /// At how many places the first batch had a piece: counted are the places to which a worker came while the flag had been
+    /// won just once. Where the posts were kept, that win had both calls to take; and a batch's pieces have all run before its
+    /// launcher lets go of the flag.
+    pub fn first_batch_places(&self) -> u32 {
         self.places.load(Ordering::SeqCst).count_ones()
     }
 }
@@ -61,13 +66,18 @@ impl AtCalls {
 impl Pause for AtCalls {
     fn at(&self, point: Point, worker: u32) {
         match point {
+            Point::LeafStart(_) => {}
             Point::Posted(_) => self.posts.meet(worker),
+            Point::Won => {
+                self.wins.fetch_add(1, Ordering::SeqCst);
+            }
             Point::PieceStart(place) => {
-                self.places
-                    .fetch_or(1 << u64::from(place % 64), Ordering::SeqCst);
+                if self.wins.load(Ordering::SeqCst) == 1 {
+                    self.places
+                        .fetch_or(1 << u64::from(place % 64), Ordering::SeqCst);
+                }
                 self.pieces.meet(worker);
             }
-            _ => {}
         }
     }
 }

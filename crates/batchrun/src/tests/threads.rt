@@ -66,7 +66,7 @@ fn two_workers_run_pieces_of_one_batch(rt: HostRuntime) -> Result<(), Fail> {
     assert_eq!(rt; ran.outcome.status.number(), 0);
     assert!(rt; gate.posts.was_kept());
     assert!(rt; gate.pieces.was_kept());
-    assert_eq!(rt; gate.place_count(), 8);
+    assert_eq!(rt; gate.first_batch_places(), 8);
     let Some(report) = &ran.outcome.report else {
         return Ok(assert!(rt; false));
     };

@@ -9,6 +9,8 @@ mod adds;
 #[cfg(test)]
 mod claims;
 #[cfg(test)]
+mod held;
+#[cfg(test)]
 mod launches;
 #[cfg(test)]
 mod pairs;

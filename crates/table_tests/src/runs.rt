@@ -65,7 +65,7 @@ fn replay(alloc: Global, report: &Report) -> Result<Option<u64>, AllocError> {
 /// Whether the batch and the place of each receipt have the entry of its call.
 fn are_of(report: &Report, worker: u32, made: &[Made]) -> bool {
     for call in made {
-        let receipt = call.receipt;
+        let receipt = call.called.receipt;
         let Some(batch) = report.history.batches().get(receipt.batch as usize) else {
             return false;
         };
@@ -124,17 +124,17 @@ fn work_as_crew<R: Threads + Wait + Sync, G: Pause + Sync>(
 }
 
 /// What two workers of a job make, who call so often each at most, and the report.
-fn run_both<R: Threads + Wait + Sync>(
+pub(crate) fn run_both<R: Threads + Wait + Sync, G: Pause + Sync>(
     rt: &R,
     alloc: Global,
     job: &Job,
     calls: usize,
+    pause: &G,
 ) -> Result<Option<(Report, Vec<Made>, Vec<Made>)>, AllocError> {
     if job.shape().is_none() {
         return Ok(None);
     }
-    let pause = NoPause;
-    let (crew, mut mes) = Crew::make(alloc, job, 2, &pause)?;
+    let (crew, mut mes) = Crew::make(alloc, job, 2, pause)?;
     let mut one = mes.remove(1);
     let mut zero = mes.remove(0);
     let nodes = crew.table.plan().nodes();
@@ -165,7 +165,8 @@ stack pop queue insert @ tree find @ queue take }";
 fn a_run_in_two_threads_is_replayed(rt: HostRuntime) -> Result<(), Fail> {
     let alloc = rt.alloc();
     let job = read_job(alloc, EIGHT).ok().expect(&rt, "a job");
-    let (report, _, _) = run_both(&rt, alloc, &job, usize::MAX)?.expect(&rt, "a report");
+    let ran = run_both(&rt, alloc, &job, usize::MAX, &NoPause)?;
+    let (report, _, _) = ran.expect(&rt, "a report");
     assert_eq!(rt; report.rows.list().len(), 200);
     assert_eq!(rt; replay(alloc, &report)?, Some(175));
     Ok(())
@@ -177,7 +178,8 @@ fn two_threads_make_a_hundred_calls_each(rt: HostRuntime) -> Result<(), Fail> {
     let job = read_job(alloc, b"pfor 200 { counter add 1 }")
         .ok()
         .expect(&rt, "a job");
-    let (report, first, second) = run_both(&rt, alloc, &job, 100)?.expect(&rt, "a report");
+    let ran = run_both(&rt, alloc, &job, 100, &NoPause)?;
+    let (report, first, second) = ran.expect(&rt, "a report");
     assert_eq!(rt; (first.len(), second.len()), (100, 100));
     assert!(rt; are_of(&report, 0, first.as_slice()));
     assert!(rt; are_of(&report, 1, second.as_slice()));

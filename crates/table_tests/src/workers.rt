@@ -7,19 +7,18 @@ ghost use Rattle.worker_crew.specs.Opening.{seat_seen};
 ghost use Rattle.worker_crew.specs.Seats.{IsSeat};
 ghost use Rattle.worker_crew.specs.Workers.{IsMeOf, IsReady};
 
-use bt_io::Pause;
-use core_model::Receipt;
+use bt_io::{Pause, Point};
 use core_table::{CoreTable, Pass};
 use seq_objects::{spin, value};
 use std::alloc::Global;
 use std::sync::Wait;
-use worker_turns::{Crew, Me, Step, Stop, Table, call};
+use worker_turns::{Called, Crew, Me, Step, Stop, Table, call};
 
-/// A call that a worker made: its leaf, and the receipt with which it left.
+/// A call that a worker made: its leaf, and what was answered.
 #[derive(Clone, Copy)]
 pub(crate) struct Made {
     pub(crate) leaf: u32,
-    pub(crate) receipt: Receipt,
+    pub(crate) called: Called,
 }
 
 /// Makes one step of the task.
@@ -43,17 +42,18 @@ fn make_step<T: Table, G: Pause, R: Wait>(
     ensures free { IfOk result (λ _. (desk_view me.new.desk).posted ≡ []) }
 {
     match step {
-        Step::Start(_) | Step::End => crew.table.tick(&mut me.pass),
+        Step::Start(leaf) => {
+            crew.table.tick(&mut me.pass);
+            crew.pause.at(Point::LeafStart(leaf), me.hand.worker());
+        }
+        Step::End => crew.table.tick(&mut me.pass),
         Step::Open => {
             crew.table.open_node(&mut me.pass);
         }
         Step::Spin(n) => crew.table.keep(&mut me.pass, u64::from(spin(n))),
         Step::Call { leaf, op: _ } => {
             let called = call(rt, alloc, crew, me, leaf)?;
-            made.push(Made {
-                leaf,
-                receipt: called.receipt,
-            })?;
+            made.push(Made { leaf, called })?;
         }
         Step::Got(reply) => crew.table.keep(&mut me.pass, value(reply)),
         Step::Finish => crew.table.finish(&mut me.pass),

@@ -1,6 +1,6 @@
 -- The places of the pieces of a batch, of which each structure has a row: the counter from 0 on, the stack from 16 on,
 -- the tree from 32 on, the queue from 48 on.
-use Rattle.std.specs.Prelude.{ℕ, List, [], ◌∷◌, ◌++◌}
+use Rattle.std.specs.Prelude.{ℕ, ◌<◌, ◌≤◌, List, [], ◌∷◌, ◌++◌}
 use Rattle.std.specs.List.{range_with_len}
 use Rattle.seq_objects.specs.declared.call.Call.{Call}
 use Rattle.seq_objects.specs.Batches.{Counter, Stack, Tree, Queue, calls_of}
@@ -10,6 +10,15 @@ use Rattle.batched_tree.specs.Pieces.{piece_count as tree_count}
 use Rattle.batched_pq.specs.Pieces.{piece_count as queue_count}
 use Rattle.batch_history.specs.declared.batch.Entry.{Entry}
 use Rattle.batch_history.specs.Serving.{served_book}
+use Rattle.launch_batch.specs.declared.piece.PieceIn.{PieceIn}
+use Rattle.launch_batch.specs.declared.piece.PieceIn.TheVariants as piece
+
+-- the piece stands in the row of its own structure
+abbrev pub IsInOwnRow : PieceIn → Type 0
+IsInOwnRow (piece.Counter place input) = place < 16
+IsInOwnRow (piece.Stack place input) = (16 ≤ place) × (place < 32)
+IsInOwnRow (piece.Tree place input) = (32 ≤ place) × (place < 48)
+IsInOwnRow (piece.Queue place input) = (48 ≤ place) × (place < 56)
 
 -- consecutive places, one for each piece; none where a structure has no calls
 abbrev pub row : ℕ → List Call → ℕ → List ℕ

@@ -7,7 +7,7 @@ ghost use Rattle.seq_objects.specs.Batches.{AreInBatchOrder};
 ghost use Rattle.seq_objects.specs.Pieces.{BatchContext};
 ghost use Rattle.launch_batch.specs.Calls.{MayServe, AreSame};
 ghost use Rattle.launch_batch.specs.Pieces.{place_of};
-ghost use Rattle.launch_batch.specs.Places.{places};
+ghost use Rattle.launch_batch.specs.Places.{places, IsInOwnRow};
 ghost use Rattle.launch_batch.specs.Contexts.{IsContextOf};
 
 use crate::deal::Structure;
@@ -81,7 +81,7 @@ impl Shop {
     }
 
     /// Opens a batch of these calls, in whatever order they are given. Its pieces are for the structures that are
-    /// called, and stand in ascending order of place. The shop is given up when memory runs out.
+    /// called, each in its structure's row of places, and stand in ascending order of place. The shop is given up when memory runs out.
     pub fn begin(
         self,
         alloc: Global,
@@ -92,6 +92,7 @@ impl Shop {
         ensures below { IfOk result (λ p. AllByRecursion (λ input. place_of input < 56) p.1.items) }
         ensures places { IfOk result (λ p. (ordered : List CallOf) × AreSame calls.items ordered
             × AreInBatchOrder ordered × (map place_of p.1.items ≡ places self ordered)) }
+        ensures rows { IfOk result (λ p. AllByRecursion IsInOwnRow p.1.items) }
         ensures ascend { IfOk result (λ p. StrictlyAscends (map place_of p.1.items)) }
         ensures context { IfOk result (λ p. IsContextOf p.0
             (record { before = self; calls = calls.items; ins = p.1.items })) }

@@ -1,7 +1,7 @@
 -- Pieces that are put at consecutive places, and those of each structure among all.
-use Rattle.std.proofs.Common.{◌≡◌, ℕ, ◌+◌, List, [], ◌∷◌, ◌++◌, length, map, refl, sym, ap, ◌∙◌, arith, append_assoc}
+use Rattle.std.proofs.Common.{◌≡◌, ◌<◌, ◌≤◌, ℕ, ◌+◌, List, [], ◌∷◌, ◌++◌, length, map, refl, sym, ap, ◌∙◌, arith, append_assoc}
 use Rattle.std.specs.List.{range_with_len}
-use Rattle.launch_batch.proofs.Words.{PieceIn, place_of, placed}
+use Rattle.launch_batch.proofs.Words.{AllByRecursion, PieceIn, place_of, placed}
 
 placed_more : {In : Type 0} (make : ℕ → In → PieceIn) (place n : ℕ) (xs : List In) (x : In) → n ≡ place + length xs → placed make place (xs ++ x ∷ []) ≡ placed make place xs ++ make n x ∷ []
 placed_more make place n [] x is = let e : place ≡ n = omega (arith, is) in ap (λ p. make p x ∷ []) e
@@ -18,6 +18,15 @@ pub places_placed : {In : Type 0} (make : ℕ → In → PieceIn) (place : ℕ) 
     → map place_of (placed make place xs) ≡ range_with_len place (length xs)
 places_placed make place [] has = refl
 places_placed make place (x ∷ xs) has = rw (has place x, places_placed make (place + 1) xs has) refl
+
+-- what holds of a piece at each of these places holds of all that are put there
+pub each_placed : {In : Type 0} (P : PieceIn → Type 0) (make : ℕ → In → PieceIn) (place : ℕ) (xs : List In)
+    → ((n : ℕ) (x : In) → place ≤ n → n < place + length xs → P (make n x)) → AllByRecursion P (placed make place xs)
+each_placed P make place [] holds = tt
+each_placed P make place (x ∷ xs) holds = (
+  holds place x (omega arith) (omega arith),
+  each_placed P make (place + 1) xs (λ n y from below. holds n y (omega (arith, from)) (omega (arith, below))),
+)
 
 -- of a structure's own pieces before others, all are its own; of another's, none
 module _ {X : Type 0} (own : List PieceIn → List X) where

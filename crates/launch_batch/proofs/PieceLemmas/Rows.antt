@@ -1,11 +1,13 @@
 -- The pieces of the four structures, each structure's put behind those of another.
-use Rattle.std.proofs.Common.{◌≡◌, ◌≤◌, ◌<◌, List, [], ◌++◌, length, map, refl, sym, subst, ◌∙◌, append-nil, append_assoc}
+use Rattle.std.proofs.Common.{◌≡◌, ◌≤◌, ◌<◌, List, [], ◌++◌, length, map, refl, sym, subst, ◌∙◌, append-nil, append_assoc, arith}
 use Rattle.std.proofs.lemmas.List.{map-append}
-use Rattle.launch_batch.proofs.Words.{CounterPiece, StackPiece, TreePiece, QueuePiece, PieceIn, place_of, placed, counter_pieces, stack_pieces, tree_pieces, queue_pieces}
+use Rattle.launch_batch.proofs.Words.{AllByRecursion, CounterPiece, StackPiece, TreePiece, QueuePiece, PieceIn, place_of, placed, counter_pieces, stack_pieces, tree_pieces, queue_pieces}
 use Rattle.launch_batch.specs.declared.piece.PieceIn.TheVariants as piece
+use Rattle.launch_batch.specs.Places.{IsInOwnRow}
 use Rattle.launch_batch.specs.Code.Rows.{four_rows, AreInRows}
+use Rattle.seq_objects.proofs.Elements.{each_append}
 use Rattle.launch_batch.proofs.ListLemmas.Elements.{each_unmapped}
-use Rattle.launch_batch.proofs.PieceLemmas.Placing.{places_placed, all_own, none_own}
+use Rattle.launch_batch.proofs.PieceLemmas.Placing.{each_placed, places_placed, all_own, none_own}
 use Rattle.launch_batch.proofs.PieceLemmas.Ascending.{IsRow, row_of_four}
 
 module _ (counter : List CounterPiece) (stack : List StackPiece) (tree : List TreePiece) (queue : List QueuePiece) where
@@ -48,6 +50,16 @@ module _ (counter : List CounterPiece) (stack : List StackPiece) (tree : List Tr
     places_placed piece.Queue 48 queue (λ n x. refl),
   )
 
+  rows_are_own : length counter ≤ 16 → length stack ≤ 16 → length tree ≤ 16 → length queue ≤ 8 → AllByRecursion IsInOwnRow all
+  rows_are_own few_counter few_stack few_tree few_queue =
+      each_append IsInOwnRow _ (placed piece.Queue 48 queue)
+      (each_append IsInOwnRow _ (placed piece.Tree 32 tree)
+      (each_append IsInOwnRow (placed piece.Counter 0 counter) (placed piece.Stack 16 stack)
+      (each_placed IsInOwnRow piece.Counter 0 counter (λ n x from below. omega (arith, below, few_counter)))
+      (each_placed IsInOwnRow piece.Stack 16 stack (λ n x from below. (from, omega (arith, below, few_stack)))))
+      (each_placed IsInOwnRow piece.Tree 32 tree (λ n x from below. (from, omega (arith, below, few_tree)))))
+      (each_placed IsInOwnRow piece.Queue 48 queue (λ n x from below. (from, omega (arith, below, few_queue))))
+
   pub in_rows : (pieces : List PieceIn) → pieces ≡ all → length counter ≤ 16 → length stack ≤ 16 → length tree ≤ 16 → length queue ≤ 8
       → AreInRows pieces counter stack tree queue
   in_rows pieces are few_counter few_stack few_tree few_queue =
@@ -58,6 +70,7 @@ module _ (counter : List CounterPiece) (stack : List StackPiece) (tree : List Tr
         tree = tree_are;
         queue = queue_are;
         places = places_are;
+        rows = rows_are_own few_counter few_stack few_tree few_queue;
         below = each_unmapped place_of (λ k. k < 56) all row.below;
         ascend = row.ascend;
       }

@@ -8,6 +8,7 @@ use Rattle.batched_tree.specs.declared.piece.Piece.{Piece as TreePiece}
 use Rattle.batched_pq.specs.declared.piece.Piece.{Piece as QueuePiece}
 use Rattle.launch_batch.specs.declared.piece.PieceIn.{PieceIn}
 use Rattle.launch_batch.specs.Pieces.{place_of}
+use Rattle.launch_batch.specs.Places.{IsInOwnRow}
 use Rattle.launch_batch.specs.ByStructure.{counter_pieces, stack_pieces, tree_pieces, queue_pieces}
 
 -- the places of so many pieces of each structure
@@ -23,5 +24,6 @@ pub record AreInRows (pieces : List PieceIn) (for_counter : List CounterPiece)
   pub queue : queue_pieces pieces ≡ for_queue
   pub places : map place_of pieces ≡
       four_rows (length for_counter) (length for_stack) (length for_tree) (length for_queue)
+  pub rows : AllByRecursion IsInOwnRow pieces
   pub below : AllByRecursion (λ input. place_of input < 56) pieces
   pub ascend : StrictlyAscends (map place_of pieces)

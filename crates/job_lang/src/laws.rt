@@ -44,7 +44,7 @@ pub fn generated_jobs_have_few_leaves()
 /// The canonical text of a generated job is a text of this job. The writer writes it, and the reader reads it.
 pub fn generated_jobs_have_texts()
     ensures depth { (seed size : ℕ) → size ≤ 5000 → depth_of (generated seed size).shape ≤ 15 }
-    ensures short { (seed size : ℕ) → size ≤ 5000 → length (canonical_text (generated seed size)) ≤ 1048576 }
+    ensures short { (seed size : ℕ) → size ≤ 5000 → length (canonical_text (generated seed size)) < 700000 }
     ensures text { (seed size : ℕ) → size ≤ 5000
         → IsJobOf (canonical_text (generated seed size)) (generated seed size) }
 {}

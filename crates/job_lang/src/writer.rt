@@ -1,5 +1,5 @@
 //! Writes the canonical text of a job.
-ghost use Rattle.std.specs.Prelude.{◌≡◌, ◌≤◌, ◌+◌, ◌++◌, IfOk, OnOk, length, take, drop, string_bytes};
+ghost use Rattle.std.specs.Prelude.{◌≡◌, ◌<◌, ◌≤◌, ◌+◌, ◌++◌, IfOk, OnOk, length, take, drop, string_bytes};
 ghost use Rattle.sp_order.specs.Precedence.{tree_of, leaves};
 ghost use Rattle.sp_order.specs.Depth.{depth_of};
 ghost use Rattle.sp_order.specs.Jobs.{IsJob};
@@ -107,7 +107,7 @@ fn push_job(text: &mut String, job: &Job) -> Result<(), AllocError>
 pub fn write_job(alloc: Global, job: &Job) -> Result<Vec<u8>, AllocError>
     requires { depth_of job.now.shape ≤ 32 }
     ensures text { IfOk result (λ text. text.items ≡ canonical_text job.now) }
-    ensures short { IfOk result (λ text. length text.items ≤ 1048576) }
+    ensures short { IfOk result (λ text. length text.items < 700000) }
     ensures reads_back { IfOk result (λ text. IsJobOf text.items job.now) }
 {
     let mut text = String::new(alloc);

@@ -144,7 +144,7 @@ generated_most seed size =
 pub generated_depth : (seed size : ℕ) → size ≤ 5000 → depth_of (generated seed size).shape ≤ 15
 generated_depth seed size few = depth_few (growing_ops seed size) (omega (arith, length_growing seed size, few))
 
-pub generated_short : (seed size : ℕ) → size ≤ 5000 → length (canonical_text (generated seed size)) ≤ 1048576
+pub generated_short : (seed size : ℕ) → size ≤ 5000 → length (canonical_text (generated seed size)) < 700000
 generated_short seed size few = canonical_is_short (generated seed size) (generated_is_job seed size few) (all_small (growing_ops seed size) (all_grow seed size))
 
 pub generated_text : (seed size : ℕ) → size ≤ 5000 → IsJobOf (canonical_text (generated seed size)) (generated seed size)

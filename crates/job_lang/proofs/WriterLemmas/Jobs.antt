@@ -1,5 +1,5 @@
 -- The canonical text of a job is the job's, and it is short.
-use Rattle.std.proofs.Common.{◌≡◌, ℕ, ◌≤◌, List, [], ◌∷◌, ◌++◌, length, codes, false, Option, Some, None, refl, sym, ap, subst, ◌∙◌, arith, append-nil, length-append}
+use Rattle.std.proofs.Common.{◌≡◌, ℕ, ◌<◌, ◌≤◌, List, [], ◌∷◌, ◌++◌, length, codes, false, Option, Some, None, refl, sym, ap, subst, ◌∙◌, arith, append-nil, length-append}
 use Rattle.std.specs.Prelude.{filter, IsTrue}
 use Rattle.seq_objects.specs.Words.{op_words}
 use Rattle.seq_objects.specs.declared.act.Act.{Act}
@@ -58,11 +58,11 @@ shape_is_job (Some tree) acts same few deep small = tree_is_job tree acts (codes
 pub canonical_is_job : (job : JobValue) → IsJob job → depth_of job.shape ≤ 32 → AreSmall job.acts → IsJobOf (canonical_text job) job
 canonical_is_job job is_job deep small = shape_is_job job.shape job.acts is_job.leaves is_job.most deep small
 
-shape_is_short : (shape : Option Tree) (acts : List Act) → leaf_count shape ≡ length acts → length acts ≤ 20000 → AreSmall acts → length (shape_text shape acts) ≤ 1048576
+shape_is_short : (shape : Option Tree) (acts : List Act) → leaf_count shape ≡ length acts → length acts ≤ 20000 → AreSmall acts → length (shape_text shape acts) < 700000
 shape_is_short None acts same few small = omega arith
 shape_is_short (Some tree) acts same few small = omega (arith, length-append (tree_text tree acts) (codes "\n"), short_tree tree acts small)
 
-pub canonical_is_short : (job : JobValue) → IsJob job → AreSmall job.acts → length (canonical_text job) ≤ 1048576
+pub canonical_is_short : (job : JobValue) → IsJob job → AreSmall job.acts → length (canonical_text job) < 700000
 canonical_is_short job is_job small = shape_is_short job.shape job.acts is_job.leaves is_job.most small
 
 -- the words of an operation, as a report has them, are the text of the job that makes this one call

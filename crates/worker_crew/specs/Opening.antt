@@ -1,5 +1,5 @@
 -- How the workers stand when a run begins.
-use Rattle.std.specs.Prelude.{ℕ, ◌≡◌, ◌<◌, ◌==◌, min, Bool, true, false, List, length, slice_index_or, if◌then◌else◌}
+use Rattle.std.specs.Prelude.{ℕ, ◌≡◌, ◌<◌, ◌==◌, Bool, true, false, List, length, slice_index_or, if◌then◌else◌}
 use Rattle.seq_objects.specs.declared.act.Act.{Act}
 use Rattle.seq_objects.specs.declared.act.Act.TheVariants.{Work, Call}
 use Rattle.two_deques.specs.declared.decks.Decks.{Decks}
@@ -24,10 +24,6 @@ use Rattle.worker_crew.specs.Workers.{IsReady}
 abbrev pub is_call : Act → Bool
 is_call (Work steps) = false
 is_call (Call op) = true
-
--- how many pushes a deque is sure to take, on which so many tasks may be pushed: each of them, and at most 4,096
-abbrev pub room_for : ℕ → ℕ
-room_for pushes = min pushes 4096
 
 -- the hand has pushed node 0, the root
 abbrev pub with_root : Held → Held

@@ -8,7 +8,7 @@ ghost use Rattle.two_deques.specs.Hands.{held, workers_of, fresh_hand, IsHandOf,
 ghost use Rattle.piece_board.specs.Boards.{workers_of as rows_of, AreDesks};
 ghost use Rattle.worker_crew.specs.Seats.{IsSeat};
 ghost use Rattle.worker_crew.specs.Opening.{seat_seen};
-ghost use Rattle.worker_crew.specs.Opening.{is_call, room_for, opening_hand, IsFreshPass, AreAtStart};
+ghost use Rattle.worker_crew.specs.Opening.{is_call, opening_hand, IsFreshPass, AreAtStart};
 
 use crate::batch_pieces::BatchPieces;
 use crate::crew::{Crew, Me};
@@ -20,17 +20,6 @@ use seq_objects::Act;
 use sp_order::Job;
 use std::alloc::{AllocError, Global};
 use two_deques::{Decks, Hand, Tries};
-
-/// How many pushes a deque is sure to take at most. A deque's room is written when it is made, so one for all tasks of a
-/// long job would cost each worker more memory than the whole table does.
-const MOST_ROOM: u32 = 4096;
-
-/// The room with which a deque begins on which so many tasks may be pushed.
-fn opening_room(pushes: u32) -> u32
-    ensures { result ≡ room_for pushes }
-{
-    pushes.min(MOST_ROOM)
-}
 
 /// How many of the leaves call.
 fn count_calls(acts: &[Act]) -> u32
@@ -99,8 +88,7 @@ where
 
 impl<'a, G: Pause> Crew<'a, CoreTable, G> {
     /// The crew of a job that has leaves, over the running table, and its workers, in their order. Node 0 stands on the
-    /// deque of worker 0. The deques of nodes are sure to take each node once, and those of pieces eight of each call, up to
-    /// a most: past it a deque grows where it must, and a push is refused where the memory for that is refused.
+    /// deque of worker 0. The deques of nodes are sure to take each node once, and those of pieces eight of each call.
     pub fn make(
         alloc: Global,
         job: &Job,
@@ -115,20 +103,15 @@ impl<'a, G: Pause> Crew<'a, CoreTable, G> {
         ensures workers { IfOk result (λ made. (made.0.workers ≡ workers)
             × (workers_of made.0.decks ≡ workers)) }
         ensures rooms { IfOk result (λ made.
-            (core_room_of made.0.decks ≡ room_for (nodes_of (tree_in made.0.table)).count)
-            × (batch_room_of made.0.decks ≡ room_for (8 * count_by is_call job.now.acts))) }
+            (core_room_of made.0.decks ≡ (nodes_of (tree_in made.0.table)).count)
+            × (batch_room_of made.0.decks ≡ 8 * count_by is_call job.now.acts)) }
         ensures start { IfOk result (λ made. AreAtStart (IsSeat made.0.table) seat_seen made.0.decks
             made.0.board workers workers made.1.items) }
     {
         let (table, passes) = CoreTable::make(alloc, job, workers)?;
         let nodes = table.plan().nodes();
         let calls = count_calls(job.acts());
-        let (decks, hands) = Decks::make(
-            alloc,
-            workers,
-            opening_room(nodes),
-            opening_room(8 * calls),
-        )?;
+        let (decks, hands) = Decks::make(alloc, workers, nodes, 8 * calls)?;
         let (board, desks) = Board::make(alloc, workers)?;
         let crew = Crew {
             table,

@@ -8,6 +8,7 @@ ghost use Rattle.worker_crew.specs.declared.crew.Me.{Me as MeOf};
 ghost use Rattle.worker_crew.specs.Workers.{IsReady};
 ghost use Rattle.worker_crew.specs.Seats.{IsSeat};
 ghost use Rattle.worker_crew.specs.Opening.{seat_seen, AreAtStart};
+ghost use Rattle.worker_loop.specs.Ends.{HasEnded};
 
 use crate::empty::report_of_empty;
 use crate::start::wait_for_others;
@@ -36,7 +37,8 @@ trait Team {
     /// Lets the worker work until the run has ended for it. It gives its pass back.
     fn work<R: Wait>(&self, rt: &R, alloc: Global, me: Me) -> Pass
         requires { ready self.now me }
-        ensures { gave self.now result };
+        ensures gave { gave self.now result }
+        ensures ended { HasEnded result };
 }
 
 impl<'a, G: Pause> Team for Crew<'a, G> {
@@ -63,7 +65,7 @@ fn work_in_threads<C: Team + Sync, R: Threads + Wait + Sync>(
         → me ≡ slice_index_or mes.items w me → C.ready team.now me }
     ensures count { IfOk result (λ passes. length passes.items ≡ length mes.items) }
     ensures passes { IfOk result (λ passes. (w : ℕ) (pass : PassOf) → w < length passes.items
-        → pass ≡ slice_index_or passes.items w pass → C.gave team.now pass) }
+        → pass ≡ slice_index_or passes.items w pass → C.gave team.now pass × HasEnded pass) }
 {
     workers_go_to_threads();
     let came = AtomicU64::new(0);
@@ -73,7 +75,7 @@ fn work_in_threads<C: Team + Sync, R: Threads + Wait + Sync>(
         mes,
         &|me: Me| -> Pass
             requires { C.ready team.now me }
-            ensures { C.gave team.entry.now result }
+            ensures { C.gave team.entry.now result × HasEnded result }
         {
             wait_for_others(all, workers);
             team.work(rt, alloc, me)
@@ -81,7 +83,7 @@ fn work_in_threads<C: Team + Sync, R: Threads + Wait + Sync>(
     )
 }
 
-/// Lets the workers of a crew work.
+/// Lets the workers of a crew work, each until it has seen the root done, or knows the stop word set.
 fn work_as_crew<R: Threads + Wait + Sync, G: Pause + Sync>(
     rt: &R,
     alloc: Global,
@@ -93,7 +95,7 @@ fn work_as_crew<R: Threads + Wait + Sync, G: Pause + Sync>(
         crew.now.workers crew.now.workers mes.items }
     ensures count { IfOk result (λ passes. length passes.items ≡ crew.now.workers) }
     ensures passes { IfOk result (λ passes. (w : ℕ) (pass : PassOf) → w < length passes.items
-        → pass ≡ slice_index_or passes.items w pass → IsPassOf crew.now.table pass) }
+        → pass ≡ slice_index_or passes.items w pass → IsPassOf crew.now.table pass × HasEnded pass) }
 {
     crews_go_to_threads::<G>();
     work_in_threads(rt, alloc, crew, crew.workers, mes)

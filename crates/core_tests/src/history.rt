@@ -52,7 +52,7 @@ fn a_batch_of_two_updates_replies_no_and_yes(rt: HostRuntime) -> Result<(), Fail
     assert_eq!(rt; rows.list().len(), 2);
     assert_eq!(rt; history.batches().len(), 1);
     let Ok(job) = read_job(alloc, b"par { tree remove 7 tree insert 7 }") else {
-        return Ok(());
+        return Ok(assert!(rt; false));
     };
     assert_eq!(rt; job.acts().len(), 2);
     let report = Report {

@@ -21,6 +21,18 @@ leaf 1 worker 1 start 2 end 3 value 3\n";
 /// How many turns of two workers, round robin, the job has.
 const TURNS: u32 = 34;
 
+/// How the run ends where worker 0, or worker 1, stops after so many turns, from 0 to all of them: `o` where the other
+/// one brings it to its end, and `s` where it is stuck.
+const ENDS: [&str; 2] = [
+    // Worker 0 holds the block from its claim in turn 0 until it opens the left side in turn 4, and the left leaf from
+    // its claim in turn 6 until it arrives in turn 26. Nobody else can go on with either. Between and after, it holds
+    // nothing.
+    "ossssoossssssssssssssssssssoooooooo",
+    // Worker 1 holds the right leaf from its claim in turn 3 until it arrives in turn 31, as the second, and then the
+    // block, which it finishes in turn 33.
+    "oooosssssssssssssssssssssssssssssso",
+];
+
 /// The entries of the book so far. There are none of a spent core.
 fn entries_of(alloc: Global, core: &Core) -> Result<Vec<Entry>, AllocError> {
     let mut entries = Vec::new(alloc);
@@ -89,21 +101,36 @@ fn go_on(alloc: Global, core: Core, stopped: u32) -> Result<Ended, AllocError>
     }
 }
 
-/// Whether, where a worker stops after so many turns, the other one goes on, and both then end what is left.
-fn ends_after(alloc: Global, job: &Job, turns: u32, stopped: u32) -> Result<bool, AllocError>
+/// How the run ends where a worker stops after so many turns and the other one goes on: `o` where it is over, `s` where
+/// it is stuck and both then end what is left, and `?` where a book did not replay, or both are stuck.
+fn end_after(alloc: Global, job: &Job, turns: u32, stopped: u32) -> Result<char, AllocError>
     requires { IsSome job.now.shape }
 {
     let mut core = Core::start(alloc, job, 2)?;
     if !take_turns(alloc, &mut core, turns)? || core.workers() != 2 {
-        return Ok(false);
+        return Ok('?');
     }
     let Ended::Stuck(core) = go_on(alloc, core, stopped)? else {
-        return Ok(true);
+        return Ok('o');
     };
     if !replays(alloc, &core)? || core.workers() != 2 {
-        return Ok(false);
+        return Ok('?');
     }
-    Ok(matches!(drive_some(alloc, core, &[true, true])?, Ended::Over(_)))
+    match drive_some(alloc, core, &[true, true])? {
+        Ended::Over(_) => Ok('s'),
+        Ended::Stuck(_) => Ok('?'),
+    }
+}
+
+/// How the run ends where this worker stops after so many turns, from 0 to all of them.
+fn ends(alloc: Global, job: &Job, stopped: u32) -> Result<String, AllocError>
+    requires { IsSome job.now.shape }
+{
+    let mut marks = String::new(alloc);
+    for turns in 0..=TURNS {
+        marks.push(end_after(alloc, job, turns, stopped)?)?;
+    }
+    Ok(marks)
 }
 
 #[test]
@@ -143,11 +170,12 @@ fn after_each_turn_a_worker_may_stop(rt: HostRuntime) -> Result<(), Fail> {
     if job.shape().is_none() {
         return Ok(assert!(rt; false));
     }
-    for turns in 0..=TURNS {
-        for stopped in 0..2 {
-            let ended = ends_after(alloc, &job, turns, stopped)?;
-            assert!(rt; ended, "{turns} {stopped}");
-        }
+    for stopped in 0..2u32 {
+        assert_eq!(rt;
+            ends(alloc, &job, stopped)?.as_str(),
+            ENDS[stopped as usize],
+            "{stopped}"
+        );
     }
     Ok(())
 }

@@ -3,7 +3,7 @@ ghost use Rattle.std.specs.Prelude.{◌<◌};
 
 use crate::tests::generated::{SMALLEST, SMALLEST_SUMMARY};
 use crate::tests::language::BUILD_ASK_DRAIN;
-use crate::tests::{run, unhindered};
+use crate::tests::{Ran, run, unhindered};
 use batch_history::{Report, text};
 use job_lang::read_job;
 use sp_order::Job;
@@ -39,16 +39,41 @@ fn each_call_of_the_shelf_fails_in_turn(rt: HostRuntime) -> Result<(), Fail> {
     Ok(())
 }
 
-/// The shortest line of a call, and the shortest one of a leaf.
-const SHORTEST_LINES: usize = b"batch 0 place 0 worker 0 leaf 0 queue take -> 1\n".len()
-    + b"leaf 0 worker 0 start 0 end 1 value 0\n".len();
+/// How much a write of a report takes at most, and more writes than any report here has.
+const CUT: usize = 32_768;
 
-/// Whether what was written is this front of the report's text.
-fn is_front(alloc: Global, job: &Job, report: &Report, front: &[u8]) -> Result<bool, AllocError> {
+const MOST_WRITES: usize = 50;
+
+/// What a run came to of which a write of out was to fail.
+enum Came {
+    /// It has fewer writes: out took the whole text of its report, within what the writes before take.
+    Done,
+    /// Out took what the writes before take, and that is a front of the text.
+    Failed,
+    /// Neither is so.
+    Otherwise,
+}
+
+/// What a run came to. The writes before the one that was to fail take so many bytes.
+fn came_to(alloc: Global, job: &Job, ran: &Ran, before: usize) -> Result<Came, AllocError> {
+    let Some(report) = &ran.outcome.report else {
+        return Ok(Came::Otherwise);
+    };
     if report.rows.list().len() != job.acts().len() {
-        return Ok(false);
+        return Ok(Came::Otherwise);
     }
-    Ok(text(alloc, job, report)?.as_slice().starts_with(front))
+    let whole = text(alloc, job, report)?;
+    let out = ran.out.bytes();
+    let fits = whole.len() <= before;
+    if ran.outcome.status.number() == 0 && fits && out == whole.as_slice() {
+        return Ok(Came::Done);
+    }
+    let told = ran.err.bytes() == b"batchrun: write fault\n".as_slice();
+    let is_front = out.len() == before && whole.as_slice().starts_with(out);
+    if ran.outcome.status.number() == 5 && told && is_front && !fits {
+        return Ok(Came::Failed);
+    }
+    Ok(Came::Otherwise)
 }
 
 #[test]
@@ -56,27 +81,25 @@ fn each_write_fails_in_turn(rt: HostRuntime) -> Result<(), Fail> {
     let Ok(job) = read_job(rt.alloc(), BUILD_ASK_DRAIN) else {
         return Ok(assert!(rt; false));
     };
-    // The text takes at least so many writes of 4096 bytes.
-    let writes = 3012 * SHORTEST_LINES / 4096;
     for words in RUNS {
-        for write in 0..writes {
+        let mut done = 0;
+        for write in 0..MOST_WRITES {
             let fails = [write as u64];
             let mut given = unhindered(words, BUILD_ASK_DRAIN);
-            given.write_cut = 4096;
+            given.write_cut = CUT;
             given.write_fails = &fails;
             let ran = run(&rt, rt.alloc(), &given)?;
-            let out = ran.out.bytes();
-            assert_eq!(rt; ran.outcome.status.number(), 5, "{words:?}, write {write}");
-            assert_eq!(rt; ran.err.bytes(), b"batchrun: write fault\n".as_slice());
-            assert_eq!(rt; out.len(), write * 4096, "{words:?}, write {write}");
-            let Some(report) = &ran.outcome.report else {
-                return Ok(assert!(rt; false, "{words:?}, write {write}"));
-            };
-            assert!(rt;
-                is_front(rt.alloc(), &job, report, out)?,
-                "{words:?}, write {write}"
-            );
+            match came_to(rt.alloc(), &job, &ran, write * CUT)? {
+                Came::Failed => {}
+                Came::Done => {
+                    done = write * CUT;
+                    break;
+                }
+                Came::Otherwise => return Ok(assert!(rt; false, "{words:?}, write {write}")),
+            }
         }
+        // A line of a call has at least 48 bytes and one of a leaf 38, and the job has 3,012 calls.
+        assert!(rt; 3012 * (48 + 38) <= done, "{words:?}, {done}");
     }
     Ok(())
 }

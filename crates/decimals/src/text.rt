@@ -1,0 +1,28 @@
+//! A number in decimal at the front of a text.
+ghost use Rattle.std.specs.Prelude.{◌≡◌, ℕ, List, IfSome, IfNone};
+ghost use Rattle.std.specs.Char.{is_ascii_digit};
+ghost use Rattle.std.specs.List.{prefix_len};
+ghost use Rattle.decimals.specs.Texts.{IsDecimalThen};
+
+use crate::word::decimal_in;
+
+/// How many digits the text begins with.
+fn digit_run(text: &[u8]) -> usize
+    ensures { result ≡ prefix_len is_ascii_digit text.now }
+{
+    text.iter().take_while(|byte| byte.is_ascii_digit()).count()
+}
+
+/// The number of at most `most` with whose decimal the text begins, and the rest of the text. All digits that the text
+/// begins with are the number's. Time: linear in these digits. Memory: none.
+pub fn read_decimal(text: &[u8], most: u64) -> Option<(u64, &[u8])>
+    ensures some { IfSome result (λ read. IsDecimalThen most text.now read.0 read.1.now) }
+    ensures none { IfNone result ((number : ℕ) (rest : List ℕ) → IsDecimalThen most text.now number rest → ⊥) }
+{
+    let (digits, rest) = text.split_at(digit_run(text));
+    let number = decimal_in(digits)?;
+    if number > most {
+        return None;
+    }
+    Some((number, rest))
+}

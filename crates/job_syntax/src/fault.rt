@@ -5,29 +5,24 @@ use thiserror::Error;
 
 /// Why a text is no job, and on which of its lines. Lines are counted from 1.
 #[derive(Clone, Copy, Debug, Error)]
+#[error("line {}: {}", self.line(), self.words())]
 pub enum JobFault {
     /// A byte that is not allowed outside comments.
-    #[error("line {line}: byte not allowed")]
     Byte { line: u32 },
     /// A token that does not fit the grammar, or an end that comes too early.
-    #[error("line {line}: not in the grammar")]
     Grammar { line: u32 },
     /// A number that is spelled wrong or too large.
-    #[error("line {line}: number out of range")]
     Number { line: u32 },
     /// A block inside too many others.
-    #[error("line {line}: blocks nested too deep")]
     Nesting { line: u32 },
     /// More leaves than a job may have.
-    #[error("line {line}: too many leaves")]
     Leaves { line: u32 },
     /// An argument that is out of range in some copy.
-    #[error("line {line}: argument out of range")]
     Argument { line: u32 },
 }
 
 impl JobFault {
-    ghost use Rattle.job_syntax.specs.Lines.{line_in};
+    ghost use Rattle.job_syntax.specs.Lines.{line_in, fault_words};
 
     /// The line that it names.
     pub fn line(self) -> u32
@@ -40,6 +35,20 @@ impl JobFault {
             | JobFault::Nesting { line }
             | JobFault::Leaves { line }
             | JobFault::Argument { line } => line,
+        }
+    }
+
+    /// What is said of it, behind its line.
+    pub fn words(self) -> &'static str
+        ensures { result.now ≡ fault_words self }
+    {
+        match self {
+            JobFault::Byte { .. } => "byte not allowed",
+            JobFault::Grammar { .. } => "not in the grammar",
+            JobFault::Number { .. } => "number out of range",
+            JobFault::Nesting { .. } => "blocks nested too deep",
+            JobFault::Leaves { .. } => "too many leaves",
+            JobFault::Argument { .. } => "argument out of range",
         }
     }
 }

@@ -12,7 +12,7 @@ ghost use Rattle.sp_order.specs.Phases.{FillsFirst};
 ghost use Rattle.sp_order.specs.Totals.{count_of_act};
 ghost use Rattle.job_lang.specs.Canonical.{canonical_text};
 ghost use Rattle.job_lang.specs.Generator.{generated};
-ghost use Rattle.job_lang.specs.ActNumbers.{op_number, IsSmall};
+ghost use Rattle.job_lang.specs.ActNumbers.{op_number, IsSmall, AreSmall};
 ghost use Rattle.job_lang.specs.Language.{IsJobOf, Accepts, IsFaultOf};
 ghost use Rattle.job_syntax.specs.declared.fault.JobFault.{JobFault};
 
@@ -25,6 +25,13 @@ pub fn texts_have_one_job_or_fault()
     ensures not_both { (text : List ℕ) (job : JobValue) (fault : JobFault)
         → IsJobOf text job → IsFaultOf text fault → ⊥ }
     ensures either { (text : List ℕ) → Accepts text ⊎ ((fault : JobFault) × IsFaultOf text fault) }
+{}
+
+/// The numbers of an accepted job fit 32 bits: the steps of its work, and the arguments of its calls.
+pub fn accepted_jobs_have_small_arguments()
+    ensures numbers { (text : List ℕ) (job : JobValue) → IsJobOf text job → AreSmall job.acts }
+    ensures arguments { (text : List ℕ) (job : JobValue) → IsJobOf text job
+        → AllByRecursion (λ act. count_of_act argument_of act < 2 ^ 32) job.acts }
 {}
 
 /// The words of an operation, as a report has them, are the text of the job that makes this one call.

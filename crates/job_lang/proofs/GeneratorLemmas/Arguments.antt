@@ -23,7 +23,7 @@ small_argument (TreeNext key) small = small
 small_argument (PqInsert item) small = small
 small_argument PqTake small = omega arith
 
-small_arguments : (acts : List Act) → AreSmall acts → AllByRecursion (λ act. count_of_act argument_of act < 2 ^ 32) acts
+pub small_arguments : (acts : List Act) → AreSmall acts → AllByRecursion (λ act. count_of_act argument_of act < 2 ^ 32) acts
 small_arguments [] small = tt
 small_arguments (Work steps ∷ acts) small = (omega arith, small_arguments acts small.1)
 small_arguments (Call op ∷ acts) small = (small_argument op small.0, small_arguments acts small.1)

@@ -1,0 +1,29 @@
+//! Pieces of work that are done apart from one another.
+ghost use Rattle.std.specs.Prelude.{IfOk};
+ghost use Rattle.seq_objects.specs.Pieces.{AllMeet};
+
+use std::alloc::{AllocError, Global};
+
+/// Work in pieces that know nothing of one another: each is given an `I` and answers an `O`.
+pub trait Pieces<I, O> {
+    /// What a piece owes: its out as the in determines it.
+    ghost meets: { I → O → Type 0 };
+
+    /// Works on one piece.
+    fn piece(alloc: Global, input: I) -> Result<O, AllocError>
+        ensures { IfOk result (λ out. meets input out) };
+}
+
+/// Works on pieces one after another.
+pub(crate) fn run_in_turn<I: Drop, O: Drop, P: Pieces<I, O>>(
+    alloc: Global,
+    ins: Vec<I>,
+) -> Result<Vec<O>, AllocError>
+    ensures { IfOk result (λ outs. AllMeet P.meets ins.items outs.items) }
+{
+    let mut outs = Vec::with_capacity(alloc, ins.len())?;
+    for input in ins {
+        outs.push(P::piece(alloc, input)?)?;
+    }
+    Ok(outs)
+}

@@ -1,0 +1,62 @@
+//! Pieces that are run in threads.
+ghost use Rattle.std.specs.Prelude.{◌≡◌, ◌<◌, ℕ, length, slice_index_or, IfOk};
+ghost use Rattle.seq_objects.specs.Pieces.{AllMeet};
+ghost use Rattle.piece_threads.specs.Threads.{threads_for};
+
+use crate::bundles::{bundles_of, join_outs};
+use crate::pieces::{Pieces, run_in_turn};
+use std::alloc::{AllocError, Global};
+use std::thread;
+use std::thread::Threads;
+
+/// At most so many threads work on one batch.
+const MOST_THREADS: usize = 16;
+
+/// One more thread pays for each so many keys of a batch.
+const KEYS_A_THREAD: usize = 1024;
+
+/// In how many threads the pieces of a batch are worth running, where `keys` is how many keys or items all its pieces
+/// handle: 1 below 1,024 keys, and at most 16.
+pub fn threads_for(keys: usize) -> usize
+    ensures count { result ≡ threads_for keys }
+    ensures some { 0 < result }
+{
+    (1 + keys / KEYS_A_THREAD).min(MOST_THREADS)
+}
+
+/// Runs bundles of pieces, each in a thread of its own where there are several and a thread can be started.
+fn run_bundles<R: Threads + Sync, I: Send + Drop, O: Send + Drop, P: Pieces<I, O> + Send + Sync>(
+    rt: &R,
+    alloc: Global,
+    bundles: Vec<Vec<I>>,
+) -> Result<Vec<Result<Vec<O>, AllocError>>, AllocError>
+    ensures count { IfOk result (λ results. length results.items ≡ length bundles.items) }
+    ensures each { IfOk result (λ results. (i : ℕ) (b : _) (r : _) → i < length bundles.items
+        → b ≡ slice_index_or bundles.items i b → r ≡ slice_index_or results.items i r
+        → IfOk r (λ outs. AllMeet P.meets b.items outs.items)) }
+{
+    thread::map_vec(
+        rt,
+        bundles,
+        &|bundle: Vec<I>| -> Result<Vec<O>, AllocError>
+            ensures { IfOk result (λ outs. AllMeet P.meets bundle.items outs.items) }
+        { run_in_turn::<I, O, P>(alloc, bundle) },
+    )
+}
+
+/// Works on pieces in at most `threads` threads at once, each of which works on consecutive pieces one after another.
+/// With one, or where there is one piece, there is no thread but the caller's.
+pub fn run_pieces<R: Threads + Sync, I: Send + Drop, O: Send + Drop, P: Pieces<I, O> + Send + Sync>(
+    rt: &R,
+    alloc: Global,
+    ins: Vec<I>,
+    threads: usize,
+) -> Result<Vec<O>, AllocError>
+    requires { 0 < threads }
+    ensures { IfOk result (λ outs. AllMeet P.meets ins.items outs.items) }
+{
+    let size = ins.len().div_ceil(threads).max(1);
+    let bundles = bundles_of(alloc, ins, size)?;
+    let results = run_bundles::<R, I, O, P>(rt, alloc, bundles)?;
+    join_outs(alloc, results)
+}

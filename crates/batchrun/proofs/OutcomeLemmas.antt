@@ -1,6 +1,6 @@
 pub mod Asked
+pub mod Commands
 pub mod Ends
-pub mod Fronts
 pub mod Headlines
 pub mod InMemory
 pub mod Made

@@ -7,7 +7,7 @@ use Rattle.batch_history.specs.Text.{report_text}
 use Rattle.batch_history.specs.Summary.{summary_of_report, summary_of_job}
 use Rattle.job_lang.specs.Generator.{generated}
 use Rattle.batchrun.specs.Words.{Command, step, run, gen}
-use Rattle.batchrun.specs.Outcomes.{HasRun, HasDriven, FileCause, MadeCause, FileCompletes, IsFileAssured, IsUnlessMemory}
+use Rattle.batchrun.specs.Outcomes.{HasRun, HasDriven, FileCause, MadeCause, FileCompletes, IsFileAssured, FailsPast, IsUnlessMemory}
 use Rattle.batchrun.specs.declared.status.Status.{Status}
 use Rattle.batchrun.specs.declared.status.Status.TheVariants.{Made}
 
@@ -55,6 +55,14 @@ IsAssured (step file workers schedule) held status report never_fails room = IsF
 IsAssured (run file workers) held status report never_fails room = IsFileAssured status report (held file) never_fails room
 IsAssured (gen size seed workers) held status report never_fails room =
     length (summary_of_job seed size workers (generated seed size)) ≤ room → IsUnlessMemory status Made
+
+-- What a command owes beside what it prints. `Completes` and `IsAssured` are about runs in which no fault comes in between.
+pub record Owes (command : Command) (held : List ℕ → Option (List ℕ)) (status : Status) (report : Option Report) (ReadsFailed WritesFailed : Type 0) (never_fails : Bool) (room : ℕ) : Type 0 where
+  pub driven : IfSome report (Driven (Some command) held)
+  pub cause : HasCause command held status ReadsFailed WritesFailed
+  pub completes : Completes command held status ReadsFailed WritesFailed
+  pub writes : FailsPast (lines_of (Some command)) status report room
+  pub assured : IsAssured command held status report never_fails room
 
 -- what `gen` prints is told by its words alone: the summary of the job that they generate
 abbrev pub PrintsSummary : Option Command → Status → Option (List ℕ) → Option (List ℕ) → Type 0

@@ -2,6 +2,7 @@
 pub use Rattle.bt_io.specs.Bytes
 pub use Rattle.bt_io.specs.Causes
 pub use Rattle.bt_io.specs.Memory
+pub use Rattle.program_io.specs.Reading
 pub use Rattle.sp_order.specs.Precedence
 pub use Rattle.sp_order.specs.Jobs
 pub use Rattle.job_lang.specs.Language

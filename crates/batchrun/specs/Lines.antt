@@ -1,24 +1,14 @@
 -- The line that each status has on err, and the number with which the process exits.
 use Rattle.std.specs.Prelude.{ℕ, List, [], ◌++◌, codes}
 use Rattle.std.specs.Fmt.{decimal}
-use Rattle.job_syntax.specs.Lines.{line_in}
+use Rattle.job_syntax.specs.Lines.{line_in, fault_words}
 use Rattle.job_syntax.specs.declared.fault.JobFault.{JobFault}
-use Rattle.job_syntax.specs.declared.fault.JobFault.TheVariants.{Byte, Grammar, Number, Nesting, Leaves, Argument}
 use Rattle.batchrun.specs.declared.status.Refusal.TheVariants.{TooLong, Job}
 use Rattle.batchrun.specs.declared.status.Status.{Status}
 use Rattle.batchrun.specs.declared.status.Status.TheVariants.{Done, Made, Usage, ReadFault, Refused, WriteFault, Memory}
 
--- what is said of a fault behind its line
-abbrev pub fault_words : JobFault → List ℕ
-fault_words (Byte line) = codes ": byte not allowed\n"
-fault_words (Grammar line) = codes ": not in the grammar\n"
-fault_words (Number line) = codes ": number out of range\n"
-fault_words (Nesting line) = codes ": blocks nested too deep\n"
-fault_words (Leaves line) = codes ": too many leaves\n"
-fault_words (Argument line) = codes ": argument out of range\n"
-
 abbrev pub refusal_line : JobFault → List ℕ
-refusal_line fault = codes "batchrun: line " ++ decimal (line_in fault) ++ fault_words fault
+refusal_line fault = codes "batchrun: line " ++ (decimal (line_in fault) ++ (codes ": " ++ (fault_words fault ++ codes "\n")))
 
 abbrev pub fault_line : Status → List ℕ
 fault_line Done = []

@@ -2,7 +2,8 @@
 -- them a command owes.
 use Rattle.std.specs.Prelude.{◌≡◌, ℕ, ◌<◌, ◌≤◌, ◌⊎◌, List, length, Bool, IsTrue, Option, None, Some, IfSome}
 use Rattle.std.specs.Io.KnownBytes.{Appends, Keeps}
-use Rattle.bt_io.specs.Bytes.{IsWhole, AppendsFront}
+use Rattle.bt_io.specs.Bytes.{AppendsFront}
+use Rattle.program_io.specs.Reading.{WasRead}
 use Rattle.sp_order.specs.Jobs.{JobValue}
 use Rattle.batch_history.specs.declared.report.Report.{Report}
 use Rattle.batch_history.specs.Lawful.{Lawful}
@@ -14,15 +15,10 @@ use Rattle.batchrun.specs.declared.status.Refusal.TheVariants.{TooLong, Job}
 use Rattle.batchrun.specs.declared.status.Status.{Status}
 use Rattle.batchrun.specs.declared.status.Status.TheVariants.{Done, Made, Usage, ReadFault, Refused, WriteFault, Memory}
 
--- The input was read to its end, and these are its bytes: those that the shelf told, where it told any.
-pub record WasRead (held : Option (List ℕ)) (bytes : List ℕ) : Type 0 where
-  pub whole : IsWhole held bytes
-  pub short : length bytes ≤ 1048576
-
 -- The bytes that were read are a job's, and the report is lawful for this job and this count of workers.
 pub record HasRun (held : Option (List ℕ)) (workers : ℕ) (report : Report) : Type 0 where
   pub bytes : List ℕ
-  pub read : WasRead held bytes
+  pub read : WasRead 1048576 held bytes
   pub job : JobValue
   pub accepted : IsJobOf bytes job
   pub lawful : Lawful job workers report
@@ -36,7 +32,7 @@ pub record HasDriven (held : Option (List ℕ)) (workers : ℕ) (schedule : List
 -- The bytes that were read have this fault.
 pub record IsRefused (held : Option (List ℕ)) (fault : JobFault) : Type 0 where
   pub bytes : List ℕ
-  pub read : WasRead held bytes
+  pub read : WasRead 1048576 held bytes
   pub why : IsFaultOf bytes fault
 
 -- Which report comes, and what out took. `Runs` says what a run owes of its report, and `lines` are what it prints of it.
@@ -68,10 +64,6 @@ MadeCause Made WritesFailed = Unit {0}
 MadeCause WriteFault WritesFailed = WritesFailed
 MadeCause Memory WritesFailed = Unit {0}
 MadeCause status WritesFailed = ⊥
-
--- what err took: the line, or a front of it where err failed
-abbrev pub Tells : List ℕ → Option (List ℕ) → Option (List ℕ) → Type 0 → Type 0
-Tells line old new WritesFailed = Appends old new line ⊎ (AppendsFront old new line × WritesFailed)
 
 -- the status is this one, unless memory ran out
 abbrev pub IsUnlessMemory : Status → Status → Type 0

@@ -3,10 +3,9 @@ use Rattle.std.specs.Prelude.{ℕ, ◌-◌, Bool, ◌&&◌, nat_le, nat_lt, if�
 use Rattle.std.specs.List.{list_all}
 use Rattle.std.specs.Option.{option_map, option_and_then}
 use Rattle.std.specs.Str.{bytes_eq}
-use Rattle.std.specs.Str.Parse.{digits_value}
-use Rattle.std.specs.Fmt.{decimal}
 use Rattle.std.specs.declared.string.String.{String}
 use Rattle.std.specs.declared.alloc.Global.{Global}
+use Rattle.decimals.specs.Words.{number_between}
 
 -- What the words ask for. `step` runs the job of a file by turns on one thread: first those of the workers that the schedule
 -- lists, and then those of all workers round robin. `run` runs it with a thread for each worker. `gen` so runs a job that it
@@ -15,15 +14,6 @@ pub data Command : Type 0 where
   step : (file : List ℕ) → (workers : ℕ) → (schedule : List ℕ) → Command
   run : (file : List ℕ) → (workers : ℕ) → Command
   gen : (size : ℕ) → (seed : ℕ) → (workers : ℕ) → Command
-
--- the word is what a number from the least to the most is written as in decimal; the number can only be that of its digits
-abbrev pub is_number_between : ℕ → ℕ → List ℕ → Bool
-is_number_between least most word =
-    bytes_eq word (decimal (digits_value 10 word)) && nat_le least (digits_value 10 word) && nat_le (digits_value 10 word) most
-
--- the number from the least to the most that the word writes in decimal, if it writes one
-abbrev pub number_between : ℕ → ℕ → List ℕ → Option ℕ
-number_between least most word = if is_number_between least most word then Some (digits_value 10 word) else None
 
 -- there are 1 to 32 workers
 abbrev pub workers_in : List ℕ → Option ℕ

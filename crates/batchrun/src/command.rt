@@ -2,7 +2,6 @@
 ghost use Rattle.std.specs.Prelude.{◌<◌, ◌≤◌, IsTrue};
 ghost use Rattle.batchrun.specs.Words.{is_schedule};
 
-mod number;
 mod parser;
 mod schedule;
 

@@ -3,10 +3,11 @@ ghost use Rattle.std.specs.Prelude.{◌≡◌, ◌-◌, [], length, Some, IfSome
 ghost use Rattle.std.specs.Option.{ForSome, option_and_then};
 ghost use Rattle.bt_io.specs.Causes.{Rose};
 ghost use Rattle.bt_io.specs.Memory.{file_named};
+ghost use Rattle.program_io.specs.Lines.{Tells};
 ghost use Rattle.batch_history.specs.Text.{report_text};
 ghost use Rattle.batchrun.specs.Words.{command_of, spelled, file_of, IsStep};
 ghost use Rattle.batchrun.specs.Lines.{fault_line};
-ghost use Rattle.batchrun.specs.Outcomes.{Prints, HoldsJob, IsUnlessMemory, TextFits, FailsPast, Tells};
+ghost use Rattle.batchrun.specs.Outcomes.{Prints, HoldsJob, IsUnlessMemory, TextFits, FailsPast};
 ghost use Rattle.batchrun.specs.Commands.{Runs, Driven, HasCause, Completes};
 
 use crate::outcome::Outcome;

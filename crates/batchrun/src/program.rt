@@ -1,26 +1,110 @@
 //! The whole program: from the words and a shelf to what is printed.
-ghost use Rattle.std.specs.Prelude.{◌≡◌, ◌↔◌, IsNone, IfSome};
+ghost use Rattle.std.specs.Prelude.{◌≡◌, ◌↔◌, Some, IsNone};
 ghost use Rattle.std.specs.Option.{ForSome};
 ghost use Rattle.bt_io.specs.Causes.{Rose};
+ghost use Rattle.program_io.specs.Lines.{Tells};
 ghost use Rattle.batchrun.specs.Words.{command_of, spelled, IsStep};
 ghost use Rattle.batchrun.specs.Lines.{fault_line};
-ghost use Rattle.batchrun.specs.Outcomes.{Prints, FailsPast, Tells};
-ghost use Rattle.batchrun.specs.Commands.{MayRead, Runs, Driven, lines_of, HasCause, Completes, IsAssured, PrintsSummary};
+ghost use Rattle.batchrun.specs.Outcomes.{Prints};
+ghost use Rattle.batchrun.specs.Commands.{MayRead, Runs, lines_of, Owes, PrintsSummary};
+ghost use Rattle.batchrun.specs.Code.Commands.{command_in, step_in};
+ghost use Rattle.batchrun.specs.Code.Runs.{IsRun};
 
 mod input;
 mod output;
 mod runs;
 
 use self::runs::{run_file, run_made, step_file};
-use crate::command::{Command, parse};
+use crate::command::{Command, StepCommand, parse};
 use crate::outcome::Outcome;
 use crate::status::Status;
-use crate::status::line::write_status;
 use bt_io::{Pause, Shelf, Sink};
 use job_lang::laws::texts_have_one_job_or_fault;
+use program_io::tell;
 use std::alloc::Global;
 use std::sync::Wait;
 use std::thread::Threads;
+
+/// Runs a `step` command.
+fn step<I: Shelf, O: Sink>(
+    alloc: Global,
+    command: &StepCommand<'_>,
+    shelf: &mut I,
+    out: &mut O,
+) -> Outcome
+    requires may { MayRead (I.may shelf.old) (Some (step_in command.now)) }
+    ensures { IsRun (Some (step_in command.now)) (I.held shelf.old) result.status result.report
+        (O.taken out.old) (O.taken out.new)
+        (Rose (I.faults shelf.old) (I.faults shelf.new)) (Rose (O.faults out.old) (O.faults out.new))
+        (I.never_fails shelf.old) (O.room_left out.old) }
+{
+    texts_have_one_job_or_fault();
+    step_file(alloc, command, shelf, out)
+}
+
+/// Runs a command.
+fn run_command<R: Threads + Wait + Sync, I: Shelf, O: Sink, G: Pause + Sync>(
+    rt: &R,
+    alloc: Global,
+    command: &Command<'_>,
+    shelf: &mut I,
+    out: &mut O,
+    pause: &G,
+) -> Outcome
+    requires may { MayRead (I.may shelf.old) (Some (command_in command.now)) }
+    ensures { IsRun (Some (command_in command.now)) (I.held shelf.old) result.status result.report
+        (O.taken out.old) (O.taken out.new)
+        (Rose (I.faults shelf.old) (I.faults shelf.new)) (Rose (O.faults out.old) (O.faults out.new))
+        (I.never_fails shelf.old) (O.room_left out.old) }
+{
+    texts_have_one_job_or_fault();
+    match command {
+        Command::Step(command) => step(alloc, command, shelf, out),
+        Command::Run(command) => run_file(rt, alloc, command, shelf, out, pause),
+        Command::Gen(command) => run_made(rt, alloc, command, out, pause),
+    }
+}
+
+/// Runs what the words ask for.
+fn run_words<R: Threads + Wait + Sync, I: Shelf, O: Sink, G: Pause + Sync>(
+    rt: &R,
+    alloc: Global,
+    words: &[String],
+    shelf: &mut I,
+    out: &mut O,
+    pause: &G,
+) -> Outcome
+    requires may { MayRead (I.may shelf.old) (command_of (spelled words.now)) }
+    ensures { IsRun (command_of (spelled words.now)) (I.held shelf.old) result.status result.report
+        (O.taken out.old) (O.taken out.new)
+        (Rose (I.faults shelf.old) (I.faults shelf.new)) (Rose (O.faults out.old) (O.faults out.new))
+        (I.never_fails shelf.old) (O.room_left out.old) }
+{
+    match parse(words) {
+        Some(command) => run_command(rt, alloc, &command, shelf, out, pause),
+        None => Outcome::stopped(Status::Usage),
+    }
+}
+
+/// Runs the `step` command that the words ask for.
+fn step_words<I: Shelf, O: Sink>(
+    alloc: Global,
+    words: &[String],
+    shelf: &mut I,
+    out: &mut O,
+) -> Outcome
+    requires command { IsStep (command_of (spelled words.now)) }
+    requires may { MayRead (I.may shelf.old) (command_of (spelled words.now)) }
+    ensures { IsRun (command_of (spelled words.now)) (I.held shelf.old) result.status result.report
+        (O.taken out.old) (O.taken out.new)
+        (Rose (I.faults shelf.old) (I.faults shelf.new)) (Rose (O.faults out.old) (O.faults out.new))
+        (I.never_fails shelf.old) (O.room_left out.old) }
+{
+    match parse(words) {
+        Some(Command::Step(command)) => step(alloc, &command, shelf, out),
+        _ => unreachable!(),
+    }
+}
 
 /// Writes the line of a run's status on err, and gives its outcome.
 fn told<E: Sink>(err: &mut E, outcome: Outcome) -> Outcome
@@ -28,7 +112,7 @@ fn told<E: Sink>(err: &mut E, outcome: Outcome) -> Outcome
     ensures tells { Tells (fault_line result.status) (E.taken err.old) (E.taken err.new)
         (Rose (E.faults err.old) (E.faults err.new)) }
 {
-    write_status(err, outcome.status);
+    tell(err, outcome.status.line());
     outcome
 }
 
@@ -50,34 +134,19 @@ pub fn run_step<I: Shelf, O: Sink, E: Sink>(
     ensures headline { Prints (Runs (command_of (spelled words.now)) (I.held shelf.old))
         (lines_of (command_of (spelled words.now))) result.status result.report
         (O.taken out.old) (O.taken out.new) }
-    ensures driven { IfSome result.report
-        (Driven (command_of (spelled words.now)) (I.held shelf.old)) }
-    ensures cause { ForSome (command_of (spelled words.now))
-        (λ c. HasCause c (I.held shelf.old) result.status
-        (Rose (I.faults shelf.old) (I.faults shelf.new))
-        (Rose (O.faults out.old) (O.faults out.new))) }
-    ensures completes { ForSome (command_of (spelled words.now))
-        (λ c. Completes c (I.held shelf.old) result.status
-        (Rose (I.faults shelf.old) (I.faults shelf.new))
-        (Rose (O.faults out.old) (O.faults out.new))) }
-    ensures writes { FailsPast (lines_of (command_of (spelled words.now))) result.status result.report
-        (O.room_left out.old) }
-    ensures assured { ForSome (command_of (spelled words.now))
-        (λ c. IsAssured c (I.held shelf.old) result.status result.report
+    ensures owes { ForSome (command_of (spelled words.now))
+        (λ c. Owes c (I.held shelf.old) result.status result.report
+        (Rose (I.faults shelf.old) (I.faults shelf.new)) (Rose (O.faults out.old) (O.faults out.new))
         (I.never_fails shelf.old) (O.room_left out.old)) }
     ensures tells { Tells (fault_line result.status) (E.taken err.old) (E.taken err.new)
         (Rose (E.faults err.old) (E.faults err.new)) }
 {
-    texts_have_one_job_or_fault();
-    match parse(words) {
-        Some(Command::Step(command)) => told(err, step_file(alloc, &command, shelf, out)),
-        _ => unreachable!(),
-    }
+    told(err, step_words(alloc, words, shelf, out))
 }
 
 /// Does what the words say: the whole program over any shelf and sinks.
 ///
-/// A `step` command is done whole by `run_step`. A `run` and a `gen` command wait for their threads, which call `pause` at
+/// A `step` command is done as by `run_step`. A `run` and a `gen` command wait for their threads, which call `pause` at
 /// the points of the run.
 pub fn batchrun<R: Threads + Wait + Sync, I: Shelf, O: Sink, E: Sink, G: Pause + Sync>(
     rt: &R,
@@ -93,34 +162,15 @@ pub fn batchrun<R: Threads + Wait + Sync, I: Shelf, O: Sink, E: Sink, G: Pause +
     ensures headline { Prints (Runs (command_of (spelled words.now)) (I.held shelf.old))
         (lines_of (command_of (spelled words.now))) result.status result.report
         (O.taken out.old) (O.taken out.new) }
-    ensures driven { IfSome result.report
-        (Driven (command_of (spelled words.now)) (I.held shelf.old)) }
     ensures summary { PrintsSummary (command_of (spelled words.now)) result.status
         (O.taken out.old) (O.taken out.new) }
     ensures usage { (result.status ≡ Status.Usage) ↔ IsNone (command_of (spelled words.now)) }
-    ensures cause { ForSome (command_of (spelled words.now))
-        (λ c. HasCause c (I.held shelf.old) result.status
-        (Rose (I.faults shelf.old) (I.faults shelf.new))
-        (Rose (O.faults out.old) (O.faults out.new))) }
-    ensures completes { ForSome (command_of (spelled words.now))
-        (λ c. Completes c (I.held shelf.old) result.status
-        (Rose (I.faults shelf.old) (I.faults shelf.new))
-        (Rose (O.faults out.old) (O.faults out.new))) }
-    ensures writes { FailsPast (lines_of (command_of (spelled words.now))) result.status result.report
-        (O.room_left out.old) }
-    ensures assured { ForSome (command_of (spelled words.now))
-        (λ c. IsAssured c (I.held shelf.old) result.status result.report
+    ensures owes { ForSome (command_of (spelled words.now))
+        (λ c. Owes c (I.held shelf.old) result.status result.report
+        (Rose (I.faults shelf.old) (I.faults shelf.new)) (Rose (O.faults out.old) (O.faults out.new))
         (I.never_fails shelf.old) (O.room_left out.old)) }
     ensures tells { Tells (fault_line result.status) (E.taken err.old) (E.taken err.new)
         (Rose (E.faults err.old) (E.faults err.new)) }
 {
-    texts_have_one_job_or_fault();
-    match parse(words) {
-        Some(Command::Step(_)) => run_step(alloc, words, shelf, out, err),
-        Some(Command::Run(command)) => {
-            told(err, run_file(rt, alloc, &command, shelf, out, pause))
-        }
-        Some(Command::Gen(command)) => told(err, run_made(rt, alloc, &command, out, pause)),
-        None => told(err, Outcome::stopped(Status::Usage)),
-    }
+    told(err, run_words(rt, alloc, words, shelf, out, pause))
 }

@@ -11,7 +11,8 @@ use Rattle.batch_history.specs.declared.report.Report.{Report}
 use Rattle.core_model.specs.Reports.{IsDrivenReport}
 use Rattle.job_lang.specs.Language.{IsJobOf, IsFaultOf}
 use Rattle.batch_history.specs.Text.{report_text}
-use Rattle.batchrun.specs.Outcomes.{WasRead, HasRun, HasDriven, Prints, FileCause, FileCompletes, IsUnlessMemory, IsFileAssured, FailsPast}
+use Rattle.program_io.specs.Reading.{WasRead}
+use Rattle.batchrun.specs.Outcomes.{HasRun, HasDriven, Prints, FileCause, FileCompletes, IsUnlessMemory, IsFileAssured, FailsPast}
 use Rattle.batchrun.specs.Code.Reading.{HasJob}
 use Rattle.batchrun.proofs.OutcomeLemmas.Headlines.{prints_with}
 use Rattle.job_syntax.specs.declared.fault.JobFault.{JobFault}
@@ -51,7 +52,7 @@ drove held workers job turns run status report old new has lawful driven line =
     (λ report is. record { run = has_run held workers job report has (rw is at lawful); driven = rw is at driven }) status report old new line
 
 -- the bytes that were read are those that are held
-same_bytes : (held : Option (List ℕ)) (told bytes : List ℕ) → WasRead held bytes → held ≡ Some told → bytes ≡ told
+same_bytes : (held : Option (List ℕ)) (told bytes : List ℕ) → WasRead 1048576 held bytes → held ≡ Some told → bytes ≡ told
 same_bytes None told bytes read is = cc
 same_bytes (Some xs) told bytes read is = let same : xs ≡ told = cc in read.whole ∙ same
 
@@ -63,7 +64,7 @@ abbrev pub OneFault : Type 0
 OneFault = (text : List ℕ) (fault fault' : JobFault) → IsFaultOf text fault → IsFaultOf text fault' → fault ≡ fault'
 
 -- the job of the bytes that are held is that of the bytes that were read
-job_read : (held : Option (List ℕ)) (told bytes : List ℕ) (job : JobValue) → WasRead held bytes → held ≡ Some told → IsJobOf told job → IsJobOf bytes job
+job_read : (held : Option (List ℕ)) (told bytes : List ℕ) (job : JobValue) → WasRead 1048576 held bytes → held ≡ Some told → IsJobOf told job → IsJobOf bytes job
 job_read held told bytes job read is accepted = subst (λ text. IsJobOf text job) (sym (same_bytes held told bytes read is)) accepted
 
 told_short : (told xs : List ℕ) → Some told ≡ Some xs → 1048576 < length told → length xs ≤ 1048576 → ⊥
@@ -86,7 +87,7 @@ is_assured no_fault (Refused (Job fault)) report held workers R W old new never_
     absurd (no_fault why.bytes job fault (job_read held told why.bytes job why.read is accepted) why.why)
 
 -- the fault of the bytes that are held is that of the bytes that were read
-fault_read : (held : Option (List ℕ)) (told bytes : List ℕ) (fault : JobFault) → WasRead held bytes → held ≡ Some told → IsFaultOf told fault → IsFaultOf bytes fault
+fault_read : (held : Option (List ℕ)) (told bytes : List ℕ) (fault : JobFault) → WasRead 1048576 held bytes → held ≡ Some told → IsFaultOf told fault → IsFaultOf bytes fault
 fault_read held told bytes fault read is has = subst (λ text. IsFaultOf text fault) (sym (same_bytes held told bytes read is)) has
 
 -- a file whose bytes are held is too long where the status says so
@@ -95,7 +96,7 @@ too_long_held None told is long short = cc
 too_long_held (Some xs) told is long short = let same : xs ≡ told = cc in omega (arith, ap length same, long, short)
 
 -- bytes that were read to the end are not too many
-read_short : (held : Option (List ℕ)) (told bytes : List ℕ) → WasRead held bytes → held ≡ Some told → 1048576 < length told → ⊥
+read_short : (held : Option (List ℕ)) (told bytes : List ℕ) → WasRead 1048576 held bytes → held ≡ Some told → 1048576 < length told → ⊥
 read_short held told bytes read is long = omega (arith, read.short, long, ap length (same_bytes held told bytes read is))
 
 -- a file that is too long is refused as such

@@ -1,13 +1,13 @@
 -- Over memory in which no call is told to fail, a run is done.
-use Rattle.std.proofs.Common.{◌≡◌, ℕ, ◌-◌, List, [], length, Option, Some, None, refl}
+use Rattle.std.proofs.Common.{◌≡◌, ℕ, ◌-◌, List, [], length, Option, Some, None, IfSome, refl}
 use Rattle.std.specs.Prelude.{◌==◌}
 use Rattle.std.specs.Option.{ForSome, option_and_then}
 use Rattle.batch_history.specs.declared.report.Report.{Report}
 use Rattle.batch_history.specs.Text.{report_text}
 use Rattle.bt_io.specs.Memory.{File, MemorySink, file_named, room_left_of}
 use Rattle.batchrun.specs.Words.{Command, step, run, gen, file_of, IsStep}
-use Rattle.batchrun.specs.Outcomes.{HoldsJob, IsUnlessMemory, TextFits}
-use Rattle.batchrun.specs.Commands.{IsAssured, lines_of}
+use Rattle.batchrun.specs.Outcomes.{HoldsJob, IsUnlessMemory, TextFits, FailsPast}
+use Rattle.batchrun.specs.Commands.{Driven, IsAssured, lines_of}
 use Rattle.batchrun.specs.declared.status.Status.{Status}
 use Rattle.batchrun.specs.declared.status.Status.TheVariants.{Done}
 
@@ -31,3 +31,16 @@ step_lines None asks = absurd asks
 step_lines (Some (step file workers schedule)) asks = refl
 step_lines (Some (run file workers)) asks = absurd asks
 step_lines (Some (gen size seed workers)) asks = absurd asks
+
+-- a run by turns owes what its command does
+pub step_writes : (words : Option Command) (status : Status) (report : Option Report) (room : ℕ) → IsStep words
+    → ForSome words (λ command. FailsPast (lines_of (Some command)) status report room) → FailsPast report_text status report room
+step_writes None status report room asks past = absurd asks
+step_writes (Some (step file workers schedule)) status report room asks past = past (step file workers schedule) refl
+step_writes (Some (run file workers)) status report room asks past = absurd asks
+step_writes (Some (gen size seed workers)) status report room asks past = absurd asks
+
+pub step_driven : (words : Option Command) (report : Option Report) (held : List ℕ → Option (List ℕ)) → IsStep words
+    → ForSome words (λ command. IfSome report (Driven (Some command) held)) → IfSome report (Driven words held)
+step_driven None report held asks driven = absurd asks
+step_driven (Some command) report held asks driven = driven command refl

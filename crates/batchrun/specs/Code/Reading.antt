@@ -2,7 +2,8 @@
 use Rattle.std.specs.Prelude.{ℕ, ◌<◌, List, length, Option, IfSome}
 use Rattle.sp_order.specs.Jobs.{JobValue}
 use Rattle.job_lang.specs.Language.{IsJobOf}
-use Rattle.batchrun.specs.Outcomes.{WasRead, IsRefused}
+use Rattle.program_io.specs.Reading.{WasRead}
+use Rattle.batchrun.specs.Outcomes.{IsRefused}
 use Rattle.batchrun.specs.declared.status.Refusal.TheVariants.{TooLong, Job}
 use Rattle.batchrun.specs.declared.status.Status.{Status}
 use Rattle.batchrun.specs.declared.status.Status.TheVariants.{ReadFault, Refused, Memory}
@@ -10,13 +11,13 @@ use Rattle.batchrun.specs.declared.status.Status.TheVariants.{ReadFault, Refused
 -- the bytes that were read are this job's
 pub record HasJob (held : Option (List ℕ)) (job : JobValue) : Type 0 where
   pub bytes : List ℕ
-  pub read : WasRead held bytes
+  pub read : WasRead 1048576 held bytes
   pub accepted : IsJobOf bytes job
 
--- the reading ended with this status
-abbrev pub StopsReading : Status → Option (List ℕ) → Type 0 → Type 0
-StopsReading ReadFault held ReadsFailed = ReadsFailed
-StopsReading (Refused TooLong) held ReadsFailed = IfSome held (λ bytes. 1048576 < length bytes)
-StopsReading (Refused (Job fault)) held ReadsFailed = IsRefused held fault
-StopsReading Memory held ReadsFailed = Unit {0}
-StopsReading status held ReadsFailed = ⊥
+-- the reading ended with this status, before there was a job
+abbrev pub EndsReading : Status → Option (List ℕ) → Type 0 → Type 0
+EndsReading ReadFault held ReadsFailed = ReadsFailed
+EndsReading (Refused TooLong) held ReadsFailed = IfSome held (λ bytes. 1048576 < length bytes)
+EndsReading (Refused (Job fault)) held ReadsFailed = IsRefused held fault
+EndsReading Memory held ReadsFailed = Unit {0}
+EndsReading status held ReadsFailed = ⊥

@@ -4,22 +4,22 @@ ghost use Rattle.std.specs.Option.{option_map};
 ghost use Rattle.batchrun.specs.Words.{command_of, spelled, step_command, run_command, gen_command, short_command, long_command, workers_in, size_in};
 ghost use Rattle.batchrun.specs.Code.Commands.{command_in, step_in, run_in, gen_in};
 
-use crate::command::number::number_between;
 use crate::command::schedule::is_schedule;
 use crate::command::{Command, GenCommand, RunCommand, StepCommand};
+use decimals::number_between;
 
 /// The count of workers that a word asks for, if it is a number from 1 to 32.
 fn workers_asked(word: &str) -> Option<u32>
     ensures { result ≡ workers_in word.now }
 {
-    number_between(word, 1, 32).map(|workers| workers as u32)
+    number_between(word.as_bytes(), 1, 32).map(|workers| workers as u32)
 }
 
 /// The size of a generated job that a word asks for, if it is a number from 1 to 5,000.
 fn size_asked(word: &str) -> Option<u32>
     ensures { result ≡ size_in word.now }
 {
-    number_between(word, 1, 5_000).map(|size| size as u32)
+    number_between(word.as_bytes(), 1, 5_000).map(|size| size as u32)
 }
 
 /// The `step` command of these words, if they are one.
@@ -56,7 +56,7 @@ fn parse_gen(size: &str, seed: &str, workers: &str) -> Option<GenCommand>
     ensures { option_map gen_in result ≡ gen_command size.now seed.now workers.now }
 {
     let size = size_asked(size)?;
-    let seed = number_between(seed, 0, u64::MAX)?;
+    let seed = number_between(seed.as_bytes(), 0, u64::MAX)?;
     let workers = workers_asked(workers)?;
     Some(GenCommand {
         size,

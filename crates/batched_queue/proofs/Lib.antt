@@ -1,0 +1,7 @@
+mod Lists
+mod Every
+mod Shares
+mod Serial
+mod Cutting
+mod Service
+mod OneBatch

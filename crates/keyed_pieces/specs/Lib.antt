@@ -1,0 +1,3 @@
+-- Operations that have a key each, and their service by ranges of keys.
+pub mod Keyed
+pub mod Ranges

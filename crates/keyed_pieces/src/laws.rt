@@ -1,0 +1,39 @@
+//! The laws of operations with keys that are served by ranges.
+ghost use Rattle.std.specs.Prelude.{◌≡◌, ◌==◌, ◌+◌, ℕ, List, filter, length, map, slice_index_or, []};
+ghost use Rattle.key_sets.specs.Groups.{group_of};
+ghost use Rattle.keyed_pieces.specs.Keyed.{AreKeyed, AscendsBy, after_each, replies_to_each};
+ghost use Rattle.keyed_pieces.specs.Ranges.{ranges, side_by_side, after_by_range, replies_by_range, merged};
+
+/// Each range has the entries of its group, in their order; side by side the ranges are all entries.
+pub fn ranges_are_the_groups<E>()
+    ensures count { (at : E → ℕ) (starts : List ℕ) (entries : List E)
+        → length (ranges at starts entries) ≡ length starts + 1 }
+    ensures each { (at : E → ℕ) (starts : List ℕ) (entries : List E) (group : ℕ)
+        → slice_index_or (ranges at starts entries) group [] ≡ filter (λ e. group_of (at e) starts == group) entries }
+    ensures all { (at : E → ℕ) (starts : List ℕ) (entries : List E) → AscendsBy at entries
+        → side_by_side (ranges at starts entries) ≡ entries }
+{}
+
+/// Operations that touch what stands at their own key alone may be served range by range, whatever their order is: what
+/// the ranges leave, side by side, is what one operation after another leaves, and the replies of the ranges, merged,
+/// are its replies.
+pub fn operations_may_be_served_by_range<E, O, R>()
+    ensures after { (at : E → ℕ) (key : O → ℕ) (after : List E → O → List E) (reply : List E → O → R)
+        → AreKeyed at key after reply
+        → (starts : List ℕ) (entries : List E) (operations : List O) → AscendsBy at entries
+        → side_by_side (after_by_range after (ranges at starts entries) (ranges key starts operations))
+        ≡ after_each after entries operations }
+    ensures replies { (at : E → ℕ) (key : O → ℕ) (after : List E → O → List E) (reply : List E → O → R)
+        → AreKeyed at key after reply
+        → (none : R) (starts : List ℕ) (entries : List E) (operations : List O) → AscendsBy at entries
+        → merged none (map (λ op. group_of (key op) starts) operations) (replies_by_range after reply (ranges at starts entries) (ranges key starts operations))
+        ≡ replies_to_each after reply entries operations }
+{}
+
+/// Questions, which change nothing, may be answered range by range: the answers of the ranges, merged, are those to all
+/// questions in their order.
+pub fn questions_may_be_answered_by_range<O, R>()
+    ensures { (key : O → ℕ) (answer : O → R) (none : R) (starts : List ℕ) (questions : List O)
+        → merged none (map (λ op. group_of (key op) starts) questions) (map (map answer) (ranges key starts questions))
+        ≡ map answer questions }
+{}

@@ -5,3 +5,4 @@ pub mod OneRun
 pub mod Rounds
 pub mod Existence
 pub mod LiveRuns
+pub mod Joined

@@ -15,11 +15,11 @@ pub step_reached : (job : CoreJob) (old new : CoreState) (w : ℕ) (event : Even
 step_reached job old new w event before step =
     (before.0 ++ record { worker = w; event = event } ∷ [], one_more job opening_core old new before.0 w event before.1 step)
 
-turns_reach : (job : CoreJob) (first last : CoreState) (steps : List Step) → TurnsReach job first steps last → ReachesFrom job first steps last
+pub turns_reach : (job : CoreJob) (first last : CoreState) (steps : List Step) → TurnsReach job first steps last → ReachesFrom job first steps last
 turns_reach job first last [] same = same
 turns_reach job first last (step ∷ steps) run = (run.0, run.2, turns_reach job run.0 last steps run.3)
 
-drives_done : (job : CoreJob) (s last : CoreState) (schedule : List ℕ) (robin : ℕ) → Drives job s schedule robin last → is_done (last.state.node 0) ≡ true
+pub drives_done : (job : CoreJob) (s last : CoreState) (schedule : List ℕ) (robin : ℕ) → Drives job s schedule robin last → is_done (last.state.node 0) ≡ true
 drives_done job s last schedule robin (over done) = done
 drives_done job s last schedule robin (by_schedule {next = next} {worker = worker} {robin = on} {schedule = rest} going turn drives) = drives_done job next last rest on drives
 drives_done job s last schedule robin (by_robin {next = next} going turn drives) = drives_done job next last [] ((robin + 1) % job.workers) drives

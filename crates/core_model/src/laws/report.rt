@@ -7,10 +7,12 @@ ghost use Rattle.batch_history.specs.Lawful.{Lawful};
 ghost use Rattle.batch_history.specs.declared.report.Report.{Report};
 ghost use Rattle.core_model.specs.declared.task.Task.TheVariants.{Idle};
 ghost use Rattle.core_model.specs.declared.status.Status.TheVariants.{Free};
-ghost use Rattle.core_model.specs.State.{CoreJob, State, core_job};
+ghost use Rattle.core_model.specs.State.{CoreJob, CoreState, State, core_job, opening_core};
+ghost use Rattle.core_model.specs.Runs.{IsReached};
+ghost use Rattle.sp_order.specs.Jobs.{JobValue};
 ghost use Rattle.core_model.specs.Tasks.{is_done};
 ghost use Rattle.core_model.specs.Invariant.{Parts};
-ghost use Rattle.core_model.specs.Reports.{HasRun, IsReportOf};
+ghost use Rattle.core_model.specs.Reports.{HasRun, IsReportOf, IsDrivenFrom, IsDrivenReport, IsRunFrom, IsRunReport};
 
 use sp_order::laws::{
     before_is_by_series, leaf_has_one_node, plan_has_sides, plan_stands_for_tree,
@@ -62,4 +64,21 @@ pub fn report_is_one()
         → IsReportOf job leaf_total state a
         → IsReportOf job leaf_total state b
         → a ≡ b }
+{}
+
+/// The report that turns make is that of a run of the model.
+pub fn driven_report_is_of_a_run()
+    ensures from { (job : CoreJob) (leaf_total : ℕ) (first : CoreState) (schedule : List ℕ) (report : Report)
+        → IsDrivenFrom job leaf_total first schedule report
+        → IsRunFrom job leaf_total first report }
+    ensures opening { (job : JobValue) (workers : ℕ) (schedule : List ℕ) (report : Report)
+        → IsDrivenReport job workers schedule report
+        → IsRunReport job workers report }
+{}
+
+/// A run that goes on from a state that was reached is one from the opening state.
+pub fn run_goes_on_from_reached()
+    ensures { (job : CoreJob) (leaf_total : ℕ) (state : CoreState) (report : Report) → IsReached job state
+        → IsRunFrom job leaf_total state report
+        → IsRunFrom job leaf_total opening_core report }
 {}

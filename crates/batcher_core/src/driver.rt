@@ -6,10 +6,11 @@ ghost use Rattle.batch_history.specs.Lawful.{Lawful};
 ghost use Rattle.core_model.specs.State.{CoreState};
 ghost use Rattle.core_model.specs.Runs.{IsTurn, Drives};
 ghost use Rattle.batcher_core.specs.Cores.{job_in, state_in, is_over_in};
-ghost use Rattle.core_model.specs.Reports.{IsDrivenFrom};
+ghost use Rattle.core_model.specs.Reports.{IsDrivenFrom, IsRunFrom};
 
 use crate::scheduler::Core;
 use batch_history::Report;
+use core_model::laws::report::driven_report_is_of_a_run;
 use sp_order::laws::plan_stands_for_tree;
 use std::alloc::{AllocError, Global};
 
@@ -103,11 +104,13 @@ pub fn drive(alloc: Global, core: Core, schedule: &[u32]) -> Result<Report, Allo
     ensures driven { IfOk result
         (λ report. IsDrivenFrom (job_in core) (leaves core.tree) (state_in core)
         schedule.now report) }
+    ensures run { IfOk result (IsRunFrom (job_in core) (leaves core.tree) (state_in core)) }
     ensures lawful { IfOk result
         (λ report. Lawful (record { shape = Some core.tree; acts = core.acts })
         core.workers report) }
     ensures spent { IfOk result (λ _. core.spent ≡ false) }
 {
+    driven_report_is_of_a_run();
     let mut core = core;
     run(&mut core, schedule)?;
     core.report(alloc)

@@ -1,5 +1,7 @@
 pub mod Words
+pub mod Traces
 pub mod Facts
 pub mod Moved
 pub mod Through
 pub mod OneState
+pub mod Untouched

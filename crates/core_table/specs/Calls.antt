@@ -4,6 +4,7 @@ use mathlib.Core.Option.{none}
 use prog.Atomic.{either}
 use Rattle.atomic_table.specs.Table.{step}
 use Rattle.sp_order.specs.Precedence.{leaves}
+use Rattle.sp_order.specs.Preorder.{nodes_of}
 use Rattle.core_model.specs.Events.{value_in}
 use Rattle.core_model.specs.Operations.{leaf_of, place_of, IsReceipt}
 use Rattle.core_table.specs.CoreWords.{Entry, Receipt, Claim, OpenParRight, OpenParLeft, OpenSeqLeft, OpenSeqRight, Post, Win, Take, Publish, Answer, Release, Keep, FinishLeaf, FinishSeq, FinishPar, ArriveFirst, ArriveSecond, Idle, Run, Half, Started, Ended, Whole, Handed, NotCalled, Out, SeqNode, ParNode, IsSide, Ran}
@@ -36,6 +37,7 @@ pub record IsViewOf (key : Setting) (k : ℕ) (v : View) : Type 0 where
   pub nodes : v.nodes ≡ (job_of key).plan.count
   pub room : v.room ≡ room_of key
   pub enrolled : v.enrolled ≡ true
+  pub plan : nodes_of v.plan ≡ (job_of key).plan
 
 -- In a table with so many slots, the seat id has the view v of worker k, and holds these slots. Each line says of a call
 -- what its step writes, what it tells, and what it makes of the state that is shown, whichever that is.
@@ -44,6 +46,10 @@ pub record CallsAreEvents (key : Setting) (slots id k : ℕ) (v : View) (xs : Li
   pub claim : (n : ℕ) → n < (job_of key).plan.count → v.task ≡ Idle → v.call ≢ Out
       → Steps (job_of key) (room_of key) slots id (v, xs) (node_at key.workers n) (λ y. either (eqb y 1) 2 y)
       (plays.claimed (step slots (node_at key.workers n) 1 2 none) (v, xs)) (TryMakes 1 (Makes (job_of key) k (Claim n)))
+  -- a claim past the last node names the node and makes nothing
+  pub claim_past_the_last : (n : ℕ) → (job_of key).plan.count ≤ n → 0 < key.workers
+      → Steps (job_of key) (room_of key) slots id (v, xs) 0 (λ y. either (eqb y (4 + n)) 0 y)
+      (plays.strayed (step slots 0 (4 + n) 0 none) (v, xs)) Stays
   -- a tick starts or ends the leaf of the task
   pub tick : IsTickDue (job_of key) v.task → v.call ≢ Out
       → Steps (job_of key) (room_of key) slots id (v, xs) (tick_at key.workers) (λ y. (y + 1) % 2 ^ 64)

@@ -3,6 +3,7 @@ pub mod Words
 pub mod Shows
 pub mod OneState
 pub mod Views
+pub mod JobEvents
 pub mod Plays
 pub mod Steps
 pub mod Carries

@@ -3,6 +3,7 @@ use Rattle.std.specs.Prelude.{ℕ, ◌≡◌, ◌≢◌, ◌<◌, ◌+◌, Bool,
 use Rattle.atomic_table.specs.Seated.{TableId}
 use Rattle.atomic_table.specs.declared.shared.Seat.{Seat}
 use Rattle.core_table.specs.CoreWords.{Act, Tree, Kind, LeafNode, SeqNode, ParNode, OpenSecond, FinishParent, Arrive, Task, Idle, Run, Half, Started, Kept, Ended, Whole, Handed, Out}
+use Rattle.sp_order.specs.Preorder.{nodes_of}
 use Rattle.core_model.specs.State.{CoreJob}
 use Rattle.core_model.specs.Operations.{IsLeaf}
 use Rattle.core_table.specs.declared.slot.Slot.{Slot}
@@ -69,7 +70,7 @@ IsSeatOf setting table worker seat owed published =
     (seat.table_id ≡ table) × (worker < setting.workers) × (seat.me.0.workers ≡ setting.workers)
     × (seat.me.0.nodes ≡ (job_of setting).plan.count) × (seat.me.0.enrolled ≡ true)
     × TaskHere (job_of setting) seat.me.0.task × (seat.me.0.room ≡ room_of setting) × Carries worker seat.me
-    × Remembers seat.me.0 owed published
+    × Remembers seat.me.0 owed published × (nodes_of seat.me.0.plan ≡ (job_of setting).plan)
 
 -- the pass is one of this table
 abbrev pub IsPassOf : CoreTable → Pass → Type 0

@@ -1,12 +1,13 @@
 -- When a table shows a state of the core: its words, its slots at home and the views of its passes tell each part of it.
-use Rattle.std.specs.Prelude.{ℕ, ◌≡◌, ◌≢◌, ◌<◌, ◌≤◌, ◌+◌, ◌==◌, Bool, true, false, if◌then◌else◌, Option as Maybe, None, Some, List, [], ◌∷◌, ◌++◌, length, map}
+use Rattle.std.specs.Prelude.{ℕ, ◌≡◌, ◌≢◌, ◌⊎◌, slice_index, ◌<◌, ◌≤◌, ◌+◌, ◌==◌, Bool, true, false, if◌then◌else◌, Option as Maybe, None, Some, List, [], ◌∷◌, ◌++◌, length, map}
 use mathlib.Core.Option.{Option, none, some}
 use lib.ListN.{get_elem?}
 use Rattle.atomic_table.specs.Table.{State as TableState}
 use Rattle.seq_objects.specs.Pairs.{AreDistinct}
 use Rattle.batch_history.specs.Book.{flat}
 use Rattle.batch_history.specs.Reserved.{ReservedView}
-use Rattle.core_table.specs.CoreWords.{Entry, LeafNode, Task, Idle, Started, Status, Free, Pending, Executing, Served, CallState, NotCalled, Out, Got}
+use Rattle.core_model.specs.Runs.{Step, Reaches}
+use Rattle.core_table.specs.CoreWords.{Entry, Event, LeafNode, Task, Idle, Started, Status, Free, Pending, Executing, Served, CallState, NotCalled, Out, Got}
 use Rattle.core_model.specs.State.{CoreJob, Hold, State, core_job}
 use Rattle.core_model.specs.Operations.{op_in, Place}
 use Rattle.core_model.specs.Entries.{entries_of}
@@ -22,7 +23,7 @@ use Rattle.core_table.specs.declared.view.HoldView.{HoldView}
 use Rattle.core_table.specs.declared.view.LeftCall.{LeftCall}
 use Rattle.core_table.specs.declared.view.View.{View}
 use Rattle.core_table.specs.declared.setting.Setting.{Setting}
-use Rattle.core_table.specs.Words.{WordsShow}
+use Rattle.core_table.specs.Words.{stop_at, WordsShow}
 
 -- the table as plain data
 abbrev pub St : Type 0
@@ -148,8 +149,9 @@ pub record Mine (job : CoreJob) (s : State) (home : Home) (seat id : ℕ) (v : V
   -- the worker's entries in the book are those of the calls that the pass has left, in the order in which it made
   -- them, and then that of its present call, if the book has it
   pub entries : entries_of w (flat s.book) ≡ map (entry_of w) v.left ++ present (s.call w) (task_place job s.book (s.task w))
-  -- a worker whose pass has not enrolled has done nothing, and its record slot is at home and empty
-  pub new : v.enrolled ≡ false → (home ≡ some (some Slots.Vacant)) × (v.task ≡ Idle) × (v.call ≡ NotCalled)
+  -- A worker whose pass has not enrolled has done nothing and has left no call, so the book has no entry of it. Its record
+  -- slot is at home and empty.
+  pub new : v.enrolled ≡ false → (home ≡ some (some Slots.Vacant)) × (v.task ≡ Idle) × (v.call ≡ NotCalled) × (v.left ≡ [])
   pub done : v.saw_done ≡ true → is_done (s.node 0) ≡ true
   pub since : SinceKnown job s v w
   -- the book that the pass has seen begins the book
@@ -159,8 +161,30 @@ pub record Mine (job : CoreJob) (s : State) (home : Home) (seat id : ℕ) (v : V
 abbrev pub HasSeat : List View → ℕ → ℕ → Type 0
 HasSeat views seat w = (v : View) × (get_elem? views seat ≡ some v) × (v.from ≤ w) × (w < v.to)
 
+-- the events of worker w in a trace, the latest first
+abbrev pub event_if : ℕ → Step → List Event
+event_if w step = if step.worker == w then step.event ∷ [] else []
+
+abbrev pub events_by : ℕ → List Step → List Event
+events_by w [] = []
+events_by w (step ∷ steps) = events_by w steps ++ event_if w step
+
+-- The views agree with a trace: the events in each view are those of each worker of its seat. A seat of several workers is
+-- one whose passes are not split off yet, so it has no events.
+abbrev pub EventsAgree : List View → List Step → Type 0
+EventsAgree views steps =
+    (id : ℕ) (v : View) (w : ℕ) → get_elem? views id ≡ some v → v.from ≤ w → w < v.to → events_by w steps ≡ v.events
+
+-- The stop word is 0 or 1. It is 1 exactly where some pass has set it, and once a look has found it set it stays so.
+pub record StopShows (word : ℕ) (views : List View) : Type 0 where
+  pub known : (word ≡ 0) ⊎ (word ≡ 1)
+  pub set : (id : ℕ) (v : View) → get_elem? views id ≡ some v → 0 < v.stops → word ≡ 1
+  pub by : word ≡ 1 → (id : ℕ) × (v : View) × (get_elem? views id ≡ some v) × (0 < v.stops)
+  pub found : (id : ℕ) (v : View) → get_elem? views id ≡ some v → 0 < v.stops_found → word ≡ 1
+
 -- The table shows a state, which has the eight parts of the invariant. Each worker's number lies in the range of one
--- seat: the first seat has all numbers that are not dealt out yet.
+-- seat: the first seat has all numbers that are not dealt out yet. A trace leads from the opening state to the state, and the
+-- events of each worker in it are those in the worker's view.
 pub record Shows (job : CoreJob) (room : ℕ) (t : St) : Type 0 where
   pub state : State
   -- which seat is that of a worker
@@ -171,6 +195,12 @@ pub record Shows (job : CoreJob) (room : ℕ) (t : St) : Type 0 where
   pub views : (id : ℕ) (v : View) (w : ℕ) → get_elem? t.views id ≡ some v → v.from ≤ w → w < v.to
       → (w < job.workers) × Mine job state (get_elem? t.homes w) (seat w) id v w
   pub seats : (w : ℕ) → w < job.workers → HasSeat t.views (seat w) w
+  pub trace : List Step
+  -- the ready list of each worker after the trace: the table has deques of its own in place of these
+  pub ready : ℕ → List ℕ
+  pub reached : Reaches job trace (record { state = state; ready = ready })
+  pub events : EventsAgree t.views trace
+  pub stop : StopShows (slice_index t.words (stop_at job.workers)) t.views
 
 -- the rule of the table
 abbrev pub Shown : Setting → St → Type 0

@@ -1,6 +1,6 @@
 -- The view of a pass after each of its steps. A step changes the view of its own pass and no other.
 use Rattle.std.specs.Prelude.{ℕ, ◌+◌, ◌==◌, max, min, if◌then◌else◌, Bool, Option as Maybe, None, Some, List, [], ◌∷◌, ◌++◌, true, false}
-use Rattle.core_table.specs.CoreWords.{Entry, Receipt, Task, Idle, Run, Half, Started, Kept, Ended, Whole, Handed, NotCalled, Out, Got}
+use Rattle.core_table.specs.CoreWords.{Entry, Event, Receipt, Tree, Task, Idle, Run, Half, Started, Kept, Ended, Whole, Handed, NotCalled, Out, Got}
 use Rattle.core_table.specs.declared.slot.OpRecord.{OpRecord}
 use Rattle.core_table.specs.declared.view.HoldView.{HoldView}
 use Rattle.core_table.specs.declared.view.View.{View}
@@ -8,13 +8,14 @@ use Rattle.core_table.specs.Shows.{room_of, job_of}
 use Rattle.core_table.specs.declared.setting.Setting.{Setting}
 
 -- a view that tells nothing yet, of the numbers below the workers
-abbrev pub newcomer : ℕ → ℕ → ℕ → View
-newcomer workers nodes room = record {
+abbrev pub newcomer : Tree → ℕ → ℕ → ℕ → View
+newcomer tree workers nodes room = record {
   from = 0;
   to = workers;
   workers = workers;
   nodes = nodes;
   room = room;
+  plan = tree;
   task = Idle;
   call = NotCalled;
   posted = None;
@@ -42,11 +43,12 @@ newcomer workers nodes room = record {
   just_posted = false;
   first_since = None;
   book_seen = [];
+  events = [];
 }
 
 -- that of the first seat of a table
 abbrev pub first_view : Setting → View
-first_view key = newcomer key.workers (job_of key).plan.count (room_of key)
+first_view key = newcomer key.plan key.workers (job_of key).plan.count (room_of key)
 
 -- the first number of a range is cut off, and what is left
 abbrev pub pass_of : View → View
@@ -63,6 +65,11 @@ rest_from n setting = record (first_view setting) { from = n }
 abbrev pub enrolling : View → View
 enrolling v = record v { enrolled = true }
 
+-- A step that is an event of the core adds it to the view's events; any other step leaves them as they are. The functions
+-- below say what else each kind of step tells.
+abbrev pub with_event : View → Event → View
+with_event v event = record v { events = event ∷ v.events }
+
 -- The job side. A step tells the new task, and each counts what it did.
 abbrev pub with_task : View → Task → View
 with_task v task = record v { task = task; just_posted = false }
@@ -70,8 +77,9 @@ with_task v task = record v { task = task; just_posted = false }
 abbrev pub claiming : View → ℕ → View
 claiming v n = record v { task = Run n; claims = v.claims + 1; claimed = n ∷ v.claimed; just_posted = false }
 
-abbrev pub refusing : View → ℕ → View
-refusing v n = record v { refused_nodes = n ∷ v.refused_nodes; just_posted = false }
+-- the node was not ready: `word` is what its word was
+abbrev pub refusing : View → ℕ → ℕ → View
+refusing v n word = record v { refused_nodes = n ∷ v.refused_nodes; found = word; just_posted = false }
 
 -- the task once its tick is drawn
 abbrev pub ticked : Task → ℕ → Task
@@ -94,8 +102,8 @@ keeping v n start = record v { task = Kept n start; call = NotCalled; just_poste
 abbrev pub seeing_done : View → View
 seeing_done v = record v { saw_done = true; root_looks = v.root_looks + 1; just_posted = false }
 
-abbrev pub seeing_undone : View → View
-seeing_undone v = record v { root_looks = v.root_looks + 1; just_posted = false }
+abbrev pub seeing_undone : View → ℕ → View
+seeing_undone v word = record v { root_looks = v.root_looks + 1; found = word; just_posted = false }
 
 abbrev pub stopping : View → View
 stopping v = record v { stops = v.stops + 1; just_posted = false }
@@ -103,8 +111,8 @@ stopping v = record v { stops = v.stops + 1; just_posted = false }
 abbrev pub finding_stop : View → View
 finding_stop v = record v { stop_looks = v.stop_looks + 1; stops_found = v.stops_found + 1; just_posted = false }
 
-abbrev pub finding_none : View → View
-finding_none v = record v { stop_looks = v.stop_looks + 1; just_posted = false }
+abbrev pub finding_none : View → ℕ → View
+finding_none v word = record v { stop_looks = v.stop_looks + 1; found = word; just_posted = false }
 
 -- the least number that was told, where this one is told now
 abbrev pub least_told : Maybe ℕ → ℕ → Maybe ℕ
@@ -143,8 +151,8 @@ new_view book = record { looks = 0; taken = []; answered = []; owed = []; publis
 abbrev pub winning : View → List (List Entry) → View
 winning v book = record v { hold = Some (new_view book); wins = v.wins + 1; just_posted = false }
 
-abbrev pub losing : View → View
-losing v = record v { refused_wins = v.refused_wins + 1; just_posted = false }
+abbrev pub losing : View → ℕ → View
+losing v word = record v { refused_wins = v.refused_wins + 1; found = word; just_posted = false }
 
 -- a look that takes the call of worker u, and one that does not
 abbrev pub taken_view : HoldView → ℕ → OpRecord → HoldView
@@ -171,9 +179,14 @@ with_hold v h = record v { hold = Some h; just_posted = false }
 abbrev pub passing : View → HoldView → ℕ → View
 passing v h status = record v { hold = Some (passed_view h); found = status; just_posted = false }
 
--- the hold as it was released stays known
+-- the book of a hold; without a hold the book that was seen before
+abbrev pub book_after : Maybe HoldView → List (List Entry) → List (List Entry)
+book_after None seen = seen
+book_after (Some h) seen = h.book
+
+-- The hold stays known as it was when it was released, and its book is the one that the pass has seen.
 abbrev pub releasing : View → View
-releasing v = record v { hold = None; last = v.hold; just_posted = false }
+releasing v = record v { hold = None; last = v.hold; book_seen = book_after v.hold v.book_seen; just_posted = false }
 
 -- it leaves, and sees the book
 abbrev pub leaving : View → OpRecord → Receipt → List (List Entry) → View

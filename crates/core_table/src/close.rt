@@ -5,9 +5,13 @@ ghost use Rattle.std.specs.Mem.Slots.{slots_items, slots_len, slots_filled, IsFu
 ghost use Rattle.sp_order.specs.Precedence.{leaves};
 ghost use Rattle.sp_order.specs.Preorder.{nodes_of};
 ghost use Rattle.batch_history.specs.Lawful.{Lawful};
-ghost use Rattle.core_table.specs.Shows.{IsFront, St as TableState};
+ghost use Rattle.core_table.specs.Shows.{IsFront, events_by, St as TableState};
 ghost use Rattle.core_table.specs.Passes.{IsPassOf, job_in, tree_in, acts_in, view};
 ghost use Rattle.core_table.specs.Closing.{RowInWords, IsReportOfTable};
+ghost use Rattle.core_model.specs.Reports.{IsRunFrom};
+ghost use Rattle.core_model.specs.State.{opening_core};
+ghost use mathlib.Core.Option.{some};
+ghost use lib.ListN.{get_elem?};
 ghost use Rattle.core_table.specs.Code.Rows.{HasSlotsBelow};
 
 use crate::laws::laws_hold;
@@ -83,7 +87,11 @@ impl CoreTable {
             (record { shape = Some (tree_in self); acts = acts_in self })
             (job_in self).workers report) }
         ensures told { IfOk result (λ report. (t : TableState)
-            × IsReportOfTable self.setting t report) }
+            × IsReportOfTable self.setting t report
+            × ((id : ℕ) × (get_elem? t.views id ≡ some (view pass)))) }
+        ensures run { IfOk result (λ report.
+            (run : IsRunFrom (job_in self) (leaves (tree_in self)) opening_core report)
+            × (events_by (view pass).from run.trace ≡ (view pass).events)) }
         ensures seen { IfOk result (λ report. IsFront (view pass).book_seen report.history) }
     {
         laws_hold();

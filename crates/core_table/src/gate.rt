@@ -1,7 +1,7 @@
 //! The calls of the gate: how a worker's call comes into a batch, and its receipt back.
 ghost use Rattle.std.specs.Prelude.{List, ◌≡◌, ◌≢◌, ℕ, ◌+◌, ◌<◌, ◌≤◌, ◌^◌, ◌∷◌, [], true, false, None, Some, IfSome, IfNone, IfOk, IfErr, length};
 ghost use Rattle.batch_history.specs.declared.batch.Entry.{Entry};
-ghost use Rattle.core_table.specs.CoreWords.{NotCalled};
+ghost use Rattle.core_table.specs.CoreWords.{NotCalled, Started, Post as PostOf, Win as WinOf, Take as TakeOf, Publish as PublishOf, Answer as AnswerOf, Release as ReleaseOf, Leave as LeaveOf};
 ghost use Rattle.core_model.specs.Measure.{call_count};
 ghost use Rattle.core_model.specs.Operations.{place_of, IsReceipt};
 ghost use Rattle.core_table.specs.declared.view.HoldView.{HoldView};
@@ -10,7 +10,7 @@ ghost use Rattle.core_table.specs.Shows.{IsRecordOf, record_in, among, entry_of,
 ghost use Rattle.core_model.specs.Entries.{StandsAt};
 ghost use Rattle.core_table.specs.Passes.{IsPassOf, job_in, view, IsTrapped};
 ghost use Rattle.core_table.specs.Batches.{IsPublishDue, IsReleaseDue};
-ghost use Rattle.core_table.specs.Views.{posting, winning, losing, leaving, staying, releasing, with_hold, taken_view, passing, published_view, answered_view};
+ghost use Rattle.core_table.specs.Views.{with_event, posting, winning, losing, leaving, staying, releasing, with_hold, taken_view, passing, published_view, answered_view};
 ghost use Rattle.core_table.specs.Plays.{IsNewCall};
 
 use crate::laws::laws_hold;
@@ -29,7 +29,8 @@ impl CoreTable {
         requires free { (view pass.old).call ≡ NotCalled }
         requires due { IsRecordOf (job_in self.now) (view pass.old).task call }
         ensures pass { IsPassOf self.now pass.new }
-        ensures posted { view pass.new ≡ posting (view pass.old) call }
+        ensures posted { (node : ℕ) × (start : ℕ) × ((view pass.old).task ≡ Started node start)
+            × (view pass.new ≡ with_event (posting (view pass.old) call) (PostOf node start)) }
     {
         laws_hold();
         let shared = &self.table.shared;
@@ -44,8 +45,11 @@ impl CoreTable {
         requires pass { IsPassOf self.now pass.old }
         requires trapped { IsTrapped pass.old }
         ensures pass { IsPassOf self.now pass.new }
-        ensures won { IfSome result (λ shop. view pass.new ≡ winning (view pass.old) shop) }
-        ensures lost { IfNone result (view pass.new ≡ losing (view pass.old)) }
+        ensures won { IfSome result (λ shop.
+            (view pass.new ≡ with_event (winning (view pass.old) shop) WinOf)
+            × IsFront (view pass.old).book_seen shop) }
+        ensures lost { IfNone result ((seen : ℕ) × (seen ≢ 0)
+            × (view pass.new ≡ losing (view pass.old) seen)) }
     {
         laws_hold();
         let shared = &self.table.shared;
@@ -71,7 +75,8 @@ impl CoreTable {
         ensures pass { IsPassOf self.now pass.new }
         ensures left { IfOk result (λ receipt.
             (call : CallRecord) × ((view pass.old).posted ≡ Some call)
-            × (book : List (List Entry)) × (view pass.new ≡ leaving (view pass.old) call receipt book)
+            × (book : List (List Entry)) × (view pass.new
+            ≡ with_event (leaving (view pass.old) call receipt book) (LeaveOf receipt))
             × IsFront (view pass.old).book_seen book
             × StandsAt book receipt.batch receipt.place
             (entry_of (view pass.new).from (record { call = call; receipt = receipt }))
@@ -97,17 +102,17 @@ impl CoreTable {
     /// Looks at worker u, and takes its call if that is pending.
     pub fn take(&self, pass: &mut Pass, u: u32) -> Result<OpRecord, u64>
         requires pass { IsPassOf self.now pass.old }
-        requires trapped { IsTrapped pass.old }
         requires low { u < (job_in self.now).workers }
         requires next { (h : HoldView) × ((view pass.old).hold ≡ Some h) × (u ≡ h.looks) }
         ensures pass { IsPassOf self.now pass.new }
         ensures took { IfOk result (λ call.
             (h : HoldView) × ((view pass.old).hold ≡ Some h)
             × IsNewCall (call_count (job_in self.now)) h call
-            × (view pass.new ≡ with_hold (view pass.old) (taken_view h u call))) }
+            × (view pass.new
+            ≡ with_event (with_hold (view pass.old) (taken_view h u call)) (TakeOf u))) }
         ensures passed { IfErr result (λ seen. (seen ≢ 1)
             × ((h : HoldView) × ((view pass.old).hold ≡ Some h)
-            × (view pass.new ≡ passing (view pass.old) h seen))) }
+            × (view pass.new ≡ with_event (passing (view pass.old) h seen) (TakeOf u)))) }
     {
         laws_hold();
         let shared = &self.table.shared;
@@ -127,12 +132,12 @@ impl CoreTable {
     /// The batch joins the book.
     pub fn publish(&self, pass: &mut Pass, batch: Batch)
         requires pass { IsPassOf self.now pass.old }
-        requires trapped { IsTrapped pass.old }
         requires due { (h : HoldView) × ((view pass.old).hold ≡ Some h)
             × IsPublishDue (job_in self.now).workers h batch }
         ensures pass { IsPassOf self.now pass.new }
         ensures published { (h : HoldView) × ((view pass.old).hold ≡ Some h)
-            × (view pass.new ≡ with_hold (view pass.old) (published_view h batch)) }
+            × (view pass.new
+            ≡ with_event (with_hold (view pass.old) (published_view h batch)) PublishOf) }
     {
         laws_hold();
         let shared = &self.table.shared;
@@ -151,14 +156,14 @@ impl CoreTable {
     /// Hands worker u its receipt. Those that are owed one are answered in any order.
     pub fn answer(&self, pass: &mut Pass, u: u32, receipt: Receipt)
         requires pass { IsPassOf self.now pass.old }
-        requires trapped { IsTrapped pass.old }
         requires low { u < (job_in self.now).workers }
         requires due { (h : HoldView) × (call : CallRecord) × ((view pass.old).hold ≡ Some h)
             × (h.published ≡ true) × (record_in h.taken u ≡ Some call) × (among h.answered u ≡ false)
             × IsReceipt (place_of h.book call.leaf) receipt }
         ensures pass { IsPassOf self.now pass.new }
         ensures answered { (h : HoldView) × ((view pass.old).hold ≡ Some h)
-            × (view pass.new ≡ with_hold (view pass.old) (answered_view h u)) }
+            × (view pass.new
+            ≡ with_event (with_hold (view pass.old) (answered_view h u)) (AnswerOf u receipt)) }
     {
         laws_hold();
         let shared = &self.table.shared;
@@ -174,11 +179,10 @@ impl CoreTable {
     /// Lets go of the flag, where no call was taken, or all that were are answered.
     pub fn release(&self, pass: &mut Pass, shop: Shop)
         requires pass { IsPassOf self.now pass.old }
-        requires trapped { IsTrapped pass.old }
         requires due { (h : HoldView) × ((view pass.old).hold ≡ Some h)
             × IsReleaseDue (job_in self.now).workers h × (shop ≡ h.book) }
         ensures pass { IsPassOf self.now pass.new }
-        ensures released { view pass.new ≡ releasing (view pass.old) }
+        ensures released { view pass.new ≡ with_event (releasing (view pass.old)) ReleaseOf }
     {
         if pass.published {
             self.release_shop(pass, shop)
@@ -190,12 +194,11 @@ impl CoreTable {
     /// Where the hold has published: the shop goes home.
     fn release_shop(&self, pass: &mut Pass, shop: Shop)
         requires pass { IsPassOf self.now pass.old }
-        requires trapped { IsTrapped pass.old }
         requires published { pass.old.published ≡ true }
         requires due { (h : HoldView) × ((view pass.old).hold ≡ Some h)
             × IsReleaseDue (job_in self.now).workers h × (shop ≡ h.book) }
         ensures pass { IsPassOf self.now pass.new }
-        ensures released { view pass.new ≡ releasing (view pass.old) }
+        ensures released { view pass.new ≡ with_event (releasing (view pass.old)) ReleaseOf }
     {
         laws_hold();
         let shared = &self.table.shared;
@@ -207,12 +210,11 @@ impl CoreTable {
     /// Where it has not: the shop and the book go home.
     fn release_both(&self, pass: &mut Pass, shop: Shop)
         requires pass { IsPassOf self.now pass.old }
-        requires trapped { IsTrapped pass.old }
         requires unpublished { pass.old.published ≡ false }
         requires due { (h : HoldView) × ((view pass.old).hold ≡ Some h)
             × IsReleaseDue (job_in self.now).workers h × (shop ≡ h.book) }
         ensures pass { IsPassOf self.now pass.new }
-        ensures released { view pass.new ≡ releasing (view pass.old) }
+        ensures released { view pass.new ≡ with_event (releasing (view pass.old)) ReleaseOf }
     {
         laws_hold();
         let shared = &self.table.shared;

@@ -1,10 +1,11 @@
 //! The calls of the job side, and the looks.
-ghost use Rattle.std.specs.Prelude.{◌≡◌, ◌≢◌, ℕ, ◌+◌, ◌<◌, ◌≤◌, ◌∷◌, Some, IsTrue, IsFalse};
-ghost use Rattle.core_table.specs.CoreWords.{Idle, Run, Half, Started, Ended, Whole, Handed, Arrive as ArriveAt};
+ghost use Rattle.std.specs.Prelude.{◌≡◌, ◌≢◌, ℕ, ◌+◌, ◌%◌, ◌<◌, ◌≤◌, ◌∷◌, Some, IsTrue, IsFalse};
+ghost use Rattle.core_table.specs.CoreWords.{Event, Idle, Run, Half, Started, Ended, Whole, Handed, Arrive as ArriveAt, Claim as ClaimOf, Keep as KeepOf, FinishLeaf, ArriveFirst, ArriveSecond};
+ghost use Rattle.core_table.specs.JobEvents.{IsTickEvent, IsOpenEvent, IsFinishEvent, IsArrival};
 ghost use Rattle.core_model.specs.Operations.{leaf_of};
 ghost use Rattle.core_model.specs.Events.{value_in, task_after as next_task};
 ghost use Rattle.core_table.specs.Passes.{IsPassOf, job_in, view, IsNotTrapped, IsTickDue, IsOpenDue, IsFinishDue, IsFinished, IsArriveDue, opened_task};
-ghost use Rattle.core_table.specs.Views.{with_task, claiming, refusing, ticked, opening, keeping, seeing_done, seeing_undone, hearing, stopping, finding_stop, finding_none};
+ghost use Rattle.core_table.specs.Views.{with_event, with_task, claiming, refusing, ticked, opening, keeping, seeing_done, seeing_undone, hearing, stopping, finding_stop, finding_none};
 
 use crate::laws::laws_hold;
 use crate::plays::{
@@ -47,8 +48,11 @@ impl CoreTable {
         requires free { IsNotTrapped pass.old }
         requires idle { (view pass.old).task ≡ Idle }
         ensures pass { IsPassOf self.now pass.new }
-        ensures claimed { IsTrue result → view pass.new ≡ claiming (view pass.old) node }
-        ensures refused { IsFalse result → view pass.new ≡ refusing (view pass.old) node }
+        ensures claimed { IsTrue result → view pass.new
+            ≡ with_event (claiming (view pass.old) node) (ClaimOf node) }
+        ensures refused { IsFalse result → (seen : ℕ)
+            × (node < (job_in self.now).plan.count → seen ≢ 1)
+            × (view pass.new ≡ refusing (view pass.old) node seen) }
     {
         laws_hold();
         let shared = &self.table.shared;
@@ -70,7 +74,9 @@ impl CoreTable {
         requires free { IsNotTrapped pass.old }
         requires due { IsTickDue (job_in self.now) (view pass.old).task }
         ensures pass { IsPassOf self.now pass.new }
-        ensures drawn { view pass.new ≡ with_task (view pass.old) (ticked (view pass.old).task result) }
+        ensures drawn { (event : Event) × IsTickEvent (view pass.old).task event
+            × (view pass.new
+            ≡ with_event (with_task (view pass.old) (ticked (view pass.old).task result)) event) }
     {
         laws_hold();
         let at = self.setting.workers as usize + 2;
@@ -85,8 +91,10 @@ impl CoreTable {
         requires free { IsNotTrapped pass.old }
         requires due { IsOpenDue (job_in self.now) (view pass.old).task }
         ensures pass { IsPassOf self.now pass.new }
-        ensures opened { view pass.new ≡ opening (view pass.old) result
-            (opened_task (job_in self.now) (view pass.old).task) }
+        ensures opened { (event : Event)
+            × IsOpenEvent (job_in self.now).plan (view pass.old).task result event
+            × (view pass.new ≡ with_event (opening (view pass.old) result
+            (opened_task (job_in self.now) (view pass.old).task)) event) }
     {
         match pass.task {
             Task::Run(node) => self.open_block(pass, node),
@@ -102,8 +110,9 @@ impl CoreTable {
         requires run { (view pass.old).task ≡ Run node }
         requires due { IsOpenDue (job_in self.now) (Run node) }
         ensures pass { IsPassOf self.now pass.new }
-        ensures opened { view pass.new ≡ opening (view pass.old) result
-            (opened_task (job_in self.now) (Run node)) }
+        ensures opened { (event : Event) × IsOpenEvent (job_in self.now).plan (Run node) result event
+            × (view pass.new ≡ with_event (opening (view pass.old) result
+            (opened_task (job_in self.now) (Run node))) event) }
     {
         laws_hold();
         let shared = &self.table.shared;
@@ -128,7 +137,8 @@ impl CoreTable {
         requires free { IsNotTrapped pass.old }
         requires half { (view pass.old).task ≡ Half node }
         ensures pass { IsPassOf self.now pass.new }
-        ensures opened { view pass.new ≡ opening (view pass.old) result Idle }
+        ensures opened { (event : Event) × IsOpenEvent (job_in self.now).plan (Half node) result event
+            × (view pass.new ≡ with_event (opening (view pass.old) result Idle) event) }
     {
         laws_hold();
         let Kind::ParNode(left, _right) = self.setting.plan.kind(node) else {
@@ -146,7 +156,8 @@ impl CoreTable {
         requires whole { (view pass.old).task ≡ Whole node }
         requires due { IsOpenDue (job_in self.now) (Whole node) }
         ensures pass { IsPassOf self.now pass.new }
-        ensures opened { view pass.new ≡ opening (view pass.old) result Idle }
+        ensures opened { (event : Event) × IsOpenEvent (job_in self.now).plan (Whole node) result event
+            × (view pass.new ≡ with_event (opening (view pass.old) result Idle) event) }
     {
         laws_hold();
         let Move::OpenSecond(parent) = self.setting.plan.after(node) else {
@@ -170,7 +181,7 @@ impl CoreTable {
             (view pass.old).call ≡ Some value) }
         ensures pass { IsPassOf self.now pass.new }
         ensures kept { (n : ℕ) × (start : ℕ) × ((view pass.old).task ≡ Started n start)
-            × (view pass.new ≡ keeping (view pass.old) n start) }
+            × (view pass.new ≡ with_event (keeping (view pass.old) n start) (KeepOf n start value)) }
     {
         laws_hold();
         let Task::Started { node, start } = pass.task else {
@@ -189,8 +200,10 @@ impl CoreTable {
         requires free { IsNotTrapped pass.old }
         requires due { IsFinishDue (job_in self.now) (view pass.old).task }
         ensures pass { IsPassOf self.now pass.new }
-        ensures finished { (n : ℕ) × IsFinished (job_in self.now) (view pass.old).task n
-            × (view pass.new ≡ with_task (view pass.old) (next_task n)) }
+        ensures finished { (n : ℕ) × (event : Event)
+            × IsFinished (job_in self.now) (view pass.old).task n
+            × IsFinishEvent (job_in self.now).plan (view pass.old).task n event
+            × (view pass.new ≡ with_event (with_task (view pass.old) (next_task n)) event) }
     {
         match pass.task {
             Task::Ended { node, start, end } => self.finish_leaf(pass, node, start, end),
@@ -205,7 +218,8 @@ impl CoreTable {
         requires free { IsNotTrapped pass.old }
         requires ended { (view pass.old).task ≡ Ended node start end }
         ensures pass { IsPassOf self.now pass.new }
-        ensures finished { view pass.new ≡ with_task (view pass.old) (next_task node) }
+        ensures finished { view pass.new
+            ≡ with_event (with_task (view pass.old) (next_task node)) (FinishLeaf node start end) }
     {
         laws_hold();
         let at = self.setting.workers as usize + 4 + node as usize;
@@ -220,8 +234,9 @@ impl CoreTable {
         requires whole { (view pass.old).task ≡ Whole node }
         requires due { IsFinishDue (job_in self.now) (Whole node) }
         ensures pass { IsPassOf self.now pass.new }
-        ensures finished { (n : ℕ) × IsFinished (job_in self.now) (Whole node) n
-            × (view pass.new ≡ with_task (view pass.old) (next_task n)) }
+        ensures finished { (n : ℕ) × (event : Event) × IsFinished (job_in self.now) (Whole node) n
+            × IsFinishEvent (job_in self.now).plan (Whole node) n event
+            × (view pass.new ≡ with_event (with_task (view pass.old) (next_task n)) event) }
     {
         laws_hold();
         let Move::FinishParent(parent) = self.setting.plan.after(node) else {
@@ -237,7 +252,9 @@ impl CoreTable {
         requires free { IsNotTrapped pass.old }
         requires handed { (view pass.old).task ≡ Handed node }
         ensures pass { IsPassOf self.now pass.new }
-        ensures finished { view pass.new ≡ with_task (view pass.old) (next_task node) }
+        ensures finished { (event : Event)
+            × IsFinishEvent (job_in self.now).plan (Handed node) node event
+            × (view pass.new ≡ with_event (with_task (view pass.old) (next_task node)) event) }
     {
         laws_hold();
         let Kind::ParNode(_left, _right) = self.setting.plan.kind(node) else {
@@ -254,10 +271,14 @@ impl CoreTable {
         requires free { IsNotTrapped pass.old }
         requires due { IsArriveDue (job_in self.now) (view pass.old).task }
         ensures pass { IsPassOf self.now pass.new }
-        ensures first { IsFalse result → view pass.new ≡ with_task (view pass.old) Idle }
-        ensures second { IsTrue result → (n : ℕ) × (p : ℕ) × ((view pass.old).task ≡ Whole n)
+        ensures first { IsFalse result → (n : ℕ) × (p : ℕ) × (l : ℕ) × (r : ℕ)
             × ((job_in self.now).plan.after n ≡ ArriveAt p)
-            × (view pass.new ≡ with_task (view pass.old) (Handed p)) }
+            × IsArrival (job_in self.now).plan (view pass.old).task p l r n
+            × (view pass.new ≡ with_event (with_task (view pass.old) Idle) (ArriveFirst p l r n)) }
+        ensures second { IsTrue result → (n : ℕ) × (p : ℕ) × (l : ℕ) × (r : ℕ)
+            × ((job_in self.now).plan.after n ≡ ArriveAt p)
+            × IsArrival (job_in self.now).plan (view pass.old).task p l r n
+            × (view pass.new ≡ with_event (with_task (view pass.old) (Handed p)) (ArriveSecond p l r n)) }
     {
         laws_hold();
         let Task::Whole(node) = pass.task else {
@@ -281,7 +302,8 @@ impl CoreTable {
         requires pass { IsPassOf self.now pass.old }
         ensures pass { IsPassOf self.now pass.new }
         ensures done { IsTrue result → view pass.new ≡ seeing_done (view pass.old) }
-        ensures undone { IsFalse result → view pass.new ≡ seeing_undone (view pass.old) }
+        ensures undone { IsFalse result → (seen : ℕ) × (seen % 4 ≢ 3)
+            × (view pass.new ≡ seeing_undone (view pass.old) seen) }
     {
         laws_hold();
         let at = self.setting.workers as usize + 4;
@@ -315,7 +337,8 @@ impl CoreTable {
         requires pass { IsPassOf self.now pass.old }
         ensures pass { IsPassOf self.now pass.new }
         ensures set { IsTrue result → view pass.new ≡ finding_stop (view pass.old) }
-        ensures unset { IsFalse result → view pass.new ≡ finding_none (view pass.old) }
+        ensures unset { IsFalse result → (seen : ℕ) × (seen ≢ 1)
+            × (view pass.new ≡ finding_none (view pass.old) seen) }
     {
         laws_hold();
         let at = self.setting.workers as usize + 3;

@@ -1,5 +1,7 @@
 //! The laws of the table: what it uses of the layers below, and that each of its calls is its one event.
-ghost use Rattle.std.specs.Prelude.{◌≡◌, ◌<◌, ◌≤◌, ℕ, List, length};
+ghost use Rattle.std.specs.Prelude.{◌≡◌, ◌<◌, ◌+◌, ◌≤◌, ℕ, List, [], length, slice_index};
+ghost use mathlib.Core.Option.{some};
+ghost use lib.ListN.{get_elem?};
 ghost use Rattle.sp_order.specs.Precedence.{leaves};
 ghost use Rattle.core_table.specs.declared.setting.Setting.{Setting};
 ghost use Rattle.core_table.specs.declared.slot.Slot.{Slot};
@@ -8,7 +10,9 @@ ghost use Rattle.core_table.specs.Calls.{IsSound, IsViewOf, CallsAreEvents};
 ghost use Rattle.core_table.specs.Code.Laws.{Laws};
 ghost use Rattle.core_table.specs.Shows.{St as TableState, Shown, job_of, IsFront};
 ghost use Rattle.core_table.specs.OneState.{AreOne};
+ghost use Rattle.core_table.specs.Words.{stop_at};
 ghost use Rattle.core_model.specs.Entries.{StandsAt};
+ghost use Rattle.core_model.specs.State.{opening_state};
 ghost use Rattle.batch_history.specs.declared.batch.Entry.{Entry};
 
 pub use crate::sending::tables_go_to_threads;
@@ -72,4 +76,28 @@ pub fn entries_stay_where_they_stand()
         → IsFront front book
         → StandsAt front batch place entry
         → StandsAt book batch place entry }
+{}
+
+/// A table in which each worker has a seat without events shows the opening state. So a table that was just made does: on
+/// it no leaf has run.
+pub fn tables_without_events_show_the_opening_state()
+    ensures { (key : Setting) (t : TableState) (shown : Shown key t)
+        → ((w : ℕ) → w < key.workers → (id : ℕ) × (v : View) × (get_elem? t.views id ≡ some v)
+        × (v.from ≤ w) × (w < v.to) × (v.events ≡ []))
+        → shown.state ≡ opening_state }
+{}
+
+/// The stop word is 0 until a pass sets it, and 1 from then on. So a look finds it set only where some pass has set it.
+pub fn the_stop_word_is_set_by_a_pass()
+    ensures found { (key : Setting) (t : TableState) (shown : Shown key t) (id : ℕ) (v : View)
+        → get_elem? t.views id ≡ some v
+        → 0 < v.stops_found
+        → (by : ℕ) × (u : View) × (get_elem? t.views by ≡ some u) × (0 < u.stops) }
+    ensures stays { (key : Setting) (t : TableState) (shown : Shown key t) (id : ℕ) (v : View)
+        → get_elem? t.views id ≡ some v
+        → 0 < v.stops
+        → slice_index t.words (stop_at key.workers) ≡ 1 }
+    ensures unset { (key : Setting) (t : TableState) (shown : Shown key t)
+        → ((id : ℕ) (v : View) → get_elem? t.views id ≡ some v → v.stops ≡ 0)
+        → slice_index t.words (stop_at key.workers) ≡ 0 }
 {}

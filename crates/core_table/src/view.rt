@@ -2,7 +2,8 @@
 
 use crate::slot::OpRecord;
 use batch_history::Entry;
-use core_model::{CallState, Receipt, Task};
+use core_model::{CallState, Event, Receipt, Task};
+use sp_order::Plan;
 use std::collections::LinkedList;
 
 /// A call that the holder of the flag took, with its worker.
@@ -42,6 +43,8 @@ pub struct View {
     pub workers: u64,
     pub nodes: u64,
     pub room: u64,
+    /// The nodes of the job: with the task they tell which event a step is.
+    pub plan: Plan,
     pub task: Task,
     pub call: CallState,
     /// What it posted last.
@@ -66,7 +69,8 @@ pub struct View {
     pub wins: u64,
     pub refused_wins: u64,
     pub refused_leaves: u64,
-    /// The status that it found last where its leave was refused, or where its look took no call.
+    /// The word that its latest refused try found, or its latest look that took no call, found the root not done, or found
+    /// the stop word not set.
     pub found: u64,
     /// How often it set the stop word, how often it looked at it, and how often it then found it set.
     pub stops: u64,
@@ -82,6 +86,8 @@ pub struct View {
     /// step asked for the number of batches.
     pub just_posted: bool,
     pub first_since: Option<u64>,
-    /// The longest beginning of the book that it has seen: at each leave it sees the whole book.
+    /// The longest beginning of the book that it has seen: it sees the whole book at each leave and at each release.
     pub book_seen: LinkedList<LinkedList<Entry>>,
+    /// The events of the core that its steps were, the latest first.
+    pub events: LinkedList<Event>,
 }

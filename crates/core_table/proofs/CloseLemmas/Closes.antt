@@ -12,7 +12,7 @@ use Rattle.core_table.specs.declared.slot.Slot.{Slot}
 use Rattle.core_table.specs.declared.slot.Slot.TheVariants as Slots
 use Rattle.core_table.specs.Words.{WordsShow, progress_code}
 use Rattle.core_table.specs.Code.Laws.{Laws}
-use Rattle.core_table.specs.Shows.{St, reserved, BookAt, IsFront, Shows}
+use Rattle.core_table.specs.Shows.{St, reserved, BookAt, IsFront, events_by, Shows}
 
 -- the parts of the word of a leaf that has run
 pub worker_of : (w s e : ℕ) → w < 32 → progress_code (Ran w s e) / 4 % 32 ≡ w
@@ -41,6 +41,9 @@ pub record Last (job : CoreJob) (room : ℕ) (v : View) (ws : List ℕ) (xs : Li
   pub words : WordsShow job.workers job.plan.count ws state.node state.mark state.value state.status state.hold state.tick (length state.book)
   pub there : get_elem? xs (job.workers + 1) ≡ some (Slots.Book (reserved state.book room))
   pub seen : IsFront v.book_seen state.book
+  pub seat : ℕ
+  pub at : get_elem? table.views seat ≡ some v
+  pub own : events_by v.from shown.trace ≡ v.events
 
 pub closes : (job : CoreJob) (room id k : ℕ) (laws : Laws job) (v : View) (ws : List ℕ) (xs : List Slot) → Final (Seen (Shows job room) id v) ws xs → v.from ≡ k → v.to ≡ k + 1 → v.saw_done ≡ true → Last job room v ws xs
 closes job room id k laws v ws xs f from to saw =
@@ -61,4 +64,7 @@ closes job room id k laws v ws xs f from to saw =
       words = subst (λ (l : List ℕ). WordsShow job.workers job.plan.count l o.state.node o.state.mark o.state.value o.state.status o.state.hold o.state.tick (length o.state.book)) f.2 o.words;
       there = f.4 (job.workers + 1) (Slots.Book (reserved o.state.book room)) book;
       seen = mine.seen;
+      seat = id;
+      at = f.1.1;
+      own = o.events id v v.from f.1.1 (omega arith) (omega arith);
     }

@@ -6,6 +6,7 @@ use Rattle.core_table.specs.declared.view.View.{View}
 use Rattle.core_table.specs.declared.slot.Slot.{Slot}
 use Rattle.core_table.specs.declared.slot.Slot.TheVariants as Slots
 use Rattle.core_table.specs.declared.setting.Setting.{Setting}
+use Rattle.sp_order.specs.Preorder.{nodes_of}
 use Rattle.core_table.specs.Shows.{job_of}
 use Rattle.core_table.specs.Plays.{Sat}
 use Rattle.core_table.specs.Views.{enrolling, pass_of}
@@ -42,4 +43,5 @@ new_pass setting table k seat low same is = (
   ap (λ (m : Sat). m.0.room) is,
   subst (Carries k) (sym is) (carries_new k setting),
   subst (λ (m : Sat). Remembers m.0 [] false) (sym is) (remembers_none (fresh k setting) [] false refl refl),
+  ap (λ (m : Sat). nodes_of m.0.plan) is,
 )

@@ -1,10 +1,12 @@
 -- A pass stays one of its table, where its view changes in what is not the table's.
-use Rattle.std.proofs.Common.{ℕ, ◌≡◌, ◌+◌, Bool, true, false, None, Some, List, [], ◌∷◌, ◌++◌, get_or, refl, sym, ap, ◌∙◌, subst}
+use Rattle.std.proofs.Common.{ℕ, ◌≡◌, ◌≢◌, ◌+◌, Bool, true, false, None, Some, List, [], ◌∷◌, ◌++◌, get_or, refl, sym, ap, ◌∙◌, subst}
 use Rattle.std.proofs.lemmas.List.{map-append}
+use Rattle.sp_order.specs.Preorder.{nodes_of}
 use Rattle.atomic_table.specs.Table.{turned, rest}
 use Rattle.atomic_table.specs.Seated.{TableId}
 use Rattle.atomic_table.specs.declared.shared.Seat.{Seat}
-use Rattle.core_model.specs.declared.status.CallState.TheVariants.{Out}
+use Rattle.core_model.specs.declared.status.CallState.TheVariants.{NotCalled, Out, Got}
+use Rattle.core_model.specs.declared.status.CallState.{CallState}
 use Rattle.core_table.specs.declared.view.View.{View}
 use Rattle.core_table.specs.declared.view.HoldView.{HoldView}
 use Rattle.core_table.specs.declared.slot.Slot.{Slot}
@@ -15,7 +17,8 @@ use Rattle.batch_history.specs.Reserved.{ReservedView}
 use Rattle.core_table.specs.declared.slot.OpRecord.{OpRecord}
 use Rattle.batch_history.specs.declared.batch.Entry.{Entry}
 use Rattle.core_table.specs.Plays.{Sat}
-use Rattle.core_table.specs.Views.{without_first, posting, winning, with_hold, taken_view, passed_view, passing, published_view, answered_view, releasing}
+use Rattle.core_table.specs.CoreWords.{Event, Receipt, Win, Take, Publish, Answer, Release}
+use Rattle.core_table.specs.Views.{with_event, without_first, posting, winning, with_hold, taken_view, passed_view, passing, published_view, answered_view, releasing}
 use Rattle.core_table.specs.Carries.{vacant, HolderCarries, Carries}
 use Rattle.core_table.specs.Remembers.{Remembers}
 use Rattle.core_table.proofs.ListLemmas.Owed.{remembers_kept}
@@ -34,9 +37,9 @@ carries_kept k v w xs workers room call hold m = record {
 
 -- the views of a pass before and after a step that is not of the gate
 pub pass_kept : {owed : List ℕ} {published : Bool} (setting : Setting) (table : TableId) (k : ℕ) (old new : Seat Slot View) (w : View) → new.table_id ≡ old.table_id → new.me ≡ (w, old.me.1)
-    → w.workers ≡ old.me.0.workers → w.nodes ≡ old.me.0.nodes → w.room ≡ old.me.0.room → w.enrolled ≡ old.me.0.enrolled → w.task ≡ old.me.0.task → w.call ≡ old.me.0.call → w.hold ≡ old.me.0.hold
+    → w.workers ≡ old.me.0.workers → w.nodes ≡ old.me.0.nodes → w.room ≡ old.me.0.room → w.enrolled ≡ old.me.0.enrolled → w.task ≡ old.me.0.task → w.call ≡ old.me.0.call → w.hold ≡ old.me.0.hold → w.plan ≡ old.me.0.plan
     → IsSeatOf setting table k old owed published → IsSeatOf setting table k new owed published
-pass_kept {owed} {published} setting table k old new w same is workers nodes room enrolled task call hold p = (
+pass_kept {owed} {published} setting table k old new w same is workers nodes room enrolled task call hold plan p = (
   same ∙ p.0,
   p.1,
   ap (λ (m : Sat). m.0.workers) is ∙ (workers ∙ p.2),
@@ -46,13 +49,14 @@ pass_kept {owed} {published} setting table k old new w same is workers nodes roo
   ap (λ (m : Sat). m.0.room) is ∙ (room ∙ p.6),
   subst (Carries k) (sym is) (carries_kept k old.me.0 w old.me.1 workers room call hold p.7),
   remembers_kept old.me.0 new.me.0 owed published (ap (λ (m : Sat). m.0.hold) is ∙ hold) p.8,
+  ap nodes_of (ap (λ (m : Sat). m.0.plan) is ∙ plan) ∙ p.9,
 )
 
 -- a pass of the gate: its view and its slots are those
 pub pass_made : {owed owed' : List ℕ} {published published' : Bool} (setting : Setting) (table : TableId) (k : ℕ) (old new : Seat Slot View) (w : View) (xs : List (ℕ × Slot)) → new.table_id ≡ old.table_id → new.me ≡ (w, xs)
-    → w.workers ≡ old.me.0.workers → w.nodes ≡ old.me.0.nodes → w.room ≡ old.me.0.room → w.enrolled ≡ old.me.0.enrolled → w.task ≡ old.me.0.task → Carries k (w, xs) → Remembers w owed' published'
+    → w.workers ≡ old.me.0.workers → w.nodes ≡ old.me.0.nodes → w.room ≡ old.me.0.room → w.enrolled ≡ old.me.0.enrolled → w.task ≡ old.me.0.task → w.plan ≡ old.me.0.plan → Carries k (w, xs) → Remembers w owed' published'
     → IsSeatOf setting table k old owed published → IsSeatOf setting table k new owed' published'
-pass_made {owed} {owed'} {published} {published'} setting table k old new w xs same is workers nodes room enrolled task carries remembers p = (
+pass_made {owed} {owed'} {published} {published'} setting table k old new w xs same is workers nodes room enrolled task plan carries remembers p = (
   same ∙ p.0,
   p.1,
   ap (λ (m : Sat). m.0.workers) is ∙ (workers ∙ p.2),
@@ -62,6 +66,7 @@ pass_made {owed} {owed'} {published} {published'} setting table k old new w xs s
   ap (λ (m : Sat). m.0.room) is ∙ (room ∙ p.6),
   subst (Carries k) (sym is) carries,
   subst (λ (m : Sat). Remembers m.0 owed' published') (sym is) remembers,
+  ap nodes_of (ap (λ (m : Sat). m.0.plan) is ∙ plan) ∙ p.9,
 )
 
 -- what stands first in a seat's list
@@ -83,8 +88,8 @@ pub same_hold : (a b : HoldView) → Some a ≡ Some b → a ≡ b
 same_hold a b e = cc
 
 -- a pass that has just posted
-pub carries_posted : (k : ℕ) (v : View) (call : OpRecord) → v.hold ≡ None → Carries k (posting v call, [])
-carries_posted k v call nothing = record {
+pub carries_posted : (k : ℕ) (v : View) (call : OpRecord) (event : Event) → v.hold ≡ None → Carries k (with_event (posting v call) event, [])
+carries_posted k v call event nothing = record {
   free = λ ne. absurd (ne refl);
   trapped = λ _ _. refl;
   holds = λ h is. absurd (none_out h (sym nothing ∙ is));
@@ -92,18 +97,18 @@ carries_posted k v call nothing = record {
 
 -- a pass that has just won
 pub carries_won : (k workers : ℕ) (v : View) (history : List (List Entry)) → v.call ≡ Out → v.workers ≡ workers
-    → Carries k (winning v history, (workers + 1, Slots.Book (reserved history v.room)) ∷ (workers, Slots.Vacant) ∷ [])
+    → Carries k (with_event (winning v history) Win, (workers + 1, Slots.Book (reserved history v.room)) ∷ (workers, Slots.Vacant) ∷ [])
 carries_won k workers v history out wide = record {
   free = λ ne. absurd (ne out);
   trapped = λ _ e. absurd (cc);
-  holds = λ h is. subst (λ (z : HoldView). HolderCarries z.published (winning v history) z ((workers + 1, Slots.Book (reserved history v.room)) ∷ (workers, Slots.Vacant) ∷ [])) (same_hold _ h is)
+  holds = λ h is. subst (λ (z : HoldView). HolderCarries z.published (with_event (winning v history) Win) z ((workers + 1, Slots.Book (reserved history v.room)) ∷ (workers, Slots.Vacant) ∷ [])) (same_hold _ h is)
       (rw wide refl);
 }
 
 -- a holder that has taken one more
-pub carries_took : (k u : ℕ) (v : View) (h : HoldView) (call : OpRecord) (xs : List (ℕ × Slot)) → v.call ≡ Out → v.hold ≡ Some h → h.published ≡ false → Carries k (v, xs) → Carries k (with_hold v (taken_view h u call), xs ++ (u, Slots.Vacant) ∷ [])
+pub carries_took : (k u : ℕ) (v : View) (h : HoldView) (call : OpRecord) (xs : List (ℕ × Slot)) → v.call ≡ Out → v.hold ≡ Some h → h.published ≡ false → Carries k (v, xs) → Carries k (with_event (with_hold v (taken_view h u call)) (Take u), xs ++ (u, Slots.Vacant) ∷ [])
 carries_took k u v h call xs out is early m =
-    let w : View = with_hold v (taken_view h u call) in
+    let w : View = with_event (with_hold v (taken_view h u call)) (Take u) in
     let was : HolderCarries false v h xs = subst (λ (b : Bool). HolderCarries b v h xs) early (m.holds h is) in record {
       free = λ ne. absurd (ne out);
       trapped = λ _ e. absurd (cc);
@@ -112,9 +117,9 @@ carries_took k u v h call xs out is early m =
           (ap (λ l. l ++ (u, Slots.Vacant) ∷ []) was ∙ rw map-append refl));
     }
 
-pub carries_passed : (k : ℕ) (v : View) (h : HoldView) (status : ℕ) (xs : List (ℕ × Slot)) → v.call ≡ Out → v.hold ≡ Some h → Carries k (v, xs) → Carries k (passing v h status, xs)
-carries_passed k v h status xs out is m =
-    let w : View = passing v h status in record {
+pub carries_passed : (k u : ℕ) (v : View) (h : HoldView) (status : ℕ) (xs : List (ℕ × Slot)) → v.call ≡ Out → v.hold ≡ Some h → Carries k (v, xs) → Carries k (with_event (passing v h status) (Take u), xs)
+carries_passed k u v h status xs out is m =
+    let w : View = with_event (passing v h status) (Take u) in record {
       free = λ ne. absurd (ne out);
       trapped = λ _ e. absurd (cc);
       holds = λ g f. subst (λ (z : HoldView). HolderCarries z.published w z xs) (same_hold _ g f) (elim h.published as (λ (b : Bool). HolderCarries b v h xs → HolderCarries b w (passed_view h) xs) [ false ↦ λ y. y | true ↦ λ y. y ] (m.holds h is));
@@ -122,9 +127,9 @@ carries_passed k v h status xs out is m =
 
 -- a holder that has published
 pub carries_published : (k workers : ℕ) (v : View) (h : HoldView) (batch : List Entry) → v.call ≡ Out → v.workers ≡ workers
-    → Carries k (with_hold v (published_view h batch), vacant h.owed ++ (workers, Slots.Vacant) ∷ [])
+    → Carries k (with_event (with_hold v (published_view h batch)) Publish, vacant h.owed ++ (workers, Slots.Vacant) ∷ [])
 carries_published k workers v h batch out wide =
-    let w : View = with_hold v (published_view h batch) in record {
+    let w : View = with_event (with_hold v (published_view h batch)) Publish in record {
       free = λ ne. absurd (ne out);
       trapped = λ _ e. absurd (cc);
       holds = λ g f. subst (λ (z : HoldView). HolderCarries z.published w z (vacant h.owed ++ (workers, Slots.Vacant) ∷ [])) (same_hold _ g f) (rw wide refl);
@@ -145,20 +150,29 @@ found_book m v k x b xs ys e f = ap (λ (l : List (ℕ × Slot)). (get_or l 0 (k
 pub books : (a b : ReservedView) → Slots.Book a ≡ Slots.Book b → a ≡ b
 books a b e = cc
 
+-- a pass that has the flag is trapped
+out_by : (call : CallState) → ((call ≢ Out) → ⊥) → call ≡ Out
+out_by NotCalled out = absurd (out (λ e. cc))
+out_by Out out = refl
+out_by (Got receipt) out = absurd (out (λ e. cc))
+
+pub held_out : (k : ℕ) (me : Sat) (h : HoldView) → Carries k me → me.0.hold ≡ Some h → me.0.call ≡ Out
+held_out k me h carries holds = out_by me.0.call (λ ne. let clash : Some h ≡ None = sym holds ∙ (carries.free ne).0 in absurd (cc))
+
 -- and of one that has published
 pub holder_after : (k workers : ℕ) (me : Sat) (h : HoldView) (owed : List ℕ) → me.0.hold ≡ Some h → h.published ≡ true → h.owed ≡ owed → me.0.workers ≡ workers → Carries k me → me ≡ (me.0, vacant owed ++ (workers, Slots.Vacant) ∷ [])
 holder_after k workers me h owed is there same wide m =
     let t : HolderCarries true me.0 h me.1 = subst (λ (b : Bool). HolderCarries b me.0 h me.1) there (m.holds h is) in
     let l = t ∙ (ap (λ (o : List ℕ). vacant o ++ (me.0.workers, Slots.Vacant) ∷ []) same ∙ ap (λ (n : ℕ). vacant owed ++ (n, Slots.Vacant) ∷ []) wide) in λ i. (me.0, l i)
 
-pub carries_answered : (k workers u : ℕ) (v : View) (h : HoldView) → v.call ≡ Out → v.workers ≡ workers → h.published ≡ true
-    → Carries k (with_hold v (answered_view h u), vacant (without_first u h.owed) ++ (workers, Slots.Vacant) ∷ [])
-carries_answered k workers u v h out wide there =
-    let w : View = with_hold v (answered_view h u) in let xs = vacant (without_first u h.owed) ++ (workers, Slots.Vacant) ∷ [] in record {
+pub carries_answered : (k workers u : ℕ) (v : View) (h : HoldView) (receipt : Receipt) → v.call ≡ Out → v.workers ≡ workers → h.published ≡ true
+    → Carries k (with_event (with_hold v (answered_view h u)) (Answer u receipt), vacant (without_first u h.owed) ++ (workers, Slots.Vacant) ∷ [])
+carries_answered k workers u v h receipt out wide there =
+    let w : View = with_event (with_hold v (answered_view h u)) (Answer u receipt) in let xs = vacant (without_first u h.owed) ++ (workers, Slots.Vacant) ∷ [] in record {
       free = λ ne. absurd (ne out);
       trapped = λ _ e. absurd (cc);
       holds = λ g f. subst (λ (z : HoldView). HolderCarries z.published w z xs) (same_hold _ g f) (subst (λ (b : Bool). HolderCarries b w (answered_view h u) xs) (sym there) (rw wide refl));
     }
 
-pub carries_released : (k : ℕ) (v : View) → v.call ≡ Out → Carries k (releasing v, [])
+pub carries_released : (k : ℕ) (v : View) → v.call ≡ Out → Carries k (with_event (releasing v) Release, [])
 carries_released k v out = record { free = λ ne. absurd (ne out); trapped = λ _ _. refl; holds = λ g f. absurd (cc) }

@@ -1,5 +1,5 @@
 -- The table at the start, how the first seat is cut into passes, and how a pass takes its record slot.
-use Rattle.std.proofs.Common.{ℕ, zero, suc, ◌≡◌, ◌≢◌, ◌<◌, ◌≤◌, ◌+◌, ◌⊎◌, false, Option as Maybe, None, List, [], ◌∷◌, ◌++◌, map, length, replicate, get_or, set, arith, refl, sym, ap, ◌∙◌, subst, inl, inr, ⊎_elim, length-set, length-append}
+use Rattle.std.proofs.Common.{ℕ, zero, suc, ◌≡◌, ◌≢◌, ◌<◌, ◌≤◌, ◌+◌, ◌⊎◌, false, Option as Maybe, None, List, [], ◌∷◌, ◌++◌, map, length, replicate, get_or, set, arith, refl, sym, ap, ◌∙◌, subst, inl, inr, ⊎_elim, length-set, length-append, get_or-set_other}
 use Rattle.std.proofs.lemmas.List.{length-map, length-replicate}
 use Rattle.std.proofs.lemmas.Bool.{cases_eq}
 use mathlib.Core.Option.{none, some, some-injective, some-ne-none}
@@ -18,7 +18,12 @@ use Rattle.core_table.specs.Words.{node_at, WordsShow}
 use Rattle.core_table.specs.Code.Laws.{Laws}
 use Rattle.batch_history.specs.declared.batch.Entry.{Entry}
 use Rattle.batch_history.specs.Reserved.{ReservedView}
-use Rattle.core_table.specs.Shows.{reserved, Home, RecordAt, Mine, HasSeat, Shows}
+use Rattle.core_table.specs.CoreWords.{Tree}
+use Rattle.core_model.specs.State.{opening_core}
+use Rattle.core_model.specs.Runs.{Step}
+use Rattle.core_table.specs.Words.{stop_at}
+use Rattle.core_table.proofs.TableLemmas.Traces.{agree_still, stop_still, stop_cut}
+use Rattle.core_table.specs.Shows.{reserved, Home, RecordAt, Mine, HasSeat, EventsAgree, StopShows, Shows}
 use Rattle.core_table.specs.Views.{newcomer}
 use Rattle.core_table.specs.Plays.{enrolled}
 use Rattle.core_table.specs.Views.{enrolling, pass_of, rest_of}
@@ -67,6 +72,40 @@ seat_cut views id x seat v me h =
       ]
     ]
 
+-- the events are those of each half
+agree_cut : (views : List View) (id : ℕ) (v : View) (steps : List Step) → get_elem? views id ≡ some v → v.from < v.to → EventsAgree views steps → EventsAgree (set views id (rest_of v) ++ pass_of v ∷ []) steps
+agree_cut views id v steps me some_left old i u x e lo hi = ⊎_elim
+    (λ q. ⊎_elim
+    (λ r.
+    let lo' : v.from + 1 ≤ x = subst (λ (y : View). y.from ≤ x) (sym r.1) lo in
+    let hi' : x < v.to = subst (λ (y : View). x < y.to) (sym r.1) hi in
+    old id v x me (omega arith) hi' ∙ ap (λ (y : View). y.events) r.1)
+    (λ r. old i u x r.1 lo hi)
+    (at_set views id i (rest_of v) u q))
+    (λ q.
+    let lo' : v.from ≤ x = subst (λ (y : View). y.from ≤ x) (sym q.0) lo in
+    let hi' : x < v.from + 1 = subst (λ (y : View). x < y.to) (sym q.0) hi in
+    old id v x me lo' (omega arith) ∙ ap (λ (y : View). y.events) q.0)
+    (at_snoc_at (set views id (rest_of v)) (pass_of v) u i e)
+
+-- and so is what it has set
+stop_both : (views : List View) (id : ℕ) (v : View) (word : ℕ) → get_elem? views id ≡ some v → StopShows word views → StopShows word (set views id (rest_of v) ++ pass_of v ∷ [])
+stop_both views id v word me =
+    stop_cut views id v (rest_of v) (pass_of v) word
+    (λ i u e. ⊎_elim
+    (λ q. ⊎_elim
+    (λ r. (id, v, me, ap (λ (y : View). y.stops) (sym r.1), ap (λ (y : View). y.stops_found) (sym r.1)))
+    (λ r. (i, u, r.1, refl, refl))
+    (at_set views id i (rest_of v) u q))
+    (λ q. (id, v, me, ap (λ (y : View). y.stops) (sym q.0), ap (λ (y : View). y.stops_found) (sym q.0)))
+    (at_snoc_at (set views id (rest_of v)) (pass_of v) u i e))
+    (λ i u e. elim (cases_eq i id) [
+      | inl is ↦
+          let same : u ≡ v = some-injective _ _ (sym e ∙ (ap (λ (j : ℕ). get_elem? views j) is ∙ me)) in
+          (id, rest_of v, at_longer (set views id (rest_of v)) (pass_of v ∷ []) id (rest_of v) (set_here views id (rest_of v) (at_below views id v me)), ap (λ (y : View). y.stops) (sym same))
+      | inr ne ↦ (i, u, at_longer (set views id (rest_of v)) (pass_of v ∷ []) i u (set_else views id i (rest_of v) ne ∙ e), refl)
+    ])
+
 -- a pass is cut off
 pub cuts : (job : CoreJob) (room id : ℕ) (v : View) → v.from < v.to → Splits (Shows job room) id v (rest_of v) (pass_of v)
 cuts job room id v some_left t o me =
@@ -104,6 +143,11 @@ cuts job room id v some_left t o me =
           ))
           (at_snoc_at (set t.views id (rest_of v)) (pass_of v) u i e);
       seats = λ x low. seat_cut t.views id x o.seat v me (o.seats x low);
+      trace = o.trace;
+      ready = o.ready;
+      reached = o.reached;
+      events = agree_cut t.views id v o.trace me some_left o.events;
+      stop = stop_both t.views id v (get_or t.words (stop_at job.workers) 0) me o.stop;
     }
 
 -- a pass takes its own record slot
@@ -160,6 +204,11 @@ enrols job room slots id j v xs k from to fresh t o wide me fits =
             (was.0, subst (λ (h : Home). Mine job s h (o.seat x) i u x) (sym (set_else t.homes k x none ne)) was.1))
             (at_set t.views id i w u e);
         seats = λ x low. seat_stays t.views id k v w me from to from to (o.seat x) x (o.seats x low);
+        trace = o.trace;
+        ready = o.ready;
+        reached = o.reached;
+        events = agree_still t.views id k v w o.trace me from to from to refl o.events;
+        stop = stop_still t.views id v w (get_or t.words (stop_at job.workers) 0) (get_or t.words (stop_at job.workers) 0) (at_below t.views id v me) me refl refl (λ h. inl h) o.stop;
       },
       ap (λ (y : ℕ). (enrolling v, (y, Slots.Vacant) ∷ xs)) (sym from),
     )
@@ -199,10 +248,10 @@ blank P N =
       values = λ n low. tt;
     }
 
-pub starts : (job : CoreJob) (room : ℕ) (laws : Laws job) (words : List ℕ) → words ≡ set (replicate (job.workers + 4 + job.plan.count + job.plan.count + job.plan.count) 0) (node_at job.workers 0) 1
-    → Shows job room (opening words (replicate job.workers Slots.Vacant ++ Slots.Shop [] ∷ Slots.Book (reserved [] room) ∷ []) (newcomer job.workers job.plan.count room))
-unfolding opening_state
-starts job room laws words are =
+pub starts : (job : CoreJob) (room : ℕ) (tree : Tree) (laws : Laws job) (words : List ℕ) → words ≡ set (replicate (job.workers + 4 + job.plan.count + job.plan.count + job.plan.count) 0) (node_at job.workers 0) 1
+    → Shows job room (opening words (replicate job.workers Slots.Vacant ++ Slots.Shop [] ∷ Slots.Book (reserved [] room) ∷ []) (newcomer tree job.workers job.plan.count room))
+unfolding opening_state opening_core
+starts job room tree laws words are =
     let shop : List (List Entry) = [] in
     let book = reserved [] room in
     let P = job.workers in
@@ -219,7 +268,7 @@ starts job room laws words are =
         shop = fill_shop P shop book;
         batches = ap (λ (m : ℕ). get_elem? (map some slots) m) (omega arith) ∙ fill_book P shop book;
       };
-      views = λ i u w e lo hi. let t = only u (newcomer P N room) i e in
+      views = λ i u w e lo hi. let t = only u (newcomer tree P N room) i e in
           let hi' : w < P = subst (λ (y : View). w < y.to) (sym t.1) hi in (
             hi',
             subst (λ (y : View). Mine job opening_state (get_elem? (map some slots) w) 0 i y w) t.1 record {
@@ -229,13 +278,24 @@ starts job room laws words are =
               posted = λ f. absurd (cc);
               hold = λ h f. absurd (cc);
               entries = refl;
-              new = λ f. (fill P w shop book hi', refl, refl);
+              new = λ f. (fill P w shop book hi', refl, refl, refl);
               done = λ f. absurd (cc);
               seen = ([], refl);
               since = record { most = omega arith; early = omega arith; late = λ n f. absurd (cc); placed = λ p f. absurd (cc); waits = λ n f. absurd (cc) };
             },
           );
-      seats = λ w low. (newcomer P N room, refl, omega arith, low);
+      seats = λ w low. (newcomer tree P N room, refl, omega arith, low);
+      trace = [];
+      ready = opening_core.ready;
+      reached = refl;
+      events = λ i u w e lo hi. ap (λ (y : View). y.events) (only u (newcomer tree P N room) i e).1;
+      stop = let unset : get_or words (stop_at P) 0 ≡ 0 = ap (λ (ws : List ℕ). get_or ws (stop_at P) 0) are
+          ∙ (get_or-set_other (replicate (P + 4 + N + N + N) 0) (node_at P 0) (stop_at P) 1 0 (λ e. omega arith) ∙ zeros (P + 4 + N + N + N) (stop_at P)) in record {
+            known = inl unset;
+            set = λ i u e some_stops. let same = ap (λ (y : View). y.stops) (only u (newcomer tree P N room) i e).1 in absurd (omega (arith, same, some_stops));
+            by = λ one. absurd (omega (arith, one, unset));
+            found = λ i u e some_found. let same = ap (λ (y : View). y.stops_found) (only u (newcomer tree P N room) i e).1 in absurd (omega (arith, same, some_found));
+          };
     }
 
 pub enrols_at : (job : CoreJob) (room : ℕ) (slots id j : ℕ) (m : View × List (ℕ × Slot)) (v : View) (xs : List (ℕ × Slot)) (k : ℕ) → m ≡ (v, xs) → v.from ≡ k → v.to ≡ k + 1 → v.enrolled ≡ false

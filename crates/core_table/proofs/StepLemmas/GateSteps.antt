@@ -1,5 +1,5 @@
 -- The steps of the gate side.
-use Rattle.std.proofs.Common.{ℕ, ◌≡◌, ◌≢◌, ◌<◌, ◌≤◌, ◌+◌, Bool, true, false, if◌then◌else◌, ◌==◌, Option as Maybe, None, Some, List, [], ◌∷◌, map, length, get_or, set, eqb, arith, refl, sym, ap, ◌∙◌, subst, inl, inr, length-set}
+use Rattle.std.proofs.Common.{ℕ, ◌≡◌, ◌≢◌, ◌<◌, ◌≤◌, ◌+◌, Bool, true, false, if◌then◌else◌, ◌==◌, Option as Maybe, None, Some, List, [], ◌∷◌, map, length, get_or, set, eqb, arith, refl, sym, ap, ◌∙◌, subst, inl, inr, length-set, get_or-set_other}
 use Rattle.std.proofs.lemmas.List.{length-map, map-append, append-nil}
 use Rattle.std.proofs.lemmas.Bool.Decides.{nat_tests}
 use Rattle.std.proofs.lemmas.Bool.{cases_eq}
@@ -24,6 +24,7 @@ use Rattle.core_model.specs.declared.status.Status.{Status}
 use Rattle.core_model.specs.declared.status.Status.TheVariants.{Free, Pending, Executing, Served}
 use Rattle.core_model.specs.declared.status.CallState.{CallState}
 use Rattle.core_model.specs.declared.status.CallState.TheVariants.{NotCalled, Out, Got}
+use Rattle.core_model.specs.declared.event.Event.{Event}
 use Rattle.core_model.specs.declared.event.Event.TheVariants.{Post, Win, Take, Answer, Release, Leave}
 use Rattle.core_model.specs.State.{put, CoreJob, Hold, State}
 use Rattle.core_model.specs.Operations.{leaf_of, IsCall, Place, place_of, IsReceipt, receipt_for}
@@ -37,10 +38,10 @@ use Rattle.core_table.specs.declared.view.HoldView.{HoldView}
 use Rattle.core_table.specs.declared.view.View.{View}
 use Rattle.core_table.specs.declared.slot.Slot.{Slot}
 use Rattle.core_table.specs.declared.slot.Slot.TheVariants as Slots
-use Rattle.core_table.specs.Words.{flag_at, status_code, flag_code, WordsShow}
+use Rattle.core_table.specs.Words.{stop_at, flag_at, status_code, flag_code, WordsShow}
 use Rattle.core_table.specs.Code.Laws.{Laws}
 use Rattle.core_table.specs.Steps.{ShowsOne, Steps, TryMakes, Makes, LeaveMakes}
-use Rattle.core_table.specs.Shows.{reserved, St, Home, IsRecordOf, RecordAt, ShopAt, IsBookHome, BookIf, BookAt, took_in, record_in, among, hold_of, HoldKnown, entry_of, Shows}
+use Rattle.core_table.specs.Shows.{reserved, St, Home, IsFront, IsRecordOf, RecordAt, ShopAt, IsBookHome, BookIf, BookAt, took_in, record_in, among, hold_of, HoldKnown, entry_of, Shows}
 use Rattle.core_table.specs.Views as V
 use Rattle.core_table.specs.Plays as G
 use Rattle.core_table.proofs.TableLemmas.Words.{put_at, put_other, set_status, set_flag, flag_same}
@@ -48,7 +49,7 @@ use Rattle.core_table.proofs.TableLemmas.Facts.{is_free, is_trapped, is_executin
 use Rattle.core_table.proofs.TableLemmas.Moved.{mine_of, moved, looked, found, missed, true_false, record_took, free_untaken}
 use Rattle.core_model.specs.Entries.{StandsAt}
 use Rattle.core_table.proofs.StepLemmas.TakeOk.{pending_is_new, taken_is_new}
-use Rattle.core_table.proofs.TableLemmas.Through.{SameTold, told_again, through, hold_others, hold_won, hold_gone, hold_same, slots_record}
+use Rattle.core_table.proofs.TableLemmas.Through.{SameTold, told_again, reseen, through, hold_others, hold_won, hold_gone, hold_same, slots_record}
 
 -- what the words say
 free_flag : (h : Maybe Hold) → flag_code h ≡ 0 → h ≡ None
@@ -197,6 +198,9 @@ module _ (job : CoreJob) (room : ℕ) (laws : Laws job) (slots id : ℕ) (v : Vi
   same_call : (n : ℕ) (x : OpRecord) (call : OpRecord) → (n, Slots.Record x) ∷ xs ≡ (n, Slots.Record call) ∷ xs → x ≡ call
   same_call n x call e = let h = ap (λ (l : List (ℕ × Slot)). (get_or l 0 (n, Slots.Record x)).1) e in cc
 
+  same_receipt : (n : ℕ) (x r : Receipt) → (n, Slots.Receipt x) ∷ xs ≡ (n, Slots.Receipt r) ∷ xs → x ≡ r
+  same_receipt n x r e = let h = ap (λ (l : List (ℕ × Slot)). (get_or l 0 (n, Slots.Receipt x)).1) e in cc
+
   -- a post
   pub posts : (call : OpRecord) → v.enrolled ≡ true → (is : IsRecordOf job v.task call) → v.call ≡ NotCalled
       → Steps job room slots id (v, (k, Slots.Record call) ∷ xs) k (λ y. 1) (λ y. G.posted (step slots k 1 0 none) (v, (k, Slots.Record call) ∷ xs) 1) (λ before found after. Makes job k (Post is.0 is.1) before after)
@@ -210,11 +214,11 @@ module _ (job : CoreJob) (room : ℕ) (laws : Laws job) (slots id : ℕ) (v : Vi
       let nowhere : task_place job s.book (s.task k) ≡ None = started_place job s.book (s.task k) is.0 is.1 call.leaf task is.3 ∙ unbooked job s k is.0 is.1 call.leaf o.parts task is.3 calls free not_called in
       let new : State = record s { status = put s.status k Pending; call = put s.call k Out } in
       let happens : Happens job s k (Post is.0 is.1) new = record { worker_in = m.0; needs = (free, task, leaf_is job is.0 call.leaf is.3 calls, not_called); does = refl } in
-      let w : View = V.posting v call in (
+      let w : View = V.with_event (V.posting v call) (Post is.0 is.1) in (
         w,
         gives,
         tt,
-        moved job room laws t o id k v w (set t.words k 1) (set t.homes k (some (Slots.Record call))) (Post is.0 is.1) new happens me from to from to
+        moved job room laws t o id k v w (set t.words k 1) (set t.homes k (some (Slots.Record call))) (Post is.0 is.1) new happens me from to from to record { events = refl; stops = refl; found = refl } (get_or-set_other t.words k (stop_at P) 1 0 (λ e. let low = m.0 in omega arith))
             (set_status P N t.words s.node s.mark s.value s.status s.hold s.tick (length s.book) o.words k Pending m.0)
             (slots_record job room t.homes s.task s.status s.hold s.hold s.book k Pending (some (Slots.Record call)) o.slots m.0 (call, refl, (is.0, is.1, task, is.3, is.4)) (λ home h. h) (λ home h. h))
             (λ own. record {
@@ -237,7 +241,7 @@ module _ (job : CoreJob) (room : ℕ) (laws : Laws job) (slots id : ℕ) (v : Vi
             })
             (λ i x u low ne h. through job laws s new k x (Post is.0 is.1) u u (get_elem? t.homes x) (get_elem? (set t.homes k (some (Slots.Record call))) x) (o.seat x) i o.parts happens
             refl (put_other s.call k x Out ne) refl (λ d. d) (λ e _. set_else t.homes k x (some (Slots.Record call)) ne ∙ e) (told_again u) (hold_same job s new x refl refl (λ u. refl) u.hold h.hold) h),
-        λ x e. ap (λ (y : OpRecord). (V.posting v y, xs)) (same_call k call x e),
+        λ x e. (is.0, is.1, is.2, ap (λ (y : OpRecord). (V.with_event (V.posting v y) (Post is.0 is.1), xs)) (same_call k call x e)),
       )
 
   pub posts_at : (m : G.Sat) (call : OpRecord) → m ≡ (v, (k, Slots.Record call) ∷ xs) → v.enrolled ≡ true → (is : IsRecordOf job v.task call) → v.call ≡ NotCalled
@@ -259,13 +263,13 @@ module _ (job : CoreJob) (room : ℕ) (laws : Laws job) (slots id : ℕ) (v : Vi
       let new : State = record s { hold = Some h } in
       let out' : s.call k ≡ Out = m.1.call ∙ out in
       let happens : Happens job s k Win new = record { worker_in = m.0; needs = (is_trapped job s k o.parts out', out', open_); does = refl } in
-      let w : View = V.winning v s.book in
+      let w : View = V.with_event (V.winning v s.book) Win in
       let homes = set (set t.homes (P + 1) none) P none in
       let far : (x : ℕ) → x < P → get_elem? homes x ≡ get_elem? t.homes x = λ x low. set_else (set t.homes (P + 1) none) P x none (λ e. omega arith) ∙ set_else t.homes (P + 1) x none (λ e. omega arith) in (
         w,
         chain (takes (P + 1) (Slots.Book (reserved s.book room))) (takes P (Slots.Shop s.book)),
         (book, set_else t.homes (P + 1) P none (λ e. omega arith) ∙ shop),
-        found word 0 (Makes job k Win) zero (moved job room laws t o id k v w (set t.words P (k + 1)) homes Win new happens me from to from to
+        found word 0 (Makes job k Win) zero (moved job room laws t o id k v w (set t.words P (k + 1)) homes Win new happens me from to from to record { events = refl; stops = refl; found = refl } (get_or-set_other t.words (P) (stop_at P) (k + 1) 0 (λ e. omega arith))
             (set_flag P N t.words s.node s.mark s.value s.status s.hold s.tick (length s.book) o.words (Some h))
             record {
               wide = length-set (set t.homes (P + 1) none) P none ∙ (length-set t.homes (P + 1) none ∙ o.slots.wide);
@@ -278,13 +282,13 @@ module _ (job : CoreJob) (room : ℕ) (laws : Laws job) (slots id : ℕ) (v : Vi
             (refl, refl, (λ u call is yet. absurd (cc)), tt) own)
             (λ i x u low ne other. through job laws s new k x Win u u (get_elem? t.homes x) (get_elem? homes x) (o.seat x) i o.parts happens refl refl refl (λ d. d)
             (λ e _. far x low ∙ e) (told_again u) (hold_won job s new k x h ne open_ refl refl u.hold other.hold) other)),
-        ((λ _. (none_held job s k v.hold m.1.hold open_, s.book, ap (λ (r : ℕ). (V.winning v s.book, (P, Slots.Shop s.book) ∷ (P + 1, Slots.Book (reserved s.book r)) ∷ xs)) (sym roomy))), (λ ne. absurd (ne zero)), ap flag_at (sym sized)),
+        ((λ _. (none_held job s k v.hold m.1.hold open_, s.book, ap (λ (r : ℕ). (V.with_event (V.winning v s.book) Win, (P, Slots.Shop s.book) ∷ (P + 1, Slots.Book (reserved s.book r)) ∷ xs)) (sym roomy), m.1.seen)), (λ ne. absurd (ne zero)), ap flag_at (sym sized)),
       ))
       (λ ne. (
-        V.losing v,
+        V.losing v word,
         keeps,
         tt,
-        missed word 0 (Makes job k Win) ne (looked job room t o id k P v (V.losing v) me from to from to
+        missed word 0 (Makes job k Win) ne (looked job room t o id k P v (V.losing v word) me from to from to refl refl (λ h. inl h)
             (λ own. record { sits = own.sits; task = own.task; call = own.call; posted = own.posted; entries = own.entries; hold = own.hold; new = own.new; done = own.done; seen = own.seen; since = record { most = own.since.most; early = own.since.early; late = own.since.late; placed = own.since.placed; waits = own.since.waits } })),
         ((λ zero. absurd (ne zero)), (λ _. refl), ap flag_at (sym sized)),
       ))
@@ -306,12 +310,12 @@ module _ (job : CoreJob) (room : ℕ) (laws : Laws job) (slots id : ℕ) (v : Vi
       let home : get_elem? t.homes k ≡ some (some (Slots.Receipt r)) = subst (λ (z : Status). RecordAt job (s.task k) z (get_elem? t.homes k)) st.1 (o.slots.records k m.0) in
       let new : State = record s { status = put s.status k Free; call = put s.call k (Got r) } in
       let happens : Happens job s k (Leave r) new = record { worker_in = m.0; needs = (st.1, subst (λ (z : Maybe HoldView). HoldKnown job s z k) idle m.1.hold); does = refl } in
-      let w : View = V.leaving v call r s.book in
+      let w : View = V.with_event (V.leaving v call r s.book) (Leave r) in
       let still : put s.call k (Got r) k ≢ Out = rw (put_at s.call k k (Got r) refl) (λ e. cc) in (
         w,
         takes k (Slots.Receipt r),
         home,
-        found word 3 (LeaveMakes job k) three (left_with job room s k r (moved job room laws t o id k v w (set t.words k 0) (set t.homes k none) (Leave r) new happens me from to from to
+        found word 3 (LeaveMakes job k) three (left_with job room s k r (moved job room laws t o id k v w (set t.words k 0) (set t.homes k none) (Leave r) new happens me from to from to record { events = refl; stops = refl; found = refl } (get_or-set_other t.words k (stop_at P) 0 0 (λ e. let low = m.0 in omega arith))
             (set_status P N t.words s.node s.mark s.value s.status s.hold s.tick (length s.book) o.words k Free m.0)
             (slots_record job room t.homes s.task s.status s.hold s.hold s.book k Free none o.slots m.0 tt (λ home h. h) (λ home h. h))
             (λ own. record {
@@ -351,7 +355,7 @@ module _ (job : CoreJob) (room : ℕ) (laws : Laws job) (slots id : ℕ) (v : Vi
         V.staying v word,
         keeps,
         tt,
-        missed word 3 (LeaveMakes job k) ne (looked job room t o id k k v (V.staying v word) me from to from to
+        missed word 3 (LeaveMakes job k) ne (looked job room t o id k k v (V.staying v word) me from to from to refl refl (λ h. inl h)
             (λ own. record { sits = own.sits; task = own.task; call = own.call; posted = own.posted; entries = own.entries; hold = own.hold; new = own.new; done = own.done; seen = own.seen; since = record { most = own.since.most; early = own.since.early; late = own.since.late; placed = own.since.placed; waits = own.since.waits } })),
         ((λ three. absurd (ne three)), (λ _. refl), sym from),
       ))
@@ -359,8 +363,8 @@ module _ (job : CoreJob) (room : ℕ) (laws : Laws job) (slots id : ℕ) (v : Vi
   holding : (t : St) (o : Shows job room t) (h : HoldView) → get_elem? t.views id ≡ some v → v.hold ≡ Some h → HoldKnown job o.state (Some h) k
   holding t o h me is = subst (λ (z : Maybe HoldView). HoldKnown job o.state z k) is (mine_of job room t o id k v me from to).1.hold
 
-  again : (h : HoldView) → SameTold v (V.with_hold v h)
-  again h = record { task = refl; call = refl; posted = refl; left = refl; enrolled = refl; saw_done = refl; greatest = refl; before = refl; after = refl; book_seen = refl }
+  again : (h : HoldView) (event : Event) → SameTold v (V.with_event (V.with_hold v h) event)
+  again h event = record { task = refl; call = refl; posted = refl; left = refl; enrolled = refl; saw_done = refl; greatest = refl; before = refl; after = refl; book_seen = refl }
 
   -- the holder looks at the next worker
   pub looks : (h : HoldView) (u : ℕ) → v.room ≡ call_count job → v.hold ≡ Some h → u ≡ h.looks → u < job.workers
@@ -379,7 +383,7 @@ module _ (job : CoreJob) (room : ℕ) (laws : Laws job) (slots id : ℕ) (v : Vi
       let what = subst (λ (z : Status). RecordAt job (s.task u) z (get_elem? t.homes u)) pending (o.slots.records u low) in
       let call = what.0 in
       let h' = V.taken_view h u call in
-      let w : View = V.with_hold v h' in
+      let w : View = V.with_event (V.with_hold v h') (Take u) in
       let new : State = record s { status = put s.status u Executing; hold = Some (hold_of k h') } in
       let happens : Happens job s k (Take u) new = record { worker_in = m.0; needs = (hold_of k h, (held, refl), next, low); does = take_takes s k u h call held pending } in
       let here : (x : ℕ) → get_elem? t.homes x ≡ some (some Slots.Vacant) → get_elem? (set t.homes u none) x ≡ some (some Slots.Vacant) = λ x e. elim (cases_eq x u) [
@@ -389,13 +393,13 @@ module _ (job : CoreJob) (room : ℕ) (laws : Laws job) (slots id : ℕ) (v : Vi
         w,
         takes u (Slots.Record call),
         what.1,
-        moved job room laws t o id k v w (set t.words u 2) (set t.homes u none) (Take u) new happens me from to from to
+        moved job room laws t o id k v w (set t.words u 2) (set t.homes u none) (Take u) new happens me from to from to record { events = refl; stops = refl; found = refl } (get_or-set_other t.words (u) (stop_at P) (2) 0 (λ e. omega arith))
             (subst (λ (z : Maybe Hold). WordsShow P N (set t.words u 2) s.node s.mark s.value (put s.status u Executing) z s.tick (length s.book)) refl
             (flag_same P N (set t.words u 2) s.node s.mark s.value (put s.status u Executing) s.hold (Some (hold_of k h')) s.tick (length s.book) (rw held refl)
             (set_status P N t.words s.node s.mark s.value s.status s.hold s.tick (length s.book) o.words u Executing low)))
             (slots_record job room t.homes s.task s.status s.hold (Some (hold_of k h')) s.book u Executing none o.slots low refl
             (λ home g. subst (λ (z : Maybe Hold). ShopAt z s.book home) held g) (λ home g. subst (λ (z : Maybe Hold). BookAt room z s.book home) held g))
-            (λ own. through job laws s new k k (Take u) v w (get_elem? t.homes k) (get_elem? (set t.homes u none) k) (o.seat k) id o.parts happens refl refl refl (λ d. d) (λ e _. here k e) (again h')
+            (λ own. through job laws s new k k (Take u) v w (get_elem? t.homes k) (get_elem? (set t.homes u none) k) (o.seat k) id o.parts happens refl refl refl (λ d. d) (λ e _. here k e) (again h' (Take u))
             (refl, known.1, took_more job s u call h what.2 known.2, (others_before h.taken u (λ x e. let low' = stands.2 x e in omega (arith, low', next)), known.3)) own)
             (λ i x y low' ne other. through job laws s new k x (Take u) y y (get_elem? t.homes x) (get_elem? (set t.homes u none) x) (o.seat x) i o.parts happens refl refl refl (λ d. d) (λ e _. here x e) (told_again y)
             (hold_others job s new k x (hold_of k h) (hold_of k h') ne held refl refl refl y.hold other.hold) other),
@@ -419,13 +423,13 @@ module _ (job : CoreJob) (room : ℕ) (laws : Laws job) (slots id : ℕ) (v : Vi
       (λ ne.
       let other_status : is_pending (s.status u) ≡ false = other_word (s.status u) (λ e. ne (o.words.statuses u low ∙ e)) in
       let h' = V.passed_view h in
-      let w : View = V.passing v h word in
+      let w : View = V.with_event (V.passing v h word) (Take u) in
       let new : State = record s { hold = Some (hold_of k h') } in
       let happens : Happens job s k (Take u) new = record { worker_in = m.0; needs = (hold_of k h, (held, refl), next, low); does = take_passes s k u h held other_status } in (
         w,
         keeps,
         tt,
-        moved job room laws t o id k v w (set t.words u word) t.homes (Take u) new happens me from to from to
+        moved job room laws t o id k v w (set t.words u word) t.homes (Take u) new happens me from to from to record { events = refl; stops = refl; found = refl } (get_or-set_other t.words (u) (stop_at P) (word) 0 (λ e. omega arith))
             (subst (λ (ws : List ℕ). WordsShow P N ws s.node s.mark s.value s.status (Some (hold_of k h')) s.tick (length s.book)) (sym (set-get_or t.words u 0))
             (flag_same P N t.words s.node s.mark s.value s.status s.hold (Some (hold_of k h')) s.tick (length s.book) (rw held refl) o.words))
             record {
@@ -454,7 +458,7 @@ module _ (job : CoreJob) (room : ℕ) (laws : Laws job) (slots id : ℕ) (v : Vi
       let held : s.hold ≡ Some (hold_of k h) = known.0 in
       let what = known.2 u call is yet in
       let h' = V.answered_view h u in
-      let w : View = V.with_hold v h' in
+      let w : View = V.with_event (V.with_hold v h') (Answer u r) in
       let new : State = record s { status = put s.status u (Served r); hold = Some (hold_of k h') } in
       let receipt' : IsReceipt (place_of s.book call.leaf) r = subst (λ (b : List (List Entry)). IsReceipt (place_of b call.leaf) r) (sym known.1) receipt in
       let happens : Happens job s k (Answer u r) new = record {
@@ -470,38 +474,41 @@ module _ (job : CoreJob) (room : ℕ) (laws : Laws job) (slots id : ℕ) (v : Vi
         w,
         gives,
         tt,
-        moved job room laws t o id k v w (set t.words u 3) homes (Answer u r) new happens me from to from to
+        moved job room laws t o id k v w (set t.words u 3) homes (Answer u r) new happens me from to from to record { events = refl; stops = refl; found = refl } (get_or-set_other t.words (u) (stop_at P) (3) 0 (λ e. omega arith))
             (flag_same P N (set t.words u 3) s.node s.mark s.value (put s.status u (Served r)) s.hold (Some (hold_of k h')) s.tick (length s.book) (rw held refl)
             (set_status P N t.words s.node s.mark s.value s.status s.hold s.tick (length s.book) o.words u (Served r) low))
             (slots_record job room t.homes s.task s.status s.hold (Some (hold_of k h')) s.book u (Served r) (some (Slots.Receipt r)) o.slots low refl
             (λ home g. subst (λ (z : Maybe Hold). ShopAt z s.book home) held g) (λ home g. subst (λ (z : Maybe Hold). BookAt room z s.book home) held g))
-            (λ own. through job laws s new k k (Answer u r) v w (get_elem? t.homes k) (get_elem? homes k) (o.seat k) id o.parts happens refl refl refl (λ d. d) (λ e c. here k (own.call ∙ c) e) (again h')
+            (λ own. through job laws s new k k (Answer u r) v w (get_elem? t.homes k) (get_elem? homes k) (o.seat k) id o.parts happens refl refl refl (λ d. d) (λ e c. here k (own.call ∙ c) e) (again h' (Answer u r))
             (refl, known.1, (λ x c e f. let g = if_false x u (among h.answered x) f in known.2 x c e g.1), known.3) own)
             (λ i x y low' ne other. through job laws s new k x (Answer u r) y y (get_elem? t.homes x) (get_elem? homes x) (o.seat x) i o.parts happens refl refl refl (λ d. d) (λ e c. here x (other.call ∙ c) e) (told_again y)
             (hold_others job s new k x (hold_of k h) (hold_of k h') ne held refl refl refl y.hold other.hold) other),
-        (h, holds, refl),
+        (h, holds, (λ q e. ap (λ (z : Receipt). (V.with_event (V.with_hold v h') (Answer u z), xs)) (same_receipt u r q e))),
       )
 
   -- the flag is let go: the shop goes home, and the book too where nothing was published
   let_go : (h : HoldView) (homes : List (Option Slot)) → v.hold ≡ Some h → h.looks ≡ job.workers → ((u : ℕ) → took_in h.taken u ≡ true → among h.answered u ≡ true)
       → (t : St) (o : Shows job room t) → get_elem? t.views id ≡ some v → length homes ≡ length t.homes → ((x : ℕ) → x < job.workers → get_elem? homes x ≡ get_elem? t.homes x)
       → ShopAt None o.state.book (get_elem? homes job.workers) → BookAt room None o.state.book (get_elem? homes (job.workers + 1))
-      → ShowsOne job room (Happens job o.state k Release) record { words = set t.words (flag_at P) 0; homes = homes; views = set t.views id (V.releasing v) }
+      → ShowsOne job room (Happens job o.state k Release) record { words = set t.words (flag_at P) 0; homes = homes; views = set t.views id (V.with_event (V.releasing v) Release) }
   let_go h homes holds looked_all all t o me wide far shop batches =
       let s = o.state in
       let m = mine_of job room t o id k v me from to in
       let known = holding t o h me holds in
       let held : s.hold ≡ Some (hold_of k h) = known.0 in
-      let w : View = V.releasing v in
+      let w : View = V.with_event (V.releasing v) Release in
+      let told : View = record w { book_seen = v.book_seen } in
+      let front : IsFront (V.book_after v.hold v.book_seen) s.book = subst (λ (z : Maybe HoldView). IsFront (V.book_after z v.book_seen) s.book) (sym holds) ([], known.1 ∙ sym (append-nil h.book)) in
       let gone : Maybe Hold = None in
       let new : State = record s { hold = gone } in
       let happens : Happens job s k Release new = record { worker_in = m.0; needs = (hold_of k h, (held, refl), looked_all, all); does = refl } in
-      moved job room laws t o id k v w (set t.words (flag_at P) 0) homes Release new happens me from to from to
+      moved job room laws t o id k v w (set t.words (flag_at P) 0) homes Release new happens me from to from to record { events = refl; stops = refl; found = refl } (get_or-set_other t.words (flag_at P) (stop_at P) 0 0 (λ e. omega arith))
       (set_flag P N t.words s.node s.mark s.value s.status s.hold s.tick (length s.book) o.words gone)
       record { wide = wide ∙ o.slots.wide; records = λ u low. rw (far u low) (o.slots.records u low); shop = shop; batches = batches }
-      (λ own. through job laws s new k k Release v w (get_elem? t.homes k) (get_elem? homes k) (o.seat k) id o.parts happens refl refl refl (λ d. d) (λ e c. far k m.0 ∙ e)
+      (λ own. reseen job new (get_elem? homes k) (o.seat k) id told k (V.book_after v.hold v.book_seen) front
+      (through job laws s new k k Release v told (get_elem? t.homes k) (get_elem? homes k) (o.seat k) id o.parts happens refl refl refl (λ d. d) (λ e c. far k m.0 ∙ e)
       record { task = refl; call = refl; posted = refl; left = refl; enrolled = refl; saw_done = refl; greatest = refl; before = refl; after = refl; book_seen = refl }
-      (λ i e. absurd (cc)) own)
+      (λ i e. absurd (cc)) own))
       (λ i x y low ne other. through job laws s new k x Release y y (get_elem? t.homes x) (get_elem? homes x) (o.seat x) i o.parts happens refl refl refl (λ d. d) (λ e c. far x low ∙ e) (told_again y)
       (hold_gone job s new k x (hold_of k h) ne held refl refl y.hold other.hold) other)
 
@@ -514,7 +521,7 @@ module _ (job : CoreJob) (room : ℕ) (laws : Laws job) (slots id : ℕ) (v : Vi
       let wide' = o.slots.wide in
       let at_home : BookAt room (Some (hold_of k h)) s.book (get_elem? t.homes (P + 1)) = subst (λ (z : Maybe Hold). BookAt room z s.book (get_elem? t.homes (P + 1))) known.0 o.slots.batches in
       let at_home' : BookIf true room s.book (get_elem? t.homes (P + 1)) = subst (λ (z : Bool). BookIf z room s.book (get_elem? t.homes (P + 1))) there at_home in (
-        V.releasing v,
+        V.with_event (V.releasing v) Release,
         gives,
         tt,
         let_go h homes holds looked_all all t o me (length-set t.homes P (some (Slots.Shop shop))) (λ x low. set_else t.homes P x (some (Slots.Shop shop)) (λ e. omega arith))
@@ -533,7 +540,7 @@ module _ (job : CoreJob) (room : ℕ) (laws : Laws job) (slots id : ℕ) (v : Vi
       let homes = set first (P + 1) (some (Slots.Book (reserved h.book room))) in
       let long = length-set t.homes P (some (Slots.Shop shop)) in
       let wide' = o.slots.wide in (
-        V.releasing v,
+        V.with_event (V.releasing v) Release,
         chain gives gives,
         (tt, tt),
         let_go h homes holds looked_all all t o me

@@ -1,5 +1,5 @@
 -- The steps of the job side.
-use Rattle.std.proofs.Common.{ℕ, ◌≡◌, ◌≢◌, ◌<◌, ◌+◌, ◌%◌, ◌^◌, true, false, Some, List, length, get_or, set, eqb, arith, refl, sym, ap, ◌∙◌, subst, inl, inr}
+use Rattle.std.proofs.Common.{ℕ, ◌≡◌, ◌≢◌, ◌<◌, ◌+◌, ◌%◌, ◌^◌, true, false, Some, List, length, get_or, set, eqb, arith, refl, sym, ap, ◌∙◌, subst, inl, inr, get_or-set_other}
 use Rattle.std.proofs.lemmas.Bool.Decides.{nat_tests}
 use Rattle.std.proofs.lemmas.Bool.{cases_eq}
 use mathlib.Core.Option.{none, some}
@@ -22,13 +22,17 @@ use Rattle.core_model.specs.Tasks.{is_done}
 use Rattle.core_model.specs.Operations.{leaf_of, IsLeaf}
 use Rattle.core_table.specs.declared.view.View.{View}
 use Rattle.core_table.specs.declared.slot.Slot.{Slot}
-use Rattle.core_table.specs.Words.{node_at, mark_at, value_at, tick_at, progress_code, WordsShow}
+use Rattle.sp_order.specs.Preorder.{nodes_of}
+use Rattle.sp_order.specs.Plans.{Nodes}
+use Rattle.core_table.specs.JobEvents.{IsTickEvent, IsOpenEvent, IsFinishEvent, IsArrival}
+use Rattle.core_table.proofs.TableLemmas.Traces.{AddsEvent}
+use Rattle.core_table.specs.Words.{stop_at, node_at, mark_at, value_at, tick_at, progress_code, WordsShow}
 use Rattle.core_table.specs.Code.Laws.{Laws}
 use Rattle.core_table.specs.Passes.{IsTickDue}
 use Rattle.core_table.specs.Steps.{ShowsOne, Steps, TryMakes, ArrivalMakes, Makes, DrawMakes}
 use Rattle.core_table.specs.Shows.{St, Shows, Mine}
 use Rattle.core_table.specs.Plays.{claimed, drawn, half_opened, opened, kept, finished, arrived}
-use Rattle.core_table.specs.Views.{with_task, claiming, refusing, ticked, opening, keeping}
+use Rattle.core_table.specs.Views.{with_event, with_task, claiming, refusing, ticked, opening, keeping}
 use Rattle.core_table.proofs.TableLemmas.Words.{put_at, put_other, set_node, set_mark, set_value, set_tick}
 use Rattle.core_table.proofs.TableLemmas.Facts.{is_free}
 use Rattle.core_table.proofs.TableLemmas.Moved.{mine_of, job_step, looked, found, missed, found_none, found_one, SameBut}
@@ -47,7 +51,7 @@ root_kept node n x undone done = grind (arith, nat_tests)
 root_done : (node : ℕ → Progress) (n : ℕ) (x : Progress) → is_done x ≡ true → is_done (node 0) ≡ true → is_done (put node n x 0) ≡ true
 root_done node n x is done = grind (arith, nat_tests)
 
-module _ (job : CoreJob) (room : ℕ) (laws : Laws job) (slots id : ℕ) (v : View) (xs : List (ℕ × Slot)) (k : ℕ) (from : v.from ≡ k) (to : v.to ≡ k + 1) (sized : v.workers ≡ job.workers) (enrolled : v.enrolled ≡ true) where
+module _ (job : CoreJob) (room : ℕ) (laws : Laws job) (slots id : ℕ) (v : View) (xs : List (ℕ × Slot)) (k : ℕ) (from : v.from ≡ k) (to : v.to ≡ k + 1) (sized : v.workers ≡ job.workers) (enrolled : v.enrolled ≡ true) (planned : nodes_of v.plan ≡ job.plan) where
   abbrev P : ℕ
   P = job.workers
 
@@ -55,8 +59,8 @@ module _ (job : CoreJob) (room : ℕ) (laws : Laws job) (slots id : ℕ) (v : Vi
   N = job.plan.count
 
   -- the view after a look or a refused try
-  refused : (t : St) (o : Shows job room t) (n : ℕ) → Mine job o.state (get_elem? t.homes k) (o.seat k) id v k → Mine job o.state (get_elem? t.homes k) (o.seat k) id (refusing v n) k
-  refused t o n m = record { sits = m.sits; task = m.task; call = m.call; posted = m.posted; entries = m.entries; hold = m.hold; new = m.new; done = m.done; seen = m.seen; since = record { most = m.since.most; early = m.since.early; late = m.since.late; placed = m.since.placed; waits = m.since.waits } }
+  refused : (t : St) (o : Shows job room t) (n word : ℕ) → Mine job o.state (get_elem? t.homes k) (o.seat k) id v k → Mine job o.state (get_elem? t.homes k) (o.seat k) id (refusing v n word) k
+  refused t o n word m = record { sits = m.sits; task = m.task; call = m.call; posted = m.posted; entries = m.entries; hold = m.hold; new = m.new; done = m.done; seen = m.seen; since = record { most = m.since.most; early = m.since.early; late = m.since.late; placed = m.since.placed; waits = m.since.waits } }
 
   -- a claim
   pub claims : (n : ℕ) → n < job.plan.count → v.task ≡ Idle → v.call ≢ Out
@@ -69,22 +73,23 @@ module _ (job : CoreJob) (room : ℕ) (laws : Laws job) (slots id : ℕ) (v : Vi
       exchanged word 1 2 (λ y. (w : View) × (a : Act Slot) × Valid t.homes xs a × ShowsOne job room (TryMakes 1 (Makes job k (Claim n)) s word) (stepped t (node_at job.workers n) y id xs w a) × claimed (step slots (node_at job.workers n) 1 2 none) (v, xs) word (w, carried_after xs a))
       (λ one.
       let ready : s.node n ≡ Ready = ready_word (s.node n) (sym (o.words.progress n below) ∙ one) in (
-        claiming v n,
+        with_event (claiming v n) (Claim n),
         keeps,
         tt,
-        found word 1 (Makes job k (Claim n)) one (job_step job room laws t o id k v (claiming v n) (set t.words (node_at job.workers n) 2) (Claim n) (put s.node n IsTaken) s.mark s.value s.tick s.call (Run n)
+        found word 1 (Makes job k (Claim n)) one (job_step job room laws t o id k v (with_event (claiming v n) (Claim n)) (set t.words (node_at job.workers n) 2) (Claim n) (put s.node n IsTaken) s.mark s.value s.tick s.call (Run n)
             record { worker_in = m.0; needs = (is_free job s k o.parts inside', m.1.task ∙ idle, ready); does = refl }
             me from to enrolled inside' inside'
             record { from = refl; to = refl; left = refl; hold = refl; enrolled = refl; saw_done = refl; greatest = refl; before = refl; after = refl; book_seen = refl }
+            record { events = refl; stops = refl; found = refl } (get_or-set_other t.words (node_at P n) (stop_at P) 2 0 (λ e. omega arith))
             refl m.1.call (λ x ne. refl) (root_kept s.node n IsTaken (ap is_done ready))
             (set_node P N t.words s.node s.mark s.value s.status s.hold s.tick (length s.book) o.words n IsTaken below)),
         (n, ap (λ (p : ℕ). node_at p n) (sym sized), (λ _. refl), (λ ne. absurd (ne one))),
       ))
       (λ ne. (
-        refusing v n,
+        refusing v n word,
         keeps,
         tt,
-        missed word 1 (Makes job k (Claim n)) ne (looked job room t o id k (node_at job.workers n) v (refusing v n) me from to from to (refused t o n)),
+        missed word 1 (Makes job k (Claim n)) ne (looked job room t o id k (node_at job.workers n) v (refusing v n word) me from to from to refl refl (λ h. inl h) (refused t o n word)),
         (n, ap (λ (p : ℕ). node_at p n) (sym sized), (λ one. absurd (ne one)), (λ _. refl)),
       ))
 
@@ -95,47 +100,48 @@ module _ (job : CoreJob) (room : ℕ) (laws : Laws job) (slots id : ℕ) (v : Vi
   outside t o me inside e = inside (sym (mine_of job room t o id k v me from to).1.call ∙ e)
 
   -- a draw of the tick
-  draws : (event : Event) (y : ℕ → Task) → v.call ≢ Out → ((tick : ℕ) → ticked v.task tick ≡ y tick)
+  draws : (event : Event) (y : ℕ → Task) → IsTickEvent v.task event → v.call ≢ Out → ((tick : ℕ) → ticked v.task tick ≡ y tick)
       → ((t : St) (o : Shows job room t) → get_elem? t.views id ≡ some v → Happens job o.state k event (record o.state { tick = o.state.tick + 1; task = put o.state.task k (y o.state.tick) }))
       → Steps job room slots id (v, xs) (tick_at P) (λ n. (n + 1) % 2 ^ 64) (drawn (step slots (tick_at P) 1 0 none) (v, xs)) (λ before found after. Makes job k (event) before after)
-  draws event y inside becomes happens t o wide me fits =
+  draws event y is_draw inside becomes happens t o wide me fits =
       let s = o.state in
       let word = get_or t.words (tick_at P) 0 in
       let most = laws.ticks s o.parts in
       let room' : word < 80000 = omega (arith, most, laws.few, o.words.ticks) in
       let next : (word + 1) % 2 ^ 64 ≡ s.tick + 1 = omega (arith, o.words.ticks, room') in
-      let w : View = with_task v (ticked v.task word) in
+      let w : View = with_event (with_task v (ticked v.task word)) event in
       let m = mine_of job room t o id k v me from to in (
         w,
         keeps,
         tt,
         job_step job room laws t o id k v w (set t.words (tick_at P) ((word + 1) % 2 ^ 64)) event s.node s.mark s.value (s.tick + 1) s.call (y s.tick)
             (happens t o me) me from to enrolled (outside t o me inside) (outside t o me inside) (same w refl refl refl refl refl refl refl refl refl refl)
+            record { events = refl; stops = refl; found = refl } (get_or-set_other t.words (tick_at P) (stop_at P) ((word + 1) % 2 ^ 64) 0 (λ e. omega arith))
             (becomes word ∙ ap y o.words.ticks) m.1.call (λ x ne. refl) (λ done. done)
             (subst (λ (z : ℕ). WordsShow P N (set t.words (tick_at P) z) s.node s.mark s.value s.status s.hold (s.tick + 1) (length s.book)) (sym next)
             (set_tick P N t.words s.node s.mark s.value s.status s.hold s.tick (length s.book) o.words (s.tick + 1))),
-        (room', refl),
+        (room', event, is_draw, refl),
       )
 
   pub starts : (n : ℕ) → v.task ≡ Run n → IsLeaf (job.plan.kind n) → v.call ≢ Out → Steps job room slots id (v, xs) (tick_at P) (λ y. (y + 1) % 2 ^ 64) (drawn (step slots (tick_at P) 1 0 none) (v, xs)) (λ before found after. Makes job k (Start n) before after)
-  starts n task leaf inside = draws (Start n) (λ tick. Started n tick) inside (λ tick. ap (λ (y : Task). ticked y tick) task)
+  starts n task leaf inside = draws (Start n) (λ tick. Started n tick) (subst (λ (y : Task). IsTickEvent y (Start n)) (sym task) refl) inside (λ tick. ap (λ (y : Task). ticked y tick) task)
       (λ t o me. let m = mine_of job room t o id k v me from to in record { worker_in = m.0; needs = (is_free job o.state k o.parts (outside t o me inside), m.1.task ∙ task, leaf); does = refl })
 
   pub ends : (n start : ℕ) → v.task ≡ Kept n start → v.call ≢ Out → Steps job room slots id (v, xs) (tick_at P) (λ y. (y + 1) % 2 ^ 64) (drawn (step slots (tick_at P) 1 0 none) (v, xs)) (λ before found after. Makes job k (End n start) before after)
-  ends n start task inside = draws (End n start) (λ tick. Ended n start tick) inside (λ tick. ap (λ (y : Task). ticked y tick) task)
+  ends n start task inside = draws (End n start) (λ tick. Ended n start tick) (subst (λ (y : Task). IsTickEvent y (End n start)) (sym task) refl) inside (λ tick. ap (λ (y : Task). ticked y tick) task)
       (λ t o me. let m = mine_of job room t o id k v me from to in record { worker_in = m.0; needs = (is_free job o.state k o.parts (outside t o me inside), m.1.task ∙ task); does = refl })
 
   -- a node that is not the root gets this progress
-  stores : (event : Event) (n : ℕ) (x : Progress) (y : Task) (w : View) → n < N → w.task ≡ y → w.call ≡ v.call → SameBut v w → v.call ≢ Out
+  stores : (event : Event) (n : ℕ) (x : Progress) (y : Task) (w : View) → n < N → w.task ≡ y → w.call ≡ v.call → SameBut v w → AddsEvent v w event → v.call ≢ Out
       → (t : St) (o : Shows job room t) → get_elem? t.views id ≡ some v
       → Happens job o.state k event (record o.state { node = put o.state.node n x; task = put o.state.task k y })
       → (is_done (o.state.node 0) ≡ true → is_done (put o.state.node n x 0) ≡ true)
       → ShowsOne job room (Happens job o.state k event) record { words = set t.words (node_at P n) (progress_code x); homes = t.homes; views = set t.views id w }
-  stores event n x y w below task_is call_is same_w inside t o me happens done =
+  stores event n x y w below task_is call_is same_w made inside t o me happens done =
       let s = o.state in
       let m = mine_of job room t o id k v me from to in
       job_step job room laws t o id k v w (set t.words (node_at P n) (progress_code x)) event (put s.node n x) s.mark s.value s.tick s.call y
-      happens me from to enrolled (outside t o me inside) (outside t o me inside) same_w task_is (m.1.call ∙ sym call_is) (λ z ne. refl) done
+      happens me from to enrolled (outside t o me inside) (outside t o me inside) same_w made (get_or-set_other t.words (node_at P n) (stop_at P) (progress_code x) 0 (λ e. omega arith)) task_is (m.1.call ∙ sym call_is) (λ z ne. refl) done
       (set_node P N t.words s.node s.mark s.value s.status s.hold s.tick (length s.book) o.words n x below)
 
   side_in : (p n : ℕ) → IsSide job.plan p n → (n < N) × (n ≢ 0)
@@ -149,43 +155,43 @@ module _ (job : CoreJob) (room : ℕ) (laws : Laws job) (slots id : ℕ) (v : Vi
   opens_right p l r task kind inside t o wide me fits =
       let m = mine_of job room t o id k v me from to in
       let side = side_in p r (ap parent_of (laws.plan.right_of_par p l r kind)) in
-      let w : View = opening v r (Half p) in (
+      let w : View = with_event (opening v r (Half p)) (OpenParRight p l r) in (
         w,
         keeps,
         tt,
-        stores (OpenParRight p l r) r Ready (Half p) w side.0 refl refl (same w refl refl refl refl refl refl refl refl refl refl) inside t o me
+        stores (OpenParRight p l r) r Ready (Half p) w side.0 refl refl (same w refl refl refl refl refl refl refl refl refl refl) record { events = refl; stops = refl; found = refl } inside t o me
             record { worker_in = m.0; needs = (is_free job o.state k o.parts (outside t o me inside), m.1.task ∙ task, kind); does = refl } (far o.state.node r Ready side.1),
-        (r, p, ap (λ (q : ℕ). node_at q r) (sym sized), task, refl),
+        (r, p, l, ap (λ (q : ℕ). node_at q r) (sym sized), task, ap (λ (plan : Nodes). plan.kind p) planned ∙ kind, refl),
       )
 
-  opens_to_idle : (event : Event) (n : ℕ) → n < N → n ≢ 0 → v.call ≢ Out
+  opens_to_idle : (event : Event) (n : ℕ) → IsOpenEvent job.plan v.task n event → n < N → n ≢ 0 → v.call ≢ Out
       → ((t : St) (o : Shows job room t) → get_elem? t.views id ≡ some v → Happens job o.state k event (record o.state { node = put o.state.node n Ready; task = put o.state.task k Idle }))
       → Steps job room slots id (v, xs) (node_at P n) (λ y. 1) (λ y. opened (step slots (node_at P n) 1 0 none) (v, xs) 1) (λ before found after. Makes job k (event) before after)
-  opens_to_idle event n below ne inside happens t o wide me fits =
-      let w : View = opening v n Idle in (
+  opens_to_idle event n is_open below ne inside happens t o wide me fits =
+      let w : View = with_event (opening v n Idle) event in (
         w,
         keeps,
         tt,
-        stores event n Ready Idle w below refl refl (same w refl refl refl refl refl refl refl refl refl refl) inside t o me (happens t o me) (far o.state.node n Ready ne),
-        (n, ap (λ (q : ℕ). node_at q n) (sym sized), refl),
+        stores event n Ready Idle w below refl refl (same w refl refl refl refl refl refl refl refl refl refl) record { events = refl; stops = refl; found = refl } inside t o me (happens t o me) (far o.state.node n Ready ne),
+        (n, event, ap (λ (q : ℕ). node_at q n) (sym sized), subst (λ (plan : Nodes). IsOpenEvent plan v.task n event) (sym planned) is_open, refl),
       )
 
   pub opens_left : (p l r : ℕ) → v.task ≡ Half p → job.plan.kind p ≡ Some (ParNode l r) → v.call ≢ Out
       → Steps job room slots id (v, xs) (node_at P l) (λ y. 1) (λ y. opened (step slots (node_at P l) 1 0 none) (v, xs) 1) (λ before found after. Makes job k (OpenParLeft p l r) before after)
   opens_left p l r task kind inside =
-      let side = side_in p l (ap parent_of (laws.plan.left_of_par p l r kind)) in opens_to_idle (OpenParLeft p l r) l side.0 side.1 inside
+      let side = side_in p l (ap parent_of (laws.plan.left_of_par p l r kind)) in opens_to_idle (OpenParLeft p l r) l (subst (λ (y : Task). IsOpenEvent job.plan y l (OpenParLeft p l r)) (sym task) (r, kind, refl)) side.0 side.1 inside
       (λ t o me. let m = mine_of job room t o id k v me from to in record { worker_in = m.0; needs = (is_free job o.state k o.parts (outside t o me inside), m.1.task ∙ task, kind); does = refl })
 
   pub opens_first : (p l r : ℕ) → v.task ≡ Run p → job.plan.kind p ≡ Some (SeqNode l r) → v.call ≢ Out
       → Steps job room slots id (v, xs) (node_at P l) (λ y. 1) (λ y. opened (step slots (node_at P l) 1 0 none) (v, xs) 1) (λ before found after. Makes job k (OpenSeqLeft p l r) before after)
   opens_first p l r task kind inside =
-      let side = side_in p l (ap parent_of (laws.plan.left_of_seq p l r kind)) in opens_to_idle (OpenSeqLeft p l r) l side.0 side.1 inside
+      let side = side_in p l (ap parent_of (laws.plan.left_of_seq p l r kind)) in opens_to_idle (OpenSeqLeft p l r) l (subst (λ (y : Task). IsOpenEvent job.plan y l (OpenSeqLeft p l r)) (sym task) (inr (r, kind, refl))) side.0 side.1 inside
       (λ t o me. let m = mine_of job room t o id k v me from to in record { worker_in = m.0; needs = (is_free job o.state k o.parts (outside t o me inside), m.1.task ∙ task, kind); does = refl })
 
   pub opens_second : (p l r : ℕ) → v.task ≡ Whole l → job.plan.kind p ≡ Some (SeqNode l r) → v.call ≢ Out
       → Steps job room slots id (v, xs) (node_at P r) (λ y. 1) (λ y. opened (step slots (node_at P r) 1 0 none) (v, xs) 1) (λ before found after. Makes job k (OpenSeqRight p l r) before after)
   opens_second p l r task kind inside =
-      let side = side_in p r (ap parent_of (laws.plan.right_of_seq p l r kind)) in opens_to_idle (OpenSeqRight p l r) r side.0 side.1 inside
+      let side = side_in p r (ap parent_of (laws.plan.right_of_seq p l r kind)) in opens_to_idle (OpenSeqRight p l r) r (subst (λ (y : Task). IsOpenEvent job.plan y r (OpenSeqRight p l r)) (sym task) (p, kind, refl)) side.0 side.1 inside
       (λ t o me. let m = mine_of job room t o id k v me from to in record { worker_in = m.0; needs = (is_free job o.state k o.parts (outside t o me inside), m.1.task ∙ task, kind); does = refl })
 
   -- a value is kept
@@ -194,44 +200,45 @@ module _ (job : CoreJob) (room : ℕ) (laws : Laws job) (slots id : ℕ) (v : Vi
   keeps_value i n start x at task below is inside t o wide me fits =
       let s = o.state in
       let m = mine_of job room t o id k v me from to in
-      let w : View = keeping v n start in
+      let w : View = with_event (keeping v n start) (Keep n start x) in
       let inside' : put s.call k NotCalled k ≢ Out = rw (put_at s.call k k NotCalled refl) (λ e. cc) in (
         w,
         keeps,
         tt,
         job_step job room laws t o id k v w (set t.words i x) (Keep n start x) s.node s.mark (put s.value n (Some x)) s.tick (put s.call k NotCalled) (Kept n start)
             record { worker_in = m.0; needs = (is_free job s k o.parts (outside t o me inside), m.1.task ∙ task, ap (value_in (job.act (leaf_of (job.plan.kind n)))) m.1.call ∙ is); does = refl }
-            me from to enrolled (outside t o me inside) inside' (same w refl refl refl refl refl refl refl refl refl refl) refl (put_at s.call k k NotCalled refl) (λ z ne. put_other s.call k z NotCalled ne) (λ done. done)
+            me from to enrolled (outside t o me inside) inside' (same w refl refl refl refl refl refl refl refl refl refl) record { events = refl; stops = refl; found = refl }
+            (get_or-set_other t.words i (stop_at P) x 0 (λ e. omega arith)) refl (put_at s.call k k NotCalled refl) (λ z ne. put_other s.call k z NotCalled ne) (λ done. done)
             (subst (λ (j : ℕ). WordsShow P N (set t.words j x) s.node s.mark (put s.value n (Some x)) s.status s.hold s.tick (length s.book)) (sym at)
             (set_value P N t.words s.node s.mark s.value s.status s.hold s.tick (length s.book) o.words n x below)),
         (n, start, task, refl),
       )
 
-  finishes : (event : Event) (n : ℕ) (x : Progress) → n < N → is_done x ≡ true → v.call ≢ Out
+  finishes : (event : Event) (n : ℕ) (x : Progress) → IsFinishEvent job.plan v.task n event → n < N → is_done x ≡ true → v.call ≢ Out
       → ((t : St) (o : Shows job room t) → get_elem? t.views id ≡ some v → Happens job o.state k event (record o.state { node = put o.state.node n x; task = put o.state.task k (task_after n) }))
       → Steps job room slots id (v, xs) (node_at P n) (λ y. progress_code x) (λ y. finished (step slots (node_at P n) (progress_code x) 0 none) (v, xs) (progress_code x)) (λ before found after. Makes job k (event) before after)
-  finishes event n x below done inside happens t o wide me fits =
-      let w : View = with_task v (task_after n) in (
+  finishes event n x is_finish below done inside happens t o wide me fits =
+      let w : View = with_event (with_task v (task_after n)) event in (
         w,
         keeps,
         tt,
-        stores event n x (task_after n) w below refl refl (same w refl refl refl refl refl refl refl refl refl refl) inside t o me (happens t o me) (root_done o.state.node n x done),
-        (n, ap (λ (q : ℕ). node_at q n) (sym sized), refl),
+        stores event n x (task_after n) w below refl refl (same w refl refl refl refl refl refl refl refl refl refl) record { events = refl; stops = refl; found = refl } inside t o me (happens t o me) (root_done o.state.node n x done),
+        (n, event, ap (λ (q : ℕ). node_at q n) (sym sized), subst (λ (plan : Nodes). IsFinishEvent plan v.task n event) (sym planned) is_finish, refl),
       )
 
   pub finishes_leaf : (n start end : ℕ) → v.task ≡ Ended n start end → n < N → v.call ≢ Out
       → Steps job room slots id (v, xs) (node_at P n) (λ y. progress_code (Ran k start end)) (λ y. finished (step slots (node_at P n) (progress_code (Ran k start end)) 0 none) (v, xs) (progress_code (Ran k start end))) (λ before found after. Makes job k (FinishLeaf n start end) before after)
-  finishes_leaf n start end task below inside = finishes (FinishLeaf n start end) n (Ran k start end) below refl inside
+  finishes_leaf n start end task below inside = finishes (FinishLeaf n start end) n (Ran k start end) (subst (λ (y : Task). IsFinishEvent job.plan y n (FinishLeaf n start end)) (sym task) (refl, refl)) below refl inside
       (λ t o me. let m = mine_of job room t o id k v me from to in record { worker_in = m.0; needs = (is_free job o.state k o.parts (outside t o me inside), m.1.task ∙ task); does = refl })
 
   pub finishes_seq : (p l r : ℕ) → v.task ≡ Whole r → job.plan.kind p ≡ Some (SeqNode l r) → p < N → v.call ≢ Out
       → Steps job room slots id (v, xs) (node_at P p) (λ y. 3) (λ y. finished (step slots (node_at P p) 3 0 none) (v, xs) 3) (λ before found after. Makes job k (FinishSeq p l r) before after)
-  finishes_seq p l r task kind below inside = finishes (FinishSeq p l r) p Done below refl inside
+  finishes_seq p l r task kind below inside = finishes (FinishSeq p l r) p Done (subst (λ (y : Task). IsFinishEvent job.plan y p (FinishSeq p l r)) (sym task) (l, kind, refl)) below refl inside
       (λ t o me. let m = mine_of job room t o id k v me from to in record { worker_in = m.0; needs = (is_free job o.state k o.parts (outside t o me inside), m.1.task ∙ task, kind); does = refl })
 
   pub finishes_par : (p l r : ℕ) → v.task ≡ Handed p → job.plan.kind p ≡ Some (ParNode l r) → p < N → v.call ≢ Out
       → Steps job room slots id (v, xs) (node_at P p) (λ y. 3) (λ y. finished (step slots (node_at P p) 3 0 none) (v, xs) 3) (λ before found after. Makes job k (FinishPar p l r) before after)
-  finishes_par p l r task kind below inside = finishes (FinishPar p l r) p Done below refl inside
+  finishes_par p l r task kind below inside = finishes (FinishPar p l r) p Done (subst (λ (y : Task). IsFinishEvent job.plan y p (FinishPar p l r)) (sym task) (refl, l, r, kind, refl)) below refl inside
       (λ t o me. let m = mine_of job room t o id k v me from to in record { worker_in = m.0; needs = (is_free job o.state k o.parts (outside t o me inside), m.1.task ∙ task, kind); does = refl })
 
   abbrev arrived_word : ℕ → ℕ
@@ -248,28 +255,32 @@ module _ (job : CoreJob) (room : ℕ) (laws : Laws job) (slots id : ℕ) (v : Vi
       let few = laws.mark s k p l r n o.parts (m.1.task ∙ task) kind side in
       let at : word ≡ s.mark p = ap (λ (j : ℕ). get_or t.words j 0) is ∙ o.words.marks p below in
       let named : i ≡ mark_at v.workers v.nodes p = omega (arith, is, sized, nodes) in
+      let arrival : IsArrival (nodes_of v.plan) v.task p l r n = subst (λ (plan : Nodes). IsArrival plan v.task p l r n) (sym planned) (record { has = task; kind = kind; side = side }) in
+      let far_stop : get_or (set t.words i (arrived_word word)) (stop_at P) 0 ≡ get_or t.words (stop_at P) 0 = get_or-set_other t.words i (stop_at P) (arrived_word word) 0 (λ e. omega arith) in
+      let first : View = with_event (with_task v Idle) (ArriveFirst p l r n) in
+      let second : View = with_event (with_task v (Handed p)) (ArriveSecond p l r n) in
       elim (cases_eq word 0) [
         | inl zero ↦ (
-          with_task v Idle,
+          first,
           keeps,
           tt,
-          found_none word (Makes job k (ArriveFirst p l r n)) (Makes job k (ArriveSecond p l r n)) zero (job_step job room laws t o id k v (with_task v Idle) (set t.words i (arrived_word word)) (ArriveFirst p l r n) s.node (put s.mark p 1) s.value s.tick s.call Idle
+          found_none word (Makes job k (ArriveFirst p l r n)) (Makes job k (ArriveSecond p l r n)) zero (job_step job room laws t o id k v first (set t.words i (arrived_word word)) (ArriveFirst p l r n) s.node (put s.mark p 1) s.value s.tick s.call Idle
               record { worker_in = m.0; needs = (free, m.1.task ∙ task, kind, side, sym at ∙ zero); does = refl }
-              me from to enrolled (outside t o me inside) (outside t o me inside) (same (with_task v Idle) refl refl refl refl refl refl refl refl refl refl) refl m.1.call (λ z ne. refl) (λ done. done)
+              me from to enrolled (outside t o me inside) (outside t o me inside) (same first refl refl refl refl refl refl refl refl refl refl) record { events = refl; stops = refl; found = refl } far_stop refl m.1.call (λ z ne. refl) (λ done. done)
               (subst (λ (j : ℕ). WordsShow P N (set t.words j (arrived_word word)) s.node (put s.mark p 1) s.value s.status s.hold s.tick (length s.book)) (sym is) (subst (λ (z : ℕ). WordsShow P N (set t.words (mark_at P N p) z) s.node (put s.mark p 1) s.value s.status s.hold s.tick (length s.book)) (let one : arrived_word word ≡ 1 = omega (arith, zero) in sym one)
               (set_mark P N t.words s.node s.mark s.value s.status s.hold s.tick (length s.book) o.words p 1 below)))),
-          (p, named, (λ _. refl), (λ ne. absurd (ne zero))),
+          (p, l, r, n, named, arrival, (λ _. refl), (λ ne. absurd (ne zero))),
         )
         | inr ne ↦ (
-          with_task v (Handed p),
+          second,
           keeps,
           tt,
-          found_one word (Makes job k (ArriveFirst p l r n)) (Makes job k (ArriveSecond p l r n)) ne (job_step job room laws t o id k v (with_task v (Handed p)) (set t.words i (arrived_word word)) (ArriveSecond p l r n) s.node (put s.mark p 2) s.value s.tick s.call (Handed p)
+          found_one word (Makes job k (ArriveFirst p l r n)) (Makes job k (ArriveSecond p l r n)) ne (job_step job room laws t o id k v second (set t.words i (arrived_word word)) (ArriveSecond p l r n) s.node (put s.mark p 2) s.value s.tick s.call (Handed p)
               record { worker_in = m.0; needs = (free, m.1.task ∙ task, kind, side, omega (arith, at, few, ne)); does = refl }
-              me from to enrolled (outside t o me inside) (outside t o me inside) (same (with_task v (Handed p)) refl refl refl refl refl refl refl refl refl refl) refl m.1.call (λ z ne'. refl) (λ done. done)
+              me from to enrolled (outside t o me inside) (outside t o me inside) (same second refl refl refl refl refl refl refl refl refl refl) record { events = refl; stops = refl; found = refl } far_stop refl m.1.call (λ z ne'. refl) (λ done. done)
               (subst (λ (j : ℕ). WordsShow P N (set t.words j (arrived_word word)) s.node (put s.mark p 2) s.value s.status s.hold s.tick (length s.book)) (sym is) (subst (λ (z : ℕ). WordsShow P N (set t.words (mark_at P N p) z) s.node (put s.mark p 2) s.value s.status s.hold s.tick (length s.book)) (let two : arrived_word word ≡ 2 = omega (arith, at, few, ne) in sym two)
               (set_mark P N t.words s.node s.mark s.value s.status s.hold s.tick (length s.book) o.words p 2 below)))),
-          (p, named, (λ zero. absurd (ne zero)), (λ _. refl)),
+          (p, l, r, n, named, arrival, (λ zero. absurd (ne zero)), (λ _. refl)),
         )
       ]
 

@@ -1,5 +1,5 @@
 -- The looks: at the root, at the number of batches, and at what is no node.
-use Rattle.std.proofs.Common.{ℕ, ◌≡◌, ◌<◌, ◌≤◌, ◌+◌, ◌%◌, ◌⊎◌, min, true, Option as Maybe, None, Some, List, length, get_or, set, eqb, arith, refl, sym, ap, ◌∙◌, subst, inl, inr}
+use Rattle.std.proofs.Common.{ℕ, ◌≡◌, ◌<◌, ◌≤◌, ◌+◌, ◌%◌, ◌⊎◌, min, true, Option as Maybe, None, Some, List, length, get_or, set, eqb, arith, refl, sym, ap, ◌∙◌, subst, inl, inr, get_or-set_same}
 use Rattle.std.proofs.lemmas.Bool.{cases_eq}
 use mathlib.Core.Option.{none}
 use lib.ListN.{get_elem?}
@@ -22,7 +22,8 @@ use Rattle.core_table.specs.Shows.{St, Shows, SinceKnown}
 use Rattle.core_table.specs.Plays.{looked_at_root, heard, strayed, stopped_all, looked_at_stop}
 use Rattle.core_table.specs.Views.{seeing_done, seeing_undone, finding_stop, finding_none, hearing, refusing, least_told, stopping}
 use Rattle.core_table.proofs.TableLemmas.Facts.{is_trapped}
-use Rattle.core_table.proofs.TableLemmas.Moved.{looked, renewed}
+use Rattle.core_table.proofs.TableLemmas.Moved.{at_below, looked, renewed}
+use Rattle.core_table.proofs.TableLemmas.Traces.{stop_set}
 use Rattle.core_table.proofs.TableLemmas.Through.{again}
 use Rattle.core_table.proofs.TableLemmas.Words.{set_stop}
 
@@ -56,7 +57,7 @@ module _ (job : CoreJob) (room : ℕ) (laws : Laws job) (slots id : ℕ) (v : Vi
           seeing_done v,
           keeps,
           tt,
-          looked job room t o id k i v (seeing_done v) me from to from to
+          looked job room t o id k i v (seeing_done v) me from to from to refl refl (λ h. inl h)
               (λ m. record {
                 sits = m.sits;
                 task = m.task;
@@ -71,7 +72,7 @@ module _ (job : CoreJob) (room : ℕ) (laws : Laws job) (slots id : ℕ) (v : Vi
               }),
           ((λ _. refl), (λ ne. absurd (ne e)), omega (arith, is, sized)),
         )
-        | inr ne ↦ (seeing_undone v, keeps, tt, looked job room t o id k i v (seeing_undone v) me from to from to (λ m. again job o.state (get_elem? t.homes k) (o.seat k) id v _ k record { task = refl; call = refl; posted = refl; left = refl; enrolled = refl; saw_done = refl; greatest = refl; before = refl; after = refl; book_seen = refl } refl m), ((λ e. absurd (ne e)), (λ _. refl), omega (arith, is, sized)))
+        | inr ne ↦ (seeing_undone v word, keeps, tt, looked job room t o id k i v (seeing_undone v word) me from to from to refl refl (λ h. inl h) (λ m. again job o.state (get_elem? t.homes k) (o.seat k) id v _ k record { task = refl; call = refl; posted = refl; left = refl; enrolled = refl; saw_done = refl; greatest = refl; before = refl; after = refl; book_seen = refl } refl m), ((λ e. absurd (ne e)), (λ _. refl), omega (arith, is, sized)))
       ]
 
   hears_since : (t : St) (o : Shows job room t) (n : ℕ) → n ≡ length o.state.book → SinceKnown job o.state v k → SinceKnown job o.state (hearing v n) k
@@ -92,7 +93,7 @@ module _ (job : CoreJob) (room : ℕ) (laws : Laws job) (slots id : ℕ) (v : Vi
         hearing v word,
         keeps,
         tt,
-        looked job room t o id k (count_at P) v (hearing v word) me from to from to
+        looked job room t o id k (count_at P) v (hearing v word) me from to from to refl refl (λ h. inl h)
             (λ m. record { sits = m.sits; task = m.task; call = m.call; posted = m.posted; entries = m.entries; hold = m.hold; new = m.new; done = m.done; seen = m.seen; since = hears_since t o word o.words.batches m.since }),
         (refl, ap count_at (sym sized)),
       )
@@ -106,10 +107,10 @@ module _ (job : CoreJob) (room : ℕ) (laws : Laws job) (slots id : ℕ) (v : Vi
       exchanged word (4 + n) 0 (λ y. (w : View) × (a : Act Slot) × Valid t.homes xs a × ShowsOne job room (Stays o.state word) (stepped t 0 y id xs w a) × strayed (step slots 0 (4 + n) 0 none) (v, xs) word (w, carried_after xs a))
       (λ e. absurd (omega (arith, few, at, e)))
       (λ ne. (
-        refusing v n,
+        refusing v n word,
         keeps,
         tt,
-        looked job room t o id k 0 v (refusing v n) me from to from to
+        looked job room t o id k 0 v (refusing v n word) me from to from to refl refl (λ h. inl h)
             (λ m. again job o.state (get_elem? t.homes k) (o.seat k) id v _ k record { task = refl; call = refl; posted = refl; left = refl; enrolled = refl; saw_done = refl; greatest = refl; before = refl; after = refl; book_seen = refl } refl m),
         (n, refl, refl, far),
       ))
@@ -121,7 +122,8 @@ module _ (job : CoreJob) (room : ℕ) (laws : Laws job) (slots id : ℕ) (v : Vi
         stopping v,
         keeps,
         tt,
-        renewed job room t o id k v (stopping v) (set t.words (stop_at P) 1) me from to from to
+        renewed job room t o id k v (stopping v) (set t.words (stop_at P) 1) me from to from to refl
+            (stop_set t.views id v (stopping v) (get_or t.words (stop_at P) 0) (get_or (set t.words (stop_at P) 1) (stop_at P) 0) (at_below t.views id v me) me (get_or-set_same t.words (stop_at P) 1 0 (omega (arith, o.words.wide))) (omega arith) o.stop)
             (set_stop P job.plan.count t.words s.node s.mark s.value s.status s.hold s.tick (length s.book) o.words 1)
             (λ m. again job o.state (get_elem? t.homes k) (o.seat k) id v _ k record { task = refl; call = refl; posted = refl; left = refl; enrolled = refl; saw_done = refl; greatest = refl; before = refl; after = refl; book_seen = refl } refl m),
         (refl, ap stop_at (sym sized), refl),
@@ -130,6 +132,6 @@ module _ (job : CoreJob) (room : ℕ) (laws : Laws job) (slots id : ℕ) (v : Vi
   -- and looked at
   pub looks_at_stop : v.workers ≡ P → Steps job room slots id (v, xs) (stop_at P) (λ y. y) (looked_at_stop (step slots (stop_at P) 0 0 none) (v, xs)) (Stays)
   looks_at_stop sized t o wide me fits = elim (cases_eq (get_or t.words (stop_at P) 0) 1) [
-    | inl e ↦ (finding_stop v, keeps, tt, looked job room t o id k (stop_at P) v (finding_stop v) me from to from to (λ m. again job o.state (get_elem? t.homes k) (o.seat k) id v _ k record { task = refl; call = refl; posted = refl; left = refl; enrolled = refl; saw_done = refl; greatest = refl; before = refl; after = refl; book_seen = refl } refl m), ((λ _. refl), (λ ne. absurd (ne e)), ap stop_at (sym sized)))
-    | inr ne ↦ (finding_none v, keeps, tt, looked job room t o id k (stop_at P) v (finding_none v) me from to from to (λ m. again job o.state (get_elem? t.homes k) (o.seat k) id v _ k record { task = refl; call = refl; posted = refl; left = refl; enrolled = refl; saw_done = refl; greatest = refl; before = refl; after = refl; book_seen = refl } refl m), ((λ e. absurd (ne e)), (λ _. refl), ap stop_at (sym sized)))
+    | inl e ↦ (finding_stop v, keeps, tt, looked job room t o id k (stop_at P) v (finding_stop v) me from to from to refl refl (λ _. inr e) (λ m. again job o.state (get_elem? t.homes k) (o.seat k) id v _ k record { task = refl; call = refl; posted = refl; left = refl; enrolled = refl; saw_done = refl; greatest = refl; before = refl; after = refl; book_seen = refl } refl m), ((λ _. refl), (λ ne. absurd (ne e)), ap stop_at (sym sized)))
+    | inr ne ↦ (finding_none v (get_or t.words (stop_at P) 0), keeps, tt, looked job room t o id k (stop_at P) v (finding_none v (get_or t.words (stop_at P) 0)) me from to from to refl refl (λ h. inl h) (λ m. again job o.state (get_elem? t.homes k) (o.seat k) id v _ k record { task = refl; call = refl; posted = refl; left = refl; enrolled = refl; saw_done = refl; greatest = refl; before = refl; after = refl; book_seen = refl } refl m), ((λ e. absurd (ne e)), (λ _. refl), ap stop_at (sym sized)))
   ]

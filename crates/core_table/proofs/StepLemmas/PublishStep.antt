@@ -1,5 +1,5 @@
 -- The step that publishes.
-use Rattle.std.proofs.Common.{ℕ, ◌≡◌, ◌<◌, ◌≤◌, ◌+◌, ◌%◌, ◌^◌, Bool, true, false, Option as Maybe, Some, List, [], ◌∷◌, ◌++◌, map, length, get_or, set, arith, refl, sym, ap, ◌∙◌, subst, length-append, length-set, append_assoc}
+use Rattle.std.proofs.Common.{ℕ, ◌≡◌, ◌<◌, ◌≤◌, ◌+◌, ◌%◌, ◌^◌, Bool, true, false, Option as Maybe, Some, List, [], ◌∷◌, ◌++◌, map, length, get_or, set, arith, refl, sym, ap, ◌∙◌, subst, length-append, length-set, append_assoc, inl, get_or-set_other}
 use mathlib.Core.Option.{none, some}
 use lib.ListN.{get_elem?}
 use Rattle.atomic_table.specs.Table.{step, keeps, gives}
@@ -24,7 +24,7 @@ use Rattle.core_table.specs.declared.view.HoldView.{HoldView}
 use Rattle.core_table.specs.declared.view.View.{View}
 use Rattle.core_table.specs.declared.slot.Slot.{Slot}
 use Rattle.core_table.specs.declared.slot.Slot.TheVariants as Slots
-use Rattle.core_table.specs.Words.{count_at, WordsShow}
+use Rattle.core_table.specs.Words.{stop_at, count_at, WordsShow}
 use Rattle.core_table.specs.Code.Laws.{Laws}
 use Rattle.core_table.specs.Steps.{Steps, Stays, Makes}
 use Rattle.core_table.specs.Shows.{reserved, Home, IsRecordOf, ShopAt, record_in, among, hold_of, HoldKnown, entry_of, present, SinceKnown, IsFront, Mine}
@@ -93,7 +93,7 @@ module _ (job : CoreJob) (laws : Laws job) (s : State) (k : ℕ) (batch : List E
     posted = rw told.posted m.posted;
     hold = hold;
     entries = rw told.left (entries_after x v happens m.entries);
-    new = λ e. let t = m.new (sym told.enrolled ∙ e) in (same ∙ t.0, told.task ∙ t.1, told.call ∙ t.2);
+    new = λ e. let t = m.new (sym told.enrolled ∙ e) in (same ∙ t.0, told.task ∙ t.1, told.call ∙ t.2, told.left ∙ t.3);
     done = λ e. m.done (sym told.saw_done ∙ e);
     seen = rw told.book_seen (longer v.book_seen s.book batch m.seen);
     since = let a = since_after x v happens kept_later m.since in record {
@@ -191,7 +191,7 @@ module _ (job : CoreJob) (room : ℕ) (laws : Laws job) (slots id : ℕ) (v : Vi
         v,
         keeps,
         tt,
-        looked job room t o id k i v v me from to from to (λ m. m),
+        looked job room t o id k i v v me from to from to refl refl (λ h. inl h) (λ m. m),
         (
           refl,
           λ h batch holds due'.
@@ -223,7 +223,7 @@ module _ (job : CoreJob) (room : ℕ) (laws : Laws job) (slots id : ℕ) (v : Vi
       let can = can_publish s h batch o.parts m.0 known due in
       let batch_of = can.of_batch in
       let h' = V.published_view h batch in
-      let w : View = V.with_hold v h' in
+      let w : View = V.with_event (V.with_hold v h') Publish in
       let new : State = record s { book = s.book ++ batch ∷ []; objects = served s.objects batch; hold = published s.hold } in
       let hold_new : published s.hold ≡ Some (hold_of k h') = publish_does s k h batch held in
       let happens : Happens job s k Publish new = can.happens in
@@ -235,7 +235,7 @@ module _ (job : CoreJob) (room : ℕ) (laws : Laws job) (slots id : ℕ) (v : Vi
         w,
         gives,
         tt,
-        moved job room laws t o id k v w (set t.words (count_at P) ((word + 1) % 2 ^ 64)) homes Publish new happens me from to from to
+        moved job room laws t o id k v w (set t.words (count_at P) ((word + 1) % 2 ^ 64)) homes Publish new happens me from to from to record { events = refl; stops = refl; found = refl } (get_or-set_other t.words (count_at P) (stop_at P) ((word + 1) % 2 ^ 64) 0 (λ e. omega arith))
             (subst (λ (z : ℕ). WordsShow P N (set t.words (count_at P) z) s.node s.mark s.value s.status (published s.hold) s.tick (length (s.book ++ batch ∷ []))) (sym count)
             (flag_same P N (set t.words (count_at P) (length (s.book ++ batch ∷ []))) s.node s.mark s.value s.status s.hold (published s.hold) s.tick (length (s.book ++ batch ∷ [])) (rw held refl)
             (set_count P N t.words s.node s.mark s.value s.status s.hold s.tick (length s.book) o.words (length (s.book ++ batch ∷ [])))))
@@ -255,7 +255,7 @@ module _ (job : CoreJob) (room : ℕ) (laws : Laws job) (slots id : ℕ) (v : Vi
             let at' = subst (λ (r : ℕ). (count_at P, Slots.Book book) ∷ xs ≡ (count_at P, Slots.Book (reserved (g.book ++ c ∷ []) r)) ∷ xs) roomy at in
             let b' = same_book (h.book ++ batch ∷ []) (g.book ++ c ∷ []) room at' in
             let c' : batch ≡ c = last_same h.book g.book batch c b' (ap (λ (z : HoldView). z.book) same_view) in
-            λ i. (V.with_hold v (V.published_view (same_view i) (c' i)), xs),
+            λ i. (V.with_event (V.with_hold v (V.published_view (same_view i) (c' i))) Publish, xs),
       )
 
   pub publishes_at : (g : G.Sat) (h : HoldView) (batch : List Entry) → g ≡ (v, (count_at P, Slots.Book (reserved (h.book ++ batch ∷ []) room)) ∷ xs) → v.hold ≡ Some h → v.room ≡ room → IsPublishDue job.workers h batch → length h.book < 2 ^ 32

@@ -1,5 +1,5 @@
 -- A step shows the state that its event makes.
-use Rattle.std.proofs.Common.{ℕ, zero, suc, ◌≡◌, ◌≢◌, ◌<◌, ◌≤◌, ◌+◌, Bool, true, false, ◌&&◌, not, Option as Maybe, None, Some, List, [], ◌∷◌, ◌++◌, map, length, get_or, set, arith, refl, sym, ap, ◌∙◌, subst, inl, inr, ⊎_elim}
+use Rattle.std.proofs.Common.{ℕ, zero, suc, ◌≡◌, ◌≢◌, ◌<◌, ◌≤◌, ◌+◌, Bool, true, false, ◌&&◌, not, ◌⊎◌, Option as Maybe, None, Some, List, [], ◌∷◌, ◌++◌, map, length, get_or, set, arith, refl, sym, ap, ◌∙◌, subst, inl, inr, ⊎_elim}
 use Rattle.std.proofs.lemmas.Bool.{cases_eq}
 use Rattle.std.proofs.lemmas.Bool.Decides.{nat_tests}
 use mathlib.Core.Option.{Option, some, some-injective, some-ne-none}
@@ -34,8 +34,11 @@ use Rattle.core_table.specs.declared.setting.Setting.{Setting}
 use Rattle.core_table.specs.Steps.{ShowsOne, TryMakes, ArrivalMakes}
 use Rattle.core_table.specs.Plays.{Sat}
 use Rattle.core_table.specs.Code.Laws.{Laws}
-use Rattle.core_table.specs.Shows.{St, HasSeat, IsRecordOf, RecordAt, SlotsShow, took_in, record_in, among, hold_of, HoldKnown, entry_of, present, SinceKnown, Mine, Shows, Shown}
+use Rattle.core_table.specs.Shows.{St, HasSeat, IsRecordOf, RecordAt, SlotsShow, took_in, record_in, among, hold_of, HoldKnown, entry_of, present, SinceKnown, Mine, Shows, Shown, StopShows}
 use Rattle.core_table.proofs.TableLemmas.Facts.{is_free, is_trapped, not_taken}
+use Rattle.core_model.specs.Lists.{ready_after}
+use Rattle.core_table.specs.Words.{stop_at}
+use Rattle.core_table.proofs.TableLemmas.Traces.{AddsEvent, reached_next, agree_next, agree_still, stop_still}
 use Rattle.core_table.proofs.TableLemmas.Words.{put_at, put_other}
 
 -- who sits in the seat id has number k alone
@@ -64,12 +67,13 @@ seat_stays views id k v w me from to from' to' seat x h = elim (cases_eq seat id
 -- a step of worker k
 pub moved : (job : CoreJob) (room : ℕ) (laws : Laws job) (t : St) (o : Shows job room t) (id k : ℕ) (v w : View) (words : List ℕ) (homes : List (Option Slot)) (event : Event) (new : State)
     → Happens job o.state k event new → get_elem? t.views id ≡ some v → v.from ≡ k → v.to ≡ k + 1 → w.from ≡ k → w.to ≡ k + 1
+    → AddsEvent v w event → get_or words (stop_at job.workers) 0 ≡ get_or t.words (stop_at job.workers) 0
     → WordsShow job.workers job.plan.count words new.node new.mark new.value new.status new.hold new.tick (length new.book)
     → SlotsShow job room homes new.task new.status new.hold new.book
     → (Mine job o.state (get_elem? t.homes k) (o.seat k) id v k → Mine job new (get_elem? homes k) (o.seat k) id w k)
     → ((i x : ℕ) (u : View) → x < job.workers → x ≢ k → Mine job o.state (get_elem? t.homes x) (o.seat x) i u x → Mine job new (get_elem? homes x) (o.seat x) i u x)
     → ShowsOne job room (Happens job o.state k event) record { words = words; homes = homes; views = set t.views id w }
-moved job room laws t o id k v w words homes event new happens me from to from' to' shown slots own others = (
+moved job room laws t o id k v w words homes event new happens me from to from' to' adds stop shown slots own others = (
   record {
     state = new;
     seat = o.seat;
@@ -90,6 +94,13 @@ moved job room laws t o id k v w words homes event new happens me from to from' 
         (was.0, others i x u was.0 (λ is. q.0 (sym was.1.sits ∙ (ap o.seat is ∙ m.1.sits))) was.1))
         (at_set t.views id i w u e);
     seats = λ x low. seat_stays t.views id k v w me from to from' to' (o.seat x) x (o.seats x low);
+    trace = o.trace ++ record { worker = k; event = event } ∷ [];
+    ready = ready_after k event o.ready;
+    reached = reached_next job o.trace o.ready o.state new k event o.reached happens;
+    events = agree_next t.views id k v w o.trace event me from to from' to' adds.events
+        (λ i x u at lo hi ne is. let m = mine_of job room t o id k v me from to in let was = o.views i u x at lo hi in ne (sym was.1.sits ∙ (ap o.seat is ∙ m.1.sits))) o.events;
+    stop = stop_still t.views id v w (get_or t.words (stop_at job.workers) 0) (get_or words (stop_at job.workers) 0) (at_below t.views id v me) me stop adds.stops
+        (λ some_found. inl (let a = adds.found in omega arith)) o.stop;
   },
   happens,
 )
@@ -114,10 +125,11 @@ views_still job room t o id k v w me from to from' to' own i u x e lo hi = let m
 -- a step on a word that tells nothing of the state
 pub renewed : (job : CoreJob) (room : ℕ) (t : St) (o : Shows job room t) (id k : ℕ) (v w : View) (words : List ℕ)
     → get_elem? t.views id ≡ some v → v.from ≡ k → v.to ≡ k + 1 → w.from ≡ k → w.to ≡ k + 1
+    → w.events ≡ v.events → StopShows (get_or words (stop_at job.workers) 0) (set t.views id w)
     → WordsShow job.workers job.plan.count words o.state.node o.state.mark o.state.value o.state.status o.state.hold o.state.tick (length o.state.book)
     → (Mine job o.state (get_elem? t.homes k) (o.seat k) id v k → Mine job o.state (get_elem? t.homes k) (o.seat k) id w k)
     → ShowsOne job room (λ (s : State). s ≡ o.state) record { words = words; homes = t.homes; views = set t.views id w }
-renewed job room t o id k v w words me from to from' to' shown own = (
+renewed job room t o id k v w words me from to from' to' events stop shown own = (
   record {
     state = o.state;
     seat = o.seat;
@@ -126,6 +138,11 @@ renewed job room t o id k v w words me from to from' to' shown own = (
     slots = o.slots;
     views = views_still job room t o id k v w me from to from' to' own;
     seats = λ x low. seat_stays t.views id k v w me from to from' to' (o.seat x) x (o.seats x low);
+    trace = o.trace;
+    ready = o.ready;
+    reached = o.reached;
+    events = agree_still t.views id k v w o.trace me from to from' to' events o.events;
+    stop = stop;
   },
   refl,
 )
@@ -133,10 +150,12 @@ renewed job room t o id k v w words me from to from' to' shown own = (
 -- a look, or a try that finds what it did not want
 pub looked : (job : CoreJob) (room : ℕ) (t : St) (o : Shows job room t) (id k j : ℕ) (v w : View)
     → get_elem? t.views id ≡ some v → v.from ≡ k → v.to ≡ k + 1 → w.from ≡ k → w.to ≡ k + 1
+    → w.events ≡ v.events → w.stops ≡ v.stops → (0 < w.stops_found → (0 < v.stops_found) ⊎ (get_or t.words (stop_at job.workers) 0 ≡ 1))
     → (Mine job o.state (get_elem? t.homes k) (o.seat k) id v k → Mine job o.state (get_elem? t.homes k) (o.seat k) id w k)
     → ShowsOne job room (λ (s : State). s ≡ o.state) record { words = set t.words j (get_or t.words j 0); homes = t.homes; views = set t.views id w }
-looked job room t o id k j v w me from to from' to' own =
-    renewed job room t o id k v w (set t.words j (get_or t.words j 0)) me from to from' to'
+looked job room t o id k j v w me from to from' to' events stops found own =
+    renewed job room t o id k v w (set t.words j (get_or t.words j 0)) me from to from' to' events
+    (stop_still t.views id v w (get_or t.words (stop_at job.workers) 0) _ (at_below t.views id v me) me (ap (λ (ws : List ℕ). get_or ws (stop_at job.workers) 0) (set-get_or t.words j 0)) stops found o.stop)
     (subst (λ (ws : List ℕ). WordsShow job.workers job.plan.count ws o.state.node o.state.mark o.state.value o.state.status o.state.hold o.state.tick (length o.state.book)) (sym (set-get_or t.words j 0)) o.words)
     own
 
@@ -213,15 +232,15 @@ pub job_step : (job : CoreJob) (room : ℕ) (laws : Laws job) (t : St) (o : Show
     → let s = o.state in
     let new : State = record s { node = node; mark = mark; value = value; tick = tick; task = put s.task k y; call = call } in
     Happens job s k event new → get_elem? t.views id ≡ some v → v.from ≡ k → v.to ≡ k + 1 → v.enrolled ≡ true → s.call k ≢ Out → call k ≢ Out
-    → SameBut v w → w.task ≡ y → call k ≡ w.call → ((x : ℕ) → x ≢ k → call x ≡ s.call x) → (is_done (s.node 0) ≡ true → is_done (node 0) ≡ true)
+    → SameBut v w → AddsEvent v w event → get_or words (stop_at job.workers) 0 ≡ get_or t.words (stop_at job.workers) 0 → w.task ≡ y → call k ≡ w.call → ((x : ℕ) → x ≢ k → call x ≡ s.call x) → (is_done (s.node 0) ≡ true → is_done (node 0) ≡ true)
     → WordsShow job.workers job.plan.count words node mark value s.status s.hold tick (length s.book)
     → ShowsOne job room (Happens job o.state k event) record { words = words; homes = t.homes; views = set t.views id w }
-job_step job room laws t o id k v w words event node mark value tick call y happens me from to enrolled inside inside' same task_is call_is calls done shown =
+job_step job room laws t o id k v w words event node mark value tick call y happens me from to enrolled inside inside' same adds stop task_is call_is calls done shown =
     let s = o.state in
     let new : State = record s { node = node; mark = mark; value = value; tick = tick; task = put s.task k y; call = call } in
     let free = is_free job s k o.parts inside in
     let stay : (u : ℕ) → u ≢ k → put s.task k y u ≡ s.task u = λ u ne. put_other s.task k u y ne in
-    moved job room laws t o id k v w words t.homes event new happens me from to (same.from ∙ from) (same.to ∙ to) shown
+    moved job room laws t o id k v w words t.homes event new happens me from to (same.from ∙ from) (same.to ∙ to) adds stop shown
     record {
       wide = o.slots.wide;
       records = λ u below. elim (cases_eq u k) [

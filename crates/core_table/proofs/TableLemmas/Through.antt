@@ -18,7 +18,7 @@ use Rattle.core_table.specs.declared.view.View.{View}
 use Rattle.core_table.specs.declared.slot.Slot.{Slot}
 use Rattle.core_table.specs.declared.slot.Slot.TheVariants as Slots
 use Rattle.core_table.specs.Code.Laws.{Laws}
-use Rattle.core_table.specs.Shows.{Home, IsRecordOf, RecordAt, ShopAt, BookAt, SlotsShow, hold_of, HoldKnown, Mine}
+use Rattle.core_table.specs.Shows.{Home, IsFront, IsRecordOf, RecordAt, ShopAt, BookAt, SlotsShow, hold_of, HoldKnown, Mine}
 use Rattle.core_table.proofs.TableLemmas.Words.{put_at, put_other}
 use Rattle.core_table.proofs.TableLemmas.Facts.{is_trapped}
 
@@ -47,7 +47,7 @@ reseat job s home seat seat' id id' v w x sits told hold m = record {
   posted = rw told.posted m.posted;
   hold = rw hold m.hold;
   entries = rw told.left m.entries;
-  new = λ e. let t = m.new (sym told.enrolled ∙ e) in (t.0, told.task ∙ t.1, told.call ∙ t.2);
+  new = λ e. let t = m.new (sym told.enrolled ∙ e) in (t.0, told.task ∙ t.1, told.call ∙ t.2, told.left ∙ t.3);
   done = λ e. m.done (sym told.saw_done ∙ e);
   seen = rw told.book_seen m.seen;
   since = record {
@@ -57,6 +57,21 @@ reseat job s home seat seat' id id' v w x sits told hold m = record {
     placed = rw told.before m.since.placed;
     waits = rw told.after m.since.waits;
   };
+}
+
+-- and so does a view that has seen more of the book
+pub reseen : (job : CoreJob) (s : State) (home : Home) (seat id : ℕ) (v : View) (x : ℕ) (book : List (List Entry)) → IsFront book s.book → Mine job s home seat id v x → Mine job s home seat id (record v { book_seen = book }) x
+reseen job s home seat id v x book front m = record {
+  sits = m.sits;
+  task = m.task;
+  call = m.call;
+  posted = m.posted;
+  hold = m.hold;
+  entries = m.entries;
+  new = m.new;
+  done = m.done;
+  seen = front;
+  since = record { most = m.since.most; early = m.since.early; late = m.since.late; placed = m.since.placed; waits = m.since.waits };
 }
 
 -- and so does the same seat
@@ -74,7 +89,7 @@ through job laws s new k x event v w home home' seat id kept happens same_task s
   posted = rw (same_call, same_task, told.posted) m.posted;
   hold = hold;
   entries = rw (same_call, same_task, same_book, told.left) m.entries;
-  new = λ e. let t = m.new (sym told.enrolled ∙ e) in (here t.0 t.2, told.task ∙ t.1, told.call ∙ t.2);
+  new = λ e. let t = m.new (sym told.enrolled ∙ e) in (here t.0 t.2, told.task ∙ t.1, told.call ∙ t.2, told.left ∙ t.3);
   done = λ e. done (m.done (sym told.saw_done ∙ e));
   seen = rw (same_book, told.book_seen) m.seen;
   since = record {

@@ -1,4 +1,4 @@
-use Rattle.std.proofs.Common.{refl}
+use Rattle.std.proofs.Common.{ℕ, ◌≤◌, refl, sym, subst}
 use Rattle.core_table.specs.Shows.{job_of, room_of}
 use Rattle.core_table.proofs.StepLemmas.JobSteps as jobs
 use Rattle.core_table.proofs.StepLemmas.LookSteps as looks
@@ -11,17 +11,18 @@ returns c key sound slots id k v xs is =
     let job = job_of key in
     let room = room_of key in
     let laws = c.laws_hold.ensures key sound.few sound.leaves sound.short in record {
-      claim = λ n below idle inside. jobs.claims job room laws slots id v xs k is.from is.to is.workers is.enrolled n below idle inside;
-      tick = λ due inside. jobs.draws_due job room laws slots id v xs k is.from is.to is.workers is.enrolled due inside;
-      open_right = λ p l r task kind inside. jobs.opens_right job room laws slots id v xs k is.from is.to is.workers is.enrolled p l r task kind inside;
-      open_left = λ p l r task kind inside. jobs.opens_left job room laws slots id v xs k is.from is.to is.workers is.enrolled p l r task kind inside;
-      open_first = λ p l r task kind inside. jobs.opens_first job room laws slots id v xs k is.from is.to is.workers is.enrolled p l r task kind inside;
-      open_second = λ p l r task kind inside. jobs.opens_second job room laws slots id v xs k is.from is.to is.workers is.enrolled p l r task kind inside;
-      keep = λ n start x task below value inside. jobs.keeps_value job room laws slots id v xs k is.from is.to is.workers is.enrolled _ n start x refl task below value inside;
-      finish_leaf = λ n start end task below inside. jobs.finishes_leaf job room laws slots id v xs k is.from is.to is.workers is.enrolled n start end task below inside;
-      finish_series = λ p l r task kind below inside. jobs.finishes_seq job room laws slots id v xs k is.from is.to is.workers is.enrolled p l r task kind below inside;
-      finish_block = λ p l r task kind below inside. jobs.finishes_par job room laws slots id v xs k is.from is.to is.workers is.enrolled p l r task kind below inside;
-      arrive = λ p l r n task kind side below inside. jobs.arrives job room laws slots id v xs k is.from is.to is.workers is.enrolled _ p l r n refl task is.nodes kind side below inside;
+      claim = λ n below idle inside. jobs.claims job room laws slots id v xs k is.from is.to is.workers is.enrolled is.plan n below idle inside;
+      claim_past_the_last = λ n past some_workers. looks.strays job room laws slots id v xs k is.from is.to n (subst (λ (count : ℕ). count ≤ n) (sym is.nodes) past) some_workers;
+      tick = λ due inside. jobs.draws_due job room laws slots id v xs k is.from is.to is.workers is.enrolled is.plan due inside;
+      open_right = λ p l r task kind inside. jobs.opens_right job room laws slots id v xs k is.from is.to is.workers is.enrolled is.plan p l r task kind inside;
+      open_left = λ p l r task kind inside. jobs.opens_left job room laws slots id v xs k is.from is.to is.workers is.enrolled is.plan p l r task kind inside;
+      open_first = λ p l r task kind inside. jobs.opens_first job room laws slots id v xs k is.from is.to is.workers is.enrolled is.plan p l r task kind inside;
+      open_second = λ p l r task kind inside. jobs.opens_second job room laws slots id v xs k is.from is.to is.workers is.enrolled is.plan p l r task kind inside;
+      keep = λ n start x task below value inside. jobs.keeps_value job room laws slots id v xs k is.from is.to is.workers is.enrolled is.plan _ n start x refl task below value inside;
+      finish_leaf = λ n start end task below inside. jobs.finishes_leaf job room laws slots id v xs k is.from is.to is.workers is.enrolled is.plan n start end task below inside;
+      finish_series = λ p l r task kind below inside. jobs.finishes_seq job room laws slots id v xs k is.from is.to is.workers is.enrolled is.plan p l r task kind below inside;
+      finish_block = λ p l r task kind below inside. jobs.finishes_par job room laws slots id v xs k is.from is.to is.workers is.enrolled is.plan p l r task kind below inside;
+      arrive = λ p l r n task kind side below inside. jobs.arrives job room laws slots id v xs k is.from is.to is.workers is.enrolled is.plan _ p l r n refl task is.nodes kind side below inside;
       post = λ call record_ called. gate.posts job room laws slots id v xs k is.from is.to call is.enrolled record_ called;
       win = λ out. gate.wins job room laws slots id v xs k is.from is.to is.workers out is.room;
       take = λ h u holds next low. gate.looks job room laws slots id v xs k is.from is.to h u is.room holds next low;

@@ -22,6 +22,6 @@ compare_exchange-requires-2 c =
       c.requires.pass.0,
       omega (arith, self.sized.0, below),
       rw self.key.0
-          (λ a b d e f. let x = (claims job (room_of self.setting) laws _ _ pass.seat.me.0 pass.seat.me.1 pass.worker pass.number.0 pass.number.1 c.requires.pass.2 c.requires.pass.4
+          (λ a b d e f. let x = (claims job (room_of self.setting) laws _ _ pass.seat.me.0 pass.seat.me.1 pass.worker pass.number.0 pass.number.1 c.requires.pass.2 c.requires.pass.4 c.requires.pass.9
           c.args.node (omega (arith, below, self.key.1)) c.requires.idle c.requires.free) a b d e f in (x.0, x.1, x.2, x.3.0, x.4)),
     )

@@ -12,6 +12,6 @@ store-requires c =
     let here = ended_in job v.task c.args.node c.args.start c.args.end c.requires.ended c.requires.pass.5 in (
       c.requires.pass.0,
       omega (arith, self.sized.0, self.key.1, here.0),
-      rw self.key.0 (λ a b d e f. let x = (finishes_leaf job (room_of self.setting) laws _ _ v pass.seat.me.1 pass.worker pass.number.0 pass.number.1 c.requires.pass.2 c.requires.pass.4
+      rw self.key.0 (λ a b d e f. let x = (finishes_leaf job (room_of self.setting) laws _ _ v pass.seat.me.1 pass.worker pass.number.0 pass.number.1 c.requires.pass.2 c.requires.pass.4 c.requires.pass.9
           c.args.node c.args.start c.args.end c.requires.ended here.0 c.requires.free) a b d e f in (x.0, x.1, x.2, x.3.0, x.4)),
     )

@@ -24,7 +24,7 @@ new-requires c =
     let are = c.deref.ensures.value ∙ (c.in_ok-words.ensures ∙ (ap (λ (n : ℕ). set (replicate (workers + 4 + n + n + n) 0) (workers + 4) 1) nodes
     ∙ ap (λ (i : ℕ). set (replicate (workers + 4 + job.plan.count + job.plan.count + job.plan.count) 0) i 1) root)) in
     let room = c.count_calls-room.ensures workers ∙ ap (λ (l : List Act). call_count (core_job setting.plan l workers)) c.as_slice.ensures.value in
-    rw (c.in_ok-slots.ensures, room) (starts job (room_of setting) laws c.deref.result.now are)
+    rw (c.in_ok-slots.ensures, room) (starts job (room_of setting) setting.plan laws c.deref.result.now are)
 
 pub split_seat-own-requires : goal.split_seat-own-requires
 split_seat-own-requires c =

@@ -1,4 +1,8 @@
-use Rattle.std.proofs.Common.{◌≡◌, sym, ap, ◌∙◌, arith, Some}
+use Rattle.std.proofs.Common.{ℕ, ◌≡◌, refl, sym, ap, ◌∙◌, arith, Some, inl}
+use Rattle.core_table.specs.CoreWords.{Run, Half, OpenParRight}
+use Rattle.core_table.specs.Passes.{opened_task, half_if}
+use Rattle.core_table.specs.Plays.{Sat}
+use Rattle.core_table.specs.Views.{with_event, opening}
 use Rattle.sp_order.specs.declared.node.Kind.TheVariants.{SeqNode, ParNode}
 use Rattle.core_table.specs.Shows.{room_of, job_of}
 use Rattle.core_table.proofs.TableLemmas.Moved.{few_nodes}
@@ -14,7 +18,7 @@ store-requires c =
     let sides = par_sides job.plan c.args.node c.in-ParNode._left c.in-ParNode.right laws.plan kind in (
       c.requires.pass.0,
       omega (arith, self.sized.0, self.key.1, sides.1),
-      rw self.key.0 (λ a b d e f. let x = (opens_right job (room_of self.setting) laws _ _ v pass.seat.me.1 pass.worker pass.number.0 pass.number.1 c.requires.pass.2 c.requires.pass.4
+      rw self.key.0 (λ a b d e f. let x = (opens_right job (room_of self.setting) laws _ _ v pass.seat.me.1 pass.worker pass.number.0 pass.number.1 c.requires.pass.2 c.requires.pass.4 c.requires.pass.9
           c.args.node c.in-ParNode._left c.in-ParNode.right c.requires.run kind c.requires.free) a b d e f in (x.0, x.1, x.2, x.3.0, x.4)),
     )
 
@@ -26,6 +30,20 @@ store-requires-in-SeqNode c =
     let sides = seq_sides job.plan c.args.node c.in-SeqNode.left c.in-SeqNode._right laws.plan kind in (
       c.requires.pass.0,
       omega (arith, self.sized.0, self.key.1, sides.0),
-      rw self.key.0 (λ a b d e f. let x = (opens_first job (room_of self.setting) laws _ _ v pass.seat.me.1 pass.worker pass.number.0 pass.number.1 c.requires.pass.2 c.requires.pass.4
+      rw self.key.0 (λ a b d e f. let x = (opens_first job (room_of self.setting) laws _ _ v pass.seat.me.1 pass.worker pass.number.0 pass.number.1 c.requires.pass.2 c.requires.pass.4 c.requires.pass.9
           c.args.node c.in-SeqNode.left c.in-SeqNode._right c.requires.run kind c.requires.free) a b d e f in (x.0, x.1, x.2, x.3.0, x.4)),
     )
+
+pub returns-in-ParNode-clause-opened : goal.returns-in-ParNode-clause-opened
+returns-in-ParNode-clause-opened c =
+    let self = c.args.self.now in let v = c.args.pass.now.seat.me.0 in let job = job_of self.setting in
+    let node = c.args.node in let right = c.in-ParNode.right in
+    let kind : job.plan.kind node ≡ Some (ParNode c.in-ParNode._left right) = sym c.kind.ensures ∙ ap Some c.in-ParNode.is in
+    let t = c.store.ensures.2 in
+    let here : t.0 ≡ right = omega (arith, t.3, c.requires.pass.2) in
+    let both : Run t.1 ≡ Run node = sym t.4 ∙ c.requires.run in
+    let at : t.1 ≡ node = cc in
+    let half : Half t.1 ≡ opened_task job (Run node) = ap Half at ∙ sym (ap (λ k. half_if k node) kind) in
+    let told : job.plan.kind node ≡ Some (ParNode t.2 right) =
+    sym (λ i. (c.requires.pass.9 i).kind (at i)) ∙ (t.5 ∙ ap (λ (n : ℕ). Some (ParNode t.2 n)) here) in
+    (OpenParRight node t.2 right, inl (t.2, told, refl), ap (λ (m : Sat). m.0) t.6 ∙ (λ i. with_event (opening v (here i) (half i)) (OpenParRight (at i) t.2 (here i))))

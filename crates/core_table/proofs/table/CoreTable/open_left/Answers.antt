@@ -14,6 +14,6 @@ store-requires c =
     let sides = par_sides job.plan c.args.node c.in-ParNode.left c.in-ParNode._right laws.plan kind in (
       c.requires.pass.0,
       omega (arith, self.sized.0, self.key.1, sides.0),
-      rw self.key.0 (λ a b d e f. let x = (opens_left job (room_of self.setting) laws _ _ v pass.seat.me.1 pass.worker pass.number.0 pass.number.1 c.requires.pass.2 c.requires.pass.4
+      rw self.key.0 (λ a b d e f. let x = (opens_left job (room_of self.setting) laws _ _ v pass.seat.me.1 pass.worker pass.number.0 pass.number.1 c.requires.pass.2 c.requires.pass.4 c.requires.pass.9
           c.args.node c.in-ParNode.left c.in-ParNode._right c.requires.half kind c.requires.free) a b d e f in (x.0, x.1, x.2, x.3.0, x.4)),
     )

@@ -7,7 +7,8 @@ use Rattle.core_table.proofs.StepLemmas.GateSteps.{posts_at}
 use Rattle.atomic_table.specs.Table.{rest}
 use Rattle.core_table.specs.Plays.{Sat}
 use Rattle.core_table.proofs.ListLemmas.Owed.{remembers_kept}
-use Rattle.core_table.specs.Views.{posting}
+use Rattle.core_table.specs.Views.{with_event, posting}
+use Rattle.core_table.specs.CoreWords.{Post}
 use Rattle.core_table.proofs.PassLemmas.PassKept.{pass_made, first, carries_posted}
 use Rattle.core_table.proofs.table.CoreTable.post.Goals as goal
 
@@ -27,14 +28,18 @@ returns-clause-pass c =
     let self = c.args.self.now in let pass = c.args.pass.now in let old = pass.seat in let v = old.me.0 in
     let own = c.requires.pass.7.free (λ e. let f = sym c.requires.free ∙ e in absurd (cc)) in
     let put = swapped old.me c.exchange.new.seat.me v pass.worker Slots.Vacant (Slots.Record c.args.call) [] (λ i. (v, own.1 i)) c.exchange.ensures.3 in
-    let told = c.store.ensures.2 c.args.call (first _ _ _ _ _ put) ∙ ap (λ (m : Sat). (posting m.0 c.args.call, rest m.1)) put in
-    pass_made self.setting _ pass.worker old c.store.new.seat (posting v c.args.call) [] (c.store.ensures.0 ∙ c.exchange.ensures.0) told refl refl refl refl refl
-    (carries_posted pass.worker v c.args.call own.0) (remembers_kept v (posting v c.args.call) _ _ refl c.requires.pass.8) c.requires.pass
+    let t = c.store.ensures.2 c.args.call (first _ _ _ _ _ put) in
+    let event = Post t.0 t.1 in
+    let told = t.3 ∙ ap (λ (m : Sat). (with_event (posting m.0 c.args.call) event, rest m.1)) put in
+    pass_made self.setting _ pass.worker old c.store.new.seat (with_event (posting v c.args.call) event) [] (c.store.ensures.0 ∙ c.exchange.ensures.0) told refl refl refl refl refl refl
+    (carries_posted pass.worker v c.args.call event own.0) (remembers_kept v (with_event (posting v c.args.call) event) _ _ refl c.requires.pass.8) c.requires.pass
 
 pub returns-clause-posted : goal.returns-clause-posted
 returns-clause-posted c =
     let pass = c.args.pass.now in let old = pass.seat in let v = old.me.0 in
     let own = c.requires.pass.7.free (λ e. let f = sym c.requires.free ∙ e in absurd (cc)) in
     let put = swapped old.me c.exchange.new.seat.me v pass.worker Slots.Vacant (Slots.Record c.args.call) [] (λ i. (v, own.1 i)) c.exchange.ensures.3 in
-    let told = c.store.ensures.2 c.args.call (first _ _ _ _ _ put) ∙ ap (λ (m : Sat). (posting m.0 c.args.call, rest m.1)) put in
-    ap (λ (m : Sat). m.0) told
+    let t = c.store.ensures.2 c.args.call (first _ _ _ _ _ put) in
+    let event = Post t.0 t.1 in
+    let told = t.3 ∙ ap (λ (m : Sat). (with_event (posting m.0 c.args.call) event, rest m.1)) put in
+    (t.0, t.1, ap (λ (m : Sat). m.0.task) (sym put) ∙ t.2, ap (λ (m : Sat). m.0) told)

@@ -7,9 +7,10 @@ use Rattle.core_table.specs.Batches.{IsPublishDue}
 use Rattle.core_table.specs.Carries.{vacant}
 use Rattle.core_table.specs.Plays.{Sat}
 use Rattle.core_table.specs.Shows.{reserved, room_of, job_of}
-use Rattle.core_table.specs.Views.{with_hold, published_view}
+use Rattle.core_table.specs.CoreWords.{Publish}
+use Rattle.core_table.specs.Views.{with_event, with_hold, published_view}
 use Rattle.core_table.proofs.TableLemmas.Moved.{few_nodes}
-use Rattle.core_table.proofs.PassLemmas.PassKept.{pass_made, first, swapped, turned_to, carries_published, holder_list, found_book, books}
+use Rattle.core_table.proofs.PassLemmas.PassKept.{held_out, pass_made, first, swapped, turned_to, carries_published, holder_list, found_book, books}
 use Rattle.core_table.proofs.ListLemmas.Owed.{remembers_hold, owes_published}
 use Rattle.core_table.proofs.ListLemmas.CallCounts.{room_few, few_batches_in}
 use Rattle.core_table.proofs.StepLemmas.PublishStep.{admits, publishes_at}
@@ -95,8 +96,8 @@ invariant_of-pass c =
     ∙ ap (λ (b : ReservedView). (v, (workers + 1, Slots.Book b) ∷ tail)) whole in
     let told = c.fetch_add.ensures.2 h c.args.batch (ap (λ (m : Sat). m.0.hold) put_back ∙ holds)
     (first _ _ _ _ _ put_back ∙ ap (λ (r : ℕ). (workers + 1, Slots.Book (reserved (h.book ++ c.args.batch ∷ []) r)) ∷ rest c.exchange-2.new.seat.me.1) (sym (ap (λ (m : Sat). m.0.room) put_back ∙ c.requires.pass.6))) in
-    let w = with_hold v (published_view h c.args.batch) in
-    let here = told ∙ ap (λ (m : Sat). (with_hold m.0 (published_view h c.args.batch), rest m.1)) put_back in
+    let w = with_event (with_hold v (published_view h c.args.batch)) Publish in
+    let here = told ∙ ap (λ (m : Sat). (with_event (with_hold m.0 (published_view h c.args.batch)) Publish, rest m.1)) put_back in
     let last = turned_to _ c.turn.new.self.me w tail here c.turn.ensures.2 in
     record {
       number = (ap (λ (m : Sat). m.0.from) last ∙ pass.number.0, ap (λ (m : Sat). m.0.to) last ∙ pass.number.1);
@@ -120,12 +121,12 @@ returns-clause-pass c =
     ∙ ap (λ (b : ReservedView). (v, (workers + 1, Slots.Book b) ∷ tail)) whole in
     let told = c.fetch_add.ensures.2 h c.args.batch (ap (λ (m : Sat). m.0.hold) put_back ∙ holds)
     (first _ _ _ _ _ put_back ∙ ap (λ (r : ℕ). (workers + 1, Slots.Book (reserved (h.book ++ c.args.batch ∷ []) r)) ∷ rest c.exchange-2.new.seat.me.1) (sym (ap (λ (m : Sat). m.0.room) put_back ∙ c.requires.pass.6))) in
-    let w = with_hold v (published_view h c.args.batch) in
-    let here = told ∙ ap (λ (m : Sat). (with_hold m.0 (published_view h c.args.batch), rest m.1)) put_back in
+    let w = with_event (with_hold v (published_view h c.args.batch)) Publish in
+    let here = told ∙ ap (λ (m : Sat). (with_event (with_hold m.0 (published_view h c.args.batch)) Publish, rest m.1)) put_back in
     let last = turned_to _ c.turn.new.self.me w tail here c.turn.ensures.2 in
     pass_made self.setting _ pass.worker old c.turn.new.self w (vacant h.owed ++ (workers, Slots.Vacant) ∷ [])
-    (c.turn.ensures.0 ∙ (c.fetch_add.ensures.0 ∙ (c.exchange-2.ensures.0 ∙ (c.exchange.ensures.0 ∙ c.load.ensures.0)))) last refl refl refl refl refl
-    (carries_published pass.worker workers v h c.args.batch c.requires.trapped c.requires.pass.2)
+    (c.turn.ensures.0 ∙ (c.fetch_add.ensures.0 ∙ (c.exchange-2.ensures.0 ∙ (c.exchange.ensures.0 ∙ c.load.ensures.0)))) last refl refl refl refl refl refl
+    (carries_published pass.worker workers v h c.args.batch (held_out pass.worker old.me h c.requires.pass.7 holds) c.requires.pass.2)
     (let m = c.requires.pass.8.holds h holds in remembers_hold w _ true (published_view h c.args.batch) refl m.0 refl (owes_published h c.args.batch m.2)) c.requires.pass
 
 pub returns-clause-published : goal.returns-clause-published
@@ -144,7 +145,7 @@ returns-clause-published c =
     ∙ ap (λ (b : ReservedView). (v, (workers + 1, Slots.Book b) ∷ tail)) whole in
     let told = c.fetch_add.ensures.2 h c.args.batch (ap (λ (m : Sat). m.0.hold) put_back ∙ holds)
     (first _ _ _ _ _ put_back ∙ ap (λ (r : ℕ). (workers + 1, Slots.Book (reserved (h.book ++ c.args.batch ∷ []) r)) ∷ rest c.exchange-2.new.seat.me.1) (sym (ap (λ (m : Sat). m.0.room) put_back ∙ c.requires.pass.6))) in
-    let w = with_hold v (published_view h c.args.batch) in
-    let here = told ∙ ap (λ (m : Sat). (with_hold m.0 (published_view h c.args.batch), rest m.1)) put_back in
+    let w = with_event (with_hold v (published_view h c.args.batch)) Publish in
+    let here = told ∙ ap (λ (m : Sat). (with_event (with_hold m.0 (published_view h c.args.batch)) Publish, rest m.1)) put_back in
     let last = turned_to _ c.turn.new.self.me w tail here c.turn.ensures.2 in
     (h, holds, ap (λ (m : Sat). m.0) last)

@@ -4,10 +4,11 @@ use Rattle.core_table.specs.declared.slot.Slot.TheVariants as Slots
 use Rattle.core_table.specs.Carries.{vacant}
 use Rattle.core_table.specs.Plays.{Sat}
 use Rattle.core_table.specs.Shows.{reserved, room_of, job_of}
-use Rattle.core_table.specs.Views.{releasing}
+use Rattle.core_table.specs.CoreWords.{Release}
+use Rattle.core_table.specs.Views.{with_event, releasing}
 use Rattle.core_table.proofs.TableLemmas.Moved.{few_nodes}
 use Rattle.core_table.proofs.ListLemmas.Owed.{owes_nobody, remembers_none}
-use Rattle.core_table.proofs.PassLemmas.PassKept.{pass_made, first, swapped, turned_to, holder_list, carries_released}
+use Rattle.core_table.proofs.PassLemmas.PassKept.{held_out, pass_made, first, swapped, turned_to, holder_list, carries_released}
 use Rattle.core_table.proofs.StepLemmas.GateSteps.{releases_both_at}
 use Rattle.core_table.proofs.table.CoreTable.release_both.Goals as goal
 
@@ -54,9 +55,9 @@ returns-clause-pass c =
     let after = (workers + 1, Slots.Book book) ∷ [] in
     let turned_list = turned_to old.me c.turn.new.self.me v ((workers + 1, Slots.Book book) ∷ (workers, Slots.Vacant) ∷ []) list c.turn.ensures.2 in
     let put = swapped c.turn.new.self.me c.exchange.new.seat.me v workers Slots.Vacant (Slots.Shop c.args.shop) after turned_list c.exchange.ensures.3 in
-    let last = c.store.ensures.2 ∙ ap (λ (m : Sat). (releasing m.0, rest (rest m.1))) put in
-    pass_made self.setting _ pass.worker old c.store.new.seat (releasing v) [] (c.store.ensures.0 ∙ (c.exchange.ensures.0 ∙ c.turn.ensures.0)) last refl refl refl refl refl
-    (carries_released pass.worker v c.requires.trapped) (remembers_none (releasing v) _ _ refl (m.0 ∙ nobody)) c.requires.pass
+    let last = c.store.ensures.2 ∙ ap (λ (m : Sat). (with_event (releasing m.0) Release, rest (rest m.1))) put in
+    pass_made self.setting _ pass.worker old c.store.new.seat (with_event (releasing v) Release) [] (c.store.ensures.0 ∙ (c.exchange.ensures.0 ∙ c.turn.ensures.0)) last refl refl refl refl refl refl
+    (carries_released pass.worker v (held_out pass.worker old.me h c.requires.pass.7 holds)) (remembers_none (with_event (releasing v) Release) _ _ refl (m.0 ∙ nobody)) c.requires.pass
 
 pub returns-clause-released : goal.returns-clause-released
 returns-clause-released c =
@@ -70,4 +71,4 @@ returns-clause-released c =
     let after = (workers + 1, Slots.Book book) ∷ [] in
     let turned_list = turned_to old.me c.turn.new.self.me v ((workers + 1, Slots.Book book) ∷ (workers, Slots.Vacant) ∷ []) list c.turn.ensures.2 in
     let put = swapped c.turn.new.self.me c.exchange.new.seat.me v workers Slots.Vacant (Slots.Shop c.args.shop) after turned_list c.exchange.ensures.3 in
-    ap (λ (m : Sat). m.0) (c.store.ensures.2 ∙ ap (λ (m : Sat). (releasing m.0, rest (rest m.1))) put)
+    ap (λ (m : Sat). m.0) (c.store.ensures.2 ∙ ap (λ (m : Sat). (with_event (releasing m.0) Release, rest (rest m.1))) put)

@@ -3,10 +3,11 @@ use Rattle.atomic_table.specs.Table.{rest}
 use Rattle.core_table.specs.declared.slot.Slot.TheVariants as Slots
 use Rattle.core_table.specs.Plays.{Sat}
 use Rattle.core_table.specs.Shows.{room_of, job_of}
-use Rattle.core_table.specs.Views.{releasing}
+use Rattle.core_table.specs.CoreWords.{Release}
+use Rattle.core_table.specs.Views.{with_event, releasing}
 use Rattle.core_table.proofs.TableLemmas.Moved.{few_nodes}
 use Rattle.core_table.proofs.ListLemmas.Owed.{owes_nobody, remembers_none}
-use Rattle.core_table.proofs.PassLemmas.PassKept.{pass_made, first, swapped, holder_after, carries_released}
+use Rattle.core_table.proofs.PassLemmas.PassKept.{held_out, pass_made, first, swapped, holder_after, carries_released}
 use Rattle.core_table.proofs.StepLemmas.GateSteps.{releases_shop_at}
 use Rattle.core_table.proofs.table.CoreTable.release_shop.Goals as goal
 
@@ -44,9 +45,9 @@ returns-clause-pass c =
     let published : h.published ≡ true = sym m.1 ∙ c.requires.published in
     let list = holder_after pass.worker workers old.me h [] holds published nobody c.requires.pass.2 c.requires.pass.7 in
     let put = swapped old.me c.exchange.new.seat.me v workers Slots.Vacant (Slots.Shop c.args.shop) [] list c.exchange.ensures.3 in
-    let last = c.store.ensures.2 ∙ ap (λ (m : Sat). (releasing m.0, rest m.1)) put in
-    pass_made self.setting _ pass.worker old c.store.new.seat (releasing v) [] (c.store.ensures.0 ∙ c.exchange.ensures.0) last refl refl refl refl refl
-    (carries_released pass.worker v c.requires.trapped) (remembers_none (releasing v) _ _ refl (m.0 ∙ nobody)) c.requires.pass
+    let last = c.store.ensures.2 ∙ ap (λ (m : Sat). (with_event (releasing m.0) Release, rest m.1)) put in
+    pass_made self.setting _ pass.worker old c.store.new.seat (with_event (releasing v) Release) [] (c.store.ensures.0 ∙ c.exchange.ensures.0) last refl refl refl refl refl refl
+    (carries_released pass.worker v (held_out pass.worker old.me h c.requires.pass.7 holds)) (remembers_none (with_event (releasing v) Release) _ _ refl (m.0 ∙ nobody)) c.requires.pass
 
 pub returns-clause-released : goal.returns-clause-released
 returns-clause-released c =
@@ -57,4 +58,4 @@ returns-clause-released c =
     let published : h.published ≡ true = sym m.1 ∙ c.requires.published in
     let list = holder_after pass.worker workers old.me h [] holds published nobody c.requires.pass.2 c.requires.pass.7 in
     let put = swapped old.me c.exchange.new.seat.me v workers Slots.Vacant (Slots.Shop c.args.shop) [] list c.exchange.ensures.3 in
-    ap (λ (m : Sat). m.0) (c.store.ensures.2 ∙ ap (λ (m : Sat). (releasing m.0, rest m.1)) put)
+    ap (λ (m : Sat). m.0) (c.store.ensures.2 ∙ ap (λ (m : Sat). (with_event (releasing m.0) Release, rest m.1)) put)

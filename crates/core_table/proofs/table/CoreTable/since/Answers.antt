@@ -19,4 +19,4 @@ load-requires c =
 pub returns-clause-pass : goal.returns-clause-pass
 returns-clause-pass c =
     let old = c.args.pass.now.seat in
-    pass_kept c.args.self.now.setting _ c.args.pass.now.worker old c.load.new.seat (hearing old.me.0 c.load.result) c.load.ensures.0 c.load.ensures.2.0 refl refl refl refl refl refl refl c.requires.pass
+    pass_kept c.args.self.now.setting _ c.args.pass.now.worker old c.load.new.seat (hearing old.me.0 c.load.result) c.load.ensures.0 c.load.ensures.2.0 refl refl refl refl refl refl refl refl c.requires.pass

@@ -18,4 +18,4 @@ store-requires c =
 pub returns-clause-pass : goal.returns-clause-pass
 returns-clause-pass c =
     let old = c.args.pass.now.seat in
-    pass_kept c.args.self.now.setting _ c.args.pass.now.worker old c.store.new.seat (stopping old.me.0) c.store.ensures.0 c.store.ensures.2.0 refl refl refl refl refl refl refl c.requires.pass
+    pass_kept c.args.self.now.setting _ c.args.pass.now.worker old c.store.new.seat (stopping old.me.0) c.store.ensures.0 c.store.ensures.2.0 refl refl refl refl refl refl refl refl c.requires.pass

@@ -19,6 +19,6 @@ load-requires c =
 pub returns-clause-pass : goal.returns-clause-pass
 returns-clause-pass c =
     let old = c.args.pass.now.seat in elim (cases_eq c.load.result 1) [
-      | inl e ↦ pass_kept c.args.self.now.setting _ c.args.pass.now.worker old c.load.new.seat (finding_stop old.me.0) c.load.ensures.0 (c.load.ensures.2.0 e) refl refl refl refl refl refl refl c.requires.pass
-      | inr ne ↦ pass_kept c.args.self.now.setting _ c.args.pass.now.worker old c.load.new.seat (finding_none old.me.0) c.load.ensures.0 (c.load.ensures.2.1 ne) refl refl refl refl refl refl refl c.requires.pass
+      | inl e ↦ pass_kept c.args.self.now.setting _ c.args.pass.now.worker old c.load.new.seat (finding_stop old.me.0) c.load.ensures.0 (c.load.ensures.2.0 e) refl refl refl refl refl refl refl refl c.requires.pass
+      | inr ne ↦ pass_kept c.args.self.now.setting _ c.args.pass.now.worker old c.load.new.seat (finding_none old.me.0 c.load.result) c.load.ensures.0 (c.load.ensures.2.1 ne) refl refl refl refl refl refl refl refl c.requires.pass
     ]

@@ -3,12 +3,13 @@ use Rattle.core_model.specs.declared.status.CallState.TheVariants.{Out}
 use Rattle.core_table.specs.declared.slot.Slot.TheVariants as Slots
 use Rattle.core_table.specs.Shows.{room_of, job_of}
 use Rattle.core_table.proofs.TableLemmas.Moved.{few_nodes}
-use Rattle.core_table.proofs.PassLemmas.PassKept.{pass_made, first, swapped, turned_to, carries_took, carries_passed}
+use Rattle.core_table.proofs.PassLemmas.PassKept.{held_out, pass_made, first, swapped, turned_to, carries_took, carries_passed}
 use Rattle.core_table.specs.declared.view.HoldView.{HoldView}
 use Rattle.core_table.specs.Remembers.{Owes}
 use Rattle.core_table.proofs.ListLemmas.Owed.{remembers_hold, owes_passed, owes_taken}
 use Rattle.core_table.proofs.PassLemmas.PassKept.{same_hold}
-use Rattle.core_table.specs.Views.{passing, with_hold, taken_view, passed_view}
+use Rattle.core_table.specs.CoreWords.{Take}
+use Rattle.core_table.specs.Views.{with_event, passing, with_hold, taken_view, passed_view}
 use Rattle.core_table.proofs.StepLemmas.GateSteps.{looks}
 use Rattle.core_table.proofs.table.CoreTable.take.Goals as goal
 
@@ -30,22 +31,22 @@ exchange-slot-requires c =
 pub returns-then-seen-ne1-clause-pass : goal.returns-then-seen-ne1-clause-pass
 returns-then-seen-ne1-clause-pass c =
     let old = c.args.pass.now.seat in let e = c.compare_exchange-seen.ensures.2 in
-    let w = passing old.me.0 e.0 c.compare_exchange-seen.result in
-    let out : old.me.0.call ≡ Out = c.requires.trapped in
-    pass_made c.args.self.now.setting _ c.args.pass.now.worker old c.compare_exchange-seen.new.seat w old.me.1 c.compare_exchange-seen.ensures.0 (e.4 c.if-seen-ne1.true) refl refl refl refl refl
-    (carries_passed c.args.pass.now.worker old.me.0 e.0 c.compare_exchange-seen.result old.me.1 out e.1 c.requires.pass.7)
+    let w = with_event (passing old.me.0 e.0 c.compare_exchange-seen.result) (Take c.args.u) in
+    let out : old.me.0.call ≡ Out = held_out c.args.pass.now.worker old.me e.0 c.requires.pass.7 e.1 in
+    pass_made c.args.self.now.setting _ c.args.pass.now.worker old c.compare_exchange-seen.new.seat w old.me.1 c.compare_exchange-seen.ensures.0 (e.4 c.if-seen-ne1.true) refl refl refl refl refl refl
+    (carries_passed c.args.pass.now.worker c.args.u old.me.0 e.0 c.compare_exchange-seen.result old.me.1 out e.1 c.requires.pass.7)
     (let m = c.requires.pass.8.holds e.0 e.1 in remembers_hold w _ _ (passed_view e.0) refl m.0 m.1 (owes_passed e.0 m.2)) c.requires.pass
 
 pub returns-clause-pass : goal.returns-clause-pass
 returns-clause-pass c =
     let old = c.args.pass.now.seat in let u = c.args.u in
     let e = c.compare_exchange-seen.ensures.2 in let t = e.3 c.if-seen-ne1.false in
-    let w = with_hold old.me.0 (taken_view e.0 u t.0) in
-    let out : old.me.0.call ≡ Out = c.requires.trapped in
+    let w = with_event (with_hold old.me.0 (taken_view e.0 u t.0)) (Take u) in
+    let out : old.me.0.call ≡ Out = held_out c.args.pass.now.worker old.me e.0 c.requires.pass.7 e.1 in
     let emptied = swapped _ _ w u (Slots.Record t.0) Slots.Vacant old.me.1 t.2 c.exchange-slot.ensures.3 in
     let last = turned_to _ c.turn.new.self.me w ((u, Slots.Vacant) ∷ old.me.1) emptied c.turn.ensures.2 in
     pass_made c.args.self.now.setting _ c.args.pass.now.worker old c.turn.new.self w (old.me.1 ++ (u, Slots.Vacant) ∷ [])
-    (c.turn.ensures.0 ∙ (c.exchange-slot.ensures.0 ∙ c.compare_exchange-seen.ensures.0)) last refl refl refl refl refl
+    (c.turn.ensures.0 ∙ (c.exchange-slot.ensures.0 ∙ c.compare_exchange-seen.ensures.0)) last refl refl refl refl refl refl
     (carries_took c.args.pass.now.worker u old.me.0 e.0 t.0 old.me.1 out e.1 e.2 c.requires.pass.7)
     (let m = c.requires.pass.8.holds e.0 e.1 in
     let next = c.requires.next in

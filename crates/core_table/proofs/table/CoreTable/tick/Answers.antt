@@ -11,6 +11,6 @@ fetch_add-tick-requires c =
       c.requires.pass.0,
       omega (arith, self.sized.0),
       rw self.key.0
-          (λ a b d e f. let x = (draws_due job (room_of self.setting) laws _ _ pass.seat.me.0 pass.seat.me.1 pass.worker pass.number.0 pass.number.1 c.requires.pass.2 c.requires.pass.4
+          (λ a b d e f. let x = (draws_due job (room_of self.setting) laws _ _ pass.seat.me.0 pass.seat.me.1 pass.worker pass.number.0 pass.number.1 c.requires.pass.2 c.requires.pass.4 c.requires.pass.9
           c.requires.due c.requires.free) a b d e f in (x.0, x.1, x.2, x.3.0, x.4)),
     )

@@ -5,7 +5,8 @@ use Rattle.core_table.specs.Shows.{reserved, room_of, job_of}
 use Rattle.core_table.proofs.TableLemmas.Moved.{few_nodes}
 use Rattle.core_table.proofs.PassLemmas.PassKept.{pass_kept, pass_made, first, swapped, turned_to, carries_won}
 use Rattle.core_table.proofs.ListLemmas.Owed.{remembers_hold, owes_new}
-use Rattle.core_table.specs.Views.{new_view, winning, losing}
+use Rattle.core_table.specs.CoreWords.{Win}
+use Rattle.core_table.specs.Views.{with_event, new_view, winning, losing}
 use Rattle.core_table.proofs.StepLemmas.GateSteps.{wins}
 use Rattle.core_table.proofs.table.CoreTable.win.Goals as goal
 
@@ -21,7 +22,7 @@ compare_exchange-requires c =
 pub returns-then-compare_exchange-ne0-clause-pass : goal.returns-then-compare_exchange-ne0-clause-pass
 returns-then-compare_exchange-ne0-clause-pass c =
     let old = c.args.pass.now.seat in
-    pass_kept c.args.self.now.setting _ c.args.pass.now.worker old c.compare_exchange.new.seat (losing old.me.0) c.compare_exchange.ensures.0 (c.compare_exchange.ensures.2.1 c.if-compare_exchange-ne0.true) refl refl refl refl refl refl refl c.requires.pass
+    pass_kept c.args.self.now.setting _ c.args.pass.now.worker old c.compare_exchange.new.seat (losing old.me.0 c.compare_exchange.result) c.compare_exchange.ensures.0 (c.compare_exchange.ensures.2.1 c.if-compare_exchange-ne0.true) refl refl refl refl refl refl refl refl c.requires.pass
 
 pub exchange-slot-requires : goal.exchange-slot-requires
 exchange-slot-requires c =
@@ -32,13 +33,13 @@ pub returns-clause-pass : goal.returns-clause-pass
 returns-clause-pass c =
     let old = c.args.pass.now.seat in let workers = c.args.self.now.setting.workers in
     let t = c.compare_exchange.ensures.2.0 c.if-compare_exchange-ne0.false in
-    let w = winning old.me.0 t.1 in let book = reserved t.1 old.me.0.room in
+    let w = with_event (winning old.me.0 t.1) Win in let book = reserved t.1 old.me.0.room in
     let out : old.me.0.call ≡ Out = c.requires.trapped in
     let nothing : old.me.1 ≡ [] = c.requires.pass.7.trapped out t.0 in
     let won = t.2 ∙ ap (λ l. (w, (workers, Slots.Shop t.1) ∷ (workers + 1, Slots.Book book) ∷ l)) nothing in
     let emptied = swapped _ _ w workers (Slots.Shop t.1) Slots.Vacant ((workers + 1, Slots.Book book) ∷ []) won c.exchange-slot.ensures.3 in
     let last = turned_to _ c.turn.new.self.me w ((workers, Slots.Vacant) ∷ (workers + 1, Slots.Book book) ∷ []) emptied c.turn.ensures.2 in
     pass_made c.args.self.now.setting _ c.args.pass.now.worker old c.turn.new.self w ((workers + 1, Slots.Book book) ∷ (workers, Slots.Vacant) ∷ [])
-    (c.turn.ensures.0 ∙ (c.exchange-slot.ensures.0 ∙ c.compare_exchange.ensures.0)) last refl refl refl refl refl
+    (c.turn.ensures.0 ∙ (c.exchange-slot.ensures.0 ∙ c.compare_exchange.ensures.0)) last refl refl refl refl refl refl
     (carries_won c.args.pass.now.worker workers old.me.0 t.1 out c.requires.pass.2)
     (remembers_hold w _ false (new_view t.1) refl (c.requires.pass.8.none t.0) refl (owes_new t.1)) c.requires.pass

@@ -171,6 +171,11 @@ publishing batch p = record p { hold = in_hold (after_publish batch) p.hold }
 abbrev pub answering : ℕ → PassSeen → PassSeen
 answering u p = record p { hold = in_hold (after_answer u) p.hold }
 
--- the hold as it was released stays known
+-- the book of a hold; without a hold the book that was seen before
+abbrev pub book_after : Option HoldSeen → List (List Entry) → List (List Entry)
+book_after None seen = seen
+book_after (Some h) seen = h.book
+
+-- The hold stays known as it was when it was released, and its book is the one that the pass has seen.
 abbrev pub releasing : PassSeen → PassSeen
-releasing p = record p { hold = None; last = p.hold }
+releasing p = record p { hold = None; last = p.hold; book_seen = book_after p.hold p.book_seen }

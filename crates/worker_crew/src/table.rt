@@ -10,7 +10,7 @@ ghost use Rattle.worker_crew.specs.Passes.{PassSeen, IsFree, IsTrapped, IsHeld, 
 ghost use Rattle.worker_crew.specs.Passes.{claiming, refusing, with_task, opening, keeping};
 ghost use Rattle.worker_crew.specs.Passes.{posting, hearing, winning, losing, taking, passing};
 ghost use Rattle.worker_crew.specs.Passes.{publishing, answering, releasing, stopping};
-ghost use Rattle.worker_crew.specs.Passes.{IsLeft, IsDue, staying, finding_stop};
+ghost use Rattle.worker_crew.specs.Passes.{IsLeft, IsDue, IsFront, staying, finding_stop};
 
 use crate::step::Step;
 use batch_history::Batch;
@@ -152,7 +152,8 @@ pub trait Table {
         requires pass { gave self.now pass.old }
         requires trapped { IsTrapped (seen pass.old) }
         ensures pass { gave self.now pass.new }
-        ensures won { IfSome result (λ shop. seen pass.new ≡ winning shop (seen pass.old)) }
+        ensures won { IfSome result (λ shop. (seen pass.new ≡ winning shop (seen pass.old))
+            × IsFront (seen pass.old).book_seen shop) }
         ensures lost { IfNone result (seen pass.new ≡ losing (seen pass.old)) };
 
     /// Looks at worker u, and takes its call if that is pending. A call that is taken can be served with

@@ -10,6 +10,7 @@ use Rattle.core_table.specs.declared.table.CoreTable.{CoreTable}
 use Rattle.core_table.specs.declared.table.Pass.{Pass}
 use Rattle.core_table.specs.Passes.{IsPassOf, job_in, view}
 use Rattle.core_table.specs.Shows.{IsFront, entry_of}
+use Rattle.core_table.specs.CoreWords.{Event, Leave, Release}
 use Rattle.core_table.specs.Views as views
 use Rattle.launch_batch.proofs.ListLemmas.Elements.{map_append}
 use Rattle.worker_crew.specs.Words.{Task, Receipt, Entry}
@@ -31,10 +32,15 @@ module _ (table : CoreTable) (new : Pass) where
   seat_either true u v now holds fails fits others = seat_by u now (holds refl) fits
   seat_either false u v now holds fails fits others = seat_by v now (fails refl) others
 
-  pub seat_some : {A : Type 0} (o : Option A) (u : A → View) (v : View) → IsPassOf table new → IfSome o (λ a. view new ≡ u a) → IfNone o (view new ≡ v)
-      → ((a : A) → Fits table (u a)) → Fits table v → IsSeat table new
-  seat_some None u v now some none fits others = seat_by v now none others
-  seat_some (Some a) u v now some none fits others = seat_by (u a) now some (fits a)
+  -- a refusal keeps what it found
+  pub seat_found : (b : Bool) (u : View) (v : ℕ → View) (P : ℕ → Type 0) → IsPassOf table new → (IsTrue b → view new ≡ u) → (IsFalse b → (seen : ℕ) × P seen × (view new ≡ v seen)) → Fits table u → ((seen : ℕ) → Fits table (v seen)) → IsSeat table new
+  seat_found true u v P now holds fails fits others = seat_by u now (holds refl) fits
+  seat_found false u v P now holds fails fits others = let f = fails refl in seat_by (v f.0) now f.2 (others f.0)
+
+  pub seat_some : {A : Type 0} (o : Option A) (u : A → View) (v : ℕ → View) (P : ℕ → Type 0) → IsPassOf table new → IfSome o (λ a. view new ≡ u a) → IfNone o ((seen : ℕ) × P seen × (view new ≡ v seen))
+      → ((a : A) → Fits table (u a)) → ((seen : ℕ) → Fits table (v seen)) → IsSeat table new
+  seat_some None u v P now some none fits others = seat_by (v none.0) now none.2 (others none.0)
+  seat_some (Some a) u v P now some none fits others = seat_by (u a) now some (fits a)
 
   pub seat_ok : {A E : Type 0} (r : Result A E) (P : A → Type 0) (Q : E → Type 0) → IfOk r P → IfErr r Q → ((a : A) → P a → IsSeat table new) → ((e : E) → Q e → IsSeat table new) → IsSeat table new
   seat_ok (Ok a) P Q ok err of_ok of_err = of_ok a ok
@@ -74,16 +80,24 @@ no_hold (Some h) is = absurd (cc)
 pub looks_at : (workers : ℕ) (hold : Option HoldView) (h : HoldView) → LooksFit workers hold → hold ≡ Some h → h.looks ≤ workers
 looks_at workers hold h fits at = subst (LooksFit workers) at fits
 
+-- how it released the flag
+book_same : (hold : Option HoldView) (seen : List (List Entry)) → views.book_after hold seen ≡ passes.book_after (option_map hold_seen hold) seen
+book_same None seen = refl
+book_same (Some h) seen = refl
+
+pub released_seen : (v : View) → pass_seen (views.with_event (views.releasing v) Release) ≡ passes.releasing (pass_seen v)
+released_seen v = λ i. record (passes.releasing (pass_seen v)) { book_seen = book_same v.hold v.book_seen i }
+
 module _ (new old : View) where
   -- how its task was changed
-  pub task_seen : (task : Task) → new ≡ views.with_task old task → pass_seen new ≡ passes.with_task new.task (pass_seen old)
-  task_seen task is = subst (λ (v : View). pass_seen v ≡ passes.with_task v.task (pass_seen old)) (sym is) refl
+  pub task_seen : (task : Task) (event : Event) → new ≡ views.with_event (views.with_task old task) event → pass_seen new ≡ passes.with_task new.task (pass_seen old)
+  task_seen task event is = subst (λ (v : View). pass_seen v ≡ passes.with_task v.task (pass_seen old)) (sym is) refl
 
-  pub opened_seen : (node : ℕ) (task : Task) → new ≡ views.opening old node task → pass_seen new ≡ passes.opening node new.task (pass_seen old)
-  opened_seen node task is = subst (λ (v : View). pass_seen v ≡ passes.opening node v.task (pass_seen old)) (sym is) refl
+  pub opened_seen : (node : ℕ) (task : Task) (event : Event) → new ≡ views.with_event (views.opening old node task) event → pass_seen new ≡ passes.opening node new.task (pass_seen old)
+  opened_seen node task event is = subst (λ (v : View). pass_seen v ≡ passes.opening node v.task (pass_seen old)) (sym is) refl
 
-  pub kept_seen : (n start : ℕ) → new ≡ views.keeping old n start → pass_seen new ≡ passes.keeping new.task (pass_seen old)
-  kept_seen n start is = subst (λ (v : View). pass_seen v ≡ passes.keeping v.task (pass_seen old)) (sym is) refl
+  pub kept_seen : (n start : ℕ) (event : Event) → new ≡ views.with_event (views.keeping old n start) event → pass_seen new ≡ passes.keeping new.task (pass_seen old)
+  kept_seen n start event is = subst (λ (v : View). pass_seen v ≡ passes.keeping v.task (pass_seen old)) (sym is) refl
 
   -- what it was told
   least_same : (o : Option ℕ) (n : ℕ) → views.least_told o n ≡ Some (passes.least_told n o)
@@ -109,7 +123,7 @@ module _ (new old : View) where
   due_by None batch late = tt
   due_by (Some since) batch late = late since refl
 
-  pub left_seen : (call : OpRecord) (receipt : Receipt) (book : List (List Entry)) → old.posted ≡ Some call → new ≡ views.leaving old call receipt book → IsFront old.book_seen book
+  pub left_seen : (call : OpRecord) (receipt : Receipt) (book : List (List Entry)) → old.posted ≡ Some call → new ≡ views.with_event (views.leaving old call receipt book) (Leave receipt) → IsFront old.book_seen book
       → StandsAt book receipt.batch receipt.place (entry_of new.from (record { call = call; receipt = receipt })) → IsLeft receipt (pass_seen old) (pass_seen new)
   left_seen call receipt book posted is front stands = record {
     left = subst (λ (v : View). pass_seen v ≡ passes.leaving receipt v.book_seen (pass_seen old)) (sym is)

@@ -1,8 +1,8 @@
 use Rattle.std.proofs.Common.{refl, arith}
 use Rattle.core_table.specs.Passes.{view, job_in}
+use Rattle.core_table.specs.CoreWords.{Answer}
 use Rattle.core_table.specs.Views as views
 use Rattle.worker_crew.specs.Holds.{IsAnswerDue, after_answer}
-use Rattle.worker_crew.proofs.SeatLemmas.Steps.{is_out}
 use Rattle.worker_crew.proofs.SeatLemmas.Seats.{seat_by, held, looks_at, hold_step}
 use Rattle.worker_crew.proofs.SeatLemmas.Taken.{record_took}
 use Rattle.worker_crew.proofs.SeatLemmas.Serving.{answer_due}
@@ -10,9 +10,6 @@ use Rattle.worker_crew.proofs.running.CoreTableTable.answer.Goals as goal
 
 pub answer-requires-clause-pass : goal.answer-requires-clause-pass
 answer-requires-clause-pass c = c.requires.pass.pass_of
-
-pub answer-requires-clause-trapped : goal.answer-requires-clause-trapped
-answer-requires-clause-trapped c = is_out (view c.args.pass.now).call c.requires.held.0
 
 pub answer-requires-clause-low : goal.answer-requires-clause-low
 answer-requires-clause-low c =
@@ -33,11 +30,11 @@ pub returns-clause-pass : goal.returns-clause-pass
 returns-clause-pass c =
     let old = view c.args.pass.now in
     let a = c.answer.ensures.answered in
-    seat_by c.args.self.now c.answer.new.pass (views.with_hold old (views.answered_view a.0 c.args.u)) c.answer.ensures.pass a.2
+    seat_by c.args.self.now c.answer.new.pass (views.with_event (views.with_hold old (views.answered_view a.0 c.args.u)) (Answer c.args.u c.args.receipt)) c.answer.ensures.pass a.2
     (c.requires.pass.task, looks_at (job_in c.args.self.now).workers old.hold a.0 c.requires.pass.looks a.1)
 
 pub returns-clause-answered : goal.returns-clause-answered
 returns-clause-answered c =
     let old = view c.args.pass.now in
     let a = c.answer.ensures.answered in
-    hold_step (view c.answer.new.pass) old a.0 (views.answered_view a.0 c.args.u) (after_answer c.args.u) (views.with_hold old (views.answered_view a.0 c.args.u)) a.1 refl a.2 refl
+    hold_step (view c.answer.new.pass) old a.0 (views.answered_view a.0 c.args.u) (after_answer c.args.u) (views.with_event (views.with_hold old (views.answered_view a.0 c.args.u)) (Answer c.args.u c.args.receipt)) a.1 refl a.2 refl

@@ -3,8 +3,10 @@ use Rattle.std.specs.Prelude.{IsTrue, IsFalse}
 use Rattle.core_table.specs.Passes.{view, job_in, IsPassOf}
 use Rattle.core_table.specs.declared.table.CoreTable.{CoreTable}
 use Rattle.core_table.specs.declared.table.Pass.{Pass}
+use Rattle.core_table.specs.CoreWords.{ArriveFirst, ArriveSecond}
+use Rattle.core_table.specs.JobEvents.{IsArrival}
 use Rattle.core_table.specs.Views as views
-use Rattle.core_model.specs.declared.task.Task.TheVariants.{Whole, Handed}
+use Rattle.core_model.specs.declared.task.Task.TheVariants.{Handed}
 use Rattle.worker_crew.specs.Words.{Idle}
 use Rattle.worker_crew.specs.Passes as passes
 use Rattle.worker_crew.specs.Seats.{pass_seen, IsSeat}
@@ -15,18 +17,18 @@ use Rattle.worker_crew.proofs.running.CoreTableTable.arrive.Goals as goal
 -- it arrived first or second
 module _ (table : CoreTable) (old new : Pass) (P : ℕ → ℕ → Type 0) where
   abbrev First : Bool → Type 0
-  First b = IsFalse b → view new ≡ views.with_task (view old) Idle
+  First b = IsFalse b → (n : ℕ) × (p : ℕ) × (l : ℕ) × (r : ℕ) × P n p × IsArrival (job_in table).plan (view old).task p l r n × (view new ≡ views.with_event (views.with_task (view old) Idle) (ArriveFirst p l r n))
 
   abbrev Second : Bool → Type 0
-  Second b = IsTrue b → (n : ℕ) × (p : ℕ) × ((view old).task ≡ Whole n) × P n p × (view new ≡ views.with_task (view old) (Handed p))
+  Second b = IsTrue b → (n : ℕ) × (p : ℕ) × (l : ℕ) × (r : ℕ) × P n p × IsArrival (job_in table).plan (view old).task p l r n × (view new ≡ views.with_event (views.with_task (view old) (Handed p)) (ArriveSecond p l r n))
 
   seat : (b : Bool) → IsSeat table old → IsPassOf table new → First b → Second b → IsSeat table new
-  seat true was now first second = let s = second refl in seat_by table new (views.with_task (view old) (Handed s.1)) now s.4 (tt, was.looks)
-  seat false was now first second = seat_by table new (views.with_task (view old) Idle) now (first refl) (tt, was.looks)
+  seat true was now first second = let s = second refl in seat_by table new (views.with_event (views.with_task (view old) (Handed s.1)) (ArriveSecond s.1 s.2 s.3 s.0)) now s.6 (tt, was.looks)
+  seat false was now first second = let s = first refl in seat_by table new (views.with_event (views.with_task (view old) Idle) (ArriveFirst s.1 s.2 s.3 s.0)) now s.6 (tt, was.looks)
 
   seen : (b : Bool) → First b → Second b → pass_seen (view new) ≡ passes.with_task (view new).task (pass_seen (view old))
-  seen true first second = let s = second refl in task_seen (view new) (view old) (Handed s.1) s.4
-  seen false first second = task_seen (view new) (view old) Idle (first refl)
+  seen true first second = let s = second refl in task_seen (view new) (view old) (Handed s.1) (ArriveSecond s.1 s.2 s.3 s.0) s.6
+  seen false first second = let s = first refl in task_seen (view new) (view old) Idle (ArriveFirst s.1 s.2 s.3 s.0) s.6
 
 pub arrive-requires-clause-pass : goal.arrive-requires-clause-pass
 arrive-requires-clause-pass c = c.requires.pass.pass_of

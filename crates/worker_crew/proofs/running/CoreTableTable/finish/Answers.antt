@@ -21,8 +21,8 @@ finish-requires-clause-due c =
 pub returns-clause-pass : goal.returns-clause-pass
 returns-clause-pass c =
     let f = c.finish.ensures.finished in
-    seat_by c.args.self.now c.finish.new.pass (views.with_task (view c.args.pass.now) (task_after f.0)) c.finish.ensures.pass f.2
+    seat_by c.args.self.now c.finish.new.pass (views.with_event (views.with_task (view c.args.pass.now) (task_after f.0)) f.1) c.finish.ensures.pass f.4
     (after_fits (job_in c.args.self.now).plan f.0, c.requires.pass.looks)
 
 pub returns-clause-finished : goal.returns-clause-finished
-returns-clause-finished c = let f = c.finish.ensures.finished in task_seen (view c.finish.new.pass) (view c.args.pass.now) (task_after f.0) f.2
+returns-clause-finished c = let f = c.finish.ensures.finished in task_seen (view c.finish.new.pass) (view c.args.pass.now) (task_after f.0) f.1 f.4

@@ -1,4 +1,5 @@
 use Rattle.core_table.specs.Passes.{view, job_in}
+use Rattle.core_table.specs.CoreWords.{Keep}
 use Rattle.core_table.specs.Views as views
 use Rattle.worker_crew.specs.NextSteps.{next_step}
 use Rattle.worker_crew.proofs.SeatLemmas.Steps.{not_out, value_by, step_due}
@@ -20,7 +21,7 @@ keep-requires-clause-due c =
 pub returns-clause-pass : goal.returns-clause-pass
 returns-clause-pass c =
     let k = c.keep.ensures.kept in
-    seat_by c.args.self.now c.keep.new.pass (views.keeping (view c.args.pass.now) k.0 k.1) c.keep.ensures.pass k.3 (tt, c.requires.pass.looks)
+    seat_by c.args.self.now c.keep.new.pass (views.with_event (views.keeping (view c.args.pass.now) k.0 k.1) (Keep k.0 k.1 c.args.value)) c.keep.ensures.pass k.3 (tt, c.requires.pass.looks)
 
 pub returns-clause-kept : goal.returns-clause-kept
-returns-clause-kept c = let k = c.keep.ensures.kept in kept_seen (view c.keep.new.pass) (view c.args.pass.now) k.0 k.1 k.3
+returns-clause-kept c = let k = c.keep.ensures.kept in kept_seen (view c.keep.new.pass) (view c.args.pass.now) k.0 k.1 (Keep k.0 k.1 c.args.value) k.3

@@ -1,5 +1,6 @@
 use Rattle.std.proofs.Common.{ap}
 use Rattle.core_table.specs.Passes.{view}
+use Rattle.core_table.specs.CoreWords.{Leave}
 use Rattle.core_table.specs.Views as views
 use Rattle.worker_crew.specs.Seats.{pass_seen}
 use Rattle.worker_crew.proofs.SeatLemmas.Steps.{is_out}
@@ -20,7 +21,7 @@ returns-clause-pass c =
     let old = view c.args.pass.now in
     let fits = fits_of c.args.self.now c.args.pass.now c.requires.pass in
     seat_ok c.args.self.now c.leave.new.pass c.leave.result _ _ c.leave.ensures.left c.leave.ensures.stays
-    (λ receipt left. seat_by c.args.self.now c.leave.new.pass (views.leaving old left.0 receipt left.2) c.leave.ensures.pass left.3 fits)
+    (λ receipt left. seat_by c.args.self.now c.leave.new.pass (views.with_event (views.leaving old left.0 receipt left.2) (Leave receipt)) c.leave.ensures.pass left.3 fits)
     (λ status stays. seat_by c.args.self.now c.leave.new.pass (views.staying old status) c.leave.ensures.pass stays.1 fits)
 
 pub returns-clause-left : goal.returns-clause-left

@@ -21,9 +21,9 @@ pub returns-clause-pass : goal.returns-clause-pass
 returns-clause-pass c =
     let v = view c.args.pass.now in
     let job = job_in c.args.self.now in
-    seat_by c.args.self.now c.open_node.new.pass (views.opening v c.open_node.result (opened_task job v.task)) c.open_node.ensures.pass c.open_node.ensures.opened
+    seat_by c.args.self.now c.open_node.new.pass (views.with_event (views.opening v c.open_node.result (opened_task job v.task)) c.open_node.ensures.opened.0) c.open_node.ensures.pass c.open_node.ensures.opened.2
     (opened_fits job v.task, c.requires.pass.looks)
 
 pub returns-clause-opened : goal.returns-clause-opened
 returns-clause-opened c =
-    opened_seen (view c.open_node.new.pass) (view c.args.pass.now) c.open_node.result (opened_task (job_in c.args.self.now) (view c.args.pass.now).task) c.open_node.ensures.opened
+    opened_seen (view c.open_node.new.pass) (view c.args.pass.now) c.open_node.result (opened_task (job_in c.args.self.now) (view c.args.pass.now).task) c.open_node.ensures.opened.0 c.open_node.ensures.opened.2

@@ -1,6 +1,7 @@
 use Rattle.std.proofs.Common.{ap, subst}
 use Rattle.core_table.specs.declared.view.View.{View}
 use Rattle.core_table.specs.Passes.{view, job_in}
+use Rattle.core_table.specs.CoreWords.{Post}
 use Rattle.core_table.specs.Views as views
 use Rattle.worker_crew.specs.Seats.{pass_seen}
 use Rattle.worker_crew.proofs.SeatLemmas.Steps.{IsStepDue, step_due}
@@ -24,11 +25,12 @@ post-requires-clause-due c =
 
 pub returns-clause-pass : goal.returns-clause-pass
 returns-clause-pass c =
-    seat_by c.args.self.now c.post.new.pass (views.posting (view c.args.pass.now) (record { leaf = c.args.leaf; op = c.args.op })) c.post.ensures.pass c.post.ensures.posted
+    let p = c.post.ensures.posted in
+    seat_by c.args.self.now c.post.new.pass (views.with_event (views.posting (view c.args.pass.now) (record { leaf = c.args.leaf; op = c.args.op })) (Post p.0 p.1)) c.post.ensures.pass p.3
     (fits_of c.args.self.now c.args.pass.now c.requires.pass)
 
 pub returns-clause-posted : goal.returns-clause-posted
-returns-clause-posted c = ap pass_seen c.post.ensures.posted
+returns-clause-posted c = ap pass_seen c.post.ensures.posted.3
 
 pub returns-clause-just_posted : goal.returns-clause-just_posted
-returns-clause-just_posted c = ap (λ (v : View). v.just_posted) c.post.ensures.posted
+returns-clause-just_posted c = ap (λ (v : View). v.just_posted) c.post.ensures.posted.3

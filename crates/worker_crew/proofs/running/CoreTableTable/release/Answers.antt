@@ -1,18 +1,15 @@
-use Rattle.std.proofs.Common.{ap}
+use Rattle.std.proofs.Common.{ap, ◌∙◌}
 use Rattle.core_table.specs.Passes.{view, job_in}
+use Rattle.core_table.specs.CoreWords.{Release}
 use Rattle.core_table.specs.Views as views
 use Rattle.worker_crew.specs.Holds.{IsReleaseDue}
 use Rattle.worker_crew.specs.Seats.{pass_seen}
-use Rattle.worker_crew.proofs.SeatLemmas.Steps.{is_out}
-use Rattle.worker_crew.proofs.SeatLemmas.Seats.{seat_by, held}
+use Rattle.worker_crew.proofs.SeatLemmas.Seats.{seat_by, held, released_seen}
 use Rattle.worker_crew.proofs.SeatLemmas.Serving.{release_due}
 use Rattle.worker_crew.proofs.running.CoreTableTable.release.Goals as goal
 
 pub release-requires-clause-pass : goal.release-requires-clause-pass
 release-requires-clause-pass c = c.requires.pass.pass_of
-
-pub release-requires-clause-trapped : goal.release-requires-clause-trapped
-release-requires-clause-trapped c = is_out (view c.args.pass.now).call c.requires.held.0
 
 pub release-requires-clause-due : goal.release-requires-clause-due
 release-requires-clause-due c =
@@ -22,7 +19,7 @@ release-requires-clause-due c =
 
 pub returns-clause-pass : goal.returns-clause-pass
 returns-clause-pass c =
-    seat_by c.args.self.now c.release.new.pass (views.releasing (view c.args.pass.now)) c.release.ensures.pass c.release.ensures.released (c.requires.pass.task, tt)
+    seat_by c.args.self.now c.release.new.pass (views.with_event (views.releasing (view c.args.pass.now)) Release) c.release.ensures.pass c.release.ensures.released (c.requires.pass.task, tt)
 
 pub returns-clause-released : goal.returns-clause-released
-returns-clause-released c = ap pass_seen c.release.ensures.released
+returns-clause-released c = ap pass_seen c.release.ensures.released ∙ released_seen (view c.args.pass.now)

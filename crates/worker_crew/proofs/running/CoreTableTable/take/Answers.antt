@@ -2,11 +2,11 @@ use Rattle.std.proofs.Common.{refl, ap, ◌≡◌, arith}
 use Rattle.core_table.specs.declared.view.View.{View}
 use Rattle.core_table.specs.Passes.{view, job_in}
 use Rattle.core_table.specs.Passes.{tree_in}
+use Rattle.core_table.specs.CoreWords.{Take}
 use Rattle.core_table.specs.Views as views
 use Rattle.core_model.specs.Measure.{call_count}
 use Rattle.worker_crew.specs.Holds.{IsLooking, after_take, after_pass}
 use Rattle.worker_crew.specs.Seats.{taken_call}
-use Rattle.worker_crew.proofs.SeatLemmas.Steps.{is_out}
 use Rattle.worker_crew.proofs.SeatLemmas.Seats.{seat_by, held, held_at, hold_step}
 use Rattle.worker_crew.proofs.SeatLemmas.Fits.{take_fits, pass_fits}
 use Rattle.worker_crew.proofs.SeatLemmas.Room.{calls_few}
@@ -14,9 +14,6 @@ use Rattle.worker_crew.proofs.running.CoreTableTable.take.Goals as goal
 
 pub take-requires-clause-pass : goal.take-requires-clause-pass
 take-requires-clause-pass c = c.requires.pass.pass_of
-
-pub take-requires-clause-trapped : goal.take-requires-clause-trapped
-take-requires-clause-trapped c = is_out (view c.args.pass.now).call c.requires.held.0
 
 pub take-requires-clause-low : goal.take-requires-clause-low
 take-requires-clause-low c = c.requires.below
@@ -32,7 +29,7 @@ returns-in-Ok-clause-pass c =
     let t = c.in-Ok.ensures.took in
     let next : c.args.u ≡ t.0.looks = (held_at (IsLooking c.args.u) old.hold t.0 c.requires.held.1 t.1).next in
     let below = c.requires.below in
-    seat_by c.args.self.now c.take.new.pass (views.with_hold old (views.taken_view t.0 c.args.u c.in-Ok.call)) c.take.ensures.pass t.3
+    seat_by c.args.self.now c.take.new.pass (views.with_event (views.with_hold old (views.taken_view t.0 c.args.u c.in-Ok.call)) (Take c.args.u)) c.take.ensures.pass t.3
     (c.requires.pass.task, omega (arith, next, below))
 
 pub returns-in-Ok-clause-took : goal.returns-in-Ok-clause-took
@@ -42,7 +39,7 @@ returns-in-Ok-clause-took c =
     let call = c.in-Ok.call in (
       refl,
       hold_step (view c.take.new.pass) old t.0 (views.taken_view t.0 c.args.u call) (after_take (taken_call (record { worker = c.args.u; call = call })))
-          (views.with_hold old (views.taken_view t.0 c.args.u call)) t.1 refl t.3 refl,
+          (views.with_event (views.with_hold old (views.taken_view t.0 c.args.u call)) (Take c.args.u)) t.1 refl t.3 refl,
     )
 
 pub returns-in-Ok-clause-fit : goal.returns-in-Ok-clause-fit
@@ -64,14 +61,14 @@ returns-in-Err-clause-pass c =
     let t = c.in-Err.ensures.passed.1 in
     let next : c.args.u ≡ t.0.looks = (held_at (IsLooking c.args.u) old.hold t.0 c.requires.held.1 t.1).next in
     let below = c.requires.below in
-    seat_by c.args.self.now c.take.new.pass (views.passing old t.0 c.in-Err.status) c.take.ensures.pass t.2
+    seat_by c.args.self.now c.take.new.pass (views.with_event (views.passing old t.0 c.in-Err.status) (Take c.args.u)) c.take.ensures.pass t.2
     (c.requires.pass.task, omega (arith, next, below))
 
 pub returns-in-Err-clause-passed : goal.returns-in-Err-clause-passed
 returns-in-Err-clause-passed c =
     let old = view c.args.pass.now in
     let t = c.in-Err.ensures.passed.1 in
-    (c.in-Err.ensures.passed.0, hold_step (view c.take.new.pass) old t.0 (views.passed_view t.0) after_pass (views.passing old t.0 c.in-Err.status) t.1 refl t.2 refl)
+    (c.in-Err.ensures.passed.0, hold_step (view c.take.new.pass) old t.0 (views.passed_view t.0) after_pass (views.with_event (views.passing old t.0 c.in-Err.status) (Take c.args.u)) t.1 refl t.2 refl)
 
 pub returns-in-Err-clause-fit : goal.returns-in-Err-clause-fit
 returns-in-Err-clause-fit c =

@@ -21,9 +21,9 @@ pub returns-clause-pass : goal.returns-clause-pass
 returns-clause-pass c =
     let v = view c.args.pass.now in
     let job = job_in c.args.self.now in
-    seat_by c.args.self.now c.tick.new.pass (views.with_task v (views.ticked v.task c.tick.result)) c.tick.ensures.pass c.tick.ensures.drawn
+    seat_by c.args.self.now c.tick.new.pass (views.with_event (views.with_task v (views.ticked v.task c.tick.result)) c.tick.ensures.drawn.0) c.tick.ensures.pass c.tick.ensures.drawn.2
     (ticked_fits job v.task c.tick.result (tick_by job v.task v.call (next_step job v.task v.call) c.requires.due (step_due job v.task v.call c.requires.pass.task)), c.requires.pass.looks)
 
 pub returns-clause-ticked : goal.returns-clause-ticked
 returns-clause-ticked c =
-    task_seen (view c.tick.new.pass) (view c.args.pass.now) (views.ticked (view c.args.pass.now).task c.tick.result) c.tick.ensures.drawn
+    task_seen (view c.tick.new.pass) (view c.args.pass.now) (views.ticked (view c.args.pass.now).task c.tick.result) c.tick.ensures.drawn.0 c.tick.ensures.drawn.2

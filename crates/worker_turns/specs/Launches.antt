@@ -35,12 +35,12 @@ pub record Gathers (workers : ℕ) (book : List (List Entry)) (posted : List ℕ
   pub batch : (TookNone done × (done.book ≡ book) × (posted ≡ []))
       ⊎ ((batch : List Entry) × ServedAll book batch done × ArePlaces book done.taken posted)
 
--- A launch after this book: the flag was released, and the hold was so.
+-- A launch after this book: the flag was released, the hold was so, and its book is the one that the pass has seen.
 pub record Launches (workers : ℕ) (book : List (List Entry)) (old new : MeSeen) : Type 0 where
   pub done : HoldSeen
   pub posted : List ℕ
   pub gathers : Gathers workers book posted done
-  pub released : new.pass ≡ record old.pass { hold = None; last = Some done }
+  pub released : new.pass ≡ record old.pass { hold = None; last = Some done; book_seen = done.book }
   pub desk : Serves posted old.desk new.desk
   pub core : new.core ≡ old.core
 

@@ -6,7 +6,7 @@ use Rattle.worker_turns.specs.declared.found.Tried.{Tried}
 use Rattle.worker_turns.specs.declared.found.Tried.TheVariants.{Ran}
 use Rattle.worker_turns.specs.declared.trapped.Trapped.{Trapped}
 use Rattle.worker_turns.specs.declared.trapped.Trapped.TheVariants.{Left, Piece, Launched, Nothing}
-use Rattle.worker_crew.specs.Passes.{PassSeen, staying, losing, winning, IsLeft, IsDue}
+use Rattle.worker_crew.specs.Passes.{PassSeen, staying, losing, winning, IsLeft, IsDue, IsFront}
 use Rattle.worker_crew.specs.Workers.{MeSeen}
 use Rattle.worker_turns.specs.Pieces.{NotRan, IsOwnPiece, IsOtherPiece}
 use Rattle.worker_turns.specs.Launches.{Launches}
@@ -15,7 +15,7 @@ use Rattle.worker_turns.specs.Launches.{Launches}
 abbrev pub refused_both : MeSeen → MeSeen
 refused_both m = record m { pass = losing (staying m.pass) }
 
--- its leave was refused, and it won the flag, with this book
+-- its leave was refused, and it won the flag, with this book, which begins with what it had seen of it
 abbrev pub won_after : List (List Entry) → MeSeen → MeSeen
 won_after book m = record m { pass = winning book (staying m.pass) }
 
@@ -30,7 +30,7 @@ IsTrappedTurn workers Piece old new =
     × IsOtherPiece (Ran spot) (refused_both a) new)
 IsTrappedTurn workers Launched old new =
     (own : Tried) × (a : MeSeen) × (book : List (List Entry)) × NotRan own × IsOwnPiece own old a
-    × Launches workers book (won_after book a) new
+    × Launches workers book (won_after book a) new × IsFront a.pass.book_seen book
 IsTrappedTurn workers Nothing old new =
     (own : Tried) × (other : Tried) × (a : MeSeen) × NotRan own × NotRan other × IsOwnPiece own old a
     × IsOtherPiece other (refused_both a) new
@@ -46,14 +46,14 @@ pub record IsJobSame (old new : PassSeen) : Type 0 where
   pub found : new.stops_found ≡ old.stops_found
   pub stops : new.stops ≡ old.stops
 
--- and so are the call and what the pass was told
+-- And so are the call and what the pass was told. What it has seen of the book has only grown.
 pub record IsCallSame (old new : PassSeen) : Type 0 where
   pub job : IsJobSame old new
   pub call : new.call ≡ old.call
   pub hold : new.hold ≡ None
   pub posted : new.posted ≡ old.posted
   pub left : new.left ≡ old.left
-  pub book : new.book_seen ≡ old.book_seen
+  pub book : IsFront old.book_seen new.book_seen
   pub greatest : new.greatest ≡ old.greatest
   pub before : new.before ≡ old.before
   pub after : new.after ≡ old.after

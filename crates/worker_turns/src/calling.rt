@@ -45,6 +45,7 @@ fn op_due<T: Table>(table: &T, pass: &T::Pass, leaf: u32) -> Op
 
 /// Makes the call of a leaf, with the operation that the table tells: posts it, and takes trapped turns until the worker
 /// has left with its receipt.
+#[tactic(auto, using(crate::proofs::CarryLemmas::Steps::front_none, crate::proofs::CarryLemmas::Steps::front_then))]
 pub fn call<T: Table, G: Pause, R: Wait>(
     rt: &R,
     alloc: Global,

@@ -32,6 +32,7 @@ pub enum Trapped {
 
 /// One turn of a trapped worker. It tries four things, in this order: a piece of its own deque; to leave; to win the
 /// flag, and launch; and to steal one piece.
+#[tactic(auto, using(crate::proofs::CarryLemmas::Steps::front_none))]
 pub fn trapped_turn<T: Table, G: Pause, R: Wait>(
     rt: &R,
     alloc: Global,

@@ -21,8 +21,11 @@ helps_then a b c v w = record {
 pub helps_works : (a b : Desk) → Works 0 a b → Helps a b
 helps_works a b w = record { given = w.given; gave = ap (λ (d : Desk). d.given) w.is; finishes = ap (λ (d : Desk). d.finishes) w.is }
 
-front_none : {A : Type 0} (xs ys : List A) → ys ≡ xs → IsFront xs ys
+pub front_none : {A : Type 0} (xs ys : List A) → ys ≡ xs → IsFront xs ys
 front_none xs ys is = ([], is ∙ sym (append-nil _))
+
+pub front_then : {A : Type 0} (xs ys zs : List A) → IsFront xs ys → IsFront ys zs → IsFront xs zs
+front_then xs ys zs p q = (p.0 ++ q.0, q.1 ∙ ap (λ l. l ++ q.0) p.1 ∙ append_assoc xs p.0 q.0)
 
 core_none : (a b : HeldEnds ℕ) → b ≡ a → b ≡ record a { own = a.own ++ []; pushes = a.pushes + 0 }
 core_none a b is =
@@ -79,7 +82,7 @@ carried_then a b c v w = record {
   claims = w.claims ∙ v.claims;
   claimed = w.claimed ∙ v.claimed;
   refused = w.refused ∙ v.refused;
-  longer = (v.longer.0 ++ w.longer.0, w.longer.1 ∙ ap (λ l. l ++ w.longer.0) v.longer.1 ∙ append_assoc a.pass.book_seen v.longer.0 w.longer.0);
+  longer = front_then a.pass.book_seen b.pass.book_seen c.pass.book_seen v.longer w.longer;
   found = w.found ∙ v.found;
   stops = w.stops ∙ v.stops;
   desk = helps_then a.desk b.desk c.desk v.desk w.desk;

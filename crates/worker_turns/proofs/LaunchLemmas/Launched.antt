@@ -3,7 +3,7 @@ use Rattle.std.proofs.Common.{◌≡◌, ◌≢◌, ℕ, true, None, Some, List,
 use Rattle.worker_crew.specs.Words.{Call, Entry}
 use Rattle.launch_batch.specs.Calls.{MayServe}
 use Rattle.worker_crew.specs.Holds.{HoldSeen, new_hold, AreFit, IsReleaseDue}
-use Rattle.worker_crew.specs.Passes.{PassSeen, Holds, IsHeld, is_trapped, in_hold, releasing}
+use Rattle.worker_crew.specs.Passes.{PassSeen, Holds, IsHeld, is_trapped, in_hold, book_after, releasing}
 use Rattle.worker_crew.specs.Workers.{MeSeen}
 use Rattle.worker_turns.specs.Launches.{Launches}
 use Rattle.worker_turns.specs.Code.Serving.{after_looks, looked, taken_hold, served_hold, ServesBatch}
@@ -28,7 +28,7 @@ none_launched old new q workers calls book won is none now free = record {
   done = taken_hold workers calls book;
   posted = [];
   gathers = record { looked = refl; batch = inl (record { none = none; early = refl }, refl, refl) };
-  released = ap (λ (m : MeSeen). m.pass) now ∙ ap releasing is ∙ (λ i. record old.pass { hold = None; last = in_hold (after_looks workers calls) (won i) });
+  released = ap (λ (m : MeSeen). m.pass) now ∙ ap releasing is ∙ (λ i. record old.pass { hold = None; last = in_hold (after_looks workers calls) (won i); book_seen = book_after (in_hold (after_looks workers calls) (won i)) old.pass.book_seen });
   desk = record {
     posts = ap (λ (m : MeSeen). m.desk.posts) now ∙ sym (append-nil _);
     collects = (let c = ap (λ (m : MeSeen). m.desk.collects) now in omega (arith, c));
@@ -64,7 +64,7 @@ served_launched old new q r workers calls book after may is s now =
         looked = refl;
         batch = inr (s.batch, record { published = record { published = refl; book = refl; may = may; service = s.service }; answered = refl }, s.places);
       };
-      released = now ∙ ap releasing s.pass ∙ ap (λ (p : PassSeen). record p { hold = None; last = Some done }) is;
+      released = now ∙ ap releasing s.pass ∙ ap (λ (p : PassSeen). record p { hold = None; last = Some done; book_seen = done.book }) is;
       desk = s.desk;
       core = s.core;
     }

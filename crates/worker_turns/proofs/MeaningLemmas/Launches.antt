@@ -65,6 +65,7 @@ launch_means workers book old new l = record {
   last = ap (λ (p : PassSeen). p.last) l.released;
   released = ap (λ (p : PassSeen). p.hold) l.released;
   looks = l.gathers.looked;
+  seen = ap (λ (p : PassSeen). p.book_seen) l.released;
   found = found_of book l.posted l.done old.desk new.desk l.desk l.gathers.batch;
 }
 
@@ -81,11 +82,12 @@ did_launch workers book lost batch old new l =
         last = h.last;
         released = h.released;
         looks = h.looks;
+        seen = h.seen;
         found = found_from book h.done old.desk mid.desk new.desk refl refl h.found;
       };
     }
 
 pub launched_means : (workers : ℕ) (old new : MeSeen) → IsTrappedTurn workers Launched old new → DidLaunch workers old new
-launched_means workers old new (own, a, book, unrun, p, l) =
+launched_means workers old new (own, a, book, unrun, p, l, front) =
     did_launch workers book (listed (spot_of own)) a.batch old new
     (subst (λ (m : MeSeen). Launches workers book (won_after book m) new) (own_none own old a unrun p) l)

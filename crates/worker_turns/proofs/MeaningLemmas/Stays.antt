@@ -1,5 +1,5 @@
 -- What is read off the paths of what a turn, or a launch, leaves as it was.
-use Rattle.std.proofs.Common.{◌≡◌, ℕ, ◌+◌, true, Option, None, Some, List, [], ◌∷◌, ◌++◌, sym, refl, ap, ◌∙◌, subst, inl, inr}
+use Rattle.std.proofs.Common.{◌≡◌, ℕ, ◌+◌, true, Option, None, Some, List, [], ◌∷◌, ◌++◌, sym, refl, ap, ◌∙◌, subst, inl, inr, append_assoc}
 use Rattle.worker_crew.specs.Words.{Entry, Receipt, CallState, Got}
 use Rattle.worker_turns.specs.declared.found.Tried.{Tried}
 use Rattle.worker_turns.specs.declared.found.Tried.TheVariants.{Ran, Dropped, Dry}
@@ -12,24 +12,24 @@ use Rattle.worker_turns.specs.declared.trapped.Trapped.TheVariants.{Left, Piece,
 use Rattle.worker_turns.specs.declared.free.Did.{Did}
 use Rattle.worker_turns.specs.declared.free.Did.TheVariants as did
 use Rattle.worker_crew.specs.Holds.{HoldSeen}
-use Rattle.worker_crew.specs.Passes.{PassSeen, is_trapped, IsTrapped, leaving, losing, staying, winning}
+use Rattle.worker_crew.specs.Passes.{PassSeen, is_trapped, IsFront, IsTrapped, leaving, losing, staying, winning}
 use Rattle.worker_crew.specs.Workers.{MeSeen}
 use Rattle.worker_turns.specs.Pieces.{Desk, desk_after, NotRan, IsOwnPiece, IsOtherPiece}
-use Rattle.worker_turns.specs.Launches.{Serves, Launches}
+use Rattle.worker_turns.specs.Launches.{Serves, Gathers, Launches}
 use Rattle.worker_turns.specs.Trapped.{IsTrappedTurn, IsJobSame, refused_both}
 use Rattle.worker_turns.specs.Free.{IsOther, IsOwnNode, GaveNothing, IsFreeTurn, Helps}
 use Rattle.worker_turns.specs.Meanings.Stays.{IsStillTrapped, IsAnswered, CallAfter, KeepsNodes, HelpsNone}
 use Rattle.worker_turns.proofs.PieceLemmas.Working.{works_tried}
-use Rattle.worker_turns.proofs.CarryLemmas.Steps.{helps_none, helps_then, helps_works}
+use Rattle.worker_turns.proofs.CarryLemmas.Steps.{front_none, helps_none, helps_then, helps_works}
 use Rattle.worker_turns.proofs.MeaningLemmas.Trapped.{not_ran_desk}
 
--- a pass that has only come on with its tries to leave and to win, and with its holds
-abbrev come_on : ℕ → ℕ → ℕ → Option HoldSeen → PassSeen → PassSeen
-come_on leaves wins refused last p = record p { hold = None; last = last; wins = wins; refused_wins = refused; refused_leaves = leaves }
+-- a pass that has only come on with its tries to leave and to win, with its holds, and with what it has seen of the book
+abbrev come_on : ℕ → ℕ → ℕ → Option HoldSeen → List (List Entry) → PassSeen → PassSeen
+come_on leaves wins refused last book p = record p { hold = None; last = last; wins = wins; refused_wins = refused; refused_leaves = leaves; book_seen = book }
 
-came_on : (old new : PassSeen) (leaves wins refused : ℕ) (last : Option HoldSeen) → is_trapped old.call ≡ true → new ≡ come_on leaves wins refused last old
+came_on : (old new : PassSeen) (leaves wins refused : ℕ) (last : Option HoldSeen) (book : List (List Entry)) → is_trapped old.call ≡ true → IsFront old.book_seen book → new ≡ come_on leaves wins refused last book old
     → IsStillTrapped old new
-came_on old new leaves wins refused last trapped is = subst (λ (p : PassSeen). IsStillTrapped old p) (sym is) (record {
+came_on old new leaves wins refused last book trapped front is = subst (λ (p : PassSeen). IsStillTrapped old p) (sym is) (record {
   trapped = (trapped, refl);
   same = record {
     job = record { worker = refl; task = refl; claims = refl; claimed = refl; refused = refl; opened = refl; found = refl; stops = refl };
@@ -37,7 +37,7 @@ came_on old new leaves wins refused last trapped is = subst (λ (p : PassSeen). 
     hold = refl;
     posted = refl;
     left = refl;
-    book = refl;
+    book = front;
     greatest = refl;
     before = refl;
     after = refl;
@@ -67,14 +67,21 @@ other_desk t old new (inr s) = ap (λ (m : MeSeen). m.desk) s.same
 -- what becomes of the call
 refused_twice : (old mid new : PassSeen) → IsTrapped old → mid ≡ old → new ≡ losing (staying mid) → IsStillTrapped old new
 refused_twice old mid new trapped same is =
-    came_on old new (old.refused_leaves + 1) old.wins (old.refused_wins + 1) old.last trapped.0
+    came_on old new (old.refused_leaves + 1) old.wins (old.refused_wins + 1) old.last old.book_seen trapped.0 (front_none old.book_seen old.book_seen refl)
     (is ∙ ap (λ (p : PassSeen). losing (staying p)) (same ∙ unheld old trapped.1))
 
-launched_pass : (old mid new : PassSeen) (book : List (List Entry)) (last : Option HoldSeen) → is_trapped old.call ≡ true → mid ≡ old
-    → new ≡ record (winning book (staying mid)) { hold = None; last = last } → IsStillTrapped old new
-launched_pass old mid new book last trapped same is =
-    came_on old new (old.refused_leaves + 1) (old.wins + 1) old.refused_wins last trapped
-    (is ∙ ap (λ (p : PassSeen). record (winning book (staying p)) { hold = None; last = last }) same)
+-- the book of a hold that was launched begins with the book at its win
+launched_front : (workers : ℕ) (seen book : List (List Entry)) (posted : List ℕ) (done : HoldSeen) → IsFront seen book → Gathers workers book posted done → IsFront seen done.book
+launched_front workers seen book posted done front g = elim g.batch [
+  | inl none ↦ subst (λ l. IsFront seen l) (sym none.1) front
+  | inr some ↦ (front.0 ++ some.0 ∷ [], some.1.published.book ∙ (ap (λ l. l ++ some.0 ∷ []) front.1 ∙ append_assoc seen front.0 (some.0 ∷ [])))
+]
+
+launched_pass : (old mid new : PassSeen) (book : List (List Entry)) (done : HoldSeen) → is_trapped old.call ≡ true → IsFront mid.book_seen done.book → mid ≡ old
+    → new ≡ record (winning book (staying mid)) { hold = None; last = Some done; book_seen = done.book } → IsStillTrapped old new
+launched_pass old mid new book done trapped front same is =
+    came_on old new (old.refused_leaves + 1) (old.wins + 1) old.refused_wins (Some done) done.book trapped (subst (λ (p : PassSeen). IsFront p.book_seen done.book) same front)
+    (is ∙ ap (λ (p : PassSeen). record (winning book (staying p)) { hold = None; last = Some done; book_seen = done.book }) same)
 
 answered : (receipt : Receipt) (old mid new : PassSeen) → IsTrapped old → mid ≡ old → new ≡ leaving receipt new.book_seen mid → IsAnswered receipt old new
 answered receipt old mid new trapped same is =
@@ -95,17 +102,17 @@ pub call_after : (workers : ℕ) (answer : Trapped) (old new : MeSeen) → IsTra
 call_after workers (Left receipt) old new trapped (own, a, unrun, p, left, same) =
     answered receipt old.pass a.pass new.pass trapped (own_pass own old a p) left.left
 call_after workers Piece old new trapped (inl (spot, p)) =
-    came_on old.pass new.pass old.pass.refused_leaves old.pass.wins old.pass.refused_wins old.pass.last trapped.0 (own_pass (Ran spot) old new p ∙ unheld old.pass trapped.1)
+    came_on old.pass new.pass old.pass.refused_leaves old.pass.wins old.pass.refused_wins old.pass.last old.pass.book_seen trapped.0 (front_none old.pass.book_seen old.pass.book_seen refl) (own_pass (Ran spot) old new p ∙ unheld old.pass trapped.1)
 call_after workers Piece old new trapped (inr (own, spot, a, unrun, p, q)) =
     refused_twice old.pass a.pass new.pass trapped (own_pass own old a p) (other_pass (Ran spot) (refused_both a) new q)
-call_after workers Launched old new trapped (own, a, book, unrun, p, l) =
-    launched_pass old.pass a.pass new.pass book (Some l.done) trapped.0 (own_pass own old a p) l.released
+call_after workers Launched old new trapped (own, a, book, unrun, p, l, front) =
+    launched_pass old.pass a.pass new.pass book l.done trapped.0 (launched_front workers a.pass.book_seen book l.posted l.done front l.gathers) (own_pass own old a p) l.released
 call_after workers Nothing old new trapped (own, other, a, unrun, not, p, q) =
     refused_twice old.pass a.pass new.pass trapped (own_pass own old a p) (other_pass other (refused_both a) new q)
 
-pub launched_call : (workers : ℕ) (book : List (List Entry)) (old new : MeSeen) → is_trapped old.pass.call ≡ true → Launches workers book old new → IsStillTrapped old.pass new.pass
-launched_call workers book old new trapped l =
-    came_on old.pass new.pass old.pass.refused_leaves old.pass.wins old.pass.refused_wins (Some l.done) trapped l.released
+pub launched_call : (workers : ℕ) (book : List (List Entry)) (old new : MeSeen) → is_trapped old.pass.call ≡ true → IsFront old.pass.book_seen book → Launches workers book old new → IsStillTrapped old.pass new.pass
+launched_call workers book old new trapped front l =
+    came_on old.pass new.pass old.pass.refused_leaves old.pass.wins old.pass.refused_wins (Some l.done) l.done.book trapped (launched_front workers old.pass.book_seen book l.posted l.done front l.gathers) l.released
 
 -- a pass whose call and hold have come on, and whose job has not
 abbrev turned : CallState → Option HoldSeen → Option HoldSeen → ℕ → ℕ → ℕ → List Receipt → List (List Entry) → PassSeen → PassSeen
@@ -145,10 +152,10 @@ turn_keeps workers Piece old new (inr (own, spot, a, unrun, p, q)) = record {
   core = other_core (Ran spot) (refused_both a) new q ∙ ap (λ (m : MeSeen). m.core) p.same;
   job = refused_job old.pass a.pass new.pass (own_pass own old a p) (other_pass (Ran spot) (refused_both a) new q);
 }
-turn_keeps workers Launched old new (own, a, book, unrun, p, l) = record {
+turn_keeps workers Launched old new (own, a, book, unrun, p, l, front) = record {
   core = l.core ∙ ap (λ (m : MeSeen). m.core) p.same;
   job = job_kept old.pass new.pass old.pass.call None (Some l.done) (old.pass.wins + 1) old.pass.refused_wins (old.pass.refused_leaves + 1) old.pass.left
-      old.pass.book_seen (l.released ∙ ap (λ (q : PassSeen). record (winning book (staying q)) { hold = None; last = Some l.done }) (own_pass own old a p));
+      l.done.book (l.released ∙ ap (λ (q : PassSeen). record (winning book (staying q)) { hold = None; last = Some l.done; book_seen = l.done.book }) (own_pass own old a p));
 }
 turn_keeps workers Nothing old new (own, other, a, unrun, not, p, q) = record {
   core = other_core other (refused_both a) new q ∙ ap (λ (m : MeSeen). m.core) p.same;
@@ -159,7 +166,7 @@ pub launch_keeps : (workers : ℕ) (book : List (List Entry)) (old new : MeSeen)
 launch_keeps workers book old new l = record {
   core = l.core;
   job = job_kept old.pass new.pass old.pass.call None (Some l.done) old.pass.wins old.pass.refused_wins old.pass.refused_leaves old.pass.left
-      old.pass.book_seen l.released;
+      l.done.book l.released;
 }
 
 -- a piece that is given is finished
@@ -184,7 +191,7 @@ trapped_helps workers (Left receipt) old new (own, a, unrun, p, left, same) =
 trapped_helps workers Piece old new (inl (spot, p)) = own_helps (Ran spot) old new p
 trapped_helps workers Piece old new (inr (own, spot, a, unrun, p, q)) =
     helps_then old.desk a.desk new.desk (own_helps own old a p) (other_helps (Ran spot) (refused_both a) new q)
-trapped_helps workers Launched old new (own, a, book, unrun, p, l) =
+trapped_helps workers Launched old new (own, a, book, unrun, p, l, front) =
     helps_then old.desk a.desk new.desk (own_helps own old a p) (serves_helps l.posted a.desk new.desk l.desk)
 trapped_helps workers Nothing old new (own, other, a, unrun, not, p, q) =
     helps_then old.desk a.desk new.desk (own_helps own old a p) (other_helps other (refused_both a) new q)

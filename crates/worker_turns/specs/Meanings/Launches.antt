@@ -37,12 +37,14 @@ pub record PassedNone (old new : Desk) : Type 0 where
 
 -- After a launch the flag is released, and this is how its hold was then: it had looked at each worker exactly once, since
 -- its look number u is at worker u. Where it found no call nothing was published and no piece posted; else the calls that
--- it found are one batch, which has so many pieces.
+-- it found are one batch, which has so many pieces. The book of the hold, with that batch, is the one that the pass has seen:
+-- it begins each later book, and the history of the closing report.
 pub record HasLaunched (workers : ℕ) (book : List (List Entry)) (old new : MeSeen) : Type 0 where
   pub done : HoldSeen
   pub last : new.pass.last ≡ Some done
   pub released : new.pass.hold ≡ None
   pub looks : done.looks ≡ workers
+  pub seen : new.pass.book_seen ≡ done.book
   pub found : (FoundNone book done × PassedNone old.desk new.desk)
       ⊎ ((batch : List Entry) × (places : List ℕ) × Served book batch done × ArePlaces book done.taken places
       × Passed places old.desk new.desk)

@@ -15,7 +15,8 @@ pub record IsToldSame (old new : PassSeen) : Type 0 where
   pub after : new.after ≡ old.after
   pub first : new.first_since ≡ old.first_since
 
--- Its call is out as before, and it does not have the flag; task, call, receipts and numbers are as they were.
+-- Its call is out as before, and it does not have the flag; task, call, receipts and numbers are as they were, and what it
+-- has seen of the book has only grown.
 pub record IsStillTrapped (old new : PassSeen) : Type 0 where
   pub trapped : IsTrapped new
   pub same : IsCallSame old new

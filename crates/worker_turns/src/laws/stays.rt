@@ -6,7 +6,7 @@ ghost use Rattle.worker_turns.specs.declared.trapped.Trapped.{Trapped as Trapped
 ghost use Rattle.worker_turns.specs.declared.trapped.Trapped.TheVariants as TrappedAnswers;
 ghost use Rattle.worker_turns.specs.declared.free.Did.{Did as FreeAnswer};
 ghost use Rattle.worker_turns.specs.declared.free.Did.TheVariants as FreeAnswers;
-ghost use Rattle.worker_crew.specs.Passes.{is_trapped, IsTrapped};
+ghost use Rattle.worker_crew.specs.Passes.{is_trapped, IsFront, IsTrapped};
 ghost use Rattle.worker_crew.specs.Workers.{MeSeen};
 ghost use Rattle.worker_turns.specs.Trapped.{IsTrappedTurn};
 ghost use Rattle.worker_turns.specs.Free.{IsFreeTurn, Helps};
@@ -21,6 +21,7 @@ pub fn a_trapped_worker_waits_for_the_same_call()
     ensures turn { (workers : ℕ) (answer : TrappedAnswer) (old new : MeSeen) → IsTrapped old.pass
         → IsTrappedTurn workers answer old new → CallAfter answer old.pass new.pass }
     ensures launch { (workers : ℕ) (book : List (List Entry)) (old new : MeSeen) → is_trapped old.pass.call ≡ true
+        → IsFront old.pass.book_seen book
         → Launches workers book old new → IsStillTrapped old.pass new.pass }
 {}
 

@@ -3,7 +3,7 @@ use Rattle.two_deques.specs.Hands.{held}
 use Rattle.piece_board.specs.Boards.{desk_view}
 use Rattle.worker_crew.specs.declared.step.Step.TheVariants as steps
 use Rattle.worker_crew.specs.Words.{Op}
-use Rattle.worker_crew.specs.Passes.{IsTrapped}
+use Rattle.worker_crew.specs.Passes.{IsFront, IsTrapped}
 use Rattle.worker_crew.specs.Workers.{IsMeOf}
 use Rattle.worker_turns.specs.Trapped.{IsJobSame}
 use Rattle.worker_turns.specs.Free.{Helps}
@@ -18,7 +18,7 @@ invariant-loop g l = record {
       × (g.T.Table.next_of l.crew.table (g.T.Table.seen l.fn.me.pass).task (g.T.Table.seen l.fn.me.pass).call ≡ Some (steps.Call l.fn.leaf op))
       × ((g.T.Table.seen l.me.pass).posted ≡ Some (l.fn.leaf, op));
   left : (g.T.Table.seen l.me.pass).left ≡ (g.T.Table.seen l.fn.me.pass).left;
-  book : (g.T.Table.seen l.me.pass).book_seen ≡ (g.T.Table.seen l.fn.me.pass).book_seen;
+  book : IsFront (g.T.Table.seen l.fn.me.pass).book_seen (g.T.Table.seen l.me.pass).book_seen;
   before : (g.T.Table.seen l.me.pass).before ≡ (g.T.Table.seen l.fn.me.pass).greatest;
   after : (g.T.Table.seen l.me.pass).after ≡ Some l.since;
   first : (g.T.Table.seen l.me.pass).first_since ≡ Some l.since;

@@ -16,7 +16,8 @@ use Rattle.core_table.specs.Shows.{record_in, among}
 use Rattle.core_table.specs.Batches.{call_of, IsPublishDue, IsReleaseDue}
 use Rattle.core_table.specs.Passes.{IsPassOf, job_in, view}
 use Rattle.core_table.specs.Plays.{IsNewCall}
-use Rattle.core_table.specs.Views.{with_hold, taken_view, passing, passed_view, published_view, answered_view}
+use Rattle.core_table.specs.CoreWords.{Event}
+use Rattle.core_table.specs.Views.{with_event, with_hold, taken_view, passing, passed_view, published_view, answered_view}
 use Rattle.core_table.proofs.ListLemmas.CallCounts.{room_few}
 use Rattle.table_tests.specs.Adds.{IsTwoAdds}
 use Rattle.table_tests.specs.Launches.{HasFlag, Answers, HasTaken}
@@ -35,10 +36,10 @@ few_calls t two =
 
 module _ (t : CoreTable) (node n : ℕ) (before : List (List Entry)) (calls : List Call) (p q : Pass) (f : HasFlag t node before n calls p) (own : IsPassOf t q) where
   -- a look that takes a call
-  pub flag_took : (call : OpRecord) (items : List Call) → IsTwoAdds t
-      → (h : HoldView) → (view p).hold ≡ Some h → IsNewCall (call_count (job_in t)) h call → view q ≡ with_hold (view p) (taken_view h n call)
+  pub flag_took : (call : OpRecord) (items : List Call) (e : Event) → IsTwoAdds t
+      → (h : HoldView) → (view p).hold ≡ Some h → IsNewCall (call_count (job_in t)) h call → view q ≡ with_event (with_hold (view p) (taken_view h n call)) e
       → items ≡ record { worker = n; leaf = call.leaf; op = call.op } ∷ calls → HasFlag t node before (n + 1) items q
-  flag_took call items two h held new now put =
+  flag_took call items e two h held new now put =
       let same : h ≡ f.h = same_hold h f.h (sym held ∙ f.hold) in
       record {
         own = own;
@@ -53,8 +54,8 @@ module _ (t : CoreTable) (node n : ℕ) (before : List (List Entry)) (calls : Li
       }
 
   -- a look that takes none
-  pub flag_passed : (seen : ℕ) → (h : HoldView) → (view p).hold ≡ Some h → view q ≡ passing (view p) h seen → HasFlag t node before (n + 1) calls q
-  flag_passed seen h held now =
+  pub flag_passed : (seen : ℕ) (e : Event) → (h : HoldView) → (view p).hold ≡ Some h → view q ≡ with_event (passing (view p) h seen) e → HasFlag t node before (n + 1) calls q
+  flag_passed seen e h held now =
       let same : h ≡ f.h = same_hold h f.h (sym held ∙ f.hold) in
       record {
         own = own;
@@ -68,9 +69,9 @@ module _ (t : CoreTable) (node n : ℕ) (before : List (List Entry)) (calls : Li
       }
 
   -- a publish
-  pub flag_published : (batch : List Entry) → 0 < length calls → IsServiceOf before calls batch → n ≡ (job_in t).workers
-      → (h : HoldView) → (view p).hold ≡ Some h → view q ≡ with_hold (view p) (published_view h batch) → Answers t node before batch 0 q
-  flag_published batch some s size h held now =
+  pub flag_published : (batch : List Entry) (e : Event) → 0 < length calls → IsServiceOf before calls batch → n ≡ (job_in t).workers
+      → (h : HoldView) → (view p).hold ≡ Some h → view q ≡ with_event (with_hold (view p) (published_view h batch)) e → Answers t node before batch 0 q
+  flag_published batch e some s size h held now =
       let same : h ≡ f.h = same_hold h f.h (sym held ∙ f.hold) in
       let s' : IsServiceOf f.h.book calls batch = subst (λ (b : List (List Entry)). IsServiceOf b calls batch) (sym f.book) s in
       let a = answered_none n calls f.h batch f.taken some s' in
@@ -115,9 +116,9 @@ pub answer_low : (t : CoreTable) (node : ℕ) (before : List (List Entry)) (batc
     → (get_or batch i d).worker < (job_in t).workers
 answer_low t node before batch i d p a low = next_low (job_in t).workers before batch i d a.h a.answered low
 
-pub one_answered : (t : CoreTable) (node : ℕ) (before : List (List Entry)) (batch : List Entry) (i : ℕ) (d : Entry) (p q : Pass) (a : Answers t node before batch i p) → IsPassOf t q
-    → i < length batch → (h : HoldView) → (view p).hold ≡ Some h → view q ≡ with_hold (view p) (answered_view h (get_or batch i d).worker) → Answers t node before batch (i + 1) q
-one_answered t node before batch i d p q a own low h held now =
+pub one_answered : (t : CoreTable) (node : ℕ) (before : List (List Entry)) (batch : List Entry) (i : ℕ) (d : Entry) (e : Event) (p q : Pass) (a : Answers t node before batch i p) → IsPassOf t q
+    → i < length batch → (h : HoldView) → (view p).hold ≡ Some h → view q ≡ with_event (with_hold (view p) (answered_view h (get_or batch i d).worker)) e → Answers t node before batch (i + 1) q
+one_answered t node before batch i d e p q a own low h held now =
     let same : h ≡ a.h = same_hold h a.h (sym held ∙ a.hold) in
     let w = (get_or batch i d).worker in
     record {

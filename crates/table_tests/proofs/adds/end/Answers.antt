@@ -12,6 +12,6 @@ arrive-requires-clause-due c =
     let kept = c.keep.ensures.kept in
     let done = c.finish.ensures.finished in
     arrive_due c.args.table.now c.args.node _ c.requires.two c.requires.leaf.0 c.requires.leaf.1
-    (whole_leaf (job_in c.args.table.now) c.args.node c.requires.got.0 kept.0 kept.1 c.tick.result done.0 (view c.args.pass.now) (view c.keep.new.pass) (view c.tick.new.pass) (view c.finish.new.pass)
+    (whole_leaf (job_in c.args.table.now) c.args.node c.requires.got.0 kept.0 kept.1 c.tick.result done.0 _ c.tick.ensures.drawn.0 done.1 (view c.args.pass.now) (view c.keep.new.pass) (view c.tick.new.pass) (view c.finish.new.pass)
     c.requires.leaf.0 c.requires.got.1.task
-    kept.2 kept.3 c.tick.ensures.drawn done.1 done.2)
+    kept.2 kept.3 c.tick.ensures.drawn.2 done.2 done.4)

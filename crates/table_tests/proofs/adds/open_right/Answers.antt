@@ -8,7 +8,7 @@ open_node-requires-clause-due c = open_due c.args.table.now _ c.requires.two c.r
 
 pub returns : goal.returns
 returns c =
-    let now = c.open_node.ensures.opened in
+    let now = c.open_node.ensures.opened.2 in
     record {
       half = record {
         own = c.open_node.ensures.pass;

@@ -14,6 +14,6 @@ loop-place-preserved c =
       i.0,
       i.1,
       i.2,
-      one_answered c.args.table.now c.args.node i.0 c.args.batch.now c.loop-place.place _ c.loop-place.pass c.answer.new.pass i.3 c.answer.ensures.pass
+      one_answered c.args.table.now c.args.node i.0 c.args.batch.now c.loop-place.place _ _ c.loop-place.pass c.answer.new.pass i.3 c.answer.ensures.pass
           c.loop-place-test.true done.0 done.1 done.2,
     )

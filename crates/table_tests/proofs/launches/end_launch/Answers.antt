@@ -26,7 +26,7 @@ answer_all-requires c =
         ap (λ (l : List Entry). c.args.shop ++ l ∷ []) all ∙ sym c.in_ok-shop.ensures.shop,
         number,
         subst (λ (l : List Entry). Answers t c.args.node c.args.shop l 0 c.publish.new.pass) (sym all)
-            (flag_published t c.args.node 2 c.args.shop c.args.calls.items c.args.pass.now c.publish.new.pass c.requires.flag c.publish.ensures.pass batch c.requires.some
+            (flag_published t c.args.node 2 c.args.shop c.args.calls.items c.args.pass.now c.publish.new.pass c.requires.flag c.publish.ensures.pass batch _ c.requires.some
             c.in_ok-shop.ensures.batch (sym c.requires.two.workers) now.0 now.1 now.2),
       );
     }

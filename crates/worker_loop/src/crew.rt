@@ -4,6 +4,7 @@ ghost use Rattle.batch_history.specs.Lawful.{Lawful};
 ghost use Rattle.core_table.specs.declared.table.Pass.{Pass as PassOf};
 ghost use Rattle.core_table.specs.Passes.{tree_in, acts_in, job_in, view, IsPassOf};
 ghost use Rattle.core_table.specs.Views.{seeing_done, finding_none};
+ghost use Rattle.core_model.specs.Reports.{IsRunReport};
 ghost use Rattle.worker_crew.specs.declared.crew.Me.{Me as MeOf};
 ghost use Rattle.worker_crew.specs.Workers.{IsReady};
 ghost use Rattle.worker_crew.specs.Seats.{IsSeat};
@@ -105,7 +106,8 @@ fn work_as_crew<R: Threads + Wait + Sync, G: Pause + Sync>(
 fn has_ended(table: &CoreTable, pass: &mut Pass) -> bool
     requires pass { IsPassOf table.now pass.old }
     ensures pass { IsPassOf table.now pass.new }
-    ensures ended { result ≡ true → view pass.new ≡ seeing_done (finding_none (view pass.old)) }
+    ensures ended { result ≡ true → (seen : ℕ)
+        × (view pass.new ≡ seeing_done (finding_none (view pass.old) seen)) }
 {
     !table.stopped(pass) && table.root_done(pass)
 }
@@ -116,6 +118,8 @@ fn close(alloc: Global, table: CoreTable, pass: Pass) -> Result<Report, AllocErr
     requires pass { IsPassOf table pass }
     ensures lawful { IfOk result (λ report. Lawful
         (record { shape = Some (tree_in table); acts = acts_in table }) (job_in table).workers report) }
+    ensures run { IfOk result (IsRunReport
+        (record { shape = Some (tree_in table); acts = acts_in table }) (job_in table).workers) }
 {
     let mut pass = pass;
     if !has_ended(&table, &mut pass) {
@@ -141,6 +145,7 @@ pub fn run_table<R: Threads + Wait + Sync, G: Pause + Sync>(
     requires some_workers { 0 < workers }
     requires few_workers { workers ≤ 32 }
     ensures lawful { IfOk result (λ report. Lawful job.now workers report) }
+    ensures run { IfOk result (IsRunReport job.now workers) }
 {
     if let Some(report) = report_of_empty(alloc, job, workers) {
         return Ok(report);

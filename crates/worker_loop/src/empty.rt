@@ -1,6 +1,7 @@
 //! A run of a job without leaves.
 ghost use Rattle.std.specs.Prelude.{IfSome, IsNone, IsSome};
 ghost use Rattle.batch_history.specs.Lawful.{Lawful};
+ghost use Rattle.core_model.specs.Reports.{IsRunReport};
 
 use batch_history::{History, Report, Rows};
 use sp_order::Job;
@@ -9,6 +10,7 @@ use std::alloc::Global;
 /// The report of a job without leaves. There is none for another job, which is to be run.
 pub(crate) fn report_of_empty(alloc: Global, job: &Job, workers: u32) -> Option<Report>
     ensures lawful { IfSome result (λ report. Lawful job.now workers report) }
+    ensures run { IfSome result (IsRunReport job.now workers) }
     ensures leaves { IsNone result → IsSome job.now.shape }
 {
     if job.shape().is_some() {

@@ -1,6 +1,9 @@
 //! A run in threads that take turns on one core, under one lock.
 ghost use Rattle.std.specs.Prelude.{◌≡◌, ◌<◌, ◌≤◌, Some, IfOk, false};
 ghost use Rattle.batch_history.specs.Lawful.{Lawful};
+ghost use Rattle.core_model.specs.Reports.{IsRunReport};
+ghost use Rattle.core_model.specs.State.{opening_core};
+ghost use Rattle.batcher_core.specs.Cores.{state_in};
 ghost use Rattle.worker_loop.specs.Runs.{IsCoreOf};
 
 use crate::empty::report_of_empty;
@@ -33,6 +36,7 @@ fn run_in_threads<S: Locked + Send, R: Threads + Wait + Sync, G: Pause + Sync>(
     requires room { room ≤ 160000 }
     ensures lawful { IfOk result
         (λ report. Lawful (record { shape = Some S.tree; acts = S.acts }) S.workers report) }
+    ensures run { IfOk result (IsRunReport (record { shape = Some S.tree; acts = S.acts }) S.workers) }
 {
     let (decks, hands) = Decks::make(alloc, workers, room, 0)?;
     let shared = Shared {
@@ -70,10 +74,12 @@ fn run_core<J: GivenJob + Send + Sync, R: Threads + Wait + Sync, G: Pause + Sync
 ) -> Result<Report, AllocError>
     requires job { IsCoreOf J.tree J.acts J.workers core }
     requires unspent { core.spent ≡ false }
+    requires opening { state_in core ≡ opening_core }
     requires few_workers { J.workers ≤ 32 }
     requires room { room ≤ 160000 }
     ensures lawful { IfOk result
         (λ report. Lawful (record { shape = Some J.tree; acts = J.acts }) J.workers report) }
+    ensures run { IfOk result (IsRunReport (record { shape = Some J.tree; acts = J.acts }) J.workers) }
 {
     cores_are_sent();
     let workers = core.workers();
@@ -98,6 +104,7 @@ pub fn run_locked<R: Threads + Wait + Sync, G: Pause + Sync>(
     requires some_workers { 0 < workers }
     requires few_workers { workers ≤ 32 }
     ensures lawful { IfOk result (λ report. Lawful job.now workers report) }
+    ensures run { IfOk result (IsRunReport job.now workers) }
 {
     if let Some(report) = report_of_empty(alloc, job, workers) {
         return Ok(report);

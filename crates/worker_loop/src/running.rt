@@ -1,17 +1,20 @@
 //! The state behind the lock: the core of the job that is run.
 ghost use Rattle.std.specs.Prelude.{◌≡◌, ◌<◌, IfOk, Some, true, false, ℕ, List, []};
 ghost use Rattle.seq_objects.specs.declared.act.Act.{Act};
-ghost use Rattle.sp_order.specs.Precedence.{Tree, leaf};
+ghost use Rattle.sp_order.specs.Precedence.{Tree, leaf, leaves};
 ghost use Rattle.batch_history.specs.Lawful.{Lawful};
 ghost use Rattle.batcher_core.specs.Cores.{state_in};
 ghost use Rattle.core_model.specs.Invariant.{Invariant};
-ghost use Rattle.core_model.specs.State.{core_job};
+ghost use Rattle.core_model.specs.State.{core_job, opening_core};
+ghost use Rattle.core_model.specs.Reports.{IsRunReport};
 ghost use Rattle.worker_loop.specs.Runs.{RunView, IsCoreOf};
 ghost use Rattle.worker_loop.specs.Looks.{HasLooked};
 
 use crate::look::{Look, newest_if_longer, turn_with};
 use batch_history::Report;
 use batcher_core::{Core, Spun, Turn, drive};
+use core_model::laws::report::run_goes_on_from_reached;
+use core_model::laws::run::step_leads_to_reached;
 use std::alloc::{AllocError, Global};
 use std::marker::{Brand, Model, PhantomData};
 
@@ -57,7 +60,8 @@ pub trait Locked: Drop {
     fn report(self, alloc: Global) -> Result<Report, AllocError>
         ensures whole { IfOk result (λ _. (seen self).failed ≡ false) }
         ensures lawful { IfOk result
-            (λ report. Lawful (record { shape = Some tree; acts = acts }) workers report) };
+            (λ report. Lawful (record { shape = Some tree; acts = acts }) workers report) }
+        ensures run { IfOk result (IsRunReport (record { shape = Some tree; acts = acts }) workers) };
 }
 
 /// The core of the given job, and whether memory ran out in some worker. Whoever takes the lock finds a
@@ -90,6 +94,7 @@ impl<J: GivenJob> Run<J> {
     pub fn new(core: Core) -> Run<J>
         requires job { IsCoreOf J.tree J.acts J.workers core }
         requires unspent { core.spent ≡ false }
+        requires opening { state_in core ≡ opening_core }
         ensures { result ≡ record { core = core; failed = false } }
     {
         Run {
@@ -125,6 +130,7 @@ impl<J: GivenJob> Locked for Run<J> {
         requires { worker < J.workers }
         ensures { HasLooked worker self.old self.new result }
     {
+        step_leads_to_reached();
         if self.failed || self.core.is_over() {
             return Look::Ended;
         }
@@ -155,7 +161,10 @@ impl<J: GivenJob> Locked for Run<J> {
         ensures whole { IfOk result (λ _. self.failed ≡ false) }
         ensures lawful { IfOk result
             (λ report. Lawful (record { shape = Some J.tree; acts = J.acts }) J.workers report) }
+        ensures run { IfOk result
+            (IsRunReport (record { shape = Some J.tree; acts = J.acts }) J.workers) }
     {
+        run_goes_on_from_reached();
         let Run {
             core,
             failed,

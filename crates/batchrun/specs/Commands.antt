@@ -5,9 +5,10 @@ use Rattle.batch_history.specs.declared.report.Report.{Report}
 use Rattle.batch_history.specs.Lawful.{Lawful}
 use Rattle.batch_history.specs.Text.{report_text}
 use Rattle.batch_history.specs.Summary.{summary_of_report, summary_of_job}
+use Rattle.core_model.specs.Reports.{IsRunReport}
 use Rattle.job_lang.specs.Generator.{generated}
 use Rattle.batchrun.specs.Words.{Command, step, run, gen}
-use Rattle.batchrun.specs.Outcomes.{HasRun, HasDriven, FileCause, MadeCause, FileCompletes, IsFileAssured, FailsPast, IsUnlessMemory}
+use Rattle.batchrun.specs.Outcomes.{HasRun, HasDriven, IsModelRun, FileCause, MadeCause, FileCompletes, IsFileAssured, FailsPast, IsUnlessMemory}
 use Rattle.batchrun.specs.declared.status.Status.{Status}
 use Rattle.batchrun.specs.declared.status.Status.TheVariants.{Made}
 
@@ -37,6 +38,13 @@ abbrev pub Driven : Option Command → (List ℕ → Option (List ℕ)) → Repo
 Driven (Some (step file workers schedule)) held report = HasDriven (held file) workers schedule report
 Driven _ held report = Unit {0}
 
+-- The report is that of a run of the model, whichever way the command runs its job: by turns or in threads.
+abbrev pub RunsModel : Option Command → (List ℕ → Option (List ℕ)) → Report → Type 0
+RunsModel (Some (step file workers schedule)) held = IsModelRun (held file) workers
+RunsModel (Some (run file workers)) held = IsModelRun (held file) workers
+RunsModel (Some (gen size seed workers)) held = IsRunReport (generated seed size) workers
+RunsModel None held = λ report. ⊥
+
 -- why a command ends with a status
 abbrev pub HasCause : Command → (List ℕ → Option (List ℕ)) → Status → Type 0 → Type 0 → Type 0
 HasCause (step file workers schedule) held status ReadsFailed WritesFailed = FileCause status (held file) ReadsFailed WritesFailed
@@ -59,6 +67,7 @@ IsAssured (gen size seed workers) held status report never_fails room =
 -- What a command owes beside what it prints. `Completes` and `IsAssured` are about runs in which no fault comes in between.
 pub record Owes (command : Command) (held : List ℕ → Option (List ℕ)) (status : Status) (report : Option Report) (ReadsFailed WritesFailed : Type 0) (never_fails : Bool) (room : ℕ) : Type 0 where
   pub driven : IfSome report (Driven (Some command) held)
+  pub model : IfSome report (RunsModel (Some command) held)
   pub cause : HasCause command held status ReadsFailed WritesFailed
   pub completes : Completes command held status ReadsFailed WritesFailed
   pub writes : FailsPast (lines_of (Some command)) status report room

@@ -8,7 +8,7 @@ use Rattle.sp_order.specs.Jobs.{JobValue}
 use Rattle.batch_history.specs.declared.report.Report.{Report}
 use Rattle.batch_history.specs.Lawful.{Lawful}
 use Rattle.batch_history.specs.Text.{report_text}
-use Rattle.core_model.specs.Reports.{IsDrivenReport}
+use Rattle.core_model.specs.Reports.{IsDrivenReport, IsRunReport}
 use Rattle.job_lang.specs.Language.{IsJobOf, IsFaultOf}
 use Rattle.job_syntax.specs.declared.fault.JobFault.{JobFault}
 use Rattle.batchrun.specs.declared.status.Refusal.TheVariants.{TooLong, Job}
@@ -28,6 +28,12 @@ pub record HasRun (held : Option (List ℕ)) (workers : ℕ) (report : Report) :
 pub record HasDriven (held : Option (List ℕ)) (workers : ℕ) (schedule : List ℕ) (report : Report) : Type 0 where
   pub run : HasRun held workers report
   pub driven : IsDrivenReport run.job workers schedule report
+
+-- The bytes that were read are a job's, the report is lawful, and it is that of a run of the model: a trace of events of
+-- the workers leads from the opening state of this job to the state that the report tells.
+pub record IsModelRun (held : Option (List ℕ)) (workers : ℕ) (report : Report) : Type 0 where
+  pub run : HasRun held workers report
+  pub model : IsRunReport run.job workers report
 
 -- The bytes that were read have this fault.
 pub record IsRefused (held : Option (List ℕ)) (fault : JobFault) : Type 0 where

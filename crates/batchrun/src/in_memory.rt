@@ -8,7 +8,7 @@ ghost use Rattle.batch_history.specs.Text.{report_text};
 ghost use Rattle.batchrun.specs.Words.{command_of, spelled, file_of, IsStep};
 ghost use Rattle.batchrun.specs.Lines.{fault_line};
 ghost use Rattle.batchrun.specs.Outcomes.{Prints, HoldsJob, IsUnlessMemory, TextFits, FailsPast};
-ghost use Rattle.batchrun.specs.Commands.{Runs, Driven, HasCause, Completes};
+ghost use Rattle.batchrun.specs.Commands.{Runs, Driven, RunsModel, HasCause, Completes};
 
 use crate::outcome::Outcome;
 use crate::program::run_step;
@@ -38,6 +38,8 @@ pub fn step_in_memory(
         report_text result.status result.report (Some out.old.taken) (Some out.new.taken) }
     ensures driven { IfSome result.report
         (Driven (command_of (spelled words.now)) (file_named shelf.old.files)) }
+    ensures model { IfSome result.report
+        (RunsModel (command_of (spelled words.now)) (file_named shelf.old.files)) }
     ensures cause { ForSome (command_of (spelled words.now))
         (λ c. HasCause c (file_named shelf.old.files) result.status
         (Rose shelf.old.faults shelf.new.faults) (Rose out.old.faults out.new.faults)) }

@@ -2,10 +2,11 @@
 ghost use Rattle.std.specs.Prelude.{◌<◌, ◌≤◌, IfOk};
 ghost use Rattle.std.specs.List.{AllByRecursion};
 ghost use Rattle.batch_history.specs.Lawful.{Lawful};
-ghost use Rattle.core_model.specs.Reports.{IsDrivenReport};
+ghost use Rattle.core_model.specs.Reports.{IsDrivenReport, IsRunReport};
 
 use batch_history::{History, Report, Rows};
 use batcher_core::{Core, drive};
+use core_model::laws::report::driven_report_is_of_a_run;
 use sp_order::Job;
 use std::alloc::{AllocError, Global};
 
@@ -21,8 +22,10 @@ pub fn run_by_turns(
     requires few_workers { workers ≤ 32 }
     requires schedule { AllByRecursion (λ worker. worker < workers) schedule.now }
     ensures driven { IfOk result (λ report. IsDrivenReport job.now workers schedule.now report) }
+    ensures run { IfOk result (IsRunReport job.now workers) }
     ensures lawful { IfOk result (λ report. Lawful job.now workers report) }
 {
+    driven_report_is_of_a_run();
     if job.shape().is_none() {
         return Ok(Report {
             workers,

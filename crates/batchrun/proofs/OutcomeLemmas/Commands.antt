@@ -5,9 +5,10 @@ use Rattle.batch_history.specs.declared.report.Report.{Report}
 use Rattle.batch_history.specs.Lawful.{Lawful}
 use Rattle.batch_history.specs.Text.{report_text}
 use Rattle.batch_history.specs.Summary.{summary_of_report, summary_of_job}
+use Rattle.core_model.specs.Reports.{IsRunReport}
 use Rattle.job_lang.specs.Generator.{generated}
 use Rattle.batchrun.specs.Words.{step, run, gen}
-use Rattle.batchrun.specs.Outcomes.{HasRun, HasDriven, Prints, FileCause, MadeCause, FailsPast, IsUnlessMemory}
+use Rattle.batchrun.specs.Outcomes.{HasRun, HasDriven, IsModelRun, Prints, FileCause, MadeCause, FailsPast, IsUnlessMemory}
 use Rattle.batchrun.specs.Commands.{PrintsSummary, Driven, Owes}
 use Rattle.batchrun.specs.Code.Runs.{IsRun}
 use Rattle.batchrun.specs.declared.status.Status.{Status}
@@ -22,7 +23,7 @@ not_driven (Some report) = tt
 
 module _ (no_fault : NoFault) (one_fault : OneFault) (file : List ℕ) (workers : ℕ) (held : List ℕ → Option (List ℕ)) (status : Status) (report : Option Report) (old new : Option (List ℕ)) (R W : Type 0) (never_fails : Bool) (room : ℕ)
     (line : Prints (HasRun (held file) workers) report_text status report old new) (why : FileCause status (held file) R W)
-    (reads : IsTrue never_fails → IsSome (held file) → status ≡ ReadFault → ⊥) (past : FailsPast report_text status report room) where
+    (reads : IsTrue never_fails → IsSome (held file) → status ≡ ReadFault → ⊥) (past : FailsPast report_text status report room) (model : IfSome report (IsModelRun (held file) workers)) where
   -- a run by turns
   pub stepped : (schedule : List ℕ) → IfSome report (HasDriven (held file) workers schedule) → IsRun (Some (step file workers schedule)) held status report old new R W never_fails room
   stepped schedule driven = record {
@@ -31,6 +32,7 @@ module _ (no_fault : NoFault) (one_fault : OneFault) (file : List ℕ) (workers 
     usage = no_usage (Some (step file workers schedule)) (step file workers schedule) held status R W refl why;
     owes = asked (Some (step file workers schedule)) (step file workers schedule) (λ c. Owes c held status report R W never_fails room) refl (record {
       driven = driven;
+      model = model;
       cause = why;
       completes = completes one_fault no_fault status report _ _ _ _ _ _ why line;
       writes = past;
@@ -46,6 +48,7 @@ module _ (no_fault : NoFault) (one_fault : OneFault) (file : List ℕ) (workers 
     usage = no_usage (Some (run file workers)) (run file workers) held status R W refl why;
     owes = asked (Some (run file workers)) (run file workers) (λ c. Owes c held status report R W never_fails room) refl (record {
       driven = not_driven report;
+      model = model;
       cause = why;
       completes = completes one_fault no_fault status report _ _ _ _ _ _ why line;
       writes = past;
@@ -58,13 +61,15 @@ pub run_of_made : (size seed workers : ℕ) (held : List ℕ → Option (List �
     → Prints (Lawful (generated seed size) workers) (summary_of_report seed size) status report old new → PrintsSummary (Some (gen size seed workers)) status old new
     → MadeCause status W → FailsPast (summary_of_report seed size) status report room
     → (length (summary_of_job seed size workers (generated seed size)) ≤ room → IsUnlessMemory status Made)
+    → IfSome report (IsRunReport (generated seed size) workers)
     → IsRun (Some (gen size seed workers)) held status report old new R W never_fails room
-run_of_made size seed workers held status report old new R W never_fails room line summary why past sure = record {
+run_of_made size seed workers held status report old new R W never_fails room line summary why past sure model = record {
   headline = line;
   summary = summary;
   usage = no_usage (Some (gen size seed workers)) (gen size seed workers) held status R W refl why;
   owes = asked (Some (gen size seed workers)) (gen size seed workers) (λ c. Owes c held status report R W never_fails room) refl (record {
     driven = not_driven report;
+    model = model;
     cause = why;
     completes = made_completes status W why;
     writes = past;

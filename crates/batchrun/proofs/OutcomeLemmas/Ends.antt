@@ -8,13 +8,13 @@ use Rattle.sp_order.specs.Jobs.{JobValue}
 use Rattle.batch_history.specs.Lawful.{HasRows, Lawful}
 use Rattle.batch_history.specs.declared.row.Row.{Row}
 use Rattle.batch_history.specs.declared.report.Report.{Report}
-use Rattle.core_model.specs.Reports.{IsDrivenReport}
+use Rattle.core_model.specs.Reports.{IsDrivenReport, IsRunReport}
 use Rattle.job_lang.specs.Language.{IsJobOf, IsFaultOf}
 use Rattle.batch_history.specs.Text.{report_text}
 use Rattle.program_io.specs.Reading.{WasRead}
-use Rattle.batchrun.specs.Outcomes.{HasRun, HasDriven, Prints, FileCause, FileCompletes, IsUnlessMemory, IsFileAssured, FailsPast}
+use Rattle.batchrun.specs.Outcomes.{HasRun, HasDriven, IsModelRun, Prints, FileCause, FileCompletes, IsUnlessMemory, IsFileAssured, FailsPast}
 use Rattle.batchrun.specs.Code.Reading.{HasJob}
-use Rattle.batchrun.proofs.OutcomeLemmas.Headlines.{prints_with}
+use Rattle.batchrun.proofs.OutcomeLemmas.Headlines.{prints_with, report_owes}
 use Rattle.job_syntax.specs.declared.fault.JobFault.{JobFault}
 use Rattle.batchrun.specs.declared.status.Refusal.TheVariants.{TooLong, Job}
 use Rattle.batchrun.specs.declared.status.Status.{Status}
@@ -50,6 +50,19 @@ unfolding has_run
 drove held workers job turns run status report old new has lawful driven line =
     prints_with (λ report. run ≡ Ok report) (HasDriven held workers turns) report_text
     (λ report is. record { run = has_run held workers job report has (rw is at lawful); driven = rw is at driven }) status report old new line
+
+model_of : {E : Type 0} (held : Option (List ℕ)) (workers : ℕ) (job : JobValue) (run : Result Report E) → HasJob held job
+    → IfOk run (λ report. Lawful job workers report) → IfOk run (IsRunReport job workers) → IfOk run (IsModelRun held workers)
+unfolding has_run
+model_of held workers job (Ok report) has lawful model = record { run = has_run held workers job report has lawful; model = model }
+model_of held workers job (Err e) has lawful model = tt
+
+-- and so it is where the run is one of the model
+pub models : {E : Type 0} (held : Option (List ℕ)) (workers : ℕ) (job : JobValue) (run : Result Report E) (status : Status) (report : Option Report) (old new : Option (List ℕ))
+    → HasJob held job → IfOk run (λ report. Lawful job workers report) → IfOk run (IsRunReport job workers)
+    → Prints (λ report. run ≡ Ok report) report_text status report old new → IfSome report (IsModelRun held workers)
+models held workers job run status report old new has lawful model line =
+    report_owes (IsModelRun held workers) run report_text status report old new (model_of held workers job run has lawful model) line
 
 -- the bytes that were read are those that are held
 same_bytes : (held : Option (List ℕ)) (told bytes : List ℕ) → WasRead 1048576 held bytes → held ≡ Some told → bytes ≡ told

@@ -1,5 +1,5 @@
 -- What is printed, in other words.
-use Rattle.std.proofs.Common.{ℕ, List, Option, Some, None, IfSome}
+use Rattle.std.proofs.Common.{ℕ, ◌≡◌, List, Option, Some, None, IfSome, Result, Ok, IfOk}
 use Rattle.batch_history.specs.declared.report.Report.{Report}
 use Rattle.batchrun.specs.Outcomes.{Prints}
 use Rattle.batchrun.specs.declared.status.Status.{Status}
@@ -33,3 +33,9 @@ report_runs Runs lines Usage (Some report) old new line = absurd line
 report_runs Runs lines ReadFault (Some report) old new line = absurd line
 report_runs Runs lines (Refused refusal) (Some report) old new line = absurd line
 report_runs Runs lines Memory (Some report) old new line = absurd line
+
+-- what is owed of the report of a run is owed of the report that comes
+pub report_owes : {E : Type 0} (Owed : Report → Type 0) (run : Result Report E) (lines : Report → List ℕ) (status : Status) (report : Option Report) (old new : Option (List ℕ))
+    → IfOk run Owed → Prints (λ report. run ≡ Ok report) lines status report old new → IfSome report Owed
+report_owes Owed run lines status report old new owed line =
+    report_runs Owed lines status report old new (prints_with (λ report. run ≡ Ok report) Owed lines (λ report is. rw is at owed) status report old new line)

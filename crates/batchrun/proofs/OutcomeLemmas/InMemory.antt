@@ -7,7 +7,7 @@ use Rattle.batch_history.specs.Text.{report_text}
 use Rattle.bt_io.specs.Memory.{File, MemorySink, file_named, room_left_of}
 use Rattle.batchrun.specs.Words.{Command, step, run, gen, file_of, IsStep}
 use Rattle.batchrun.specs.Outcomes.{HoldsJob, IsUnlessMemory, TextFits, FailsPast}
-use Rattle.batchrun.specs.Commands.{Driven, IsAssured, lines_of}
+use Rattle.batchrun.specs.Commands.{Driven, RunsModel, IsAssured, lines_of}
 use Rattle.batchrun.specs.declared.status.Status.{Status}
 use Rattle.batchrun.specs.declared.status.Status.TheVariants.{Done}
 
@@ -44,3 +44,8 @@ pub step_driven : (words : Option Command) (report : Option Report) (held : List
     → ForSome words (λ command. IfSome report (Driven (Some command) held)) → IfSome report (Driven words held)
 step_driven None report held asks driven = absurd asks
 step_driven (Some command) report held asks driven = driven command refl
+
+pub step_model : (words : Option Command) (report : Option Report) (held : List ℕ → Option (List ℕ)) → IsStep words
+    → ForSome words (λ command. IfSome report (RunsModel (Some command) held)) → IfSome report (RunsModel words held)
+step_model None report held asks model = absurd asks
+step_model (Some command) report held asks model = model command refl

@@ -5,10 +5,10 @@ ghost use Rattle.batch_history.specs.Lawful.{Lawful};
 ghost use Rattle.batch_history.specs.Text.{report_text};
 ghost use Rattle.batch_history.specs.Summary.{CanBeSummed, summary_of_report, summary_of_job};
 ghost use Rattle.batch_history.specs.declared.report.Report.{Report};
-ghost use Rattle.core_model.specs.Reports.{IsDrivenReport};
+ghost use Rattle.core_model.specs.Reports.{IsDrivenReport, IsRunReport};
 ghost use Rattle.job_lang.specs.Generator.{generated};
 ghost use Rattle.batchrun.specs.Words.{workers_named};
-ghost use Rattle.batchrun.specs.Outcomes.{HasRun, HasDriven, Prints, FileCause, MadeCause, FailsPast, IsUnlessMemory};
+ghost use Rattle.batchrun.specs.Outcomes.{HasRun, HasDriven, IsModelRun, Prints, FileCause, MadeCause, FailsPast, IsUnlessMemory};
 ghost use Rattle.batchrun.specs.Commands.{PrintsSummary};
 ghost use Rattle.batchrun.specs.Code.Commands.{gen_in};
 
@@ -39,6 +39,7 @@ fn run_by_schedule(
 ) -> Result<Report, AllocError>
     ensures driven { IfOk result (λ report. IsDrivenReport job.now command.now.workers
         (workers_named command.now.schedule.now) report) }
+    ensures run { IfOk result (IsRunReport job.now command.now.workers) }
     ensures lawful { IfOk result (λ report. Lawful job.now command.now.workers report) }
 {
     let turns = command.turns(alloc)?;
@@ -57,6 +58,8 @@ pub(crate) fn step_file<I: Shelf, O: Sink>(
         result.status result.report (O.taken out.old) (O.taken out.new) }
     ensures driven { IfSome result.report (HasDriven (I.held shelf.old command.now.file.now)
         command.now.workers (workers_named command.now.schedule.now)) }
+    ensures model { IfSome result.report
+        (IsModelRun (I.held shelf.old command.now.file.now) command.now.workers) }
     ensures cause { FileCause result.status (I.held shelf.old command.now.file.now)
         (Rose (I.faults shelf.old) (I.faults shelf.new))
         (Rose (O.faults out.old) (O.faults out.new)) }
@@ -84,6 +87,8 @@ pub(crate) fn run_file<R: Threads + Wait + Sync, I: Shelf, O: Sink, G: Pause + S
     requires may { IsTrue (I.may shelf.old command.now.file.now) }
     ensures headline { Prints (HasRun (I.held shelf.old command.now.file.now) command.now.workers) report_text
         result.status result.report (O.taken out.old) (O.taken out.new) }
+    ensures model { IfSome result.report
+        (IsModelRun (I.held shelf.old command.now.file.now) command.now.workers) }
     ensures cause { FileCause result.status (I.held shelf.old command.now.file.now)
         (Rose (I.faults shelf.old) (I.faults shelf.new))
         (Rose (O.faults out.old) (O.faults out.new)) }
@@ -128,6 +133,8 @@ pub(crate) fn run_made<R: Threads + Wait + Sync, O: Sink, G: Pause + Sync>(
     ensures headline { Prints (Lawful (generated command.now.seed command.now.size) command.now.workers)
         (summary_of_report command.now.seed command.now.size) result.status result.report
         (O.taken out.old) (O.taken out.new) }
+    ensures model { IfSome result.report
+        (IsRunReport (generated command.now.seed command.now.size) command.now.workers) }
     ensures summary { PrintsSummary (Some (gen_in command.now)) result.status
         (O.taken out.old) (O.taken out.new) }
     ensures cause { MadeCause result.status (Rose (O.faults out.old) (O.faults out.new)) }

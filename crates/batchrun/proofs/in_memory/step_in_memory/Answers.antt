@@ -1,5 +1,5 @@
 use Rattle.batchrun.specs.Words.{command_of, spelled}
-use Rattle.batchrun.proofs.OutcomeLemmas.InMemory.{in_memory, all_room, step_lines, step_writes, step_driven}
+use Rattle.batchrun.proofs.OutcomeLemmas.InMemory.{in_memory, all_room, step_lines, step_writes, step_driven, step_model}
 use Rattle.batchrun.proofs.in_memory.step_in_memory.Goals as goal
 
 pub returns-clause-answer : goal.returns-clause-answer
@@ -18,6 +18,10 @@ returns-clause-headline c = rw (step_lines (command_of (spelled c.args.words.now
 pub returns-clause-driven : goal.returns-clause-driven
 returns-clause-driven c =
     step_driven (command_of (spelled c.args.words.now)) c.run_step.result.report _ c.requires.command (λ command is. (c.run_step.ensures.owes command is).driven)
+
+pub returns-clause-model : goal.returns-clause-model
+returns-clause-model c =
+    step_model (command_of (spelled c.args.words.now)) c.run_step.result.report _ c.requires.command (λ command is. (c.run_step.ensures.owes command is).model)
 
 pub returns-clause-cause : goal.returns-clause-cause
 returns-clause-cause c command is = (c.run_step.ensures.owes command is).cause

@@ -3,7 +3,7 @@
 use crate::op::Op;
 
 /// What a leaf of a job does.
-#[derive(Clone, Copy)]
+#[derive(Clone, Copy, PartialEq, Eq)]
 pub enum Act {
     /// Work of this number of steps, without a call.
     Work(u32),

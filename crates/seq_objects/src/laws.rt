@@ -1,5 +1,5 @@
 //! The laws of the serial objects, each as the contract of a function that does nothing.
-ghost use Rattle.std.specs.Prelude.{◌≡◌, ℕ, ◌+◌, ◌<◌, Bool, not, ◌&&◌, ◌||◌, ◌==◌, ◌++◌, nat_lt, filter, length, List, Some};
+ghost use Rattle.std.specs.Prelude.{◌≡◌, ◌↔◌, ℕ, ◌+◌, ◌<◌, Bool, IsTrue, not, ◌&&◌, ◌||◌, ◌==◌, ◌++◌, nat_lt, filter, length, List, Some};
 ghost use Rattle.seq_objects.specs.declared.call.Call.{Call};
 ghost use Rattle.seq_objects.specs.declared.op.Op.{Op};
 ghost use Rattle.seq_objects.specs.declared.reply.Reply.{Reply};
@@ -8,6 +8,10 @@ ghost use Rattle.seq_objects.specs.BatchOrder.{class_of};
 ghost use Rattle.seq_objects.specs.Batches.{Object, AreInBatchOrder, AreOneBatch, AreOf, calls_of};
 ghost use Rattle.seq_objects.specs.Serial.{after_all, replies_to_all, alone, with_object, replies_of, after_by_object};
 ghost use Rattle.seq_objects.specs.Orders.{StrictlyAscends, Ascends, AreInOrder, IsLeastAbove, copies, one_if, IsLeast};
+
+use crate::act::Act;
+use crate::op::Op;
+use crate::reply::Reply;
 
 /// The set strictly ascends and the bag ascends, whatever operations are served.
 pub fn objects_stay_in_order()
@@ -53,4 +57,11 @@ pub fn each_object_serves_its_own_calls()
     ensures replies { (object : Object) (objects : Objects) (calls : List Call) → replies_of object calls (replies_to_all objects calls) ≡ replies_to_all (alone object objects) (calls_of object calls) }
     ensures one { (calls : List Call) (replies others : List Reply) → length replies ≡ length calls → length others ≡ length calls → ((object : Object) → replies_of object calls replies ≡ replies_of object calls others) → replies ≡ others }
     ensures content { (objects : Objects) (calls : List Call) → after_all objects calls ≡ after_by_object objects calls }
+{}
+
+/// By `==` two operations, replies or acts are equal exactly where they are the same.
+pub fn equal_values_are_the_same()
+    ensures op { (a b : Op) → IsTrue (⟦<Op as PartialEq>⟧.eq a b) ↔ (a ≡ b) }
+    ensures reply { (a b : Reply) → IsTrue (⟦<Reply as PartialEq>⟧.eq a b) ↔ (a ≡ b) }
+    ensures act { (a b : Act) → IsTrue (⟦<Act as PartialEq>⟧.eq a b) ↔ (a ≡ b) }
 {}

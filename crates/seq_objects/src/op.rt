@@ -3,7 +3,7 @@
 use std::fmt;
 
 /// An operation on one of the shared objects, as a job's text names it.
-#[derive(Clone, Copy)]
+#[derive(Clone, Copy, PartialEq, Eq)]
 pub enum Op {
     /// Adds a number to the counter, and replies the sum.
     CounterAdd(u32),

@@ -5,7 +5,7 @@ ghost use Rattle.seq_objects.specs.Objects.{number_or_empty, yes_or_no, value_of
 use std::fmt;
 
 /// What an operation replies.
-#[derive(Clone, Copy)]
+#[derive(Clone, Copy, PartialEq, Eq)]
 pub enum Reply {
     /// A number: of a counter the sum, else an item or a key.
     Number(u64),

@@ -7,3 +7,4 @@ pub mod Finds
 pub mod Leaves
 pub mod Pairs
 pub mod Jobs
+pub mod SmallReplies

@@ -1,8 +1,8 @@
-//! The laws of summaries, each as the contract of a function that does nothing: what the calls of a run come to, whatever
-//! its schedule. Those on `entries` hold of any legal list of them, those on a `report` of any lawful one.
+//! The laws of summaries and of replies, each as the contract of a function that does nothing: what the calls of a run come
+//! to, whatever its schedule, and how great their replies are. Those on `entries` hold of any legal list of them, those on a `report` of any lawful one.
 ghost use Rattle.std.specs.Prelude.{◌≡◌, ℕ, ◌-◌, ◌≤◌, ◌<◌, ◌^◌, ◌↔◌, true, List, [], length, Contains};
 ghost use Rattle.std.specs.List.{AllByRecursion};
-ghost use Rattle.seq_objects.specs.Objects.{opening, has, argument_of};
+ghost use Rattle.seq_objects.specs.Objects.{opening, has, argument_of, value_of};
 ghost use Rattle.seq_objects.specs.Orders.{StrictlyAscends};
 ghost use Rattle.seq_objects.specs.declared.act.Act.{Act};
 ghost use Rattle.seq_objects.specs.declared.act.Act.TheVariants.{Call};
@@ -115,4 +115,16 @@ pub fn summary_is_the_jobs()
         → FillsFirst job → Lawful job workers report → length job.acts ≤ 20000
         → AllByRecursion (λ act. count_of_act argument_of act < 2 ^ 32) job.acts
         → CanBeSummed job report }
+{}
+
+/// Where the arguments of its calls are below 2^32, and there are at most 2^32 of them, the number that each reply of a
+/// legal list of entries stands for is below 2^64. So it is in a lawful report of a job of so few acts.
+pub fn replies_are_small()
+    ensures entries { (entries : List Entry) → IsLegalFrom opening entries
+        → AllByRecursion (λ entry. argument_of entry.op < 2 ^ 32) entries → length entries ≤ 2 ^ 32
+        → AllByRecursion (λ entry. value_of entry.reply < 2 ^ 64) entries }
+    ensures report { (job : JobValue) (workers : ℕ) (report : Report) → Lawful job workers report
+        → length job.acts ≤ 2 ^ 32
+        → AllByRecursion (λ act. count_of_act argument_of act < 2 ^ 32) job.acts
+        → AllByRecursion (λ entry. value_of entry.reply < 2 ^ 64) (flat report.history) }
 {}

@@ -1,0 +1,137 @@
+-- The numbers in the replies of few calls with arguments below 2^32 are below 2^64.
+use Rattle.std.proofs.Common.{◌≡◌, ℕ, zero, suc, ◌+◌, ◌-◌, ◌*◌, ◌<◌, ◌≤◌, ◌^◌, Bool, true, false, List, [], ◌∷◌, ◌++◌, length, take, drop, Option, Some, None, refl, sym, subst, arith}
+use Rattle.std.specs.Prelude.{nat_le, nat_lt, ◌==◌, not, slice_get, if◌then◌else◌, cond}
+use Rattle.std.specs.List.{AllByRecursion}
+use Rattle.key_sets.specs.Keys.{has, with_key, without_key, least_above}
+use Rattle.seq_objects.specs.Objects.{Objects, opening, after, reply_to, value_of, argument_of, with_item, top, least, number_or_empty, yes_or_no}
+use Rattle.seq_objects.specs.declared.act.Act.{Act}
+use Rattle.seq_objects.specs.declared.act.Act.TheVariants.{Work, Call}
+use Rattle.seq_objects.specs.declared.op.Op.{Op}
+use Rattle.seq_objects.specs.declared.op.Op.TheVariants.{CounterAdd, Push, Pop, TreeInsert, TreeRemove, TreeFind, TreeNext, PqInsert, PqTake}
+use Rattle.seq_objects.specs.declared.reply.Reply.{Reply}
+use Rattle.sp_order.specs.Jobs.{JobValue}
+use Rattle.sp_order.specs.Totals.{count_of_act, total}
+use Rattle.batch_history.specs.declared.batch.Entry.{Entry}
+use Rattle.batch_history.specs.declared.report.Report.{Report}
+use Rattle.batch_history.specs.Book.{flat, IsLegalFrom}
+use Rattle.batch_history.specs.Serving.{acts_in}
+use Rattle.batch_history.specs.Lawful.{Lawful}
+use Rattle.batch_history.proofs.TallyLemmas.Jobs.{totals}
+
+abbrev AreSmall : List ℕ → Type 0
+AreSmall numbers = AllByRecursion (λ n. n < 2 ^ 32) numbers
+
+abbrev IsSmall : Option ℕ → Type 0
+IsSmall None = Unit {0}
+IsSmall (Some n) = n < 2 ^ 32
+
+pushed : (xs : List ℕ) (x : ℕ) → AreSmall xs → x < 2 ^ 32 → AreSmall (xs ++ x ∷ [])
+pushed [] x small one = (one, tt)
+pushed (y ∷ xs) x small one = (small.0, pushed xs x small.1 one)
+
+taken : (n : ℕ) (xs : List ℕ) → AreSmall xs → AreSmall (take n xs)
+taken zero xs small = tt
+taken (suc n) [] small = tt
+taken (suc n) (x ∷ xs) small = (small.0, taken n xs small.1)
+
+dropped : (xs : List ℕ) → AreSmall xs → AreSmall (drop 1 xs)
+dropped [] small = tt
+dropped (x ∷ xs) small = small.1
+
+got : (xs : List ℕ) (i : ℕ) → AreSmall xs → IsSmall (slice_get xs i)
+got [] i small = tt
+got (x ∷ xs) zero small = small.0
+got (x ∷ xs) (suc i) small = got xs i small.1
+
+pick : (b : Bool) (xs ys : List ℕ) → AreSmall xs → AreSmall ys → AreSmall (if b then xs else ys)
+pick true xs ys a b = a
+pick false xs ys a b = b
+
+pick_some : (b : Bool) (x : ℕ) (r : Option ℕ) → x < 2 ^ 32 → IsSmall r → IsSmall (cond b (Some x) r)
+pick_some true x r small more = small
+pick_some false x r small more = more
+
+with_item_small : (item : ℕ) (bag : List ℕ) → item < 2 ^ 32 → AreSmall bag → AreSmall (with_item item bag)
+with_item_small item [] one small = (one, tt)
+with_item_small item (x ∷ bag) one small = pick (nat_le item x) (item ∷ x ∷ bag) (x ∷ with_item item bag) (one, small) (small.0, with_item_small item bag one small.1)
+
+with_key_small : (key : ℕ) (set : List ℕ) → key < 2 ^ 32 → AreSmall set → AreSmall (with_key key set)
+with_key_small key [] one small = (one, tt)
+with_key_small key (k ∷ set) one small =
+    pick (nat_lt key k) (key ∷ k ∷ set) (if key == k then k ∷ set else k ∷ with_key key set) (one, small)
+    (pick (key == k) (k ∷ set) (k ∷ with_key key set) small (small.0, with_key_small key set one small.1))
+
+without_key_small : (key : ℕ) (set : List ℕ) → AreSmall set → AreSmall (without_key key set)
+without_key_small key [] small = tt
+without_key_small key (k ∷ set) small = pick (key == k) set (k ∷ without_key key set) small.1 (small.0, without_key_small key set small.1)
+
+above_small : (key : ℕ) (set : List ℕ) → AreSmall set → IsSmall (least_above key set)
+above_small key [] small = tt
+above_small key (k ∷ set) small = pick_some (nat_lt key k) k (least_above key set) small.0 (above_small key set small.1)
+
+record AreSmallObjects (objects : Objects) (room : ℕ) : Type 0 where
+  counter : objects.counter + room * 2 ^ 32 ≤ 2 ^ 64
+  stack : AreSmall objects.stack
+  set : AreSmall objects.set
+  bag : AreSmall objects.bag
+
+number_small : (number : Option ℕ) → IsSmall number → value_of (number_or_empty number) < 2 ^ 64
+number_small None small = omega arith
+number_small (Some n) small = omega (arith, small)
+
+yes_small : (b : Bool) → value_of (yes_or_no b) < 2 ^ 64
+yes_small true = omega arith
+yes_small false = omega arith
+
+fewer : (objects : Objects) (room : ℕ) → AreSmallObjects objects (suc room) → AreSmallObjects objects room
+fewer objects room small = record { counter = omega (arith, small.counter); stack = small.stack; set = small.set; bag = small.bag }
+
+served : (objects : Objects) (op : Op) (room : ℕ) → argument_of op < 2 ^ 32 → AreSmallObjects objects (suc room) → AreSmallObjects (after objects op) room × (value_of (reply_to objects op) < 2 ^ 64)
+served objects (CounterAdd a) room one small = (record { counter = omega (arith, small.counter, one); stack = small.stack; set = small.set; bag = small.bag }, omega (arith, small.counter, one))
+served objects (Push a) room one small = (record { counter = omega (arith, small.counter); stack = pushed objects.stack a small.stack one; set = small.set; bag = small.bag }, omega arith)
+served objects Pop room one small = (record { counter = omega (arith, small.counter); stack = taken (length objects.stack - 1) objects.stack small.stack; set = small.set; bag = small.bag }, number_small (top objects.stack) (got objects.stack (length objects.stack - 1) small.stack))
+served objects (TreeInsert k) room one small = (record { counter = omega (arith, small.counter); stack = small.stack; set = with_key_small k objects.set one small.set; bag = small.bag }, yes_small (not (has k objects.set)))
+served objects (TreeRemove k) room one small = (record { counter = omega (arith, small.counter); stack = small.stack; set = without_key_small k objects.set small.set; bag = small.bag }, yes_small (has k objects.set))
+served objects (TreeFind k) room one small = (fewer objects room small, yes_small (has k objects.set))
+served objects (TreeNext k) room one small = (fewer objects room small, number_small (least_above k objects.set) (above_small k objects.set small.set))
+served objects (PqInsert a) room one small = (record { counter = omega (arith, small.counter); stack = small.stack; set = small.set; bag = with_item_small a objects.bag one small.bag }, omega arith)
+served objects PqTake room one small = (record { counter = omega (arith, small.counter); stack = small.stack; set = small.set; bag = dropped objects.bag small.bag }, number_small (least objects.bag) (got objects.bag 0 small.bag))
+
+all_served : (objects : Objects) (entries : List Entry) → AreSmallObjects objects (length entries) → IsLegalFrom objects entries → AllByRecursion (λ entry. argument_of entry.op < 2 ^ 32) entries → AllByRecursion (λ entry. value_of entry.reply < 2 ^ 64) entries
+all_served objects [] small legal args = tt
+all_served objects (entry ∷ entries) small legal args =
+    let next = served objects entry.op (length entries) args.0 small in
+    (subst (λ (r : Reply). value_of r < 2 ^ 64) (sym legal.0) next.1, all_served (after objects entry.op) entries next.0 legal.1 args.1)
+
+pub small_replies : (entries : List Entry) → IsLegalFrom opening entries → AllByRecursion (λ entry. argument_of entry.op < 2 ^ 32) entries → length entries ≤ 2 ^ 32 → AllByRecursion (λ entry. value_of entry.reply < 2 ^ 64) entries
+small_replies entries legal args few = all_served opening entries (record { counter = omega (arith, few); stack = tt; set = tt; bag = tt }) legal args
+
+-- the arguments of the calls are those of the job
+at_leaf : (acts : List Act) (leaf : ℕ) (op : Op) → AllByRecursion (λ act. count_of_act argument_of act < 2 ^ 32) acts → slice_get acts leaf ≡ Some (Call op) → argument_of op < 2 ^ 32
+at_leaf [] leaf op small is = cc
+at_leaf (act ∷ acts) zero op small is = let same : act ≡ Call op = cc in subst (λ (a : Act). count_of_act argument_of a < 2 ^ 32) same small.0
+at_leaf (act ∷ acts) (suc leaf) op small is = at_leaf acts leaf op small.1 is
+
+called : (acts : List Act) (entries : List Entry) → AllByRecursion (λ act. count_of_act argument_of act < 2 ^ 32) acts
+    → AllByRecursion (λ entry. slice_get acts entry.leaf ≡ Some (Call entry.op)) entries → AllByRecursion (λ entry. argument_of entry.op < 2 ^ 32) entries
+called acts [] small operations = tt
+called acts (entry ∷ entries) small operations = (at_leaf acts entry.leaf entry.op small operations.0, called acts entries small operations.1)
+
+-- there are no more calls than acts
+calls_counted : (entries : List Entry) → total (λ _. 1) (acts_in entries) ≡ length entries
+calls_counted [] = refl
+calls_counted (entry ∷ entries) = let more = calls_counted entries in omega (arith, more)
+
+one_or_none : (act : Act) → count_of_act (λ _. 1) act ≤ 1
+one_or_none (Work steps) = omega arith
+one_or_none (Call op) = omega arith
+
+acts_counted : (acts : List Act) → total (λ _. 1) acts ≤ length acts
+acts_counted [] = omega arith
+acts_counted (act ∷ acts) = omega (arith, one_or_none act, acts_counted acts)
+
+pub small_replies_of : (job : JobValue) (workers : ℕ) (report : Report) → Lawful job workers report → length job.acts ≤ 2 ^ 32
+    → AllByRecursion (λ act. count_of_act argument_of act < 2 ^ 32) job.acts → AllByRecursion (λ entry. value_of entry.reply < 2 ^ 64) (flat report.history)
+small_replies_of job workers report lawful few small =
+    small_replies (flat report.history) lawful.replies (called job.acts (flat report.history) small lawful.calls.operations)
+    (omega (arith, few, calls_counted (flat report.history), totals job workers report lawful (λ _. 1), acts_counted job.acts))

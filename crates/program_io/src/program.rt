@@ -78,7 +78,7 @@ pub trait Program {
             → ⊥ };
 
     /// The line on err, where the end has one.
-    fn line_of(&self, end: End<Self::Refusal>) -> Option<Line<'_>>
+    fn line_of(&self, end: End<Self::Refusal>) -> Option<Line<'static>>
         ensures { told_text result ≡ line self.now end };
 }
 

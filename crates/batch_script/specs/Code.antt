@@ -1,3 +1,4 @@
--- What only the code and its proofs cite: how far a reading has come.
+-- What only the code and its proofs cite: how far a reading and a run have come.
 pub mod Lines
 pub mod Reading
+pub mod Running

@@ -1,4 +1,8 @@
--- What a script is, and what its reader answers. `Code` is what only the code cites.
+-- What a script is, what its reader answers, and what a program over scripts prints. `Code` is what only the code cites.
 pub mod Scripts
 pub mod Answers
+pub mod Texts
+pub mod Words
+pub mod Lines
+pub mod Outcomes
 pub mod Code

@@ -1,0 +1,8 @@
+-- What the program promises, with what it takes from the crates below. `Code` is what only the code cites.
+pub use Rattle.batch_script.specs.Scripts
+pub use Rattle.batch_script.specs.Outcomes
+pub use Rattle.batched_queue.specs.Fifo
+pub use Rattle.batched_queue.specs.Batches
+pub mod Calls
+pub mod Text
+pub mod Code

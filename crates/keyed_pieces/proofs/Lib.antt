@@ -1,3 +1,4 @@
 pub mod Sides
 pub mod Halves
 pub mod Service
+mod DealLemmas

@@ -1,6 +1,8 @@
 //! The laws of operations with keys that are served by ranges.
-ghost use Rattle.std.specs.Prelude.{◌≡◌, ◌==◌, ◌+◌, ℕ, List, filter, length, map, slice_index_or, []};
+ghost use Rattle.std.specs.Prelude.{◌≡◌, ◌==◌, ◌+◌, ◌<◌, ◌≤◌, ℕ, List, filter, length, map, slice_index_or, []};
+ghost use Rattle.std.specs.List.{AllByRecursion};
 ghost use Rattle.key_sets.specs.Groups.{group_of};
+ghost use Rattle.keyed_pieces.specs.Dealing.{dealt, of_group, HaveReplies};
 ghost use Rattle.keyed_pieces.specs.Keyed.{AreKeyed, AscendsBy, after_each, replies_to_each};
 ghost use Rattle.keyed_pieces.specs.Ranges.{ranges, side_by_side, after_by_range, replies_by_range, merged};
 
@@ -36,4 +38,14 @@ pub fn questions_may_be_answered_by_range<O, R>()
     ensures { (key : O → ℕ) (answer : O → R) (none : R) (starts : List ℕ) (questions : List O)
         → merged none (map (λ op. group_of (key op) starts) questions) (map (map answer) (ranges key starts questions))
         ≡ map answer questions }
+{}
+
+/// Where operations are dealt to the groups of their keys, each group has those of its range; and where each group
+/// replies to its operations, there are replies to merge.
+pub fn dealing_is_by_range<O, R>()
+    ensures dealt { (key : O → ℕ) (starts : List ℕ) (operations : List O)
+        → dealt (length starts + 1) (map (λ op. group_of (key op) starts) operations) operations ≡ ranges key starts operations }
+    ensures replied { (groups : List ℕ) (replies : List (List R)) → AllByRecursion (λ group. group < length replies) groups
+        → ((group : ℕ) → group < length replies → length (of_group group groups groups) ≤ length (slice_index_or replies group []))
+        → HaveReplies groups replies }
 {}

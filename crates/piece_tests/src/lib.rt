@@ -1,9 +1,12 @@
-//! Tests of the structures that are handed whole batches and serve them in threads, through their public calls alone.
+//! Tests of the structures that are handed whole batches and serve them in threads, and of what they share, through
+//! their public calls alone.
 //!
 //! What a call replies and leaves is proved for every input and every number of threads; the rows here are worked by
 //! hand, and show that the clauses say what is meant, that the calls succeed with ample memory, and that threads are
 //! started and joined.
 #![tactic(auto)]
 
+#[cfg(test)]
+mod dealing;
 #[cfg(test)]
 mod queue;

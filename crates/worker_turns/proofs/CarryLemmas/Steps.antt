@@ -1,11 +1,13 @@
 -- One step after another of a task that is carried on.
 use Rattle.std.proofs.Common.{◌≡◌, ℕ, ◌+◌, List, [], ◌++◌, length, sym, refl, ap, ◌∙◌, arith, append_assoc, append-nil, length-append}
 use Rattle.two_deques.specs.Ends.{HeldEnds}
-use Rattle.worker_crew.specs.Words.{Task, CallState}
+use Rattle.worker_crew.specs.Words.{Task, CallState, Receipt}
 use Rattle.worker_crew.specs.Passes.{PassSeen, IsFront}
 use Rattle.worker_crew.specs.Workers.{MeSeen}
 use Rattle.worker_turns.specs.Pieces.{Desk, Works}
-use Rattle.worker_turns.specs.Trapped.{IsJobSame}
+use Rattle.worker_turns.specs.declared.trapped.Trapped.{Trapped}
+use Rattle.worker_turns.specs.declared.trapped.Trapped.TheVariants.{Left, Piece, Launched, Nothing}
+use Rattle.worker_turns.specs.Trapped.{IsJobSame, IsCallSame, StaysTrapped}
 use Rattle.worker_turns.specs.Free.{Helps, Carried}
 
 pub helps_none : (d : Desk) → Helps d d
@@ -26,6 +28,26 @@ front_none xs ys is = ([], is ∙ sym (append-nil _))
 
 pub front_then : {A : Type 0} (xs ys zs : List A) → IsFront xs ys → IsFront ys zs → IsFront xs zs
 front_then xs ys zs p q = (p.0 ++ q.0, q.1 ∙ ap (λ l. l ++ q.0) p.1 ∙ append_assoc xs p.0 q.0)
+
+-- the job of a pass over two steps
+pub jobs_then : (a b c : PassSeen) → IsJobSame a b → IsJobSame b c → IsJobSame a c
+jobs_then a b c p q = record {
+  worker = q.worker ∙ p.worker;
+  task = q.task ∙ p.task;
+  claims = q.claims ∙ p.claims;
+  claimed = q.claimed ∙ p.claimed;
+  refused = q.refused ∙ p.refused;
+  opened = q.opened ∙ p.opened;
+  found = q.found ∙ p.found;
+  stops = q.stops ∙ p.stops;
+}
+
+-- a trapped turn that did not leave keeps the call
+pub stays_same : (turn : Trapped) (old new : PassSeen) → ((receipt : Receipt) → turn ≡ Left receipt → ⊥) → StaysTrapped turn old new → IsCallSame old new
+stays_same (Left receipt) old new other stays = absurd (other receipt refl)
+stays_same Piece old new other stays = stays
+stays_same Launched old new other stays = stays
+stays_same Nothing old new other stays = stays
 
 core_none : (a b : HeldEnds ℕ) → b ≡ a → b ≡ record a { own = a.own ++ []; pushes = a.pushes + 0 }
 core_none a b is =

@@ -1,10 +1,11 @@
-use Rattle.std.proofs.Common.{rules, ◌≡◌, subst}
-use Rattle.worker_crew.specs.Passes.{PassSeen, losing, staying}
-use Rattle.worker_crew.specs.Workers.{me_seen}
+use Rattle.std.proofs.Common.{rules, ◌≡◌, ap, ◌∙◌, subst}
+use Rattle.worker_crew.specs.Passes.{PassSeen, IsFront, losing, staying, winning}
+use Rattle.worker_crew.specs.Workers.{MeSeen, me_seen}
 use Rattle.worker_turns.specs.Pieces.{IsOwnPiece, IsOtherPiece}
-use Rattle.worker_turns.specs.declared.trapped.Trapped.TheVariants.{Piece, Nothing}
-use Rattle.worker_turns.specs.Trapped.{IsTrappedTurn}
-use Rattle.worker_turns.proofs.MeaningLemmas.Stays.{call_after}
+use Rattle.worker_turns.specs.declared.trapped.Trapped.TheVariants.{Piece, Launched, Nothing}
+use Rattle.worker_turns.specs.Launches.{Launches}
+use Rattle.worker_turns.specs.Trapped.{IsTrappedTurn, won_after}
+use Rattle.worker_turns.proofs.MeaningLemmas.Stays.{call_after, trapped_helps}
 use Rattle.worker_turns.proofs.PieceLemmas.Working.{own_works, other_works}
 use Rattle.worker_turns.proofs.CarryLemmas.Steps.{helps_then, helps_works}
 use Rattle.worker_turns.proofs.trapped.trapped_turn.Goals as goal
@@ -21,7 +22,7 @@ returns g c =
       pass = search rules;
       me = c.in_ok-other.ensures.me;
       path = path;
-      stays = (call_after _ Nothing old _ c.requires.trapped path).same;
+      stays = (call_after (g.T.Table.workers c.args.crew.now.table) Nothing old (me_seen g.T.Table.seen c.other_piece.new.me) c.requires.trapped path).same;
       free = search rules;
       core = search rules;
       helps = helps_then _ _ _ (helps_works _ _ (own_works _ _ _ own)) (helps_works _ _ (other_works _ _ _ other));
@@ -35,9 +36,33 @@ returns-in-Ran-other g c =
       pass = search rules;
       me = search rules;
       path = path;
-      stays = (call_after _ Piece old _ c.requires.trapped path).same;
+      stays = (call_after (g.T.Table.workers c.args.crew.now.table) Piece old (me_seen g.T.Table.seen c.other_piece.new.me) c.requires.trapped path).same;
       free = search rules;
       core = search rules;
       helps = search rules;
+      stopped = search rules;
+    }
+
+pub returns-in-Some : goal.returns-in-Some
+returns-in-Some g c =
+    let workers = g.T.Table.workers c.args.crew.now.table in
+    let old = me_seen g.T.Table.seen c.args.me.now in
+    let tried = me_seen g.T.Table.seen c.own_piece.new.me in
+    let new = me_seen g.T.Table.seen c.launch.new.me in
+    let own = subst (λ (p : PassSeen). IsOwnPiece c.in_ok-own.own (record old { pass = p }) tried) (c.stopped.ensures.unset c.if-stopped.false) c.in_ok-own.ensures.path in
+    let shop = c.in-Some.shop in
+    let stay : g.T.Table.seen c.leave.new.pass ≡ staying tried.pass = search rules in
+    let won = c.in-Some.ensures.won in
+    let now : g.T.Table.seen c.win.new.pass ≡ winning shop (staying tried.pass) = won.0 ∙ ap (winning shop) stay in
+    let launches : Launches workers shop (won_after shop tried) new = subst (λ (p : PassSeen). Launches workers shop (record tried { pass = p }) new) now c.in_ok-launch.ensures.launched in
+    let front : IsFront tried.pass.book_seen shop = subst (λ (p : PassSeen). IsFront p.book_seen shop) stay won.1 in
+    let path : IsTrappedTurn workers Launched old new = (c.in_ok-own.own, tried, shop, search rules, own, launches, front) in record {
+      pass = c.in_ok-launch.ensures.pass;
+      me = c.in_ok-launch.ensures.me;
+      path = path;
+      stays = (call_after workers Launched old new c.requires.trapped path).same;
+      free = launches.desk.free;
+      core = launches.core ∙ ap (λ (m : MeSeen). m.core) own.same;
+      helps = trapped_helps workers Launched old new path;
       stopped = search rules;
     }

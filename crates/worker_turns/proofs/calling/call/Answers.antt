@@ -1,0 +1,26 @@
+use Rattle.std.proofs.Common.{◌∙◌, ap}
+use Rattle.worker_crew.specs.Passes.{is_trapped}
+use Rattle.worker_turns.specs.Trapped.{IsCallSame}
+use Rattle.worker_turns.proofs.CarryLemmas.Steps.{front_then, helps_then, jobs_then, stays_same}
+use Rattle.worker_turns.proofs.calling.call.Goals as goal
+
+pub loop-preserved : goal.loop-preserved
+loop-preserved g c =
+    let i = c.loop.invariant in
+    let turn = c.in_ok-turn.ensures in
+    let old = g.T.Table.seen c.loop.me.pass in
+    let new = g.T.Table.seen c.trapped_turn.new.me.pass in
+    let same : IsCallSame old new = stays_same c.in_ok-turn.turn old new c.in_default.not-Left turn.stays in record {
+      me = turn.me;
+      trapped = (ap is_trapped same.call ∙ i.trapped.0, same.hold);
+      job = jobs_then _ old new i.job same.job;
+      posted = (i.posted.0, i.posted.1, same.posted ∙ i.posted.2);
+      left = same.left ∙ i.left;
+      book = front_then _ _ _ i.book same.book;
+      before = same.before ∙ i.before;
+      after = same.after ∙ i.after;
+      first = same.first ∙ i.first;
+      free = turn.free;
+      core = turn.core ∙ i.core;
+      desk = helps_then _ _ _ i.desk turn.helps;
+    }

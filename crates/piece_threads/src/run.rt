@@ -55,7 +55,10 @@ pub fn run_pieces<R: Threads + Sync, I: Send + Drop, O: Send + Drop, P: Pieces<I
     requires { 0 < threads }
     ensures { IfOk result (λ outs. AllMeet P.meets ins.items outs.items) }
 {
-    let size = ins.len().div_ceil(threads).max(1);
+    let size = ins.len().div_ceil(threads);
+    if ins.len() <= size {
+        return run_in_turn::<I, O, P>(alloc, ins);
+    }
     let bundles = bundles_of(alloc, ins, size)?;
     let results = run_bundles::<R, I, O, P>(rt, alloc, bundles)?;
     join_outs(alloc, results)

@@ -1,6 +1,5 @@
 -- Lines by replies are the lines of calls that are served one after another.
 use Rattle.std.proofs.Common.{◌≡◌, ℕ, ◌+◌, List, [], ◌∷◌, ◌++◌, length, refl, ap, arith}
-use Rattle.seq_objects.specs.declared.reply.Reply.{Reply}
 use Rattle.batched_queue.specs.Fifo.{fifo, fifo_replies, operations}
 use Rattle.batched_queue.specs.declared.call.FifoCall.{FifoCall}
 use Rattle.queuerun.specs.Text.{call_line, served_lines}

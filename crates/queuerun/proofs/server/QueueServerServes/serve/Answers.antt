@@ -1,4 +1,4 @@
-use Rattle.std.proofs.Common.{◌≡◌, ◌++◌, ◌∙◌, ap, length, string_bytes}
+use Rattle.std.proofs.Common.{◌≡◌, ◌++◌, ◌∙◌, ap, string_bytes}
 use Rattle.queuerun.specs.Text.{served_lines}
 use Rattle.queuerun.specs.Code.{call_lines}
 use Rattle.queuerun.proofs.LineLemmas.{lines_served, replies_counted}

@@ -1,2 +1,3 @@
+pub mod ActLemmas
 mod Few
 mod TallyLemmas

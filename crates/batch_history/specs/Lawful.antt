@@ -11,6 +11,7 @@ use Rattle.sp_order.specs.Precedence.{IsBefore, leaf_count}
 use Rattle.sp_order.specs.Jobs.{JobValue}
 use Rattle.seq_objects.specs.Pairs.{HasEachOnce}
 use Rattle.batch_history.specs.Book.{flat, IsLegal, IsBatch}
+use Rattle.batch_history.specs.Operations.{act_of, op_of}
 use Rattle.batch_history.specs.declared.batch.Entry.{Entry}
 use Rattle.batch_history.specs.declared.row.Row.{Row}
 use Rattle.batch_history.specs.declared.report.Report.{Report}
@@ -47,7 +48,7 @@ IsCallLeaf job leaf = (op : Op) × (slice_get job.acts leaf ≡ Some (Call op))
 -- its leaf's row.
 pub record HasCalls (job : JobValue) (report : Report) : Type 0 where
   pub leaves : HasEachOnce (IsCallLeaf job) (map (λ entry. entry.leaf) (flat report.history))
-  pub operations : AllByRecursion (λ entry. slice_get job.acts entry.leaf ≡ Some (Call entry.op)) (flat report.history)
+  pub operations : AllByRecursion (λ entry. op_of (act_of job.acts) report.history entry.leaf ≡ Some entry.op) (flat report.history)
   pub workers : AllByRecursion (λ entry. ForSome (slice_get report.rows entry.leaf) (λ row. row.worker ≡ entry.worker)) (flat report.history)
 
 -- the entry stands in the batch of that number

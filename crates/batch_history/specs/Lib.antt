@@ -11,6 +11,8 @@ pub use Rattle.sp_order.specs.Totals
 pub use Rattle.sp_order.specs.Phases
 pub mod Book
 pub mod Reserved
+pub mod Operations
+pub mod Places
 pub mod Serving
 pub mod Lawful
 pub mod Text

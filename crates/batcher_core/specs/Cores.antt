@@ -9,29 +9,26 @@ use Rattle.core_model.specs.declared.event.Event.{Event}
 use Rattle.core_state.specs.declared.state.State.{State as StoredState}
 use Rattle.batcher_core.specs.declared.turn.Turn.{Turn}
 use Rattle.batcher_core.specs.declared.turn.Turn.TheVariants.{Idle, Moved, Spin}
-use Rattle.seq_objects.specs.declared.act.Act.{Act}
-use Rattle.sp_order.specs.Precedence.{Tree}
-use Rattle.sp_order.specs.Preorder.{nodes_of}
-use Rattle.std.specs.Prelude.{Bool, List, None, Option, Some, not, ℕ, ◌&&◌, ◌≡◌}
+use Rattle.sp_order.specs.Jobs.{JobValue}
+use Rattle.std.specs.Prelude.{Bool, None, Option, Some, not, ℕ, ◌&&◌, ◌≡◌}
 
 -- what contracts see of a core
 pub record CoreView : Type 0 where
-  pub tree : Tree
-  pub acts : List Act
+  pub job : JobValue
   pub workers : ℕ
   pub table : StoredState
   -- memory has failed
   pub spent : Bool
 
 abbrev pub job_in : CoreView → CoreJob
-job_in c = core_job c.tree c.acts c.workers
+job_in c = core_job c.job c.workers
 
 abbrev pub state_in : CoreView → CoreState
 state_in c = core_state_of c.table
 
 -- how many steps of work are due of this worker
 abbrev pub due_in : CoreView → ℕ → Option ℕ
-due_in c w = work_due (nodes_of c.tree) c.acts ((state_of c.table).task w)
+due_in c w = work_due (job_in c) ((state_of c.table).task w)
 
 -- the root is done, and memory has not failed
 abbrev pub is_over_in : CoreView → Bool

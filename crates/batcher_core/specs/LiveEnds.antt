@@ -8,8 +8,9 @@ use Rattle.core_model.specs.Reports.{IsReportOf}
 use Rattle.core_model.specs.State.{CoreState}
 use Rattle.core_model.specs.Stopped.{LiveDrive, NoLiveEvent}
 use Rattle.core_model.specs.Tasks.{is_done}
+use Rattle.sp_order.specs.Jobs.{job_tree}
 use Rattle.sp_order.specs.Precedence.{leaves}
-use Rattle.std.specs.Prelude.{Bool, Some, false, true, ℕ, ◌≡◌}
+use Rattle.std.specs.Prelude.{Bool, false, true, ℕ, ◌≡◌}
 
 -- What the live workers' turns made of a core, from worker 0 on. It is over where the root of the state that they reached is
 -- done, and the report is that of this state; it is stuck where the root is not done and no live worker has an event, and then
@@ -17,10 +18,10 @@ use Rattle.std.specs.Prelude.{Bool, Some, false, true, ℕ, ◌≡◌}
 abbrev pub IsEndOf : CoreView → (ℕ → Bool) → Ended → Type 0
 IsEndOf core live (Over report) =
     (last : CoreState) × LiveDrive (job_in core) live (state_in core) 0 last × (is_done (last.state.node 0) ≡ true)
-    × IsReportOf (job_in core) (leaves core.tree) last.state report
-    × Lawful (record { shape = Some core.tree; acts = core.acts }) core.workers report
+    × IsReportOf (job_in core) (leaves (job_tree core.job)) last.state report
+    × Lawful core.job core.workers report
 IsEndOf core live (Stuck left) =
-    (left.tree ≡ core.tree) × (left.acts ≡ core.acts) × (left.workers ≡ core.workers) × (left.spent ≡ false)
+    (left.job ≡ core.job) × (left.workers ≡ core.workers) × (left.spent ≡ false)
     × LiveDrive (job_in core) live (state_in core) 0 (state_in left) × (is_done ((state_in left).state.node 0) ≡ false)
     × NoLiveEvent (job_in core) live (state_in left) × Invariant (job_in core) (state_in left)
 

@@ -1,6 +1,7 @@
 //! A whole run by turns on one thread: the workers of a schedule, and then all workers round robin.
 ghost use Rattle.std.specs.Prelude.{◌≡◌, ◌<◌, ◌+◌, ◌%◌, ℕ, false, true, Some, [], IfOk};
 ghost use Rattle.std.specs.List.{AllByRecursion};
+ghost use Rattle.sp_order.specs.Jobs.{job_tree};
 ghost use Rattle.sp_order.specs.Precedence.{leaves};
 ghost use Rattle.batch_history.specs.Lawful.{Lawful};
 ghost use Rattle.core_model.specs.State.{CoreState};
@@ -20,7 +21,7 @@ use std::alloc::{AllocError, Global};
 fn take_turn(core: &mut Core, worker: u32) -> Result<bool, AllocError>
     requires worker_in { worker < core.old.workers }
     requires goes_on { is_over_in core.old ≡ false }
-    ensures job { (core.new.tree ≡ core.old.tree) × (core.new.acts ≡ core.old.acts)
+    ensures job { (core.new.job ≡ core.old.job)
         × (core.new.workers ≡ core.old.workers) }
     ensures turn { IfOk result
         (λ _. IsTurn (job_in core.old) (state_in core.old) worker (state_in core.new)) }
@@ -45,8 +46,8 @@ fn next_worker(worker: u32, workers: u32) -> u32
 /// Takes turns by the workers of the schedule until the schedule ends or the core is over.
 fn run_schedule(core: &mut Core, schedule: &[u32]) -> Result<(), AllocError>
     requires { AllByRecursion (λ worker. worker < core.old.workers) schedule.now }
-    ensures job { IfOk result (λ _. (core.new.tree ≡ core.old.tree)
-        × (core.new.acts ≡ core.old.acts) × (core.new.workers ≡ core.old.workers)) }
+    ensures job { IfOk result (λ _. (core.new.job ≡ core.old.job)
+        × (core.new.workers ≡ core.old.workers)) }
     ensures drives { IfOk result (λ _. (last : CoreState)
         → Drives (job_in core.old) (state_in core.new) [] 0 last
         → Drives (job_in core.old) (state_in core.old) schedule.now 0 last) }
@@ -63,8 +64,8 @@ fn run_schedule(core: &mut Core, schedule: &[u32]) -> Result<(), AllocError>
 
 /// Takes turns by all workers round robin, beginning with worker 0, until the core is over.
 fn run_round_robin(core: &mut Core) -> Result<(), AllocError>
-    ensures job { IfOk result (λ _. (core.new.tree ≡ core.old.tree)
-        × (core.new.acts ≡ core.old.acts) × (core.new.workers ≡ core.old.workers)) }
+    ensures job { IfOk result (λ _. (core.new.job ≡ core.old.job)
+        × (core.new.workers ≡ core.old.workers)) }
     ensures drives { IfOk result
         (λ _. Drives (job_in core.old) (state_in core.old) [] 0 (state_in core.new)) }
     ensures over { IfOk result (λ _. is_over_in core.new ≡ true) }
@@ -85,8 +86,8 @@ fn run_round_robin(core: &mut Core) -> Result<(), AllocError>
 /// Takes turns by the workers of the schedule, and then round robin, until the core is over.
 fn run(core: &mut Core, schedule: &[u32]) -> Result<(), AllocError>
     requires { AllByRecursion (λ worker. worker < core.old.workers) schedule.now }
-    ensures job { IfOk result (λ _. (core.new.tree ≡ core.old.tree)
-        × (core.new.acts ≡ core.old.acts) × (core.new.workers ≡ core.old.workers)) }
+    ensures job { IfOk result (λ _. (core.new.job ≡ core.old.job)
+        × (core.new.workers ≡ core.old.workers)) }
     ensures drives { IfOk result
         (λ _. Drives (job_in core.old) (state_in core.old) schedule.now 0 (state_in core.new)) }
     ensures over { IfOk result (λ _. is_over_in core.new ≡ true) }
@@ -102,11 +103,11 @@ fn run(core: &mut Core, schedule: &[u32]) -> Result<(), AllocError>
 pub fn drive(alloc: Global, core: Core, schedule: &[u32]) -> Result<Report, AllocError>
     requires { AllByRecursion (λ worker. worker < core.workers) schedule.now }
     ensures driven { IfOk result
-        (λ report. IsDrivenFrom (job_in core) (leaves core.tree) (state_in core)
+        (λ report. IsDrivenFrom (job_in core) (leaves (job_tree core.job)) (state_in core)
         schedule.now report) }
-    ensures run { IfOk result (IsRunFrom (job_in core) (leaves core.tree) (state_in core)) }
+    ensures run { IfOk result (IsRunFrom (job_in core) (leaves (job_tree core.job)) (state_in core)) }
     ensures lawful { IfOk result
-        (λ report. Lawful (record { shape = Some core.tree; acts = core.acts })
+        (λ report. Lawful core.job
         core.workers report) }
     ensures spent { IfOk result (λ _. core.spent ≡ false) }
 {

@@ -4,6 +4,7 @@ ghost use Rattle.seq_objects.specs.Spin.{spin_of};
 ghost use Rattle.core_model.specs.State.{opening_core};
 ghost use Rattle.core_model.specs.Tasks.{is_done as node_done};
 ghost use Rattle.core_model.specs.Choice.{choice};
+ghost use Rattle.sp_order.specs.Jobs.{job_tree};
 ghost use Rattle.sp_order.specs.Precedence.{leaves};
 ghost use Rattle.batch_history.specs.Lawful.{Lawful};
 ghost use Rattle.core_model.specs.Invariant.{Invariant};
@@ -18,12 +19,11 @@ use crate::report::rows_of;
 use crate::spun::Spun;
 use crate::turn::Turn;
 use batch_history::{History, Report, Row, Rows};
-use core_model::Event;
 use core_model::laws::report::{done_leaves_have_run, done_report_is_lawful};
-use core_parts::CoreJob;
+use core_model::{Event, Setting};
 use core_state::{Doing, State, history_of};
+use sp_order::Job;
 use sp_order::laws::{plan_has_sides, plan_stands_for_tree};
-use sp_order::{Job, Plan};
 use std::alloc::{AllocError, Global};
 use std::marker::Model;
 
@@ -32,7 +32,7 @@ use std::marker::Model;
 #[derive(Drop)]
 pub struct Core {
     alloc: Global,
-    job: CoreJob,
+    setting: Setting,
     table: State,
     spent: bool,
 }
@@ -40,23 +40,22 @@ pub struct Core {
 impl Model for Core {
     ghost use Rattle.std.specs.Prelude.{◌≡◌, ◌<◌, false};
     ghost use Rattle.std.specs.Coded.{codes};
-    ghost use Rattle.sp_order.specs.TreeEncoding.{coded_tree};
+    ghost use Rattle.sp_order.specs.Jobs.{coded_job};
     ghost use Rattle.batcher_core.specs.Cores.{CoreView};
     ghost use Rattle.core_state.specs.Code.Representation.{Represents};
 
     ghost Value = { CoreView };
 
-    ghost coded = { Prim.hlevel (codes, coded_tree) };
+    ghost coded = { Prim.hlevel (codes, coded_job) };
 
     ghost view = { λ c. record {
-      tree = c.job.plan;
-      acts = c.job.acts.items;
-      workers = c.job.workers;
+      job = c.setting.job;
+      workers = c.setting.workers;
       table = c.table;
       spent = c.spent;
     } };
 
-    ghost invariant = { λ c. (0 < c.job.workers) × (c.spent ≡ false → Represents c.job c.table) };
+    ghost invariant = { λ c. (0 < c.setting.workers) × (c.spent ≡ false → Represents c.setting c.table) };
 }
 
 /// The value of the work that was done, if some was.
@@ -78,24 +77,18 @@ impl Core {
         requires leaves { IsSome job.now.shape }
         requires some_workers { 0 < workers }
         requires few_workers { workers ≤ 32 }
-        ensures job { IfOk result (λ core. (Some core.tree ≡ job.now.shape)
-            × (core.acts ≡ job.now.acts) × (core.workers ≡ workers)) }
+        ensures job { IfOk result (λ core. (core.job ≡ job.now) × (core.workers ≡ workers)) }
+        ensures shape { IfOk result (λ core. core.job.shape ≡ Some (job_tree core.job)) }
         ensures opening { IfOk result (λ core. (state_in core ≡ opening_core)
             × (core.spent ≡ false)) }
     {
         plan_stands_for_tree();
         plan_has_sides();
-        let plan = Plan::of(alloc, job)?;
-        let mut acts = Vec::new(alloc);
-        acts.extend_from_slice(job.acts())?;
-        let table = State::opening(alloc, plan.nodes(), workers)?;
+        let setting = Setting::of(alloc, job, workers)?;
+        let table = State::opening(alloc, setting.job.nodes(), workers)?;
         Ok(Core {
             alloc,
-            job: CoreJob {
-                plan,
-                acts,
-                workers,
-            },
+            setting,
             table,
             spent: false,
         })
@@ -107,7 +100,7 @@ impl Core {
         requires worker_in { worker < self.now.workers }
         ensures { result ≡ due_in self.now worker }
     {
-        self.table.work_due(&self.job, worker)
+        self.table.work_due(&self.setting, worker)
     }
 
     /// The event of a worker's next turn, if it has one. `work` is the value of the work that is due, if it is done.
@@ -119,7 +112,7 @@ impl Core {
             → value ≡ spin_of steps) }
         ensures { result ≡ choice (job_in self.now) (state_in self.now) worker }
     {
-        self.table.choose(&self.job, worker, work)
+        self.table.choose(&self.setting, worker, work)
     }
 
     /// Whether it is seen at once that a turn of this worker makes no event. It may make none where this is false.
@@ -132,7 +125,7 @@ impl Core {
             → choice (job_in self.now) (state_in self.now) worker ≡ None }
         ensures spent { IsTrue result → self.now.spent ≡ false }
     {
-        !self.spent && self.table.surely_rests(&self.job, worker)
+        !self.spent && self.table.surely_rests(&self.setting, worker)
     }
 
     /// The event of a worker's turn happens, if it has one. `work` is the value of the work that is due, if that is done;
@@ -148,7 +141,7 @@ impl Core {
             (λ t. IsTurnResult t (job_in self.old) (state_in self.old) worker (state_in self.new)) }
         ensures failed { IfErr result (λ _. self.new.spent ≡ true) }
         ensures spent { IfOk result (λ _. (self.old.spent ≡ false) × (self.new.spent ≡ false)) }
-        ensures job { (self.new.tree ≡ self.old.tree) × (self.new.acts ≡ self.old.acts)
+        ensures job { (self.new.job ≡ self.old.job)
             × (self.new.workers ≡ self.old.workers) }
     {
         if self.spent {
@@ -157,7 +150,7 @@ impl Core {
         let Some(event) = self.choice(worker, work) else {
             return Ok(Turn::Idle);
         };
-        match self.table.apply(self.alloc, &self.job, worker, event) {
+        match self.table.apply(self.alloc, &self.setting, worker, event) {
             Ok(()) => Ok(Turn::Moved),
             Err(error) => {
                 self.spent = true;
@@ -182,7 +175,7 @@ impl Core {
             (λ t. IsTurnResult t (job_in self.old) (state_in self.old) worker (state_in self.new)) }
         ensures failed { IfErr result (λ _. self.new.spent ≡ true) }
         ensures spent { IfOk result (λ _. (self.old.spent ≡ false) × (self.new.spent ≡ false)) }
-        ensures job { (self.new.tree ≡ self.old.tree) × (self.new.acts ≡ self.old.acts)
+        ensures job { (self.new.job ≡ self.old.job)
             × (self.new.workers ≡ self.old.workers) }
     {
         if self.spent {
@@ -216,7 +209,7 @@ impl Core {
         if self.spent {
             return Doing::Other;
         }
-        self.table.doing(&self.job, worker)
+        self.table.doing(&self.setting, worker)
     }
 
     /// The number of workers.
@@ -224,7 +217,7 @@ impl Core {
         ensures workers { result ≡ self.now.workers }
         ensures some { 0 < result }
     {
-        self.job.workers
+        self.setting.workers
     }
 
     /// The invariant, in a core that is not spent. It is for proofs, and does nothing.
@@ -237,7 +230,7 @@ impl Core {
     /// The invariant of what a core keeps that is not spent. It is for proofs, and does nothing.
     pub(crate) fn invariant_holds(&self)
         ensures { self.now.spent ≡ false
-            → RepInvariant self.now.tree self.now.acts self.now.workers self.now.table }
+            → RepInvariant self.now.job self.now.workers self.now.table }
     {
         let _ = &self.spent;
     }
@@ -271,16 +264,16 @@ impl Core {
     fn rows(&self, alloc: Global) -> Result<Vec<Row>, AllocError>
         requires { is_over_in self.now ≡ true }
         ensures leaves { IfOk result (λ rows. map (λ row. row.leaf) rows.items
-            ≡ range_with_len 0 (leaves self.now.tree)) }
+            ≡ range_with_len 0 (leaves (job_tree self.now.job))) }
         ensures rows { IfOk result (λ rows. AllByRecursion
             (IsRowOf (job_in self.now) (state_in self.now).state) rows.items) }
     {
         plan_stands_for_tree();
         done_leaves_have_run();
-        let leaf_total = self.job.acts.len() as u32;
+        let leaf_total = self.setting.job.acts().len() as u32;
         rows_of(
             alloc,
-            &self.job.plan,
+            &self.setting.job,
             &self.table.nodes,
             &self.table.values,
             leaf_total,
@@ -291,15 +284,15 @@ impl Core {
     pub fn report(self, alloc: Global) -> Result<Report, AllocError>
         requires { is_over_in self ≡ true }
         ensures report { IfOk result
-            (λ report. IsReportOf (job_in self) (leaves self.tree) (state_in self).state report) }
+            (λ report. IsReportOf (job_in self) (leaves (job_tree self.job)) (state_in self).state report) }
         ensures lawful { IfOk result
-            (λ report. Lawful (record { shape = Some self.tree; acts = self.acts })
+            (λ report. Lawful self.job
             self.workers report) }
     {
         plan_stands_for_tree();
         done_report_is_lawful();
         let rows = self.rows(alloc)?;
-        let workers = self.job.workers;
+        let workers = self.setting.workers;
         let table = self.table;
         Ok(Report {
             workers,

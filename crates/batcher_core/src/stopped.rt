@@ -30,7 +30,7 @@ pub enum Ended {
 /// One turn of a worker. Where work is due, it is done in the turn. Answers whether it made an event.
 fn moves(core: &mut Core, worker: u32) -> Result<bool, AllocError>
     requires worker_in { worker < core.old.workers }
-    ensures job { (core.new.tree ≡ core.old.tree) × (core.new.acts ≡ core.old.acts)
+    ensures job { (core.new.job ≡ core.old.job)
         × (core.new.workers ≡ core.old.workers) }
     ensures turn { IfOk result
         (λ _. IsTurn (job_in core.old) (state_in core.old) worker (state_in core.new)) }
@@ -51,8 +51,8 @@ fn moves(core: &mut Core, worker: u32) -> Result<bool, AllocError>
 fn take_round(core: &mut Core, live: &[bool]) -> Result<bool, AllocError>
     requires all { length live.now ≡ core.old.workers }
     requires unspent { core.old.spent ≡ false }
-    ensures job { IfOk result (λ _. (core.new.tree ≡ core.old.tree)
-        × (core.new.acts ≡ core.old.acts) × (core.new.workers ≡ core.old.workers)) }
+    ensures job { IfOk result (λ _. (core.new.job ≡ core.old.job)
+        × (core.new.workers ≡ core.old.workers)) }
     ensures unspent { IfOk result (λ _. core.new.spent ≡ false) }
     ensures drives { IfOk result (λ _. (last : CoreState)
         → LiveDrive (job_in core.old) (at live.now false) (state_in core.new) 0 last
@@ -82,8 +82,8 @@ fn take_round(core: &mut Core, live: &[bool]) -> Result<bool, AllocError>
 fn run_live(core: &mut Core, live: &[bool]) -> Result<(), AllocError>
     requires all { length live.now ≡ core.old.workers }
     requires unspent { core.old.spent ≡ false }
-    ensures job { IfOk result (λ _. (core.new.tree ≡ core.old.tree)
-        × (core.new.acts ≡ core.old.acts) × (core.new.workers ≡ core.old.workers)) }
+    ensures job { IfOk result (λ _. (core.new.job ≡ core.old.job)
+        × (core.new.workers ≡ core.old.workers)) }
     ensures unspent { IfOk result (λ _. core.new.spent ≡ false) }
     ensures drives { IfOk result
         (λ _. LiveDrive (job_in core.old) (at live.now false) (state_in core.old) 0

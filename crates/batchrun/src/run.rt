@@ -4,8 +4,8 @@ ghost use Rattle.std.specs.List.{AllByRecursion};
 ghost use Rattle.batch_history.specs.Lawful.{Lawful};
 ghost use Rattle.core_model.specs.Reports.{IsDrivenReport, IsRunReport};
 
-use batch_history::{History, Report, Rows};
-use batcher_core::{Core, drive};
+use batch_history::Report;
+use batcher_core::{Core, drive, report_of_empty};
 use core_model::laws::report::driven_report_is_of_a_run;
 use sp_order::Job;
 use std::alloc::{AllocError, Global};
@@ -26,12 +26,8 @@ pub fn run_by_turns(
     ensures lawful { IfOk result (λ report. Lawful job.now workers report) }
 {
     driven_report_is_of_a_run();
-    if job.shape().is_none() {
-        return Ok(Report {
-            workers,
-            history: History::new(alloc),
-            rows: Rows::of(Vec::new(alloc)),
-        });
+    if let Some(report) = report_of_empty(alloc, job, workers) {
+        return Ok(report);
     }
     let core = Core::start(alloc, job, workers)?;
     drive(alloc, core, schedule)

@@ -1,6 +1,7 @@
 -- The calls of which a batch is made: those of the workers that the hold has taken.
-use Rattle.core_model.specs.Operations.{op_in}
+use Rattle.core_model.specs.Operations.{op_of}
 use Rattle.core_model.specs.State.{CoreJob}
+use Rattle.core_model.specs.Words.{Entry}
 use Rattle.core_model.specs.declared.task.Task.{Task}
 use Rattle.core_model.specs.declared.task.Task.TheVariants.{Started}
 use Rattle.seq_objects.specs.Pairs.{AreDistinct}
@@ -9,14 +10,14 @@ use Rattle.sp_order.specs.declared.node.Kind.TheVariants.{LeafNode}
 use Rattle.std.specs.List.{AllByRecursion}
 use Rattle.std.specs.Prelude.{Bool, Contains, List, Some, map, true, ℕ, ◌<◌, ◌≡◌}
 
--- the call is that of the leaf at which the task is started
-abbrev pub IsCallOf : CoreJob → Task → Call → Type 0
-IsCallOf job task call =
+-- the call is that of the leaf at which the task is started, with its operation under the book
+abbrev pub IsCallOf : CoreJob → List (List Entry) → Task → Call → Type 0
+IsCallOf job book task call =
     (node : ℕ) × (start : ℕ) × (job.plan.kind node ≡ Some (LeafNode call.leaf)) × (task ≡ Started node start)
-    × (op_in (job.act call.leaf) ≡ Some call.op)
+    × (op_of job.act book call.leaf ≡ Some call.op)
 
 -- the calls of the workers that are taken, each once
-pub record AreTakenCalls (job : CoreJob) (task : ℕ → Task) (took : ℕ → Bool) (calls : List Call) : Type 0 where
+pub record AreTakenCalls (job : CoreJob) (book : List (List Entry)) (task : ℕ → Task) (took : ℕ → Bool) (calls : List Call) : Type 0 where
   pub distinct : AreDistinct (map (λ call. call.worker) calls)
-  pub only : AllByRecursion (λ call. (took call.worker ≡ true) × IsCallOf job (task call.worker) call) calls
+  pub only : AllByRecursion (λ call. (took call.worker ≡ true) × IsCallOf job book (task call.worker) call) calls
   pub each : (w : ℕ) → w < job.workers → took w ≡ true → Contains (map (λ call. call.worker) calls) w

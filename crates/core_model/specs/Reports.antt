@@ -4,8 +4,8 @@ use Rattle.batch_history.specs.declared.row.Row.{Row}
 use Rattle.core_model.specs.Runs.{Drives, ReachesFrom, Step}
 use Rattle.core_model.specs.State.{CoreJob, CoreState, State, core_job, opening_core}
 use Rattle.core_model.specs.Tasks.{is_done}
-use Rattle.core_model.specs.Words.{Progress, Ran, Act, Tree, leaves}
-use Rattle.sp_order.specs.Jobs.{JobValue}
+use Rattle.core_model.specs.Words.{Progress, Ran, Tree, leaves}
+use Rattle.sp_order.specs.Jobs.{JobValue, job_tree}
 use Rattle.std.specs.List.{AllByRecursion, range_with_len}
 use Rattle.std.specs.Prelude.{List, None, Option, Some, [], map, true, ℕ, ◌≡◌}
 
@@ -39,14 +39,14 @@ pub record IsDrivenFrom (job : CoreJob) (leaf_total : ℕ) (first : CoreState) (
   pub drives : Drives job first schedule 0 last
   pub reports : IsReportOf job leaf_total last.state report
 
-abbrev pub IsDrivenShape : Option Tree → List Act → ℕ → List ℕ → Report → Type 0
-IsDrivenShape None acts workers schedule report = report ≡ record { workers = workers; history = []; rows = [] }
-IsDrivenShape (Some tree) acts workers schedule report =
-    IsDrivenFrom (core_job tree acts workers) (leaves tree) opening_core schedule report
+abbrev pub IsDrivenShape : Option Tree → JobValue → ℕ → List ℕ → Report → Type 0
+IsDrivenShape None job workers schedule report = report ≡ record { workers = workers; history = []; rows = [] }
+IsDrivenShape (Some tree) job workers schedule report =
+    IsDrivenFrom (core_job job workers) (leaves (job_tree job)) opening_core schedule report
 
 -- the report of a job that a schedule drives from its opening state. That of a job without leaves has no rows and no batches
 abbrev pub IsDrivenReport : JobValue → ℕ → List ℕ → Report → Type 0
-IsDrivenReport job workers schedule report = IsDrivenShape job.shape job.acts workers schedule report
+IsDrivenReport job workers schedule report = IsDrivenShape job.shape job workers schedule report
 
 -- The report is that of a run of the model from this state: the steps of a trace, each an event of one of the job's workers,
 -- lead from it to a state whose root is done, and the report is that of the last state.
@@ -57,10 +57,10 @@ pub record IsRunFrom (job : CoreJob) (leaf_total : ℕ) (first : CoreState) (rep
   pub over : is_done (last.state.node 0) ≡ true
   pub reports : IsReportOf job leaf_total last.state report
 
-abbrev pub IsRunShape : Option Tree → List Act → ℕ → Report → Type 0
-IsRunShape None acts workers report = report ≡ record { workers = workers; history = []; rows = [] }
-IsRunShape (Some tree) acts workers report = IsRunFrom (core_job tree acts workers) (leaves tree) opening_core report
+abbrev pub IsRunShape : Option Tree → JobValue → ℕ → Report → Type 0
+IsRunShape None job workers report = report ≡ record { workers = workers; history = []; rows = [] }
+IsRunShape (Some tree) job workers report = IsRunFrom (core_job job workers) (leaves (job_tree job)) opening_core report
 
 -- the report is that of a run of the job from its opening state, in whatever order its workers step
 abbrev pub IsRunReport : JobValue → ℕ → Report → Type 0
-IsRunReport job workers report = IsRunShape job.shape job.acts workers report
+IsRunReport job workers report = IsRunShape job.shape job workers report

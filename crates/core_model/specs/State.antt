@@ -1,9 +1,11 @@
 -- The state of the scheduler's core, as functions of the numbers of nodes and of workers.
 use Rattle.seq_objects.specs.Objects as objects
-use Rattle.core_model.specs.Words.{Entry, Progress, Ready, Waiting, CallState, NotCalled, Status, Free, Task, Idle, Act, Work, Nodes, Tree}
+use Rattle.core_model.specs.Words.{Entry, Progress, Ready, Waiting, CallState, NotCalled, Status, Free, Task, Idle, Act, Nodes}
 use Rattle.seq_objects.specs.Objects.{Objects}
+use Rattle.batch_history.specs.Operations.{act_of}
+use Rattle.sp_order.specs.Jobs.{JobValue, job_tree}
 use Rattle.sp_order.specs.Preorder.{nodes_of}
-use Rattle.std.specs.Prelude.{Bool, List, None, Option, [], if◌then◌else◌, slice_index_or, ℕ, ◌==◌, ◌∷◌}
+use Rattle.std.specs.Prelude.{Bool, List, None, Option, [], if◌then◌else◌, ℕ, ◌==◌, ◌∷◌}
 
 -- f with the value x at n
 abbrev pub put : {A : Type 0} → (ℕ → A) → ℕ → A → ℕ → A
@@ -15,9 +17,9 @@ pub record CoreJob : Type 0 where
   pub act : ℕ → Act
   pub workers : ℕ
 
--- the job of this tree, whose leaves do these acts
-abbrev pub core_job : Tree → List Act → ℕ → CoreJob
-core_job tree acts workers = record { plan = nodes_of tree; act = λ leaf. slice_index_or acts leaf (Work 0); workers = workers }
+-- a job that has leaves, and by how many workers it is run
+abbrev pub core_job : JobValue → ℕ → CoreJob
+core_job job workers = record { plan = nodes_of (job_tree job); act = act_of job.acts; workers = workers }
 
 -- what the worker that has the flag keeps: how many workers it has looked at, those whose calls it took, those
 -- that it has answered, and whether it has published

@@ -1,3 +1,4 @@
+pub mod Passed
 pub mod SameCalls
 pub mod Serving
 pub mod Publishing

@@ -1,7 +1,6 @@
 //! What an event does to the state: one function for each row of the rules, and the dispatch to it.
 ghost use Rattle.std.specs.Prelude.{◌≡◌, ◌<◌, ℕ, IfOk};
-ghost use Rattle.sp_order.specs.Preorder.{nodes_of};
-ghost use Rattle.core_parts.specs.Code.Job.{job_of};
+ghost use Rattle.core_model.specs.Settings.{job_of};
 ghost use Rattle.core_model.specs.Events.{Needs, Does};
 ghost use Rattle.core_model.specs.Ranges.{IsInRange};
 ghost use Rattle.core_state.specs.Code.Gate.{IsOfGate};
@@ -17,8 +16,7 @@ mod job;
 mod publish;
 
 use crate::state::State;
-use core_model::{Event, Task};
-use core_parts::CoreJob;
+use core_model::{Event, Setting, Task};
 use std::alloc::{AllocError, Global};
 
 impl State {
@@ -27,18 +25,18 @@ impl State {
     fn apply_to_gate(
         &mut self,
         alloc: Global,
-        job: &CoreJob,
+        setting: &Setting,
         worker: u32,
         event: Event,
     ) -> Result<(), AllocError>
         requires kind { IsOfGate event }
-        requires fits { Represents job.now self.old }
-        requires worker_in { worker < job.now.workers }
-        requires in_range { IsInRange (nodes_of job.now.plan).count job.now.workers event }
-        requires needs { Needs (job_of job.now) (state_of self.old) worker event }
+        requires fits { Represents setting.now self.old }
+        requires worker_in { worker < setting.now.workers }
+        requires in_range { IsInRange (job_of setting.now).plan.count setting.now.workers event }
+        requires needs { Needs (job_of setting.now) (state_of self.old) worker event }
         ensures sizes { IfOk result (λ _. SameSizes self.old self.new) }
         ensures event { IfOk result
-            (λ _. Does (job_of job.now) (state_of self.old) worker event (state_of self.new)) }
+            (λ _. Does (job_of setting.now) (state_of self.old) worker event (state_of self.new)) }
         ensures lists { IfOk result (λ _. ready_of self.new
             ≡ ready_after worker event (ready_of self.old)) }
     {
@@ -46,7 +44,7 @@ impl State {
             Event::Post { .. } => self.post(worker),
             Event::Win => self.win(worker),
             Event::Take(other) => self.take(other),
-            Event::Publish => self.publish(alloc, job, worker)?,
+            Event::Publish => self.publish(alloc, setting, worker)?,
             Event::Answer {
                 worker: other,
                 receipt,
@@ -63,18 +61,18 @@ impl State {
     pub fn apply(
         &mut self,
         alloc: Global,
-        job: &CoreJob,
+        setting: &Setting,
         worker: u32,
         event: Event,
     ) -> Result<(), AllocError>
-        requires fits { Represents job.now self.old }
-        requires worker_in { worker < job.now.workers }
-        requires in_range { IsInRange (nodes_of job.now.plan).count job.now.workers event }
-        requires needs { Needs (job_of job.now) (state_of self.old) worker event }
+        requires fits { Represents setting.now self.old }
+        requires worker_in { worker < setting.now.workers }
+        requires in_range { IsInRange (job_of setting.now).plan.count setting.now.workers event }
+        requires needs { Needs (job_of setting.now) (state_of self.old) worker event }
         requires at_end { (n : ℕ) → event ≡ Claim n → IsAtOneEnd n (ready_of self.old) }
         ensures sizes { IfOk result (λ _. SameSizes self.old self.new) }
         ensures event { IfOk result
-            (λ _. Does (job_of job.now) (state_of self.old) worker event (state_of self.new)) }
+            (λ _. Does (job_of setting.now) (state_of self.old) worker event (state_of self.new)) }
         ensures lists { IfOk result (λ _. ready_of self.new
             ≡ ready_after worker event (ready_of self.old)) }
     {
@@ -96,7 +94,7 @@ impl State {
             Event::ArriveSecond { parent, .. } => {
                 self.arrive(worker, parent, 2, Task::Handed(parent));
             }
-            _ => self.apply_to_gate(alloc, job, worker, event)?,
+            _ => self.apply_to_gate(alloc, setting, worker, event)?,
         }
         Ok(())
     }

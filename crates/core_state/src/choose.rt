@@ -1,6 +1,6 @@
 //! The choice of a worker's turn: the event that it makes in this state, if it can make one. Nothing is written here.
 ghost use Rattle.std.specs.Prelude.{◌≡◌, ◌<◌, length, None, IsTrue};
-ghost use Rattle.core_parts.specs.Code.Job.{job_of};
+ghost use Rattle.core_model.specs.Settings.{job_of};
 ghost use Rattle.core_model.specs.Choice.{choice, choice_by, choice_free};
 ghost use Rattle.core_state.specs.Abstraction.{state_of, core_state_of};
 ghost use Rattle.core_state.specs.Code.Lookups.{CanChoose, IsWorkOf};
@@ -9,8 +9,7 @@ mod gate;
 mod job;
 
 use crate::state::State;
-use core_model::{Event, Status, Task};
-use core_parts::CoreJob;
+use core_model::{Event, Setting, Status, Task};
 use core_parts::chosen::{of_half, of_handed, of_run, of_started};
 
 impl State {
@@ -18,40 +17,45 @@ impl State {
     /// is due.
     #[tactic(auto, unfolding(crate::specs::Abstraction::state_of, crate::specs::Abstraction::ready_of))]
     #[inline(always)]
-    pub(crate) fn choose_free(&self, job: &CoreJob, worker: u32, work: Option<u64>) -> Option<Event>
-        requires looks { CanChoose job.now self.now }
-        requires worker_in { worker < job.now.workers }
-        requires work { IsWorkOf job.now self.now worker work }
-        ensures { result ≡ choice_free (job_of job.now) (core_state_of self.now) worker
+    pub(crate) fn choose_free(
+        &self,
+        setting: &Setting,
+        worker: u32,
+        work: Option<u64>,
+    ) -> Option<Event>
+        requires looks { CanChoose setting.now self.now }
+        requires worker_in { worker < setting.now.workers }
+        requires work { IsWorkOf setting.now self.now worker work }
+        ensures { result ≡ choice_free (job_of setting.now) (core_state_of self.now) worker
             ((state_of self.now).task worker) }
     {
         match self.tasks[worker as usize] {
-            Task::Idle => self.choose_claim(job.workers, worker),
-            Task::Run(node) => of_run(job.plan.kind(node), node),
-            Task::Half(node) => of_half(job.plan.kind(node), node),
+            Task::Idle => self.choose_claim(setting.workers, worker),
+            Task::Run(node) => of_run(setting.job.kind(node), node),
+            Task::Half(node) => of_half(setting.job.kind(node), node),
             Task::Started { node, start } => {
-                let act = job.act_at(node);
+                let act = setting.act_at(node);
                 of_started(act, self.calls[worker as usize], node, start, work)
             }
             Task::Kept { node, start } => Some(Event::End { node, start }),
             Task::Ended { node, start, end } => Some(Event::FinishLeaf { node, start, end }),
-            Task::Whole(node) => self.choose_whole(job, node),
-            Task::Handed(node) => of_handed(job.plan.kind(node), node),
+            Task::Whole(node) => self.choose_whole(setting, node),
+            Task::Handed(node) => of_handed(setting.job.kind(node), node),
         }
     }
 
     /// The event of a worker that does not hold the flag, by its status.
     #[tactic(auto, unfolding(crate::specs::Abstraction::state_of))]
     #[inline(always)]
-    fn choose_by_status(&self, job: &CoreJob, worker: u32, work: Option<u64>) -> Option<Event>
-        requires looks { CanChoose job.now self.now }
-        requires worker_in { worker < job.now.workers }
-        requires work { IsWorkOf job.now self.now worker work }
-        ensures { result ≡ choice_by (job_of job.now) (core_state_of self.now) worker
+    fn choose_by_status(&self, setting: &Setting, worker: u32, work: Option<u64>) -> Option<Event>
+        requires looks { CanChoose setting.now self.now }
+        requires worker_in { worker < setting.now.workers }
+        requires work { IsWorkOf setting.now self.now worker work }
+        ensures { result ≡ choice_by (job_of setting.now) (core_state_of self.now) worker
             ((state_of self.now).status worker) }
     {
         match self.statuses[worker as usize] {
-            Status::Free => self.choose_free(job, worker, work),
+            Status::Free => self.choose_free(setting, worker, work),
             Status::Pending => self.choose_pending(),
             Status::Executing => None,
             Status::Served(receipt) => Some(Event::Leave(receipt)),
@@ -64,11 +68,11 @@ impl State {
     /// Memory: none.
     #[inline(always)]
     #[tactic(auto, unfolding(crate::specs::Abstraction::state_of, crate::specs::Abstraction::ready_of))]
-    pub fn surely_rests(&self, job: &CoreJob, worker: u32) -> bool
-        requires worker_in { worker < job.now.workers }
-        requires tasks_in { length self.now.tasks.items ≡ job.now.workers }
-        requires statuses_in { length self.now.statuses.items ≡ job.now.workers }
-        ensures { IsTrue result → choice (job_of job.now) (core_state_of self.now) worker ≡ None }
+    pub fn surely_rests(&self, setting: &Setting, worker: u32) -> bool
+        requires worker_in { worker < setting.now.workers }
+        requires tasks_in { length self.now.tasks.items ≡ setting.now.workers }
+        requires statuses_in { length self.now.statuses.items ≡ setting.now.workers }
+        ensures { IsTrue result → choice (job_of setting.now) (core_state_of self.now) worker ≡ None }
     {
         if let Some(hold) = &self.hold {
             if hold.worker == worker {
@@ -77,7 +81,7 @@ impl State {
         }
         match self.statuses[worker as usize] {
             Status::Free => match self.tasks[worker as usize] {
-                Task::Idle => self.nothing_to_claim(job.workers, worker),
+                Task::Idle => self.nothing_to_claim(setting.workers, worker),
                 _ => false,
             },
             Status::Pending => self.hold.is_some(),
@@ -91,15 +95,15 @@ impl State {
     /// Memory: none.
     #[tactic(auto, unfolding(crate::specs::Abstraction::state_of))]
     #[inline(always)]
-    pub fn choose(&self, job: &CoreJob, worker: u32, work: Option<u64>) -> Option<Event>
-        requires looks { CanChoose job.now self.now }
-        requires worker_in { worker < job.now.workers }
-        requires work { IsWorkOf job.now self.now worker work }
-        ensures { result ≡ choice (job_of job.now) (core_state_of self.now) worker }
+    pub fn choose(&self, setting: &Setting, worker: u32, work: Option<u64>) -> Option<Event>
+        requires looks { CanChoose setting.now self.now }
+        requires worker_in { worker < setting.now.workers }
+        requires work { IsWorkOf setting.now self.now worker work }
+        ensures { result ≡ choice (job_of setting.now) (core_state_of self.now) worker }
     {
         match &self.hold {
-            Some(hold) if hold.worker == worker => self.choose_holding(job, hold),
-            _ => self.choose_by_status(job, worker, work),
+            Some(hold) if hold.worker == worker => self.choose_holding(setting, hold),
+            _ => self.choose_by_status(setting, worker, work),
         }
     }
 }

@@ -1,8 +1,7 @@
 //! What a worker is doing, as far as those who run the workers look at it.
 ghost use Rattle.std.specs.Prelude.{◌≡◌, ◌≢◌, ◌<◌, ℕ};
-ghost use Rattle.sp_order.specs.Preorder.{nodes_of};
 ghost use Rattle.core_state.specs.Abstraction.{state_of};
-ghost use Rattle.core_parts.specs.Code.Job.{job_of, HasLeaf, TaskIn};
+ghost use Rattle.core_model.specs.Settings.{job_of, HasLeaf, TaskIn};
 ghost use Rattle.core_state.specs.Code.Lookups.{CanChoose};
 ghost use Rattle.core_state.specs.Doings.{doing_free, doing_of};
 ghost use Rattle.core_model.specs.Operations.{IsLeaf};
@@ -10,8 +9,7 @@ ghost use Rattle.core_model.specs.declared.status.Status.TheVariants.{Free};
 ghost use Rattle.core_model.specs.declared.task.Task.TheVariants.{Started};
 
 use crate::state::State;
-use core_model::{CallState, Status, Task};
-use core_parts::CoreJob;
+use core_model::{CallState, Setting, Status, Task};
 
 /// What a worker is doing, as far as those who run the workers look at it.
 #[derive(Clone, Copy)]
@@ -25,16 +23,16 @@ pub enum Doing {
 }
 
 /// What a worker with this task is doing that is not trapped.
-fn of_free(job: &CoreJob, call: CallState, task: Task) -> Doing
-    requires task_in { TaskIn (nodes_of job.now.plan).count task }
-    requires at_leaf { (n start : ℕ) → task ≡ Started n start → IsLeaf ((nodes_of job.now.plan).kind n) }
-    ensures { result ≡ doing_free (nodes_of job.now.plan) call task }
+fn of_free(setting: &Setting, call: CallState, task: Task) -> Doing
+    requires task_in { TaskIn (job_of setting.now).plan.count task }
+    requires at_leaf { (n start : ℕ) → task ≡ Started n start → IsLeaf ((job_of setting.now).plan.kind n) }
+    ensures { result ≡ doing_free (job_of setting.now).plan call task }
 {
     let Task::Started { .. } = task else {
         return Doing::Other;
     };
     match call {
-        CallState::NotCalled => Doing::Started(job.started_leaf(task)),
+        CallState::NotCalled => Doing::Started(setting.started_leaf(task)),
         _ => Doing::Other,
     }
 }
@@ -44,17 +42,17 @@ impl State {
     ///
     /// Memory: none.
     #[tactic(auto, unfolding(crate::specs::Abstraction::state_of))]
-    pub fn doing(&self, job: &CoreJob, worker: u32) -> Doing
-        requires looks { CanChoose job.now self.now }
-        requires worker_in { worker < job.now.workers }
+    pub fn doing(&self, setting: &Setting, worker: u32) -> Doing
+        requires looks { CanChoose setting.now self.now }
+        requires worker_in { worker < setting.now.workers }
         requires trapped { (state_of self.now).status worker ≢ Free
-            → HasLeaf (nodes_of job.now.plan) ((state_of self.now).task worker) }
-        ensures { result ≡ doing_of (job_of job.now) (state_of self.now) worker }
+            → HasLeaf (job_of setting.now).plan ((state_of self.now).task worker) }
+        ensures { result ≡ doing_of (job_of setting.now) (state_of self.now) worker }
     {
         let task = self.tasks[worker as usize];
         match self.statuses[worker as usize] {
-            Status::Free => of_free(job, self.calls[worker as usize], task),
-            _ => Doing::Calling(job.started_leaf(task)),
+            Status::Free => of_free(setting, self.calls[worker as usize], task),
+            _ => Doing::Calling(setting.started_leaf(task)),
         }
     }
 }

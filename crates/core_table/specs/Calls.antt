@@ -3,19 +3,21 @@ use Rattle.std.specs.Prelude.{ℕ, ◌≡◌, ◌≢◌, ◌<◌, ◌≤◌, ◌
 use mathlib.Core.Option.{none}
 use prog.Atomic.{either}
 use Rattle.atomic_table.specs.Table.{step}
+use Rattle.sp_order.specs.Jobs.{job_tree}
 use Rattle.sp_order.specs.Precedence.{leaves}
 use Rattle.sp_order.specs.Preorder.{nodes_of}
 use Rattle.core_model.specs.Events.{value_in}
 use Rattle.core_model.specs.Operations.{leaf_of, place_of, IsReceipt}
-use Rattle.core_table.specs.CoreWords.{Entry, Receipt, Claim, OpenParRight, OpenParLeft, OpenSeqLeft, OpenSeqRight, Post, Win, Take, Publish, Answer, Release, Keep, FinishLeaf, FinishSeq, FinishPar, ArriveFirst, ArriveSecond, Idle, Run, Half, Started, Ended, Whole, Handed, NotCalled, Out, SeqNode, ParNode, IsSide, Ran}
-use Rattle.core_table.specs.declared.setting.Setting.{Setting}
+use Rattle.core_model.specs.Words.{Entry, SeqNode, ParNode, IsSide}
+use Rattle.core_table.specs.CoreWords.{Receipt, Claim, OpenParRight, OpenParLeft, OpenSeqLeft, OpenSeqRight, Post, Win, Take, Publish, Answer, Release, Keep, FinishLeaf, FinishSeq, FinishPar, ArriveFirst, ArriveSecond, Idle, Run, Half, Started, Ended, Whole, Handed, NotCalled, Out, Ran}
+use Rattle.core_model.specs.declared.setting.Setting.{Setting}
 use Rattle.core_table.specs.declared.slot.OpRecord.{OpRecord}
 use Rattle.core_table.specs.declared.slot.Slot.{Slot}
 use Rattle.core_table.specs.declared.slot.Slot.TheVariants as Slots
 use Rattle.core_table.specs.declared.view.HoldView.{HoldView}
 use Rattle.core_table.specs.declared.view.View.{View}
 use Rattle.core_table.specs.Words.{flag_at, count_at, tick_at, stop_at, node_at, mark_at, value_at, progress_code}
-use Rattle.core_table.specs.Shows.{job_of, room_of, reserved, record_in, among, IsRecordOf}
+use Rattle.core_table.specs.Shows.{job_of, room_of, reserved, record_in, among, IsPostDue}
 use Rattle.core_table.specs.Batches.{IsPublishDue, IsReleaseDue}
 use Rattle.core_table.specs.Passes.{IsTickDue}
 use Rattle.core_table.specs.Plays as plays
@@ -25,8 +27,8 @@ use Rattle.core_table.specs.Steps.{Steps, Makes, Stays, TryMakes, ArrivalMakes, 
 -- what holds of all that a table is made for
 pub record IsSound (key : Setting) : Type 0 where
   pub few : (job_of key).plan.count < 40000
-  pub leaves : length key.acts.items ≡ leaves key.plan
-  pub short : length key.acts.items ≤ 20000
+  pub leaves : length key.job.acts ≡ leaves (job_tree key.job)
+  pub short : length key.job.acts ≤ 20000
   pub workers : key.workers ≤ 32
 
 -- the view is that of the pass of worker k of such a table
@@ -91,7 +93,7 @@ pub record CallsAreEvents (key : Setting) (slots id k : ℕ) (v : View) (xs : Li
       (plays.arrived (step slots (mark_at key.workers (job_of key).plan.count p) 1 0 none) (v, xs))
       (ArrivalMakes (Makes (job_of key) k (ArriveFirst p l r n)) (Makes (job_of key) k (ArriveSecond p l r n)))
   -- the gate: a post gives the record slot home with the call
-  pub post : (call : OpRecord) → (is : IsRecordOf (job_of key) v.task call) → v.call ≡ NotCalled
+  pub post : (call : OpRecord) → (is : IsPostDue (job_of key) v.task call) → v.call ≡ NotCalled
       → Steps (job_of key) (room_of key) slots id (v, (k, Slots.Record call) ∷ xs) k (λ y. 1)
       (λ y. plays.posted (step slots k 1 0 none) (v, (k, Slots.Record call) ∷ xs) 1) (λ before found after. Makes (job_of key) k (Post is.0 is.1) before after)
   -- the flag is won where it is found free

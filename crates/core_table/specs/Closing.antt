@@ -1,12 +1,13 @@
 -- What the report of a closed table is.
 use Rattle.std.specs.Prelude.{ℕ, ◌≡◌, ◌<◌, ◌/◌, ◌%◌, true, List, slice_index}
 use Rattle.std.specs.List.{AllByRecursion}
+use Rattle.sp_order.specs.Jobs.{job_tree}
 use Rattle.sp_order.specs.Precedence.{leaves}
 use Rattle.batch_history.specs.declared.row.Row.{Row}
 use Rattle.batch_history.specs.declared.report.Report.{Report}
 use Rattle.core_model.specs.Tasks.{is_done}
 use Rattle.core_model.specs.Reports.{IsReportOf}
-use Rattle.core_table.specs.declared.setting.Setting.{Setting}
+use Rattle.core_model.specs.declared.setting.Setting.{Setting}
 use Rattle.core_table.specs.Words.{node_at, value_at}
 use Rattle.core_table.specs.Shows.{St, Shown, job_of}
 
@@ -24,5 +25,5 @@ pub record RowInWords (workers nodes leaf_total : ℕ) (node_of : ℕ → ℕ) (
 pub record IsReportOfTable (key : Setting) (t : St) (report : Report) : Type 0 where
   pub shown : Shown key t
   pub over : is_done (shown.state.node 0) ≡ true
-  pub rows : AllByRecursion (RowInWords key.workers (job_of key).plan.count (leaves key.plan) (job_of key).plan.node_of t.words) report.rows
-  pub reports : IsReportOf (job_of key) (leaves key.plan) shown.state report
+  pub rows : AllByRecursion (RowInWords key.workers (job_of key).plan.count (leaves (job_tree key.job)) (job_of key).plan.node_of t.words) report.rows
+  pub reports : IsReportOf (job_of key) (leaves (job_tree key.job)) shown.state report

@@ -1,15 +1,4 @@
--- The words of the core that the rules of the table speak in, handed on from where they are declared.
-pub use Rattle.seq_objects.specs.declared.act.Act.{Act}
-pub use Rattle.seq_objects.specs.declared.act.Act.TheVariants.{Work, Call}
-pub use Rattle.seq_objects.specs.declared.op.Op.{Op}
-pub use Rattle.sp_order.specs.declared.node.Kind.{Kind}
-pub use Rattle.sp_order.specs.declared.node.Kind.TheVariants.{LeafNode, SeqNode, ParNode}
-pub use Rattle.sp_order.specs.declared.node.Move.{Move}
-pub use Rattle.sp_order.specs.declared.node.Move.TheVariants.{Root, OpenSecond, FinishParent, Arrive}
-pub use Rattle.sp_order.specs.Precedence.{Tree, leaf, seq, par, leaves}
-pub use Rattle.sp_order.specs.Plans.{Nodes, IsPlan, IsSide, IsUnder, IsBySeries, HasSide, parent_of}
-pub use Rattle.sp_order.specs.PlanOf.{node_count, OccursAt, IsPlanOf}
-pub use Rattle.batch_history.specs.declared.batch.Entry.{Entry}
+-- The words that core_model declares, handed on: the rules of the table speak in them.
 pub use Rattle.core_model.specs.declared.progress.Progress.{Progress}
 pub use Rattle.core_model.specs.declared.progress.Progress.TheVariants.{Waiting, Ready, Taken, Done, Ran}
 pub use Rattle.core_model.specs.declared.task.Task.{Task}

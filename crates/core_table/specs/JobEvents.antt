@@ -1,6 +1,7 @@
 -- Which event of the core a call of the job side is, by the plan, the task before the call and the call's answer.
 use Rattle.std.specs.Prelude.{ℕ, ◌≡◌, ◌⊎◌, Some}
-use Rattle.core_table.specs.CoreWords.{Event, Start, End, OpenParRight, OpenParLeft, OpenSeqLeft, OpenSeqRight, FinishLeaf, FinishSeq, FinishPar, Nodes, IsSide, SeqNode, ParNode, Task, Idle, Run, Half, Started, Kept, Ended, Whole, Handed}
+use Rattle.core_model.specs.Words.{Nodes, IsSide, SeqNode, ParNode}
+use Rattle.core_table.specs.CoreWords.{Event, Start, End, OpenParRight, OpenParLeft, OpenSeqLeft, OpenSeqRight, FinishLeaf, FinishSeq, FinishPar, Task, Idle, Run, Half, Started, Kept, Ended, Whole, Handed}
 
 -- a tick starts the leaf of a task that runs, and ends that of a task whose value is kept
 abbrev pub IsTickEvent : Task → Event → Type 0

@@ -2,7 +2,7 @@
 use Rattle.std.specs.Prelude.{ℕ, ◌≡◌, ◌<◌, Some}
 use Rattle.core_model.specs.State.{CoreJob, State}
 use Rattle.core_model.specs.Invariant.Values.{IsKept}
-use Rattle.core_table.specs.CoreWords.{LeafNode}
+use Rattle.core_model.specs.Words.{LeafNode}
 
 -- The states agree in each node, mark, task, status and call, in the hold, the tick, the book and the objects, and in the
 -- value of each leaf that has one: the word of a leaf without a value says nothing.

@@ -2,13 +2,15 @@
 use Rattle.std.specs.Prelude.{ℕ, ◌≡◌, ◌≢◌, ◌<◌, ◌+◌, Bool, List, true, Option as Maybe, None, Some}
 use Rattle.atomic_table.specs.Seated.{TableId}
 use Rattle.atomic_table.specs.declared.shared.Seat.{Seat}
-use Rattle.core_table.specs.CoreWords.{Act, Tree, Kind, LeafNode, SeqNode, ParNode, OpenSecond, FinishParent, Arrive, Task, Idle, Run, Half, Started, Kept, Ended, Whole, Handed, Out}
+use Rattle.sp_order.specs.Jobs.{JobValue}
+use Rattle.core_model.specs.Words.{Act, Tree, Kind, LeafNode, SeqNode, ParNode, OpenSecond, FinishParent, Arrive}
+use Rattle.core_table.specs.CoreWords.{Task, Idle, Run, Half, Started, Kept, Ended, Whole, Handed, Out}
 use Rattle.sp_order.specs.Preorder.{nodes_of}
 use Rattle.core_model.specs.State.{CoreJob}
 use Rattle.core_model.specs.Operations.{IsLeaf}
 use Rattle.core_table.specs.declared.slot.Slot.{Slot}
 use Rattle.core_table.specs.declared.view.View.{View}
-use Rattle.core_table.specs.declared.setting.Setting.{Setting}
+use Rattle.core_model.specs.declared.setting.Setting.{Setting}
 use Rattle.core_table.specs.declared.table.CoreTable.{CoreTable}
 use Rattle.core_table.specs.declared.table.Pass.{Pass}
 use Rattle.core_table.specs.Shows.{job_of, room_of}
@@ -16,15 +18,16 @@ use Rattle.core_table.specs.Views.{first_view}
 use Rattle.core_table.specs.Carries.{Carries}
 use Rattle.core_table.specs.Remembers.{Remembers}
 
--- the job of a table: the tree of its nodes, what its leaves do, and how many workers there are
-abbrev pub tree_in : CoreTable → Tree
-tree_in table = table.setting.plan
+-- what a table is made for
+abbrev pub setting_in : CoreTable → Setting
+setting_in table = table.setting
 
-abbrev pub acts_in : CoreTable → List Act
-acts_in table = table.setting.acts.items
+-- its job, as it was given, and as the rules speak of it
+abbrev pub planned_in : CoreTable → JobValue
+planned_in table = (setting_in table).job
 
 abbrev pub job_in : CoreTable → CoreJob
-job_in table = job_of table.setting
+job_in table = job_of (setting_in table)
 
 -- what the pass of worker w knows of a table that was just made
 abbrev pub opening_view : CoreTable → ℕ → View

@@ -3,7 +3,8 @@ use Rattle.std.specs.Prelude.{ℕ, ◌≡◌, ◌≢◌, ◌≤◌, ◌+◌, ◌
 use Rattle.atomic_table.specs.Table.{Me, Step, rest}
 use Rattle.batch_history.specs.Book.{flat, IsHistory}
 use Rattle.sp_order.specs.Preorder.{nodes_of}
-use Rattle.core_table.specs.CoreWords.{Entry, Event, Receipt, Idle, Run, Half, Started, Handed, Claim, OpenParRight, Post, Win, Take, Publish, Answer, Release, Leave, Keep, ArriveFirst, ArriveSecond, ParNode}
+use Rattle.core_model.specs.Words.{Entry, ParNode}
+use Rattle.core_table.specs.CoreWords.{Event, Receipt, Idle, Run, Half, Started, Handed, Claim, OpenParRight, Post, Win, Take, Publish, Answer, Release, Leave, Keep, ArriveFirst, ArriveSecond}
 use Rattle.core_model.specs.Events.{task_after}
 use Rattle.core_model.specs.Operations.{place_of}
 use Rattle.core_table.specs.declared.slot.OpRecord.{OpRecord}

@@ -7,9 +7,11 @@ use Rattle.seq_objects.specs.Pairs.{AreDistinct}
 use Rattle.batch_history.specs.Book.{flat}
 use Rattle.batch_history.specs.Reserved.{ReservedView}
 use Rattle.core_model.specs.Runs.{Step, Reaches}
-use Rattle.core_table.specs.CoreWords.{Entry, Event, LeafNode, Task, Idle, Started, Status, Free, Pending, Executing, Served, CallState, NotCalled, Out, Got}
-use Rattle.core_model.specs.State.{CoreJob, Hold, State, core_job}
-use Rattle.core_model.specs.Operations.{op_in, Place}
+use Rattle.core_model.specs.Settings.{job_of}
+use Rattle.core_model.specs.Words.{Entry, LeafNode}
+use Rattle.core_table.specs.CoreWords.{Event, Task, Idle, Started, Status, Free, Pending, Executing, Served, CallState, NotCalled, Out, Got}
+use Rattle.core_model.specs.State.{CoreJob, Hold, State}
+use Rattle.core_model.specs.Operations.{op_of, Place}
 use Rattle.core_model.specs.Entries.{entries_of}
 use Rattle.core_model.specs.Measure.{call_count}
 use Rattle.core_model.specs.Tasks.{is_done}
@@ -22,8 +24,9 @@ use Rattle.core_table.specs.declared.view.TakenCall.{TakenCall}
 use Rattle.core_table.specs.declared.view.HoldView.{HoldView}
 use Rattle.core_table.specs.declared.view.LeftCall.{LeftCall}
 use Rattle.core_table.specs.declared.view.View.{View}
-use Rattle.core_table.specs.declared.setting.Setting.{Setting}
+use Rattle.core_model.specs.declared.setting.Setting.{Setting}
 use Rattle.core_table.specs.Words.{stop_at, WordsShow}
+pub use Rattle.core_model.specs.Settings.{job_of}
 
 -- the table as plain data
 abbrev pub St : Type 0
@@ -33,26 +36,29 @@ St = TableState Slot View
 abbrev pub Home : Type 0
 Home = Option (Option Slot)
 
--- the job that a table is made for, and how many of its leaves call
-abbrev pub job_of : Setting → CoreJob
-job_of key = core_job key.plan key.acts.items key.workers
-
+-- how many leaves call of the job that a table is made for
 abbrev pub room_of : Setting → ℕ
 room_of key = call_count (job_of key)
 
 -- the record is that of the call of the leaf at which the task is started
-abbrev pub IsRecordOf : CoreJob → Task → OpRecord → Type 0
-IsRecordOf job task call =
+abbrev pub IsRecordOf : CoreJob → List (List Entry) → Task → OpRecord → Type 0
+IsRecordOf job book task call =
     (node : ℕ) × (start : ℕ) × (task ≡ Started node start) × (job.plan.kind node ≡ Some (LeafNode call.leaf))
-    × (op_in (job.act call.leaf) ≡ Some call.op)
+    × (op_of job.act book call.leaf ≡ Some call.op)
+
+-- a call that is to be posted is that of the leaf at which the task is started, with its operation under every book
+abbrev pub IsPostDue : CoreJob → Task → OpRecord → Type 0
+IsPostDue job task call =
+    (node : ℕ) × (start : ℕ) × (task ≡ Started node start) × (job.plan.kind node ≡ Some (LeafNode call.leaf))
+    × ((book : List (List Entry)) → op_of job.act book call.leaf ≡ Some call.op)
 
 -- The record slot of a worker with this task and this status: at home with its call where it is pending, at home with
 -- its receipt where it is served, and with the worker that has the flag where it is executing.
-abbrev pub RecordAt : CoreJob → Task → Status → Home → Type 0
-RecordAt job task Free home = Unit {0}
-RecordAt job task Pending home = (call : OpRecord) × (home ≡ some (some (Slots.Record call))) × IsRecordOf job task call
-RecordAt job task Executing home = home ≡ some none
-RecordAt job task (Served receipt) home = home ≡ some (some (Slots.Receipt receipt))
+abbrev pub RecordAt : CoreJob → List (List Entry) → Task → Status → Home → Type 0
+RecordAt job book task Free home = Unit {0}
+RecordAt job book task Pending home = (call : OpRecord) × (home ≡ some (some (Slots.Record call))) × IsRecordOf job book task call
+RecordAt job book task Executing home = home ≡ some none
+RecordAt job book task (Served receipt) home = home ≡ some (some (Slots.Receipt receipt))
 
 -- the shop is at home where the flag is free, and has served the book
 abbrev pub ShopAt : Maybe Hold → List (List Entry) → Home → Type 0
@@ -79,7 +85,7 @@ BookAt room (Some h) book home = BookIf h.published room book home
 pub record SlotsShow (job : CoreJob) (room : ℕ) (homes : List (Option Slot)) (task : ℕ → Task) (status : ℕ → Status)
     (hold : Maybe Hold) (book : List (List Entry)) : Type 0 where
   pub wide : length homes ≡ job.workers + 2
-  pub records : (w : ℕ) → w < job.workers → RecordAt job (task w) (status w) (get_elem? homes w)
+  pub records : (w : ℕ) → w < job.workers → RecordAt job book (task w) (status w) (get_elem? homes w)
   pub shop : ShopAt hold book (get_elem? homes job.workers)
   pub batches : BookAt room hold book (get_elem? homes (job.workers + 1))
 
@@ -106,7 +112,7 @@ abbrev pub HoldKnown : CoreJob → State → Maybe HoldView → ℕ → Type 0
 HoldKnown job s None w = (h : Hold) → s.hold ≡ Some h → h.worker ≢ w
 HoldKnown job s (Some v) w =
     (s.hold ≡ Some (hold_of w v)) × (s.book ≡ v.book)
-    × ((u : ℕ) (call : OpRecord) → record_in v.taken u ≡ Some call → among v.answered u ≡ false → IsRecordOf job (s.task u) call)
+    × ((u : ℕ) (call : OpRecord) → record_in v.taken u ≡ Some call → among v.answered u ≡ false → IsRecordOf job s.book (s.task u) call)
     × AreDistinct (map (λ t. t.worker) v.taken)
 
 -- the entry of a call that worker w has left
@@ -144,7 +150,7 @@ pub record Mine (job : CoreJob) (s : State) (home : Home) (seat id : ℕ) (v : V
   pub task : s.task w ≡ v.task
   pub call : s.call w ≡ v.call
   -- where the call is out, it is what the pass posted last
-  pub posted : s.call w ≡ Out → (call : OpRecord) × (v.posted ≡ Some call) × IsRecordOf job (s.task w) call
+  pub posted : s.call w ≡ Out → (call : OpRecord) × (v.posted ≡ Some call) × IsRecordOf job s.book (s.task w) call
   pub hold : HoldKnown job s v.hold w
   -- the worker's entries in the book are those of the calls that the pass has left, in the order in which it made
   -- them, and then that of its present call, if the book has it

@@ -1,11 +1,13 @@
 -- The view of a pass after each of its steps. A step changes the view of its own pass and no other.
 use Rattle.std.specs.Prelude.{ℕ, ◌+◌, ◌==◌, max, min, if◌then◌else◌, Bool, Option as Maybe, None, Some, List, [], ◌∷◌, ◌++◌, true, false}
-use Rattle.core_table.specs.CoreWords.{Entry, Event, Receipt, Tree, Task, Idle, Run, Half, Started, Kept, Ended, Whole, Handed, NotCalled, Out, Got}
+use Rattle.sp_order.specs.Jobs.{job_tree}
+use Rattle.core_model.specs.Words.{Entry, Tree}
+use Rattle.core_table.specs.CoreWords.{Event, Receipt, Task, Idle, Run, Half, Started, Kept, Ended, Whole, Handed, NotCalled, Out, Got}
 use Rattle.core_table.specs.declared.slot.OpRecord.{OpRecord}
 use Rattle.core_table.specs.declared.view.HoldView.{HoldView}
 use Rattle.core_table.specs.declared.view.View.{View}
 use Rattle.core_table.specs.Shows.{room_of, job_of}
-use Rattle.core_table.specs.declared.setting.Setting.{Setting}
+use Rattle.core_model.specs.declared.setting.Setting.{Setting}
 
 -- a view that tells nothing yet, of the numbers below the workers
 abbrev pub newcomer : Tree → ℕ → ℕ → ℕ → View
@@ -48,7 +50,7 @@ newcomer tree workers nodes room = record {
 
 -- that of the first seat of a table
 abbrev pub first_view : Setting → View
-first_view key = newcomer key.plan key.workers (job_of key).plan.count (room_of key)
+first_view key = newcomer (job_tree key.job) key.workers (job_of key).plan.count (room_of key)
 
 -- the first number of a range is cut off, and what is left
 abbrev pub pass_of : View → View

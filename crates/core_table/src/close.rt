@@ -2,13 +2,14 @@
 ghost use Rattle.std.specs.Prelude.{◌≡◌, ◌≢◌, ℕ, ◌+◌, ◌<◌, ◌≤◌, [], Some, length, map, true, IfOk, vec_capacity, vec_len};
 ghost use Rattle.std.specs.List.{AllByRecursion, range_with_len};
 ghost use Rattle.std.specs.Mem.Slots.{slots_items, slots_len, slots_filled, IsFull};
+ghost use Rattle.sp_order.specs.Jobs.{job_tree};
 ghost use Rattle.sp_order.specs.Precedence.{leaves};
 ghost use Rattle.sp_order.specs.Preorder.{nodes_of};
 ghost use Rattle.batch_history.specs.Lawful.{Lawful};
 ghost use Rattle.core_table.specs.Shows.{IsFront, events_by, St as TableState};
-ghost use Rattle.core_table.specs.Passes.{IsPassOf, job_in, tree_in, acts_in, view};
+ghost use Rattle.core_table.specs.Passes.{IsPassOf, job_in, planned_in, setting_in, view};
 ghost use Rattle.core_table.specs.Closing.{RowInWords, IsReportOfTable};
-ghost use Rattle.core_model.specs.Reports.{IsRunFrom};
+ghost use Rattle.core_model.specs.Reports.{IsRunFrom, IsRunReport};
 ghost use Rattle.core_model.specs.State.{opening_core};
 ghost use mathlib.Core.Option.{some};
 ghost use lib.ListN.{get_elem?};
@@ -20,14 +21,14 @@ use crate::table::{CoreTable, Pass};
 use atomic_table::Closed;
 use batch_history::{Report, Row, Rows};
 use core_model::laws::report::{done_leaves_have_run, done_report_is_lawful};
-use sp_order::Plan;
+use sp_order::PlannedJob;
 use sp_order::laws::{leaf_has_one_node, plan_has_sides, plan_stands_for_tree};
 use std::alloc::{AllocError, Global};
 
 /// The rows of the leaves, as the words of a closed table tell them.
 fn read_rows(
     closed: &Closed<Slot, Global>,
-    plan: &Plan,
+    job: &PlannedJob,
     workers: u32,
     nodes: u32,
     leaf_total: u32,
@@ -35,11 +36,11 @@ fn read_rows(
 ) -> Vec<Row>
     requires words { IsFull closed.now.words
         × (slots_len closed.now.words ≡ workers + 4 + nodes + nodes + nodes) }
-    requires plan { (nodes ≡ (nodes_of plan.now).count) × (leaf_total ≤ leaves plan.now)
+    requires plan { (nodes ≡ (nodes_of (job_tree job.now)).count) × (leaf_total ≤ leaves (job_tree job.now))
         × (workers ≤ 32) × (nodes < 40000) }
     requires room { (rows.items ≡ []) × (vec_len rows ≡ 0) × (leaf_total ≤ vec_capacity rows) }
     ensures leaves { map (λ row. row.leaf) result.items ≡ range_with_len 0 leaf_total }
-    ensures told { AllByRecursion (RowInWords workers nodes leaf_total (nodes_of plan.now).node_of
+    ensures told { AllByRecursion (RowInWords workers nodes leaf_total (nodes_of (job_tree job.now)).node_of
         (slots_items closed.now.words)) result.items }
 {
     plan_stands_for_tree();
@@ -49,7 +50,7 @@ fn read_rows(
     let first = workers as usize + 4;
     let values = first + nodes as usize + nodes as usize;
     for leaf in 0..leaf_total {
-        let node = plan.node_of(leaf) as usize;
+        let node = job.node_of(leaf) as usize;
         let word = closed.word(first + node);
         let value = closed.word(values + node);
         rows.push_reserved(Row {
@@ -83,15 +84,15 @@ impl CoreTable {
     pub fn close(self, alloc: Global, pass: Pass) -> Result<Report, AllocError>
         requires pass { IsPassOf self pass }
         requires saw { (view pass).saw_done ≡ true }
-        ensures lawful { IfOk result (λ report. Lawful
-            (record { shape = Some (tree_in self); acts = acts_in self })
+        ensures lawful { IfOk result (λ report. Lawful (planned_in self)
             (job_in self).workers report) }
         ensures told { IfOk result (λ report. (t : TableState)
-            × IsReportOfTable self.setting t report
+            × IsReportOfTable (setting_in self) t report
             × ((id : ℕ) × (get_elem? t.views id ≡ some (view pass)))) }
         ensures run { IfOk result (λ report.
-            (run : IsRunFrom (job_in self) (leaves (tree_in self)) opening_core report)
+            (run : IsRunFrom (job_in self) (leaves (job_tree (planned_in self))) opening_core report)
             × (events_by (view pass).from run.trace ≡ (view pass).events)) }
+        ensures model { IfOk result (IsRunReport (planned_in self) (job_in self).workers) }
         ensures seen { IfOk result (λ report. IsFront (view pass).book_seen report.history) }
     {
         laws_hold();
@@ -100,7 +101,7 @@ impl CoreTable {
         plan_stands_for_tree();
         plan_has_sides();
         leaf_has_one_node();
-        let leaf_total = self.setting.acts.as_slice().len() as u32;
+        let leaf_total = self.setting.job.acts().len() as u32;
         let rows = Vec::with_capacity(alloc, leaf_total as usize)?;
         let CoreTable {
             table,
@@ -118,7 +119,7 @@ impl CoreTable {
         let mut closed = table.close_with(seat);
         let rows = read_rows(
             &closed,
-            &setting.plan,
+            &setting.job,
             setting.workers,
             nodes,
             leaf_total,

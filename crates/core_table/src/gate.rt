@@ -6,7 +6,7 @@ ghost use Rattle.core_model.specs.Measure.{call_count};
 ghost use Rattle.core_model.specs.Operations.{place_of, IsReceipt};
 ghost use Rattle.core_table.specs.declared.view.HoldView.{HoldView};
 ghost use Rattle.core_table.specs.declared.slot.OpRecord.{OpRecord as CallRecord};
-ghost use Rattle.core_table.specs.Shows.{IsRecordOf, record_in, among, entry_of, IsFront};
+ghost use Rattle.core_table.specs.Shows.{IsPostDue, record_in, among, entry_of, IsFront};
 ghost use Rattle.core_model.specs.Entries.{StandsAt};
 ghost use Rattle.core_table.specs.Passes.{IsPassOf, job_in, view, IsTrapped};
 ghost use Rattle.core_table.specs.Batches.{IsPublishDue, IsReleaseDue};
@@ -27,7 +27,7 @@ impl CoreTable {
     pub fn post(&self, pass: &mut Pass, call: OpRecord)
         requires pass { IsPassOf self.now pass.old }
         requires free { (view pass.old).call ≡ NotCalled }
-        requires due { IsRecordOf (job_in self.now) (view pass.old).task call }
+        requires due { IsPostDue (job_in self.now) (view pass.old).task call }
         ensures pass { IsPassOf self.now pass.new }
         ensures posted { (node : ℕ) × (start : ℕ) × ((view pass.old).task ≡ Started node start)
             × (view pass.new ≡ with_event (posting (view pass.old) call) (PostOf node start)) }

@@ -1,6 +1,7 @@
 //! The calls of the job side, and the looks.
 ghost use Rattle.std.specs.Prelude.{◌≡◌, ◌≢◌, ℕ, ◌+◌, ◌%◌, ◌<◌, ◌≤◌, ◌∷◌, Some, IsTrue, IsFalse};
-ghost use Rattle.core_table.specs.CoreWords.{Event, Idle, Run, Half, Started, Ended, Whole, Handed, Arrive as ArriveAt, Claim as ClaimOf, Keep as KeepOf, FinishLeaf, ArriveFirst, ArriveSecond};
+ghost use Rattle.core_model.specs.Words.{Arrive as ArriveAt};
+ghost use Rattle.core_table.specs.CoreWords.{Event, Idle, Run, Half, Started, Ended, Whole, Handed, Claim as ClaimOf, Keep as KeepOf, FinishLeaf, ArriveFirst, ArriveSecond};
 ghost use Rattle.core_table.specs.JobEvents.{IsTickEvent, IsOpenEvent, IsFinishEvent, IsArrival};
 ghost use Rattle.core_model.specs.Operations.{leaf_of};
 ghost use Rattle.core_model.specs.Events.{value_in, task_after as next_task};
@@ -117,7 +118,7 @@ impl CoreTable {
         laws_hold();
         let shared = &self.table.shared;
         let first = self.setting.workers as usize + 4;
-        match self.setting.plan.kind(node) {
+        match self.setting.job.kind(node) {
             Kind::ParNode(_left, right) => {
                 shared.store::<OpenHalf>(&mut pass.seat, first + right as usize, 1);
                 pass.task = Task::Half(node);
@@ -141,7 +142,7 @@ impl CoreTable {
             × (view pass.new ≡ with_event (opening (view pass.old) result Idle) event) }
     {
         laws_hold();
-        let Kind::ParNode(left, _right) = self.setting.plan.kind(node) else {
+        let Kind::ParNode(left, _right) = self.setting.job.kind(node) else {
             unreachable!()
         };
         let at = self.setting.workers as usize + 4 + left as usize;
@@ -160,10 +161,10 @@ impl CoreTable {
             × (view pass.new ≡ with_event (opening (view pass.old) result Idle) event) }
     {
         laws_hold();
-        let Move::OpenSecond(parent) = self.setting.plan.after(node) else {
+        let Move::OpenSecond(parent) = self.setting.job.after(node) else {
             unreachable!()
         };
-        let Kind::SeqNode(_left, right) = self.setting.plan.kind(parent) else {
+        let Kind::SeqNode(_left, right) = self.setting.job.kind(parent) else {
             unreachable!()
         };
         let at = self.setting.workers as usize + 4 + right as usize;
@@ -239,7 +240,7 @@ impl CoreTable {
             × (view pass.new ≡ with_event (with_task (view pass.old) (next_task n)) event) }
     {
         laws_hold();
-        let Move::FinishParent(parent) = self.setting.plan.after(node) else {
+        let Move::FinishParent(parent) = self.setting.job.after(node) else {
             unreachable!()
         };
         let at = self.setting.workers as usize + 4 + parent as usize;
@@ -257,7 +258,7 @@ impl CoreTable {
             × (view pass.new ≡ with_event (with_task (view pass.old) (next_task node)) event) }
     {
         laws_hold();
-        let Kind::ParNode(_left, _right) = self.setting.plan.kind(node) else {
+        let Kind::ParNode(_left, _right) = self.setting.job.kind(node) else {
             unreachable!()
         };
         let at = self.setting.workers as usize + 4 + node as usize;
@@ -284,7 +285,7 @@ impl CoreTable {
         let Task::Whole(node) = pass.task else {
             unreachable!()
         };
-        let Move::Arrive(parent) = self.setting.plan.after(node) else {
+        let Move::Arrive(parent) = self.setting.job.after(node) else {
             unreachable!()
         };
         let at = self.setting.workers as usize + 4 + self.nodes as usize + parent as usize;

@@ -2,8 +2,9 @@
 ghost use Rattle.std.specs.Prelude.{◌≡◌, ◌<◌, ◌+◌, ◌≤◌, ℕ, List, [], length, slice_index};
 ghost use mathlib.Core.Option.{some};
 ghost use lib.ListN.{get_elem?};
+ghost use Rattle.sp_order.specs.Jobs.{job_tree};
 ghost use Rattle.sp_order.specs.Precedence.{leaves};
-ghost use Rattle.core_table.specs.declared.setting.Setting.{Setting};
+ghost use Rattle.core_model.specs.declared.setting.Setting.{Setting};
 ghost use Rattle.core_table.specs.declared.slot.Slot.{Slot};
 ghost use Rattle.core_table.specs.declared.view.View.{View};
 ghost use Rattle.core_table.specs.Calls.{IsSound, IsViewOf, CallsAreEvents};
@@ -30,8 +31,8 @@ use sp_order::laws::{plan_has_root, plan_has_sides, plan_stands_for_tree};
 /// They hold of each job.
 pub(crate) fn laws_hold()
     ensures { (key : Setting) → (job_of key).plan.count < 40000
-        → length key.acts.items ≡ leaves key.plan
-        → length key.acts.items ≤ 20000
+        → length key.job.acts ≡ leaves (job_tree key.job)
+        → length key.job.acts ≤ 20000
         → Laws (job_of key) }
 {
     event_keeps_parts();

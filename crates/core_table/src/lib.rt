@@ -15,16 +15,12 @@ pub mod laws;
 mod make;
 mod plays;
 mod sending;
-mod setting;
 mod slot;
 mod table;
 mod turns;
 mod view;
 
 #[doc(hidden)]
-pub use setting::Setting;
-pub use slot::OpRecord;
-#[doc(hidden)]
-pub use slot::Slot;
+pub use slot::{OpRecord, Slot};
 pub use table::{CoreTable, Pass};
 pub use view::{HoldView, LeftCall, TakenCall, View};

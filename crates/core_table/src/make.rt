@@ -1,24 +1,23 @@
 //! How a table is made, with its passes.
 ghost use Rattle.std.specs.Prelude.{◌≡◌, ◌≢◌, ℕ, ◌+◌, ◌<◌, ◌≤◌, ◌∷◌, ◌++◌, [], Some, length, replicate, slice_set, slice_get, IsSome, IfSome, IfOk};
-ghost use Rattle.sp_order.specs.Precedence.{leaves};
+ghost use Rattle.sp_order.specs.Jobs.{job_tree};
 ghost use Rattle.sp_order.specs.Preorder.{nodes_of};
 ghost use Rattle.core_model.specs.State.{core_job};
 ghost use Rattle.core_model.specs.Measure.{call_count, one_if_call};
 ghost use Rattle.core_table.specs.Shows.{reserved};
-ghost use Rattle.core_table.specs.Passes.{tree_in, acts_in, job_in, opening_view, IsPassOf, view};
+ghost use Rattle.core_table.specs.Passes.{job_in, planned_in, setting_in, opening_view, IsPassOf, view};
 
 use crate::laws::laws_hold;
 use crate::plays::{Cut, Enrol};
-use crate::setting::Setting;
 use crate::slot::Slot;
 use crate::table::{CoreTable, Pass};
 use atomic_table::{Refused, Table};
 use batch_history::ReservedHistory;
-use core_model::{CallState, Task};
+use core_model::{CallState, Setting, Task};
 use launch_batch::Shop;
 use seq_objects::Act;
 use sp_order::node::Kind;
-use sp_order::{Job, Plan};
+use sp_order::{Job, PlannedJob};
 use std::alloc::{AllocError, Global};
 
 /// The words of the opening state: the root is ready.
@@ -51,13 +50,13 @@ fn opening_slots(alloc: Global, workers: usize, room: usize) -> Result<Vec<Slot>
 }
 
 /// Whether the leaf of a node calls: 1, or 0.
-fn calls_at(plan: &Plan, acts: &[Act], node: u32) -> usize
-    requires { node < (nodes_of plan.now).count }
+fn calls_at(job: &PlannedJob, node: u32) -> usize
+    requires { node < (nodes_of (job_tree job.now)).count }
     ensures { (workers : ℕ) → result
-        ≡ one_if_call (core_job plan.now acts.now workers) ((nodes_of plan.now).kind node) }
+        ≡ one_if_call (core_job job.now workers) ((nodes_of (job_tree job.now)).kind node) }
 {
-    match plan.kind(node) {
-        Kind::LeafNode(leaf) => match acts.get(leaf as usize) {
+    match job.kind(node) {
+        Kind::LeafNode(leaf) => match job.acts().get(leaf as usize) {
             Some(Act::Call(_)) => 1,
             _ => 0,
         },
@@ -66,13 +65,13 @@ fn calls_at(plan: &Plan, acts: &[Act], node: u32) -> usize
 }
 
 /// How many leaves call.
-fn count_calls(plan: &Plan, acts: &[Act], nodes: u32) -> usize
-    requires { (nodes ≡ (nodes_of plan.now).count) × (nodes < 40000) }
-    ensures { (workers : ℕ) → result ≡ call_count (core_job plan.now acts.now workers) }
+fn count_calls(job: &PlannedJob, nodes: u32) -> usize
+    requires { (nodes ≡ (nodes_of (job_tree job.now)).count) × (nodes < 40000) }
+    ensures { (workers : ℕ) → result ≡ call_count (core_job job.now workers) }
 {
     let mut count = 0;
     for node in 0..nodes {
-        count += calls_at(plan, acts, node);
+        count += calls_at(job, node);
     }
     count
 }
@@ -90,39 +89,27 @@ impl CoreTable {
         requires leaves { IsSome job.now.shape }
         requires some_workers { 0 < workers }
         requires few_workers { workers ≤ 32 }
-        ensures job { IfOk result (λ r. (Some (tree_in r.0) ≡ job.now.shape)
-            × (acts_in r.0 ≡ job.now.acts) × ((job_in r.0).workers ≡ workers)) }
+        ensures job { IfOk result (λ r. (planned_in r.0 ≡ job.now) × ((job_in r.0).workers ≡ workers)) }
         ensures count { IfOk result (λ r. length r.1.items ≡ workers) }
         ensures passes { IfOk result (λ r. (w : ℕ) → IfSome (slice_get r.1.items w)
             (λ pass. IsPassOf r.0 pass × (view pass ≡ opening_view r.0 w))) }
     {
-        let plan = Plan::of(alloc, job)?;
-        let mut acts = Vec::new(alloc);
-        acts.extend_from_slice(job.acts())?;
-        CoreTable::of(
-            alloc,
-            Setting {
-                plan,
-                acts,
-                workers,
-            },
-        )
+        let setting = Setting::of(alloc, job, workers)?;
+        CoreTable::of(alloc, setting)
     }
 
     /// The table of what it is made for.
     fn of(alloc: Global, setting: Setting) -> Result<(CoreTable, Vec<Pass>), AllocError>
         requires workers { (0 < setting.workers) × (setting.workers ≤ 32) }
-        requires acts { (length setting.acts.items ≡ leaves setting.plan)
-            × (length setting.acts.items ≤ 20000) }
-        ensures table { IfOk result (λ r. r.0.setting ≡ setting) }
+        ensures table { IfOk result (λ r. setting_in r.0 ≡ setting) }
         ensures count { IfOk result (λ r. length r.1.items ≡ setting.workers) }
         ensures passes { IfOk result (λ r. (w : ℕ) → IfSome (slice_get r.1.items w)
             (λ pass. IsPassOf r.0 pass × (view pass ≡ opening_view r.0 w))) }
     {
         laws_hold();
-        let nodes = setting.plan.nodes();
+        let nodes = setting.job.nodes();
         let workers = setting.workers;
-        let room = count_calls(&setting.plan, setting.acts.as_slice(), nodes);
+        let room = count_calls(&setting.job, nodes);
         let words = opening_words(alloc, workers as usize, nodes as usize)?;
         let slots = opening_slots(alloc, workers as usize, room)?;
         let (table, mut seat) = match Table::new(alloc, &words, slots, &setting) {

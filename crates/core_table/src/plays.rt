@@ -3,10 +3,10 @@ ghost use Rattle.core_table.specs.Shows.{Shown};
 ghost use Rattle.core_table.specs.Views.{first_view, pass_of, rest_of};
 ghost use Rattle.core_table.specs.Plays.{claimed, strayed, drawn, half_opened, opened, kept, finished, arrived, looked_at_root, heard, enrolled, posted, won, took, admitted, published, answered, released_shop, released_both, left, stopped_all, looked_at_stop};
 
-use crate::setting::Setting;
 use crate::slot::Slot;
 use crate::view::View;
 use atomic_table::{Play, Split, TableRule};
+use core_model::Setting;
 
 pub struct Law;
 

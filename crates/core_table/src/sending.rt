@@ -7,7 +7,7 @@ ghost use Rattle.atomic_table.specs.contracts.owned.Table.{the_row as words_row}
 ghost use Rattle.atomic_table.specs.contracts.shared.Seat.{the_row as seat_row};
 ghost use Rattle.core_table.specs.contracts.plays.Law.{the_row as law_row};
 ghost use Rattle.core_table.specs.contracts.plays.LawTableRuleSlotViewSetting.TheImpl.{ghosts as law_ghosts};
-ghost use Rattle.core_table.specs.contracts.setting.Setting.{the_row as setting_row};
+ghost use Rattle.core_model.specs.contracts.setting.Setting.{the_row as setting_row};
 ghost use Rattle.core_table.specs.contracts.slot.Slot.{the_row as slot_row};
 ghost use Rattle.core_table.specs.contracts.table.CoreTable.{the_row as table_row};
 ghost use Rattle.core_table.specs.contracts.table.Pass.{the_row as pass_row};
@@ -17,10 +17,10 @@ ghost use Rattle.std.specs.contracts.impls.GlobalAllocator.TheImpl.{ghosts as he
 ghost use Rattle.std.specs.contracts.vec.Vec.{the_row as list_row};
 
 use crate::plays::Law;
-use crate::setting::Setting;
 use crate::slot::Slot;
 use crate::view::View;
 use atomic_table::{Seat, Table};
+use core_model::Setting;
 use launch_batch::Shop;
 use std::alloc::Global;
 

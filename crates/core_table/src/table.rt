@@ -1,16 +1,18 @@
 //! The table and its passes.
-ghost use Rattle.std.specs.Prelude.{◌≡◌, ◌≢◌, ℕ, ◌+◌, ◌<◌, ◌≤◌, length, vec_len, vec_capacity};
+ghost use Rattle.std.specs.Prelude.{◌≡◌, ◌≢◌, ℕ, ◌+◌, ◌<◌, ◌≤◌, Some, length, vec_len, vec_capacity};
+ghost use Rattle.std.specs.Coded.{codes};
+ghost use Rattle.sp_order.specs.Jobs.{job_tree};
+ghost use Rattle.sp_order.specs.TreeEncoding.{coded_tree};
 ghost use Rattle.sp_order.specs.Precedence.{leaves};
 ghost use Rattle.core_table.specs.Shows.{job_of};
 
 use crate::plays::Law;
-use crate::setting::Setting;
 use crate::slot::Slot;
 use crate::view::View;
 use atomic_table::{Seat, Table};
-use core_model::{CallState, Task};
+use core_model::{CallState, Setting, Task};
 use seq_objects::Act;
-use sp_order::Plan;
+use sp_order::PlannedJob;
 use std::alloc::Global;
 
 /// The running table: the state of a core as words and slots, which all passes of the table share.
@@ -23,8 +25,9 @@ pub struct CoreTable {
     ghost sized: { (table.shared.table_id.words ≡ setting.workers + 4 + nodes + nodes + nodes)
         × (table.shared.table_id.slots ≡ setting.workers + 2) },
     ghost few: { (0 < setting.workers) × (setting.workers ≤ 32) × (nodes < 40000) × (0 < nodes) },
-    ghost acts: { (length setting.acts.items ≡ leaves setting.plan)
-        × (length setting.acts.items ≤ 20000) },
+    ghost shape: { setting.job.shape ≡ Some (job_tree setting.job) } by { Prim.hlevel (codes, coded_tree) },
+    ghost acts: { (length setting.job.acts ≡ leaves (job_tree setting.job))
+        × (length setting.job.acts ≤ 20000) },
 }
 
 /// The seat of one worker at a table. It is never copied, so what its worker has in hand is its own.
@@ -44,20 +47,20 @@ pub struct Pass {
 }
 
 impl CoreTable {
-    ghost use Rattle.core_table.specs.Passes.{tree_in, job_in};
+    ghost use Rattle.core_table.specs.Passes.{job_in, planned_in};
 
-    /// The nodes of the job. Memory: none.
-    pub fn plan(&self) -> &Plan
-        ensures { result.now ≡ tree_in self.now }
+    /// The job, with its plan. Memory: none.
+    pub fn job(&self) -> &PlannedJob
+        ensures { result.now ≡ planned_in self.now }
     {
-        &self.setting.plan
+        &self.setting.job
     }
 
     /// What a leaf does: no step of work, where the job has no leaf of this number. Memory: none.
     pub fn act(&self, leaf: u32) -> Act
         ensures { result ≡ (job_in self.now).act leaf }
     {
-        match self.setting.acts.get(leaf as usize) {
+        match self.setting.job.acts().get(leaf as usize) {
             Some(act) => *act,
             None => Act::Work(0),
         }

@@ -1,15 +1,24 @@
 -- Jobs, as contracts see them: a shape, and an act for each of its leaves.
-use Rattle.std.specs.Prelude.{◌≡◌, ◌≤◌, List, length, Option, refl}
+use Rattle.std.specs.Prelude.{◌≡◌, ◌≤◌, List, length, None, Option, Some, refl}
 use Rattle.std.specs.Coded.{Coded, code_by, coded×, coded_list, coded_option}
 use Rattle.seq_objects.specs.declared.act.Act.{Act}
 use Rattle.seq_objects.specs.contracts.act.Act as act
-use Rattle.sp_order.specs.Precedence.{Tree, leaf_count}
+use Rattle.sp_order.specs.Precedence.{Tree, leaf, leaf_count}
 use Rattle.sp_order.specs.TreeEncoding.{coded_tree}
 
 -- the shape, and what the leaves do, from left to right
 pub record JobValue : Type 0 where
   pub shape : Option Tree
   pub acts : List Act
+
+-- the tree of a shape, where there is one
+abbrev pub tree_or_leaf : Option Tree → Tree
+tree_or_leaf None = leaf
+tree_or_leaf (Some tree) = tree
+
+-- the tree of a job that has leaves
+abbrev pub job_tree : JobValue → Tree
+job_tree job = tree_or_leaf job.shape
 
 -- there is one act for each leaf, and there are not too many
 pub record IsJob (job : JobValue) : Type 0 where

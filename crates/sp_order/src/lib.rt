@@ -8,9 +8,11 @@ pub mod job;
 pub mod laws;
 pub mod node;
 pub mod plan;
+pub mod planned;
 pub mod shape;
 
 pub use job::Job;
 pub use node::{Kind, Move};
 pub use plan::Plan;
+pub use planned::PlannedJob;
 pub use shape::Shape;

@@ -1,6 +1,7 @@
 -- The nodes of the job of two adds.
 use Rattle.std.proofs.Common.{ℕ, zero, suc, ◌≡◌, ◌≢◌, ◌<◌, ◌-◌, Option as Maybe, Some, List, [], ◌∷◌, refl, sym, ap, ◌∙◌, subst, arith}
 use Rattle.std.proofs.lemmas.Bool.Decides.{nat_tests}
+use Rattle.sp_order.specs.Jobs.{tree_or_leaf}
 use Rattle.sp_order.specs.declared.node.Kind.TheVariants.{LeafNode, ParNode}
 use Rattle.sp_order.specs.declared.node.Move.TheVariants.{Arrive}
 use Rattle.sp_order.specs.Precedence.{Tree, leaf, par}
@@ -25,7 +26,7 @@ use Rattle.core_model.specs.Operations.{op_in, leaf_of}
 use Rattle.std.specs.Prelude.{slice_index_or}
 use Rattle.core_table.specs.declared.table.CoreTable.{CoreTable}
 use Rattle.core_table.specs.Passes.{job_in, IsInner, IsTickDue, IsOpenDue, IsArriveDue, IsFinished, half_if, opened_task}
-use Rattle.core_table.specs.Shows.{IsRecordOf}
+use Rattle.core_table.specs.Shows.{IsPostDue}
 use Rattle.table_tests.specs.Adds.{IsTwoAdds}
 
 -- the value of a leaf that called
@@ -35,7 +36,7 @@ called (Call o) op r e = refl
 
 pub root_kind : (t : CoreTable) → IsTwoAdds t → (job_in t).plan.kind 0 ≡ Some (ParNode 1 2)
 unfolding nodes_of
-root_kind t two = ap (λ (tree : Tree). (nodes_of tree).kind 0) two.tree
+root_kind t two = ap (λ (tree : Tree). (nodes_of tree).kind 0) (ap tree_or_leaf two.shape)
 
 leaf_in : (n : ℕ) → 0 < n → n < 3 → (nodes_of (par leaf leaf)).kind n ≡ Some (LeafNode (n - 1))
 unfolding nodes_of
@@ -45,7 +46,7 @@ leaf_in (suc (suc zero)) some few = refl
 leaf_in (suc (suc (suc n))) some few = absurd (omega (arith, few))
 
 pub leaf_kind : (t : CoreTable) (n : ℕ) → IsTwoAdds t → 0 < n → n < 3 → (job_in t).plan.kind n ≡ Some (LeafNode (n - 1))
-leaf_kind t n two some few = ap (λ (tree : Tree). (nodes_of tree).kind n) two.tree ∙ leaf_in n some few
+leaf_kind t n two some few = ap (λ (tree : Tree). (nodes_of tree).kind n) (ap tree_or_leaf two.shape) ∙ leaf_in n some few
 
 move_in : (n : ℕ) → 0 < n → n < 3 → (nodes_of (par leaf leaf)).after n ≡ Arrive 0
 unfolding nodes_of
@@ -55,7 +56,7 @@ move_in (suc (suc zero)) some few = refl
 move_in (suc (suc (suc n))) some few = absurd (omega (arith, few))
 
 pub leaf_move : (t : CoreTable) (n : ℕ) → IsTwoAdds t → 0 < n → n < 3 → (job_in t).plan.after n ≡ Arrive 0
-leaf_move t n two some few = ap (λ (tree : Tree). (nodes_of tree).after n) two.tree ∙ move_in n some few
+leaf_move t n two some few = ap (λ (tree : Tree). (nodes_of tree).after n) (ap tree_or_leaf two.shape) ∙ move_in n some few
 
 op_at : (n : ℕ) → 0 < n → n < 3 → op_in (slice_index_or (Call (CounterAdd 1) ∷ Call (CounterAdd 2) ∷ []) (n - 1) (Work 0)) ≡ Some (CounterAdd n)
 op_at zero some few = absurd (omega (arith, some))
@@ -77,8 +78,8 @@ pub half_opened : (t : CoreTable) (task : Task) → IsTwoAdds t → task ≡ Run
 half_opened t task two is = ap (opened_task (job_in t)) is ∙ ap (λ (k : Maybe Kind). half_if k 0) (root_kind t two)
 
 pub record_due : (t : CoreTable) (n start : ℕ) (task : Task) → IsTwoAdds t → 0 < n → n < 3 → task ≡ Started n start
-    → IsRecordOf (job_in t) task (record { leaf = n - 1; op = CounterAdd n })
-record_due t n start task two some few is = (n, start, is, leaf_kind t n two some few, leaf_op t n two some few)
+    → IsPostDue (job_in t) task (record { leaf = n - 1; op = CounterAdd n })
+record_due t n start task two some few is = (n, start, is, leaf_kind t n two some few, λ book. leaf_op t n two some few)
 
 value_at : (t : CoreTable) (n : ℕ) (r : Receipt) → IsTwoAdds t → 0 < n → n < 3
     → value_in ((job_in t).act (leaf_of ((job_in t).plan.kind n))) (Got r) ≡ Some (value_of r.reply)

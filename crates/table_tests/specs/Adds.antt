@@ -1,5 +1,5 @@
 -- The job of two adds, and where a pass of its table is.
-use Rattle.std.specs.Prelude.{ℕ, ◌≡◌, None, [], ◌∷◌}
+use Rattle.std.specs.Prelude.{ℕ, ◌≡◌, None, Some, [], ◌∷◌}
 use Rattle.sp_order.specs.Precedence.{leaf, par}
 use Rattle.seq_objects.specs.declared.act.Act.TheVariants.{Call}
 use Rattle.seq_objects.specs.declared.op.Op.TheVariants.{CounterAdd}
@@ -8,12 +8,12 @@ use Rattle.core_model.specs.declared.task.Task.TheVariants.{Started}
 use Rattle.core_model.specs.declared.status.CallState.{CallState}
 use Rattle.core_table.specs.declared.table.CoreTable.{CoreTable}
 use Rattle.core_table.specs.declared.table.Pass.{Pass}
-use Rattle.core_table.specs.Passes.{IsPassOf, tree_in, acts_in, job_in, view}
+use Rattle.core_table.specs.Passes.{IsPassOf, planned_in, job_in, view}
 
 -- the table is for `par { counter add 1 counter add 2 }`, and for two workers
 pub record IsTwoAdds (table : CoreTable) : Type 0 where
-  pub tree : tree_in table ≡ par leaf leaf
-  pub acts : acts_in table ≡ Call (CounterAdd 1) ∷ Call (CounterAdd 2) ∷ []
+  pub shape : (planned_in table).shape ≡ Some (par leaf leaf)
+  pub acts : (planned_in table).acts ≡ Call (CounterAdd 1) ∷ Call (CounterAdd 2) ∷ []
   pub workers : (job_in table).workers ≡ 2
 
 -- the pass is one of the table, its task and its call are these, and it has not the flag

@@ -1,7 +1,7 @@
 //! The running table: its calls, on small jobs.
 ghost use Rattle.std.specs.Prelude.{◌≡◌, ◌∷◌, [], IfOk, IfSome, IsSome};
 ghost use Rattle.seq_objects.specs.declared.act.Act.TheVariants.{Work};
-ghost use Rattle.core_table.specs.Passes.{acts_in};
+ghost use Rattle.core_table.specs.Passes.{planned_in};
 ghost use Rattle.table_tests.specs.Tables.{IsUnused, AreUnused};
 
 use crate::passes::last_pass;
@@ -34,13 +34,13 @@ pub(crate) fn tries(table: &CoreTable, pass: Pass) -> bool
 /// Whether a worker that runs the job of one leaf alone gets the report of that.
 fn alone(alloc: Global, table: CoreTable, pass: Pass) -> bool
     requires pass { IsUnused table pass }
-    requires acts { acts_in table ≡ Work 3 ∷ [] }
+    requires acts { (planned_in table).acts ≡ Work 3 ∷ [] }
 {
     let mut pass = pass;
-    if table.plan().nodes() == 0 || !table.claim(&mut pass, 0) {
+    if table.job().nodes() == 0 || !table.claim(&mut pass, 0) {
         return false;
     }
-    let Kind::LeafNode(0) = table.plan().kind(0) else {
+    let Kind::LeafNode(0) = table.job().kind(0) else {
         return false;
     };
     table.tick(&mut pass);

@@ -137,7 +137,7 @@ pub(crate) fn run_both<R: Threads + Wait + Sync, G: Pause + Sync>(
     let (crew, mut mes) = Crew::make(alloc, job, 2, pause)?;
     let mut one = mes.remove(1);
     let mut zero = mes.remove(0);
-    let nodes = crew.table.plan().nodes();
+    let nodes = crew.table.job().nodes();
     let (first, second) = work_as_crew(rt, alloc, &crew, &mut zero, &mut one, nodes, calls);
     let (Ok(first), Ok(second)) = (first, second) else {
         return Ok(None);

@@ -2,7 +2,8 @@
 use Rattle.std.specs.Prelude.{ℕ, ◌≡◌, ◌≢◌, ◌<◌, ◌+◌, ◌⊎◌, Bool, true, false, Option, Some, List, [], ◌∷◌, ◌++◌, length, map, take, slice_get}
 use Rattle.std.specs.List.{AllByRecursion}
 use Rattle.seq_objects.specs.declared.call.Call.{Call}
-use Rattle.worker_crew.specs.Words.{Entry, Receipt}
+use Rattle.core_model.specs.Words.{Entry}
+use Rattle.worker_crew.specs.Words.{Receipt}
 use Rattle.launch_batch.specs.Calls.{MayServe, IsServiceOf}
 
 -- How many workers it has looked at; the calls that it took, and the workers that it has answered, in order; whether it

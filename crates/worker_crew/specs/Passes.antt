@@ -2,11 +2,15 @@
 use Rattle.std.specs.Prelude.{ℕ, ◌≡◌, ◌≤◌, ◌+◌, Bool, true, false, Option, None, Some, List, [], ◌∷◌, ◌++◌, max, min, IfSome}
 use Rattle.seq_objects.specs.Spin.{spin_of}
 use Rattle.seq_objects.specs.Objects.{value_of}
-use Rattle.worker_crew.specs.Words.{Op, Call, Entry, Receipt, Task, Run, CallState, NotCalled, Out, Got}
+use Rattle.seq_objects.specs.declared.call.Call.{Call}
+use Rattle.core_model.specs.Words.{Op, Entry}
+use Rattle.worker_crew.specs.Words.{Receipt, Task, Run, CallState, NotCalled, Out, Got}
 use Rattle.core_model.specs.Entries.{StandsAt}
 use Rattle.worker_crew.specs.declared.step.Step.{Step}
 use Rattle.worker_crew.specs.declared.step.Step.TheVariants as steps
 use Rattle.worker_crew.specs.Holds.{HoldSeen, new_hold, after_take, after_pass, after_publish, after_answer}
+use Rattle.core_table.specs.Shows.{IsFront}
+pub use Rattle.core_table.specs.Shows.{IsFront}
 
 pub record PassSeen : Type 0 where
   -- whose pass it is; its task; and how far its call has come
@@ -125,10 +129,6 @@ staying p = record p { refused_leaves = p.refused_leaves + 1 }
 
 abbrev pub leaving : Receipt → List (List Entry) → PassSeen → PassSeen
 leaving receipt book p = record p { call = Got receipt; left = p.left ++ receipt ∷ []; book_seen = book }
-
--- the one list begins the other
-abbrev pub IsFront : {A : Type 0} → List A → List A → Type 0
-IsFront {A} xs ys = (more : List A) × (ys ≡ xs ++ more)
 
 -- the call that was posted stands in the book where the receipt says, with its worker
 abbrev pub IsBooked : ℕ → Option (ℕ × Op) → Receipt → List (List Entry) → Type 0

@@ -11,7 +11,9 @@ use Rattle.core_table.specs.declared.view.View.{View}
 use Rattle.core_table.specs.declared.table.CoreTable.{CoreTable}
 use Rattle.core_table.specs.declared.table.Pass.{Pass}
 use Rattle.core_table.specs.Passes.{IsPassOf, job_in, view}
-use Rattle.worker_crew.specs.Words.{Op, Call, Task, Idle, Run, NotCalled}
+use Rattle.seq_objects.specs.declared.call.Call.{Call}
+use Rattle.core_model.specs.Words.{Op}
+use Rattle.worker_crew.specs.Words.{Task, Idle, Run, NotCalled}
 use Rattle.worker_crew.specs.Holds.{HoldSeen}
 use Rattle.worker_crew.specs.Passes.{PassSeen}
 

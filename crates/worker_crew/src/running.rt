@@ -67,13 +67,13 @@ fn next_step(table: &CoreTable, task: Task, call: CallState) -> Option<Step>
     requires { TaskHere (job_in table.now) task }
     ensures { result ≡ next_step (job_in table.now) task call }
 {
-    let plan = table.plan();
+    let job = table.job();
     match task {
         Task::Idle => None,
-        Task::Run(node) => Some(step_run(plan.kind(node))),
+        Task::Run(node) => Some(step_run(job.kind(node))),
         Task::Half(_) => Some(Step::Open),
         Task::Started { node, start: _ } => {
-            let leaf = leaf_at(plan.kind(node));
+            let leaf = leaf_at(job.kind(node));
             step_started(table.act(leaf), leaf, call)
         }
         Task::Kept { node: _, start: _ } => Some(Step::End),
@@ -82,7 +82,7 @@ fn next_step(table: &CoreTable, task: Task, call: CallState) -> Option<Step>
             start: _,
             end: _,
         } => Some(Step::Finish),
-        Task::Whole(node) => step_whole(plan.after(node)),
+        Task::Whole(node) => step_whole(job.after(node)),
         Task::Handed(_) => Some(Step::Finish),
     }
 }

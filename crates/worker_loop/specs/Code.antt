@@ -1,2 +1,2 @@
--- The definitions of the code's own: which finders belong to which deques.
-pub mod Finders
+-- The definitions of the code's own: which hints belong to which deques.
+pub mod Hints

@@ -4,8 +4,8 @@ use Rattle.std.specs.Prelude.{List, length, slice_index, Option, Some, None}
 use Rattle.batcher_core.specs.Cores.{job_in, state_in, due_in, is_over_in, IsTurnResult}
 use Rattle.batcher_core.specs.Doings.{doing_in}
 use Rattle.batcher_core.specs.declared.turn.Turn.TheVariants as turns
-use Rattle.worker_loop.specs.declared.look.Look.{Look}
-use Rattle.worker_loop.specs.declared.look.Look.TheVariants.{Moved, Due, Idle, Ended}
+use Rattle.worker_loop.specs.declared.locked.turn.Look.{Look}
+use Rattle.worker_loop.specs.declared.locked.turn.Look.TheVariants.{Moved, Due, Idle, Ended}
 use Rattle.worker_loop.specs.Runs.{RunView}
 
 -- the newest node of a list that has become longer, or none

@@ -1,4 +1,4 @@
-//! A run in threads that take turns on one core, under one lock.
+//! The reference implementation of a run in threads, with the same promise: they take turns on one core, under one lock.
 ghost use Rattle.std.specs.Prelude.{◌≡◌, ◌<◌, ◌≤◌, Some, IfOk, false};
 ghost use Rattle.batch_history.specs.Lawful.{Lawful};
 ghost use Rattle.core_model.specs.Reports.{IsRunReport};
@@ -6,12 +6,17 @@ ghost use Rattle.core_model.specs.State.{opening_core};
 ghost use Rattle.batcher_core.specs.Cores.{state_in};
 ghost use Rattle.worker_loop.specs.Runs.{IsCoreOf};
 
-use crate::empty::report_of_empty;
-use crate::running::{GivenJob, Locked, Run};
-use crate::sending::cores_are_sent;
-use crate::worker::{Shared, work};
+mod hints;
+pub mod run;
+mod sending;
+pub mod turn;
+mod worker;
+
+use self::run::{JobBrand, LockedRun, Run};
+use self::sending::cores_are_sent;
+use self::worker::{Shared, work};
 use batch_history::Report;
-use batcher_core::Core;
+use batcher_core::{Core, report_of_empty};
 use bt_io::Pause;
 use sp_order::{Job, Plan};
 use std::alloc::{AllocError, Global};
@@ -24,7 +29,7 @@ use two_deques::{Decks, Hand};
 
 /// Lets so many workers run in threads, joins them, and gives the report. What they left is done on the
 /// caller's thread.
-fn run_in_threads<S: Locked + Send, R: Threads + Wait + Sync, G: Pause + Sync>(
+fn run_in_threads<S: LockedRun + Send, R: Threads + Wait + Sync, G: Pause + Sync>(
     rt: &R,
     alloc: Global,
     run: S,
@@ -34,9 +39,8 @@ fn run_in_threads<S: Locked + Send, R: Threads + Wait + Sync, G: Pause + Sync>(
 ) -> Result<Report, AllocError>
     requires workers { (workers ≡ S.workers) × (0 < workers) × (workers ≤ 32) }
     requires room { room ≤ 160000 }
-    ensures lawful { IfOk result
-        (λ report. Lawful (record { shape = Some S.tree; acts = S.acts }) S.workers report) }
-    ensures run { IfOk result (IsRunReport (record { shape = Some S.tree; acts = S.acts }) S.workers) }
+    ensures lawful { IfOk result (λ report. Lawful S.job S.workers report) }
+    ensures run { IfOk result (IsRunReport S.job S.workers) }
 {
     let (decks, hands) = Decks::make(alloc, workers, room, 0)?;
     let shared = Shared {
@@ -65,21 +69,20 @@ fn run_in_threads<S: Locked + Send, R: Threads + Wait + Sync, G: Pause + Sync>(
 }
 
 /// Runs the core of the given job in as many threads as it has workers.
-fn run_core<J: GivenJob + Send + Sync, R: Threads + Wait + Sync, G: Pause + Sync>(
+fn run_core<J: JobBrand + Send + Sync, R: Threads + Wait + Sync, G: Pause + Sync>(
     rt: &R,
     alloc: Global,
     core: Core,
     room: u32,
     pause: &G,
 ) -> Result<Report, AllocError>
-    requires job { IsCoreOf J.tree J.acts J.workers core }
+    requires job { IsCoreOf J.job J.workers core }
     requires unspent { core.spent ≡ false }
     requires opening { state_in core ≡ opening_core }
     requires few_workers { J.workers ≤ 32 }
     requires room { room ≤ 160000 }
-    ensures lawful { IfOk result
-        (λ report. Lawful (record { shape = Some J.tree; acts = J.acts }) J.workers report) }
-    ensures run { IfOk result (IsRunReport (record { shape = Some J.tree; acts = J.acts }) J.workers) }
+    ensures lawful { IfOk result (λ report. Lawful J.job J.workers report) }
+    ensures run { IfOk result (IsRunReport J.job J.workers) }
 {
     cores_are_sent();
     let workers = core.workers();

@@ -3,7 +3,8 @@ use Rattle.std.specs.Prelude.{ℕ, ◌≡◌, Option, None, Some, List}
 use Rattle.core_model.specs.Entries.{StandsAt}
 use Rattle.worker_crew.specs.declared.step.Step.{Step}
 use Rattle.worker_crew.specs.declared.step.Step.TheVariants as steps
-use Rattle.worker_crew.specs.Words.{Op, Entry, Receipt}
+use Rattle.core_model.specs.Words.{Op, Entry}
+use Rattle.worker_crew.specs.Words.{Receipt}
 
 -- the call of this leaf is to be made, with whatever operation
 abbrev pub IsCallDue : ℕ → Option Step → Type 0

@@ -2,7 +2,7 @@
 use Rattle.std.specs.Prelude.{ℕ, ◌≡◌, ◌≤◌, ◌+◌, ◌⊎◌, None, Some, List, [], ◌++◌, length}
 use Rattle.seq_objects.specs.declared.call.Call.{Call}
 use Rattle.seq_objects.specs.Batches.{AreInBatchOrder}
-use Rattle.worker_crew.specs.Words.{Entry}
+use Rattle.core_model.specs.Words.{Entry}
 use Rattle.launch_batch.specs.Calls.{AreSame}
 use Rattle.launch_batch.specs.Places.{places}
 use Rattle.worker_crew.specs.declared.crew.Stop.{Stop}

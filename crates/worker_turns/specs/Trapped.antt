@@ -1,7 +1,7 @@
 -- What each answer of a trapped worker's turn says: the path that it took.
 use Rattle.std.specs.Prelude.{ℕ, ◌≡◌, ◌⊎◌, None, List}
 use Rattle.two_deques.specs.declared.spot.Spot.{Spot}
-use Rattle.worker_crew.specs.Words.{Entry}
+use Rattle.core_model.specs.Words.{Entry}
 use Rattle.worker_turns.specs.declared.found.Tried.{Tried}
 use Rattle.worker_turns.specs.declared.found.Tried.TheVariants.{Ran}
 use Rattle.worker_turns.specs.declared.trapped.Trapped.{Trapped}

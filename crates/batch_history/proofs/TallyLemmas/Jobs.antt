@@ -17,6 +17,7 @@ use Rattle.batch_history.specs.Summary.{CanBeSummed, summary_of_report, summary_
 use Rattle.batch_history.specs.Tally.{over_replies, popped, queue_taken, new_keys, keys_found, last_sum, tally_of, tally_of_acts}
 use Rattle.batch_history.specs.declared.batch.Entry.{Entry}
 use Rattle.batch_history.specs.declared.report.Report.{Report}
+use Rattle.batch_history.proofs.ActLemmas.{acts_at}
 use Rattle.batch_history.proofs.TallyLemmas.Adding.{same_tally}
 use Rattle.batch_history.proofs.TallyLemmas.Emptied.{last_is, stack_left, pops_all, bag_left, takes_all}
 use Rattle.batch_history.proofs.TallyLemmas.Finds.{keys_are, finds_say, found_are}
@@ -70,7 +71,7 @@ module _ (job : JobValue) (workers : ℕ) (report : Report) (lawful : Lawful job
   entries = flat report.history
 
   pub totals : (count : Op → ℕ) → total count (acts_in entries) ≡ total count job.acts
-  totals = total_is job entries lawful.calls.leaves lawful.calls.operations
+  totals = total_is job entries lawful.calls.leaves (acts_at job.acts report.history entries lawful.calls.operations)
 
   pub keys : keys_inserted (acts_in entries) ≡ keys_inserted job.acts
   keys = same_keys (acts_in entries) job.acts (λ q. totals (inserts_key q))

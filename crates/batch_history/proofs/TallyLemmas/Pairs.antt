@@ -18,6 +18,7 @@ use Rattle.batch_history.specs.declared.report.Report.{Report}
 use Rattle.batch_history.specs.Book.{flat}
 use Rattle.batch_history.specs.Lawful.{Lawful}
 use Rattle.batch_history.specs.Filling.{StandsBefore}
+use Rattle.batch_history.proofs.ActLemmas.{acts_at}
 
 each_contained : {A : Type 0} (P : A → Type 0) (xs : List A) → ((x : A) → Contains xs x → P x) → AllByRecursion P xs
 each_contained P [] h = tt
@@ -85,7 +86,7 @@ module _ (job : JobValue) (workers : ℕ) (report : Report) (lawful : Lawful job
 
   called : (entry : Entry) (n : ℕ) → InBook report.history n entry → slice_get job.acts entry.leaf ≡ Some (Call entry.op)
   called entry n stands =
-      each_at (λ (e : Entry). slice_get job.acts e.leaf ≡ Some (Call e.op)) (flat report.history) entry lawful.calls.operations
+      each_at (λ (e : Entry). slice_get job.acts e.leaf ≡ Some (Call e.op)) (flat report.history) entry (acts_at job.acts report.history (flat report.history) lawful.calls.operations)
       (in_flat report.history n entry stands)
 
   -- what counts for the first comes before what counts for the second

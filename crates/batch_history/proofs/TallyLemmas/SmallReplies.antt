@@ -17,6 +17,7 @@ use Rattle.batch_history.specs.Book.{flat, IsLegalFrom}
 use Rattle.batch_history.specs.Serving.{acts_in}
 use Rattle.batch_history.specs.Lawful.{Lawful}
 use Rattle.batch_history.proofs.TallyLemmas.Jobs.{totals}
+use Rattle.batch_history.proofs.ActLemmas.{acts_at}
 
 abbrev AreSmall : List ℕ → Type 0
 AreSmall numbers = AllByRecursion (λ n. n < 2 ^ 32) numbers
@@ -133,5 +134,5 @@ acts_counted (act ∷ acts) = omega (arith, one_or_none act, acts_counted acts)
 pub small_replies_of : (job : JobValue) (workers : ℕ) (report : Report) → Lawful job workers report → length job.acts ≤ 2 ^ 32
     → AllByRecursion (λ act. count_of_act argument_of act < 2 ^ 32) job.acts → AllByRecursion (λ entry. value_of entry.reply < 2 ^ 64) (flat report.history)
 small_replies_of job workers report lawful few small =
-    small_replies (flat report.history) lawful.replies (called job.acts (flat report.history) small lawful.calls.operations)
+    small_replies (flat report.history) lawful.replies (called job.acts (flat report.history) small (acts_at job.acts report.history (flat report.history) lawful.calls.operations))
     (omega (arith, few, calls_counted (flat report.history), totals job workers report lawful (λ _. 1), acts_counted job.acts))

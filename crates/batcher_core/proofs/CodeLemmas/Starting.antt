@@ -1,6 +1,7 @@
 -- The opening table of a job has what a core keeps to.
-use Rattle.std.proofs.Common.{ℕ, ◌≡◌, ◌<◌, ◌≤◌, Option, Some, List, length, refl, sym, subst}
-use Rattle.core_model.proofs.Words.{Act, Tree, IsPlan, IsPlanOf, core_job}
+use Rattle.std.proofs.Common.{ℕ, ◌≡◌, ◌<◌, ◌≤◌, Some, length, ap, refl, sym, subst, ◌∙◌}
+use Rattle.core_model.proofs.Words.{Tree, leaves, IsPlan, IsPlanOf, core_job}
+use Rattle.sp_order.specs.Jobs.{JobValue, IsJob, job_tree}
 use Rattle.sp_order.specs.Precedence.{leaf_count}
 use Rattle.sp_order.specs.Preorder.{nodes_of}
 use Rattle.core_state.specs.declared.state.State.{State as StoredState}
@@ -21,20 +22,24 @@ pub shown_opening : (t : StoredState) → state_of t ≡ opening_state → ready
 unfolding opening_core
 shown_opening t state ready = rw (state, ready) refl
 
-pub opening_fits : (tree : Tree) (shape : Option Tree) (acts : List Act) (workers : ℕ) (t : StoredState) → 0 < workers → workers ≤ 32 → IsPlanOf (nodes_of tree) tree → IsPlan (nodes_of tree)
-    → (nodes_of tree).count < 40000 → Some tree ≡ shape → leaf_count shape ≡ length acts → length acts ≤ 20000 → HasShop t → Sizes t (nodes_of tree).count workers
-    → state_of t ≡ opening_state → ready_of t ≡ opening_core.ready → RepInvariant tree acts workers t
-opening_fits tree shape acts workers t some few stands laws most is leaves few_acts shop sizes state lists = record {
-  some = some;
-  few = few;
-  laws = laws;
-  most = most;
-  leaves = rw (sym is) at leaves;
-  leaves_in = leaves_in (nodes_of tree) tree (length acts) stands (rw (sym is) at leaves);
-  calls_in = calls_in tree acts workers stands (sym (rw (sym is) at leaves));
-  sizes = sizes;
-  few_acts = few_acts;
-  shop = shop;
-  inv = subst (Invariant (core_job tree acts workers)) (sym (shown_opening t state lists))
-      (opening_invariant (core_job tree acts workers) laws (has_root (nodes_of tree) tree stands) some);
-}
+pub opening_fits : (job : JobValue) (workers : ℕ) (t : StoredState) → 0 < workers → workers ≤ 32 → IsJob job → job.shape ≡ Some (job_tree job)
+    → IsPlanOf (nodes_of (job_tree job)) (job_tree job) → IsPlan (nodes_of (job_tree job)) → (nodes_of (job_tree job)).count < 40000
+    → HasShop t → Sizes t (nodes_of (job_tree job)).count workers → state_of t ≡ opening_state → ready_of t ≡ opening_core.ready → RepInvariant job workers t
+opening_fits job workers t some few is shape stands laws most shop sizes state lists =
+    let tree = job_tree job in
+    let all : leaves tree ≡ length job.acts = sym (ap leaf_count shape) ∙ is.leaves in
+    record {
+      some = some;
+      few = few;
+      shape = shape;
+      laws = laws;
+      most = most;
+      leaves = all;
+      leaves_in = leaves_in (nodes_of tree) tree (length job.acts) stands all;
+      calls_in = calls_in job workers stands (sym all);
+      sizes = sizes;
+      few_acts = is.most;
+      shop = shop;
+      inv = subst (Invariant (core_job job workers)) (sym (shown_opening t state lists))
+          (opening_invariant (core_job job workers) laws (has_root (nodes_of tree) tree stands) some);
+    }

@@ -1,5 +1,6 @@
 -- The turns that are left of a core in its rounds.
 use Rattle.std.proofs.Common.{ℕ, ◌≡◌, ◌<◌, ◌+◌, ◌%◌, false, arith, sym, subst}
+use Rattle.sp_order.specs.Jobs.{job_tree}
 use Rattle.sp_order.specs.Preorder.{nodes_of}
 use Rattle.core_model.proofs.Words.{IsPlanOf, CoreJob}
 use Rattle.core_model.specs.Runs.{IsTurn}
@@ -10,12 +11,12 @@ use Rattle.core_state.proofs.CodeLemmas.KeptParts.{kept_parts}
 use Rattle.batcher_core.proofs.RunLemmas.Taken.{SameJob, job_same, goes_on}
 
 -- each turn lowers the count of those that are left
-pub round_fewer : (first core next : CoreView) (workers robin : ℕ) → SameJob first core → RepInvariant core.tree core.acts core.workers core.table → IsPlanOf (nodes_of core.tree) core.tree
+pub round_fewer : (first core next : CoreView) (workers robin : ℕ) → SameJob first core → RepInvariant core.job core.workers core.table → IsPlanOf (nodes_of (job_tree core.job)) (job_tree core.job)
     → workers ≡ first.workers → robin < workers → is_over_in core ≡ false → core.spent ≡ false → IsTurn (job_in core) (state_in core) robin (state_in next)
     → turns_left (job_in first) (state_in next) ((robin + 1) % workers) < turns_left (job_in first) (state_in core) robin
 round_fewer first core next workers robin same fits plan all below more unspent turn =
-    let few = same.2 in
-    let fewer = turns_fewer (job_in core) core.tree (state_in core) (state_in next) robin fits.laws plan (kept_parts core.tree core.acts core.workers core.table fits) fits.inv.lists (omega (arith, below, all, few)) (goes_on _ _ more unspent) turn in
+    let few = same.1 in
+    let fewer = turns_fewer (job_in core) (job_tree core.job) (state_in core) (state_in next) robin fits.laws plan (kept_parts core.job core.workers core.table fits) fits.inv.lists (omega (arith, below, all, few)) (goes_on _ _ more unspent) turn in
     let first_fewer : turns_left (job_in first) (state_in next) ((robin + 1) % first.workers) < turns_left (job_in first) (state_in core) robin =
     subst (λ (job : CoreJob). turns_left job (state_in next) ((robin + 1) % job.workers) < turns_left job (state_in core) robin) (job_same first core same) fewer in
     subst (λ (n : ℕ). turns_left (job_in first) (state_in next) ((robin + 1) % n) < turns_left (job_in first) (state_in core) robin) (sym all) first_fewer

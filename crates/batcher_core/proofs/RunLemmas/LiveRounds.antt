@@ -70,7 +70,7 @@ none_live job live s laws h rest w on event next step =
     none_has_no_event job s w laws among (parts_carried job s.state h.parts) h.lists (rest w among on) event step.happens.needs
 
 -- the whole round, in which all have rested
-pub round_rests : (first core : CoreView) (live : ℕ → Bool) (i : ℕ) → SameJob first core → RepInvariant core.tree core.acts core.workers core.table → i ≡ first.workers
+pub round_rests : (first core : CoreView) (live : ℕ → Bool) (i : ℕ) → SameJob first core → RepInvariant core.job core.workers core.table → i ≡ first.workers
     → RestBelow (job_in first) live (state_in core) i → NoLiveEvent (job_in first) live (state_in core)
 round_rests first core live i same fits end rest =
     let job = job_same first core same in
@@ -95,7 +95,7 @@ lowers_both false true a b c h g = (let low = h.0 in let then' = g.0 in omega (a
 lowers_both false false a b c h g = (let low = h.0 in let then' = g.0 in omega (arith, low, then'), λ e. absurd cc)
 
 -- the turn of worker i, after those before it in the round
-module _ (first core next : CoreView) (live : ℕ → Bool) (i : ℕ) (same : SameJob first core) (fits : RepInvariant core.tree core.acts core.workers core.table) (below : i < core.workers)
+module _ (first core next : CoreView) (live : ℕ → Bool) (i : ℕ) (same : SameJob first core) (fits : RepInvariant core.job core.workers core.table) (below : i < core.workers)
     (turn : IsTurn (job_in core) (state_in core) i (state_in next)) (moved : Bool) (is : moved ≡ is_some (choice (job_in core) (state_in core) i)) (before : Bool) where
   pub lowers_after : Lowers (job_in first) (state_in first) (state_in core) before → Lowers (job_in first) (state_in first) (state_in next) (before || moved)
   lowers_after h =

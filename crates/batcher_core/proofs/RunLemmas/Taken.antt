@@ -1,21 +1,21 @@
 -- What the turns of a run have made.
 use Rattle.std.proofs.Common.{ℕ, ◌≡◌, ◌<◌, ◌+◌, ◌%◌, ◌&&◌, not, Bool, true, false, List, [], sym, ◌∙◌, ap, subst, inl, inr, length, drop, slice_index_or}
 use Rattle.std.proofs.lemmas.List.{drop_more}
-use Rattle.core_model.proofs.Words.{Act, Tree, CoreJob, CoreState, core_job, is_done}
+use Rattle.sp_order.specs.Jobs.{JobValue}
+use Rattle.core_model.proofs.Words.{CoreJob, CoreState, core_job, is_done}
 use Rattle.core_model.specs.Runs.{IsTurn, Drives, over, by_schedule, by_robin}
 use Rattle.batcher_core.specs.Cores.{CoreView, job_in, state_in, is_over_in}
 use Rattle.core_model.proofs.RunLemmas.OneRun.{over_or}
 
 -- a core shows the same job
 abbrev pub SameJob : CoreView → CoreView → Type 0
-SameJob old new = (new.tree ≡ old.tree) × (new.acts ≡ old.acts) × (new.workers ≡ old.workers)
+SameJob old new = (new.job ≡ old.job) × (new.workers ≡ old.workers)
 
 pub job_same : (old new : CoreView) → SameJob old new → job_in new ≡ job_in old
-job_same old new same = ap (λ (tree : Tree). core_job tree new.acts new.workers) same.0 ∙ ap (λ (acts : List Act). core_job old.tree acts new.workers) same.1
-    ∙ ap (λ (workers : ℕ). core_job old.tree old.acts workers) same.2
+job_same old new same = ap (λ (job : JobValue). core_job job new.workers) same.0 ∙ ap (core_job old.job) same.1
 
 pub same_since : (first old new : CoreView) → SameJob first old → SameJob old new → SameJob first new
-same_since first old new h g = (g.0 ∙ h.0, g.1 ∙ h.1, g.2 ∙ h.2)
+same_since first old new h g = (g.0 ∙ h.0, g.1 ∙ h.1)
 
 -- a core that is not spent and not over has more to do
 pub goes_on : (spent done : Bool) → (not spent && done) ≡ false → spent ≡ false → done ≡ false

@@ -6,7 +6,7 @@ use Rattle.std.proofs.lemmas.Bool.{cases_eq, cases_lt, cases_Bool}
 use Rattle.seq_objects.specs.Batches.{AreInBatchOrder}
 use Rattle.seq_objects.specs.declared.call.Call.{Call}
 use Rattle.core_model.proofs.Words.{Op, Kind, Entry, Publish, Task, Started, CoreJob, State}
-use Rattle.core_model.specs.Operations.{IsCall, IsLeaf, leaf_of, op_in}
+use Rattle.core_model.specs.Operations.{IsCall, IsLeaf, leaf_of, op_of}
 use Rattle.core_model.specs.Events.{Needs, IsBatchOf}
 use Rattle.core_model.specs.Invariant.Statuses.{IsAtCall}
 use Rattle.core_model.specs.Invariant.Tasks.{TaskFits}
@@ -80,14 +80,14 @@ some_op None some = absurd (some refl)
 some_op (Some op) some = (op, refl)
 
 -- a worker that is at a call has a call
-call_at : (job : CoreJob) (task : Task) (w : ℕ) → IsAtCall job task → ((n start : ℕ) → task ≡ Started n start → IsLeaf (job.plan.kind n))
-    → (call : Call) × (call.worker ≡ w) × IsCallOf job task call
-call_at job task w at_call at_leaf =
+call_at : (job : CoreJob) (book : List (List Entry)) (task : Task) (w : ℕ) → IsAtCall job task → ((n start : ℕ) → task ≡ Started n start → IsLeaf (job.plan.kind n))
+    → (call : Call) × (call.worker ≡ w) × IsCallOf job book task call
+call_at job book task w at_call at_leaf =
     let started = at_call_started job task at_call in
     let leaf = at_leaf started.0 started.1 started.2 in
     let calls : IsAtCall job (Started started.0 started.1) = subst (IsAtCall job) started.2 at_call in
     let calls_leaf : IsCall job leaf.0 = subst (λ (kind : Option Kind). IsCall job (leaf_of kind)) leaf.1 calls in
-    let op = some_op (op_in (job.act leaf.0)) calls_leaf in
+    let op = some_op (op_of job.act book leaf.0) calls_leaf in
     (record { worker = w; leaf = leaf.0; op = op.0 }, refl, (started.0, started.1, leaf.1, started.2, op.1))
 
 -- a task that is started names a leaf
@@ -97,26 +97,26 @@ started_leaf job s h w n start is =
     fits.0
 
 -- the calls of the workers below a number, in batch order
-record TakenUpTo (job : CoreJob) (task : ℕ → Task) (taken : ℕ → Bool) (bound : ℕ) : Type 0 where
+record TakenUpTo (job : CoreJob) (book : List (List Entry)) (task : ℕ → Task) (taken : ℕ → Bool) (bound : ℕ) : Type 0 where
   calls : List Call
-  are : TakenOf job task taken bound calls
+  are : TakenOf job book task taken bound calls
   order : AreInBatchOrder calls
 
-module _ (job : CoreJob) (task : ℕ → Task) (taken : ℕ → Bool) where
+module _ (job : CoreJob) (book : List (List Entry)) (task : ℕ → Task) (taken : ℕ → Bool) where
   -- one more worker is taken
-  with_call : (bound : ℕ) → TakenUpTo job task taken bound → (call : Call) → call.worker ≡ bound → IsCallOf job (task bound) call → taken bound ≡ true
-      → TakenUpTo job task taken (suc bound)
+  with_call : (bound : ℕ) → TakenUpTo job book task taken bound → (call : Call) → call.worker ≡ bound → IsCallOf job book (task bound) call → taken bound ≡ true
+      → TakenUpTo job book task taken (suc bound)
   with_call bound h call at is took =
       let apart = each_so (λ (other : Call). other.worker < bound) (λ (other : Call). other.worker ≢ call.worker) (λ other less same. absurd (omega (arith, less, same, at))) h.calls h.are.below in
       let parts = place call h.calls apart h.order in
-      let more = one_among job task taken bound parts.before parts.later call at is took (subst (TakenOf job task taken bound) parts.whole h.are) in
+      let more = one_among job book task taken bound parts.before parts.later call at is took (subst (TakenOf job book task taken bound) parts.whole h.are) in
       record {
         calls = parts.before ++ call ∷ parts.later;
-        are = subst (λ (n : ℕ). TakenOf job task taken n (parts.before ++ call ∷ parts.later)) (omega arith) more;
+        are = subst (λ (n : ℕ). TakenOf job book task taken n (parts.before ++ call ∷ parts.later)) (omega arith) more;
         order = parts.order;
       }
 
-  without_call : (bound : ℕ) → TakenUpTo job task taken bound → taken bound ≡ false → TakenUpTo job task taken (suc bound)
+  without_call : (bound : ℕ) → TakenUpTo job book task taken bound → taken bound ≡ false → TakenUpTo job book task taken (suc bound)
   without_call bound h not = record {
     calls = h.calls;
     are = record {
@@ -134,7 +134,7 @@ module _ (job : CoreJob) (task : ℕ → Task) (taken : ℕ → Bool) where
   }
 
   -- they can be found one after another
-  taken_up_to : ((w : ℕ) → taken w ≡ true → (call : Call) × (call.worker ≡ w) × IsCallOf job (task w) call) → (bound : ℕ) → TakenUpTo job task taken bound
+  taken_up_to : ((w : ℕ) → taken w ≡ true → (call : Call) × (call.worker ≡ w) × IsCallOf job book (task w) call) → (bound : ℕ) → TakenUpTo job book task taken bound
   taken_up_to has zero = record {
     calls = [];
     are = record { taken = record { distinct = tt; only = tt; each = λ w below took. absurd (omega (arith, below)) }; below = tt };
@@ -148,11 +148,11 @@ module _ (job : CoreJob) (task : ℕ → Task) (taken : ℕ → Bool) where
 -- so there is a batch for a publish to serve
 pub batch_exists : (job : CoreJob) (s : State) (w : ℕ) → InductiveParts job s → Needs job s w Publish → (batch : List Entry) × IsBatchOf job s batch
 batch_exists job s w h needs =
-    let all = taken_up_to job s.task needs.0.taken
-    (λ v took. call_at job (s.task v) v (taken_at_call job s needs.0 h needs.1.0 needs.4 v took) (started_leaf job s h v)) job.workers in
+    let all = taken_up_to job s.book s.task needs.0.taken
+    (λ v took. call_at job s.book (s.task v) v (taken_at_call job s needs.0 h needs.1.0 needs.4 v took) (started_leaf job s h v)) job.workers in
     let entries = replied s.objects all.calls in
     let are = sym (replied_are s.objects all.calls) in (
       entries,
-      batch_made job s needs.0 h needs.1.0 entries needs.3 (subst (AreTakenCalls job s.task needs.0.taken) are all.are.taken)
+      batch_made job s needs.0 h needs.1.0 entries needs.3 (subst (AreTakenCalls job s.book s.task needs.0.taken) are all.are.taken)
           (subst AreInBatchOrder are all.order) (replied_legal s.objects all.calls),
     )

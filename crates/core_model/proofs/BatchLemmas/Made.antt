@@ -59,14 +59,14 @@ module _ (job : CoreJob) (s : State) (hd : Hold) (h : InductiveParts job s) (the
       let answered : hd.answered w ≡ false = grind (arith, hold_stands.6 w) in
       let owed : is_taken_by (Some hd) w ≡ true = rw (took, answered) refl in rw there owed
 
-  module _ (entries : List Entry) (taken : AreTakenCalls job s.task hd.taken (calls_in entries)) where
+  module _ (entries : List Entry) (taken : AreTakenCalls job s.book s.task hd.taken (calls_in entries)) where
     workers_same : map (λ (call : Call). call.worker) (calls_in entries) ≡ map (λ (e : Entry). e.worker) entries
     workers_same = map-map (λ (call : Call). call.worker) call_in entries
 
     each_taken : (w : ℕ) → hd.taken w ≡ true → Contains (map (λ (e : Entry). e.worker) entries) w
     each_taken w took = rw workers_same at (taken.each w (taken_below w took) took)
 
-    taken_call : (e : Entry) → (hd.taken e.worker ≡ true) × IsCallOf job (s.task e.worker) (call_in e) → IsTakenCall job s e
+    taken_call : (e : Entry) → (hd.taken e.worker ≡ true) × IsCallOf job s.book (s.task e.worker) (call_in e) → IsTakenCall job s e
     taken_call e is = record {
       taken = ap (λ o. has_taken o e.worker) there ∙ is.0;
       node = is.1.0;
@@ -75,8 +75,8 @@ module _ (job : CoreJob) (s : State) (hd : Hold) (h : InductiveParts job s) (the
     }
 
     pub only_taken : AllByRecursion (IsTakenCall job s) entries
-    only_taken = each_so (λ (e : Entry). (hd.taken e.worker ≡ true) × IsCallOf job (s.task e.worker) (call_in e)) (IsTakenCall job s) taken_call entries
-        (unmapped call_in (λ (call : Call). (hd.taken call.worker ≡ true) × IsCallOf job (s.task call.worker) call) entries taken.only)
+    only_taken = each_so (λ (e : Entry). (hd.taken e.worker ≡ true) × IsCallOf job s.book (s.task e.worker) (call_in e)) (IsTakenCall job s) taken_call entries
+        (unmapped call_in (λ (call : Call). (hd.taken call.worker ≡ true) × IsCallOf job s.book (s.task call.worker) call) entries taken.only)
 
     made : (u : ℕ) × (hd.taken u ≡ true) → AreInBatchOrder (calls_in entries) → IsLegalFrom s.objects entries → IsBatchOf job s entries
     made some order legal = record {
@@ -91,6 +91,6 @@ module _ (job : CoreJob) (s : State) (hd : Hold) (h : InductiveParts job s) (the
     }
 
   -- the entries of the calls that were taken make a batch, where they are in batch order
-  pub batch_made : (entries : List Entry) → (u : ℕ) × (hd.taken u ≡ true) → AreTakenCalls job s.task hd.taken (calls_in entries)
+  pub batch_made : (entries : List Entry) → (u : ℕ) × (hd.taken u ≡ true) → AreTakenCalls job s.book s.task hd.taken (calls_in entries)
       → AreInBatchOrder (calls_in entries) → IsLegalFrom s.objects entries → IsBatchOf job s entries
   batch_made entries some taken order legal = made entries taken some order legal

@@ -1,6 +1,7 @@
 -- The leaves of a job that call have numbers below that of its nodes.
 use Rattle.std.proofs.Common.{ℕ, zero, suc, ◌≡◌, ◌≢◌, ◌<◌, ◌≤◌, None, List, [], ◌∷◌, length, get_or, arith, refl}
 use Rattle.core_model.proofs.Words.{Act, Work, Tree, leaf, seq, par, leaves, node_count, IsPlanOf, core_job}
+use Rattle.sp_order.specs.Jobs.{JobValue, job_tree}
 use Rattle.sp_order.specs.Preorder.{nodes_of}
 use Rattle.core_model.specs.Operations.{op_in, IsCall}
 
@@ -16,9 +17,9 @@ leaves_few leaf = omega arith
 leaves_few (seq left right) = let l = leaves_few left in let r = leaves_few right in omega (arith, l, r)
 leaves_few (par left right) = let l = leaves_few left in let r = leaves_few right in omega (arith, l, r)
 
-pub calls_in : (tree : Tree) (acts : List Act) (workers : ℕ) → IsPlanOf (nodes_of tree) tree → length acts ≡ leaves tree
-    → (u : ℕ) → IsCall (core_job tree acts workers) u → u < (nodes_of tree).count
-calls_in tree acts workers stands len u call =
-    let within = call_within acts u call in
-    let few = leaves_few tree in
+pub calls_in : (job : JobValue) (workers : ℕ) → IsPlanOf (nodes_of (job_tree job)) (job_tree job) → length job.acts ≡ leaves (job_tree job)
+    → (u : ℕ) → IsCall (core_job job workers) u → u < (nodes_of (job_tree job)).count
+calls_in job workers stands len u call =
+    let within = call_within job.acts u call in
+    let few = leaves_few (job_tree job) in
     omega (arith, within, few, len, stands.count)

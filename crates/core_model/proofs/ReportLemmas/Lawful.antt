@@ -1,6 +1,6 @@
 -- The report of a run that has ended is lawful.
 use Rattle.std.proofs.Common.{ℕ, ◌≡◌, ◌<◌, Option, Some, None, List, length, map, Contains, refl, ap}
-use Rattle.std.specs.Prelude.{slice_get, slice_index_or, IsSomeAnd}
+use Rattle.std.specs.Prelude.{slice_get, IsSomeAnd}
 use Rattle.std.proofs.lemmas.Option.{get_or_from_slice_get, slice_get_within}
 use Rattle.seq_objects.specs.Objects.{value_of}
 use Rattle.core_model.proofs.Words.{Act, Work, Call, Tree, leaves, IsBySeries, Entry, CoreJob, State, core_job}
@@ -12,29 +12,34 @@ use Rattle.batch_history.specs.declared.report.Report.{Report}
 use Rattle.seq_objects.specs.Pairs.{HasEachOnce}
 use Rattle.batch_history.specs.Book.{flat}
 use Rattle.batch_history.specs.Lawful.{HasRows, KeepsOrder, IsCallLeaf, HasCalls, KeepsTicks, HasValues, Lawful}
-use Rattle.core_model.specs.Operations.{op_in}
+use Rattle.batch_history.specs.Operations.{act_of, op_in, op_of}
+use Rattle.batch_history.proofs.ActLemmas.{act_at}
 use Rattle.core_model.specs.Reports.{IsRowOf, IsReportOf}
 use Rattle.core_model.proofs.BookLemmas.EntryLists.{each_so, each_at, each_mapped}
 use Rattle.core_model.proofs.ReportLemmas.EndedRuns.{IsEnded}
 use Rattle.core_model.proofs.ReportLemmas.RowTicks.{row_starts_first, ticks_each_once}
 use Rattle.core_model.proofs.ReportLemmas.RowOrder.{IsRowAt, row_at, before_ended, alone_ended}
-use Rattle.core_model.proofs.ReportLemmas.RowCalls.{act_at, contained, calls, call_in, worker_is, entry_earlier, work_valued, call_valued}
+use Rattle.core_model.proofs.ReportLemmas.RowCalls.{contained, calls, call_in, worker_is, entry_earlier, work_valued, call_valued}
 
 -- what is found in a choice
 in_some : {A : Type 0} (P : A → Type 0) (o : Option A) → IsSomeAnd o P → (x : A) × (o ≡ Some x) × P x
 in_some P None h = absurd h
 in_some P (Some x) h = (x, refl, h)
 
+-- the job of this tree, whose leaves do these acts
+abbrev pub job_with : Tree → List Act → JobValue
+job_with tree acts = record { shape = Some tree; acts = acts }
+
 module _ (tree : Tree) (acts : List Act) (workers : ℕ) (s : State) (report : Report) (fits : length acts ≡ leaves tree)
     (series : (u v : ℕ) → u < leaves tree → v < leaves tree → IsBefore (Some tree) u v → IsBySeries (nodes_of tree) ((nodes_of tree).node_of u) ((nodes_of tree).node_of v))
-    (h : IsEnded (core_job tree acts workers) (leaves tree) s) (r : IsReportOf (core_job tree acts workers) (leaves tree) s report) where
+    (h : IsEnded (core_job (job_with tree acts) workers) (leaves tree) s) (r : IsReportOf (core_job (job_with tree acts) workers) (leaves tree) s report) where
   -- the job, as reports know it
   abbrev value : JobValue
-  value = record { shape = Some tree; acts = acts }
+  value = job_with tree acts
 
   -- and as the core does
   abbrev job : CoreJob
-  job = core_job tree acts workers
+  job = core_job (job_with tree acts) workers
 
   -- the row at the place of a leaf
   row_of : (leaf : ℕ) (row : Row) → slice_get report.rows leaf ≡ Some row → IsRowAt job (leaves tree) s leaf row
@@ -59,12 +64,12 @@ module _ (tree : Tree) (acts : List Act) (workers : ℕ) (s : State) (report : R
   }
 
   -- what a leaf does
-  does : (leaf : ℕ) (act : Act) → slice_get acts leaf ≡ Some act → slice_index_or acts leaf (Work 0) ≡ act
+  does : (leaf : ℕ) (act : Act) → slice_get acts leaf ≡ Some act → act_of acts leaf ≡ act
   does leaf act is = get_or_from_slice_get acts leaf act (Work 0) is
 
   -- an entry is that of a leaf that calls
   entry_calls : (e : Entry) → Contains (flat s.book) e → slice_get acts e.leaf ≡ Some (Call e.op)
-  entry_calls e there = act_at acts e.leaf e.op (each_at (λ (x : Entry). op_in (slice_index_or acts x.leaf (Work 0)) ≡ Some x.op) (flat s.book) e h.parts.book.operations there)
+  entry_calls e there = act_at acts e.leaf e.op (each_at (λ (x : Entry). op_of (act_of acts) s.book x.leaf ≡ Some x.op) (flat s.book) e h.parts.book.operations there)
 
   -- the leaves of the book
   calls_each_once : HasEachOnce (IsCallLeaf value) (map (λ (e : Entry). e.leaf) (flat s.book))
@@ -81,7 +86,7 @@ module _ (tree : Tree) (acts : List Act) (workers : ℕ) (s : State) (report : R
   has_calls : HasCalls value report
   has_calls = record {
     leaves = rw r.history calls_each_once;
-    operations = rw r.history (each_so (Contains (flat s.book)) (λ e. slice_get acts e.leaf ≡ Some (Call e.op)) entry_calls (flat s.book) (contained (flat s.book)));
+    operations = rw r.history h.parts.book.operations;
     workers = rw r.history (each_so (Contains (flat s.book)) (λ e. (row : Row) → slice_get report.rows e.leaf ≡ Some row → row.worker ≡ e.worker)
         (λ e there row is. worker_is job (leaves tree) s h e row there (row_of e.leaf row is))
         (flat s.book) (contained (flat s.book)));

@@ -1,6 +1,6 @@
 -- What the book of a run that has ended says of the rows of its leaves.
 use Rattle.std.proofs.Common.{ℕ, zero, suc, ◌≡◌, ◌<◌, inl, inr, true, Some, List, [], ◌∷◌, Contains, arith, refl, sym, subst, ◌∙◌, ap}
-use Rattle.std.specs.Prelude.{slice_get, slice_index_or}
+use Rattle.std.specs.Prelude.{slice_get}
 use Rattle.std.specs.List.{AllByRecursion}
 use Rattle.std.proofs.lemmas.List.Elements.{recursion_from_All, All-contains_itself}
 use Rattle.seq_objects.specs.Objects.{value_of}
@@ -17,13 +17,6 @@ use Rattle.core_model.proofs.ReportLemmas.EndedRuns.{IsEnded}
 use Rattle.core_model.proofs.BookLemmas.EntryPlaces.{leaves_of, contains_leaf, in_flat, entry_placed, entry_there, one_entry}
 use Rattle.core_model.proofs.ReportLemmas.OneReport.{same_ran, same_some}
 use Rattle.core_model.proofs.ReportLemmas.RowOrder.{IsRowAt}
-
--- the act of a leaf that calls
-pub act_at : (acts : List Act) (leaf : ℕ) (op : Op) → op_in (slice_index_or acts leaf (Work 0)) ≡ Some op → slice_get acts leaf ≡ Some (Call op)
-act_at [] leaf op is = cc
-act_at (Work steps ∷ acts) zero op is = cc
-act_at (Call other ∷ acts) zero op is = let same : other ≡ op = cc in ap (λ o. Some (Call o)) same
-act_at (act ∷ acts) (suc leaf) op is = act_at acts leaf op is
 
 -- a list contains each of its entries
 pub contained : (es : List Entry) → AllByRecursion (Contains es) es

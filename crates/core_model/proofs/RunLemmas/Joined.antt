@@ -3,7 +3,8 @@ use Rattle.std.proofs.Common.{ℕ, ◌≡◌, Option, None, Some, List, [], ◌�
 use Rattle.batch_history.specs.declared.report.Report.{Report}
 use Rattle.core_model.proofs.Words.{CoreJob, CoreState}
 use Rattle.core_model.specs.State.{opening_core}
-use Rattle.core_model.specs.Words.{Act, Tree}
+use Rattle.core_model.specs.Words.{Tree}
+use Rattle.sp_order.specs.Jobs.{JobValue}
 use Rattle.core_model.specs.Runs.{Step, ReachesFrom, IsReached, steps_of}
 use Rattle.core_model.specs.Reports.{IsDrivenFrom, IsDrivenShape, IsRunFrom, IsRunShape}
 use Rattle.core_model.proofs.RunLemmas.Facts.{drives_done, drives_lead, turns_reach}
@@ -24,10 +25,10 @@ driven_from job leaf_total first schedule report driven = record {
   reports = driven.reports;
 }
 
-pub driven_shape : (shape : Option Tree) (acts : List Act) (workers : ℕ) (schedule : List ℕ) (report : Report) → IsDrivenShape shape acts workers schedule report
-    → IsRunShape shape acts workers report
-driven_shape None acts workers schedule report same = same
-driven_shape (Some tree) acts workers schedule report driven = driven_from _ _ _ schedule report driven
+pub driven_shape : (shape : Option Tree) (job : JobValue) (workers : ℕ) (schedule : List ℕ) (report : Report) → IsDrivenShape shape job workers schedule report
+    → IsRunShape shape job workers report
+driven_shape None job workers schedule report same = same
+driven_shape (Some tree) job workers schedule report driven = driven_from _ _ _ schedule report driven
 
 pub goes_on : (job : CoreJob) (leaf_total : ℕ) (first : CoreState) (report : Report) → IsReached job first → IsRunFrom job leaf_total first report
     → IsRunFrom job leaf_total opening_core report

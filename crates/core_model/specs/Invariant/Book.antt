@@ -20,7 +20,7 @@ pub record BookInvariant (job : CoreJob) (s : State) : Type 0 where
   pub among : AllByRecursion (λ entry. entry.worker < job.workers) (flat s.book)
   -- its leaves are distinct, each a leaf of the job that calls, with its operation
   pub leaves : AreDistinct (map (λ entry. entry.leaf) (flat s.book))
-  pub operations : AllByRecursion (λ entry. op_of job s.book entry.leaf ≡ Some entry.op) (flat s.book)
+  pub operations : AllByRecursion (λ entry. op_of job.act s.book entry.leaf ≡ Some entry.op) (flat s.book)
   -- where a leaf u that calls has an end, and an entry's leaf v has a start above that end, u stands in an earlier
   -- batch than v
   pub in_order : (n m u v w x a b d : ℕ) → job.plan.kind n ≡ Some (LeafNode u) → job.plan.kind m ≡ Some (LeafNode v) → IsCall job u

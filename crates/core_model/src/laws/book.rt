@@ -3,10 +3,10 @@
 ghost use Rattle.std.specs.Prelude.{◌≡◌, ◌≢◌, ℕ, ◌<◌, ◌≤◌, ◌+◌, ◌⊎◌, true, false, None, Some, List, [], ◌∷◌, ◌++◌, length, map, Contains};
 ghost use Rattle.std.specs.List.{AllByRecursion};
 ghost use Rattle.seq_objects.specs.Pairs.{AreDistinct};
-ghost use Rattle.seq_objects.specs.declared.act.Act.{Act};
 ghost use Rattle.seq_objects.specs.declared.op.Op.{Op};
 ghost use Rattle.sp_order.specs.declared.node.Kind.TheVariants.{LeafNode};
-ghost use Rattle.sp_order.specs.Precedence.{Tree, leaves};
+ghost use Rattle.sp_order.specs.Jobs.{JobValue, job_tree};
+ghost use Rattle.sp_order.specs.Precedence.{leaves};
 ghost use Rattle.sp_order.specs.Plans.{IsPlan};
 ghost use Rattle.batch_history.specs.Book.{flat};
 ghost use Rattle.batch_history.specs.declared.batch.Entry.{Entry};
@@ -75,7 +75,7 @@ pub fn receipt_is_of_the_own_entry()
         → Parts job state
         → (state.status worker ≡ Served receipt) ⊎ (state.call worker ≡ Got receipt)
         → HasStarted job state worker node leaf
-        → op_of job state.book leaf ≡ Some op
+        → op_of job.act state.book leaf ≡ Some op
         → (place : Place) × (task_place job state.book (state.task worker) ≡ Some place)
         × (place_of state.book leaf ≡ Some place) × (receipt ≡ receipt_for place)
         × (place.entry ≡ record { leaf = leaf; worker = worker; op = op; reply = receipt.reply })
@@ -94,13 +94,13 @@ pub fn calls_have_room()
         → AreDistinct workers
         → AllByRecursion (IsUnserved state) workers
         → length (flat state.book) + length workers ≤ call_count job }
-    ensures tree { (tree : Tree) (acts : List Act) (count : ℕ) (state : State) (workers : List ℕ)
-        → length acts ≡ leaves tree
-        → Parts (core_job tree acts count) state
+    ensures tree { (job : JobValue) (count : ℕ) (state : State) (workers : List ℕ)
+        → length job.acts ≡ leaves (job_tree job)
+        → Parts (core_job job count) state
         → AreDistinct workers
         → AllByRecursion (IsUnserved state) workers
-        → (length (flat state.book) + length workers ≤ call_count (core_job tree acts count))
-        × (length (flat state.book) + length workers ≤ leaves tree) }
+        → (length (flat state.book) + length workers ≤ call_count (core_job job count))
+        × (length (flat state.book) + length workers ≤ leaves (job_tree job)) }
 {
     plan_stands_for_tree();
     plan_has_sides();

@@ -3,9 +3,9 @@
 //!
 //! The eight parts do not look at the lists of ready nodes.
 ghost use Rattle.std.specs.Prelude.{◌≡◌, ◌≢◌, ℕ, ◌<◌, ◌≤◌, ◌*◌, None, Some, List};
-ghost use Rattle.seq_objects.specs.declared.act.Act.{Act};
 ghost use Rattle.sp_order.specs.declared.node.Kind.TheVariants.{SeqNode, ParNode};
 ghost use Rattle.sp_order.specs.declared.node.Move.TheVariants.{OpenSecond, FinishParent, Arrive};
+ghost use Rattle.sp_order.specs.Jobs.{JobValue};
 ghost use Rattle.sp_order.specs.Precedence.{Tree, leaves, IsBefore};
 ghost use Rattle.sp_order.specs.Plans.{Nodes, IsPlan, IsSide};
 ghost use Rattle.sp_order.specs.PlanOf.{IsPlanOf};
@@ -56,9 +56,9 @@ pub fn event_keeps_invariant()
 
 /// Each state that events lead to from the opening state has the invariant.
 pub fn reached_has_invariant()
-    ensures { (tree : Tree) (acts : List Act) (workers : ℕ) (state : CoreState) → 0 < workers
-        → IsReached (core_job tree acts workers) state
-        → Invariant (core_job tree acts workers) state }
+    ensures { (job : JobValue) (workers : ℕ) (state : CoreState) → 0 < workers
+        → IsReached (core_job job workers) state
+        → Invariant (core_job job workers) state }
 {
     plan_stands_for_tree();
     plan_has_sides();

@@ -1,6 +1,5 @@
 //! The laws of the end of a run, each as the contract of a function that does nothing.
 ghost use Rattle.std.specs.Prelude.{◌≡◌, ◌≢◌, ℕ, ◌<◌, true, None, Some, List, length};
-ghost use Rattle.seq_objects.specs.declared.act.Act.{Act};
 ghost use Rattle.sp_order.specs.Precedence.{Tree, leaves};
 ghost use Rattle.sp_order.specs.PlanOf.{IsPlanOf};
 ghost use Rattle.batch_history.specs.Lawful.{Lawful};
@@ -9,7 +8,7 @@ ghost use Rattle.core_model.specs.declared.task.Task.TheVariants.{Idle};
 ghost use Rattle.core_model.specs.declared.status.Status.TheVariants.{Free};
 ghost use Rattle.core_model.specs.State.{CoreJob, CoreState, State, core_job, opening_core};
 ghost use Rattle.core_model.specs.Runs.{IsReached};
-ghost use Rattle.sp_order.specs.Jobs.{JobValue};
+ghost use Rattle.sp_order.specs.Jobs.{JobValue, job_tree};
 ghost use Rattle.core_model.specs.Tasks.{is_done};
 ghost use Rattle.core_model.specs.Invariant.{Parts};
 ghost use Rattle.core_model.specs.Reports.{HasRun, IsReportOf, IsDrivenFrom, IsDrivenReport, IsRunFrom, IsRunReport};
@@ -45,12 +44,13 @@ pub fn done_leaves_have_run()
 
 /// The report of a state whose root is done is lawful.
 pub fn done_report_is_lawful()
-    ensures { (tree : Tree) (acts : List Act) (workers : ℕ) (state : State) (report : Report)
-        → length acts ≡ leaves tree
-        → Parts (core_job tree acts workers) state
+    ensures { (job : JobValue) (workers : ℕ) (state : State) (report : Report)
+        → job.shape ≡ Some (job_tree job)
+        → length job.acts ≡ leaves (job_tree job)
+        → Parts (core_job job workers) state
         → is_done (state.node 0) ≡ true
-        → IsReportOf (core_job tree acts workers) (leaves tree) state report
-        → Lawful (record { shape = Some tree; acts = acts }) workers report }
+        → IsReportOf (core_job job workers) (leaves (job_tree job)) state report
+        → Lawful job workers report }
 {
     plan_stands_for_tree();
     plan_has_sides();

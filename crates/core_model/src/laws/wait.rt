@@ -1,7 +1,6 @@
 //! The laws of how long a worker waits, each as the contract of a function that does nothing.
 ghost use Rattle.std.specs.Prelude.{◌≡◌, ℕ, ◌<◌, ◌≤◌, ◌+◌, ◌⊎◌, List, length};
-ghost use Rattle.seq_objects.specs.declared.act.Act.{Act};
-ghost use Rattle.sp_order.specs.Precedence.{Tree};
+ghost use Rattle.sp_order.specs.Jobs.{JobValue};
 ghost use Rattle.sp_order.specs.Plans.{IsPlan};
 ghost use Rattle.core_model.specs.declared.event.Event.{Event};
 ghost use Rattle.core_model.specs.declared.status.Status.TheVariants.{Pending, Served};
@@ -38,12 +37,12 @@ pub fn trapped_waits_since_then()
         → Parts job first
         → StaysTrapped job worker first last
         → WaitsSince job last worker (length first.book) }
-    ensures reached { (tree : Tree) (acts : List Act) (workers worker : ℕ)
+    ensures reached { (job : JobValue) (workers worker : ℕ)
         (first : CoreState) (last : State)
         → 0 < workers
-        → IsReached (core_job tree acts workers) first
-        → StaysTrapped (core_job tree acts workers) worker first.state last
-        → WaitsSince (core_job tree acts workers) last worker (length first.state.book) }
+        → IsReached (core_job job workers) first
+        → StaysTrapped (core_job job workers) worker first.state last
+        → WaitsSince (core_job job workers) last worker (length first.state.book) }
 {
     plan_stands_for_tree();
     plan_has_sides();
@@ -52,11 +51,11 @@ pub fn trapped_waits_since_then()
 /// Where a worker stays trapped until its call is served, the receipt's batch is one of those that there were at the
 /// beginning, or one of the next two.
 pub fn two_batches_at_most()
-    ensures { (tree : Tree) (acts : List Act) (workers worker : ℕ)
+    ensures { (job : JobValue) (workers worker : ℕ)
         (first : CoreState) (last : State) (receipt : Receipt)
         → 0 < workers
-        → IsReached (core_job tree acts workers) first
-        → StaysTrapped (core_job tree acts workers) worker first.state last
+        → IsReached (core_job job workers) first
+        → StaysTrapped (core_job job workers) worker first.state last
         → last.status worker ≡ Served receipt
         → receipt.batch ≤ length first.state.book + 1 }
 {
@@ -66,12 +65,12 @@ pub fn two_batches_at_most()
 
 /// Where the worker's call is pending at the beginning, it is served in one of the next two batches.
 pub fn pending_call_is_in_next_two()
-    ensures { (tree : Tree) (acts : List Act) (workers worker : ℕ)
+    ensures { (job : JobValue) (workers worker : ℕ)
         (first : CoreState) (last : State) (receipt : Receipt)
         → 0 < workers
-        → IsReached (core_job tree acts workers) first
+        → IsReached (core_job job workers) first
         → first.state.status worker ≡ Pending
-        → StaysTrapped (core_job tree acts workers) worker first.state last
+        → StaysTrapped (core_job job workers) worker first.state last
         → last.status worker ≡ Served receipt
         → (receipt.batch ≡ length first.state.book) ⊎ (receipt.batch ≡ length first.state.book + 1) }
 {

@@ -6,7 +6,7 @@ use Rattle.std.proofs.lemmas.List.Elements.{Contains-append_left, Contains-appen
 use Rattle.seq_objects.specs.declared.call.Call.{Call}
 use Rattle.launch_batch.specs.Calls.{AreSame}
 use Rattle.launch_batch.proofs.ListLemmas.Same.{each_same, distinct_same}
-use Rattle.core_model.proofs.Words.{CoreJob}
+use Rattle.core_model.proofs.Words.{CoreJob, Entry}
 use Rattle.core_parts.specs.Words.{Task}
 use Rattle.core_model.specs.Batches.{IsCallOf, AreTakenCalls}
 
@@ -26,10 +26,10 @@ contains_same f (x ∷ xs) others same n there =
     ]))
 
 -- the same calls are taken, whatever their order is
-pub taken_too : (job : CoreJob) (task : ℕ → Task) (took : ℕ → Bool) (calls others : List Call) → AreSame calls others
-    → AreTakenCalls job task took calls → AreTakenCalls job task took others
-taken_too job task took calls others same taken = record {
+pub taken_too : (job : CoreJob) (book : List (List Entry)) (task : ℕ → Task) (took : ℕ → Bool) (calls others : List Call) → AreSame calls others
+    → AreTakenCalls job book task took calls → AreTakenCalls job book task took others
+taken_too job book task took calls others same taken = record {
   distinct = distinct_same (λ (call : Call). call.worker) calls others same taken.distinct;
-  only = each_same (λ (call : Call). (took call.worker ≡ true) × IsCallOf job (task call.worker) call) calls others same taken.only;
+  only = each_same (λ (call : Call). (took call.worker ≡ true) × IsCallOf job book (task call.worker) call) calls others same taken.only;
   each = λ w below took_w. contains_same (λ (call : Call). call.worker) calls others same w (taken.each w below took_w);
 }

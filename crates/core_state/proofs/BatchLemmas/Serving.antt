@@ -33,7 +33,7 @@ some_call [] w there = absurd (omega (arith, there.1))
 some_call (call ∷ calls) w there = omega arith
 
 module _ (job : CoreJob) (s : State) (hd : Hold) (laws : IsPlan job.plan) (h : InductiveParts job s) (there : s.hold ≡ Some hd) (unpublished : hd.published ≡ false)
-    (calls : List Call) (taken : AreTakenCalls job s.task hd.taken calls) where
+    (calls : List Call) (taken : AreTakenCalls job s.book s.task hd.taken calls) where
   -- the entries that they would have
   abbrev entries : List Entry
   entries = replied s.objects calls
@@ -48,7 +48,7 @@ module _ (job : CoreJob) (s : State) (hd : Hold) (laws : IsPlan job.plan) (h : I
   workers_are = sym (map-map (λ (call : Call). call.worker) call_in entries) ∙ ap (map (λ (call : Call). call.worker)) are
 
   only : AllByRecursion (IsTakenCall job s) entries
-  only = only_taken job s hd h there entries (subst (AreTakenCalls job s.task hd.taken) (sym are) taken)
+  only = only_taken job s hd h there entries (subst (AreTakenCalls job s.book s.task hd.taken) (sym are) taken)
 
   abbrev book_leaves : List ℕ
   book_leaves = map (λ (e : Entry). e.leaf) (flat s.book)
@@ -80,7 +80,7 @@ module _ (job : CoreJob) (s : State) (hd : Hold) (laws : IsPlan job.plan) (h : I
   may_serve some workers below = record {
     some = some_call calls some.0 (taken.each some.0 (taken_below job s hd h there some.0 some.1) some.1);
     workers = taken.distinct;
-    below = each_so (λ (call : Call). (hd.taken call.worker ≡ true) × IsCallOf job (s.task call.worker) call) (λ (call : Call). call.worker < 32)
+    below = each_so (λ (call : Call). (hd.taken call.worker ≡ true) × IsCallOf job s.book (s.task call.worker) call) (λ (call : Call). call.worker < 32)
         (λ call is. let low = taken_below job s hd h there call.worker is.0 in omega (arith, low, workers)) calls taken.only;
     leaves = subst AreDistinct leaves_are (distinct_back book_leaves (map (λ (e : Entry). e.leaf) entries) distinct);
     new = subst (AllByRecursion (λ leaf. AllByRecursion (λ other. leaf ≢ other) book_leaves)) leaves_are

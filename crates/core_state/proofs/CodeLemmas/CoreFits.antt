@@ -2,11 +2,10 @@
 use Rattle.std.proofs.Common.{ℕ, ◌≡◌, ◌≢◌, ◌<◌, Some, arith, refl, sym, ◌∙◌}
 use Rattle.core_model.proofs.Words.{Nodes, IsPlan, Move, Root, OpenSecond, FinishParent, Arrive, CoreJob, names}
 use Rattle.core_parts.specs.Words.{Progress, Task, Idle, Run, Half, Started, Kept, Ended, Whole, Handed, Free, NotCalled, Out}
-use Rattle.sp_order.specs.Preorder.{nodes_of}
 use Rattle.core_state.specs.declared.state.State.{State as StoredState}
-use Rattle.core_parts.specs.Code.Job.{job_of, HasLeaf, TaskIn}
+use Rattle.core_model.specs.Settings.{job_of, HasLeaf, TaskIn}
 use Rattle.core_model.specs.Invariant.Statuses.{IsAtCall, is_taken_by}
-use Rattle.core_parts.specs.declared.job.CoreJob.{CoreJob as StoredJob}
+use Rattle.core_model.specs.declared.setting.Setting.{Setting}
 use Rattle.core_model.proofs.ChoiceLemmas.Gate.{taken_row}
 use Rattle.core_model.specs.Operations.{IsLeaf}
 use Rattle.core_model.specs.Invariant.Tasks.{TaskFits}
@@ -51,20 +50,20 @@ has_leaf job node mark (Ended n s e) fits call = absurd call
 has_leaf job node mark (Whole n) fits call = absurd call
 has_leaf job node mark (Handed n) fits call = absurd call
 
-pub looks : (job : StoredJob) (t : StoredState) → Represents job t → CanChoose job t
-looks job t h =
-    let kept = kept_parts job.plan job.acts.items job.workers t h in
-    let room = rw (book_is t) at (book_room (job_of job) (state_of t) kept h.calls_in) in
+pub looks : (setting : Setting) (t : StoredState) → Represents setting t → CanChoose setting t
+looks setting t h =
+    let kept = kept_parts setting.job setting.workers t h in
+    let room = rw (book_is t) at (book_room (job_of setting) (state_of t) kept h.calls_in) in
     let most = h.most in
     record {
       few = h.few;
       sizes = h.sizes;
-      tasks_in = λ w. task_in (nodes_of job.plan).count ((state_of t).task w) (λ n name. named_in (job_of job) (state_of t) h.laws kept w n name);
-      at_leaf = λ w n start e. started_leaf (nodes_of job.plan) (state_of t).node (state_of t).mark ((state_of t).task w) n start (kept.tasks.fits w) e;
-      moves_in = λ n. move_in (nodes_of job.plan) h.laws n ((nodes_of job.plan).after n) refl;
+      tasks_in = λ w. task_in (job_of setting).plan.count ((state_of t).task w) (λ n name. named_in (job_of setting) (state_of t) h.laws kept w n name);
+      at_leaf = λ w n start e. started_leaf (job_of setting).plan (state_of t).node (state_of t).mark ((state_of t).task w) n start (kept.tasks.fits w) e;
+      moves_in = λ n. move_in (job_of setting).plan h.laws n ((job_of setting).plan.after n) refl;
       leaves_in = h.leaves_in;
-      owed = λ w taken. has_leaf (job_of job) (state_of t).node (state_of t).mark ((state_of t).task w) (kept.tasks.fits w)
-          (taken_row (job_of job) (state_of t).book ((state_of t).task w) ((state_of t).status w) ((state_of t).call w) (is_taken_by (state_of t).hold w) taken (kept.statuses w)).1;
+      owed = λ w taken. has_leaf (job_of setting) (state_of t).node (state_of t).mark ((state_of t).task w) (kept.tasks.fits w)
+          (taken_row (job_of setting) (state_of t).book ((state_of t).task w) ((state_of t).status w) ((state_of t).call w) (is_taken_by (state_of t).hold w) taken (kept.statuses w)).1;
       shop = h.shop;
       leaves = rw (book_is t) at kept.book.leaves;
       few_batches = omega (arith, room.0, room.1, most);
@@ -72,9 +71,9 @@ looks job t h =
     }
 
 -- a worker that is trapped has started a leaf
-pub trapped_has_leaf : (job : StoredJob) (t : StoredState) → Represents job t → (w : ℕ) → (state_of t).status w ≢ Free → HasLeaf (nodes_of job.plan) ((state_of t).task w)
-trapped_has_leaf job t h w trapped =
-    let kept = kept_parts job.plan job.acts.items job.workers t h in
+pub trapped_has_leaf : (setting : Setting) (t : StoredState) → Represents setting t → (w : ℕ) → (state_of t).status w ≢ Free → HasLeaf (job_of setting).plan ((state_of t).task w)
+trapped_has_leaf setting t h w trapped =
+    let kept = kept_parts setting.job setting.workers t h in
     let out = (h.inv.parts.statuses.out w).1 trapped in
-    has_leaf (job_of job) (state_of t).node (state_of t).mark ((state_of t).task w) (kept.tasks.fits w)
+    has_leaf (job_of setting) (state_of t).node (state_of t).mark ((state_of t).task w) (kept.tasks.fits w)
     (h.inv.parts.statuses.at_call w (λ none. let clash : NotCalled ≡ Out = sym none ∙ out in cc))

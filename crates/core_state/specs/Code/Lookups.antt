@@ -2,7 +2,7 @@
 use Rattle.batch_history.specs.Book.{flat}
 use Rattle.core_state.specs.Abstraction.{book_of, state_of}
 use Rattle.core_model.specs.Choice.{choice_arrive, choice_parent, choice_second, choice_steal, last_of}
-use Rattle.core_parts.specs.Code.Job.{HasLeaf, TaskIn}
+use Rattle.core_model.specs.Settings.{HasLeaf, TaskIn, job_of}
 use Rattle.core_model.specs.Ranges.{LeafIn}
 use Rattle.core_state.specs.Code.Sizes.{HasShop, Sizes}
 use Rattle.core_model.specs.Invariant.Statuses.{is_taken_by}
@@ -10,13 +10,12 @@ use Rattle.core_model.specs.Operations.{IsLeaf}
 use Rattle.core_parts.specs.WorkDue.{work_due}
 use Rattle.core_model.specs.declared.event.Event.{Event}
 use Rattle.core_model.specs.declared.event.Event.TheVariants.{Claim}
-use Rattle.core_parts.specs.declared.job.CoreJob.{CoreJob as StoredJob}
+use Rattle.core_model.specs.declared.setting.Setting.{Setting}
 use Rattle.core_state.specs.declared.state.State.{State as StoredState}
 use Rattle.core_model.specs.declared.task.Task.TheVariants.{Started}
 use Rattle.seq_objects.specs.Pairs.{AreDistinct}
 use Rattle.seq_objects.specs.Spin.{spin_of}
 use Rattle.sp_order.specs.Plans.{Nodes}
-use Rattle.sp_order.specs.Preorder.{nodes_of}
 use Rattle.sp_order.specs.declared.node.Move.{Move}
 use Rattle.sp_order.specs.declared.node.Move.TheVariants.{Arrive as ArriveAt, FinishParent, OpenSecond, Root}
 use Rattle.std.specs.Prelude.{IfSome, List, None, Option, Some, [], length, map, true, ℕ, ◌+◌, ◌-◌, ◌<◌, ◌^◌, ◌∷◌, ◌≡◌, ◌≤◌}
@@ -29,15 +28,15 @@ MoveIn nodes (FinishParent p) = p < nodes
 MoveIn nodes (ArriveAt p) = p < nodes
 
 -- what the choice of a turn looks up is there
-pub record CanChoose (job : StoredJob) (t : StoredState) : Type 0 where
-  pub few : job.workers ≤ 32
-  pub sizes : Sizes t (nodes_of job.plan).count job.workers
-  pub tasks_in : (w : ℕ) → TaskIn (nodes_of job.plan).count ((state_of t).task w)
-  pub at_leaf : (w n start : ℕ) → (state_of t).task w ≡ Started n start → IsLeaf ((nodes_of job.plan).kind n)
-  pub moves_in : (n : ℕ) → MoveIn (nodes_of job.plan).count ((nodes_of job.plan).after n)
-  pub leaves_in : (n : ℕ) → LeafIn (length job.acts.items) ((nodes_of job.plan).kind n)
+pub record CanChoose (setting : Setting) (t : StoredState) : Type 0 where
+  pub few : setting.workers ≤ 32
+  pub sizes : Sizes t (job_of setting).plan.count setting.workers
+  pub tasks_in : (w : ℕ) → TaskIn (job_of setting).plan.count ((state_of t).task w)
+  pub at_leaf : (w n start : ℕ) → (state_of t).task w ≡ Started n start → IsLeaf ((job_of setting).plan.kind n)
+  pub moves_in : (n : ℕ) → MoveIn (job_of setting).plan.count ((job_of setting).plan.after n)
+  pub leaves_in : (n : ℕ) → LeafIn (length setting.job.acts) ((job_of setting).plan.kind n)
   -- a worker that is to be answered has started a leaf
-  pub owed : (w : ℕ) → is_taken_by (state_of t).hold w ≡ true → HasLeaf (nodes_of job.plan) ((state_of t).task w)
+  pub owed : (w : ℕ) → is_taken_by (state_of t).hold w ≡ true → HasLeaf (job_of setting).plan ((state_of t).task w)
   -- the receipts are looked up in the book of the shop, in which no leaf stands twice
   pub shop : HasShop t
   pub leaves : AreDistinct (map (λ entry. entry.leaf) (flat (book_of t.shop)))
@@ -57,6 +56,6 @@ whole_choice plan mark (FinishParent p) n = choice_parent (plan.kind p) p
 whole_choice plan mark (ArriveAt p) n = choice_arrive (plan.kind p) p (mark p) n
 
 -- where a value is given, it is that of the work that is due of the worker, if some is due
-abbrev pub IsWorkOf : StoredJob → StoredState → ℕ → Option ℕ → Type 0
-IsWorkOf job t w work =
-    IfSome work (λ value. (steps : ℕ) → work_due (nodes_of job.plan) job.acts.items ((state_of t).task w) ≡ Some steps → value ≡ spin_of steps)
+abbrev pub IsWorkOf : Setting → StoredState → ℕ → Option ℕ → Type 0
+IsWorkOf setting t w work =
+    IfSome work (λ value. (steps : ℕ) → work_due (job_of setting) ((state_of t).task w) ≡ Some steps → value ≡ spin_of steps)

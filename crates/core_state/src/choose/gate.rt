@@ -1,9 +1,8 @@
 //! The choice of a worker that holds the flag or waits for it.
 ghost use Rattle.std.specs.Prelude.{◌≡◌, ◌<◌, ◌≤◌, ◌^◌, Some, length, map};
-ghost use Rattle.sp_order.specs.Preorder.{nodes_of};
 ghost use Rattle.batch_history.specs.Book.{flat};
 ghost use Rattle.seq_objects.specs.Pairs.{AreDistinct};
-ghost use Rattle.core_parts.specs.Code.Job.{job_of, HasLeaf};
+ghost use Rattle.core_model.specs.Settings.{job_of, HasLeaf};
 ghost use Rattle.core_model.specs.Operations.{place_of};
 ghost use Rattle.core_model.specs.Tasks.{names};
 ghost use Rattle.core_model.specs.Choice.{leaf_named as leaf_at, answer_with, choice_pending, choice_holding};
@@ -12,8 +11,8 @@ ghost use Rattle.core_parts.specs.Holds.{hold_view};
 ghost use Rattle.core_state.specs.Code.Lookups.{CanChoose};
 
 use crate::state::State;
-use core_model::Event;
-use core_parts::{CoreJob, Hold, receipt_of};
+use core_model::{Event, Setting};
+use core_parts::{Hold, receipt_of};
 
 impl State {
     /// The event of a worker whose call is pending: it wins the flag, if that is free.
@@ -29,14 +28,14 @@ impl State {
 
     /// The event that answers a worker: it gets the receipt of its leaf's entry in the book.
     #[tactic(auto, unfolding(crate::specs::Abstraction::state_of))]
-    fn choose_answer(&self, job: &CoreJob, other: u32) -> Option<Event>
-        requires looks { CanChoose job.now self.now }
-        requires other_in { other < job.now.workers }
-        requires started { HasLeaf (nodes_of job.now.plan) ((state_of self.now).task other) }
+    fn choose_answer(&self, setting: &Setting, other: u32) -> Option<Event>
+        requires looks { CanChoose setting.now self.now }
+        requires other_in { other < setting.now.workers }
+        requires started { HasLeaf (job_of setting.now).plan ((state_of self.now).task other) }
         ensures { result ≡ answer_with other (place_of (state_of self.now).book
-            (leaf_at (nodes_of job.now.plan) (names ((state_of self.now).task other)))) }
+            (leaf_at (job_of setting.now).plan (names ((state_of self.now).task other)))) }
     {
-        let leaf = job.started_leaf(self.tasks[other as usize]);
+        let leaf = setting.started_leaf(self.tasks[other as usize]);
         let Some(shop) = &self.shop else {
             unreachable!()
         };
@@ -52,20 +51,20 @@ impl State {
     /// The event of the worker that holds the flag: it looks at the workers one after another, publishes if it has
     /// taken a call, answers the workers whose calls it has taken, and releases the flag.
     #[tactic(auto, unfolding(crate::specs::Abstraction::state_of))]
-    pub(crate) fn choose_holding(&self, job: &CoreJob, hold: &Hold) -> Option<Event>
-        requires looks { CanChoose job.now self.now }
+    pub(crate) fn choose_holding(&self, setting: &Setting, hold: &Hold) -> Option<Event>
+        requires looks { CanChoose setting.now self.now }
         requires held { self.now.hold ≡ Some hold.now }
-        ensures { result ≡ choice_holding (job_of job.now) (state_of self.now) (hold_view hold.now) }
+        ensures { result ≡ choice_holding (job_of setting.now) (state_of self.now) (hold_view hold.now) }
     {
-        if hold.looks < job.workers {
+        if hold.looks < setting.workers {
             return Some(Event::Take(hold.looks));
         }
-        if !hold.published && hold.has_taken(job.workers) {
+        if !hold.published && hold.has_taken(setting.workers) {
             return Some(Event::Publish);
         }
-        match hold.least_owed(job.workers) {
+        match hold.least_owed(setting.workers) {
             None => Some(Event::Release),
-            Some(other) => self.choose_answer(job, other),
+            Some(other) => self.choose_answer(setting, other),
         }
     }
 }

@@ -1,13 +1,12 @@
 //! The choice of a worker whose node is done or that looks for one to claim, and the work that is due.
 ghost use Rattle.std.specs.Prelude.{◌≡◌, ◌<◌, ◌≤◌, length, None, IsTrue};
-ghost use Rattle.sp_order.specs.Preorder.{nodes_of};
+ghost use Rattle.core_model.specs.Settings.{job_of};
 ghost use Rattle.core_state.specs.Abstraction.{state_of, ready_of};
 ghost use Rattle.core_state.specs.Code.Lookups.{CanChoose, MoveIn, claim_choice, whole_choice};
 ghost use Rattle.core_parts.specs.WorkDue.{work_due};
 
 use crate::state::State;
-use core_model::{Event, Task};
-use core_parts::CoreJob;
+use core_model::{Event, Setting, Task};
 use core_parts::chosen::{of_arrive, of_parent, of_second, steps_of};
 use sp_order::node::Move;
 
@@ -48,20 +47,20 @@ impl State {
 
     /// The event of a worker whose node is done, by the move that the plan has after that node.
     #[tactic(auto, unfolding(crate::specs::Abstraction::state_of))]
-    pub(crate) fn choose_whole(&self, job: &CoreJob, node: u32) -> Option<Event>
-        requires node_in { node < (nodes_of job.now.plan).count }
-        requires marks_in { length self.now.marks.items ≡ (nodes_of job.now.plan).count }
-        requires moves_in { MoveIn (nodes_of job.now.plan).count ((nodes_of job.now.plan).after node) }
-        ensures { result ≡ whole_choice (nodes_of job.now.plan) (state_of self.now).mark
-            ((nodes_of job.now.plan).after node) node }
+    pub(crate) fn choose_whole(&self, setting: &Setting, node: u32) -> Option<Event>
+        requires node_in { node < (job_of setting.now).plan.count }
+        requires marks_in { length self.now.marks.items ≡ (job_of setting.now).plan.count }
+        requires moves_in { MoveIn (job_of setting.now).plan.count ((job_of setting.now).plan.after node) }
+        ensures { result ≡ whole_choice (job_of setting.now).plan (state_of self.now).mark
+            ((job_of setting.now).plan.after node) node }
     {
-        match job.plan.after(node) {
+        match setting.job.after(node) {
             Move::Root => None,
-            Move::OpenSecond(parent) => of_second(job.plan.kind(parent), parent),
-            Move::FinishParent(parent) => of_parent(job.plan.kind(parent), parent),
+            Move::OpenSecond(parent) => of_second(setting.job.kind(parent), parent),
+            Move::FinishParent(parent) => of_parent(setting.job.kind(parent), parent),
             Move::Arrive(parent) => {
                 of_arrive(
-                    job.plan.kind(parent),
+                    setting.job.kind(parent),
                     parent,
                     self.marks[parent as usize],
                     node,
@@ -72,14 +71,14 @@ impl State {
 
     /// The number of steps of the leaf that the worker has started, if it has started one that works.
     #[tactic(auto, unfolding(crate::specs::Abstraction::state_of))]
-    pub fn work_due(&self, job: &CoreJob, worker: u32) -> Option<u32>
-        requires looks { CanChoose job.now self.now }
-        requires worker_in { worker < job.now.workers }
+    pub fn work_due(&self, setting: &Setting, worker: u32) -> Option<u32>
+        requires looks { CanChoose setting.now self.now }
+        requires worker_in { worker < setting.now.workers }
         ensures { result
-            ≡ work_due (nodes_of job.now.plan) job.now.acts.items ((state_of self.now).task worker) }
+            ≡ work_due (job_of setting.now) ((state_of self.now).task worker) }
     {
         match self.tasks[worker as usize] {
-            Task::Started { node, .. } => steps_of(job.act_at(node)),
+            Task::Started { node, .. } => steps_of(setting.act_at(node)),
             _ => None,
         }
     }

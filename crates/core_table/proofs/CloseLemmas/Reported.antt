@@ -4,6 +4,7 @@ use Rattle.std.specs.List.{AllByRecursion, range_with_len}
 use mathlib.Core.Option.{some, some-injective}
 use lib.ListN.{get_elem?}
 use Rattle.atomic_table.specs.Table.{Final, Seen}
+use Rattle.sp_order.specs.Jobs.{job_tree}
 use Rattle.sp_order.specs.Precedence.{leaves}
 use Rattle.batch_history.specs.declared.batch.Entry.{Entry}
 use Rattle.batch_history.specs.declared.row.Row.{Row}
@@ -16,7 +17,7 @@ use Rattle.core_model.specs.Reports.{HasRun, IsRowOf, IsReportOf, IsRunFrom}
 use Rattle.core_table.specs.declared.view.View.{View}
 use Rattle.core_table.specs.declared.slot.Slot.{Slot}
 use Rattle.core_table.specs.declared.slot.Slot.TheVariants as Slots
-use Rattle.core_table.specs.declared.setting.Setting.{Setting}
+use Rattle.core_model.specs.declared.setting.Setting.{Setting}
 use Rattle.core_model.specs.State.{opening_core}
 use Rattle.core_table.specs.Shows.{St, Shown, IsFront, events_by, reserved, room_of, job_of}
 use Rattle.core_table.specs.Closing.{RowInWords, IsReportOfTable}
@@ -31,7 +32,7 @@ pub record Reported (key : Setting) (v : View) (report : Report) : Type 0 where
   pub told : IsReportOfTable key table report
   pub seat : ℕ
   pub at : get_elem? table.views seat ≡ some v
-  pub run : IsRunFrom (job_of key) (leaves key.plan) opening_core report
+  pub run : IsRunFrom (job_of key) (leaves (job_tree key.job)) opening_core report
   pub own : events_by v.from run.trace ≡ v.events
   pub parts : Parts (job_of key) run.last.state
   pub seen : IsFront v.book_seen report.history
@@ -39,10 +40,10 @@ pub record Reported (key : Setting) (v : View) (report : Report) : Type 0 where
 pub reported_last : (key : Setting) (v : View) (ws : List ℕ) (xs : List Slot) (laws : Laws (job_of key)) → Last (job_of key) (room_of key) v ws xs
     → key.workers ≤ 32 → (got : Slot) (book : ReservedView) (history : List (List Entry)) (rows : List Row)
     → get_elem? xs (key.workers + 1) ≡ some got → got ≡ Slots.Book book → history ≡ book.batches
-    → map (λ row. row.leaf) rows ≡ range_with_len 0 (leaves key.plan)
-    → AllByRecursion (RowInWords key.workers (job_of key).plan.count (leaves key.plan) (job_of key).plan.node_of ws) rows
-    → ((leaf : ℕ) → leaf < leaves key.plan → (job_of key).plan.node_of leaf < (job_of key).plan.count)
-    → ((s : State) → Parts (job_of key) s → is_done (s.node 0) ≡ true → (leaf : ℕ) → leaf < leaves key.plan → HasRun (s.node ((job_of key).plan.node_of leaf)) × (s.value ((job_of key).plan.node_of leaf) ≢ None))
+    → map (λ row. row.leaf) rows ≡ range_with_len 0 (leaves (job_tree key.job))
+    → AllByRecursion (RowInWords key.workers (job_of key).plan.count (leaves (job_tree key.job)) (job_of key).plan.node_of ws) rows
+    → ((leaf : ℕ) → leaf < leaves (job_tree key.job) → (job_of key).plan.node_of leaf < (job_of key).plan.count)
+    → ((s : State) → Parts (job_of key) s → is_done (s.node 0) ≡ true → (leaf : ℕ) → leaf < leaves (job_tree key.job) → HasRun (s.node ((job_of key).plan.node_of leaf)) × (s.value ((job_of key).plan.node_of leaf) ≢ None))
     → Reported key v (record { workers = key.workers; history = history; rows = rows })
 reported_last key v ws xs laws last few got book history rows there is told_history told_leaves told inside ran =
     let job = job_of key in
@@ -52,8 +53,8 @@ reported_last key v ws xs laws last few got book history rows there is told_hist
     let own : reserved last.state.book (room_of key) ≡ book = books (reserved last.state.book (room_of key)) book (some-injective _ _ (sym last.there ∙ there) ∙ is) in
     let whole : history ≡ s.book = told_history ∙ (ap (λ (b : ReservedView). b.batches) (sym own) ∙ ap (λ (z : State). z.book) last.is) in
     let report : Report = record { workers = key.workers; history = history; rows = rows } in
-    let of_last : AllByRecursion (IsRowOf job last.state) rows = rows_told job laws last.state ws (leaves key.plan) last.parts few last.words inside (ran last.state last.parts last.over) rows told in
-    let reports : IsReportOf job (leaves key.plan) s report = record {
+    let of_last : AllByRecursion (IsRowOf job last.state) rows = rows_told job laws last.state ws (leaves (job_tree key.job)) last.parts few last.words inside (ran last.state last.parts last.over) rows told in
+    let reports : IsReportOf job (leaves (job_tree key.job)) s report = record {
       workers = refl;
       leaves = told_leaves;
       rows = subst (λ (z : State). AllByRecursion (IsRowOf job z) rows) last.is of_last;
@@ -64,7 +65,7 @@ reported_last key v ws xs laws last few got book history rows there is told_hist
       told = record {
         shown = last.shown;
         over = over;
-        rows = subst (λ (l : List ℕ). AllByRecursion (RowInWords key.workers job.plan.count (leaves key.plan) job.plan.node_of l) rows) (sym last.same) told;
+        rows = subst (λ (l : List ℕ). AllByRecursion (RowInWords key.workers job.plan.count (leaves (job_tree key.job)) job.plan.node_of l) rows) (sym last.same) told;
         reports = reports;
       };
       seat = last.seat;
@@ -84,10 +85,10 @@ reported_last key v ws xs laws last few got book history rows there is told_hist
 pub reported : (key : Setting) (id k : ℕ) (v : View) (ws : List ℕ) (xs : List Slot) (laws : Laws (job_of key)) → Final (Seen (Shown key) id v) ws xs → v.from ≡ k → v.to ≡ k + 1 → v.saw_done ≡ true
     → key.workers ≤ 32 → (got : Slot) (book : ReservedView) (history : List (List Entry)) (rows : List Row)
     → get_elem? xs (key.workers + 1) ≡ some got → got ≡ Slots.Book book → history ≡ book.batches
-    → map (λ row. row.leaf) rows ≡ range_with_len 0 (leaves key.plan)
-    → AllByRecursion (RowInWords key.workers (job_of key).plan.count (leaves key.plan) (job_of key).plan.node_of ws) rows
-    → ((leaf : ℕ) → leaf < leaves key.plan → (job_of key).plan.node_of leaf < (job_of key).plan.count)
-    → ((s : State) → Parts (job_of key) s → is_done (s.node 0) ≡ true → (leaf : ℕ) → leaf < leaves key.plan → HasRun (s.node ((job_of key).plan.node_of leaf)) × (s.value ((job_of key).plan.node_of leaf) ≢ None))
+    → map (λ row. row.leaf) rows ≡ range_with_len 0 (leaves (job_tree key.job))
+    → AllByRecursion (RowInWords key.workers (job_of key).plan.count (leaves (job_tree key.job)) (job_of key).plan.node_of ws) rows
+    → ((leaf : ℕ) → leaf < leaves (job_tree key.job) → (job_of key).plan.node_of leaf < (job_of key).plan.count)
+    → ((s : State) → Parts (job_of key) s → is_done (s.node 0) ≡ true → (leaf : ℕ) → leaf < leaves (job_tree key.job) → HasRun (s.node ((job_of key).plan.node_of leaf)) × (s.value ((job_of key).plan.node_of leaf) ≢ None))
     → Reported key v (record { workers = key.workers; history = history; rows = rows })
 reported key id k v ws xs laws f from to saw few got book history rows there is told_history told_leaves told inside ran =
     reported_last key v ws xs laws (closes (job_of key) (room_of key) id k laws v ws xs f from to saw) few got book history rows there is told_history told_leaves told inside ran

@@ -3,7 +3,7 @@ use Rattle.std.proofs.Common.{ℕ, zero, suc, ◌≡◌, ◌<◌, ◌≤◌, ◌
 use Rattle.core_model.specs.State.{CoreJob}
 use Rattle.core_model.specs.Operations.{op_in}
 use Rattle.core_model.specs.Measure.{call_count, one_if_call, one_if, total}
-use Rattle.core_table.specs.CoreWords.{Kind, LeafNode, SeqNode, ParNode}
+use Rattle.core_model.specs.Words.{Kind, LeafNode, SeqNode, ParNode}
 
 pub one_at_most : (job : CoreJob) (kind : Maybe Kind) → one_if_call job kind ≤ 1
 one_at_most job None = omega arith

@@ -3,7 +3,7 @@ use Rattle.std.proofs.Common.{ℕ, zero, suc, ◌≡◌, ◌≢◌, ◌<◌, ◌
 use Rattle.batch_history.specs.declared.row.Row.{Row}
 use Rattle.std.specs.List.{AllByRecursion, range_with_len}
 use Rattle.core_model.specs.Operations.{op_in}
-use Rattle.core_table.specs.CoreWords.{Act, Work}
+use Rattle.core_model.specs.Words.{Act, Work}
 
 pub each_so : {A : Type 0} (P Q : A → Type 0) → ((a : A) → P a → Q a) → (xs : List A) → AllByRecursion P xs → AllByRecursion Q xs
 each_so P Q f [] h = tt

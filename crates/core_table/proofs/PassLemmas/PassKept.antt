@@ -11,7 +11,7 @@ use Rattle.core_table.specs.declared.view.View.{View}
 use Rattle.core_table.specs.declared.view.HoldView.{HoldView}
 use Rattle.core_table.specs.declared.slot.Slot.{Slot}
 use Rattle.core_table.specs.declared.slot.Slot.TheVariants as Slots
-use Rattle.core_table.specs.declared.setting.Setting.{Setting}
+use Rattle.core_model.specs.declared.setting.Setting.{Setting}
 use Rattle.core_table.specs.Shows.{reserved, job_of}
 use Rattle.batch_history.specs.Reserved.{ReservedView}
 use Rattle.core_table.specs.declared.slot.OpRecord.{OpRecord}

@@ -18,7 +18,7 @@ use Rattle.core_table.specs.Words.{node_at, WordsShow}
 use Rattle.core_table.specs.Code.Laws.{Laws}
 use Rattle.batch_history.specs.declared.batch.Entry.{Entry}
 use Rattle.batch_history.specs.Reserved.{ReservedView}
-use Rattle.core_table.specs.CoreWords.{Tree}
+use Rattle.core_model.specs.Words.{Tree}
 use Rattle.core_model.specs.State.{opening_core}
 use Rattle.core_model.specs.Runs.{Step}
 use Rattle.core_table.specs.Words.{stop_at}
@@ -171,7 +171,7 @@ enrols job room slots id j v xs k from to fresh t o wide me fits =
         slots = record {
           wide = length-set t.homes k none ∙ o.slots.wide;
           records = λ u low. elim (cases_eq u k) [
-            | inl e ↦ subst (λ (y : ℕ). RecordAt job (s.task y) (s.status y) (get_elem? homes y)) (sym e) (subst (λ (st : Status). RecordAt job (s.task k) st (get_elem? homes k)) (sym free) tt)
+            | inl e ↦ subst (λ (y : ℕ). RecordAt job s.book (s.task y) (s.status y) (get_elem? homes y)) (sym e) (subst (λ (st : Status). RecordAt job s.book (s.task k) st (get_elem? homes k)) (sym free) tt)
             | inr ne ↦ rw (set_else t.homes k u none ne) (o.slots.records u low)
           ];
           shop = rw (set_else t.homes k job.workers none (λ e. let a = m.0 in omega arith)) o.slots.shop;

@@ -41,7 +41,7 @@ use Rattle.core_table.specs.declared.slot.Slot.TheVariants as Slots
 use Rattle.core_table.specs.Words.{stop_at, flag_at, status_code, flag_code, WordsShow}
 use Rattle.core_table.specs.Code.Laws.{Laws}
 use Rattle.core_table.specs.Steps.{ShowsOne, Steps, TryMakes, Makes, LeaveMakes}
-use Rattle.core_table.specs.Shows.{reserved, St, Home, IsFront, IsRecordOf, RecordAt, ShopAt, IsBookHome, BookIf, BookAt, took_in, record_in, among, hold_of, HoldKnown, entry_of, Shows}
+use Rattle.core_table.specs.Shows.{reserved, St, Home, IsFront, IsPostDue, IsRecordOf, RecordAt, ShopAt, IsBookHome, BookIf, BookAt, took_in, record_in, among, hold_of, HoldKnown, entry_of, Shows}
 use Rattle.core_table.specs.Views as V
 use Rattle.core_table.specs.Plays as G
 use Rattle.core_table.proofs.TableLemmas.Words.{put_at, put_other, set_status, set_flag, flag_same}
@@ -112,7 +112,7 @@ pub record IsServed (job : CoreJob) (s : State) (k : ℕ) (call : OpRecord) (r :
   pub entry : place.entry ≡ entry_of k (record { call = call; receipt = r })
   pub stands : StandsAt s.book r.batch r.place (entry_of k (record { call = call; receipt = r }))
 
-is_served : (job : CoreJob) (laws : Laws job) (s : State) (k : ℕ) (call : OpRecord) (r : Receipt) → Parts job s → s.status k ≡ Served r → IsRecordOf job (s.task k) call → IsServed job s k call r
+is_served : (job : CoreJob) (laws : Laws job) (s : State) (k : ℕ) (call : OpRecord) (r : Receipt) → Parts job s → s.status k ≡ Served r → IsRecordOf job s.book (s.task k) call → IsServed job s k call r
 is_served job laws s k call r parts st is =
     let t = laws.receipt s k is.0 call.leaf call.op r parts st (is.3, is.1, is.2) is.4 in record {
       place = t.0;
@@ -144,11 +144,11 @@ take_takes : (s : State) (k u : ℕ) (h : HoldView) (call : OpRecord) → s.hold
 take_takes s k u h call held p = rw (p, held) refl
 
 -- what the holder knows, once it has taken one more call
-took_more : (job : CoreJob) (s : State) (u : ℕ) (call : OpRecord) (h : HoldView) → IsRecordOf job (s.task u) call
-    → ((x : ℕ) (c : OpRecord) → record_in h.taken x ≡ Some c → among h.answered x ≡ false → IsRecordOf job (s.task x) c)
-    → (x : ℕ) (c : OpRecord) → record_in (record { worker = u; call = call } ∷ h.taken) x ≡ Some c → among h.answered x ≡ false → IsRecordOf job (s.task x) c
+took_more : (job : CoreJob) (s : State) (u : ℕ) (call : OpRecord) (h : HoldView) → IsRecordOf job s.book (s.task u) call
+    → ((x : ℕ) (c : OpRecord) → record_in h.taken x ≡ Some c → among h.answered x ≡ false → IsRecordOf job s.book (s.task x) c)
+    → (x : ℕ) (c : OpRecord) → record_in (record { worker = u; call = call } ∷ h.taken) x ≡ Some c → among h.answered x ≡ false → IsRecordOf job s.book (s.task x) c
 took_more job s u call h is old x c e yet = elim (cases_eq x u) [
-  | inl same ↦ let e' : Some call ≡ Some c = grind (arith, nat_tests) in let f : call ≡ c = cc in subst (λ (y : ℕ). IsRecordOf job (s.task y) c) (sym same) (subst (IsRecordOf job (s.task u)) f is)
+  | inl same ↦ let e' : Some call ≡ Some c = grind (arith, nat_tests) in let f : call ≡ c = cc in subst (λ (y : ℕ). IsRecordOf job s.book (s.task y) c) (sym same) (subst (IsRecordOf job s.book (s.task u)) f is)
   | inr ne ↦ let e' : record_in h.taken x ≡ Some c = grind (arith, nat_tests) in old x c e' yet
 ]
 
@@ -202,7 +202,7 @@ module _ (job : CoreJob) (room : ℕ) (laws : Laws job) (slots id : ℕ) (v : Vi
   same_receipt n x r e = let h = ap (λ (l : List (ℕ × Slot)). (get_or l 0 (n, Slots.Receipt x)).1) e in cc
 
   -- a post
-  pub posts : (call : OpRecord) → v.enrolled ≡ true → (is : IsRecordOf job v.task call) → v.call ≡ NotCalled
+  pub posts : (call : OpRecord) → v.enrolled ≡ true → (is : IsPostDue job v.task call) → v.call ≡ NotCalled
       → Steps job room slots id (v, (k, Slots.Record call) ∷ xs) k (λ y. 1) (λ y. G.posted (step slots k 1 0 none) (v, (k, Slots.Record call) ∷ xs) 1) (λ before found after. Makes job k (Post is.0 is.1) before after)
   posts call enrolled is called t o wide me fits =
       let s = o.state in
@@ -210,7 +210,7 @@ module _ (job : CoreJob) (room : ℕ) (laws : Laws job) (slots id : ℕ) (v : Vi
       let not_called : s.call k ≡ NotCalled = m.1.call ∙ called in
       let free = is_free job s k o.parts (rw not_called (λ e. cc)) in
       let task : s.task k ≡ Started is.0 is.1 = m.1.task ∙ is.2 in
-      let calls = is_call job call.leaf call.op is.4 in
+      let calls = is_call job call.leaf call.op (is.4 s.book) in
       let nowhere : task_place job s.book (s.task k) ≡ None = started_place job s.book (s.task k) is.0 is.1 call.leaf task is.3 ∙ unbooked job s k is.0 is.1 call.leaf o.parts task is.3 calls free not_called in
       let new : State = record s { status = put s.status k Pending; call = put s.call k Out } in
       let happens : Happens job s k (Post is.0 is.1) new = record { worker_in = m.0; needs = (free, task, leaf_is job is.0 call.leaf is.3 calls, not_called); does = refl } in
@@ -220,12 +220,12 @@ module _ (job : CoreJob) (room : ℕ) (laws : Laws job) (slots id : ℕ) (v : Vi
         tt,
         moved job room laws t o id k v w (set t.words k 1) (set t.homes k (some (Slots.Record call))) (Post is.0 is.1) new happens me from to from to record { events = refl; stops = refl; found = refl } (get_or-set_other t.words k (stop_at P) 1 0 (λ e. let low = m.0 in omega arith))
             (set_status P N t.words s.node s.mark s.value s.status s.hold s.tick (length s.book) o.words k Pending m.0)
-            (slots_record job room t.homes s.task s.status s.hold s.hold s.book k Pending (some (Slots.Record call)) o.slots m.0 (call, refl, (is.0, is.1, task, is.3, is.4)) (λ home h. h) (λ home h. h))
+            (slots_record job room t.homes s.task s.status s.hold s.hold s.book k Pending (some (Slots.Record call)) o.slots m.0 (call, refl, (is.0, is.1, task, is.3, (is.4 s.book))) (λ home h. h) (λ home h. h))
             (λ own. record {
               sits = own.sits;
               task = own.task;
               call = put_at s.call k k Out refl;
-              posted = λ _. (call, refl, (is.0, is.1, task, is.3, is.4));
+              posted = λ _. (call, refl, (is.0, is.1, task, is.3, (is.4 s.book)));
               hold = hold_same job s new k refl refl (λ u. refl) v.hold own.hold;
               entries = rw (put_at s.call k k Out refl, nowhere) (rw not_called at own.entries);
               new = λ e. absurd (true_false (sym enrolled ∙ e));
@@ -244,7 +244,7 @@ module _ (job : CoreJob) (room : ℕ) (laws : Laws job) (slots id : ℕ) (v : Vi
         λ x e. (is.0, is.1, is.2, ap (λ (y : OpRecord). (V.with_event (V.posting v y) (Post is.0 is.1), xs)) (same_call k call x e)),
       )
 
-  pub posts_at : (m : G.Sat) (call : OpRecord) → m ≡ (v, (k, Slots.Record call) ∷ xs) → v.enrolled ≡ true → (is : IsRecordOf job v.task call) → v.call ≡ NotCalled
+  pub posts_at : (m : G.Sat) (call : OpRecord) → m ≡ (v, (k, Slots.Record call) ∷ xs) → v.enrolled ≡ true → (is : IsPostDue job v.task call) → v.call ≡ NotCalled
       → Steps job room slots id m k (λ y. 1) (λ y. G.posted (step slots k 1 0 none) m 1) (λ before found after. Makes job k (Post is.0 is.1) before after)
   posts_at m call e enrolled is called = subst (λ (m : G.Sat). Steps job room slots id m k (λ y. 1) (λ y. G.posted (step slots k 1 0 none) m 1) (λ before found after. Makes job k (Post is.0 is.1) before after)) (sym e) (posts call enrolled is called)
 
@@ -307,7 +307,7 @@ module _ (job : CoreJob) (room : ℕ) (laws : Laws job) (slots id : ℕ) (v : Vi
       let what = m.1.posted out' in
       let call = what.0 in
       let served = is_served job laws s k call r o.parts st.1 what.2 in
-      let home : get_elem? t.homes k ≡ some (some (Slots.Receipt r)) = subst (λ (z : Status). RecordAt job (s.task k) z (get_elem? t.homes k)) st.1 (o.slots.records k m.0) in
+      let home : get_elem? t.homes k ≡ some (some (Slots.Receipt r)) = subst (λ (z : Status). RecordAt job s.book (s.task k) z (get_elem? t.homes k)) st.1 (o.slots.records k m.0) in
       let new : State = record s { status = put s.status k Free; call = put s.call k (Got r) } in
       let happens : Happens job s k (Leave r) new = record { worker_in = m.0; needs = (st.1, subst (λ (z : Maybe HoldView). HoldKnown job s z k) idle m.1.hold); does = refl } in
       let w : View = V.with_event (V.leaving v call r s.book) (Leave r) in
@@ -380,7 +380,7 @@ module _ (job : CoreJob) (room : ℕ) (laws : Laws job) (slots id : ℕ) (v : Vi
       exchanged word 1 2 (λ y. (w : View) × (a : Act Slot) × Valid t.homes xs a × ShowsOne job room (Makes job k (Take u) s) (stepped t u y id xs w a) × G.took (step slots u 1 2 none) (v, xs) word (w, carried_after xs a))
       (λ one.
       let pending : s.status u ≡ Pending = pending_word (s.status u) (sym (o.words.statuses u low) ∙ one) in
-      let what = subst (λ (z : Status). RecordAt job (s.task u) z (get_elem? t.homes u)) pending (o.slots.records u low) in
+      let what = subst (λ (z : Status). RecordAt job s.book (s.task u) z (get_elem? t.homes u)) pending (o.slots.records u low) in
       let call = what.0 in
       let h' = V.taken_view h u call in
       let w : View = V.with_event (V.with_hold v h') (Take u) in

@@ -9,7 +9,7 @@ use Rattle.batch_history.specs.Book.{flat, IsHistory}
 use Rattle.core_model.specs.declared.status.Status.{Status}
 use Rattle.core_model.specs.declared.event.Event.TheVariants.{Publish}
 use Rattle.core_model.specs.State.{CoreJob, Hold, State}
-use Rattle.core_model.specs.Operations.{op_in, Place}
+use Rattle.core_model.specs.Operations.{op_of, Place}
 use Rattle.core_model.specs.Serving.{served}
 use Rattle.core_model.specs.Events.{Happens, published, IsTakenCall, IsBatchOf}
 use Rattle.core_model.specs.Invariant.Statuses.{is_taken_by}
@@ -106,7 +106,7 @@ module _ (job : CoreJob) (laws : Laws job) (s : State) (k : ℕ) (batch : List E
   }
 
 to_taken : (job : CoreJob) (s : State) (k : ℕ) (h : HoldView) → s.hold ≡ Some (hold_of k h) → ((u : ℕ) → among h.answered u ≡ false)
-    → ((u : ℕ) (call : OpRecord) → record_in h.taken u ≡ Some call → among h.answered u ≡ false → IsRecordOf job (s.task u) call)
+    → ((u : ℕ) (call : OpRecord) → record_in h.taken u ≡ Some call → among h.answered u ≡ false → IsRecordOf job s.book (s.task u) call)
     → (e : Entry) → record_in h.taken e.worker ≡ Some (call_of e) → IsTakenCall job s e
 to_taken job s k h held told known e at =
     let is = known e.worker (call_of e) at (told e.worker) in record {
@@ -121,7 +121,7 @@ told_none job s k h kept held early u = let stands = rw held at kept.hold in ans
 
 -- the batch of the view is the batch of the state
 to_batch : (job : CoreJob) (s : State) (k : ℕ) (h : HoldView) (batch : List Entry) → Parts job s → s.hold ≡ Some (hold_of k h) → s.book ≡ h.book → ((u : ℕ) → among h.answered u ≡ false)
-    → ((u : ℕ) (call : OpRecord) → record_in h.taken u ≡ Some call → among h.answered u ≡ false → IsRecordOf job (s.task u) call)
+    → ((u : ℕ) (call : OpRecord) → record_in h.taken u ≡ Some call → among h.answered u ≡ false → IsRecordOf job s.book (s.task u) call)
     → ServesTaken h batch → IsBatchOf job s batch
 to_batch job s k h batch kept held same told known serves = record {
   is_batch = serves.is_batch;
@@ -137,7 +137,7 @@ is_history job laws s few parts = record {
   batches = parts.book.batches;
   workers = each_so (λ (e : Entry). e.worker < job.workers) (λ (e : Entry). e.worker < 32) (λ e low. omega arith) (flat s.book) parts.book.among;
   leaves = parts.book.leaves;
-  numbers = each_mapped (λ (e : Entry). e.leaf) (λ (e : Entry). op_in (job.act e.leaf) ≡ Some e.op) (λ (l : ℕ). l < 2 ^ 32) (λ e op. laws.low e.leaf (is_call job e.leaf e.op op)) (flat s.book) parts.book.operations;
+  numbers = each_mapped (λ (e : Entry). e.leaf) (λ (e : Entry). op_of job.act s.book e.leaf ≡ Some e.op) (λ (l : ℕ). l < 2 ^ 32) (λ e op. laws.low e.leaf (is_call job e.leaf e.op op)) (flat s.book) parts.book.operations;
 }
 
 -- the batches of a book

@@ -25,13 +25,13 @@ pending_executing : (st : Status) → st ≡ Pending → st ≡ Executing → �
 pending_executing st e f = absurd (cc)
 
 -- a pending call is not in the book
-pub pending_is_new : (job : CoreJob) (s : State) (u : ℕ) (call : OpRecord) → (kept : Parts job s) → s.status u ≡ Pending → IsRecordOf job (s.task u) call → place_of s.book call.leaf ≡ None
+pub pending_is_new : (job : CoreJob) (s : State) (u : ℕ) (call : OpRecord) → (kept : Parts job s) → s.status u ≡ Pending → IsRecordOf job s.book (s.task u) call → place_of s.book call.leaf ≡ None
 pending_is_new job s u call kept pending is =
     let out = is_out job s u kept (rw pending (λ e. cc)) in
     not_in_book job s u is.0 is.1 call.leaf kept is.2 is.3 (is_call job call.leaf call.op is.4) (λ r e. out_got (s.call u) r out e) (λ r e. pending_served (s.status u) r pending e) (λ e. absurd (pending_executing (s.status u) pending e))
 
 -- two workers' calls have different leaves
-pub leaves_differ : (job : CoreJob) (laws : Laws job) (s : State) (u x : ℕ) (a b : OpRecord) → (kept : Parts job s) → IsRecordOf job (s.task u) a → IsRecordOf job (s.task x) b → a.leaf ≡ b.leaf → u ≡ x
+pub leaves_differ : (job : CoreJob) (laws : Laws job) (s : State) (u x : ℕ) (a b : OpRecord) → (kept : Parts job s) → IsRecordOf job s.book (s.task u) a → IsRecordOf job s.book (s.task x) b → a.leaf ≡ b.leaf → u ≡ x
 leaves_differ job laws s u x a b kept is it same =
     let at = laws.plan.one_node is.0 a.leaf is.3 in
     let at' = laws.plan.one_node it.0 b.leaf it.3 in
@@ -39,7 +39,7 @@ leaves_differ job laws s u x a b kept is it same =
     same_worker job s u x is.0 kept (rw is.2 refl) (rw it.2 (ap Some (sym node)))
 
 -- and so the call that a look takes is none of those that the hold took before
-pub taken_is_new : (job : CoreJob) (laws : Laws job) (s : State) (k u x : ℕ) (h : HoldView) (a b : OpRecord) → (kept : Parts job s) → s.hold ≡ Some (hold_of k h) → u ≡ h.looks → record_in h.taken x ≡ Some b → IsRecordOf job (s.task u) a → IsRecordOf job (s.task x) b → a.leaf ≢ b.leaf
+pub taken_is_new : (job : CoreJob) (laws : Laws job) (s : State) (k u x : ℕ) (h : HoldView) (a b : OpRecord) → (kept : Parts job s) → s.hold ≡ Some (hold_of k h) → u ≡ h.looks → record_in h.taken x ≡ Some b → IsRecordOf job s.book (s.task u) a → IsRecordOf job s.book (s.task x) b → a.leaf ≢ b.leaf
 taken_is_new job laws s k u x h a b kept held next taken is it same =
     let stands = rw held at kept.hold in
     let below = stands.2 x (record_took h.taken x b taken) in

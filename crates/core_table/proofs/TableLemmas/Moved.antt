@@ -30,7 +30,7 @@ use Rattle.core_table.specs.declared.view.LeftCall.{LeftCall}
 use Rattle.core_table.specs.declared.view.View.{View}
 use Rattle.core_table.specs.declared.slot.Slot.{Slot}
 use Rattle.core_table.specs.Words.{WordsShow}
-use Rattle.core_table.specs.declared.setting.Setting.{Setting}
+use Rattle.core_model.specs.declared.setting.Setting.{Setting}
 use Rattle.core_table.specs.Steps.{ShowsOne, TryMakes, ArrivalMakes}
 use Rattle.core_table.specs.Plays.{Sat}
 use Rattle.core_table.specs.Code.Laws.{Laws}
@@ -186,7 +186,7 @@ hold_still job s new k x kept free same_hold same_book same_task (Some v) h = (
   same_book ∙ h.1,
   λ u call is none_yet. elim (cases_eq u k) [
     | inl e ↦ absurd (free_untaken job s k x v call kept free h.0 (ap (record_in v.taken) (sym e) ∙ is) (ap (among v.answered) (sym e) ∙ none_yet))
-    | inr ne ↦ subst (λ (y : Task). IsRecordOf job y call) (sym (same_task u ne)) (h.2 u call is none_yet)
+    | inr ne ↦ subst (λ (y : Task). IsRecordOf job s.book y call) (sym (same_task u ne)) (h.2 u call is none_yet)
   ],
   h.3,
 )
@@ -244,8 +244,8 @@ job_step job room laws t o id k v w words event node mark value tick call y happ
     record {
       wide = o.slots.wide;
       records = λ u below. elim (cases_eq u k) [
-        | inl e ↦ subst (λ (m : ℕ). RecordAt job (put s.task k y m) (s.status m) (get_elem? t.homes m)) (sym e) (subst (λ (st : Status). RecordAt job (put s.task k y k) st (get_elem? t.homes k)) (sym free) tt)
-        | inr ne ↦ subst (λ (z : Task). RecordAt job z (s.status u) (get_elem? t.homes u)) (sym (stay u ne)) (o.slots.records u below)
+        | inl e ↦ subst (λ (m : ℕ). RecordAt job s.book (put s.task k y m) (s.status m) (get_elem? t.homes m)) (sym e) (subst (λ (st : Status). RecordAt job s.book (put s.task k y k) st (get_elem? t.homes k)) (sym free) tt)
+        | inr ne ↦ subst (λ (z : Task). RecordAt job s.book z (s.status u) (get_elem? t.homes u)) (sym (stay u ne)) (o.slots.records u below)
       ];
       shop = o.slots.shop;
       batches = o.slots.batches;

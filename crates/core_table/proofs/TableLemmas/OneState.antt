@@ -13,7 +13,8 @@ use Rattle.core_model.specs.Invariant.{Parts}
 use Rattle.core_model.specs.Invariant.Ticks.{start_of as start_of_node}
 use Rattle.core_model.specs.Invariant.Values.{IsKept}
 use Rattle.core_model.specs.Serving.{served}
-use Rattle.core_table.specs.CoreWords.{Progress, Waiting, Ready, Taken, Done, Ran, Status, Free, Pending, Executing, Served, Task, CallState, NotCalled, Out, Receipt, Kind}
+use Rattle.core_model.specs.Words.{Kind}
+use Rattle.core_table.specs.CoreWords.{Progress, Waiting, Ready, Taken, Done, Ran, Status, Free, Pending, Executing, Served, Task, CallState, NotCalled, Out, Receipt}
 use Rattle.core_table.specs.declared.slot.Slot.{Slot}
 use Rattle.core_table.specs.declared.slot.Slot.TheVariants as Slots
 use Rattle.core_table.specs.declared.view.View.{View}
@@ -70,23 +71,23 @@ some_both : (a b : Slot) → some (some a) ≡ some (some b) → a ≡ b
 some_both a b e = some-injective _ _ (some-injective _ _ e)
 
 -- the word of a worker tells its status, and the slot the receipt
-same_status : (job : CoreJob) (a b : Task) (x y : Status) (home : Home) → status_code x ≡ status_code y → RecordAt job a x home → RecordAt job b y home → x ≡ y
-same_status job a b Free Free home same at at' = refl
-same_status job a b Free Pending home same at at' = absurd (omega (arith, same))
-same_status job a b Free Executing home same at at' = absurd (omega (arith, same))
-same_status job a b Free (Served q) home same at at' = absurd (omega (arith, same))
-same_status job a b Pending Free home same at at' = absurd (omega (arith, same))
-same_status job a b Pending Pending home same at at' = refl
-same_status job a b Pending Executing home same at at' = absurd (omega (arith, same))
-same_status job a b Pending (Served q) home same at at' = absurd (omega (arith, same))
-same_status job a b Executing Free home same at at' = absurd (omega (arith, same))
-same_status job a b Executing Pending home same at at' = absurd (omega (arith, same))
-same_status job a b Executing Executing home same at at' = refl
-same_status job a b Executing (Served q) home same at at' = absurd (omega (arith, same))
-same_status job a b (Served r) Free home same at at' = absurd (omega (arith, same))
-same_status job a b (Served r) Pending home same at at' = absurd (omega (arith, same))
-same_status job a b (Served r) Executing home same at at' = absurd (omega (arith, same))
-same_status job a b (Served r) (Served q) home same at at' = ap Served (receipts r q (some_both _ _ (sym at ∙ at')))
+same_status : (job : CoreJob) (p q : List (List Entry)) (a b : Task) (x y : Status) (home : Home) → status_code x ≡ status_code y → RecordAt job p a x home → RecordAt job q b y home → x ≡ y
+same_status job p q a b Free Free home same at at' = refl
+same_status job p q a b Free Pending home same at at' = absurd (omega (arith, same))
+same_status job p q a b Free Executing home same at at' = absurd (omega (arith, same))
+same_status job p q a b Free (Served x) home same at at' = absurd (omega (arith, same))
+same_status job p q a b Pending Free home same at at' = absurd (omega (arith, same))
+same_status job p q a b Pending Pending home same at at' = refl
+same_status job p q a b Pending Executing home same at at' = absurd (omega (arith, same))
+same_status job p q a b Pending (Served x) home same at at' = absurd (omega (arith, same))
+same_status job p q a b Executing Free home same at at' = absurd (omega (arith, same))
+same_status job p q a b Executing Pending home same at at' = absurd (omega (arith, same))
+same_status job p q a b Executing Executing home same at at' = refl
+same_status job p q a b Executing (Served x) home same at at' = absurd (omega (arith, same))
+same_status job p q a b (Served r) Free home same at at' = absurd (omega (arith, same))
+same_status job p q a b (Served r) Pending home same at at' = absurd (omega (arith, same))
+same_status job p q a b (Served r) Executing home same at at' = absurd (omega (arith, same))
+same_status job p q a b (Served r) (Served x) home same at at' = ap Served (receipts r x (some_both _ _ (sym at ∙ at')))
 
 -- each number past the workers' is that of nobody, and each other one has a seat
 by_worker : (workers w : ℕ) (Goal : Type 0) → (w < workers → Goal) → (workers ≤ w → Goal) → Goal
@@ -189,7 +190,7 @@ one_state job room laws t a b few =
           same_value (one.value n) (two.value n) x.0 y.0 (get_or t.words (value_at job.workers job.plan.count n) 0) x.1 y.1 (a.words.values n low) (b.words.values n low);
       task = task;
       status = λ w. by_worker job.workers w (one.status w ≡ two.status w)
-          (λ low. same_status job (one.task w) (two.task w) (one.status w) (two.status w) (get_elem? t.homes w)
+          (λ low. same_status job one.book two.book (one.task w) (two.task w) (one.status w) (two.status w) (get_elem? t.homes w)
           (sym (a.words.statuses w low) ∙ b.words.statuses w low) (a.slots.records w low) (b.slots.records w low))
           (λ high. (a.parts.beyond w high).1 ∙ sym (b.parts.beyond w high).1);
       call = λ w. by_worker job.workers w (one.call w ≡ two.call w)

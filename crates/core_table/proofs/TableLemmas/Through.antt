@@ -125,19 +125,19 @@ hold_same job s new x same_hold same_book same_task None m = λ i is. m i (sym s
 hold_same job s new x same_hold same_book same_task (Some v) m = (
   same_hold ∙ m.0,
   same_book ∙ m.1,
-  (λ u call is yet. subst (λ (y : Task). IsRecordOf job y call) (sym (same_task u)) (m.2 u call is yet)),
+  (λ u call is yet. subst (λ (y : Task). IsRecordOf job s.book y call) (sym (same_task u)) (m.2 u call is yet)),
   m.3,
 )
 
 -- a record slot changes with its worker's status
 pub slots_record : (job : CoreJob) (room : ℕ) (homes : List (Option Slot)) (task : ℕ → Task) (status : ℕ → Status) (hold hold' : Maybe Hold) (book : List (List Entry)) (j : ℕ) (x : Status) (h : Option Slot)
-    → SlotsShow job room homes task status hold book → j < job.workers → RecordAt job (task j) x (some h)
+    → SlotsShow job room homes task status hold book → j < job.workers → RecordAt job book (task j) x (some h)
     → ((home : Home) → ShopAt hold book home → ShopAt hold' book home) → ((home : Home) → BookAt room hold book home → BookAt room hold' book home)
     → SlotsShow job room (set homes j h) task (put status j x) hold' book
 slots_record job room homes task status hold hold' book j x h o below here shop batches = record {
   wide = length-set homes j h ∙ o.wide;
   records = λ u low. elim (cases_eq u j) [
-    | inl e ↦ subst (λ (m : ℕ). RecordAt job (task m) (put status j x m) (get_elem? (set homes j h) m)) (sym e)
+    | inl e ↦ subst (λ (m : ℕ). RecordAt job book (task m) (put status j x m) (get_elem? (set homes j h) m)) (sym e)
         (rw (put_at status j j x refl, set_here homes j h (omega (arith, o.wide, below))) here)
     | inr ne ↦ rw (put_other status j u x ne, set_else homes j u h ne) (o.records u low)
   ];

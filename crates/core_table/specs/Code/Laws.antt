@@ -7,12 +7,13 @@ use Rattle.core_model.specs.State.{CoreJob, State, opening_state}
 use Rattle.core_model.specs.Entries.{entries_of, StandsAt, IsUnserved}
 use Rattle.core_model.specs.Events.{Happens, HasStarted}
 use Rattle.core_model.specs.Measure.{call_count}
-use Rattle.core_model.specs.Operations.{IsCall, Place, op_in, place_of, receipt_for}
+use Rattle.core_model.specs.Operations.{IsCall, Place, op_of, place_of, receipt_for}
 use Rattle.core_model.specs.Tasks.{is_done}
 use Rattle.core_model.specs.Invariant.Statuses.{is_taken_by}
 use Rattle.core_model.specs.Invariant.{Parts}
 use Rattle.core_model.specs.Waits.{IsTrapped, WaitsSince, task_place}
-use Rattle.core_table.specs.CoreWords.{IsPlan, IsSide, SeqNode, ParNode, OpenSecond, FinishParent, Arrive, Op, Event, Publish, Receipt, Served, Whole}
+use Rattle.core_model.specs.Words.{IsPlan, IsSide, SeqNode, ParNode, OpenSecond, FinishParent, Arrive, Op}
+use Rattle.core_table.specs.CoreWords.{Event, Publish, Receipt, Served, Whole}
 
 pub record Laws (job : CoreJob) : Type 0 where
   pub plan : IsPlan job.plan
@@ -40,7 +41,7 @@ pub record Laws (job : CoreJob) : Type 0 where
       × (place.batch ≡ length old.book) × (place.entry.worker ≡ w)
       × (entries_of w (flat new.book) ≡ entries_of w (flat old.book) ++ place.entry ∷ [])
   -- a served worker has the receipt of its call's entry
-  pub receipt : (s : State) (worker node leaf : ℕ) (op : Op) (receipt : Receipt) → Parts job s → s.status worker ≡ Served receipt → HasStarted job s worker node leaf → op_in (job.act leaf) ≡ Some op
+  pub receipt : (s : State) (worker node leaf : ℕ) (op : Op) (receipt : Receipt) → Parts job s → s.status worker ≡ Served receipt → HasStarted job s worker node leaf → op_of job.act s.book leaf ≡ Some op
       → (place : Place) × (task_place job s.book (s.task worker) ≡ Some place)
       × (place_of s.book leaf ≡ Some place) × (receipt ≡ receipt_for place)
       × (place.entry ≡ record { leaf = leaf; worker = worker; op = op; reply = receipt.reply })

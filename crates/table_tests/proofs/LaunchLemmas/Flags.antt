@@ -1,5 +1,6 @@
 -- What a pass that has the flag has in hand after each of its calls.
 use Rattle.std.proofs.Common.{ℕ, ◌≡◌, ◌<◌, ◌≤◌, ◌+◌, true, false, Some, List, [], ◌∷◌, ◌++◌, length, get_or, arith, sym, ap, ◌∙◌, subst}
+use Rattle.sp_order.specs.Jobs.{tree_or_leaf}
 use Rattle.sp_order.specs.Precedence.{Tree}
 use Rattle.sp_order.specs.Preorder.{nodes_of}
 use Rattle.seq_objects.specs.declared.call.Call.{Call}
@@ -31,7 +32,7 @@ few_calls : (t : CoreTable) → IsTwoAdds t → call_count (job_in t) ≤ 20000
 unfolding nodes_of
 few_calls t two =
     let some = room_few (job_in t) in
-    let three : (job_in t).plan.count ≡ 3 = ap (λ (tree : Tree). (nodes_of tree).count) two.tree in
+    let three : (job_in t).plan.count ≡ 3 = ap (λ (tree : Tree). (nodes_of tree).count) (ap tree_or_leaf two.shape) in
     omega (arith, some, three)
 
 module _ (t : CoreTable) (node n : ℕ) (before : List (List Entry)) (calls : List Call) (p q : Pass) (f : HasFlag t node before n calls p) (own : IsPassOf t q) where

@@ -12,7 +12,8 @@ use Rattle.core_table.specs.declared.view.TakenCall.{TakenCall}
 use Rattle.core_table.specs.declared.view.HoldView.{HoldView}
 use Rattle.core_table.specs.Plays.{IsNewCall}
 use Rattle.core_table.specs.Views.{taken_view, passed_view}
-use Rattle.worker_crew.specs.Words.{Call, Entry}
+use Rattle.seq_objects.specs.declared.call.Call.{Call}
+use Rattle.core_model.specs.Words.{Entry}
 use Rattle.worker_crew.specs.Holds.{AreFit, StayFit}
 use Rattle.worker_crew.specs.Seats.{taken_call, hold_seen}
 use Rattle.launch_batch.proofs.ListLemmas.Among.{Among, all_among}

@@ -10,10 +10,11 @@ use Rattle.core_table.specs.declared.table.CoreTable.{CoreTable}
 use Rattle.core_table.specs.declared.table.Pass.{Pass}
 use Rattle.core_table.specs.Passes.{IsPassOf, job_in, view}
 use Rattle.core_table.specs.Shows.{IsFront, entry_of}
+use Rattle.core_model.specs.Words.{Entry}
 use Rattle.core_table.specs.CoreWords.{Event, Leave, Release}
+use Rattle.worker_crew.specs.Words.{Task, Receipt}
 use Rattle.core_table.specs.Views as views
 use Rattle.launch_batch.proofs.ListLemmas.Elements.{map_append}
-use Rattle.worker_crew.specs.Words.{Task, Receipt, Entry}
 use Rattle.worker_crew.specs.Holds.{HoldSeen}
 use Rattle.worker_crew.specs.Passes as passes
 use Rattle.worker_crew.specs.Passes.{PassSeen, Holds, IsLeft, IsDue, IsBooked}

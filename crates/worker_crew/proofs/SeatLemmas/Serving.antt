@@ -16,7 +16,9 @@ use Rattle.core_table.specs.declared.view.HoldView.{HoldView}
 use Rattle.core_table.specs.Shows.{took_in, record_in, among}
 use Rattle.core_table.specs.Batches as batches
 use Rattle.core_table.specs.Batches.{call_of, ServesTaken}
-use Rattle.worker_crew.specs.Words.{Call, Entry, Receipt}
+use Rattle.seq_objects.specs.declared.call.Call.{Call}
+use Rattle.core_model.specs.Words.{Entry}
+use Rattle.worker_crew.specs.Words.{Receipt}
 use Rattle.worker_crew.specs.Holds.{workers_in, IsPublishDue, IsAnswerDue, IsReleaseDue}
 use Rattle.worker_crew.specs.Seats.{hold_seen}
 use Rattle.launch_batch.proofs.ListLemmas.Among.{Among, all_among, each_among, among_same, same_among}

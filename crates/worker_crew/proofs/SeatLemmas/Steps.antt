@@ -15,7 +15,7 @@ use Rattle.core_model.specs.Operations.{leaf_of, op_in, IsLeaf}
 use Rattle.core_model.specs.Events.{value_in, task_after}
 use Rattle.core_model.specs.declared.task.Task.TheVariants.{Half, Started, Kept, Ended, Whole, Handed}
 use Rattle.core_table.specs.Passes.{IsTickDue, IsOpenDue, IsFinishDue, IsArriveDue, IsInner, opened_task, half_if}
-use Rattle.core_table.specs.Shows.{IsRecordOf}
+use Rattle.core_table.specs.Shows.{IsPostDue}
 use Rattle.core_table.specs.Views.{ticked}
 use Rattle.worker_crew.specs.Words.{Task, Idle, Run, CallState, NotCalled, Out, Got}
 use Rattle.worker_crew.specs.declared.step.Step.{Step}
@@ -46,7 +46,7 @@ module _ (job : CoreJob) (task : Task) (call : CallState) where
   IsStepDue (Some steps.End) = IsTickDue job task
   IsStepDue (Some steps.Open) = IsOpenDue job task
   IsStepDue (Some (steps.Spin number)) = HasValue (spin_of number)
-  IsStepDue (Some (steps.Call leaf op)) = (call ≡ NotCalled) × IsRecordOf job task (record { leaf = leaf; op = op })
+  IsStepDue (Some (steps.Call leaf op)) = (call ≡ NotCalled) × IsPostDue job task (record { leaf = leaf; op = op })
   IsStepDue (Some (steps.Got reply)) = HasValue (value_of reply)
   IsStepDue (Some steps.Finish) = IsFinishDue job task
   IsStepDue (Some steps.Arrive) = IsArriveDue job task
@@ -83,7 +83,7 @@ started_due : (job : CoreJob) (n start : ℕ) (call : CallState) (act : Act) →
     → IsStepDue job (Started n start) call (step_started act (leaf_of (job.plan.kind n)) call)
 started_due job n start call (acts.Work number) leaf is = (n, start, refl, ap (λ a. value_in a call) is)
 started_due job n start NotCalled (acts.Call op) leaf is =
-    (refl, (n, start, refl, leaf.1 ∙ ap (λ u. Some (LeafNode u)) (sym (ap leaf_of leaf.1)), ap op_in is))
+    (refl, (n, start, refl, leaf.1 ∙ ap (λ u. Some (LeafNode u)) (sym (ap leaf_of leaf.1)), (λ book. ap op_in is)))
 started_due job n start Out (acts.Call op) leaf is = tt
 started_due job n start (Got receipt) (acts.Call op) leaf is = (n, start, refl, ap (λ a. value_in a (Got receipt)) is)
 

@@ -2,7 +2,7 @@
 ghost use Rattle.std.specs.Prelude.{◌≡◌, ◌*◌, ◌<◌, ◌≤◌, ℕ, length, slice_index_or, Some, IsSome, IfOk};
 ghost use Rattle.std.specs.List.{count_by};
 ghost use Rattle.sp_order.specs.Preorder.{nodes_of};
-ghost use Rattle.core_table.specs.Passes.{tree_in, acts_in, job_in};
+ghost use Rattle.core_table.specs.Passes.{job_in, planned_in};
 ghost use Rattle.two_deques.specs.Hands.{core_room_of, batch_room_of};
 ghost use Rattle.two_deques.specs.Hands.{held, workers_of, fresh_hand, IsHandOf, AreHands};
 ghost use Rattle.piece_board.specs.Boards.{workers_of as rows_of, AreDesks};
@@ -98,18 +98,18 @@ impl<'a, G: Pause> Crew<'a, CoreTable, G> {
         requires leaves { IsSome job.now.shape }
         requires some_workers { 0 < workers }
         requires few_workers { workers ≤ 32 }
-        ensures job { IfOk result (λ made. (Some (tree_in made.0.table) ≡ job.now.shape)
-            × (acts_in made.0.table ≡ job.now.acts) × ((job_in made.0.table).workers ≡ workers)) }
+        ensures job { IfOk result (λ made. (planned_in made.0.table ≡ job.now)
+            × ((job_in made.0.table).workers ≡ workers)) }
         ensures workers { IfOk result (λ made. (made.0.workers ≡ workers)
             × (workers_of made.0.decks ≡ workers)) }
         ensures rooms { IfOk result (λ made.
-            (core_room_of made.0.decks ≡ (nodes_of (tree_in made.0.table)).count)
+            (core_room_of made.0.decks ≡ (job_in made.0.table).plan.count)
             × (batch_room_of made.0.decks ≡ 8 * count_by is_call job.now.acts)) }
         ensures start { IfOk result (λ made. AreAtStart (IsSeat made.0.table) seat_seen made.0.decks
             made.0.board workers workers made.1.items) }
     {
         let (table, passes) = CoreTable::make(alloc, job, workers)?;
-        let nodes = table.plan().nodes();
+        let nodes = table.job().nodes();
         let calls = count_calls(job.acts());
         let (decks, hands) = Decks::make(alloc, workers, nodes, 8 * calls)?;
         let (board, desks) = Board::make(alloc, workers)?;

@@ -2,7 +2,8 @@
 use Rattle.std.proofs.Common.{◌≡◌, ℕ, zero, suc, ◌+◌, ◌<◌, Option, None, Some, List, [], ◌∷◌, ◌++◌, length, take, get_or, sym, refl, ap, ◌∙◌, subst, arith}
 use Rattle.std.specs.Prelude.{slice_get}
 use Rattle.std.proofs.lemmas.List.{take_more, length-map}
-use Rattle.worker_crew.specs.Words.{Entry, Receipt}
+use Rattle.core_model.specs.Words.{Entry}
+use Rattle.worker_crew.specs.Words.{Receipt}
 use Rattle.worker_crew.specs.Holds.{HoldSeen, workers_in, IsAnswerDue, after_answer}
 use Rattle.worker_crew.specs.Passes.{PassSeen, Holds, IsHeld, in_hold, answering}
 use Rattle.worker_turns.specs.Code.Serving.{after_answers, answered_all, IsAnswerable}

@@ -5,7 +5,8 @@ use Rattle.std.specs.List.{AllByRecursion}
 use Rattle.batch_history.specs.Book.{flat, IsBatch, IsHistory}
 use Rattle.batch_history.specs.Serving.{calls_in, call_in}
 use Rattle.launch_batch.specs.Calls.{MayServe, AreSame, IsServiceOf}
-use Rattle.worker_crew.specs.Words.{Call, Entry}
+use Rattle.seq_objects.specs.declared.call.Call.{Call}
+use Rattle.core_model.specs.Words.{Entry}
 use Rattle.worker_crew.specs.Holds.{HoldSeen, workers_in, after_publish}
 use Rattle.worker_crew.specs.Passes.{PassSeen, Holds, IsHeld, is_trapped, in_hold, publishing}
 use Rattle.worker_turns.specs.Code.Serving.{IsAnswerable, taken_hold, served_hold, after_answers, answered_all}

@@ -1,6 +1,7 @@
 -- The release of a launch, and what it leaves.
 use Rattle.std.proofs.Common.{◌≡◌, ◌≢◌, ℕ, true, None, Some, List, [], inl, inr, sym, refl, ap, ◌∙◌, subst, arith, append-nil}
-use Rattle.worker_crew.specs.Words.{Call, Entry}
+use Rattle.seq_objects.specs.declared.call.Call.{Call}
+use Rattle.core_model.specs.Words.{Entry}
 use Rattle.launch_batch.specs.Calls.{MayServe}
 use Rattle.worker_crew.specs.Holds.{HoldSeen, new_hold, AreFit, IsReleaseDue}
 use Rattle.worker_crew.specs.Passes.{PassSeen, Holds, IsHeld, is_trapped, in_hold, book_after, releasing}

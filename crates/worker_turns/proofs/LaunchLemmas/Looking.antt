@@ -1,6 +1,6 @@
 -- The looks of a launch.
 use Rattle.std.proofs.Common.{◌≡◌, ℕ, ◌+◌, Option, None, Some, List, [], ◌∷◌, ◌++◌, sym, refl, ap, ◌∙◌, subst}
-use Rattle.worker_crew.specs.Words.{Call}
+use Rattle.seq_objects.specs.declared.call.Call.{Call}
 use Rattle.worker_crew.specs.Holds.{HoldSeen, AreFit, StayFit, IsLooking, after_take, after_pass}
 use Rattle.worker_crew.specs.Passes.{PassSeen, Holds, IsHeld, in_hold, taking, passing}
 use Rattle.worker_turns.specs.Code.Serving.{IsNewHold, after_looks, looked}

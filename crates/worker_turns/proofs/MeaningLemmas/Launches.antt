@@ -2,7 +2,7 @@
 use Rattle.std.proofs.Common.{◌≡◌, ℕ, ◌+◌, ◌⊎◌, List, [], ◌++◌, length, refl, ap, ◌∙◌, subst, inl, inr, arith, append-nil}
 use Rattle.two_deques.specs.declared.spot.Spot.{Spot}
 use Rattle.two_deques.specs.Ends.{HeldEnds}
-use Rattle.worker_crew.specs.Words.{Entry}
+use Rattle.core_model.specs.Words.{Entry}
 use Rattle.worker_turns.specs.declared.trapped.Trapped.TheVariants.{Launched}
 use Rattle.worker_crew.specs.Passes.{PassSeen}
 use Rattle.worker_crew.specs.Holds.{HoldSeen, TookNone, ServedAll}

@@ -1,6 +1,7 @@
 -- What is read off the paths of what a turn, or a launch, leaves as it was.
 use Rattle.std.proofs.Common.{◌≡◌, ℕ, ◌+◌, true, Option, None, Some, List, [], ◌∷◌, ◌++◌, sym, refl, ap, ◌∙◌, subst, inl, inr, append_assoc}
-use Rattle.worker_crew.specs.Words.{Entry, Receipt, CallState, Got}
+use Rattle.core_model.specs.Words.{Entry}
+use Rattle.worker_crew.specs.Words.{Receipt, CallState, Got}
 use Rattle.worker_turns.specs.declared.found.Tried.{Tried}
 use Rattle.worker_turns.specs.declared.found.Tried.TheVariants.{Ran, Dropped, Dry}
 use Rattle.worker_turns.specs.declared.found.Other.{Other}

@@ -1,7 +1,7 @@
 -- The hold in the course of a launch.
 use Rattle.std.specs.Prelude.{ℕ, ◌≡◌, true, Some, List, [], ◌∷◌, ◌++◌, length}
 use Rattle.seq_objects.specs.declared.call.Call.{Call}
-use Rattle.worker_crew.specs.Words.{Entry}
+use Rattle.core_model.specs.Words.{Entry}
 use Rattle.launch_batch.specs.Calls.{IsServiceOf}
 use Rattle.worker_crew.specs.Holds.{HoldSeen, new_hold, workers_in, IsPublished}
 use Rattle.worker_crew.specs.Passes.{PassSeen, in_hold}

@@ -2,7 +2,7 @@
 use Rattle.std.specs.Prelude.{ℕ, ◌≡◌, ◌+◌, ◌⊎◌, true, false, None, Some, List, [], ◌∷◌, length}
 use Rattle.batch_history.specs.Serving.{calls_in}
 use Rattle.launch_batch.specs.Calls.{AreSame, IsServiceOf}
-use Rattle.worker_crew.specs.Words.{Entry}
+use Rattle.core_model.specs.Words.{Entry}
 use Rattle.worker_crew.specs.Holds.{HoldSeen, workers_in}
 use Rattle.worker_turns.specs.Launches.{ArePlaces}
 use Rattle.worker_turns.specs.Pieces.{Desk}

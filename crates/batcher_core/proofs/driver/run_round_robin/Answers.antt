@@ -1,5 +1,6 @@
 use Rattle.std.proofs.Common.{◌+◌, sym, ◌∙◌}
 use Rattle.std.proofs.lemmas.Nat.{mod_below}
+use Rattle.sp_order.specs.Jobs.{job_tree}
 use Rattle.batcher_core.specs.Cores.{state_in}
 use Rattle.core_model.specs.Runs.{over}
 use Rattle.batcher_core.proofs.ReportLemmas.Reporting.{over_is}
@@ -11,7 +12,7 @@ pub loop-over-smaller : goal.loop-over-smaller
 loop-over-smaller c =
     let unspent = c.in_ok-over.ensures.spent in
     rw c.next_worker-worker.ensures (round_fewer c.args.core.now c.loop-over.core c.take_turn.new.core c.workers-workers.result c.loop-over.worker c.loop-over.invariant.job (c.invariant_holds.ensures unspent)
-    (c.plan_stands_for_tree.ensures c.loop-over.core.tree) c.workers-workers.ensures.workers c.loop-over.invariant.below (sym c.loop-over.invariant.over ∙ c.loop-over-test.true) unspent
+    (c.plan_stands_for_tree.ensures (job_tree c.loop-over.core.job)) c.workers-workers.ensures.workers c.loop-over.invariant.below (sym c.loop-over.invariant.over ∙ c.loop-over-test.true) unspent
     c.in_ok-over.ensures.turn)
 
 pub loop-over-preserved : goal.loop-over-preserved

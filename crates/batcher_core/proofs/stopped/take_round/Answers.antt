@@ -11,7 +11,7 @@ use Rattle.batcher_core.proofs.stopped.take_round.Goals as goal
 
 pub loop-worker-init : goal.loop-worker-init
 loop-worker-init c = record {
-  job = (refl, refl, refl);
+  job = (refl, refl);
   unspent = c.requires.unspent;
   drives = λ last drives. subst (λ n. LiveDrive (job_in c.args.core.now) (at c.args.live.now false) (state_in c.args.core.now) n last)
       (mod-eq_of_lt (subst (λ n. 0 < n) c.workers-worker-end.ensures.workers c.workers-worker-end.ensures.some)) drives;
@@ -48,7 +48,7 @@ loop-worker-preserved c =
     let same = c.loop-worker.invariant.job in
     let live = at c.args.live.now false in
     let below : c.loop-worker.worker < c.args.core.now.workers = subst (λ n. c.loop-worker.worker < n) c.workers-worker-end.ensures.workers c.loop-worker-test.true in
-    let among : c.loop-worker.worker < c.loop-worker.core.workers = subst (λ n. c.loop-worker.worker < n) (sym same.2) below in
+    let among : c.loop-worker.worker < c.loop-worker.core.workers = subst (λ n. c.loop-worker.worker < n) (sym same.1) below in
     let fits = c.invariant_holds.ensures c.loop-worker.invariant.unspent in
     record {
       job = same_since c.args.core.now c.loop-worker.core c.moves.new.core same c.in_ok-moved.ensures.job;

@@ -1,5 +1,6 @@
 use Rattle.std.proofs.Common.{ℕ, ◌+◌, ◌/◌, ◌%◌, [], ◌∷◌, get_or, sym, ap, ◌∙◌, arith, refl}
 use Rattle.std.specs.Mem.Slots.{slots_items}
+use Rattle.sp_order.specs.Jobs.{job_tree}
 use Rattle.sp_order.specs.Preorder.{nodes_of}
 use Rattle.batch_history.specs.declared.row.Row.{Row}
 use Rattle.core_table.proofs.ListLemmas.Lists.{each_append}
@@ -12,14 +13,14 @@ use Rattle.core_table.proofs.close.read_rows.Goals as goal
 
 pub word-word-requires : goal.word-word-requires
 word-word-requires c =
-    let tree = c.args.plan.now in let plan = nodes_of tree in let leaf = c.loop-leaf.leaf in
+    let tree = job_tree c.args.job.now in let plan = nodes_of tree in let leaf = c.loop-leaf.leaf in
     let stands = c.plan_stands_for_tree.ensures tree in
     let below = leaf_in plan leaf (c.plan_has_sides.ensures plan tree stands) ((c.leaf_has_one_node.ensures plan tree stands leaf (plan.node_of leaf) (omega (arith, c.loop-leaf-test.true, c.requires.plan.1))).1 refl) in
     (omega (arith, c.requires.words.1, below, c.node_of-node.ensures, c.requires.plan.0), c.requires.words.0)
 
 pub word-value-requires : goal.word-value-requires
 word-value-requires c =
-    let tree = c.args.plan.now in let plan = nodes_of tree in let leaf = c.loop-leaf.leaf in
+    let tree = job_tree c.args.job.now in let plan = nodes_of tree in let leaf = c.loop-leaf.leaf in
     let stands = c.plan_stands_for_tree.ensures tree in
     let below = leaf_in plan leaf (c.plan_has_sides.ensures plan tree stands) ((c.leaf_has_one_node.ensures plan tree stands leaf (plan.node_of leaf) (omega (arith, c.loop-leaf-test.true, c.requires.plan.1))).1 refl) in
     (omega (arith, c.requires.words.1, below, c.node_of-node.ensures, c.requires.plan.0), c.requires.words.0)
@@ -27,7 +28,7 @@ word-value-requires c =
 pub loop-leaf-preserved : goal.loop-leaf-preserved
 loop-leaf-preserved c =
     let i = c.loop-leaf.invariant in let leaf = c.loop-leaf.leaf in let workers = c.args.workers in let nodes = c.args.nodes in
-    let node_of = (nodes_of c.args.plan.now).node_of in let ws = slots_items c.args.closed.now.words in
+    let node_of = (nodes_of (job_tree c.args.job.now)).node_of in let ws = slots_items c.args.closed.now.words in
     let word = sym (at_word ws (workers + 4 + c.node_of-node.result) c.word-word.result c.word-word.ensures) ∙ ap (λ (n : ℕ). get_or ws (node_at workers n) 0) c.node_of-node.ensures in
     let value = sym (at_word ws (workers + 4 + nodes + nodes + c.node_of-node.result) c.word-value.result c.word-value.ensures) ∙ ap (λ (n : ℕ). get_or ws (value_at workers nodes n) 0) c.node_of-node.ensures in
     let row : Row = record { leaf = leaf; worker = c.word-word.result / 4 % 32; start = c.word-word.result / 128 % 1048576; end = c.word-word.result / 134217728; value = c.word-value.result } in record {

@@ -2,7 +2,7 @@ use Rattle.std.proofs.Common.{◌≡◌, Some, []}
 use Rattle.two_deques.specs.Hands.{held}
 use Rattle.piece_board.specs.Boards.{desk_view}
 use Rattle.worker_crew.specs.declared.step.Step.TheVariants as steps
-use Rattle.worker_crew.specs.Words.{Op}
+use Rattle.core_model.specs.Words.{Op}
 use Rattle.worker_crew.specs.Passes.{IsFront, IsTrapped}
 use Rattle.worker_crew.specs.Workers.{IsMeOf}
 use Rattle.worker_turns.specs.Trapped.{IsJobSame}

@@ -1,5 +1,5 @@
 use Rattle.std.proofs.Common.{rules, ◌≡◌, List, length, map, ap, arith}
-use Rattle.worker_crew.specs.Words.{Entry}
+use Rattle.core_model.specs.Words.{Entry}
 use Rattle.seq_objects.specs.Pieces.{BatchContext}
 use Rattle.launch_batch.specs.declared.piece.PieceIn.{PieceIn}
 use Rattle.launch_batch.specs.Pieces.{place_of}

@@ -12,7 +12,7 @@ pub returns-clause-report : goal.returns-clause-report
 returns-clause-report c =
     let order = rw (← c.self.view_is) at c.in_ok-rows.ensures.leaves in
     let tell = rw (← c.self.view_is) at c.in_ok-rows.ensures.rows in
-    rw (← c.self.view_is, c.of.ensures, c.history_of.ensures) (reported c.self.inside.job.plan c.self.inside.job.acts.items c.self.inside.job.workers c.self.inside.table c.in_ok-rows.rows.items order tell)
+    rw (← c.self.view_is, c.of.ensures, c.history_of.ensures) (reported c.self.inside.setting.job c.self.inside.setting.workers c.self.inside.table c.in_ok-rows.rows.items order tell)
 
 pub returns-clause-lawful : goal.returns-clause-lawful
 returns-clause-lawful c =
@@ -20,4 +20,4 @@ returns-clause-lawful c =
     let fits = c.self.invariant.1 over.0 in
     let is = rw (← c.self.view_is) at (returns-clause-report c) in
     rw (← c.self.view_is)
-    (c.done_report_is_lawful.ensures c.self.inside.job.plan c.self.inside.job.acts.items c.self.inside.job.workers (state_of c.self.inside.table) _ (sym fits.leaves) fits.inv.parts over.1 is)
+    (c.done_report_is_lawful.ensures c.self.inside.setting.job c.self.inside.setting.workers (state_of c.self.inside.table) _ fits.shape (sym fits.leaves) fits.inv.parts over.1 is)

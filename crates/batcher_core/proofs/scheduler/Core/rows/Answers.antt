@@ -1,4 +1,5 @@
-use Rattle.std.proofs.Common.{◌≡◌, arith, sym, ◌∙◌}
+use Rattle.std.proofs.Common.{◌≡◌, length, ap, arith, sym, ◌∙◌}
+use Rattle.sp_order.specs.Jobs.{job_tree}
 use Rattle.core_model.proofs.Words.{leaves, core_job}
 use Rattle.core_state.specs.Abstraction.{state_of}
 use Rattle.core_model.proofs.BookLemmas.LeavesIn.{leaves_few}
@@ -9,37 +10,37 @@ pub overflow_cast-leaf_total : goal.overflow_cast-leaf_total
 overflow_cast-leaf_total c =
     let over = over_is _ _ (rw (← c.self.view_is) at c.requires) in
     let fits = c.self.invariant.1 over.0 in
-    let few = leaves_few c.self.inside.job.plan in
-    let count = (c.plan_stands_for_tree.ensures c.self.inside.job.plan).count in
-    omega (arith, c.len-leaf_total.ensures, c.self.inside.job.acts.ok.0, fits.leaves, fits.most, few, count)
+    let few = leaves_few (job_tree c.self.inside.setting.job) in
+    let count = (c.plan_stands_for_tree.ensures (job_tree c.self.inside.setting.job)).count in
+    omega (arith, ap length c.acts.ensures.acts, fits.leaves, fits.most, few, count)
 
 pub rows_of-requires-clause-ran : goal.rows_of-requires-clause-ran
 unfolding state_of
 rows_of-requires-clause-ran c =
     let over = over_is _ _ (rw (← c.self.view_is) at c.requires) in
     let fits = c.self.invariant.1 over.0 in
-    let job = core_job c.self.inside.job.plan c.self.inside.job.acts.items c.self.inside.job.workers in
+    let job = core_job c.self.inside.setting.job c.self.inside.setting.workers in
     let parts = fits.inv.parts in
-    let all : c.len-leaf_total.result ≡ leaves c.self.inside.job.plan = c.len-leaf_total.ensures ∙ c.self.inside.job.acts.ok.0 ∙ sym fits.leaves in
+    let all : length c.acts.result.now ≡ leaves (job_tree c.self.inside.setting.job) = ap length c.acts.ensures.acts ∙ sym fits.leaves in
     rw (c.deref.ensures.value, all)
-    (λ leaf below. (c.done_leaves_have_run.ensures job c.self.inside.job.plan (state_of c.self.inside.table) (c.plan_stands_for_tree.ensures c.self.inside.job.plan) parts over.1 leaf below).0)
+    (λ leaf below. (c.done_leaves_have_run.ensures job (job_tree c.self.inside.setting.job) (state_of c.self.inside.table) (c.plan_stands_for_tree.ensures (job_tree c.self.inside.setting.job)) parts over.1 leaf below).0)
 
 pub rows_of-requires-clause-valued : goal.rows_of-requires-clause-valued
 unfolding state_of
 rows_of-requires-clause-valued c =
     let over = over_is _ _ (rw (← c.self.view_is) at c.requires) in
     let fits = c.self.invariant.1 over.0 in
-    let job = core_job c.self.inside.job.plan c.self.inside.job.acts.items c.self.inside.job.workers in
+    let job = core_job c.self.inside.setting.job c.self.inside.setting.workers in
     let parts = fits.inv.parts in
-    let all : c.len-leaf_total.result ≡ leaves c.self.inside.job.plan = c.len-leaf_total.ensures ∙ c.self.inside.job.acts.ok.0 ∙ sym fits.leaves in
+    let all : length c.acts.result.now ≡ leaves (job_tree c.self.inside.setting.job) = ap length c.acts.ensures.acts ∙ sym fits.leaves in
     rw (c.deref-2.ensures.value, all)
-    (λ leaf below. (c.done_leaves_have_run.ensures job c.self.inside.job.plan (state_of c.self.inside.table) (c.plan_stands_for_tree.ensures c.self.inside.job.plan) parts over.1 leaf below).1)
+    (λ leaf below. (c.done_leaves_have_run.ensures job (job_tree c.self.inside.setting.job) (state_of c.self.inside.table) (c.plan_stands_for_tree.ensures (job_tree c.self.inside.setting.job)) parts over.1 leaf below).1)
 
 pub returns-clause-leaves : goal.returns-clause-leaves
 returns-clause-leaves c =
     let over = over_is _ _ (rw (← c.self.view_is) at c.requires) in
     let fits = c.self.invariant.1 over.0 in
-    let all : c.len-leaf_total.result ≡ leaves c.self.inside.job.plan = c.len-leaf_total.ensures ∙ c.self.inside.job.acts.ok.0 ∙ sym fits.leaves in
+    let all : length c.acts.result.now ≡ leaves (job_tree c.self.inside.setting.job) = ap length c.acts.ensures.acts ∙ sym fits.leaves in
     rw (← c.self.view_is) (rw all at c.rows_of.ensures.leaves)
 
 pub returns-clause-rows : goal.returns-clause-rows

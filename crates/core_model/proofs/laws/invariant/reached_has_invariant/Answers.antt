@@ -1,3 +1,4 @@
+use Rattle.sp_order.specs.Jobs.{job_tree}
 use Rattle.sp_order.specs.Preorder.{nodes_of}
 use Rattle.core_model.specs.State.{core_job}
 use Rattle.sp_order.proofs.PlanLemmas.Laws.{has_root}
@@ -5,7 +6,7 @@ use Rattle.core_model.proofs.InvariantLemmas.Reached.{reached_invariant}
 use Rattle.core_model.proofs.laws.invariant.reached_has_invariant.Goals as goal
 
 pub returns : goal.returns
-returns c tree acts workers state some reached =
-    let stands = c.plan_stands_for_tree.ensures tree in
-    let laws = c.plan_has_sides.ensures (nodes_of tree) tree stands in
-    reached_invariant (core_job tree acts workers) laws (has_root (nodes_of tree) tree stands) some state reached
+returns c job workers state some reached =
+    let stands = c.plan_stands_for_tree.ensures (job_tree job) in
+    let laws = c.plan_has_sides.ensures (nodes_of (job_tree job)) (job_tree job) stands in
+    reached_invariant (core_job job workers) laws (has_root (nodes_of (job_tree job)) (job_tree job) stands) some state reached

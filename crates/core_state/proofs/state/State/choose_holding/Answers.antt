@@ -7,10 +7,10 @@ use Rattle.core_model.proofs.ChoiceLemmas.Searches.{least_in}
 use Rattle.core_state.proofs.state.State.choose_holding.Goals as goal
 
 pub choose_answer-requires-clause-other_in : goal.choose_answer-requires-clause-other_in
-choose_answer-requires-clause-other_in c = least_in (is_owed (hold_view c.args.hold.now)) c.args.job.now.workers c.in-Some.other (sym c.least_owed.ensures ∙ c.in-Some.is)
+choose_answer-requires-clause-other_in c = least_in (is_owed (hold_view c.args.hold.now)) c.args.setting.now.workers c.in-Some.other (sym c.least_owed.ensures ∙ c.in-Some.is)
 
 pub choose_answer-requires-clause-started : goal.choose_answer-requires-clause-started
 unfolding state_of
 choose_answer-requires-clause-started c =
-    let owed = least_is_chosen (is_owed (hold_view c.args.hold.now)) c.args.job.now.workers c.in-Some.other (sym c.least_owed.ensures ∙ c.in-Some.is) in
+    let owed = least_is_chosen (is_owed (hold_view c.args.hold.now)) c.args.setting.now.workers c.in-Some.other (sym c.least_owed.ensures ∙ c.in-Some.is) in
     c.requires.looks.owed c.in-Some.other (rw c.requires.held owed)

@@ -1,10 +1,12 @@
-use Rattle.std.proofs.Common.{◌≡◌, ℕ, ◌<◌, List, length, sym, ap, ◌∙◌, refl}
+use Rattle.std.proofs.Common.{◌≡◌, ℕ, ◌<◌, Option, List, length, sym, ap, subst, ◌∙◌, refl}
 use Rattle.std.specs.List.{range_with_len}
 use Rattle.std.specs.Mem.Slots.{slots_items}
 use mathlib.Core.Option.{some-injective}
 use Rattle.seq_objects.specs.declared.act.Act.{Act}
-use Rattle.sp_order.specs.Precedence.{leaves}
+use Rattle.sp_order.specs.Jobs.{job_tree}
+use Rattle.sp_order.specs.Precedence.{Tree, leaves}
 use Rattle.sp_order.specs.Preorder.{nodes_of}
+use Rattle.core_model.specs.Reports.{IsRunShape}
 use Rattle.core_table.specs.Shows.{reserved, room_of, job_of}
 use Rattle.core_table.proofs.TableLemmas.Moved.{few_nodes}
 use Rattle.core_table.proofs.CloseLemmas.Closes.{closes}
@@ -14,7 +16,7 @@ use Rattle.core_table.proofs.table.CoreTable.close.Goals as goal
 
 pub unreachable-requires : goal.unreachable-requires
 unreachable-requires c =
-    let self = c.args.self in let pass = c.args.pass in let job = job_of self.setting in let tree = self.setting.plan in let plan = nodes_of tree in
+    let self = c.args.self in let pass = c.args.pass in let job = job_of self.setting in let tree = job_tree self.setting.job in let plan = nodes_of tree in
     let laws = c.laws_hold.ensures self.setting (few_nodes self.nodes job.plan.count self.key.1 self.few.2) self.acts.0 self.acts.1 in
     let f = rw self.key.0 at c.close_with-closed.ensures.values.2 in
     let last = closes job (room_of self.setting) _ pass.worker laws pass.seat.me.0 _ _ f pass.number.0 pass.number.1 c.requires.saw in
@@ -22,11 +24,11 @@ unreachable-requires c =
 
 pub returns-clause-lawful : goal.returns-clause-lawful
 returns-clause-lawful c =
-    let self = c.args.self in let pass = c.args.pass in let job = job_of self.setting in let tree = self.setting.plan in let plan = nodes_of tree in
+    let self = c.args.self in let pass = c.args.pass in let job = job_of self.setting in let tree = job_tree self.setting.job in let plan = nodes_of tree in
     let laws = c.laws_hold.ensures self.setting (few_nodes self.nodes job.plan.count self.key.1 self.few.2) self.acts.0 self.acts.1 in
     let f = rw self.key.0 at c.close_with-closed.ensures.values.2 in
     let stands = c.plan_stands_for_tree.ensures tree in
-    let total : length c.as_slice.result.now ≡ leaves tree = ap (λ (l : List Act). length l) c.as_slice.ensures.value ∙ self.acts.0 in
+    let total : length c.acts.result.now ≡ leaves tree = ap (λ (l : List Act). length l) c.acts.ensures.acts ∙ self.acts.0 in
     let inside : (leaf : ℕ) → leaf < leaves tree → plan.node_of leaf < plan.count = λ leaf low. leaf_in plan leaf laws.plan ((c.leaf_has_one_node.ensures plan tree stands leaf (plan.node_of leaf) low).1 refl) in
     let told = rw (total, self.key.1) at c.read_rows-rows.ensures.told in
     let r : Reported self.setting pass.seat.me.0 (record { workers = self.setting.workers; history = c.into_history.result; rows = c.of.result }) =
@@ -34,15 +36,15 @@ returns-clause-lawful c =
     c.take-last.result c.in-Book.book c.into_history.result c.of.result c.take-last.ensures.value c.in-Book.is c.into_history.ensures
     (rw c.of.ensures (c.read_rows-rows.ensures.leaves ∙ ap (λ (n : ℕ). range_with_len 0 n) total)) (rw c.of.ensures told) inside
     (λ s parts over leaf low. c.done_leaves_have_run.ensures job tree s stands parts over leaf low) in
-    c.done_report_is_lawful.ensures tree self.setting.acts.items self.setting.workers r.run.last.state _ self.acts.0 r.parts r.run.over r.run.reports
+    c.done_report_is_lawful.ensures self.setting.job self.setting.workers r.run.last.state _ self.shape self.acts.0 r.parts r.run.over r.run.reports
 
 pub returns-clause-told : goal.returns-clause-told
 returns-clause-told c =
-    let self = c.args.self in let pass = c.args.pass in let job = job_of self.setting in let tree = self.setting.plan in let plan = nodes_of tree in
+    let self = c.args.self in let pass = c.args.pass in let job = job_of self.setting in let tree = job_tree self.setting.job in let plan = nodes_of tree in
     let laws = c.laws_hold.ensures self.setting (few_nodes self.nodes job.plan.count self.key.1 self.few.2) self.acts.0 self.acts.1 in
     let f = rw self.key.0 at c.close_with-closed.ensures.values.2 in
     let stands = c.plan_stands_for_tree.ensures tree in
-    let total : length c.as_slice.result.now ≡ leaves tree = ap (λ (l : List Act). length l) c.as_slice.ensures.value ∙ self.acts.0 in
+    let total : length c.acts.result.now ≡ leaves tree = ap (λ (l : List Act). length l) c.acts.ensures.acts ∙ self.acts.0 in
     let inside : (leaf : ℕ) → leaf < leaves tree → plan.node_of leaf < plan.count = λ leaf low. leaf_in plan leaf laws.plan ((c.leaf_has_one_node.ensures plan tree stands leaf (plan.node_of leaf) low).1 refl) in
     let told = rw (total, self.key.1) at c.read_rows-rows.ensures.told in
     let r : Reported self.setting pass.seat.me.0 (record { workers = self.setting.workers; history = c.into_history.result; rows = c.of.result }) =
@@ -54,11 +56,11 @@ returns-clause-told c =
 
 pub returns-clause-run : goal.returns-clause-run
 returns-clause-run c =
-    let self = c.args.self in let pass = c.args.pass in let job = job_of self.setting in let tree = self.setting.plan in let plan = nodes_of tree in
+    let self = c.args.self in let pass = c.args.pass in let job = job_of self.setting in let tree = job_tree self.setting.job in let plan = nodes_of tree in
     let laws = c.laws_hold.ensures self.setting (few_nodes self.nodes job.plan.count self.key.1 self.few.2) self.acts.0 self.acts.1 in
     let f = rw self.key.0 at c.close_with-closed.ensures.values.2 in
     let stands = c.plan_stands_for_tree.ensures tree in
-    let total : length c.as_slice.result.now ≡ leaves tree = ap (λ (l : List Act). length l) c.as_slice.ensures.value ∙ self.acts.0 in
+    let total : length c.acts.result.now ≡ leaves tree = ap (λ (l : List Act). length l) c.acts.ensures.acts ∙ self.acts.0 in
     let inside : (leaf : ℕ) → leaf < leaves tree → plan.node_of leaf < plan.count = λ leaf low. leaf_in plan leaf laws.plan ((c.leaf_has_one_node.ensures plan tree stands leaf (plan.node_of leaf) low).1 refl) in
     let told = rw (total, self.key.1) at c.read_rows-rows.ensures.told in
     let r : Reported self.setting pass.seat.me.0 (record { workers = self.setting.workers; history = c.into_history.result; rows = c.of.result }) =
@@ -68,13 +70,30 @@ returns-clause-run c =
     (λ s parts over leaf low. c.done_leaves_have_run.ensures job tree s stands parts over leaf low) in
     (r.run, r.own)
 
-pub returns-clause-seen : goal.returns-clause-seen
-returns-clause-seen c =
-    let self = c.args.self in let pass = c.args.pass in let job = job_of self.setting in let tree = self.setting.plan in let plan = nodes_of tree in
+pub returns-clause-model : goal.returns-clause-model
+returns-clause-model c =
+    let self = c.args.self in let pass = c.args.pass in let job = job_of self.setting in let tree = job_tree self.setting.job in let plan = nodes_of tree in
     let laws = c.laws_hold.ensures self.setting (few_nodes self.nodes job.plan.count self.key.1 self.few.2) self.acts.0 self.acts.1 in
     let f = rw self.key.0 at c.close_with-closed.ensures.values.2 in
     let stands = c.plan_stands_for_tree.ensures tree in
-    let total : length c.as_slice.result.now ≡ leaves tree = ap (λ (l : List Act). length l) c.as_slice.ensures.value ∙ self.acts.0 in
+    let total : length c.acts.result.now ≡ leaves tree = ap (λ (l : List Act). length l) c.acts.ensures.acts ∙ self.acts.0 in
+    let inside : (leaf : ℕ) → leaf < leaves tree → plan.node_of leaf < plan.count = λ leaf low. leaf_in plan leaf laws.plan ((c.leaf_has_one_node.ensures plan tree stands leaf (plan.node_of leaf) low).1 refl) in
+    let told = rw (total, self.key.1) at c.read_rows-rows.ensures.told in
+    let r : Reported self.setting pass.seat.me.0 (record { workers = self.setting.workers; history = c.into_history.result; rows = c.of.result }) =
+    reported self.setting _ pass.worker pass.seat.me.0 (slots_items c.close_with-closed.result.words) _ laws f pass.number.0 pass.number.1 c.requires.saw self.few.1
+    c.take-last.result c.in-Book.book c.into_history.result c.of.result c.take-last.ensures.value c.in-Book.is c.into_history.ensures
+    (rw c.of.ensures (c.read_rows-rows.ensures.leaves ∙ ap (λ (n : ℕ). range_with_len 0 n) total)) (rw c.of.ensures told) inside
+    (λ s parts over leaf low. c.done_leaves_have_run.ensures job tree s stands parts over leaf low) in
+    subst (λ (shape : Option Tree). IsRunShape shape self.setting.job self.setting.workers (record { workers = self.setting.workers; history = c.into_history.result; rows = c.of.result }))
+    (sym self.shape) r.run
+
+pub returns-clause-seen : goal.returns-clause-seen
+returns-clause-seen c =
+    let self = c.args.self in let pass = c.args.pass in let job = job_of self.setting in let tree = job_tree self.setting.job in let plan = nodes_of tree in
+    let laws = c.laws_hold.ensures self.setting (few_nodes self.nodes job.plan.count self.key.1 self.few.2) self.acts.0 self.acts.1 in
+    let f = rw self.key.0 at c.close_with-closed.ensures.values.2 in
+    let stands = c.plan_stands_for_tree.ensures tree in
+    let total : length c.acts.result.now ≡ leaves tree = ap (λ (l : List Act). length l) c.acts.ensures.acts ∙ self.acts.0 in
     let inside : (leaf : ℕ) → leaf < leaves tree → plan.node_of leaf < plan.count = λ leaf low. leaf_in plan leaf laws.plan ((c.leaf_has_one_node.ensures plan tree stands leaf (plan.node_of leaf) low).1 refl) in
     let told = rw (total, self.key.1) at c.read_rows-rows.ensures.told in
     let r : Reported self.setting pass.seat.me.0 (record { workers = self.setting.workers; history = c.into_history.result; rows = c.of.result }) =

@@ -1,11 +1,10 @@
-use Rattle.std.proofs.Common.{false, ◌≡◌, ℕ, ◌+◌, [], ◌∷◌, length, replicate, set, subst, sym, ap, ◌∙◌, arith, refl, List, length-append}
+use Rattle.std.proofs.Common.{false, Some, ◌≡◌, ℕ, ◌+◌, [], ◌∷◌, length, replicate, set, subst, sym, ap, ◌∙◌, arith, refl, List, length-append}
+use Rattle.sp_order.specs.Jobs.{JobValue, IsJob, job_tree}
+use Rattle.sp_order.specs.Precedence.{leaf_count, leaves}
 use Rattle.core_table.specs.declared.slot.Slot.TheVariants as Slots
-use Rattle.seq_objects.specs.declared.act.Act.{Act}
 use Rattle.core_table.specs.declared.table.Pass.{Pass}
 use Rattle.core_table.specs.Words.{node_at}
 use Rattle.core_table.specs.Shows.{room_of, job_of}
-use Rattle.core_model.specs.State.{core_job}
-use Rattle.core_model.specs.Measure.{call_count}
 use Rattle.core_table.specs.Plays.{Sat}
 use Rattle.core_table.specs.Views.{enrolling, pass_of, rest_of}
 use Rattle.core_table.specs.Passes.{IsSeatOf}
@@ -15,16 +14,20 @@ use Rattle.core_table.proofs.PassLemmas.Starts.{starts, cuts_at, enrols_at}
 use Rattle.core_table.proofs.PassLemmas.NewPass.{each_push, new_pass}
 use Rattle.core_table.proofs.table.CoreTable.of.Goals as goal
 
+-- there is an act for each leaf
+all_acts : {job : JobValue} → job.shape ≡ Some (job_tree job) → IsJob job → length job.acts ≡ leaves (job_tree job)
+all_acts shape is = sym is.leaves ∙ ap leaf_count shape
+
 pub new-requires : goal.new-requires
 new-requires c =
     let setting = c.args.setting in let job = job_of setting in let workers = setting.workers in
     let nodes : c.nodes-nodes.result ≡ job.plan.count = c.nodes-nodes.ensures.nodes in
-    let laws = c.laws_hold.ensures setting (few_nodes c.nodes-nodes.result job.plan.count nodes c.nodes-nodes.ensures.most) c.requires.acts.0 c.requires.acts.1 in
+    let laws = c.laws_hold.ensures setting (few_nodes c.nodes-nodes.result job.plan.count nodes c.nodes-nodes.ensures.most) (all_acts c.nodes-nodes.ensures.shape c.nodes-nodes.ensures.job) c.nodes-nodes.ensures.job.most in
     let root : workers + 4 ≡ node_at workers 0 = omega arith in
     let are = c.deref.ensures.value ∙ (c.in_ok-words.ensures ∙ (ap (λ (n : ℕ). set (replicate (workers + 4 + n + n + n) 0) (workers + 4) 1) nodes
     ∙ ap (λ (i : ℕ). set (replicate (workers + 4 + job.plan.count + job.plan.count + job.plan.count) 0) i 1) root)) in
-    let room = c.count_calls-room.ensures workers ∙ ap (λ (l : List Act). call_count (core_job setting.plan l workers)) c.as_slice.ensures.value in
-    rw (c.in_ok-slots.ensures, room) (starts job (room_of setting) setting.plan laws c.deref.result.now are)
+    let room = c.count_calls-room.ensures workers in
+    rw (c.in_ok-slots.ensures, room) (starts job (room_of setting) (job_tree setting.job) laws c.deref.result.now are)
 
 pub split_seat-own-requires : goal.split_seat-own-requires
 split_seat-own-requires c =

@@ -4,10 +4,10 @@ use Rattle.core_table.specs.Passes.{view, job_in, IsPassOf}
 use Rattle.core_table.specs.declared.table.CoreTable.{CoreTable}
 use Rattle.core_table.specs.declared.table.Pass.{Pass}
 use Rattle.core_table.specs.CoreWords.{ArriveFirst, ArriveSecond}
+use Rattle.worker_crew.specs.Words.{Idle}
 use Rattle.core_table.specs.JobEvents.{IsArrival}
 use Rattle.core_table.specs.Views as views
 use Rattle.core_model.specs.declared.task.Task.TheVariants.{Handed}
-use Rattle.worker_crew.specs.Words.{Idle}
 use Rattle.worker_crew.specs.Passes as passes
 use Rattle.worker_crew.specs.Seats.{pass_seen, IsSeat}
 use Rattle.worker_crew.proofs.SeatLemmas.Steps.{not_out, IsStepDue, step_due}

@@ -1,7 +1,8 @@
 use Rattle.std.proofs.Common.{◌∙◌, sym, subst, ap}
 use Rattle.std.specs.Prelude.{IsNone}
+use Rattle.sp_order.specs.Jobs.{job_tree}
 use Rattle.core_model.specs.declared.task.Task.{Task}
-use Rattle.core_table.specs.Passes.{view, job_in, tree_in, TaskHere}
+use Rattle.core_table.specs.Passes.{view, job_in, planned_in, TaskHere}
 use Rattle.worker_crew.proofs.SeatLemmas.Steps.{not_out}
 use Rattle.worker_crew.specs.NextSteps.{next_step}
 use Rattle.worker_crew.proofs.SeatLemmas.Room.{idle_by}
@@ -19,5 +20,5 @@ pub returns-clause-idle : goal.returns-clause-idle
 returns-clause-idle c none =
     let table = c.args.self.now in
     let v = view c.args.pass.now in
-    idle_by (job_in table) (tree_in table) v.task v.call (c.plan_stands_for_tree.ensures (tree_in table)) c.requires.pass.pass_of.5 c.requires.pass.task
+    idle_by (job_in table) (job_tree (planned_in table)) v.task v.call (c.plan_stands_for_tree.ensures (job_tree (planned_in table))) c.requires.pass.pass_of.5 c.requires.pass.task
     (not_out v.call c.requires.free.0) (subst IsNone (returns-clause-next c) none)

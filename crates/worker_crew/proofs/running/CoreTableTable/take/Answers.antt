@@ -1,9 +1,10 @@
 use Rattle.std.proofs.Common.{refl, ap, ◌≡◌, arith}
 use Rattle.core_table.specs.declared.view.View.{View}
 use Rattle.core_table.specs.Passes.{view, job_in}
-use Rattle.core_table.specs.Passes.{tree_in}
+use Rattle.core_table.specs.Passes.{planned_in}
 use Rattle.core_table.specs.CoreWords.{Take}
 use Rattle.core_table.specs.Views as views
+use Rattle.sp_order.specs.Jobs.{job_tree}
 use Rattle.core_model.specs.Measure.{call_count}
 use Rattle.worker_crew.specs.Holds.{IsLooking, after_take, after_pass}
 use Rattle.worker_crew.specs.Seats.{taken_call}
@@ -49,7 +50,7 @@ returns-in-Ok-clause-fit c =
     let t = c.in-Ok.ensures.took in
     let next : c.args.u ≡ t.0.looks = (held_at (IsLooking c.args.u) old.hold t.0 c.requires.held.1 t.1).next in
     let below = c.requires.below in
-    let few = calls_few (job_in table) (tree_in table) (c.plan_stands_for_tree.ensures (tree_in table)) in
+    let few = calls_few (job_in table) (job_tree (planned_in table)) (c.plan_stands_for_tree.ensures (job_tree (planned_in table))) in
     let acts = table.acts in
     let workers = table.few in
     take_fits t.0 c.args.u (call_count (job_in table)) c.in-Ok.call old.hold (view c.take.new.pass).hold t.1 (ap (λ (v : View). v.hold) t.3) t.2

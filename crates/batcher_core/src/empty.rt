@@ -1,16 +1,17 @@
-//! A run of a job without leaves.
-ghost use Rattle.std.specs.Prelude.{IfSome, IsNone, IsSome};
+//! The report of a job without leaves, which is not run.
+ghost use Rattle.std.specs.Prelude.{ℕ, List, IfSome, IsNone, IsSome};
 ghost use Rattle.batch_history.specs.Lawful.{Lawful};
-ghost use Rattle.core_model.specs.Reports.{IsRunReport};
+ghost use Rattle.core_model.specs.Reports.{IsDrivenReport, IsRunReport};
 
 use batch_history::{History, Report, Rows};
 use sp_order::Job;
 use std::alloc::Global;
 
 /// The report of a job without leaves. There is none for another job, which is to be run.
-pub(crate) fn report_of_empty(alloc: Global, job: &Job, workers: u32) -> Option<Report>
+pub fn report_of_empty(alloc: Global, job: &Job, workers: u32) -> Option<Report>
     ensures lawful { IfSome result (λ report. Lawful job.now workers report) }
     ensures run { IfSome result (IsRunReport job.now workers) }
+    ensures driven { (schedule : List ℕ) → IfSome result (IsDrivenReport job.now workers schedule) }
     ensures leaves { IsNone result → IsSome job.now.shape }
 {
     if job.shape().is_some() {

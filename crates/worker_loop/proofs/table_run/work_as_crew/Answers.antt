@@ -1,5 +1,5 @@
 use mir.Syntax.{static}
-use Rattle.worker_loop.proofs.crew.work_as_crew.Goals as goal
+use Rattle.worker_loop.proofs.table_run.work_as_crew.Goals as goal
 
 -- The same holds at each name of the lifetime.
 pub work_in_threads-requires-sync-C : goal.work_in_threads-requires-sync-C

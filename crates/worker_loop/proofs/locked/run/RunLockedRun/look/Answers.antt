@@ -4,7 +4,7 @@ use Rattle.batcher_core.specs.declared.turn.Turn.{Turn}
 use Rattle.batcher_core.specs.declared.turn.Turn.TheVariants.{Idle}
 use Rattle.worker_loop.specs.Runs.{RunView}
 use Rattle.worker_loop.proofs.RunKept.{run_moved}
-use Rattle.worker_loop.proofs.running.RunLocked.look.Goals as goal
+use Rattle.worker_loop.proofs.locked.run.RunLockedRun.look.Goals as goal
 
 pub returns-in-Ok-Idle : goal.returns-in-Ok-Idle
 returns-in-Ok-Idle g c =
@@ -19,5 +19,5 @@ invariant_of-self g c =
     let old = c.self.inside.core in
     let new = c.turn_with.new.core in
     let moved = subst (λ (t : Turn). IsTurnResult t (job_in old) (state_in old) c.args.worker (state_in new)) c.in-Ok-Moved.field-0-is c.in-Ok-Moved.ensures.event in
-    run_moved g.J.GivenJob.tree g.J.GivenJob.acts g.J.GivenJob.workers old new c.self.inside.failed c.args.worker c.self.invariant c.turn_with.ensures.job moved c.in-Ok-Moved.ensures.spent
+    run_moved g.J.JobBrand.job g.J.JobBrand.workers old new c.self.inside.failed c.args.worker c.self.invariant c.turn_with.ensures.job moved c.in-Ok-Moved.ensures.spent
     c.step_leads_to_reached.ensures

@@ -1,13 +1,13 @@
 //! The turns of one worker.
 ghost use Rattle.std.specs.Prelude.{◌≡◌, ◌≤◌};
 ghost use Rattle.two_deques.specs.Hands.{held, workers_of, IsHandOf};
-ghost use Rattle.worker_loop.specs.Code.Finders.{IsFinderOf};
+ghost use Rattle.worker_loop.specs.Code.Hints.{AreHintsOf};
 ghost use Rattle.worker_loop.specs.Points.{point_by};
 
-use crate::finder::Finder;
-use crate::look::Look;
-use crate::running::Locked;
-use crate::start::wait_for_others;
+use crate::locked::hints::WorkHints;
+use crate::locked::run::LockedRun;
+use crate::locked::turn::Look;
+use crate::start_barrier::wait_for_others;
 use batcher_core::{Doing, Spun};
 use bt_io::{Pause, Point};
 use std::sync::atomic::AtomicU64;
@@ -17,7 +17,7 @@ use two_deques::{Decks, Hand};
 
 /// What all workers of a run share.
 #[derive(Drop)]
-pub(crate) struct Shared<'a, S: Locked, G> {
+pub(crate) struct Shared<'a, S: LockedRun, G> {
     pub(crate) run: Mutex<S>,
     pub(crate) decks: Decks,
     /// How many workers have come.
@@ -31,7 +31,7 @@ pub(crate) struct Shared<'a, S: Locked, G> {
 /// in, and what its last event left it doing.
 #[derive(Drop)]
 struct Worker {
-    finder: Finder,
+    hints: WorkHints,
     spun: Option<Spun>,
     doing: Doing,
 }
@@ -54,11 +54,11 @@ fn point_reached(was: Doing, doing: Doing) -> Option<Point>
 impl Worker {
     /// A worker at the start.
     fn new(hand: Hand, workers: u32) -> Worker
-        ensures { (result.finder.hand ≡ hand) × (result.finder.victim ≡ (held hand).worker)
-            × (result.finder.workers ≡ workers) }
+        ensures { (result.hints.hand ≡ hand) × (result.hints.victim ≡ (held hand).worker)
+            × (result.hints.workers ≡ workers) }
     {
         Worker {
-            finder: Finder::new(hand, workers),
+            hints: WorkHints::new(hand, workers),
             spun: None,
             doing: Doing::Other,
         }
@@ -66,22 +66,22 @@ impl Worker {
 
     /// An event left the worker doing this. Where it has come to a point of the gate, it is held there.
     fn now_does<G: Pause>(&mut self, pause: &G, doing: Doing)
-        ensures { self.new.finder ≡ self.old.finder }
+        ensures { self.new.hints ≡ self.old.hints }
     {
         let was = self.doing;
         self.doing = doing;
         if let Some(point) = point_reached(was, doing) {
-            pause.at(point, self.finder.hand.worker());
+            pause.at(point, self.hints.hand.worker());
         }
     }
 
     /// Tells the others of a node that became ready, and lets them to the lock. A push that is refused fails
     /// the run.
-    fn tell<S: Locked, R: Wait, G>(&mut self, rt: &R, shared: &Shared<S, G>, node: u32) -> bool
-        requires finder { IsFinderOf shared.now.decks self.old.finder }
-        ensures finder { IsFinderOf shared.now.decks self.new.finder }
+    fn tell<S: LockedRun, R: Wait, G>(&mut self, rt: &R, shared: &Shared<S, G>, node: u32) -> bool
+        requires hints { AreHintsOf shared.now.decks self.old.hints }
+        ensures hints { AreHintsOf shared.now.decks self.new.hints }
     {
-        if shared.decks.push_core(&mut self.finder.hand, node).is_ok() {
+        if shared.decks.push_core(&mut self.hints.hand, node).is_ok() {
             thread::yield_now();
             return true;
         }
@@ -91,14 +91,14 @@ impl Worker {
 
     /// What the worker does outside the lock after a look at the core. It answers whether the worker goes
     /// on.
-    fn follow<S: Locked, R: Wait, G: Pause>(
+    fn follow<S: LockedRun, R: Wait, G: Pause>(
         &mut self,
         rt: &R,
         shared: &Shared<S, G>,
         look: Look,
     ) -> bool
-        requires finder { IsFinderOf shared.now.decks self.old.finder }
-        ensures finder { IsFinderOf shared.now.decks self.new.finder }
+        requires hints { AreHintsOf shared.now.decks self.old.hints }
+        ensures hints { AreHintsOf shared.now.decks self.new.hints }
     {
         match look {
             Look::Ended => false,
@@ -107,11 +107,11 @@ impl Worker {
                 true
             }
             Look::Idle => {
-                self.finder.find(rt, &shared.decks);
+                self.hints.find(rt, &shared.decks);
                 true
             }
             Look::Moved { doing, made: None } => {
-                self.finder.had_event();
+                self.hints.had_event();
                 self.now_does(shared.pause, doing);
                 true
             }
@@ -119,7 +119,7 @@ impl Worker {
                 doing,
                 made: Some(node),
             } => {
-                self.finder.had_event();
+                self.hints.had_event();
                 let goes_on = self.tell(rt, shared, node);
                 self.now_does(shared.pause, doing);
                 goes_on
@@ -130,13 +130,13 @@ impl Worker {
 
 /// Takes the turns of one worker, until the run is over or memory runs out, once the others are there. The
 /// lock is held for one turn at a time.
-pub(crate) fn work<S: Locked, R: Wait, G: Pause>(rt: &R, shared: &Shared<S, G>, hand: Hand)
+pub(crate) fn work<S: LockedRun, R: Wait, G: Pause>(rt: &R, shared: &Shared<S, G>, hand: Hand)
     requires { IsHandOf shared.now.decks hand }
 {
     wait_for_others(&shared.came, shared.workers);
     let mut worker = Worker::new(hand, shared.workers);
     for _ in rt.forever() {
-        let number = worker.finder.hand.worker();
+        let number = worker.hints.hand.worker();
         let spun = worker.spun.take();
         // A guard that stood in the head of a `match` or an `if` would live to its end, and with it the
         // lock.

@@ -1,7 +1,7 @@
 //! How a worker that has no event looks for work.
 ghost use Rattle.std.specs.Prelude.{◌≡◌, ◌≢◌, ◌<◌, ◌≤◌};
 ghost use Rattle.two_deques.specs.Hands.{held, workers_of, IsHandOf};
-ghost use Rattle.worker_loop.specs.Code.Finders.{IsFinderOf};
+ghost use Rattle.worker_loop.specs.Code.Hints.{AreHintsOf};
 
 use crossbeam_utils::Backoff;
 use std::sync::Wait;
@@ -9,7 +9,7 @@ use two_deques::{Decks, Hand};
 
 /// A worker's hand, whom it stole from last, and how long it pauses. At the start it names itself.
 #[derive(Drop)]
-pub(crate) struct Finder {
+pub(crate) struct WorkHints {
     pub(crate) hand: Hand,
     victim: u32,
     workers: u32,
@@ -25,13 +25,13 @@ fn after(worker: u32, workers: u32) -> u32
     if worker + 1 < workers { worker + 1 } else { 0 }
 }
 
-impl Finder {
-    /// The finder of a hand, among so many workers.
-    pub(crate) fn new(hand: Hand, workers: u32) -> Finder
+impl WorkHints {
+    /// The hints of a hand, among so many workers.
+    pub(crate) fn new(hand: Hand, workers: u32) -> WorkHints
         ensures { (result.hand ≡ hand) × (result.victim ≡ (held hand).worker)
             × (result.workers ≡ workers) }
     {
-        Finder {
+        WorkHints {
             victim: hand.worker(),
             hand,
             workers,
@@ -57,8 +57,8 @@ impl Finder {
     /// Whether a deque gave a node: the own one, or else the next of the others. One worker does not
     /// steal.
     fn finds<R: Wait>(&mut self, rt: &R, decks: &Decks) -> bool
-        requires finder { IsFinderOf decks.now self.old }
-        ensures finder { IsFinderOf decks.now self.new }
+        requires hints { AreHintsOf decks.now self.old }
+        ensures hints { AreHintsOf decks.now self.new }
     {
         if decks.pop_core(&mut self.hand).is_some() {
             return true;
@@ -73,8 +73,8 @@ impl Finder {
     /// Looks for a node once, and pauses where there is none. A node is a sign that there is work, and no
     /// more: which node is claimed is settled by the core's own lists.
     pub(crate) fn find<R: Wait>(&mut self, rt: &R, decks: &Decks)
-        requires finder { IsFinderOf decks.now self.old }
-        ensures finder { IsFinderOf decks.now self.new }
+        requires hints { AreHintsOf decks.now self.old }
+        ensures hints { AreHintsOf decks.now self.new }
     {
         if self.finds(rt, decks) {
             self.backoff.reset();

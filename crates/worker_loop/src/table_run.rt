@@ -2,7 +2,7 @@
 ghost use Rattle.std.specs.Prelude.{◌≡◌, ◌<◌, ◌≤◌, ℕ, true, Some, IfOk, length, slice_index_or};
 ghost use Rattle.batch_history.specs.Lawful.{Lawful};
 ghost use Rattle.core_table.specs.declared.table.Pass.{Pass as PassOf};
-ghost use Rattle.core_table.specs.Passes.{tree_in, acts_in, job_in, view, IsPassOf};
+ghost use Rattle.core_table.specs.Passes.{planned_in, job_in, view, IsPassOf};
 ghost use Rattle.core_table.specs.Views.{seeing_done, finding_none};
 ghost use Rattle.core_model.specs.Reports.{IsRunReport};
 ghost use Rattle.worker_crew.specs.declared.crew.Me.{Me as MeOf};
@@ -11,10 +11,10 @@ ghost use Rattle.worker_crew.specs.Seats.{IsSeat};
 ghost use Rattle.worker_crew.specs.Opening.{seat_seen, AreAtStart};
 ghost use Rattle.worker_loop.specs.Ends.{HasEnded};
 
-use crate::empty::report_of_empty;
-use crate::start::wait_for_others;
+use crate::start_barrier::wait_for_others;
 use crate::{Crew, Me};
 use batch_history::Report;
+use batcher_core::report_of_empty;
 use bt_io::Pause;
 use core_table::{CoreTable, Pass};
 use sp_order::Job;
@@ -116,10 +116,9 @@ fn has_ended(table: &CoreTable, pass: &mut Pass) -> bool
 /// not done.
 fn close(alloc: Global, table: CoreTable, pass: Pass) -> Result<Report, AllocError>
     requires pass { IsPassOf table pass }
-    ensures lawful { IfOk result (λ report. Lawful
-        (record { shape = Some (tree_in table); acts = acts_in table }) (job_in table).workers report) }
-    ensures run { IfOk result (IsRunReport
-        (record { shape = Some (tree_in table); acts = acts_in table }) (job_in table).workers) }
+    ensures lawful { IfOk result (λ report. Lawful (planned_in table)
+        (job_in table).workers report) }
+    ensures run { IfOk result (IsRunReport (planned_in table) (job_in table).workers) }
 {
     let mut pass = pass;
     if !has_ended(&table, &mut pass) {

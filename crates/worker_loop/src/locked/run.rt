@@ -1,7 +1,7 @@
 //! The state behind the lock: the core of the job that is run.
-ghost use Rattle.std.specs.Prelude.{◌≡◌, ◌<◌, IfOk, Some, true, false, ℕ, List, []};
-ghost use Rattle.seq_objects.specs.declared.act.Act.{Act};
-ghost use Rattle.sp_order.specs.Precedence.{Tree, leaf, leaves};
+ghost use Rattle.std.specs.Prelude.{◌≡◌, ◌<◌, IfOk, None, Some, true, false, ℕ, []};
+ghost use Rattle.sp_order.specs.Jobs.{JobValue, job_tree};
+ghost use Rattle.sp_order.specs.Precedence.{leaves};
 ghost use Rattle.batch_history.specs.Lawful.{Lawful};
 ghost use Rattle.batcher_core.specs.Cores.{state_in};
 ghost use Rattle.core_model.specs.Invariant.{Invariant};
@@ -10,7 +10,7 @@ ghost use Rattle.core_model.specs.Reports.{IsRunReport};
 ghost use Rattle.worker_loop.specs.Runs.{RunView, IsCoreOf};
 ghost use Rattle.worker_loop.specs.Looks.{HasLooked};
 
-use crate::look::{Look, newest_if_longer, turn_with};
+use crate::locked::turn::{Look, newest_if_longer, turn_with};
 use batch_history::Report;
 use batcher_core::{Core, Spun, Turn, drive};
 use core_model::laws::report::run_goes_on_from_reached;
@@ -20,27 +20,21 @@ use std::marker::{Brand, Model, PhantomData};
 
 /// Which job is run, and by how many workers. Nothing is known of a value under a lock but what its type
 /// says, so the type of the state behind the lock names the job. Each call of a run picks it.
-pub trait GivenJob {
-    ghost tree: { Tree };
-
-    ghost acts: { List Act };
+pub trait JobBrand {
+    ghost job: { JobValue };
 
     ghost workers: { ℕ };
 }
 
-impl GivenJob for Brand {
-    ghost tree = { leaf };
-
-    ghost acts = { [] };
+impl JobBrand for Brand {
+    ghost job = { record { shape = None; acts = [] } };
 
     ghost workers = { 1 };
 }
 
 /// What the workers do with the state behind the lock.
-pub trait Locked: Drop {
-    ghost tree: { Tree };
-
-    ghost acts: { List Act };
+pub trait LockedRun: Drop {
+    ghost job: { JobValue };
 
     ghost workers: { ℕ };
 
@@ -59,40 +53,39 @@ pub trait Locked: Drop {
     /// The report of the run, if memory did not run out.
     fn report(self, alloc: Global) -> Result<Report, AllocError>
         ensures whole { IfOk result (λ _. (seen self).failed ≡ false) }
-        ensures lawful { IfOk result
-            (λ report. Lawful (record { shape = Some tree; acts = acts }) workers report) }
-        ensures run { IfOk result (IsRunReport (record { shape = Some tree; acts = acts }) workers) };
+        ensures lawful { IfOk result (λ report. Lawful job workers report) }
+        ensures run { IfOk result (IsRunReport job workers) };
 }
 
 /// The core of the given job, and whether memory ran out in some worker. Whoever takes the lock finds a
 /// core of this job, whatever the others did, and one that is not spent unless memory ran out. So it has
 /// the core's invariant then.
 #[derive(Drop)]
-pub struct Run<J: GivenJob> {
+pub struct Run<J: JobBrand> {
     core: Core,
     failed: bool,
     of: PhantomData<J>,
 }
 
-impl<J: GivenJob> Model for Run<J> {
+impl<J: JobBrand> Model for Run<J> {
     ghost use Rattle.std.specs.Coded.{codes};
-    ghost use Rattle.sp_order.specs.TreeEncoding.{coded_tree};
+    ghost use Rattle.sp_order.specs.Jobs.{coded_job};
     ghost use Rattle.worker_loop.specs.Runs.{RunView, IsRunOf};
 
     ghost Value = { RunView };
 
-    ghost coded = { Prim.hlevel (codes, coded_tree) };
+    ghost coded = { Prim.hlevel (codes, coded_job) };
 
     ghost view = { λ r. record { core = r.core; failed = r.failed } };
 
-    ghost invariant = { λ r. IsRunOf J.tree J.acts J.workers
+    ghost invariant = { λ r. IsRunOf J.job J.workers
         (record { core = r.core; failed = r.failed }) };
 }
 
-impl<J: GivenJob> Run<J> {
+impl<J: JobBrand> Run<J> {
     /// The run of a core that is at its start.
     pub fn new(core: Core) -> Run<J>
-        requires job { IsCoreOf J.tree J.acts J.workers core }
+        requires job { IsCoreOf J.job J.workers core }
         requires unspent { core.spent ≡ false }
         requires opening { state_in core ≡ opening_core }
         ensures { result ≡ record { core = core; failed = false } }
@@ -108,17 +101,15 @@ impl<J: GivenJob> Run<J> {
     /// whenever the lock is free. It is for proofs, and does nothing.
     pub fn stands(&self)
         ensures invariant { self.now.core.spent ≡ false
-            → Invariant (core_job J.tree J.acts J.workers) (state_in self.now.core) }
+            → Invariant (core_job J.job J.workers) (state_in self.now.core) }
         ensures whole { self.now.failed ≡ false → self.now.core.spent ≡ false }
     {
         self.core.stands();
     }
 }
 
-impl<J: GivenJob> Locked for Run<J> {
-    ghost tree = { J.tree };
-
-    ghost acts = { J.acts };
+impl<J: JobBrand> LockedRun for Run<J> {
+    ghost job = { J.job };
 
     ghost workers = { J.workers };
 
@@ -159,10 +150,8 @@ impl<J: GivenJob> Locked for Run<J> {
     /// The report of the run, if memory did not run out. What the workers left is done here.
     fn report(self, alloc: Global) -> Result<Report, AllocError>
         ensures whole { IfOk result (λ _. self.failed ≡ false) }
-        ensures lawful { IfOk result
-            (λ report. Lawful (record { shape = Some J.tree; acts = J.acts }) J.workers report) }
-        ensures run { IfOk result
-            (IsRunReport (record { shape = Some J.tree; acts = J.acts }) J.workers) }
+        ensures lawful { IfOk result (λ report. Lawful J.job J.workers report) }
+        ensures run { IfOk result (IsRunReport J.job J.workers) }
     {
         run_goes_on_from_reached();
         let Run {

@@ -1,7 +1,7 @@
--- What contracts see of the job that a core runs, and what its nodes and its leaves are below.
+-- What contracts see of what a run is made for, and what the nodes and the leaves of its tasks are.
 use Rattle.core_model.specs.Operations.{IsLeaf}
 use Rattle.core_model.specs.State.{CoreJob, core_job}
-use Rattle.core_parts.specs.declared.job.CoreJob.{CoreJob as StoredJob}
+use Rattle.core_model.specs.declared.setting.Setting.{Setting}
 use Rattle.core_model.specs.declared.task.Task.{Task}
 use Rattle.core_model.specs.declared.task.Task.TheVariants.{Ended, Half, Handed, Idle, Kept, Run, Started, Whole}
 use Rattle.sp_order.specs.Plans.{Nodes}
@@ -10,8 +10,8 @@ use Rattle.sp_order.specs.declared.node.Kind.TheVariants.{LeafNode, ParNode, Seq
 use Rattle.std.specs.Prelude.{None, Option, Some, ℕ, ◌<◌}
 
 -- the job, as the rules speak of it
-abbrev pub job_of : StoredJob → CoreJob
-job_of job = core_job job.plan job.acts.items job.workers
+abbrev pub job_of : Setting → CoreJob
+job_of setting = core_job setting.job setting.workers
 
 -- the leaf at a node of this kind
 abbrev pub leaf_at : Option Kind → Option ℕ

@@ -50,7 +50,7 @@ pub(crate) fn turn_with(
     spun: Option<Spun>,
 ) -> Result<Turn, AllocError>
     requires { worker < core.old.workers }
-    ensures job { (core.new.tree ≡ core.old.tree) × (core.new.acts ≡ core.old.acts)
+    ensures job { (core.new.job ≡ core.old.job)
         × (core.new.workers ≡ core.old.workers) }
     ensures event { IfOk result (λ t. IsTurnResult t (job_in core.old) (state_in core.old)
         worker (state_in core.new)) }

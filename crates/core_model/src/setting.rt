@@ -1,0 +1,70 @@
+//! What a run is made for.
+ghost use Rattle.std.specs.Prelude.{◌≡◌, ◌<◌, IfOk, IsSome, length};
+ghost use Rattle.core_model.specs.Choice.{leaf_named};
+ghost use Rattle.core_model.specs.Operations.{leaf_of, IsLeaf};
+ghost use Rattle.core_model.specs.Settings.{job_of, leaf_at as leaf_of_kind, HasLeaf, TaskIn};
+ghost use Rattle.core_model.specs.Tasks.{names};
+ghost use Rattle.core_model.specs.Ranges.{LeafIn};
+
+use crate::task::Task;
+use seq_objects::Act;
+use sp_order::node::Kind;
+use sp_order::{Job, PlannedJob};
+use std::alloc::{AllocError, Global};
+
+/// What a run is made for: a job that has leaves, with its plan, and how many workers run it.
+#[derive(Drop)]
+pub struct Setting {
+    pub job: PlannedJob,
+    pub workers: u32,
+}
+
+impl Setting {
+    /// The job with its plan, for so many workers.
+    pub fn of(alloc: Global, job: &Job, workers: u32) -> Result<Setting, AllocError>
+        requires { IsSome job.now.shape }
+        ensures { IfOk result (λ s. (s.job ≡ job.now) × (s.workers ≡ workers)) }
+    {
+        let job = PlannedJob::of(alloc, job)?;
+        Ok(Setting { job, workers })
+    }
+
+    /// The number of the leaf at a node, if the node is a leaf.
+    pub fn leaf_at(&self, node: u32) -> Option<u32>
+        requires { node < (job_of self.now).plan.count }
+        ensures { result ≡ leaf_of_kind ((job_of self.now).plan.kind node) }
+    {
+        match self.job.kind(node) {
+            Kind::LeafNode(leaf) => Some(leaf),
+            _ => None,
+        }
+    }
+
+    /// What the leaf at a node does. The node is a leaf.
+    pub fn act_at(&self, node: u32) -> Act
+        requires node_in { node < (job_of self.now).plan.count }
+        requires leaf { IsLeaf ((job_of self.now).plan.kind node) }
+        requires leaf_in { LeafIn (length self.now.job.acts) ((job_of self.now).plan.kind node) }
+        ensures { result ≡ (job_of self.now).act (leaf_of ((job_of self.now).plan.kind node)) }
+    {
+        match self.leaf_at(node) {
+            Some(leaf) => self.job.acts()[leaf as usize],
+            None => unreachable!(),
+        }
+    }
+
+    /// The number of the leaf that a worker with this task has started. It has started one.
+    pub fn started_leaf(&self, task: Task) -> u32
+        requires task_in { TaskIn (job_of self.now).plan.count task }
+        requires leaf { HasLeaf (job_of self.now).plan task }
+        ensures { result ≡ leaf_named (job_of self.now).plan (names task) }
+    {
+        let Task::Started { node, .. } = task else {
+            unreachable!()
+        };
+        match self.leaf_at(node) {
+            Some(leaf) => leaf,
+            None => unreachable!(),
+        }
+    }
+}

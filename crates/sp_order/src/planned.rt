@@ -1,0 +1,95 @@
+//! A job with its plan: what a run keeps of a job.
+ghost use Rattle.std.specs.Prelude.{◌≡◌, ◌<◌, Some, IsSome, IfOk, slice_get};
+ghost use Rattle.sp_order.specs.Jobs.{IsJob, job_tree};
+ghost use Rattle.sp_order.specs.Precedence.{leaves};
+ghost use Rattle.sp_order.specs.Preorder.{nodes_of};
+
+use crate::job::Job;
+use crate::node::{Kind, Move};
+use crate::plan::Plan;
+use seq_objects::Act;
+use std::alloc::{AllocError, Global};
+use std::marker::Model;
+
+/// A job that has leaves, with the plan of its shape. Contracts see it as the job itself.
+#[derive(Drop)]
+pub struct PlannedJob {
+    plan: Plan,
+    acts: Vec<Act>,
+}
+
+impl Model for PlannedJob {
+    ghost use Rattle.std.specs.Prelude.{Some};
+    ghost use Rattle.sp_order.specs.Jobs.{JobValue, coded_job, IsJob};
+
+    ghost Value = { JobValue };
+
+    ghost coded = { coded_job };
+
+    ghost view = { λ p. record { shape = Some p.plan; acts = p.acts.items } };
+
+    ghost invariant = { λ p. IsJob (record { shape = Some p.plan; acts = p.acts.items }) };
+}
+
+impl PlannedJob {
+    /// The job, with the plan of its shape and a copy of its acts, in time linear in its leaves.
+    pub fn of(alloc: Global, job: &Job) -> Result<PlannedJob, AllocError>
+        requires { IsSome job.now.shape }
+        ensures { IfOk result (λ planned. planned ≡ job.now) }
+    {
+        let plan = Plan::of(alloc, job)?;
+        let mut acts = Vec::new(alloc);
+        acts.extend_from_slice(job.acts())?;
+        Ok(PlannedJob { plan, acts })
+    }
+
+    /// The count of its nodes, whose numbers are those below it.
+    pub fn nodes(&self) -> u32
+        ensures nodes { result ≡ (nodes_of (job_tree self.now)).count }
+        ensures most { result < 40000 }
+        ensures shape { self.now.shape ≡ Some (job_tree self.now) }
+        ensures job { IsJob self.now }
+    {
+        self.plan.nodes()
+    }
+
+    /// What this node is.
+    pub fn kind(&self, node: u32) -> Kind
+        requires { node < (nodes_of (job_tree self.now)).count }
+        ensures { Some result ≡ (nodes_of (job_tree self.now)).kind node }
+    {
+        self.plan.kind(node)
+    }
+
+    /// What is to be done once this node is done.
+    pub fn after(&self, node: u32) -> Move
+        requires { node < (nodes_of (job_tree self.now)).count }
+        ensures { result ≡ (nodes_of (job_tree self.now)).after node }
+    {
+        self.plan.after(node)
+    }
+
+    /// The node of this leaf.
+    pub fn node_of(&self, leaf: u32) -> u32
+        requires { leaf < leaves (job_tree self.now) }
+        ensures { result ≡ (nodes_of (job_tree self.now)).node_of leaf }
+    {
+        self.plan.node_of(leaf)
+    }
+
+    /// What its leaves do, from left to right: at most 20,000.
+    pub fn acts(&self) -> &[Act]
+        ensures acts { result.now ≡ self.now.acts }
+        ensures job { IsJob self.now }
+    {
+        self.acts.as_slice()
+    }
+
+    /// What this leaf does.
+    pub fn act(&self, leaf: u32) -> Act
+        requires { leaf < leaves (job_tree self.now) }
+        ensures { slice_get self.now.acts leaf ≡ Some result }
+    {
+        self.acts[leaf as usize]
+    }
+}

@@ -1,7 +1,0 @@
-use Rattle.worker_loop.proofs.RunKept.{run_reported}
-use Rattle.worker_loop.proofs.running.RunLocked.report.Goals as goal
-
-pub returns-clause-run : goal.returns-clause-run
-returns-clause-run g c =
-    run_reported c.drive.result g.J.GivenJob.tree g.J.GivenJob.acts g.J.GivenJob.workers c.self.inside.core c.self.invariant.job (c.self.invariant.reached c.if-failed.false) c.drive.ensures.run
-    c.run_goes_on_from_reached.ensures

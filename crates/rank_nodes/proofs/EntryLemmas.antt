@@ -1,0 +1,5 @@
+pub mod Ascending
+pub mod Beside
+pub mod Places
+pub mod Ranks
+pub mod Sides

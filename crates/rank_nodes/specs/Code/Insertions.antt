@@ -1,0 +1,124 @@
+-- What an insertion into a tree comes to.
+use Rattle.std.specs.Prelude.{◌≡◌, ℕ, ◌+◌, ◌≤◌, List, [], ◌∷◌, ◌++◌, Result, Ok, Err, Some, None, ⊤}
+use Rattle.std.specs.declared.option.Option.{Option}
+use Rattle.rank_nodes.specs.declared.entry.Entry.{Entry}
+use Rattle.rank_nodes.specs.declared.node.Tree.{Tree}
+use Rattle.rank_nodes.specs.declared.node.Tree.TheVariants.{Empty, Leaf, Underfull', Two', Three'}
+use Rattle.rank_nodes.specs.declared.node.Split.{Split}
+use Rattle.rank_nodes.specs.declared.node.Split.TheVariants.{Fits, Splits}
+use Rattle.rank_nodes.specs.declared.insert.Outcome.{Outcome}
+use Rattle.rank_nodes.specs.declared.insert.Outcome.TheVariants.{Replaced, Added, Full, OutOfMemory}
+use Rattle.rank_nodes.specs.Maps.{value_at, with_entry}
+use Rattle.rank_nodes.specs.Nodes.{entries, depth, count, IsTree, with_split, split_count, IsTreeWithSplit}
+
+-- a key was given a value, and the answer is the one it had
+pub record IsPut (key val : ℕ) (old new : List Entry) (answer : Option ℕ) : Type 0 where
+  pub is : new ≡ with_entry key val old
+  pub answer_is : answer ≡ value_at key old
+
+-- what an insertion comes to
+abbrev pub IsOutcome : ℕ → ℕ → List Entry → List Entry → Outcome → Type 0
+IsOutcome key val old new (Replaced was) = IsPut key val old new (Some was)
+IsOutcome key val old new Added = IsPut key val old new None
+IsOutcome key val old new Full = new ≡ old
+IsOutcome key val old new OutOfMemory = new ≡ old
+
+-- how many entries are new
+abbrev pub added_by : Outcome → ℕ
+added_by (Replaced was) = 0
+added_by Added = 1
+added_by Full = 0
+added_by OutOfMemory = 0
+
+-- what is answered of it
+abbrev pub IsAnswer : {E : Type 0} → Outcome → Result (Option ℕ) E → Type 0
+IsAnswer (Replaced was) (Ok answer) = answer ≡ Some was
+IsAnswer Added (Ok answer) = answer ≡ None
+IsAnswer Full (Ok answer) = ⊥
+IsAnswer OutOfMemory (Ok answer) = ⊥
+IsAnswer (Replaced was) (Err e) = ⊥
+IsAnswer Added (Err e) = ⊥
+IsAnswer Full (Err e) = ⊤
+IsAnswer OutOfMemory (Err e) = ⊤
+
+-- what holds where a part was split off
+abbrev pub OnSplits : Split → Type 0 → Type 0
+OnSplits Fits P = ⊤
+OnSplits (Splits k right) P = P
+
+-- one box at most is taken, and none where nothing was split off below
+abbrev pub IsSpent : Split → Split → ℕ → ℕ → Type 0
+IsSpent Fits Fits old new = ⊤
+IsSpent Fits (Splits k right) old new = ⊥
+IsSpent (Splits j part) split old new = old ≤ new + 1
+
+-- the size that a node keeps
+abbrev pub kept_size : Tree → ℕ
+kept_size Empty = 0
+kept_size (Leaf b) = 0
+kept_size (Underfull' p size a k b m c) = size
+kept_size (Two' p size a k b m c) = size
+kept_size (Three' p size a k b m c) = size
+
+-- a node, one side of which grew by so many entries
+abbrev pub HasGrown : ℕ → Tree → Type 0
+HasGrown added Empty = ⊥
+HasGrown added (Leaf b) = ⊥
+HasGrown added (Underfull' p size a k b m c) = ⊥
+HasGrown added (Two' p size a k b m c) =
+    IsTree a × IsTree b × (depth b ≡ depth a) × (size + added ≡ count a + 1 + count b)
+HasGrown added (Three' p size a k b m c) =
+    IsTree a × IsTree b × IsTree c × (depth b ≡ depth a) × (depth c ≡ depth a)
+    × (size + added ≡ count a + 1 + count b + 1 + count c)
+
+-- a node, one side of which grew by so many entries, and of which a part may have been split off
+abbrev pub HasSplitFirst : ℕ → Split → Tree → Type 0
+HasSplitFirst added split Empty = ⊥
+HasSplitFirst added split (Leaf b) = ⊥
+HasSplitFirst added split (Underfull' p size a k b m c) = ⊥
+HasSplitFirst added split (Two' p size a k b m c) =
+    IsTreeWithSplit (depth b) a split × IsTree b × (size + added ≡ split_count a split + 1 + count b)
+HasSplitFirst added split (Three' p size a k b m c) =
+    IsTreeWithSplit (depth b) a split × IsTree b × IsTree c × (depth c ≡ depth b)
+    × (size + added ≡ split_count a split + 1 + count b + 1 + count c)
+
+abbrev pub HasSplitSecond : ℕ → Split → Tree → Type 0
+HasSplitSecond added split Empty = ⊥
+HasSplitSecond added split (Leaf b) = ⊥
+HasSplitSecond added split (Underfull' p size a k b m c) = ⊥
+HasSplitSecond added split (Two' p size a k b m c) =
+    IsTree a × IsTreeWithSplit (depth a) b split × (size + added ≡ count a + 1 + split_count b split)
+HasSplitSecond added split (Three' p size a k b m c) =
+    IsTree a × IsTreeWithSplit (depth a) b split × IsTree c × (depth c ≡ depth a)
+    × (size + added ≡ count a + 1 + split_count b split + 1 + count c)
+
+abbrev pub HasSplitThird : ℕ → Split → Tree → Type 0
+HasSplitThird added split Empty = ⊥
+HasSplitThird added split (Leaf b) = ⊥
+HasSplitThird added split (Underfull' p size a k b m c) = ⊥
+HasSplitThird added split (Two' p size a k b m c) = ⊥
+HasSplitThird added split (Three' p size a k b m c) =
+    IsTree a × IsTree b × (depth b ≡ depth a) × IsTreeWithSplit (depth a) c split
+    × (size + added ≡ count a + 1 + count b + 1 + split_count c split)
+
+-- the entries of a node, with that part
+abbrev pub with_first_split : Split → Tree → List Entry
+with_first_split split Empty = []
+with_first_split split (Leaf b) = []
+with_first_split split (Underfull' p size a k b m c) = []
+with_first_split split (Two' p size a k b m c) = with_split a split ++ k ∷ entries b
+with_first_split split (Three' p size a k b m c) = with_split a split ++ k ∷ (entries b ++ m ∷ entries c)
+
+abbrev pub with_second_split : Split → Tree → List Entry
+with_second_split split Empty = []
+with_second_split split (Leaf b) = []
+with_second_split split (Underfull' p size a k b m c) = []
+with_second_split split (Two' p size a k b m c) = entries a ++ k ∷ with_split b split
+with_second_split split (Three' p size a k b m c) = entries a ++ k ∷ (with_split b split ++ m ∷ entries c)
+
+abbrev pub with_third_split : Split → Tree → List Entry
+with_third_split split Empty = []
+with_third_split split (Leaf b) = []
+with_third_split split (Underfull' p size a k b m c) = []
+with_third_split split (Two' p size a k b m c) = []
+with_third_split split (Three' p size a k b m c) = entries a ++ k ∷ (entries b ++ m ∷ with_split c split)

@@ -1,0 +1,111 @@
+-- What a tree of nodes holds, and when it is balanced and its sizes are right.
+use Rattle.std.specs.Prelude.{◌≡◌, ℕ, ◌+◌, ◌<◌, ◌≤◌, ◌^◌, List, [], ◌∷◌, ◌++◌, length, ⊤}
+use Rattle.std.specs.List.{AllByRecursion}
+use Rattle.rank_nodes.specs.declared.entry.Entry.{Entry}
+use Rattle.rank_nodes.specs.declared.node.Tree.{Tree}
+use Rattle.rank_nodes.specs.declared.node.Tree.TheVariants.{Empty, Leaf, Underfull', Two', Three'}
+use Rattle.rank_nodes.specs.declared.node.Rooted.{Rooted}
+use Rattle.rank_nodes.specs.declared.node.Split.{Split}
+use Rattle.rank_nodes.specs.declared.node.Split.TheVariants.{Fits, Splits}
+use Rattle.rank_nodes.specs.Maps.{Ascends}
+
+-- the most entries of a leaf
+abbrev pub room : ℕ
+room = 64
+
+-- the entries in order
+abbrev pub entries : Tree → List Entry
+entries Empty = []
+entries (Leaf b) = b.value.items
+entries (Underfull' p size a k b m c) = entries a
+entries (Two' p size a k b m c) = entries a ++ k ∷ entries b
+entries (Three' p size a k b m c) = entries a ++ k ∷ (entries b ++ m ∷ entries c)
+
+-- the levels of nodes above the leaves, along the left edge
+abbrev pub depth : Tree → ℕ
+depth Empty = 0
+depth (Leaf b) = 0
+depth (Underfull' p size a k b m c) = depth a + 1
+depth (Two' p size a k b m c) = depth a + 1
+depth (Three' p size a k b m c) = depth a + 1
+
+-- how many entries there are, side by side
+abbrev pub count : Tree → ℕ
+count Empty = 0
+count (Leaf b) = length b.value.items
+count (Underfull' p size a k b m c) = count a
+count (Two' p size a k b m c) = count a + 1 + count b
+count (Three' p size a k b m c) = count a + 1 + count b + 1 + count c
+
+-- each node has two or three sides of one depth and knows how many entries it has, and no leaf is too long
+abbrev pub IsTree : Tree → Type 0
+IsTree Empty = ⊤
+IsTree (Leaf b) = length b.value.items ≤ room
+IsTree (Underfull' p size a k b m c) = ⊥
+IsTree (Two' p size a k b m c) = IsTree a × IsTree b × (depth b ≡ depth a) × (size ≡ count a + 1 + count b)
+IsTree (Three' p size a k b m c) =
+    IsTree a × IsTree b × IsTree c × (depth b ≡ depth a) × (depth c ≡ depth a)
+    × (size ≡ count a + 1 + count b + 1 + count c)
+
+-- the tree's root, and its entries
+pub record IsMap (root : Tree) : Type 0 where
+  pub tree : IsTree root
+  pub ascends : Ascends (entries root)
+  pub small : AllByRecursion (λ e. e.key < 2 ^ 32) (entries root)
+
+-- a tree's root, and how many levels it has
+pub record IsRootedMap (root : Rooted) : Type 0 where
+  pub is_map : IsMap root.tree
+  pub height_is : root.height ≡ depth root.tree
+
+-- a tree, and how many levels it has
+pub record IsRooted (rooted : Rooted) : Type 0 where
+  pub tree_is : IsTree rooted.tree
+  pub height_is : rooted.height ≡ depth rooted.tree
+
+-- the entries of a tree and of what came off it
+abbrev pub with_split : Tree → Split → List Entry
+with_split tree Fits = entries tree
+with_split tree (Splits k right) = entries tree ++ k ∷ entries right
+
+-- how many these are
+abbrev pub split_count : Tree → Split → ℕ
+split_count tree Fits = count tree
+split_count tree (Splits k right) = count tree + 1 + count right
+
+-- a tree of this depth, and what came off it is one too
+abbrev pub IsTreeWithSplit : ℕ → Tree → Split → Type 0
+IsTreeWithSplit d tree Fits = IsTree tree × (depth tree ≡ d)
+IsTreeWithSplit d tree (Splits k right) = IsTree tree × IsTree right × (depth tree ≡ d) × (depth right ≡ d)
+
+-- a tree, but the root may have one side
+abbrev pub IsLoose : Tree → Type 0
+IsLoose Empty = ⊤
+IsLoose (Leaf b) = IsTree (Leaf b)
+IsLoose (Underfull' p size a k b m c) = IsTree a
+IsLoose (Two' p size a k b m c) = IsTree (Two' p size a k b m c)
+IsLoose (Three' p size a k b m c) = IsTree (Three' p size a k b m c)
+
+-- the root has one side or two
+abbrev pub IsNarrow : Tree → Type 0
+IsNarrow Empty = ⊥
+IsNarrow (Leaf b) = ⊥
+IsNarrow (Underfull' p size a k b m c) = ⊤
+IsNarrow (Two' p size a k b m c) = ⊤
+IsNarrow (Three' p size a k b m c) = ⊥
+
+-- the root has three sides
+abbrev pub IsWide : Tree → Type 0
+IsWide Empty = ⊥
+IsWide (Leaf b) = ⊥
+IsWide (Underfull' p size a k b m c) = ⊥
+IsWide (Two' p size a k b m c) = ⊥
+IsWide (Three' p size a k b m c) = ⊤
+
+-- the tree is a leaf alone
+abbrev pub IsLeaf : Tree → Type 0
+IsLeaf Empty = ⊤
+IsLeaf (Leaf b) = ⊤
+IsLeaf (Underfull' p size a k b m c) = ⊥
+IsLeaf (Two' p size a k b m c) = ⊥
+IsLeaf (Three' p size a k b m c) = ⊥

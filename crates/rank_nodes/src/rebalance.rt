@@ -1,0 +1,118 @@
+//! Nodes from one of whose sides an entry was taken: that side may be left with one side of its own.
+ghost use Rattle.std.specs.Prelude.{◌≡◌, ◌+◌, ◌<◌, ◌^◌, ◌∷◌, ◌++◌, false};
+ghost use Rattle.rank_nodes.specs.Nodes.{entries, depth, count, IsTree, IsLoose, with_split, split_count, IsTreeWithSplit};
+ghost use Rattle.rank_nodes.specs.Code.Removals.{has_one_side, IsPair, IsShort};
+
+use crate::entry::Entry;
+use crate::node::{Split, Tree, three, two, underfull};
+use std::mem;
+
+/// Two sides around an entry, of which one may have one side of its own: it gets a side of the other, or goes to it.
+fn share(a: Tree, k: Entry, b: Tree) -> (Tree, Split)
+    requires pair { IsPair a b }
+    requires level { depth b ≡ depth a }
+    requires fits { count a + 1 + count b < 2 ^ 63 }
+    ensures entries { with_split result.0 result.1 ≡ entries a ++ k ∷ entries b }
+    ensures split { IsTreeWithSplit (depth a) result.0 result.1 }
+    ensures count { split_count result.0 result.1 ≡ count a + 1 + count b }
+{
+    match (a, b) {
+        (Tree::Underfull(mut left), Tree::Two(mut right)) => {
+            let (first, low, second) = right.take_two();
+            let tree = three(right, left.take_first(), k, first, low, second);
+            (tree, Split::Fits)
+        }
+        (Tree::Underfull(mut left), Tree::Three(mut right)) => {
+            let (first, low, second, high, third) = right.take_three();
+            let x = left.take_first();
+            let rest = two(right, second, high, third);
+            (two(left, x, k, first), Split::Splits(low, rest))
+        }
+        (Tree::Two(mut left), Tree::Underfull(mut right)) => {
+            let (first, low, second) = left.take_two();
+            let tree = three(left, first, low, second, k, right.take_first());
+            (tree, Split::Fits)
+        }
+        (Tree::Three(mut left), Tree::Underfull(mut right)) => {
+            let (first, low, second, high, third) = left.take_three();
+            let x = right.take_first();
+            let rest = two(right, third, k, x);
+            (two(left, first, low, second), Split::Splits(high, rest))
+        }
+        (a, b) => (a, Split::Splits(k, b)),
+    }
+}
+
+/// Whether a root has one side alone.
+#[inline]
+fn has_one_side(tree: &Tree) -> bool
+    ensures { result ≡ has_one_side tree.now }
+{
+    matches!(tree, Tree::Underfull(_))
+}
+
+/// Whether one of the sides may have one side alone.
+#[inline]
+#[tactic(auto, using(crate::proofs::TreeLemmas::Sides::whole))]
+fn is_short(tree: &Tree) -> bool
+    requires { IsShort tree.now }
+    ensures { result ≡ false → IsTree tree.now }
+{
+    match tree {
+        Tree::Two(node) | Tree::Three(node) => {
+            has_one_side(&node.first) || has_one_side(&node.second) || has_one_side(&node.third)
+        }
+        Tree::Empty | Tree::Leaf(_) | Tree::Underfull(_) => unreachable!(),
+    }
+}
+
+/// Rebalances a node one side of which lost an entry, and which counts without it.
+#[inline]
+pub(crate) fn rebalance(tree: &mut Tree)
+    requires short { IsShort tree.old }
+    requires fits { count tree.old < 2 ^ 63 }
+    ensures entries { entries tree.new ≡ entries tree.old }
+    ensures loose { IsLoose tree.new }
+    ensures depth { depth tree.new ≡ depth tree.old }
+    ensures count { count tree.new ≡ count tree.old }
+{
+    if is_short(tree) {
+        repair(tree);
+    }
+}
+
+/// Gives the sides of a node back what one of them lacks.
+#[tactic(auto, using(crate::proofs::TreeLemmas::Sides::whole))]
+fn repair(tree: &mut Tree)
+    requires short { IsShort tree.old }
+    requires fits { count tree.old < 2 ^ 63 }
+    ensures entries { entries tree.new ≡ entries tree.old }
+    ensures loose { IsLoose tree.new }
+    ensures depth { depth tree.new ≡ depth tree.old }
+    ensures count { count tree.new ≡ count tree.old }
+{
+    match mem::replace(tree, Tree::Empty) {
+        Tree::Two(mut node) => {
+            let (first, low, second) = node.take_two();
+            *tree = match share(first, low, second) {
+                (a, Split::Fits) => underfull(node, a),
+                (a, Split::Splits(k, b)) => two(node, a, k, b),
+            };
+        }
+        Tree::Three(mut node) => {
+            let (first, low, second, high, third) = node.take_three();
+            if has_one_side(&third) {
+                match share(second, high, third) {
+                    (b, Split::Fits) => *tree = two(node, first, low, b),
+                    (b, Split::Splits(m, c)) => *tree = three(node, first, low, b, m, c),
+                }
+            } else {
+                match share(first, low, second) {
+                    (a, Split::Fits) => *tree = two(node, a, high, third),
+                    (a, Split::Splits(k, b)) => *tree = three(node, a, k, b, high, third),
+                }
+            }
+        }
+        Tree::Empty | Tree::Leaf(_) | Tree::Underfull(_) => unreachable!(),
+    }
+}

@@ -1,0 +1,2 @@
+-- A tree that is cut at a key.
+pub mod Cuts

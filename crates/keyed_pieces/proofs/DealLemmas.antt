@@ -21,7 +21,7 @@ dealt_length lists [] items = refl
 dealt_length lists (g ∷ groups) [] = refl
 dealt_length lists (g ∷ groups) (item ∷ items) = dealt_length (set lists g (get_or lists g [] ++ item ∷ [])) groups items ∙ length-set lists g (get_or lists g [] ++ item ∷ [])
 
-same_or_other : (g j : ℕ) → (g ≡ j) ⊎ ((g == j) ≡ false)
+pub same_or_other : (g j : ℕ) → (g ≡ j) ⊎ ((g == j) ≡ false)
 same_or_other g j = elim (cases_order g j) [
   | inl same ↦ inl same
   | inr apart ↦
@@ -29,13 +29,13 @@ same_or_other g j = elim (cases_order g j) [
       inr (grind (arith, nat_tests, other))
 ]
 
-is_same : (j : ℕ) → (j == j) ≡ true
+pub is_same : (j : ℕ) → (j == j) ≡ true
 is_same j = grind (arith, nat_tests)
 
 true_not_false : true ≡ false → ⊥
 true_not_false e = subst (λ b. cond b Unit ⊥) e tt
 
-are_apart : (g j : ℕ) → (g == j) ≡ false → j ≡ g → ⊥
+pub are_apart : (g j : ℕ) → (g == j) ≡ false → j ≡ g → ⊥
 are_apart g j test same = let yes : (g == j) ≡ true = grind (arith, nat_tests, same) in true_not_false (sym yes ∙ test)
 
 dealt_get : {X : Type 0} (lists : List (List X)) (groups : List ℕ) (items : List X) (j : ℕ) → AllByRecursion (λ g. g < length lists) groups → length groups ≡ length items

@@ -62,7 +62,7 @@ first_group {E} at b starts (e ∷ entries) = step (nat_lt (at e) b) (first_grou
   step true rest = ap (λ zs. e ∷ zs) rest
   step false rest = let test : (suc (group_of (at e) starts) == 0) ≡ false = grind (arith, nat_tests) in rw test rest
 
-same_next : (m n : ℕ) → (suc m == suc n) ≡ (m == n)
+pub same_next : (m n : ℕ) → (suc m == suc n) ≡ (m == n)
 same_next m n = elim (cases_order m n) [
   | inl same ↦ (let yes : (suc m == suc n) ≡ true = grind (arith, nat_tests, same) in let yes' : (m == n) ≡ true = grind (arith, nat_tests, same) in rw (yes, yes') refl)
   | inr apart ↦

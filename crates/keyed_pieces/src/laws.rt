@@ -49,3 +49,34 @@ pub fn dealing_is_by_range<O, R>()
         → ((group : ℕ) → group < length replies → length (of_group group groups groups) ≤ length (slice_index_or replies group []))
         → HaveReplies groups replies }
 {}
+
+/// Replies that each group has as they were dealt to it, merged, are the replies as they were, and there is one for each
+/// item.
+pub fn merging_undoes_dealing<R>()
+    ensures merged { (none : R) (groups : List ℕ) (replies : List R) (lists : List (List R)) → length groups ≡ length replies
+        → AllByRecursion (λ group. group < length lists) groups
+        → ((group : ℕ) → group < length lists → slice_index_or lists group [] ≡ of_group group groups replies)
+        → merged none groups lists ≡ replies }
+    ensures replied { (groups : List ℕ) (replies : List R) (lists : List (List R)) → length groups ≡ length replies
+        → AllByRecursion (λ group. group < length lists) groups
+        → ((group : ℕ) → group < length lists → slice_index_or lists group [] ≡ of_group group groups replies)
+        → HaveReplies groups lists }
+{}
+
+/// Each range replies to its operations what they get where all operations are served on all entries.
+pub fn each_range_replies_as_all_do<E, O, R>()
+    ensures { (at : E → ℕ) (key : O → ℕ) (after : List E → O → List E) (reply : List E → O → R)
+        → AreKeyed at key after reply
+        → (starts : List ℕ) (entries : List E) (operations : List O) → AscendsBy at entries
+        → (group : ℕ) → group ≤ length starts
+        → slice_index_or (replies_by_range after reply (ranges at starts entries) (ranges key starts operations)) group []
+        ≡ of_group group (map (λ op. group_of (key op) starts) operations) (replies_to_each after reply entries operations) }
+{}
+
+/// Where the group of each question answers it as it is to be answered, each group has the answers of its questions.
+pub fn each_group_answers_its_questions<O, R>()
+    ensures { (group : O → ℕ) (answer : O → R) (own : ℕ → O → R) (questions : List O)
+        → AllByRecursion (λ op. own (group op) op ≡ answer op) questions
+        → (number : ℕ) → map (own number) (of_group number (map group questions) questions)
+        ≡ of_group number (map group questions) (map answer questions) }
+{}

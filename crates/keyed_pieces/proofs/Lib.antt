@@ -1,5 +1,5 @@
 pub mod Sides
 pub mod Halves
 pub mod Service
-mod DealLemmas
-mod Apart
+pub mod DealLemmas
+pub mod Apart

@@ -9,4 +9,8 @@
 #[cfg(test)]
 mod dealing;
 #[cfg(test)]
+mod map;
+#[cfg(test)]
 mod queue;
+#[cfg(test)]
+mod words;

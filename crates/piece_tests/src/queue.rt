@@ -1,9 +1,9 @@
 //! The queue, in one thread and in several.
 
+use crate::words::words_of;
 use batched_queue::{FifoQueue, in_batch_order};
 use seq_objects::Reply;
 use std::alloc::{AllocError, Global};
-use std::fmt::Write;
 use std::test::Fail;
 use std::thread::Threads;
 
@@ -98,18 +98,6 @@ const FULL: [Row; 2] = [
     ),
     (&[GET, GET, GET], "16 17 empty"),
 ];
-
-/// Replies in words.
-fn words_of(alloc: Global, replies: &[Reply]) -> Result<String, AllocError> {
-    let mut words = String::new(alloc);
-    for reply in replies {
-        if !words.is_empty() {
-            words.push(' ')?;
-        }
-        write!(words, "{reply}")?;
-    }
-    Ok(words)
-}
 
 /// The place of the first batch that an empty queue serves with other replies, if there is one: in at most `threads`
 /// threads, or in as many as the queue likes where that is none.

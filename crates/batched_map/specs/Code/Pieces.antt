@@ -1,0 +1,64 @@
+-- The pieces of a batch.
+use Rattle.std.specs.Prelude.{◌≡◌, ℕ, ◌+◌, List, length, map, drop}
+use Rattle.key_sets.specs.Groups.{distinct, group_size, AreStarts}
+use Rattle.keyed_pieces.specs.Dealing.{dealt}
+use Rattle.keyed_pieces.specs.Ranges.{ranges}
+use Rattle.rank_nodes.specs.declared.entry.Entry.{Entry}
+use Rattle.rank_nodes.specs.Maps.{key_of}
+use Rattle.seq_objects.specs.declared.reply.Reply.{Reply}
+use Rattle.batched_map.specs.declared.call.MapOp.{MapOp}
+use Rattle.batched_map.specs.declared.piece.Range.{Range}
+use Rattle.batched_map.specs.declared.piece.Piece.{Piece}
+use Rattle.batched_map.specs.declared.piece.Served.{Served}
+use Rattle.batched_map.specs.Maps.{map_after, keys_in}
+use Rattle.batched_map.specs.Code.Ranges.{sizes_before, range_of, replies_in}
+
+-- the trees of ranges, and how many keys are before each
+abbrev pub trees : List Range → List (List Entry)
+trees ranges = map (λ range. range.tree) ranges
+
+abbrev pub befores : List Range → List ℕ
+befores ranges = map (λ range. range.before) ranges
+
+-- the ranges of pieces, and their operations
+abbrev pub ranges_in : List Piece → List Range
+ranges_in pieces = map (λ piece. piece.range) pieces
+
+abbrev pub operations_in : List Piece → List (List MapOp)
+operations_in pieces = map (λ piece. piece.operations.items) pieces
+
+-- the ranges of a map that is cut at these keys
+pub record AreRanges (entries : List Entry) (starts : List ℕ) (all : List Range) : Type 0 where
+  pub trees_are : trees all ≡ ranges key_of starts entries
+  pub befores_are : befores all ≡ sizes_before 0 (ranges key_of starts entries)
+
+-- the number of the range of each operation, where the map is cut into these ranges at these keys
+abbrev pub groups_in : List ℕ → List Range → List MapOp → List ℕ
+groups_in starts all operations = map (range_of starts (drop 1 (befores all))) operations
+
+-- each piece has a range, and the operations that are dealt to it
+pub record AreCut (entries : List Entry) (starts : List ℕ) (operations : List MapOp) (all : List Range) (pieces : List Piece) : Type 0 where
+  pub ranges_are : AreRanges entries starts all
+  pub each_has : ranges_in pieces ≡ all
+  pub dealt_are : operations_in pieces ≡ dealt (length starts + 1) (groups_in starts all operations) operations
+
+-- A batch that is cut into pieces by the rule for its keys: they are cut into groups, and the map at the least key of each
+-- group but the first. The number of the range of each operation is known.
+pub record AreDealt (entries : List Entry) (operations : List MapOp) (pieces : List Piece) (groups : List ℕ) : Type 0 where
+  pub starts : List ℕ
+  pub by_rule : AreStarts (group_size (length (distinct (keys_in operations)))) (distinct (keys_in operations)) starts
+  pub all : List Range
+  pub cut : AreCut entries starts operations all pieces
+  pub groups_are : groups ≡ groups_in starts all operations
+
+-- the operations were done one after another to the range of the piece
+pub record Meets (piece : Piece) (served : Served) : Type 0 where
+  pub tree : served.tree ≡ map_after piece.range.tree piece.operations.items
+  pub replies : served.replies.items ≡ replies_in piece.range.before piece.range.tree piece.operations.items
+
+-- the ranges that pieces leave, and what they reply
+abbrev pub trees_left : List Served → List (List Entry)
+trees_left outs = map (λ out. out.tree) outs
+
+abbrev pub replies_left : List Served → List (List Reply)
+replies_left outs = map (λ out. out.replies.items) outs

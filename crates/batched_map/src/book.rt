@@ -1,0 +1,85 @@
+//! The map.
+ghost use Rattle.std.specs.Prelude.{◌≡◌, ◌<◌, [], IfOk};
+ghost use Rattle.batched_map.specs.Maps.{map_after, map_replies, operations};
+ghost use Rattle.batched_map.specs.Batches.{AreMapBatch};
+
+use crate::begin::{begin, operations_of};
+use crate::call::MapCall;
+use crate::end::join;
+use crate::piece::{Piece, Served};
+use crate::serve::RangePieces;
+use keyed_pieces::merge;
+use piece_threads::{run_pieces, threads_for};
+use rank_tree::RankTree;
+use seq_objects::Reply;
+use std::alloc::{AllocError, Global};
+use std::marker::Model;
+use std::thread::Threads;
+
+/// An ordered map with rank and select. Contracts see the list of its entries, whose keys ascend.
+#[derive(Drop)]
+pub struct RankBook {
+    tree: RankTree,
+}
+
+impl Model for RankBook {
+    ghost use Rattle.std.specs.Prelude.{List};
+    ghost use Rattle.rank_nodes.specs.declared.entry.Entry.{Entry};
+
+    ghost Value = { List Entry };
+
+    ghost view = { λ book. book.tree };
+
+    ghost invariant = { λ book. Unit {0} };
+}
+
+impl RankBook {
+    /// A map without entries.
+    pub fn new(alloc: Global) -> Result<RankBook, AllocError>
+        ensures { IfOk result (λ book. book ≡ []) }
+    {
+        Ok(RankBook {
+            tree: RankTree::new(alloc),
+        })
+    }
+
+    /// Serves a batch, and gives the replies in the order of its calls. The map is given up when memory runs out.
+    ///
+    /// It joins the threads that it starts, if it starts any: one for each 1,024 calls, so none for a batch.
+    pub fn batch<R: Threads + Sync>(
+        self,
+        rt: &R,
+        alloc: Global,
+        calls: &[MapCall],
+    ) -> Result<(RankBook, Vec<Reply>), AllocError>
+        requires { AreMapBatch calls.now }
+        ensures entries { IfOk result (λ p. p.0 ≡ map_after self (operations calls.now)) }
+        ensures replies { IfOk result (λ p. p.1.items ≡ map_replies self (operations calls.now)) }
+    {
+        let threads = threads_for(calls.len());
+        self.batch_in_threads(rt, alloc, calls, threads)
+    }
+
+    /// As `batch`, with the pieces shared out among at most `threads` threads.
+    pub fn batch_in_threads<R: Threads + Sync>(
+        self,
+        rt: &R,
+        alloc: Global,
+        calls: &[MapCall],
+        threads: usize,
+    ) -> Result<(RankBook, Vec<Reply>), AllocError>
+        requires batch { AreMapBatch calls.now }
+        requires some { 0 < threads }
+        ensures entries { IfOk result (λ p. p.0 ≡ map_after self (operations calls.now)) }
+        ensures replies { IfOk result (λ p. p.1.items ≡ map_replies self (operations calls.now)) }
+    {
+        let RankBook { tree } = self;
+        tree.keys_ascend();
+        let operations = operations_of(alloc, calls)?;
+        let (pieces, groups) = begin(alloc, tree, &operations)?;
+        let outs = run_pieces::<R, Piece, Served, RangePieces>(rt, alloc, pieces, threads)?;
+        let (tree, replies) = join(alloc, outs)?;
+        let replies = merge(alloc, &groups, replies)?;
+        Ok((RankBook { tree }, replies))
+    }
+}

@@ -1,0 +1,54 @@
+//! Calls of a batched map.
+ghost use Rattle.std.specs.Prelude.{◌≡◌};
+ghost use Rattle.batched_map.specs.Maps.{is_query, key_in, op_key};
+
+/// What is asked of the map.
+#[derive(Clone, Copy)]
+pub enum MapOp {
+    /// Gives the key this value, and replies the old one.
+    Put(u32, u32),
+    /// Takes the key out, and replies its value.
+    Del(u32),
+    /// Replies the value of the key.
+    Get(u32),
+    /// Replies how many keys are less.
+    Rank(u32),
+    /// Replies the key that has so many keys below it.
+    Nth(u32),
+}
+
+/// A worker's call of the map.
+#[derive(Clone, Copy)]
+pub struct MapCall {
+    pub worker: u32,
+    pub what: MapOp,
+}
+
+impl MapOp {
+    /// Whether the map stays as it is.
+    pub fn is_query(self) -> bool
+        ensures { result ≡ is_query self }
+    {
+        match self {
+            MapOp::Get(_) | MapOp::Rank(_) | MapOp::Nth(_) => true,
+            MapOp::Put(_, _) | MapOp::Del(_) => false,
+        }
+    }
+
+    /// The key, which all but the question for the key at an index have.
+    pub fn key(self) -> Option<u32>
+        ensures { result ≡ key_in self }
+    {
+        match self {
+            MapOp::Put(key, _) | MapOp::Del(key) | MapOp::Get(key) | MapOp::Rank(key) => Some(key),
+            MapOp::Nth(_) => None,
+        }
+    }
+
+    /// The key, or 0 where there is none.
+    pub(crate) fn key_or_zero(self) -> u32
+        ensures { result ≡ op_key self }
+    {
+        self.key().unwrap_or(0)
+    }
+}

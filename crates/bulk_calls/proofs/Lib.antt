@@ -1,0 +1,5 @@
+pub mod SetLaws
+pub mod CallLemmas
+pub mod RangeLemmas
+pub mod OrderLemmas
+pub mod BatchLemmas

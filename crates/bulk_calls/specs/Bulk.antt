@@ -1,0 +1,58 @@
+-- A set as one thread would have it, whose calls carry many keys: the keys of a call are served one after another.
+use Rattle.std.specs.Prelude.{ℕ, Bool, true, false, List, [], ◌∷◌, map}
+use Rattle.seq_objects.specs.declared.op.Op.{Op}
+use Rattle.seq_objects.specs.declared.op.Op.TheVariants.{TreeInsert, TreeRemove, TreeFind}
+use Rattle.seq_objects.specs.declared.reply.Reply.{Reply}
+use Rattle.seq_objects.specs.declared.reply.Reply.TheVariants as reply
+use Rattle.seq_objects.specs.Objects.{after, reply_to}
+use Rattle.seq_objects.specs.Serial.{of_set}
+use Rattle.bulk_calls.specs.declared.op.BulkKind.{BulkKind}
+use Rattle.bulk_calls.specs.declared.op.BulkKind.TheVariants.{Insert, Remove, Find}
+use Rattle.bulk_calls.specs.Views.{BulkView, CallView}
+
+-- what a set is asked for at one key
+abbrev pub asked : BulkKind → ℕ → Op
+asked Insert key = TreeInsert key
+asked Remove key = TreeRemove key
+asked Find key = TreeFind key
+
+-- whether a reply is a yes
+abbrev pub is_yes : Reply → Bool
+is_yes reply.Yes = true
+is_yes _ = false
+
+-- the set after one key
+abbrev pub after_key : BulkKind → List ℕ → ℕ → List ℕ
+after_key kind set key = (after (of_set set) (asked kind key)).set
+
+-- whether the reply to one key is yes
+abbrev pub answer : BulkKind → List ℕ → ℕ → Bool
+answer kind set key = is_yes (reply_to (of_set set) (asked kind key))
+
+-- the set after keys, one after another
+abbrev pub after_keys : BulkKind → List ℕ → List ℕ → List ℕ
+after_keys kind set [] = set
+after_keys kind set (key ∷ keys) = after_keys kind (after_key kind set key) keys
+
+-- the replies to keys, one after another
+abbrev pub answers : BulkKind → List ℕ → List ℕ → List Bool
+answers kind set [] = []
+answers kind set (key ∷ keys) = answer kind set key ∷ answers kind (after_key kind set key) keys
+
+-- a call: the set afterwards, and the reply to each key
+abbrev pub bulk_serve : List ℕ → BulkView → List ℕ × List Bool
+bulk_serve set call = (after_keys call.kind set call.keys, answers call.kind set call.keys)
+
+-- the set after calls, one after another
+abbrev pub bulk_after : List ℕ → List BulkView → List ℕ
+bulk_after set [] = set
+bulk_after set (call ∷ calls) = bulk_after (bulk_serve set call).0 calls
+
+-- the replies to calls, one after another
+abbrev pub bulk_replies : List ℕ → List BulkView → List (List Bool)
+bulk_replies set [] = []
+bulk_replies set (call ∷ calls) = (bulk_serve set call).1 ∷ bulk_replies (bulk_serve set call).0 calls
+
+-- what calls ask for
+abbrev pub operations : List CallView → List BulkView
+operations calls = map (λ call. call.what) calls

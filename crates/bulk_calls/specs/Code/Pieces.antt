@@ -1,0 +1,36 @@
+-- What a piece owes, and what pieces come to.
+use Rattle.std.specs.Prelude.{◌≡◌, ℕ, Bool, List, map}
+use Rattle.key_sets.specs.Groups.{group_of}
+use Rattle.keyed_pieces.specs.Keyed.{after_each, replies_to_each}
+use Rattle.keyed_pieces.specs.Ranges.{ranges}
+use Rattle.bulk_calls.specs.declared.piece.KeyOp.{KeyOp}
+use Rattle.bulk_calls.specs.declared.piece.Piece.{Piece}
+use Rattle.bulk_calls.specs.declared.piece.Served.{Served}
+use Rattle.bulk_calls.specs.Code.Singles.{after_one, answer_to}
+
+-- the out has the keys of its range after the piece's operations, and the answers to them
+pub record Meets (piece : Piece) (served : Served) : Type 0 where
+  pub keys : served.forest.keys ≡ after_each after_one piece.forest.keys piece.operations.items
+  pub answers : served.answers.items ≡ replies_to_each after_one answer_to piece.forest.keys piece.operations.items
+
+-- the keys of the ranges of pieces, and their operations
+abbrev pub ranges_of : List Piece → List (List ℕ)
+ranges_of pieces = map (λ piece. piece.forest.keys) pieces
+
+abbrev pub operations_of : List Piece → List (List KeyOp)
+operations_of pieces = map (λ piece. piece.operations.items) pieces
+
+-- the keys of the ranges afterwards, and the answers
+abbrev pub ranges_after : List Served → List (List ℕ)
+ranges_after outs = map (λ out. out.forest.keys) outs
+
+abbrev pub answers_of : List Served → List (List Bool)
+answers_of outs = map (λ out. out.answers.items) outs
+
+-- a set and operations by ranges, where the ranges but the first begin with the starts: each piece has its range of both, and
+-- the group of each operation is told
+pub record IsCut (set : List ℕ) (operations : List KeyOp) (groups : List ℕ) (pieces : List Piece) : Type 0 where
+  pub starts : List ℕ
+  pub groups_are : groups ≡ map (λ (operation : KeyOp). group_of operation.key starts) operations
+  pub ranges_are : ranges_of pieces ≡ ranges (λ key. key) starts set
+  pub operations_are : operations_of pieces ≡ ranges (λ (operation : KeyOp). operation.key) starts operations

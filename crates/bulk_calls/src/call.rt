@@ -1,0 +1,37 @@
+//! Calls of a set.
+ghost use Rattle.std.specs.Prelude.{◌≡◌};
+
+use crate::op::BulkOp;
+use std::marker::Model;
+
+/// A worker's call of the set. Contracts see its worker, and the operation. That is borrowed, since it is too large to be
+/// copied.
+#[derive(Drop)]
+pub struct BulkCall<'a> {
+    pub worker: u32,
+    pub what: &'a BulkOp,
+}
+
+impl<'a> Model for BulkCall<'a> {
+    ghost use Rattle.bulk_calls.specs.Views.{CallView};
+
+    ghost Value = { CallView };
+
+    ghost view = { λ call. record { worker = call.worker; what = call.what.now } };
+}
+
+impl<'a> BulkCall<'a> {
+    /// Who calls.
+    pub fn worker(&self) -> u32
+        ensures { result ≡ self.now.worker }
+    {
+        self.worker
+    }
+
+    /// What is asked for.
+    pub fn what(&self) -> &'a BulkOp
+        ensures { result.now ≡ self.now.what }
+    {
+        self.what
+    }
+}

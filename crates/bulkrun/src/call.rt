@@ -1,0 +1,58 @@
+//! The calls of a script.
+ghost use Rattle.std.specs.Prelude.{◌≡◌, ◌≤◌, Some, length};
+ghost use Rattle.decimals.specs.Words.{number_between};
+ghost use Rattle.bulkrun.specs.Calls.{kind_named, keys_named, call_with, bulk_call};
+
+use batch_script::Name;
+use bulk_calls::{BulkKind, BulkOp};
+use decimals::number_between;
+
+/// A call has at most so many keys.
+const MOST_KEYS: usize = 64;
+
+/// The key that a word is, if it is a number below 2^32.
+fn key_in(word: &Name) -> Option<u32>
+    ensures { result ≡ number_between 0 4294967295 word.now }
+{
+    number_between(word.bytes(), 0, 4_294_967_295).map(|key| key as u32)
+}
+
+/// The kind of call that a word names, if it names one.
+fn kind_named(word: &Name) -> Option<BulkKind>
+    ensures { result ≡ kind_named word.now }
+{
+    let bytes = word.bytes();
+    if bytes == b"insert".as_slice() {
+        Some(BulkKind::Insert)
+    } else if bytes == b"remove".as_slice() {
+        Some(BulkKind::Remove)
+    } else if bytes == b"find".as_slice() {
+        Some(BulkKind::Find)
+    } else {
+        None
+    }
+}
+
+/// The call of this kind with the keys that the words are, if each is one.
+fn call_with(kind: BulkKind, words: &[Name]) -> Option<BulkOp>
+    requires { length words.now ≤ 64 }
+    ensures { result ≡ call_with (Some kind) (keys_named words.now) }
+{
+    let mut call = BulkOp::new(kind);
+    for word in words {
+        call.push(key_in(word)?);
+    }
+    Some(call)
+}
+
+/// The call that the words are, if they are one: `insert`, `remove` or `find`, with 1 to 64 keys.
+pub(crate) fn bulk_call(words: &[Name]) -> Option<BulkOp>
+    ensures { result ≡ bulk_call words.now }
+{
+    match words {
+        [word, keys @ ..] if !keys.is_empty() && keys.len() <= MOST_KEYS => {
+            call_with(kind_named(word)?, keys)
+        }
+        _ => None,
+    }
+}

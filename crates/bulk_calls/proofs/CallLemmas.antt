@@ -19,17 +19,17 @@ answered_length set [] = refl
 answered_length set (op ∷ ops) = ap suc (answered_length (after_one set op) ops)
 
 -- the keys of one call, and then others
-left_then : (kind : BulkKind) (set keys : List ℕ) (ops : List KeyOp) → left_by set (each_as kind keys ++ ops) ≡ left_by (after_keys kind set keys) ops
-left_then kind set [] ops = refl
-left_then kind set (key ∷ keys) ops = left_then kind (after_key kind set key) keys ops
+left_then : (what : BulkKind) (set keys : List ℕ) (ops : List KeyOp) → left_by set (each_as what keys ++ ops) ≡ left_by (after_keys what set keys) ops
+left_then what set [] ops = refl
+left_then what set (key ∷ keys) ops = left_then what (after_key what set key) keys ops
 
-answered_then : (kind : BulkKind) (set keys : List ℕ) (ops : List KeyOp) → answered set (each_as kind keys ++ ops) ≡ answers kind set keys ++ answered (after_keys kind set keys) ops
-answered_then kind set [] ops = refl
-answered_then kind set (key ∷ keys) ops = ap (λ rs. answer kind set key ∷ rs) (answered_then kind (after_key kind set key) keys ops)
+answered_then : (what : BulkKind) (set keys : List ℕ) (ops : List KeyOp) → answered set (each_as what keys ++ ops) ≡ answers what set keys ++ answered (after_keys what set keys) ops
+answered_then what set [] ops = refl
+answered_then what set (key ∷ keys) ops = ap (λ rs. answer what set key ∷ rs) (answered_then what (after_key what set key) keys ops)
 
-answers_length : (kind : BulkKind) (set keys : List ℕ) → length (answers kind set keys) ≡ length keys
-answers_length kind set [] = refl
-answers_length kind set (key ∷ keys) = ap suc (answers_length kind (after_key kind set key) keys)
+answers_length : (what : BulkKind) (set keys : List ℕ) → length (answers what set keys) ≡ length keys
+answers_length what set [] = refl
+answers_length what set (key ∷ keys) = ap suc (answers_length what (after_key what set key) keys)
 
 pub left_by_calls : (set : List ℕ) (calls : List BulkView) → left_by set (singles calls) ≡ bulk_after set calls
 left_by_calls set [] = refl

@@ -23,21 +23,21 @@ is_yes _ = false
 
 -- the set after one key
 abbrev pub after_key : BulkKind → List ℕ → ℕ → List ℕ
-after_key kind set key = (after (of_set set) (asked kind key)).set
+after_key what set key = (after (of_set set) (asked what key)).set
 
 -- whether the reply to one key is yes
 abbrev pub answer : BulkKind → List ℕ → ℕ → Bool
-answer kind set key = is_yes (reply_to (of_set set) (asked kind key))
+answer what set key = is_yes (reply_to (of_set set) (asked what key))
 
 -- the set after keys, one after another
 abbrev pub after_keys : BulkKind → List ℕ → List ℕ → List ℕ
-after_keys kind set [] = set
-after_keys kind set (key ∷ keys) = after_keys kind (after_key kind set key) keys
+after_keys what set [] = set
+after_keys what set (key ∷ keys) = after_keys what (after_key what set key) keys
 
 -- the replies to keys, one after another
 abbrev pub answers : BulkKind → List ℕ → List ℕ → List Bool
-answers kind set [] = []
-answers kind set (key ∷ keys) = answer kind set key ∷ answers kind (after_key kind set key) keys
+answers what set [] = []
+answers what set (key ∷ keys) = answer what set key ∷ answers what (after_key what set key) keys
 
 -- a call: the set afterwards, and the reply to each key
 abbrev pub bulk_serve : List ℕ → BulkView → List ℕ × List Bool

@@ -27,8 +27,8 @@ keys_named (word ∷ words) = with_first (number_between 0 4294967295 word) (key
 -- a call, where both its kind and its keys are told
 abbrev pub call_with : Option BulkKind → Option (List ℕ) → Option BulkView
 call_with None keys = None
-call_with (Some kind) None = None
-call_with (Some kind) (Some keys) = Some (record { kind = kind; keys = keys })
+call_with (Some what) None = None
+call_with (Some what) (Some keys) = Some (record { kind = what; keys = keys })
 
 -- a call is `insert`, `remove` or `find`, with 1 to 64 keys
 abbrev pub bulk_call : List (List ℕ) → Option BulkView

@@ -36,15 +36,15 @@ merged_back none (g ∷ groups) (r ∷ replies) lists same within each =
     let new = set lists g (drop 1 mine) in
     let long = length-set lists g (drop 1 mine) in
     let rest = merged_back none groups replies new (omega (arith, same)) (rw long within.1)
-        (λ j less. elim (same_or_other g j) [
-          | inl is ↦
-              let here : get_or new g [] ≡ drop 1 mine = get_or-set_same lists g (drop 1 mine) [] within.0 in
-              let left : get_or new g [] ≡ of_group g groups replies = here ∙ ap (drop 1) own in
-              subst (λ k. get_or new k [] ≡ of_group k groups replies) is left
-          | inr other ↦
-              let there : get_or new j [] ≡ get_or lists j [] = get_or-set_other lists g j (drop 1 mine) [] (are_apart g j other) in
-              there ∙ (rw other at (each j (rw long at less)))
-        ]) in
+    (λ j less. elim (same_or_other g j) [
+      | inl is ↦
+          let here : get_or new g [] ≡ drop 1 mine = get_or-set_same lists g (drop 1 mine) [] within.0 in
+          let left : get_or new g [] ≡ of_group g groups replies = here ∙ ap (drop 1) own in
+          subst (λ k. get_or new k [] ≡ of_group k groups replies) is left
+      | inr other ↦
+          let there : get_or new j [] ≡ get_or lists j [] = get_or-set_other lists g j (drop 1 mine) [] (are_apart g j other) in
+          there ∙ (rw other at (each j (rw long at less)))
+    ]) in
     ap (λ reply. reply ∷ merged none groups new) (ap (λ xs. get_or xs 0 none) own) ∙ ap (λ rs. r ∷ rs) rest
 
 pub have_dealt : {R : Type 0} (groups : List ℕ) (replies : List R) (lists : List (List R)) → length groups ≡ length replies
@@ -53,8 +53,8 @@ pub have_dealt : {R : Type 0} (groups : List ℕ) (replies : List R) (lists : Li
 have_dealt groups replies lists same within each =
     have_replies groups lists within
     (λ g less.
-        let count : length (of_group g groups groups) ≡ length (get_or lists g []) = same_count g groups groups replies refl same ∙ ap length (sym (each g less)) in
-        omega (arith, count))
+    let count : length (of_group g groups groups) ≡ length (get_or lists g []) = same_count g groups groups replies refl same ∙ ap length (sym (each g less)) in
+    omega (arith, count))
 
 -- the ranges below a key and from it on, where a batch is served on all entries
 low_replies : {E O R : Type 0} (at : E → ℕ) (key : O → ℕ) (after : List E → O → List E) (reply : List E → O → R) → AreKeyed at key after reply

@@ -246,9 +246,7 @@ fn serve_sorted(pairs: &mut Vec<(u32, u32)>, operation: MapOp) -> Result<Reply, 
         }
         MapOp::Rank(_) => return Ok(Reply::Number(place as u64)),
         MapOp::Nth(index) => {
-            return Ok(Reply::number_or_empty(
-                pairs.get(index as usize).map(|pair| pair.0),
-            ));
+            return Ok(Reply::number_or_empty(pairs.get(index as usize).map(|pair| pair.0)));
         }
         MapOp::Del(_) | MapOp::Get(_) => {}
     }

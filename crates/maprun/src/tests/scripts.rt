@@ -18,10 +18,7 @@ batch 1 place 2 worker 4 nth 3 -> empty\n\
 batch 1 place 3 worker 2 put 20 9 -> 2\n\
 batch 1 place 4 worker 3 del 30 -> 3\n",
     ),
-    (
-        b"nth 0",
-        b"batch 0 place 0 worker 0 nth 0 -> empty\n",
-    ),
+    (b"nth 0", b"batch 0 place 0 worker 0 nth 0 -> empty\n"),
     (
         b"put 5 1\nput 5 2\ndel 5\nget 5\nput 5 3",
         b"batch 0 place 0 worker 3 get 5 -> empty\n\
@@ -135,7 +132,10 @@ const FAULTY: [(&[(&str, usize)], &str); 16] = [
     (&[("put 1 1\ngo 1", 1)], "2: not a call"),
     (&[("nth 0\n", 33)], "33: batch too large"),
     (&[("nth 0\n", 32), ("put 1", 1)], "33: not a call"),
-    (&[("nth 0\ngo\n", 100_000), ("nth 0", 1)], "200001: too many calls"),
+    (
+        &[("nth 0\ngo\n", 100_000), ("nth 0", 1)],
+        "200001: too many calls",
+    ),
 ];
 
 /// A text of these parts.
@@ -165,11 +165,7 @@ fn faulty_scripts_are_refused_on_their_line(rt: HostRuntime) -> Result<(), Fail>
 /// How many spaces a file has, the exit number, and the line on err.
 const LENGTHS: [(usize, u8, &[u8]); 2] = [
     (1_048_576, 0, b""),
-    (
-        1_048_577,
-        4,
-        b"maprun: script longer than 1048576 bytes\n",
-    ),
+    (1_048_577, 4, b"maprun: script longer than 1048576 bytes\n"),
 ];
 
 #[test]

@@ -7,6 +7,8 @@
 #![tactic(auto)]
 
 #[cfg(test)]
+mod bulk;
+#[cfg(test)]
 mod dealing;
 #[cfg(test)]
 mod map;

@@ -15,4 +15,6 @@ mod map;
 #[cfg(test)]
 mod queue;
 #[cfg(test)]
+mod ranks;
+#[cfg(test)]
 mod words;

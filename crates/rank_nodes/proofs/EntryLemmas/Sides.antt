@@ -5,6 +5,7 @@ use Rattle.std.proofs.lemmas.Bool.Decides.{nat_tests}
 use Rattle.key_sets.proofs.KeyLemmas.Ascending.{all_map}
 use Rattle.keyed_pieces.specs.Keyed.{AreBelow, AreFrom}
 use Rattle.keyed_pieces.specs.Ranges.{below, from}
+use Rattle.keyed_pieces.proofs.Sides.{all_below, all_from}
 use Rattle.rank_nodes.specs.declared.entry.Entry.{Entry}
 use Rattle.rank_nodes.specs.Maps.{key_of, AllBelow}
 use Rattle.rank_nodes.specs.Code.Splits.{IsSplit}
@@ -34,3 +35,7 @@ sides_of key (e ∷ low) high down up =
 pub split_sides : (key : ℕ) (whole low high : List Entry) → IsSplit key whole low high
     → (below key_of key whole ≡ low) × (from key_of key whole ≡ high)
 split_sides key whole low high cut = rw cut.is (sides_of key low high cut.below cut.above)
+
+pub parts_apart : (key : ℕ) (whole low high : List Entry) → low ≡ below key_of key whole → high ≡ from key_of key whole → AllBelow low high
+parts_apart key whole low high low_is high_is =
+    rw (low_is, high_is) (apart key (below key_of key whole) (from key_of key whole) (all_below key_of key whole) (all_from key_of key whole))

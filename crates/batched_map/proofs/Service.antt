@@ -235,6 +235,7 @@ groups_within entries starts all ops are =
 
 -- what a batch in pieces comes to
 pub record IsServed (entries : List Entry) (ops : List MapOp) (groups : List ℕ) (outs : List Served) : Type 0 where
+  pub some : 0 < length outs
   pub tree : side_by_side (trees_left outs) ≡ map_after entries ops
   pub ascends : Ascends (side_by_side (trees_left outs))
   pub have : HaveReplies groups (replies_left outs)
@@ -263,7 +264,9 @@ served entries ops pieces numbers outs up parts begun met =
     let counted : length groups ≡ length (map_replies entries ops) = length-map ops (group_in starts entries) ∙ reply_count entries ops in
     let inside : AllByRecursion (λ g. g < length lists) groups = all_within starts entries (length lists) long ops in
     let each : (g : ℕ) → g < length lists → get_or lists g [] ≡ of_group g groups (map_replies entries ops) = λ g less. ranges_reply starts entries ops parts up g (rw long at less) in
+    let outs_count : length outs ≡ n = sym (length-map outs (λ out. out.replies.items)) ∙ ap length replied ∙ long in
     record {
+      some = omega (arith, outs_count);
       tree = tree;
       ascends = rw tree (ascends_after entries ops up);
       have = rw (same, replied) (have_dealt groups (map_replies entries ops) lists counted inside each);

@@ -1,11 +1,11 @@
 //! Cutting a map into ranges, and dealing the operations of a batch to them.
-ghost use Rattle.std.specs.Prelude.{◌≡◌, ◌<◌, length, drop, IfOk};
+ghost use Rattle.std.specs.Prelude.{◌≡◌, ◌+◌, ◌<◌, ◌≤◌, ◌^◌, length, drop, IfOk, OnOk};
 ghost use Rattle.key_sets.specs.Keys.{StrictlyAscends};
 ghost use Rattle.key_sets.specs.Groups.{distinct, group_of, group_size, AreStarts};
 ghost use Rattle.keyed_pieces.specs.Dealing.{lists};
 ghost use Rattle.batched_map.specs.Maps.{operations, keys_in};
 ghost use Rattle.batched_map.specs.Code.Ranges.{range_of};
-ghost use Rattle.batched_map.specs.Code.Pieces.{AreRanges, AreDealt, befores, groups_in, ranges_in, operations_in};
+ghost use Rattle.batched_map.specs.Code.Pieces.{AreAdded, AreRanges, AreDealt, befores, groups_in, ranges_in, operations_in};
 
 use crate::call::{MapCall, MapOp};
 use crate::piece::{Piece, Range};
@@ -13,6 +13,9 @@ use key_sets::{find_starts, group_of, sort_distinct};
 use keyed_pieces::deal;
 use rank_tree::RankTree;
 use std::alloc::{AllocError, Global};
+
+/// A batch has at most so many ranges, but one.
+const MOST_STARTS: usize = 15;
 
 /// What calls ask for, in their order.
 pub(crate) fn operations_of(alloc: Global, calls: &[MapCall]) -> Result<Vec<MapOp>, AllocError>
@@ -46,30 +49,45 @@ fn starts_of(alloc: Global, operations: &[MapOp]) -> Result<Vec<u32>, AllocError
     ensures ascends { IfOk result (λ v. StrictlyAscends v.items) }
 {
     let keys = keys_of(alloc, operations)?;
-    let mut starts = Vec::new(alloc);
+    let mut starts = Vec::with_capacity(alloc, MOST_STARTS)?;
     if !keys.is_empty() {
         find_starts(&keys, &mut starts)?;
     }
     Ok(starts)
 }
 
+/// Cuts a part of a map at the starts, where so many keys of the map are before the part, and puts its ranges behind those
+/// that are there. The start in the middle comes first, so that each cut is of about half as many keys as the one before.
+fn cut_part(
+    part: RankTree,
+    before: u64,
+    starts: &[u32],
+    ranges: &mut Vec<Range>,
+) -> Result<(), AllocError>
+    requires few { before + length part ≤ 2 ^ 32 }
+    requires ascends { StrictlyAscends starts.now }
+    ensures { OnOk result (AreAdded before part starts.now ranges.old.items ranges.new.items) }
+{
+    let (lows, rest) = starts.split_at(starts.len() / 2);
+    let Some((start, highs)) = rest.split_first() else {
+        ranges.push(Range { tree: part, before })?;
+        return Ok(());
+    };
+    let (low, high) = part.split_below(*start)?;
+    let between = before + low.len();
+    cut_part(low, before, lows, ranges)?;
+    cut_part(high, between, highs, ranges)?;
+    Ok(())
+}
+
 /// Cuts a map at the starts.
 fn cut(alloc: Global, tree: RankTree, starts: &[u32]) -> Result<Vec<Range>, AllocError>
+    requires { StrictlyAscends starts.now }
     ensures { IfOk result (λ v. AreRanges tree starts.now v.items) }
 {
-    let size = tree.len();
+    let _size = tree.len();
     let mut ranges = Vec::with_capacity(alloc, starts.len() + 1)?;
-    let mut rest = tree;
-    for start in starts {
-        let before = size - rest.len();
-        let (low, high) = rest.split_below(*start)?;
-        ranges.push(Range { tree: low, before })?;
-        rest = high;
-    }
-    ranges.push(Range {
-        before: size - rest.len(),
-        tree: rest,
-    })?;
+    cut_part(tree, 0, starts, &mut ranges)?;
     Ok(ranges)
 }
 

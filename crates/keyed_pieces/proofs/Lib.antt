@@ -3,3 +3,4 @@ pub mod Halves
 pub mod Service
 pub mod DealLemmas
 pub mod Apart
+pub mod Cuts

@@ -1,12 +1,13 @@
 //! The laws of operations with keys that are served by ranges.
-ghost use Rattle.std.specs.Prelude.{◌≡◌, ◌==◌, ◌+◌, ◌<◌, ◌≤◌, ℕ, List, filter, length, map, slice_index_or, []};
+ghost use Rattle.std.specs.Prelude.{◌≡◌, ◌==◌, ◌+◌, ◌<◌, ◌≤◌, ℕ, List, ◌++◌, ◌∷◌, filter, length, map, slice_index_or, []};
 ghost use Rattle.std.specs.List.{AllByRecursion};
 ghost use Rattle.key_sets.specs.Groups.{group_of};
 ghost use Rattle.keyed_pieces.specs.Dealing.{dealt, of_group, HaveReplies};
 ghost use Rattle.keyed_pieces.specs.Keyed.{AreKeyed, AscendsBy, after_each, replies_to_each};
-ghost use Rattle.keyed_pieces.specs.Ranges.{ranges, side_by_side, after_by_range, replies_by_range, merged};
+ghost use Rattle.keyed_pieces.specs.Ranges.{below, from, ranges, side_by_side, after_by_range, replies_by_range, merged};
 
-/// Each range has the entries of its group, in their order; side by side the ranges are all entries.
+/// Each range has the entries of its group, in their order; side by side the ranges are all entries. The ranges below a
+/// start and those from it on may be cut apart from one another.
 pub fn ranges_are_the_groups<E>()
     ensures count { (at : E → ℕ) (starts : List ℕ) (entries : List E)
         → length (ranges at starts entries) ≡ length starts + 1 }
@@ -14,6 +15,9 @@ pub fn ranges_are_the_groups<E>()
         → slice_index_or (ranges at starts entries) group [] ≡ filter (λ e. group_of (at e) starts == group) entries }
     ensures all { (at : E → ℕ) (starts : List ℕ) (entries : List E) → AscendsBy at entries
         → side_by_side (ranges at starts entries) ≡ entries }
+    ensures apart { (at : E → ℕ) (lows : List ℕ) (start : ℕ) (highs : List ℕ) (entries : List E)
+        → AllByRecursion (λ low. low < start) lows
+        → ranges at (lows ++ start ∷ highs) entries ≡ ranges at lows (below at start entries) ++ ranges at highs (from at start entries) }
 {}
 
 /// Operations that touch what stands at their own key alone may be served range by range, whatever their order is: what

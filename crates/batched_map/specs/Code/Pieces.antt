@@ -1,8 +1,8 @@
 -- The pieces of a batch.
-use Rattle.std.specs.Prelude.{◌≡◌, ℕ, ◌+◌, List, length, map, drop}
+use Rattle.std.specs.Prelude.{◌≡◌, ℕ, ◌+◌, List, ◌++◌, length, map, drop}
 use Rattle.key_sets.specs.Groups.{distinct, group_size, AreStarts}
 use Rattle.keyed_pieces.specs.Dealing.{dealt}
-use Rattle.keyed_pieces.specs.Ranges.{ranges}
+use Rattle.keyed_pieces.specs.Ranges.{ranges, side_by_side}
 use Rattle.rank_nodes.specs.declared.entry.Entry.{Entry}
 use Rattle.rank_nodes.specs.Maps.{key_of}
 use Rattle.seq_objects.specs.declared.reply.Reply.{Reply}
@@ -32,6 +32,11 @@ pub record AreRanges (entries : List Entry) (starts : List ℕ) (all : List Rang
   pub trees_are : trees all ≡ ranges key_of starts entries
   pub befores_are : befores all ≡ sizes_before 0 (ranges key_of starts entries)
 
+-- the ranges of a part that is cut at these keys, with so many keys before it, stand behind those that were there
+pub record AreAdded (before : ℕ) (part : List Entry) (starts : List ℕ) (there all : List Range) : Type 0 where
+  pub trees_are : trees all ≡ trees there ++ ranges key_of starts part
+  pub befores_are : befores all ≡ befores there ++ sizes_before before (ranges key_of starts part)
+
 -- the number of the range of each operation, where the map is cut into these ranges at these keys
 abbrev pub groups_in : List ℕ → List Range → List MapOp → List ℕ
 groups_in starts all operations = map (range_of starts (drop 1 (befores all))) operations
@@ -55,6 +60,13 @@ pub record AreDealt (entries : List Entry) (operations : List MapOp) (pieces : L
 pub record Meets (piece : Piece) (served : Served) : Type 0 where
   pub tree : served.tree ≡ map_after piece.range.tree piece.operations.items
   pub replies : served.replies.items ≡ replies_in piece.range.before piece.range.tree piece.operations.items
+
+-- a tree has what so many of the trees side by side had, which were the last
+pub record IsJoined (all left : List (List Entry)) (count : ℕ) (tree : List Entry) : Type 0 where
+  pub last : List (List Entry)
+  pub all_are : all ≡ left ++ last
+  pub count_is : length last ≡ count
+  pub tree_is : tree ≡ side_by_side last
 
 -- the ranges that pieces leave, and what they reply
 abbrev pub trees_left : List Served → List (List Entry)

@@ -5,8 +5,14 @@ use Rattle.batched_map.proofs.Service.{served}
 use Rattle.batched_map.proofs.Serial.{in_parts}
 use Rattle.batched_map.proofs.book.RankBook.batch_in_threads.Goals as goal
 
-pub join-requires : goal.join-requires
-join-requires g c =
+pub join-requires-clause-some : goal.join-requires-clause-some
+join-requires-clause-some g c =
+    let begun = rw (c.deref.ensures.value, c.in_ok-operations.ensures) at c.in_ok-pieces.ensures in
+    (served c.self.inside.tree (operations c.args.calls.now) c.in_ok-pieces.pieces.items c.in_ok-pieces.groups.items c.in_ok-outs.outs.items
+    c.keys_ascend.ensures.ascends (in_parts c.args.calls.now c.requires.batch.order) begun c.in_ok-outs.ensures).some
+
+pub join-requires-clause-ascends : goal.join-requires-clause-ascends
+join-requires-clause-ascends g c =
     let begun = rw (c.deref.ensures.value, c.in_ok-operations.ensures) at c.in_ok-pieces.ensures in
     (served c.self.inside.tree (operations c.args.calls.now) c.in_ok-pieces.pieces.items c.in_ok-pieces.groups.items c.in_ok-outs.outs.items
     c.keys_ascend.ensures.ascends (in_parts c.args.calls.now c.requires.batch.order) begun c.in_ok-outs.ensures).ascends

@@ -1,4 +1,5 @@
 pub mod SetLaws
+pub mod GroupLemmas
 pub mod CallLemmas
 pub mod RangeLemmas
 pub mod OrderLemmas

@@ -1,3 +1,4 @@
--- What only the code and its proofs cite: the single keys of calls, and pieces.
+-- What only the code and its proofs cite: the single keys of calls, pieces, and keys among starts.
 pub mod Singles
 pub mod Pieces
+pub mod Lookup

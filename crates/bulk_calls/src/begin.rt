@@ -1,5 +1,5 @@
 //! Cutting a batch into pieces, each of one range of keys.
-ghost use Rattle.std.specs.Prelude.{◌≡◌, ◌++◌, map, length, IfOk, OnOk};
+ghost use Rattle.std.specs.Prelude.{◌≡◌, ◌≤◌, ◌++◌, map, length, IfOk, OnOk};
 ghost use Rattle.key_sets.specs.Keys.{StrictlyAscends};
 ghost use Rattle.key_sets.specs.Groups.{distinct, group_of};
 ghost use Rattle.keyed_pieces.specs.Dealing.{lists};
@@ -10,10 +10,11 @@ ghost use Rattle.bulk_calls.specs.Code.Singles.{singles, each_as, keys_in};
 ghost use Rattle.bulk_calls.specs.Code.Pieces.{ranges_of, operations_of, IsCut};
 
 use crate::call::BulkCall;
+use crate::groups::groups_of;
 use crate::op::BulkOp;
 use crate::piece::{KeyOp, Piece};
 use forest_cuts::cut_below_each;
-use key_sets::{find_starts, group_of, sort_distinct};
+use key_sets::{find_starts, sort_distinct};
 use keyed_pieces::deal;
 use keyed_pieces::laws::dealing_is_by_range;
 use std::alloc::{AllocError, Global};
@@ -56,7 +57,8 @@ fn distinct_keys(alloc: Global, operations: &[KeyOp]) -> Result<Vec<u32>, AllocE
 
 /// The keys with which the ranges of a batch but the first begin.
 fn starts_of(alloc: Global, operations: &[KeyOp]) -> Result<Vec<u32>, AllocError>
-    ensures { IfOk result (λ v. StrictlyAscends v.items) }
+    ensures ascend { IfOk result (λ v. StrictlyAscends v.items) }
+    ensures few { IfOk result (λ v. length v.items ≤ 15) }
 {
     let keys = distinct_keys(alloc, operations)?;
     let mut starts = Vec::new(alloc);
@@ -67,25 +69,14 @@ fn starts_of(alloc: Global, operations: &[KeyOp]) -> Result<Vec<u32>, AllocError
     Ok(starts)
 }
 
-/// The group of each operation, where the ranges but the first begin with `starts`.
-fn groups_of(alloc: Global, operations: &[KeyOp], starts: &[u32]) -> Result<Vec<usize>, AllocError>
-    requires { StrictlyAscends starts.now }
-    ensures { IfOk result (λ v. v.items ≡ map (λ operation. group_of operation.key starts.now) operations.now) }
-{
-    let mut groups = Vec::with_capacity(alloc, operations.len())?;
-    for operation in operations {
-        groups.push(group_of(starts, operation.key))?;
-    }
-    Ok(groups)
-}
-
 /// The group of each operation, and the operations of each group, where the ranges but the first begin with `starts`.
 fn deal_out(
     alloc: Global,
     operations: &[KeyOp],
     starts: &[u32],
 ) -> Result<(Vec<usize>, Vec<Vec<KeyOp>>), AllocError>
-    requires { StrictlyAscends starts.now }
+    requires ascend { StrictlyAscends starts.now }
+    requires few { length starts.now ≤ 15 }
     ensures groups { IfOk result (λ p. p.0.items ≡ map (λ operation. group_of operation.key starts.now) operations.now) }
     ensures dealt { IfOk result (λ p. lists p.1.items ≡ ranges (λ operation. operation.key) starts.now operations.now) }
 {

@@ -11,6 +11,7 @@
 mod begin;
 mod call;
 mod end;
+mod groups;
 mod op;
 mod order;
 mod piece;

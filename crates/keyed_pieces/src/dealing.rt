@@ -7,13 +7,16 @@ ghost use Rattle.keyed_pieces.specs.Dealing.{dealt, lists, queued, HaveReplies};
 use std::alloc::{AllocError, Global};
 use std::collections::VecDeque;
 
-/// As many empty vectors.
+/// A group of a batch has mostly no more items.
+const FEW: usize = 4;
+
+/// As many empty vectors, each with room for a few items.
 fn empty_vectors<T: Drop>(alloc: Global, count: usize) -> Result<Vec<Vec<T>>, AllocError>
     ensures { IfOk result (λ v. lists v.items ≡ replicate count []) }
 {
     let mut vectors = Vec::with_capacity(alloc, count)?;
     for _ in 0..count {
-        vectors.push(Vec::new(alloc))?;
+        vectors.push(Vec::with_capacity(alloc, FEW)?)?;
     }
     Ok(vectors)
 }

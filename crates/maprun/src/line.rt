@@ -1,5 +1,5 @@
 //! The lines of a batch.
-ghost use Rattle.std.specs.Prelude.{◌≡◌, ◌++◌, ◌≤◌, length, OnOk, string_bytes};
+ghost use Rattle.std.specs.Prelude.{◌≡◌, ◌++◌, ◌≤◌, length, OnOk, codes, string_bytes};
 ghost use Rattle.std.specs.Fmt.{decimal};
 ghost use Rattle.seq_objects.specs.Words.{reply_words};
 ghost use Rattle.maprun.specs.Text.{call_words, call_line};
@@ -42,16 +42,21 @@ fn push_call(text: &mut String, what: MapOp) -> Result<(), AllocError>
     }
 }
 
-/// Puts the words of a reply.
+/// Puts the end of a line, which is what the call replied.
 fn push_reply(text: &mut String, reply: Reply) -> Result<(), AllocError>
-    ensures { OnOk result (string_bytes text.new ≡ string_bytes text.old ++ reply_words reply) }
+    ensures { OnOk result (string_bytes text.new
+        ≡ string_bytes text.old ++ (codes " -> " ++ reply_words reply ++ codes "\n")) }
 {
     match reply {
-        Reply::Number(number) => push_number(text, number),
-        Reply::Unit => text.push_str("ok"),
-        Reply::Empty => text.push_str("empty"),
-        Reply::Yes => text.push_str("yes"),
-        Reply::No => text.push_str("no"),
+        Reply::Number(number) => {
+            text.push_str(" -> ")?;
+            push_number(text, number)?;
+            text.push_str("\n")
+        }
+        Reply::Unit => text.push_str(" -> ok\n"),
+        Reply::Empty => text.push_str(" -> empty\n"),
+        Reply::Yes => text.push_str(" -> yes\n"),
+        Reply::No => text.push_str(" -> no\n"),
     }
 }
 
@@ -68,9 +73,7 @@ fn push_line(
 {
     push_line_front(text, batch, place, call.worker)?;
     push_call(text, call.what)?;
-    text.push_str(" -> ")?;
-    push_reply(text, reply)?;
-    text.push_str("\n")
+    push_reply(text, reply)
 }
 
 /// Puts the lines of a batch.

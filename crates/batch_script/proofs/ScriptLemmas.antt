@@ -1,4 +1,4 @@
--- The script that is read line by line is the script.
+-- The script that is read line by line is the one that the rules give.
 use Rattle.std.proofs.Common.{◌≡◌, ℕ, ◌+◌, List, [], ◌∷◌, ◌++◌, length, map, filter, Bool, true, false, Option, Some, None, refl, ap, sym, ◌∙◌, arith, append_assoc, append-nil, length-append}
 use Rattle.std.specs.List.{onto_first}
 use Rattle.std.specs.Option.{option_or}
@@ -6,7 +6,7 @@ use Rattle.batch_script.specs.declared.fault.ScriptFault.{ScriptFault}
 use Rattle.batch_script.specs.Scripts.{Line, ScriptValue, good, is_some_of, are_go, groups_of, fault_in, fault_among, calls_in, batches_in, unless_fault, script_of, lines_of}
 use Rattle.batch_script.specs.Code.Reading.{closed, fault_of_call, with_call, faulty_or, script_from}
 
--- what a script comes to, by the groups of the lines that are left: the first goes on with the batch that is begun
+-- the value of a script, by the groups of the lines that are left: the first group goes on with the batch that is begun
 abbrev value : {C : Type 0} → (List (List ℕ) → Option C) → ℕ → List (List C) → List C → List Line → List (List Line) → ScriptValue C
 value call_of number done begun group groups =
     unless_fault (option_or (fault_in call_of number (length begun) group) (fault_among call_of (number + length group) groups))

@@ -1,4 +1,4 @@
--- What a script is, what its reader answers, and what a program over scripts prints. `Code` is what only the code cites.
+-- What a script is, what its reader answers, what a program over scripts prints. `Code` is what only the code cites.
 pub mod Scripts
 pub mod Answers
 pub mod Texts

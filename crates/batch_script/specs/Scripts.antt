@@ -47,8 +47,8 @@ are_go (word ∷ next ∷ words) = false
 abbrev pub groups_of : List Line → List (List Line)
 groups_of lines = slice_split (λ (line : Line). are_go line.words) (filter (λ (line : Line). is_some_of line.words) lines)
 
--- The fault of a line that is to be a call, if it has one, where `number` calls stand before it in the script, and `place`
--- of these in its batch: it is no call, or the 33rd of its batch, or the 100,001st of the script. The first of these counts.
+-- The fault of a line that is to be a call, if any, where `number` calls stand before it in the script, and `place` of
+-- these in its batch: it is no call, or the 33rd of its batch, or the 100,001st of the script. The first counts.
 abbrev pub fault_at : {C : Type 0} → (List (List ℕ) → Option C) → ℕ → ℕ → Line → Option ScriptFault
 fault_at call_of number place line =
     if not (is_some (call_of line.words)) then Some (Call line.number)
@@ -68,7 +68,7 @@ fault_among call_of number [] = None
 fault_among call_of number (group ∷ groups) =
     option_or (fault_in call_of number 0 group) (fault_among call_of (number + length group) groups)
 
--- the calls that lines are
+-- the calls that the words of lines spell
 abbrev pub calls_in : {C : Type 0} → (List (List ℕ) → Option C) → List Line → List C
 calls_in call_of lines = filter_map (λ (line : Line). call_of line.words) lines
 
@@ -81,12 +81,12 @@ pub data ScriptValue (C : Type 0) : Type 0 where
   good : (batches : List (List C)) → ScriptValue C
   bad : (fault : ScriptFault) → ScriptValue C
 
--- a fault, where there is one, decides
+-- the fault, if there is one, or else the batches
 abbrev pub unless_fault : {C : Type 0} → Option ScriptFault → List (List C) → ScriptValue C
 unless_fault (Some fault) batches = bad fault
 unless_fault None batches = good batches
 
--- What a text is to a program, whose calls `call_of` tells.
+-- What a text is to a program, whose calls `call_of` gives.
 abbrev pub script_of : {C : Type 0} → (List (List ℕ) → Option C) → List ℕ → ScriptValue C
 script_of call_of bytes =
     unless_fault (fault_among call_of 0 (groups_of (lines_of bytes))) (batches_in call_of (groups_of (lines_of bytes)))

@@ -3,8 +3,8 @@ use Rattle.std.specs.Prelude.{ℕ, ◌+◌, List, [], ◌∷◌, ◌++◌, Optio
 use Rattle.std.specs.Fmt.{decimal}
 use Rattle.batch_script.specs.Scripts.{ScriptValue, good, bad, script_of}
 
--- The text of batches, from the one of this number on. `lines` is what a batch prints, by its number and the state before it,
--- and `after` is the state after it.
+-- The text of batches, from the one of this number on. `lines` is what a batch prints, by its number and the state
+-- before it, and `after` is the state after it.
 abbrev pub batches_text : {S C : Type 0} → (ℕ → S → List C → List ℕ) → (S → List C → S) → ℕ → S → List (List C) → List ℕ
 batches_text lines after number state [] = []
 batches_text lines after number state (calls ∷ batches) =

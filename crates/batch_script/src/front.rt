@@ -1,4 +1,4 @@
-//! How the lines of calls begin.
+//! The front of each call's line, which all programs over scripts share.
 ghost use Rattle.std.specs.Prelude.{◌≡◌, ◌++◌, OnOk, string_bytes};
 ghost use Rattle.std.specs.Fmt.{decimal};
 ghost use Rattle.batch_script.specs.Texts.{line_front};
@@ -6,7 +6,7 @@ ghost use Rattle.batch_script.specs.Texts.{line_front};
 use itoa::Buffer;
 use std::alloc::AllocError;
 
-/// Puts words and a number behind a text.
+/// Appends words and a number to a text.
 fn push_number(text: &mut String, words: &str, number: u32) -> Result<(), AllocError>
     ensures { OnOk result (string_bytes text.new ≡ string_bytes text.old ++ (words.now ++ decimal number)) }
 {
@@ -15,7 +15,7 @@ fn push_number(text: &mut String, words: &str, number: u32) -> Result<(), AllocE
     text.push_str(buffer.format(number))
 }
 
-/// Puts the front of a call's line behind a text: its batch, its place there, and its worker.
+/// Appends the front of a call's line to a text: its batch, its place there, and its worker.
 pub fn push_line_front(
     text: &mut String,
     batch: u32,

@@ -1,14 +1,16 @@
-//! Scripts of batches: a text whose lines are calls, cut into batches by lines `go`; its reader, and the run of a program
-//! that serves it.
+//! Scripts of batches: a text whose lines are calls, cut into batches by lines `go`; its reader, and the run of a
+//! program that serves it.
 //!
-//! `read_script` gives exactly the script that a text is, or its first fault. Which lines are calls is said by a program's
-//! `Form`, so one reader serves every program over scripts. `line` cuts a text into lines and a line into words; `reading`
-//! keeps three counts where the rules speak of places in lists, and a lemma shows that both tell the same script.
+//! `read_script` gives exactly the script that a text is, or its first fault. A program's `Form` says which lines are
+//! calls, so one reader serves every program over scripts. `line` cuts a text into lines and a line into words.
+//! `reading` keeps three counts where the rules speak of places in lists, and a lemma shows that both give the same
+//! script.
 //!
-//! `run_script` is the whole of such a program, over whatever object `Serves` its batches: it carries once the theorem on
-//! what is printed, the cause of each status, and the line on err. A program states them again in its own words.
+//! `run_script` is the whole of such a program, over any object that `Serves` its batches. It carries the theorem on
+//! what is printed, the cause of each status, and the line on err, once for all programs. A program states them again
+//! in its own words.
 //!
-//! In `specs/` the rules stand at the top, and what only the code and its proofs cite in `Code/`. The crate stands on
+//! In `specs/` the rules stand at the top, and `Code/` has what only the code and its proofs cite. The crate stands on
 //! `program_io`, and on `bt_io` for shelves and sinks.
 #![tactic(auto)]
 

@@ -14,7 +14,7 @@ fn is_blank(byte: u8) -> bool
     matches!(byte, b' ' | b'\t' | b'\r')
 }
 
-/// The first word of a line, and what stands behind it.
+/// The first word of a line, and what follows it.
 fn first_word(line: &[u8]) -> Option<(&[u8], &[u8])>
     ensures words { MatchOption result (words line.now ≡ []) (λ p. words line.now ≡ p.0.now ∷ words p.1.now) }
     ensures shorter { MatchOption result (0 ≤ 0) (λ p. length p.1.now < length line.now) }
@@ -41,7 +41,7 @@ fn word_len(text: &[u8]) -> usize
     text.len()
 }
 
-/// Puts a word at a place among names, or behind all.
+/// Sets the name at a place to a word, or appends the word.
 fn put_name(names: &mut Vec<Name>, alloc: Global, at: usize, word: &[u8]) -> Result<(), AllocError>
     requires { at ≤ length names.old.items }
     ensures names { OnOk result (take (at + 1) names.new.items ≡ take at names.old.items ++ word.now ∷ []) }
@@ -55,7 +55,7 @@ fn put_name(names: &mut Vec<Name>, alloc: Global, at: usize, word: &[u8]) -> Res
     Ok(())
 }
 
-/// Puts the words of a line at the front of names, and says how many they are.
+/// Sets the first names to the words of a line, and returns how many there are. The memory of the names is used again.
 pub(crate) fn fill_names(
     alloc: Global,
     line: &[u8],

@@ -22,7 +22,7 @@ fn are_go(words: &[Name]) -> bool
     }
 }
 
-/// Goes on with the next line, which has these words.
+/// Takes the next line, by its words: nothing, the end of a batch, or a call.
 fn take_line<F: Form>(
     alloc: Global,
     reading: &mut Reading<F::Call>,
@@ -51,7 +51,7 @@ fn take_line<F: Form>(
 /// The script that a text is to the program whose calls are of the form `F`.
 ///
 /// It is refused for its first fault, from the first line on. Time: linear in the bytes, and a `call_of` for each call.
-/// Memory: linear in the bytes; a batch is a vector, and the words of a line are kept in the buffers of those before it.
+/// Memory: linear in the bytes; a batch is a vector, and the words of a line use the buffers of the words before.
 pub fn read_script<F: Form>(alloc: Global, bytes: &[u8]) -> Result<Script<F::Call>, ScriptErr>
     requires { length bytes.now ≤ 1048576 }
     ensures { IsReading (script_of F.call_of bytes.now) result }

@@ -1,4 +1,4 @@
-//! A script that is being read.
+//! A script that is being read: its state between two lines, and the limits that a call may break.
 ghost use Rattle.std.specs.Prelude.{◌≡◌, ◌+◌, ◌<◌, ◌≤◌, ◌^◌, [], length, None, IfErr, OnOk};
 ghost use Rattle.batch_script.specs.Code.Reading.{ended, called, fault_of_call, IsRefusal};
 
@@ -41,7 +41,7 @@ impl<C: Drop> Model for Reading<C> {
 }
 
 impl<C: Drop> Reading<C> {
-    /// Nothing yet.
+    /// A reading that has read no line.
     pub(crate) fn new(alloc: Global) -> Reading<C>
         ensures { result ≡ record { done = []; begun = []; number = 0 } }
     {
@@ -64,7 +64,7 @@ impl<C: Drop> Reading<C> {
         Ok(())
     }
 
-    /// Puts the call of a line into the batch.
+    /// Adds the call of a line to the batch that is begun. `None` stands for a line that is no call.
     pub(crate) fn take_call(&mut self, call: Option<C>, line: u32) -> Result<(), ScriptErr>
         ensures none { OnOk result (fault_of_call call self.old.number (length self.old.begun) line ≡ None) }
         ensures called { OnOk result (self.new ≡ called self.old call) }
@@ -86,7 +86,7 @@ impl<C: Drop> Reading<C> {
         Ok(())
     }
 
-    /// The script, where its last batch has ended.
+    /// The script of the batches that have ended.
     pub(crate) fn into_script(self) -> Script<C>
         requires { length self.done < 2 ^ 32 }
         ensures { result ≡ self.done }

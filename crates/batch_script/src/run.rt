@@ -33,11 +33,11 @@ fn file_in(words: &[String]) -> Option<&str>
     }
 }
 
-/// Does what the words say: reads the script of the file, serves its batches one after another by an object of type `T`,
-/// and writes the lines of all calls on `out`, or the line that says why not on `err`.
+/// Runs a program on its words: reads the script of the file, serves its batches one after another by an object of type
+/// `T`, and writes the lines of all calls on `out`, or the line that says why not on `err`.
 ///
-/// The text is made whole and written once. `name` is the name of the program, and `usage` what is said of a wrong use. It
-/// waits for nobody, but joins the threads in which batches are served. Memory may run out at any step.
+/// The text is made whole and written once. `usage` is what the line of the program `name` says of a wrong use. The run
+/// joins the threads in which batches are served, and waits for no others. Memory may run out at any step.
 pub fn run_script<R: Threads + Sync, T: Serves, I: Shelf, O: Sink, E: Sink>(
     rt: &R,
     alloc: Global,
@@ -74,7 +74,7 @@ pub fn run_script<R: Threads + Sync, T: Serves, I: Shelf, O: Sink, E: Sink>(
     status
 }
 
-/// Ends a run that has no words: writes the line of its status on `err`. Words that are no text are a wrong use.
+/// Ends a run that got no words: writes the line of its status on `err`. Words that are no text are a wrong use.
 pub fn end_without_words<E: Sink>(
     why: WordsErr,
     name: &[u8],

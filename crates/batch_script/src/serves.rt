@@ -1,4 +1,4 @@
-//! What serves the batches of a script.
+//! The object that serves the batches of a script.
 ghost use Rattle.std.specs.Prelude.{◌≡◌, ◌++◌, ℕ, List, IfOk, OnOk, string_bytes};
 ghost use Rattle.std.specs.Thread.{IsSync};
 ghost use Rattle.batch_script.specs.Scripts.{IsBatch};
@@ -7,9 +7,9 @@ use crate::form::Form;
 use std::alloc::{AllocError, Global};
 use std::thread::Threads;
 
-/// An object that serves the batches of a script one after another, and tells what each call replied.
+/// An object that serves the batches of a script one after another, and appends the lines of each to a text.
 ///
-/// A batch may be served in threads, which are joined before it is over.
+/// A batch may be served in threads. They are joined before `serve` returns.
 pub trait Serves: Form + Sized + Drop {
     /// What contracts see of the object. No value of it is made.
     type State;
@@ -26,11 +26,11 @@ pub trait Serves: Form + Sized + Drop {
     /// The lines of a batch, by its number and the state before it.
     ghost lines: { ℕ → Self.State → List Self.Call → List ℕ };
 
-    /// The object before any batch.
+    /// Makes an object that has served no batch.
     fn open(alloc: Global) -> Result<Self, AllocError>
         ensures { IfOk result (λ object. state object ≡ opening) };
 
-    /// Serves the batch of this number, and appends its lines. Where memory runs out the object is given up.
+    /// Serves the batch of this number, and appends its lines. Where memory runs out the object is dropped.
     fn serve<R: Threads + Sync>(
         self,
         rt: &R,

@@ -1,4 +1,4 @@
--- How far a run of a script has come.
+-- What the steps of a run of a script answer: the reading of its file, and the writing of its text.
 use Rattle.std.specs.Prelude.{ℕ, ◌<◌, List, length, Option, IfSome}
 use Rattle.std.specs.Io.KnownBytes.{Appends, Keeps}
 use Rattle.bt_io.specs.Bytes.{AppendsFront}

@@ -21,7 +21,7 @@ pub pieces_in_more : {In : Type 0} (bundles : List (Vec In Global)) (last : Vec 
 pieces_in_more [] last = append-nil last.items
 pieces_in_more (bundle ∷ bundles) last = ap (λ xs. bundle.items ++ xs) (pieces_in_more bundles last) ∙ sym (append_assoc bundle.items (pieces_in bundles) last.items)
 
--- results one after another
+-- the outs of one bundle more
 pub outs_more : {Out E : Type 0} (results : List (Result (Vec Out Global) E)) (outs : List Out) (more : Vec Out Global)
     → outs_in results ≡ Some outs → outs_in {E = E} (results ++ Ok more ∷ []) ≡ Some (outs ++ more.items)
 outs_more [] outs more is =
@@ -37,7 +37,7 @@ outs_more {Out} {E} (Ok first ∷ results) outs more is = step (outs_in results)
       let e : outs ≡ first.items ++ rest = cc in
       rw (later rest here, e) (ap Some (sym (append_assoc first.items rest more.items)))
 
--- by place
+-- where each bundle's outs meet its pieces, all outs meet all pieces
 pub served_each : {In Out E : Type 0} (meets : In → Out → Type 0) (bundles : List (Vec In Global)) (results : List (Result (Vec Out Global) E)) (outs : List Out)
     → length results ≡ length bundles
     → ((i : ℕ) (b : Vec In Global) (r : Result (Vec Out Global) E) → i < length bundles → b ≡ get_or bundles i b → r ≡ get_or results i r → IfOk r (λ outs. AllMeet meets b.items outs.items))

@@ -1,4 +1,4 @@
-//! Bundles of consecutive pieces.
+//! Bundles of consecutive pieces, each of which one thread runs.
 ghost use Rattle.std.specs.Prelude.{◌≡◌, ◌<◌, Some, IfOk};
 ghost use Rattle.piece_threads.specs.Code.Bundles.{pieces_in, outs_in};
 

@@ -1,12 +1,12 @@
-//! Pieces of work that are done apart from one another.
+//! Pieces of work that are independent of each other.
 ghost use Rattle.std.specs.Prelude.{IfOk};
 ghost use Rattle.seq_objects.specs.Pieces.{AllMeet};
 
 use std::alloc::{AllocError, Global};
 
-/// Work in pieces that know nothing of one another: each is given an `I` and answers an `O`.
+/// Work in pieces that are independent of each other: each is given an `I` and answers an `O`.
 pub trait Pieces<I, O> {
-    /// What a piece owes: its out as the in determines it.
+    /// What a piece owes: how its out depends on its in.
     ghost meets: { I → O → Type 0 };
 
     /// Works on one piece.

@@ -1,4 +1,4 @@
-//! Pieces that are run in threads.
+//! Pieces that are run in threads, and how many threads they are worth.
 ghost use Rattle.std.specs.Prelude.{◌≡◌, ◌<◌, ℕ, length, slice_index_or, IfOk};
 ghost use Rattle.seq_objects.specs.Pieces.{AllMeet};
 ghost use Rattle.piece_threads.specs.Threads.{threads_for};
@@ -9,10 +9,10 @@ use std::alloc::{AllocError, Global};
 use std::thread;
 use std::thread::Threads;
 
-/// At most so many threads work on one batch.
+/// The most threads that one batch is worth.
 const MOST_THREADS: usize = 16;
 
-/// One more thread pays for each so many keys of a batch.
+/// The number of keys that pay for one more thread.
 const KEYS_A_THREAD: usize = 1024;
 
 /// In how many threads the pieces of a batch are worth running, where `keys` is how many keys or items all its pieces
@@ -45,7 +45,7 @@ fn run_bundles<R: Threads + Sync, I: Send + Drop, O: Send + Drop, P: Pieces<I, O
 }
 
 /// Works on pieces in at most `threads` threads at once, each of which works on consecutive pieces one after another.
-/// With one, or where there is one piece, there is no thread but the caller's.
+/// With one thread, or at most one piece, all work is done on the caller's thread.
 pub fn run_pieces<R: Threads + Sync, I: Send + Drop, O: Send + Drop, P: Pieces<I, O> + Send + Sync>(
     rt: &R,
     alloc: Global,

@@ -1,4 +1,4 @@
--- Bundles of pieces, and what the bundles answer.
+-- Bundles of pieces, and the outs of bundles.
 use Rattle.std.specs.Prelude.{List, [], ◌∷◌, ◌++◌, Result, Ok, Err, Option, Some, None}
 use Rattle.std.specs.declared.vec.Vec.{Vec}
 use Rattle.std.specs.declared.alloc.Global.{Global}
@@ -8,7 +8,7 @@ abbrev pub pieces_in : {In : Type 0} → List (Vec In Global) → List In
 pieces_in [] = []
 pieces_in (bundle ∷ bundles) = bundle.items ++ pieces_in bundles
 
--- outs before those that there are
+-- outs in front of more, where there are more
 abbrev pub before_outs : {Out : Type 0} → List Out → Option (List Out) → Option (List Out)
 before_outs outs None = None
 before_outs outs (Some more) = Some (outs ++ more)

@@ -148,7 +148,7 @@ served_by stripes first count puts found items taken (piece ∷ pieces) (out ∷
     (rw (length-set items out.number out.items.items) within) (rw (length-set taken out.number out.taken.items) within')
     (step_served stripes first count puts found items taken piece out pieces j each.0 meet.0 within within' before)
 
--- what the pieces come to: each stripe is served
+-- where the outs of all pieces are put back, each stripe is served
 pub all_served : (stripes : List (List ℕ)) (first count : ℕ) (puts : List ℕ) (found : ℕ) (rest : List (List ℕ)) (pieces : List Piece) (outs : List Served)
     → IsCut stripes first count puts found rest pieces → AllMeet Meets pieces outs → length rest ≡ 16 → (j : ℕ) → j < 16
     → IsServed stripes first count puts found (with_outs (λ out. out.items.items) rest outs) (with_outs (λ out. out.taken.items) (replicate 16 []) outs) j

@@ -13,19 +13,19 @@ times place zero = 0
 times zero (suc n) = suc (times 15 n)
 times (suc place) (suc n) = times place n
 
--- items behind others
+-- of two lists, one after another
 pub every_append : (place : ℕ) (xs ys : List ℕ) → every place (xs ++ ys) ≡ every place xs ++ every (later place (length xs)) ys
 every_append place [] ys = refl
 every_append zero (x ∷ xs) ys = ap (λ rest. x ∷ rest) (every_append 15 xs ys)
 every_append (suc place) (x ∷ xs) ys = every_append place xs ys
 
--- how many there are
+-- the number of items found
 pub every_length : (place : ℕ) (xs : List ℕ) → length (every place xs) ≡ times place (length xs)
 every_length place [] = refl
 every_length zero (x ∷ xs) = ap suc (every_length 15 xs)
 every_length (suc place) (x ∷ xs) = every_length place xs
 
--- without the first n items, and these alone
+-- of a list without its first n items, and of its first n items
 pub every_drop : (place n : ℕ) (xs : List ℕ) → n ≤ length xs → every (later place n) (drop n xs) ≡ drop (times place n) (every place xs)
 every_drop place zero xs le = refl
 every_drop place (suc n) [] le = absurd (omega arith)
@@ -38,7 +38,7 @@ every_take place (suc n) [] le = absurd (omega arith)
 every_take zero (suc n) (x ∷ xs) le = ap (λ rest. x ∷ rest) (every_take 15 n xs (omega arith))
 every_take (suc place) (suc n) (x ∷ xs) le = every_take place n xs (omega arith)
 
--- in numbers
+-- `later` and `times` by arithmetic
 pub later_is : (place n : ℕ) → place < 16 → later place n ≡ (place + 16 - n % 16) % 16
 later_is place zero h = omega arith
 later_is zero (suc n) h = omega (arith, later_is 15 n (omega arith))

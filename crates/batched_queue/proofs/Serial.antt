@@ -82,7 +82,7 @@ puts_and_gets (call ∷ calls) all = one call.item all.0 (puts_and_gets calls al
         few = rw rest.1 (omega arith);
       }
 
--- operations behind others
+-- operations after others
 pub after_append : (queue : List ℕ) (xs ys : List (Option ℕ)) → fifo_after queue (xs ++ ys) ≡ fifo_after (fifo_after queue xs) ys
 after_append queue [] ys = refl
 after_append queue (x ∷ xs) ys = after_append (fifo queue x).0 xs ys
@@ -102,7 +102,7 @@ replies_are queue (calls ∷ batches) =
     ap (λ rest. fifo_replies queue (operations calls) ++ rest) (replies_are (fifo_after queue (operations calls)) batches)
     ∙ sym (replies_append queue (operations calls) (operations_of batches))
 
--- nothing is lost
+-- no number is lost, and the numbers leave in the order in which they came
 pub got_and_left : (queue : List ℕ) (xs : List (Option ℕ)) → numbers_got (fifo_replies queue xs) ++ fifo_after queue xs ≡ queue ++ numbers_put xs
 got_and_left queue [] = sym (append-nil queue)
 got_and_left queue (Some item ∷ xs) = got_and_left (queue ++ item ∷ []) xs ∙ append_assoc queue (item ∷ []) (numbers_put xs)

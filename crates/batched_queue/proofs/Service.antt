@@ -1,4 +1,4 @@
--- What a batch comes to: served stripes are those of the queue that serves its calls one after another.
+-- A whole batch: served stripes are those of the queue that serves its calls one after another.
 use Rattle.std.proofs.Common.{◌≡◌, ℕ, ◌+◌, ◌-◌, ◌/◌, ◌%◌, ◌<◌, ◌≤◌, min, List, [], ◌∷◌, ◌++◌, append_assoc, length, map, take, drop, get_or, replicate, None, ap, sym, ◌∙◌, arith, length-append, length-drop}
 use Rattle.std.specs.declared.alloc.Global.{Global}
 use Rattle.std.specs.declared.collections.VecDeque.{VecDeque}
@@ -151,7 +151,7 @@ one_reply_more taken first i before =
     append_assoc before (number_replies taken first i) (reply.Number (taken_item taken first i) ∷ [])
     ∙ ap (λ rs. before ++ rs) (sym (map-range_with_len_more (λ i. reply.Number (taken_item taken first i)) 0 i i (omega arith)))
 
--- what serving a batch in pieces comes to, where it puts `added` items and `found` of its gets find one
+-- the outcome of a batch that is served in pieces, where it puts `added` items and `found` of its gets find one
 pub record ComesTo (stripes : List (List ℕ)) (first count : ℕ) (calls : List FifoCall) (added found : ℕ) (left took : List (List ℕ)) : Type 0 where
   pub keeps : QueueInvariant left ((first + found) % 16) (count + added - found)
   pub taken : HaveTaken took first found

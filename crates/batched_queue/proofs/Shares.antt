@@ -12,7 +12,7 @@ place_later j first n less =
 counted : (j first n : ℕ) → times (place_in j first) n ≡ count_in first j n
 counted j first n = let low : place_in j first < 16 = omega arith in times_is (place_in j first) n low
 
--- counted round
+-- the oldest stripe counts modulo 16
 pub place_round : (j first : ℕ) → place_in j (first % 16) ≡ place_in j first
 place_round j first = omega arith
 

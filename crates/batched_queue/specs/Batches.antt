@@ -18,13 +18,13 @@ pub record AreFifoBatch (calls : List FifoCall) : Type 0 where
   pub order : EachPair (λ first second. ComesFirst first.item first.worker second.item second.worker) calls
   pub workers : AreDistinct (map (λ call. call.worker) calls)
 
--- the calls of workers that are numbered from a number on
+-- operations as the calls of the workers `worker`, `worker` + 1, ..
 abbrev pub numbered : ℕ → List (Option ℕ) → List FifoCall
 numbered worker [] = []
 numbered worker (operation ∷ operations) =
     record { worker = worker; item = operation } ∷ numbered (suc worker) operations
 
--- whether a call is a put, or a get
+-- whether a call is a put (`true`), or a get (`false`)
 abbrev pub is_of_kind : Bool → FifoCall → Bool
 is_of_kind true call = is_some call.item
 is_of_kind false call = not (is_some call.item)

@@ -1,4 +1,4 @@
--- The definitions of the code's own: its stripes and its invariant, its pieces, and the replies that they come to.
+-- What only the code and its proofs cite: the stripes with the invariant, the pieces of a batch, and its replies.
 pub mod Stripes
 pub mod Pieces
 pub mod Replies

@@ -4,8 +4,8 @@ use Rattle.seq_objects.specs.declared.reply.Reply.{Reply}
 use Rattle.seq_objects.specs.declared.reply.Reply.TheVariants as reply
 use Rattle.batched_queue.specs.declared.call.FifoCall.{FifoCall}
 
--- An operation is a put of the item where there is one, else a get: the queue afterwards, and the reply. A put appends,
--- and a get takes the first.
+-- The queue after an operation, and its reply. `Some item` is a put, which appends the item. `None` is a get, which
+-- takes the first item, or replies `Empty` where there is none.
 abbrev pub fifo : List ℕ → Option ℕ → List ℕ × Reply
 fifo queue (Some item) = (queue ++ item ∷ [], reply.Unit)
 fifo [] None = ([], reply.Empty)

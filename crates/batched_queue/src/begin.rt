@@ -24,7 +24,7 @@ pub(crate) fn puts_of(alloc: Global, calls: &[FifoCall]) -> Result<Vec<u32>, All
     Ok(puts)
 }
 
-/// How many items of a stripe are ahead of the first one of stripe `number`, where the oldest is of stripe `first`.
+/// How many items come before the first one of stripe `number`, where the oldest is of stripe `first`.
 fn place_in(number: usize, first: usize) -> usize
     requires low { number < 16 }
     ensures place { result ≡ place_in number first }
@@ -56,7 +56,7 @@ fn each_sixteenth(alloc: Global, items: &[u32], place: usize) -> Result<Vec<u32>
     Ok(found)
 }
 
-/// Takes a stripe out, and gives it to a piece with its calls.
+/// Moves a stripe into a new piece, with its puts and the number of its gets. An empty stripe is left in its place.
 fn add_piece(
     stripes: &mut Vec<VecDeque<u32>>,
     pieces: &mut Vec<Piece>,
@@ -81,7 +81,7 @@ fn add_piece(
     Ok(())
 }
 
-/// A piece for each stripe that has a put or a get that finds an item, and the stripes without those. The queue has
+/// A piece for each stripe that has a put or a get that finds an item, and the stripes that are left. The queue has
 /// `count` items, of which the oldest is of stripe `first`, and `found` of the batch's gets find an item.
 pub(crate) fn cut_pieces(
     alloc: Global,

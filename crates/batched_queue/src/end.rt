@@ -1,4 +1,4 @@
-//! Putting the pieces of a batch back together.
+//! The end of a batch: the stripes of its pieces go back, and its replies are made.
 ghost use Rattle.std.specs.Prelude.{◌≡◌, ℕ, ◌+◌, ◌-◌, ◌≤◌, ◌<◌, ◌^◌, ◌++◌, [], length, map, replicate, IfOk, OnOk};
 ghost use Rattle.batched_queue.specs.Code.Stripes.{lists};
 ghost use Rattle.batched_queue.specs.Code.Pieces.{with_outs};
@@ -9,7 +9,7 @@ use seq_objects::Reply;
 use std::alloc::{AllocError, Global};
 use std::collections::VecDeque;
 
-/// As many empty vectors as there are stripes.
+/// An empty vector for each stripe.
 fn empty_vectors(alloc: Global) -> Result<Vec<Vec<u32>>, AllocError>
     ensures { IfOk result (λ v. map (λ items. items.items) v.items ≡ replicate 16 []) }
 {
@@ -20,7 +20,7 @@ fn empty_vectors(alloc: Global) -> Result<Vec<Vec<u32>>, AllocError>
     Ok(vectors)
 }
 
-/// Puts each stripe that a piece had back in its place, and gives the items that were taken from each stripe.
+/// Puts each stripe that a piece had back in its place, and returns the items that were taken from each stripe.
 pub(crate) fn put_back(
     alloc: Global,
     stripes: Vec<VecDeque<u32>>,

@@ -1,4 +1,4 @@
-//! The queue.
+//! The queue, and how it serves a batch: cut, run the pieces, put the stripes back, make the replies.
 ghost use Rattle.std.specs.Prelude.{◌≡◌, ◌<◌, [], replicate, IfOk};
 ghost use Rattle.batched_queue.specs.Fifo.{fifo_after, fifo_replies, operations};
 ghost use Rattle.batched_queue.specs.Batches.{AreFifoBatch};
@@ -19,11 +19,11 @@ use std::thread::Threads;
 /// A FIFO queue in 16 stripes. Contracts see the list of its items, the oldest first.
 ///
 /// An item is put in the stripe after that of the item before it, and item p stands in its stripe behind p / 16 others.
-/// A stripe that is less than an eighth full gives memory back.
+/// A stripe that its piece leaves less than an eighth full gives memory back, unless it is small.
 #[derive(Drop)]
 pub struct FifoQueue {
     stripes: Vec<VecDeque<u32>>,
-    /// The stripe of the oldest item; of the next one to be put, where there is none.
+    /// The stripe of the oldest item, or of the next put where the queue is empty.
     first: usize,
     count: usize,
 }
@@ -66,9 +66,9 @@ impl FifoQueue {
         })
     }
 
-    /// Serves a batch, and gives the replies in the order of its calls. The queue is given up when memory runs out.
+    /// Serves a batch, and returns the replies in the order of its calls. The queue is dropped when memory runs out.
     ///
-    /// It joins the threads that it starts, if it starts any: one for each 1,024 calls, so none for a batch.
+    /// A batch has too few calls for a second thread by `threads_for`, so it is served on the caller's thread.
     pub fn batch<R: Threads + Sync>(
         self,
         rt: &R,

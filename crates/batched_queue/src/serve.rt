@@ -1,4 +1,4 @@
-//! Serving the calls of one stripe.
+//! Serving the calls of one stripe: its puts first, and then its gets.
 ghost use Rattle.std.specs.Prelude.{◌≡◌, ◌++◌, IfOk, OnOk, take, drop};
 ghost use Rattle.batched_queue.specs.Code.Pieces.{Meets};
 
@@ -13,7 +13,7 @@ pub(crate) struct StripePieces;
 /// Below this capacity a stripe keeps its memory.
 const SMALL: usize = 64;
 
-/// Puts items behind a stripe.
+/// Appends items to a stripe.
 fn put_all(items: &mut VecDeque<u32>, puts: &[u32]) -> Result<(), AllocError>
     ensures { OnOk result (items.new.items ≡ items.old.items ++ puts.now) }
 {

@@ -18,7 +18,7 @@ pub record IsTaken (stripes : List (List ℕ)) (j : ℕ) (mine : List ℕ) (take
   pub puts : piece.puts.items ≡ mine
   pub gets : piece.gets ≡ takes
 
--- the stripes that the pieces have
+-- the numbers of the stripes that the pieces have
 abbrev pub numbers_in : List Piece → List ℕ
 numbers_in pieces = map (λ piece. piece.number) pieces
 
@@ -39,7 +39,7 @@ pub record IsCut (stripes : List (List ℕ)) (first count : ℕ) (puts : List �
   pub all : (j : ℕ) → j < 16
       → Contains (numbers_in pieces) j ⊎ IsUntouched stripes first count puts found rest j
 
--- the list, with what each out has in the place of its number
+-- the list, with `part` of each out at the out's number
 abbrev pub with_outs : {X : Type 0} → (Served → X) → List X → List Served → List X
 with_outs part xs [] = xs
 with_outs part xs (out ∷ outs) = with_outs part (slice_set xs out.number (part out)) outs

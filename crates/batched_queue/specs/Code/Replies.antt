@@ -1,4 +1,4 @@
--- The replies that the taken items come to.
+-- The replies of a batch, from the items that its pieces took.
 use Rattle.std.specs.Prelude.{◌≡◌, ℕ, ◌+◌, ◌-◌, ◌/◌, ◌%◌, ◌<◌, List, [], ◌++◌, length, map, replicate, slice_index, slice_index_or}
 use Rattle.std.specs.List.{range_with_len}
 use Rattle.seq_objects.specs.declared.reply.Reply.{Reply}
@@ -18,7 +18,7 @@ taken_item taken first i = slice_index (slice_index_or taken ((first + i) % 16) 
 abbrev pub number_replies : List (List ℕ) → ℕ → ℕ → List Reply
 number_replies taken first found = map (λ i. reply.Number (taken_item taken first i)) (range_with_len 0 found)
 
--- the replies to the puts, to the gets that find an item, and to the others
+-- the replies to the puts, to the gets that find an item, and to the other gets
 abbrev pub batch_replies : List (List ℕ) → ℕ → ℕ → ℕ → ℕ → List Reply
 batch_replies taken first found puts gets =
     replicate puts reply.Unit ++ (number_replies taken first found ++ replicate (gets - found) reply.Empty)

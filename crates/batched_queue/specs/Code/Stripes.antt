@@ -1,5 +1,5 @@
--- The stripes of a queue. Items are counted round: the oldest is of stripe `first`, and each other of the stripe after
--- that of the item before it.
+-- The stripes of a queue. The oldest item is of stripe `first`, and each other is of the stripe after that of the item
+-- before it, round robin.
 use Rattle.std.specs.Prelude.{◌≡◌, ℕ, zero, suc, ◌+◌, ◌-◌, ◌/◌, ◌%◌, ◌<◌, List, [], ◌∷◌, length, map, slice_index, slice_index_or}
 use Rattle.std.specs.List.{range_with_len}
 use Rattle.std.specs.declared.alloc.Global.{Global}

@@ -3,7 +3,7 @@ use Rattle.std.proofs.lemmas.List.{get_or-map}
 use Rattle.batched_queue.specs.Code.Stripes.{place_in, count_in}
 use Rattle.batched_queue.proofs.end.taken_item.Goals as goal
 
--- a stripe of which the item is has more items than stand before it
+-- the stripe of the item has more items than stand before it
 pub index-requires : goal.index-requires
 index-requires c =
     let taken = c.args.taken.now in

@@ -32,7 +32,7 @@ value_located (b ∷ starts) entries key up =
           ∙ sym (ap (value_at key) (both_sides key_of b entries up) ∙ value_high key b low high le (all_below key_of b entries)))
     ]
 
--- the first range has as many keys before it as is said
+-- the first range has `before` keys before it
 sizes_from : (before : ℕ) (starts : List ℕ) (entries : List Entry)
     → sizes_before before (ranges key_of starts entries) ≡ before ∷ drop 1 (sizes_before before (ranges key_of starts entries))
 sizes_from before [] entries = refl
@@ -57,7 +57,7 @@ rank_located (b ∷ starts) before entries key up =
           rw test (rest ∙ joined)
     ]
 
--- the key at an index of two lists
+-- the key at an index of two lists, one after another
 key_append : (i : ℕ) (low high : List Entry) → key_at i (low ++ high) ≡ (if nat_lt i (length low) then key_at i low else key_at (i - length low) high)
 key_append i [] high =
     let test : nat_lt i 0 ≡ false = grind (arith, nat_tests) in

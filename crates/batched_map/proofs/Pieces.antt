@@ -1,4 +1,4 @@
--- What the outs of the pieces come to, in their order.
+-- The outs of the pieces, in their order.
 use Rattle.std.proofs.Common.{◌≡◌, ℕ, zero, suc, ◌<◌, List, [], ◌∷◌, length, get_or, refl, ap, ap₂, ◌∙◌, arith}
 use Rattle.seq_objects.specs.Pieces.{AllMeet}
 use Rattle.keyed_pieces.specs.Ranges.{after_by_range}

@@ -32,7 +32,7 @@ use Rattle.batched_map.proofs.Located.{located}
 use Rattle.batched_map.proofs.Serial.{AreQueries, AreUpdates, InParts, after_queries, replies_to_queries, replies_to_updates, old_in_range, old_in_whole}
 use Rattle.batched_map.proofs.Pieces.{trees_come, replies_come, each_reply, count_replies, same_left}
 
--- what a map that is cut at these keys has of each range
+-- the ranges of a map that is cut at these keys
 abbrev cuts : List ℕ → List Entry → List (List Entry)
 cuts starts entries = ranges key_of starts entries
 
@@ -47,7 +47,7 @@ size_count : (before : ℕ) (rs : List (List Entry)) → length (sizes_before be
 size_count before [] = refl
 size_count before (range ∷ rs) = ap suc (size_count (before + length range) rs)
 
--- an index of ranges has a range
+-- there is an index for each start, so each operation has a range
 index_count : (starts : List ℕ) (entries : List Entry) → length (drop 1 (sizes starts entries)) ≡ length starts
 index_count [] entries = refl
 index_count (b ∷ starts) entries = size_count _ _ ∙ range_count key_of starts _ ∙ (let e : length starts + 1 ≡ suc (length starts) = omega arith in e)
@@ -220,7 +220,7 @@ reply_count : (entries : List Entry) (ops : List MapOp) → length ops ≡ lengt
 reply_count entries [] = refl
 reply_count entries (op ∷ ops) = ap suc (reply_count (after entries op) ops)
 
--- there are as many ranges as starts and one, and each operation has one of them
+-- there is one range more than starts, and each operation has one of them
 pub range_total : (entries : List Entry) (starts : List ℕ) (all : List Range) → AreRanges entries starts all → length all ≡ length starts + 1
 range_total entries starts all are = sym (length-map all (λ range. range.tree)) ∙ ap length are.trees_are ∙ range_count key_of starts entries
 
@@ -233,7 +233,7 @@ pub groups_within : (entries : List Entry) (starts : List ℕ) (all : List Range
 groups_within entries starts all ops are =
     rw are.befores_are (all_within starts entries (length all) (range_total entries starts all are) ops)
 
--- what a batch in pieces comes to
+-- the outcome of a batch that is served in pieces
 pub record IsServed (entries : List Entry) (ops : List MapOp) (groups : List ℕ) (outs : List Served) : Type 0 where
   pub some : 0 < length outs
   pub tree : side_by_side (trees_left outs) ≡ map_after entries ops

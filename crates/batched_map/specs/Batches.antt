@@ -11,7 +11,7 @@ use Rattle.batched_map.specs.Maps.{map_after, map_replies, is_query, op_key, ope
 abbrev pub IsBeforeByKey : ℕ → ℕ → ℕ → ℕ → Type 0
 IsBeforeByKey key worker key' worker' = (key < key') ⊎ ((key ≡ key') × (worker < worker'))
 
--- by whether the two are queries: queries come first, by worker, and then updates, by key, then worker
+-- the order of two calls, by whether each is a query: queries by worker, and then updates by key, then worker
 abbrev pub ComesFirstOf : Bool → Bool → MapCall → MapCall → Type 0
 ComesFirstOf true true first second = first.worker < second.worker
 ComesFirstOf true false first second = ⊤
@@ -28,13 +28,13 @@ pub record AreMapBatch (calls : List MapCall) : Type 0 where
   pub order : EachPair ComesFirst calls
   pub workers : AreDistinct (map (λ call. call.worker) calls)
 
--- the calls of workers that are numbered from a number on
+-- operations as the calls of the workers `worker`, `worker` + 1, ..
 abbrev pub numbered : ℕ → List MapOp → List MapCall
 numbered worker [] = []
 numbered worker (operation ∷ operations) =
     record { worker = worker; what = operation } ∷ numbered (suc worker) operations
 
--- a call put behind all of those before the first whose key is greater
+-- a call put among others, before the first whose key is greater
 abbrev pub put_by_key : MapCall → List MapCall → List MapCall
 put_by_key call [] = call ∷ []
 put_by_key call (c ∷ calls) =

@@ -1,3 +1,3 @@
--- The definitions of the code's own: the ranges of a map, and its pieces.
+-- What only the code and its proofs cite: the ranges of a map, and the pieces of a batch.
 pub mod Ranges
 pub mod Pieces

@@ -11,8 +11,8 @@ use Rattle.batched_map.specs.declared.call.MapOp.{MapOp}
 use Rattle.batched_map.specs.declared.call.MapOp.TheVariants.{Put, Del, Get, Rank, Nth}
 use Rattle.batched_map.specs.declared.call.MapCall.{MapCall}
 
--- An operation: the map afterwards, and the reply. `put` and `del` reply the old value of the key, `get` its value, `rank`
--- how many keys are less, and `nth` the key that has so many keys below it.
+-- An operation: the map afterwards, and the reply. `put` and `del` reply the old value of the key, `get` its value,
+-- `rank` how many keys are less, and `nth` the key that has exactly `index` keys below it.
 abbrev pub map_serve : List Entry → MapOp → List Entry × Reply
 map_serve entries (Put key val) = (with_entry key val entries, number_or_empty (value_at key entries))
 map_serve entries (Del key) = (without_entry key entries, number_or_empty (value_at key entries))
@@ -42,7 +42,7 @@ is_query (Get key) = true
 is_query (Rank key) = true
 is_query (Nth index) = true
 
--- the key of an operation, which all but the question for the key at an index have
+-- the key of an operation; only the question for the key at an index has none
 abbrev pub key_in : MapOp → Option ℕ
 key_in (Put key val) = Some key
 key_in (Del key) = Some key

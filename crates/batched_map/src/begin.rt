@@ -14,7 +14,7 @@ use keyed_pieces::deal;
 use rank_tree::RankTree;
 use std::alloc::{AllocError, Global};
 
-/// A batch has at most so many ranges, but one.
+/// The most starts of a batch: at most 16 ranges, of which each but the first has a start.
 const MOST_STARTS: usize = 15;
 
 /// What calls ask for, in their order.
@@ -42,7 +42,7 @@ fn keys_of(alloc: Global, operations: &[MapOp]) -> Result<Vec<u32>, AllocError>
     Ok(keys)
 }
 
-/// The keys with which the ranges of a batch but the first begin: the least key of each group of its keys but the first.
+/// The keys with which the ranges but the first begin: the least key of each group of the batch's keys but the first.
 /// Where there are no keys, there is one range.
 fn starts_of(alloc: Global, operations: &[MapOp]) -> Result<Vec<u32>, AllocError>
     ensures starts { IfOk result (λ v. let keys = distinct (keys_in operations.now) in AreStarts (group_size (length keys)) keys v.items) }
@@ -56,8 +56,8 @@ fn starts_of(alloc: Global, operations: &[MapOp]) -> Result<Vec<u32>, AllocError
     Ok(starts)
 }
 
-/// Cuts a part of a map at the starts, where so many keys of the map are before the part, and puts its ranges behind those
-/// that are there. The start in the middle comes first, so that each cut is of about half as many keys as the one before.
+/// Cuts a part of a map at the starts, and appends its ranges. `before` keys of the map are before the part. The start
+/// in the middle comes first, so that each cut is of about half as many keys as the one before.
 fn cut_part(
     part: RankTree,
     before: u64,

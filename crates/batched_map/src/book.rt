@@ -1,4 +1,4 @@
-//! The map.
+//! The map, and how it serves a batch: cut, run the pieces, join the ranges, merge the replies.
 ghost use Rattle.std.specs.Prelude.{◌≡◌, ◌<◌, [], IfOk};
 ghost use Rattle.batched_map.specs.Maps.{map_after, map_replies, operations};
 ghost use Rattle.batched_map.specs.Batches.{AreMapBatch};
@@ -43,9 +43,9 @@ impl RankBook {
         })
     }
 
-    /// Serves a batch, and gives the replies in the order of its calls. The map is given up when memory runs out.
+    /// Serves a batch, and returns the replies in the order of its calls. The map is dropped when memory runs out.
     ///
-    /// It joins the threads that it starts, if it starts any: one for each 1,024 calls, so none for a batch.
+    /// A batch has too few calls for a second thread by `threads_for`, so it is served on the caller's thread.
     pub fn batch<R: Threads + Sync>(
         self,
         rt: &R,

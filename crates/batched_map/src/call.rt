@@ -2,18 +2,18 @@
 ghost use Rattle.std.specs.Prelude.{◌≡◌};
 ghost use Rattle.batched_map.specs.Maps.{is_query, key_in, op_key};
 
-/// What is asked of the map.
+/// An operation of the map.
 #[derive(Clone, Copy)]
 pub enum MapOp {
-    /// Gives the key this value, and replies the old one.
+    /// Sets the value of the key, and replies the old one.
     Put(u32, u32),
-    /// Takes the key out, and replies its value.
+    /// Removes the key, and replies its value.
     Del(u32),
     /// Replies the value of the key.
     Get(u32),
     /// Replies how many keys are less.
     Rank(u32),
-    /// Replies the key that has so many keys below it.
+    /// Replies the key that has this many keys below it.
     Nth(u32),
 }
 
@@ -25,7 +25,7 @@ pub struct MapCall {
 }
 
 impl MapOp {
-    /// Whether the map stays as it is.
+    /// Whether it leaves the map as it is.
     pub fn is_query(self) -> bool
         ensures { result ≡ is_query self }
     {
@@ -35,7 +35,7 @@ impl MapOp {
         }
     }
 
-    /// The key, which all but the question for the key at an index have.
+    /// The key. `Nth` alone has none.
     pub fn key(self) -> Option<u32>
         ensures { result ≡ key_in self }
     {

@@ -1,4 +1,4 @@
-//! Joining the ranges of a map again.
+//! The end of a batch: the ranges of its pieces are joined.
 ghost use Rattle.std.specs.Prelude.{◌≡◌, ◌<◌, ◌≤◌, length, IfOk};
 ghost use Rattle.keyed_pieces.specs.Dealing.{queued};
 ghost use Rattle.keyed_pieces.specs.Ranges.{side_by_side};
@@ -11,7 +11,7 @@ use seq_objects::Reply;
 use std::alloc::{AllocError, Global};
 use std::collections::VecDeque;
 
-/// Takes the last `count` trees off, and joins them: each half by itself first, so that trees of about one size are joined.
+/// Takes off and joins the last `count` trees, each half by itself first, so that trees of about one size are joined.
 fn join_last(trees: &mut Vec<RankTree>, count: usize) -> Result<RankTree, AllocError>
     requires some { 0 < count }
     requires there { count ≤ length trees.old.items }

@@ -1,4 +1,4 @@
-//! A piece of a batch, which has a range of the map, and what it comes to.
+//! A piece of a batch, which has a range of the map, and its out.
 ghost use Rattle.std.specs.Prelude.{◌≤◌, ◌^◌};
 
 use crate::call::MapOp;

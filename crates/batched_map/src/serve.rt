@@ -25,7 +25,7 @@ fn rank_of(tree: &RankTree, key: u32) -> u64
     tree.rank(key)
 }
 
-/// Does an operation to a range that has `before` keys of the map before it, and gives the reply.
+/// Serves an operation on a range that has `before` keys of the map before it.
 fn serve_one(tree: &mut RankTree, before: u64, operation: MapOp) -> Result<Reply, AllocError>
     requires { before ≤ 2 ^ 32 }
     ensures reply { IfOk result (λ reply. reply ≡ reply_in before tree.old operation) }

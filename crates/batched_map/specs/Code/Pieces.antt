@@ -32,7 +32,7 @@ pub record AreRanges (entries : List Entry) (starts : List ℕ) (all : List Rang
   pub trees_are : trees all ≡ ranges key_of starts entries
   pub befores_are : befores all ≡ sizes_before 0 (ranges key_of starts entries)
 
--- the ranges of a part that is cut at these keys, with so many keys before it, stand behind those that were there
+-- `all` is `there` with, behind it, the ranges of a part that is cut at these keys and has `before` keys before it
 pub record AreAdded (before : ℕ) (part : List Entry) (starts : List ℕ) (there all : List Range) : Type 0 where
   pub trees_are : trees all ≡ trees there ++ ranges key_of starts part
   pub befores_are : befores all ≡ befores there ++ sizes_before before (ranges key_of starts part)
@@ -47,8 +47,8 @@ pub record AreCut (entries : List Entry) (starts : List ℕ) (operations : List 
   pub each_has : ranges_in pieces ≡ all
   pub dealt_are : operations_in pieces ≡ dealt (length starts + 1) (groups_in starts all operations) operations
 
--- A batch that is cut into pieces by the rule for its keys: they are cut into groups, and the map at the least key of each
--- group but the first. The number of the range of each operation is known.
+-- A batch that is cut into pieces by the rule for its keys: its distinct keys are cut into groups, and the map at the
+-- least key of each group but the first. `groups` has the number of the range of each operation.
 pub record AreDealt (entries : List Entry) (operations : List MapOp) (pieces : List Piece) (groups : List ℕ) : Type 0 where
   pub starts : List ℕ
   pub by_rule : AreStarts (group_size (length (distinct (keys_in operations)))) (distinct (keys_in operations)) starts
@@ -56,12 +56,12 @@ pub record AreDealt (entries : List Entry) (operations : List MapOp) (pieces : L
   pub cut : AreCut entries starts operations all pieces
   pub groups_are : groups ≡ groups_in starts all operations
 
--- the operations were done one after another to the range of the piece
+-- the operations of the piece were served one after another on its range
 pub record Meets (piece : Piece) (served : Served) : Type 0 where
   pub tree : served.tree ≡ map_after piece.range.tree piece.operations.items
   pub replies : served.replies.items ≡ replies_in piece.range.before piece.range.tree piece.operations.items
 
--- a tree has what so many of the trees side by side had, which were the last
+-- `tree` has the entries of the last `count` trees of `all`, side by side, and the others are `left`
 pub record IsJoined (all left : List (List Entry)) (count : ℕ) (tree : List Entry) : Type 0 where
   pub last : List (List Entry)
   pub all_are : all ≡ left ++ last

@@ -11,13 +11,13 @@ use Rattle.batched_map.specs.declared.call.MapOp.TheVariants.{Put, Del, Get, Ran
 use Rattle.batched_map.specs.Maps.{after}
 use Rattle.keyed_pieces.specs.Keyed.{replies_to_each}
 
--- how many keys are before each range, where so many are before the first
+-- how many keys are before each range, where `before` are before the first
 abbrev pub sizes_before : ℕ → List (List Entry) → List ℕ
 sizes_before before [] = []
 sizes_before before (range ∷ ranges) = before ∷ sizes_before (before + length range) ranges
 
--- The number of the range of an operation, where the ranges but the first begin with these keys, and at these indices: an
--- index that is past all keys falls in the last range.
+-- The number of the range of an operation, where the ranges but the first begin with these keys, and at these indices:
+-- an index that is past all keys falls in the last range.
 abbrev pub range_of : List ℕ → List ℕ → MapOp → ℕ
 range_of starts indices (Put key val) = group_of key starts
 range_of starts indices (Del key) = group_of key starts
@@ -25,7 +25,7 @@ range_of starts indices (Get key) = group_of key starts
 range_of starts indices (Rank key) = group_of key starts
 range_of starts indices (Nth index) = group_of index indices
 
--- what an operation replies in a range that has so many keys before it
+-- what an operation replies in a range that has `before` keys before it
 abbrev pub reply_in : ℕ → List Entry → MapOp → Reply
 reply_in before entries (Put key val) = number_or_empty (value_at key entries)
 reply_in before entries (Del key) = number_or_empty (value_at key entries)

@@ -30,7 +30,7 @@ pub as_many : (starts set : List ℕ) (operations : List KeyOp) (all : List (Lis
 as_many starts set operations all sets all_are sets_are =
     ap length all_are ∙ range_count key_of starts operations ∙ sym (range_count (λ key. key) starts set) ∙ sym (ap length sets_are)
 
--- what a batch comes to
+-- the outcome of a batch that is served in pieces
 pub record IsServed (set : List ℕ) (calls : List BulkView) (groups : List ℕ) (outs : List Served) : Type 0 where
   pub ascends : StrictlyAscends (side_by_side (ranges_after outs))
   pub set_is : side_by_side (ranges_after outs) ≡ bulk_after set calls

@@ -1,4 +1,4 @@
--- The number of the starts that are not above a key is its group.
+-- The number of starts that are at most a key is its group.
 use Rattle.std.proofs.Common.{◌≡◌, ℕ, zero, suc, ◌+◌, ◌-◌, ◌<◌, ◌≤◌, inl, inr, ◌⊎◌, true, false, nat_lt, List, [], ◌∷◌, length, get_or, min, refl, ap, sym, ◌∙◌, arith}
 use Rattle.std.specs.List.{AllByRecursion}
 use Rattle.std.proofs.lemmas.Bool.Decides.{nat_tests}
@@ -7,7 +7,7 @@ use Rattle.key_sets.specs.Groups.{group_of}
 use Rattle.key_sets.proofs.KeyLemmas.Sides.{less_or_not}
 use Rattle.bulk_calls.specs.Code.Lookup.{IsFilled, Rises, IsBetween}
 
--- the first start above a key tells its group
+-- the place of the first start above a key is its group
 boundary : (key r : ℕ) (starts : List ℕ) → r ≤ length starts → ((i : ℕ) → i < r → get_or starts i 0 ≤ key)
     → (r < length starts → key < get_or starts r 0) → group_of key starts ≡ r
 boundary key zero [] within below above = refl

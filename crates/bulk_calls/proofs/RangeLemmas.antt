@@ -1,4 +1,4 @@
--- What the pieces of a batch come to.
+-- The outs of the pieces of a batch.
 use Rattle.std.proofs.Common.{◌≡◌, ℕ, zero, suc, ◌+◌, ◌<◌, ◌≤◌, List, [], ◌∷◌, ◌++◌, Bool, true, false, ◌==◌, cond, length, map, filter, get_or, refl, ap, sym, subst, ◌∙◌, arith}
 use Rattle.std.specs.List.{AllByRecursion}
 use Rattle.key_sets.specs.Keys.{StrictlyAscends}
@@ -32,7 +32,7 @@ operation_ranges starts ops = ranges key_of starts ops
 abbrev pub groups_in : List ℕ → List KeyOp → List ℕ
 groups_in starts ops = map (λ op. group_of (key_of op) starts) ops
 
--- the outs are what the ranges come to
+-- the outs have the ranges after their operations
 outs_after : (pieces : List Piece) (outs : List Served) → AllMeet Meets pieces outs → ranges_after outs ≡ after_by_range after_one (ranges_of pieces) (operations_of pieces)
 outs_after [] [] meet = refl
 outs_after [] (out ∷ outs) meet = absurd meet
@@ -93,7 +93,7 @@ groups_below n starts (op ∷ ops) less = (omega (arith, less, group_within (key
 pub dealt_below : (starts : List ℕ) (ops : List KeyOp) → AllByRecursion (λ group. group < length starts + 1) (groups_in starts ops)
 dealt_below starts ops = groups_below (length starts + 1) starts ops (omega arith)
 
--- what merging asks for
+-- what `merge` needs
 pub record AreAnswered (groups : List ℕ) (replies : List (List Bool)) : Type 0 where
   pub below : AllByRecursion (λ group. group < length replies) groups
   pub enough : (group : ℕ) → group < length replies → length (of_group group groups groups) ≤ length (get_or replies group [])

@@ -1,4 +1,4 @@
--- What is done with a key of a set touches what stands at that key alone.
+-- An operation on a key of a set touches what stands at that key alone.
 use Rattle.std.proofs.Common.{◌≡◌, ℕ, ◌<◌, ◌≤◌, List, [], ◌∷◌, ◌++◌, Bool, true, false, not, refl, ap, ◌∙◌, sym}
 use Rattle.std.specs.List.{AllByRecursion}
 use Rattle.key_sets.specs.Keys.{StrictlyAscends, has}
@@ -12,7 +12,7 @@ use Rattle.bulk_calls.specs.declared.piece.KeyOp.{KeyOp}
 use Rattle.bulk_calls.specs.Bulk.{is_yes, after_key, answer}
 use Rattle.bulk_calls.specs.Code.Singles.{after_one, answer_to}
 
--- a reply says what it was made of
+-- the reply made of an answer gives the answer back
 pub said : (b : Bool) → is_yes (yes_or_no b) ≡ b
 said true = refl
 said false = refl

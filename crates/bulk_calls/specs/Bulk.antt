@@ -10,7 +10,7 @@ use Rattle.bulk_calls.specs.declared.op.BulkKind.{BulkKind}
 use Rattle.bulk_calls.specs.declared.op.BulkKind.TheVariants.{Insert, Remove, Find}
 use Rattle.bulk_calls.specs.Views.{BulkView, CallView}
 
--- what a set is asked for at one key
+-- the operation on the tree for one key
 abbrev pub asked : BulkKind → ℕ → Op
 asked Insert key = TreeInsert key
 asked Remove key = TreeRemove key
@@ -39,7 +39,7 @@ abbrev pub answers : BulkKind → List ℕ → List ℕ → List Bool
 answers what set [] = []
 answers what set (key ∷ keys) = answer what set key ∷ answers what (after_key what set key) keys
 
--- a call: the set afterwards, and the reply to each key
+-- the set after a call, and the reply to each of its keys
 abbrev pub bulk_serve : List ℕ → BulkView → List ℕ × List Bool
 bulk_serve set call = (after_keys call.kind set call.keys, answers call.kind set call.keys)
 

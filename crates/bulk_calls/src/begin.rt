@@ -86,7 +86,7 @@ fn deal_out(
     Ok((groups, dealt))
 }
 
-/// Pieces of ranges and of the operations in them.
+/// A piece for each range, with the operations in it.
 fn pieces_of(
     alloc: Global,
     forests: Vec<Forest>,
@@ -106,8 +106,8 @@ fn pieces_of(
     Ok(pieces)
 }
 
-/// The pieces of a batch, and the piece of each operation: the distinct keys are cut into at most 16 groups, and each piece
-/// has the range of one.
+/// The pieces of a batch, and the piece of each operation: the distinct keys are cut into at most 16 groups, and each
+/// piece has the range of one.
 pub(crate) fn cut_batch(
     alloc: Global,
     forest: Forest,

@@ -4,8 +4,8 @@ ghost use Rattle.std.specs.Prelude.{◌≡◌};
 use crate::op::BulkOp;
 use std::marker::Model;
 
-/// A worker's call of the set. Contracts see its worker, and the operation. That is borrowed, since it is too large to be
-/// copied.
+/// A worker's call of the set. Contracts see its worker and its operation. The operation is borrowed, since it is too
+/// large to be copied.
 #[derive(Drop)]
 pub struct BulkCall<'a> {
     pub worker: u32,
@@ -21,14 +21,14 @@ impl<'a> Model for BulkCall<'a> {
 }
 
 impl<'a> BulkCall<'a> {
-    /// Who calls.
+    /// The worker that calls.
     pub fn worker(&self) -> u32
         ensures { result ≡ self.now.worker }
     {
         self.worker
     }
 
-    /// What is asked for.
+    /// The operation.
     pub fn what(&self) -> &'a BulkOp
         ensures { result.now ≡ self.now.what }
     {

@@ -1,4 +1,4 @@
-//! Putting the ranges of a batch back together, and each answer in its call's place.
+//! The end of a batch: its ranges are joined, and each answer goes to its call's place.
 ghost use Rattle.std.specs.Prelude.{◌≡◌, ◌≤◌, false, length, IfOk};
 ghost use Rattle.key_sets.specs.Keys.{StrictlyAscends};
 ghost use Rattle.keyed_pieces.specs.Dealing.{queued, HaveReplies};
@@ -35,8 +35,8 @@ fn parts_of(
     Ok((forests, answers))
 }
 
-/// One forest of the ranges that pieces leave, with few trees; and the answers in the order of the operations, of which
-/// `groups` tells the pieces.
+/// One forest of the ranges that pieces leave, with few trees; and the answers in the order of the operations, where
+/// `groups` has the piece of each.
 pub(crate) fn join_outs(
     alloc: Global,
     groups: &[usize],
@@ -56,7 +56,7 @@ pub(crate) fn join_outs(
     Ok((forest, answers))
 }
 
-/// The replies to calls, by the answers to all their keys.
+/// The replies to calls, from the answers to all their keys.
 pub(crate) fn replies_of(
     alloc: Global,
     calls: &[BulkCall],

@@ -7,7 +7,7 @@ ghost use Rattle.bulk_calls.specs.Code.Lookup.{IsFilled, Rises, IsBetween};
 use crate::piece::KeyOp;
 use std::alloc::{AllocError, Global};
 
-/// Sixteen ranges have so many starts.
+/// The most starts: there are at most sixteen ranges, and each but the first has one.
 const PLACES: usize = 15;
 
 /// The starts in front, and the greatest number at all places behind them.
@@ -22,8 +22,8 @@ fn places_of(starts: &[u32]) -> [u32; PLACES]
     places
 }
 
-/// Halves the places at which the first number above a key may stand: of twice `half` from `low` on, the first or the
-/// second half.
+/// A step of the binary search for the first number above a key, which stands at one of twice `half` places from `low`
+/// on. It answers where the half that has the number begins.
 #[inline]
 fn half_of(places: &[u32; PLACES], key: u32, low: usize, half: usize) -> usize
     requires rises { Rises places.now }
@@ -41,7 +41,7 @@ fn half_of(places: &[u32; PLACES], key: u32, low: usize, half: usize) -> usize
     }
 }
 
-/// How many of the first `count` places have numbers that are not above a key.
+/// How many of the first `count` places have numbers that are at most the key.
 #[inline]
 fn group_among(places: &[u32; PLACES], count: usize, key: u32) -> usize
     requires rises { Rises places.now }

@@ -47,7 +47,7 @@ impl BulkOp {
         }
     }
 
-    /// Puts a key behind the others.
+    /// Appends a key.
     ///
     /// Memory: none.
     pub fn push(&mut self, key: u32)

@@ -1,4 +1,4 @@
-//! A piece of a batch, which has one range of the set, and what it comes to.
+//! A piece of a batch, which has one range of the set, and its out.
 
 use crate::op::BulkKind;
 use std::collections::VecDeque;

@@ -1,4 +1,4 @@
-//! The set.
+//! The set, and how it serves a batch: cut, run the pieces, join the ranges, cut the answers by call.
 ghost use Rattle.std.specs.Prelude.{◌≡◌, ◌<◌, ◌≤◌, [], length, IfOk, IsOk};
 ghost use Rattle.key_sets.specs.Keys.{StrictlyAscends};
 ghost use Rattle.bulk_calls.specs.Bulk.{bulk_after, bulk_replies, operations};
@@ -17,8 +17,8 @@ use std::marker::Model;
 use std::thread::Threads;
 use tree_forest::{Forest, ForestPool};
 
-/// A set of numbers below 2^32. Contracts see the list of its keys, which strictly ascends. Between batches its keys stand
-/// in at most 65 trees.
+/// A set of numbers below 2^32. Contracts see the list of its keys, which strictly ascends. Between batches its keys
+/// stand in at most 65 trees.
 #[derive(Drop)]
 pub struct BulkSet {
     forest: Forest,
@@ -36,7 +36,7 @@ impl Model for BulkSet {
     ghost invariant = { λ s. s.forest.trees ≤ most_trees };
 }
 
-/// How many keys calls have together.
+/// The number of keys of all calls together.
 fn keys_of(calls: &[BulkCall]) -> usize
     requires { length calls.now ≤ 32 }
 {
@@ -61,16 +61,16 @@ impl BulkSet {
         })
     }
 
-    /// The keys of each set strictly ascend. For proofs; does nothing.
+    /// The keys of each set strictly ascend. It is for proofs, and does nothing.
     pub fn keys_ascend(&self)
         ensures { StrictlyAscends self.now }
     {
         self.forest.keys_ascend();
     }
 
-    /// Serves a batch, and gives the replies in the order of its calls. The set is given up when memory runs out.
+    /// Serves a batch, and returns the replies in the order of its calls. The set is dropped when memory runs out.
     ///
-    /// It joins the threads that it starts: a second one where all calls together have 1,024 keys, and a third at 2,048.
+    /// It joins the threads that it starts: by `threads_for` two from 1,024 keys in all on, and three at 2,048.
     pub fn batch<R: Threads + Sync>(
         self,
         rt: &R,

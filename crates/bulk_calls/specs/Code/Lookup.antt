@@ -10,7 +10,7 @@ pub record IsFilled (starts places : List ℕ) : Type 0 where
 abbrev pub Rises : List ℕ → Type 0
 Rises places = (i j : ℕ) → i ≤ j → j < 15 → slice_index places i ≤ slice_index places j
 
--- the first number above a key stands at one of so many places from `low` on; the place behind all is one for none
+-- the first number above the key stands at one of the `width` places from `low` on, where place 15 stands for none
 pub record IsBetween (key : ℕ) (places : List ℕ) (low width : ℕ) : Type 0 where
   pub below : (i : ℕ) → i < low → slice_index places i ≤ key
   pub above : (i : ℕ) → low + width ≤ i + 1 → i < 15 → key < slice_index places i

@@ -1,4 +1,4 @@
--- What a piece owes, and what pieces come to.
+-- What a piece owes, how a batch is cut into pieces, and what its outs have.
 use Rattle.std.specs.Prelude.{◌≡◌, ℕ, Bool, List, map}
 use Rattle.key_sets.specs.Groups.{group_of}
 use Rattle.keyed_pieces.specs.Keyed.{after_each, replies_to_each}
@@ -27,8 +27,8 @@ ranges_after outs = map (λ out. out.forest.keys) outs
 abbrev pub answers_of : List Served → List (List Bool)
 answers_of outs = map (λ out. out.answers.items) outs
 
--- a set and operations by ranges, where the ranges but the first begin with the starts: each piece has its range of both, and
--- the group of each operation is told
+-- The pieces of a set and of operations: some starts cut both into ranges, each piece has its range of both, and
+-- `groups` has the number of the range of each operation.
 pub record IsCut (set : List ℕ) (operations : List KeyOp) (groups : List ℕ) (pieces : List Piece) : Type 0 where
   pub starts : List ℕ
   pub groups_are : groups ≡ map (λ (operation : KeyOp). group_of operation.key starts) operations

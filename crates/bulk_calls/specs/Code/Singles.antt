@@ -12,11 +12,11 @@ after_one set operation = after_key operation.kind set operation.key
 abbrev pub answer_to : List ℕ → KeyOp → Bool
 answer_to set operation = answer operation.kind set operation.key
 
--- keys with which one thing is done
+-- keys as single operations of one kind
 abbrev pub each_as : BulkKind → List ℕ → List KeyOp
 each_as kind keys = map (λ key. record { kind = kind; key = key }) keys
 
--- the keys of all calls, those of a call directly after one another
+-- the single operations of all calls, those of a call directly after one another
 abbrev pub singles : List BulkView → List KeyOp
 singles [] = []
 singles (call ∷ calls) = each_as call.kind call.keys ++ singles calls
@@ -25,7 +25,7 @@ singles (call ∷ calls) = each_as call.kind call.keys ++ singles calls
 abbrev pub keys_in : List KeyOp → List ℕ
 keys_in operations = map (λ operation. operation.key) operations
 
--- answers cut into those of calls that have as many keys
+-- answers cut by call: each call has as many as it has keys
 abbrev pub chopped : List BulkView → List Bool → List (List Bool)
 chopped [] answers = []
 chopped (call ∷ calls) answers = take (length call.keys) answers ∷ chopped calls (drop (length call.keys) answers)

@@ -1,10 +1,10 @@
--- Which words are calls of the program.
+-- Which words spell a call of the program.
 use Rattle.std.specs.Prelude.{ℕ, List, [], ◌∷◌, Option, Some, None, if◌then◌else◌, codes}
 use Rattle.std.specs.Option.{option_map}
 use Rattle.std.specs.Str.{bytes_eq}
 use Rattle.decimals.specs.Words.{number_between}
 
--- `put N` is a put of the number N, which is below 2^32, and `get` a get
+-- the call that words spell: `put N` is a put of the number N, which is below 2^32, and `get` is a get
 abbrev pub queue_call : List (List ℕ) → Option (Option ℕ)
 queue_call (word ∷ []) = if bytes_eq word (codes "get") then Some None else None
 queue_call (word ∷ number ∷ []) =

@@ -1,4 +1,4 @@
-//! The lines of a batch.
+//! The lines of a batch, as they are printed.
 ghost use Rattle.std.specs.Prelude.{◌≡◌, ◌++◌, ◌≤◌, length, OnOk, string_bytes};
 ghost use Rattle.seq_objects.specs.Words.{reply_words};
 ghost use Rattle.queuerun.specs.Text.{call_words, call_line};
@@ -10,14 +10,14 @@ use itoa::{Buffer, Integer};
 use seq_objects::Reply;
 use std::alloc::AllocError;
 
-/// Puts a number behind a text.
+/// Appends a number to a text.
 fn push_number<I: Integer>(text: &mut String, number: I) -> Result<(), AllocError>
     ensures { OnOk result (string_bytes text.new ≡ string_bytes text.old ++ I.text number) }
 {
     text.push_str(Buffer::new().format(number))
 }
 
-/// Puts a call as it is written.
+/// Appends a call as it is written.
 fn push_call(text: &mut String, item: Option<u32>) -> Result<(), AllocError>
     ensures { OnOk result (string_bytes text.new ≡ string_bytes text.old ++ call_words item) }
 {
@@ -30,7 +30,7 @@ fn push_call(text: &mut String, item: Option<u32>) -> Result<(), AllocError>
     }
 }
 
-/// Puts the words of a reply.
+/// Appends the words of a reply.
 fn push_reply(text: &mut String, reply: Reply) -> Result<(), AllocError>
     ensures { OnOk result (string_bytes text.new ≡ string_bytes text.old ++ reply_words reply) }
 {
@@ -43,7 +43,7 @@ fn push_reply(text: &mut String, reply: Reply) -> Result<(), AllocError>
     }
 }
 
-/// Puts the line of a call.
+/// Appends the line of a call.
 fn push_line(
     text: &mut String,
     batch: u32,
@@ -61,7 +61,7 @@ fn push_line(
     text.push_str("\n")
 }
 
-/// Puts the lines of a batch.
+/// Appends the lines of a batch.
 pub(crate) fn push_lines(
     text: &mut String,
     batch: u32,

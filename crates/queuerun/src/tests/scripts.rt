@@ -138,7 +138,7 @@ const FULL_BATCH: &str =
     "get\nget\nget\nget\nget\nget\nget\nget\nget\nget\nget\nget\nget\nget\nget\nget\n\
 get\nget\nget\nget\nget\nget\nget\nget\nget\nget\nget\nget\nget\nget\nget\nget\ngo\n";
 
-/// Texts in parts, each so many times, that are no script, and the lines that say so.
+/// Texts that are no script: their parts, each with how often it stands, and what the line on err says.
 const FAULTY: [(&[(&str, usize)], &str); 14] = [
     (&[("put 01", 1)], "1: not a call"),
     (&[("put 1\ngo 1", 1)], "2: not a call"),

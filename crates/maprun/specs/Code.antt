@@ -1,4 +1,4 @@
--- What only the code and its proofs cite: lines by their replies.
+-- What only the code and its proofs cite: the lines of calls by their replies.
 use Rattle.std.specs.Prelude.{ℕ, ◌+◌, List, [], ◌∷◌, ◌++◌}
 use Rattle.seq_objects.specs.declared.reply.Reply.{Reply}
 use Rattle.batched_map.specs.declared.call.MapCall.{MapCall}

@@ -1,4 +1,4 @@
-//! The calls of a script.
+//! The parser of calls: which words spell a call.
 ghost use Rattle.std.specs.Prelude.{◌≡◌};
 ghost use Rattle.maprun.specs.Calls.{map_call, number_in, put_of};
 
@@ -6,7 +6,7 @@ use batch_script::Name;
 use batched_map::MapOp;
 use decimals::number_between;
 
-/// The number that a word is, if it is one below 2^32.
+/// The number that a word spells, if it is below 2^32.
 fn number_in(word: &Name) -> Option<u32>
     ensures { result ≡ number_in word.now }
 {
@@ -23,7 +23,7 @@ fn put_of(key: &Name, val: &Name) -> Option<MapOp>
     }
 }
 
-/// The call that the words are, if they are one.
+/// The call that the words spell, if any.
 pub(crate) fn map_call(words: &[Name]) -> Option<MapOp>
     ensures { result ≡ map_call words.now }
 {

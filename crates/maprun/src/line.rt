@@ -1,4 +1,4 @@
-//! The lines of a batch.
+//! The lines of a batch, as they are printed.
 ghost use Rattle.std.specs.Prelude.{◌≡◌, ◌++◌, ◌≤◌, length, OnOk, codes, string_bytes};
 ghost use Rattle.std.specs.Fmt.{decimal};
 ghost use Rattle.seq_objects.specs.Words.{reply_words};
@@ -11,14 +11,14 @@ use itoa::{Buffer, Integer};
 use seq_objects::Reply;
 use std::alloc::AllocError;
 
-/// Puts a number behind a text.
+/// Appends a number to a text.
 fn push_number<I: Integer>(text: &mut String, number: I) -> Result<(), AllocError>
     ensures { OnOk result (string_bytes text.new ≡ string_bytes text.old ++ I.text number) }
 {
     text.push_str(Buffer::new().format(number))
 }
 
-/// Puts a word, and a number behind it.
+/// Appends a word and a number.
 fn push_asked(text: &mut String, word: &str, number: u32) -> Result<(), AllocError>
     ensures { OnOk result (string_bytes text.new ≡ string_bytes text.old ++ (word.now ++ decimal number)) }
 {
@@ -26,7 +26,7 @@ fn push_asked(text: &mut String, word: &str, number: u32) -> Result<(), AllocErr
     push_number(text, number)
 }
 
-/// Puts a call as it is written.
+/// Appends a call as it is written.
 fn push_call(text: &mut String, what: MapOp) -> Result<(), AllocError>
     ensures { OnOk result (string_bytes text.new ≡ string_bytes text.old ++ call_words what) }
 {
@@ -42,7 +42,7 @@ fn push_call(text: &mut String, what: MapOp) -> Result<(), AllocError>
     }
 }
 
-/// Puts the end of a line, which is what the call replied.
+/// Appends the end of a line: what the call replied.
 fn push_reply(text: &mut String, reply: Reply) -> Result<(), AllocError>
     ensures { OnOk result (string_bytes text.new
         ≡ string_bytes text.old ++ (codes " -> " ++ reply_words reply ++ codes "\n")) }
@@ -60,7 +60,7 @@ fn push_reply(text: &mut String, reply: Reply) -> Result<(), AllocError>
     }
 }
 
-/// Puts the line of a call.
+/// Appends the line of a call.
 fn push_line(
     text: &mut String,
     batch: u32,
@@ -76,7 +76,7 @@ fn push_line(
     push_reply(text, reply)
 }
 
-/// Puts the lines of a batch.
+/// Appends the lines of a batch.
 pub(crate) fn push_lines(
     text: &mut String,
     batch: u32,

@@ -1,12 +1,12 @@
-//! The program `maprun`: serves a script of batches of calls of an ordered map with rank and select, and prints what each
-//! call replied.
+//! The program `maprun`: serves a script of batches of calls of an ordered map with rank and select, and prints what
+//! each call replied.
 //!
-//! `program::maprun` is the whole program over any shelf and sinks. Its theorem says that a run that is done has printed
-//! what one thread would print that served the calls one after another, though each batch is served in ranges of keys,
-//! which threads may share. `call` says which words are calls, and `server` serves a batch by `batched_map` and writes its
+//! `program::maprun` is the whole program over any shelf and sinks. Its theorem says that a run that is done has
+//! printed what one thread prints that serves the calls one after another, although each batch is served in ranges of
+//! keys, which threads may share. `call` parses the calls, and `server` serves a batch by `batched_map` and writes its
 //! lines (`line`). `main` only hands in the real words, files and streams.
 //!
-//! The crate stands on `batch_script`, which reads a script and carries the causes of each status, and on `batched_map`.
+//! The crate stands on `batch_script`, which reads scripts and carries the causes of each status, and `batched_map`.
 #![tactic(auto)]
 
 mod call;

@@ -115,7 +115,7 @@ fn worked_scripts_print_their_lines(rt: HostRuntime) -> Result<(), Fail> {
     Ok(())
 }
 
-/// Texts in parts, each so many times, that are no script, and the lines that say so.
+/// Texts that are no script: their parts, each with how often it stands, and what the line on err says.
 const FAULTY: [(&[(&str, usize)], &str); 16] = [
     (&[("put 1", 1)], "1: not a call"),
     (&[("put 1 2 3", 1)], "1: not a call"),

@@ -1,4 +1,4 @@
--- What only the code and its proofs cite: lines by their replies.
+-- What only the code and its proofs cite: the lines of calls by their replies.
 use Rattle.std.specs.Prelude.{ℕ, ◌+◌, List, [], ◌∷◌, ◌++◌, Bool}
 use Rattle.bulk_calls.specs.Views.{CallView}
 use Rattle.bulkrun.specs.Text.{call_line}

@@ -1,4 +1,4 @@
--- What the program promises, with what it takes from the crates below. `Code` is what only the code cites.
+-- What the program promises, and the rules below on which that stands. `Code` is what only the code cites.
 pub use Rattle.batch_script.specs.Scripts
 pub use Rattle.batch_script.specs.Outcomes
 pub use Rattle.bulk_calls.specs.Bulk

@@ -1,4 +1,4 @@
-//! The calls of a script.
+//! The parser of calls: which words spell a call.
 ghost use Rattle.std.specs.Prelude.{◌≡◌, ◌≤◌, Some, length};
 ghost use Rattle.decimals.specs.Words.{number_between};
 ghost use Rattle.bulkrun.specs.Calls.{kind_named, keys_named, call_with, bulk_call};
@@ -7,10 +7,10 @@ use batch_script::Name;
 use bulk_calls::{BulkKind, BulkOp};
 use decimals::number_between;
 
-/// A call has at most so many keys.
+/// The most keys of a call.
 const MOST_KEYS: usize = 64;
 
-/// The key that a word is, if it is a number below 2^32.
+/// The key that a word spells, if it is a number below 2^32.
 fn key_in(word: &Name) -> Option<u32>
     ensures { result ≡ number_between 0 4294967295 word.now }
 {
@@ -33,7 +33,7 @@ fn kind_named(word: &Name) -> Option<BulkKind>
     }
 }
 
-/// The call of this kind with the keys that the words are, if each is one.
+/// The call of this kind with the keys that the words spell, if each spells one.
 fn call_with(kind: BulkKind, words: &[Name]) -> Option<BulkOp>
     requires { length words.now ≤ 64 }
     ensures { result ≡ call_with (Some kind) (keys_named words.now) }
@@ -45,7 +45,7 @@ fn call_with(kind: BulkKind, words: &[Name]) -> Option<BulkOp>
     Some(call)
 }
 
-/// The call that the words are, if they are one: `insert`, `remove` or `find`, with 1 to 64 keys.
+/// The call that the words spell, if any: `insert`, `remove` or `find`, with 1 to 64 keys.
 pub(crate) fn bulk_call(words: &[Name]) -> Option<BulkOp>
     ensures { result ≡ bulk_call words.now }
 {

@@ -1,4 +1,4 @@
-//! The lines of a batch.
+//! The lines of a batch, as they are printed.
 ghost use Rattle.std.specs.Prelude.{◌≡◌, ◌++◌, ◌≤◌, length, OnOk, string_bytes};
 ghost use Rattle.bulkrun.specs.Text.{kind_words, key_words, answer_words, call_line};
 ghost use Rattle.bulkrun.specs.Code.{call_lines};
@@ -8,7 +8,7 @@ use bulk_calls::{BulkCall, BulkKind, Replies};
 use itoa::Buffer;
 use std::alloc::AllocError;
 
-/// Puts a kind of call as it is written.
+/// Appends a kind of call as it is written.
 fn push_kind(text: &mut String, kind: BulkKind) -> Result<(), AllocError>
     ensures { OnOk result (string_bytes text.new ≡ string_bytes text.old ++ kind_words kind) }
 {
@@ -19,7 +19,7 @@ fn push_kind(text: &mut String, kind: BulkKind) -> Result<(), AllocError>
     })
 }
 
-/// Puts keys, each behind a space.
+/// Appends keys, each behind a space.
 fn push_keys(text: &mut String, keys: &[u32]) -> Result<(), AllocError>
     ensures { OnOk result (string_bytes text.new ≡ string_bytes text.old ++ key_words keys.now) }
 {
@@ -31,7 +31,7 @@ fn push_keys(text: &mut String, keys: &[u32]) -> Result<(), AllocError>
     Ok(())
 }
 
-/// Puts answers, each behind a space.
+/// Appends answers, each behind a space.
 fn push_answers(text: &mut String, answers: &[bool]) -> Result<(), AllocError>
     ensures { OnOk result (string_bytes text.new ≡ string_bytes text.old ++ answer_words answers.now) }
 {
@@ -41,7 +41,7 @@ fn push_answers(text: &mut String, answers: &[bool]) -> Result<(), AllocError>
     Ok(())
 }
 
-/// Puts the line of a call.
+/// Appends the line of a call.
 fn push_line(
     text: &mut String,
     batch: u32,
@@ -60,7 +60,7 @@ fn push_line(
     text.push_str("\n")
 }
 
-/// Puts the lines of a batch.
+/// Appends the lines of a batch.
 pub(crate) fn push_lines(
     text: &mut String,
     batch: u32,

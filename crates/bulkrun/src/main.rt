@@ -1,12 +1,12 @@
-//! The program `bulkrun`: serves a script of batches whose calls carry many keys of a set each, and prints what each call
-//! replied.
+//! The program `bulkrun`: serves a script of batches whose calls carry many keys of a set each, and prints what each
+//! call replied.
 //!
-//! `program::bulkrun` is the whole program over any shelf and sinks. Its theorem says that a run that is done has printed
-//! what one thread would print that served the calls one after another, though each batch is served by ranges of keys, which
-//! threads may share. `call` says which words are calls, and `server` serves a batch by `bulk_calls` and writes its lines
-//! (`line`). `main` only hands in the real words, files and streams.
+//! `program::bulkrun` is the whole program over any shelf and sinks. Its theorem says that a run that is done has
+//! printed what one thread prints that serves the calls one after another, although each batch is served by ranges of
+//! keys, which threads may share. `call` parses the calls, and `server` serves a batch by `bulk_calls` and writes its
+//! lines (`line`). `main` only hands in the real words, files and streams.
 //!
-//! The crate stands on `batch_script`, which reads a script and carries the causes of each status, and on `bulk_calls`.
+//! The crate stands on `batch_script`, which reads scripts and carries the causes of each status, and `bulk_calls`.
 #![tactic(auto)]
 
 mod call;

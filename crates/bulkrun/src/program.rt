@@ -19,14 +19,14 @@ use std::thread::Threads;
 /// The name of the program.
 pub const NAME: &[u8] = b"bulkrun";
 
-/// What is said of a wrong use.
+/// What the line on err says of a wrong use.
 pub const USAGE: &[u8] = b"usage: bulkrun FILE";
 
-/// Does what the words say: the whole program over any shelf and sinks.
+/// Runs the program on its words, over any shelf and sinks.
 ///
-/// The one word is a file, which holds a script. Its batches are served one after another, each by a set of numbers, and the
-/// lines of all calls are written once, on `out`; or the line that says why not on `err`. It waits for nobody, but joins
-/// the threads that it starts. Memory may run out at any step.
+/// The one word names a file, which holds a script. A set of numbers serves its batches one after another, and the
+/// lines of all calls are written once, on `out`; or the line that says why not, on `err`. The run joins the threads
+/// that it starts, and waits for no others. Memory may run out at any step.
 pub fn bulkrun<R: Threads + Sync, I: Shelf, O: Sink, E: Sink>(
     rt: &R,
     alloc: Global,

@@ -1,4 +1,4 @@
-//! Runs of the whole program over memory: what they are given, and what they did.
+//! Tests of the whole program over memory: what a run is given, and what it did.
 ghost use Rattle.std.specs.Prelude.{◌<◌};
 
 mod faults;
@@ -32,7 +32,7 @@ pub(crate) struct Ran {
     pub(crate) err: MemSink,
 }
 
-/// A run of a script that is to be done, with a shelf and sinks that give and take all at once.
+/// A run of a script, whose shelf and sinks never fail and give and take large pieces.
 pub(crate) fn unhindered(text: &[u8]) -> Given<'_> {
     Given {
         words: &["-"],

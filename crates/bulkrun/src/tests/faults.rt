@@ -4,7 +4,7 @@ ghost use Rattle.std.specs.Prelude.{◌<◌};
 use crate::tests::{run, unhindered};
 use std::test::Fail;
 
-/// Words that are not one file that is there, the exit number, and the line on err.
+/// Words that do not name one file that the shelf has, the exit number, and the line on err.
 const WORDS: [(&[&str], u8, &[u8]); 5] = [
     (&[], 2, b"bulkrun: usage: bulkrun FILE\n"),
     (&[""], 2, b"bulkrun: usage: bulkrun FILE\n"),
@@ -35,7 +35,7 @@ batch 1 place 0 worker 0 find 1 -> yes\n";
 
 #[test]
 fn each_call_of_the_shelf_fails_in_turn(rt: HostRuntime) -> Result<(), Fail> {
-    // Call 0 chooses the file. Each other gives at most 5 bytes, and the last one none.
+    // Call 0 chooses the file. Each other call gives at most 5 bytes, and the last one none.
     let calls = SCRIPT.len().div_ceil(5) + 2;
     for call in 0..calls + 1 {
         let fails = [call as u64];
@@ -57,7 +57,7 @@ fn each_call_of_the_shelf_fails_in_turn(rt: HostRuntime) -> Result<(), Fail> {
 
 #[test]
 fn each_write_fails_in_turn(rt: HostRuntime) -> Result<(), Fail> {
-    // Each takes at most 20 bytes.
+    // Each write takes at most 20 bytes.
     for write in 0..LINES.len().div_ceil(20) {
         let fails = [write as u64];
         let mut given = unhindered(SCRIPT);
@@ -71,7 +71,7 @@ fn each_write_fails_in_turn(rt: HostRuntime) -> Result<(), Fail> {
     Ok(())
 }
 
-/// Runs whose words, script, calls of the shelf that fail and writes of out that fail are these, and their exit number.
+/// The words of a run, its script, the calls of the shelf and the writes of out that fail, and the exit number.
 const RUNS: [(&[&str], &[u8], &[u64], &[u64], u8); 5] = [
     (&[], b"find 1", &[], &[], 2),
     (&["-"], b"find 1", &[1], &[], 3),

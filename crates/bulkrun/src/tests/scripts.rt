@@ -81,7 +81,7 @@ const FULL_BATCH: &str =
 find 1\nfind 1\nfind 1\nfind 1\nfind 1\nfind 1\nfind 1\nfind 1\nfind 1\nfind 1\nfind 1\nfind 1\n\
 find 1\nfind 1\nfind 1\nfind 1\nfind 1\nfind 1\nfind 1\nfind 1\ngo\n";
 
-/// Texts in parts, each so many times, that are no script, and the lines that say so.
+/// Texts that are no script: their parts, each with how often it stands, and what the line on err says.
 const FAULTY: [(&[(&str, usize)], &str); 14] = [
     (&[("insert", 1)], "1: not a call"),
     (&[("find", 1), (" 1", 65)], "1: not a call"),

@@ -54,7 +54,7 @@ const FEW: [Row; 9] = [
     ),
 ];
 
-/// Keys of all ranges in one call, against their order; then each range has keys of several calls.
+/// Keys of all ranges in one call, out of order; then each range has keys of several calls.
 const WIDE: [Row; 3] = [
     (
         &[(
@@ -99,7 +99,7 @@ fn operations_of(alloc: Global, calls: &[(BulkKind, &[u32])]) -> Result<Vec<Bulk
     Ok(operations)
 }
 
-/// Puts answers in words.
+/// Appends answers in words.
 fn push_answers(words: &mut String, answers: &[bool]) -> Result<(), AllocError> {
     for (place, answer) in answers.iter().enumerate() {
         if place > 0 {
@@ -122,7 +122,7 @@ fn words_of(alloc: Global, replies: &[Replies]) -> Result<String, AllocError> {
     Ok(words)
 }
 
-/// A batch served in at most `threads` threads, or in as many as the set likes where that is none.
+/// A batch served in at most `threads` threads, or in as many as the set chooses where that is 0.
 fn served<R: Threads + Sync>(
     rt: &R,
     alloc: Global,
@@ -142,7 +142,8 @@ fn served<R: Threads + Sync>(
     Ok((next, words_of(alloc, &replies)?))
 }
 
-/// The place of the first batch that an empty set serves with other replies, if there is one.
+/// The place of the first row whose replies differ, if there is one, where an empty set serves the rows one after
+/// another.
 fn first_wrong<R: Threads + Sync>(
     rt: &R,
     alloc: Global,
@@ -176,7 +177,7 @@ fn threads_make_no_difference(rt: HostRuntime) -> Result<(), Fail> {
     Ok(())
 }
 
-/// Numbers that look random, the same each time.
+/// The next number of a pseudorandom sequence, the same in each run.
 fn next_number(state: &mut u64) -> u32 {
     *state = state
         .wrapping_mul(6364136223846793005)
@@ -208,7 +209,7 @@ fn random_operations(alloc: Global, state: &mut u64) -> Result<Vec<BulkOp>, Allo
     Ok(operations)
 }
 
-/// What a sorted set of std answers to the operations of one kind, in the order of their workers.
+/// Appends what a sorted set of std answers to the finds, or to the other operations, by worker.
 fn push_expected(
     words: &mut String,
     keys: &mut BTreeSet<u32>,
@@ -257,7 +258,7 @@ fn random_batches_are_served_as_a_sorted_set_serves_them(rt: HostRuntime) -> Res
     Ok(())
 }
 
-/// 32 finds of the keys from 64 times a number on.
+/// 32 operations of one kind: that of worker w has the 64 keys from 64 w on.
 fn all_keys(alloc: Global, kind: BulkKind) -> Result<Vec<BulkOp>, AllocError> {
     let mut operations = Vec::new(alloc);
     for worker in 0..32u32 {

@@ -11,7 +11,7 @@ use std::thread::Threads;
 /// The operations of a batch by worker, and the replies in batch order.
 type Row = (&'static [MapOp], &'static str);
 
-/// Batches that come one after another, each with queries before updates: a map as it is filled, asked and changed.
+/// Batches that come one after another: a map that is filled, asked and changed. Queries come before updates.
 const FEW: [Row; 3] = [
     (
         &[MapOp::Put(10, 1), MapOp::Put(30, 3), MapOp::Put(20, 2)],
@@ -44,7 +44,7 @@ const KEYLESS: [Row; 4] = [
     ),
 ];
 
-/// Updates of one key by worker, and of several by key.
+/// Updates of one key, which are served by worker, and of several, by key.
 const ORDERED: [Row; 3] = [
     (
         &[
@@ -155,8 +155,8 @@ empty empty empty empty empty empty empty empty empty empty",
     ),
 ];
 
-/// The map after the calls, and their replies: in at most `threads` threads, or in as many as the map likes where that
-/// is none.
+/// The map after the calls, and their replies: in at most `threads` threads, or in as many as the map chooses where
+/// that is 0.
 fn served<R: Threads + Sync>(
     rt: &R,
     alloc: Global,
@@ -174,7 +174,8 @@ fn served<R: Threads + Sync>(
     }
 }
 
-/// The place of the first batch that an empty map serves with other replies, if there is one.
+/// The place of the first row whose replies differ, if there is one, where an empty map serves the rows one after
+/// another.
 fn first_wrong<R: Threads + Sync>(
     rt: &R,
     alloc: Global,
@@ -216,7 +217,7 @@ fn threads_make_no_difference(rt: HostRuntime) -> Result<(), Fail> {
     Ok(())
 }
 
-/// How many pairs of a list that ascends have a lower key.
+/// How many pairs of an ascending list have a lower key.
 fn place_in(pairs: &[(u32, u32)], key: u32) -> usize
     ensures { result ≤ length pairs.now }
 {
@@ -253,7 +254,7 @@ fn serve_sorted(pairs: &mut Vec<(u32, u32)>, operation: MapOp) -> Result<Reply, 
     Ok(old)
 }
 
-/// Numbers that look random, each made from the one before.
+/// The next number of a pseudorandom sequence.
 fn next_random(state: u64) -> u64 {
     state
         .wrapping_mul(6364136223846793005)

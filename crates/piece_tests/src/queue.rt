@@ -23,7 +23,7 @@ const FEW: [Row; 6] = [
     (&[GET], "0"),
 ];
 
-/// Past an empty queue, round all stripes.
+/// A queue that runs empty, and then items in all stripes.
 const ROUND: [Row; 3] = [
     (&[Some(100), GET, GET], "ok 100 empty"),
     (
@@ -99,8 +99,8 @@ const FULL: [Row; 2] = [
     (&[GET, GET, GET], "16 17 empty"),
 ];
 
-/// The place of the first batch that an empty queue serves with other replies, if there is one: in at most `threads`
-/// threads, or in as many as the queue likes where that is none.
+/// The place of the first row whose replies differ, if there is one, where an empty queue serves the rows one after
+/// another: in at most `threads` threads, or in as many as the queue chooses where that is 0.
 fn first_wrong<R: Threads + Sync>(
     rt: &R,
     alloc: Global,
@@ -141,7 +141,7 @@ fn threads_make_no_difference(rt: HostRuntime) -> Result<(), Fail> {
     Ok(())
 }
 
-/// The queue after a batch of one operation, 32 times.
+/// The queue after a batch that makes one operation 32 times, and the replies.
 fn after<R: Threads + Sync>(
     rt: &R,
     alloc: Global,

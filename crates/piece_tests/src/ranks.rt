@@ -96,7 +96,7 @@ fn a_map_of_many_keys_is_not_deep(rt: HostRuntime) -> Result<(), Fail> {
     Ok(())
 }
 
-/// The next number of a sequence that looks random: below 2,000.
+/// The next number of a pseudorandom sequence, below 2,000.
 fn next_number(state: &mut u32) -> u32
     ensures { result < 2000 }
 {
@@ -116,7 +116,7 @@ fn is_same(tree: &RankTree, map: &BTreeMap<u32, u32>) -> bool {
     tree.len() == i && tree.nth(i).is_none()
 }
 
-/// Calls that look random, beside the ordered map of std: many more puts than removals, and then more removals.
+/// Pseudorandom calls, beside the ordered map of std: many more puts than removals, and then more removals.
 #[test]
 fn a_map_is_that_of_std(rt: HostRuntime) -> Result<(), Fail> {
     let mut tree = RankTree::new(rt.alloc());

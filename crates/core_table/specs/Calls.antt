@@ -1,4 +1,4 @@
--- That each call of the table is its one event: the statements, over every table that meets the rule.
+-- The refinement statement: each call is one event of the core or a stutter, on every table that meets the rule.
 use Rattle.std.specs.Prelude.{ℕ, ◌≡◌, ◌≢◌, ◌<◌, ◌≤◌, ◌+◌, ◌%◌, ◌^◌, true, false, eqb, Some, None, List, ◌∷◌, [], ◌++◌, length}
 use mathlib.Core.Option.{none}
 use prog.Atomic.{either}
@@ -24,14 +24,14 @@ use Rattle.core_table.specs.Plays as plays
 use Rattle.core_table.specs.Plays.{Sat}
 use Rattle.core_table.specs.Steps.{Steps, Makes, Stays, TryMakes, ArrivalMakes, DrawMakes, LeaveMakes}
 
--- what holds of all that a table is made for
+-- the bounds of every setting of a table: nodes, one act for each leaf, at most 20000 acts and 32 workers
 pub record IsSound (key : Setting) : Type 0 where
   pub few : (job_of key).plan.count < 40000
   pub leaves : length key.job.acts ≡ leaves (job_tree key.job)
   pub short : length key.job.acts ≤ 20000
   pub workers : key.workers ≤ 32
 
--- the view is that of the pass of worker k of such a table
+-- the view is one of worker k's pass at a table of this setting, after it has enrolled
 pub record IsViewOf (key : Setting) (k : ℕ) (v : View) : Type 0 where
   pub from : v.from ≡ k
   pub to : v.to ≡ k + 1
@@ -41,18 +41,18 @@ pub record IsViewOf (key : Setting) (k : ℕ) (v : View) : Type 0 where
   pub enrolled : v.enrolled ≡ true
   pub plan : nodes_of v.plan ≡ (job_of key).plan
 
--- In a table with so many slots, the seat id has the view v of worker k, and holds these slots. Each line says of a call
--- what its step writes, what it tells, and what it makes of the state that is shown, whichever that is.
+-- A table has `slots` slots, and seat `id` has the view v of worker k and carries the slots xs. Each field says of one
+-- call what its step writes, what it tells the seat, and which event or stutter it makes of any state shown before.
 pub record CallsAreEvents (key : Setting) (slots id k : ℕ) (v : View) (xs : List (ℕ × Slot)) : Type 0 where
-  -- the job side: a claim takes the node where it finds it ready, and else makes nothing
+  -- the job side: a claim is the event `Claim` if it finds the node ready (1), else a stutter
   pub claim : (n : ℕ) → n < (job_of key).plan.count → v.task ≡ Idle → v.call ≢ Out
       → Steps (job_of key) (room_of key) slots id (v, xs) (node_at key.workers n) (λ y. either (eqb y 1) 2 y)
       (plays.claimed (step slots (node_at key.workers n) 1 2 none) (v, xs)) (TryMakes 1 (Makes (job_of key) k (Claim n)))
-  -- a claim past the last node names the node and makes nothing
+  -- a claim past the last node is a stutter; its step on word 0 names the number
   pub claim_past_the_last : (n : ℕ) → (job_of key).plan.count ≤ n → 0 < key.workers
       → Steps (job_of key) (room_of key) slots id (v, xs) 0 (λ y. either (eqb y (4 + n)) 0 y)
       (plays.strayed (step slots 0 (4 + n) 0 none) (v, xs)) Stays
-  -- a tick starts or ends the leaf of the task
+  -- a tick starts or ends the task's leaf
   pub tick : IsTickDue (job_of key) v.task → v.call ≢ Out
       → Steps (job_of key) (room_of key) slots id (v, xs) (tick_at key.workers) (λ y. (y + 1) % 2 ^ 64)
       (plays.drawn (step slots (tick_at key.workers) 1 0 none) (v, xs)) (λ before found after. DrawMakes (job_of key) k v.task before after)
@@ -69,7 +69,7 @@ pub record CallsAreEvents (key : Setting) (slots id k : ℕ) (v : View) (xs : Li
   pub open_second : (p l r : ℕ) → v.task ≡ Whole l → (job_of key).plan.kind p ≡ Some (SeqNode l r) → v.call ≢ Out
       → Steps (job_of key) (room_of key) slots id (v, xs) (node_at key.workers r) (λ y. 1)
       (λ y. plays.opened (step slots (node_at key.workers r) 1 0 none) (v, xs) 1) (λ before found after. Makes (job_of key) k (OpenSeqRight p l r) before after)
-  -- a keep
+  -- a keep of the value that the act and the call determine
   pub keep : (n start x : ℕ) → v.task ≡ Started n start → n < (job_of key).plan.count
       → value_in ((job_of key).act (leaf_of ((job_of key).plan.kind n))) v.call ≡ Some x → v.call ≢ Out
       → Steps (job_of key) (room_of key) slots id (v, xs) (value_at key.workers (job_of key).plan.count n) (λ y. x)
@@ -86,21 +86,21 @@ pub record CallsAreEvents (key : Setting) (slots id k : ℕ) (v : View) (xs : Li
   pub finish_block : (p l r : ℕ) → v.task ≡ Handed p → (job_of key).plan.kind p ≡ Some (ParNode l r) → p < (job_of key).plan.count → v.call ≢ Out
       → Steps (job_of key) (room_of key) slots id (v, xs) (node_at key.workers p) (λ y. 3)
       (λ y. plays.finished (step slots (node_at key.workers p) 3 0 none) (v, xs) 3) (λ before found after. Makes (job_of key) k (FinishPar p l r) before after)
-  -- an arrival is the first where it finds the mark at 0, else the second
+  -- an arrival is the first if it finds the mark at 0, else the second
   pub arrive : (p l r n : ℕ) → v.task ≡ Whole n → (job_of key).plan.kind p ≡ Some (ParNode l r) → IsSide (job_of key).plan p n
       → p < (job_of key).plan.count → v.call ≢ Out
       → Steps (job_of key) (room_of key) slots id (v, xs) (mark_at key.workers (job_of key).plan.count p) (λ y. (y + 1) % 2 ^ 64)
       (plays.arrived (step slots (mark_at key.workers (job_of key).plan.count p) 1 0 none) (v, xs))
       (ArrivalMakes (Makes (job_of key) k (ArriveFirst p l r n)) (Makes (job_of key) k (ArriveSecond p l r n)))
-  -- the gate: a post gives the record slot home with the call
+  -- the gate: a post returns the record slot to the table, with the call in it
   pub post : (call : OpRecord) → (is : IsPostDue (job_of key) v.task call) → v.call ≡ NotCalled
       → Steps (job_of key) (room_of key) slots id (v, (k, Slots.Record call) ∷ xs) k (λ y. 1)
       (λ y. plays.posted (step slots k 1 0 none) (v, (k, Slots.Record call) ∷ xs) 1) (λ before found after. Makes (job_of key) k (Post is.0 is.1) before after)
-  -- the flag is won where it is found free
+  -- a win is an event if it finds the flag free (0), else a stutter
   pub win : v.call ≡ Out
       → Steps (job_of key) (room_of key) slots id (v, xs) (flag_at key.workers) (λ y. either (eqb y 0) (k + 1) y)
       (plays.won (step slots (flag_at key.workers) 0 (k + 1) none) (v, xs)) (TryMakes 0 (Makes (job_of key) k Win))
-  -- a look is one event, whether it takes or not
+  -- a look at a worker is the event `Take`, whether or not it takes a call
   pub take : (h : HoldView) (u : ℕ) → v.hold ≡ Some h → u ≡ h.looks → u < key.workers
       → Steps (job_of key) (room_of key) slots id (v, xs) u (λ y. either (eqb y 1) 2 y)
       (plays.took (step slots u 1 2 none) (v, xs)) (λ before found after. Makes (job_of key) k (Take u) before after)
@@ -112,7 +112,7 @@ pub record CallsAreEvents (key : Setting) (slots id k : ℕ) (v : View) (xs : Li
       → record_in h.taken u ≡ Some call → among h.answered u ≡ false → IsReceipt (place_of h.book call.leaf) r
       → Steps (job_of key) (room_of key) slots id (v, (u, Slots.Receipt r) ∷ xs) u (λ y. 3)
       (λ y. plays.answered (step slots u 3 0 none) (v, (u, Slots.Receipt r) ∷ xs) 3) (λ before found after. Makes (job_of key) k (Answer u r) before after)
-  -- a release gives the shop home, and the book too where nothing was published
+  -- a release returns the shop after a publish, and the shop and the book if nothing was published
   pub release : (h : HoldView) → v.hold ≡ Some h → IsReleaseDue key.workers h → h.published ≡ true
       → Steps (job_of key) (room_of key) slots id (v, (flag_at key.workers, Slots.Shop h.book) ∷ xs) (flag_at key.workers) (λ y. 0)
       (λ y. plays.released_shop (step slots (flag_at key.workers) 0 0 none) (v, (flag_at key.workers, Slots.Shop h.book) ∷ xs) 0)
@@ -123,11 +123,11 @@ pub record CallsAreEvents (key : Setting) (slots id k : ℕ) (v : View) (xs : Li
       (λ y. plays.released_both (step slots (flag_at key.workers) 0 0 none)
       (v, (flag_at key.workers, Slots.Shop h.book) ∷ (flag_at key.workers + 1, Slots.Book (reserved h.book (room_of key))) ∷ xs) 0)
       (λ before found after. Makes (job_of key) k Release before after)
-  -- it leaves where it finds its status served
+  -- a leave is an event if it finds its own status served (3), else a stutter
   pub leave : v.call ≡ Out → v.hold ≡ None
       → Steps (job_of key) (room_of key) slots id (v, xs) k (λ y. either (eqb y 3) 0 y)
       (plays.left (step slots k 3 0 none) (v, xs)) (TryMakes 3 (LeaveMakes (job_of key) k))
-  -- the looks, the stop and the look before a publish are no events
+  -- the looks, the stop and the look before a publish are stutters
   pub root_done : Steps (job_of key) (room_of key) slots id (v, xs) (node_at key.workers 0) (λ y. y)
       (plays.looked_at_root (step slots (node_at key.workers 0) 0 0 none) (v, xs)) Stays
   pub since : Steps (job_of key) (room_of key) slots id (v, xs) (count_at key.workers) (λ y. y)

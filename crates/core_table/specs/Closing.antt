@@ -1,4 +1,4 @@
--- What the report of a closed table is.
+-- What the report of a closed table says.
 use Rattle.std.specs.Prelude.{ℕ, ◌≡◌, ◌<◌, ◌/◌, ◌%◌, true, List, slice_index}
 use Rattle.std.specs.List.{AllByRecursion}
 use Rattle.sp_order.specs.Jobs.{job_tree}
@@ -11,8 +11,8 @@ use Rattle.core_model.specs.declared.setting.Setting.{Setting}
 use Rattle.core_table.specs.Words.{node_at, value_at}
 use Rattle.core_table.specs.Shows.{St, Shown, job_of}
 
--- The row of a leaf, as the words tell it: its worker, start and end are packed in the word of its node, and its value
--- is a word of its own.
+-- The row of a leaf, read from the words: worker, start and end are packed in the node's progress word (`progress_code`
+-- in `Words.antt`), and the value has a word of its own.
 pub record RowInWords (workers nodes leaf_total : ℕ) (node_of : ℕ → ℕ) (words : List ℕ) (row : Row) : Type 0 where
   pub low : row.leaf < leaf_total
   pub worker : row.worker ≡ slice_index words (node_at workers (node_of row.leaf)) / 4 % 32
@@ -20,8 +20,8 @@ pub record RowInWords (workers nodes leaf_total : ℕ) (node_of : ℕ → ℕ) (
   pub end : row.end ≡ slice_index words (node_at workers (node_of row.leaf)) / 134217728
   pub value : row.value ≡ slice_index words (value_at workers nodes (node_of row.leaf))
 
--- The table shows a state whose root is done. The rows of the report are told by the table's words, and the report is
--- that of the state: so its history is the book.
+-- The table shows a state whose root is done. The report's rows are read from the table's words, and the report is that
+-- of the state, so its history is the state's book.
 pub record IsReportOfTable (key : Setting) (t : St) (report : Report) : Type 0 where
   pub shown : Shown key t
   pub over : is_done (shown.state.node 0) ≡ true

@@ -1,4 +1,4 @@
--- What only the code and its proofs cite. No public contract speaks of it.
+-- Definitions that only code and proofs cite: no contract of a `pub` item uses them.
 pub mod Laws
 pub mod Rows
 pub mod Turns

@@ -1,4 +1,4 @@
--- The words that core_model declares, handed on: the rules of the table speak in them.
+-- The types and variants of `core_model` that the table's rules use, exported again under one name.
 pub use Rattle.core_model.specs.declared.progress.Progress.{Progress}
 pub use Rattle.core_model.specs.declared.progress.Progress.TheVariants.{Waiting, Ready, Taken, Done, Ran}
 pub use Rattle.core_model.specs.declared.task.Task.{Task}

@@ -1,9 +1,9 @@
--- Which event of the core a call of the job side is, by the plan, the task before the call and the call's answer.
+-- Which event of the core a call of the job side is, given the plan, the task before it and the node that it names.
 use Rattle.std.specs.Prelude.{ℕ, ◌≡◌, ◌⊎◌, Some}
 use Rattle.core_model.specs.Words.{Nodes, IsSide, SeqNode, ParNode}
 use Rattle.core_table.specs.CoreWords.{Event, Start, End, OpenParRight, OpenParLeft, OpenSeqLeft, OpenSeqRight, FinishLeaf, FinishSeq, FinishPar, Task, Idle, Run, Half, Started, Kept, Ended, Whole, Handed}
 
--- a tick starts the leaf of a task that runs, and ends that of a task whose value is kept
+-- a tick is the `Start` of a task `Run`, and the `End` of a task `Kept`
 abbrev pub IsTickEvent : Task → Event → Type 0
 IsTickEvent Idle event = ⊥
 IsTickEvent (Run n) event = event ≡ Start n
@@ -14,8 +14,8 @@ IsTickEvent (Ended n s e) event = ⊥
 IsTickEvent (Whole n) event = ⊥
 IsTickEvent (Handed p) event = ⊥
 
--- The node that is made ready. Of a parallel block it is the right side first and then the left one; of a series it is the left
--- side first and then the right one.
+-- An open that makes `node` ready. A parallel block's right side is opened first, then its left; a series' left side
+-- first, then its right.
 abbrev pub IsOpenEvent : Nodes → Task → ℕ → Event → Type 0
 IsOpenEvent plan Idle node event = ⊥
 IsOpenEvent plan (Run p) node event =
@@ -28,7 +28,7 @@ IsOpenEvent plan (Ended n s e) node event = ⊥
 IsOpenEvent plan (Whole l) node event = (p : ℕ) × (plan.kind p ≡ Some (SeqNode l node)) × (event ≡ OpenSeqRight p l node)
 IsOpenEvent plan (Handed p) node event = ⊥
 
--- the node that is done: the leaf that has ended, or the block whose last side is whole or handed over
+-- A finish that marks `node` as done: the ended leaf, the series whose right side is whole, or the block handed over.
 abbrev pub IsFinishEvent : Nodes → Task → ℕ → Event → Type 0
 IsFinishEvent plan Idle node event = ⊥
 IsFinishEvent plan (Run n) node event = ⊥
@@ -40,7 +40,7 @@ IsFinishEvent plan (Whole r) node event = (l : ℕ) × (plan.kind node ≡ Some 
 IsFinishEvent plan (Handed p) node event =
     (node ≡ p) × (l : ℕ) × (r : ℕ) × (plan.kind p ≡ Some (ParNode l r)) × (event ≡ FinishPar p l r)
 
--- The task has the side n whole, and n is one of the sides l and r of the parallel block p, at which it arrives.
+-- The task is `Whole` at n, which is a side of the parallel block p; the sides of p are l and r.
 pub record IsArrival (plan : Nodes) (task : Task) (p l r n : ℕ) : Type 0 where
   pub has : task ≡ Whole n
   pub kind : plan.kind p ≡ Some (ParNode l r)

@@ -1,11 +1,11 @@
--- When two states are one, in all that a table keeps of a state.
+-- When two states agree in all that a table keeps of a state.
 use Rattle.std.specs.Prelude.{ℕ, ◌≡◌, ◌<◌, Some}
 use Rattle.core_model.specs.State.{CoreJob, State}
 use Rattle.core_model.specs.Invariant.Values.{IsKept}
 use Rattle.core_model.specs.Words.{LeafNode}
 
--- The states agree in each node, mark, task, status and call, in the hold, the tick, the book and the objects, and in the
--- value of each leaf that has one: the word of a leaf without a value says nothing.
+-- The two states agree in every field, except that marks are compared only below the node count, and values only at the
+-- leaves whose value is kept: the value word of another leaf says nothing.
 pub record AreOne (job : CoreJob) (one two : State) : Type 0 where
   pub node : (n : ℕ) → one.node n ≡ two.node n
   pub mark : (n : ℕ) → n < job.plan.count → one.mark n ≡ two.mark n

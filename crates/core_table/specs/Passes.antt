@@ -1,4 +1,4 @@
--- What a pass of a table is, and what each call needs of its task.
+-- When a pass belongs to a table, and which tasks each call of the job side requires.
 use Rattle.std.specs.Prelude.{ℕ, ◌≡◌, ◌≢◌, ◌<◌, ◌+◌, Bool, List, true, Option as Maybe, None, Some}
 use Rattle.atomic_table.specs.Seated.{TableId}
 use Rattle.atomic_table.specs.declared.shared.Seat.{Seat}
@@ -18,26 +18,26 @@ use Rattle.core_table.specs.Views.{first_view}
 use Rattle.core_table.specs.Carries.{Carries}
 use Rattle.core_table.specs.Remembers.{Remembers}
 
--- what a table is made for
+-- the setting that a table is made for: a planned job and a number of workers
 abbrev pub setting_in : CoreTable → Setting
 setting_in table = table.setting
 
--- its job, as it was given, and as the rules speak of it
+-- the setting's job: `planned_in` with its plan as `sp_order` has it, `job_in` as the core's rules speak of it
 abbrev pub planned_in : CoreTable → JobValue
 planned_in table = (setting_in table).job
 
 abbrev pub job_in : CoreTable → CoreJob
 job_in table = job_of (setting_in table)
 
--- what the pass of worker w knows of a table that was just made
+-- the view of worker w's pass on a new table
 abbrev pub opening_view : CoreTable → ℕ → View
 opening_view table w = record (first_view table.setting) { from = w; to = w + 1; enrolled = true }
 
--- what a pass knows
+-- the view of a pass: what it knows and has done
 abbrev pub view : Pass → View
 view pass = pass.seat.me.0
 
--- it has posted a call, and has not left it
+-- the pass's call is outstanding: posted, and not left
 abbrev pub IsTrapped : Pass → Type 0
 IsTrapped pass = (view pass).call ≡ Out
 
@@ -56,7 +56,7 @@ IsInner (Some (LeafNode leaf)) = ⊥
 IsInner (Some (SeqNode l r)) = Unit {0}
 IsInner (Some (ParNode l r)) = Unit {0}
 
--- the node that the task names is there, and its ticks are short
+-- The task's node, if any, is one of the plan, its ticks are below 80000, and a `Half` or `Handed` node is parallel.
 abbrev pub TaskHere : CoreJob → Task → Type 0
 TaskHere job Idle = Unit {0}
 TaskHere job (Run n) = n < job.plan.count
@@ -67,7 +67,7 @@ TaskHere job (Ended n s e) = (n < job.plan.count) × (s < 80000) × (e < 80000)
 TaskHere job (Whole n) = n < job.plan.count
 TaskHere job (Handed p) = (p < job.plan.count) × IsPar (job.plan.kind p)
 
--- the seat is one of this table, of this worker: it knows the counts of the table, has its slots, and remembers its hold
+-- The seat is `worker`'s at this table: its view has the table's counts and plan, and agrees with its slots and fields.
 abbrev pub IsSeatOf : Setting → TableId → ℕ → Seat Slot View → List ℕ → Bool → Type 0
 IsSeatOf setting table worker seat owed published =
     (seat.table_id ≡ table) × (worker < setting.workers) × (seat.me.0.workers ≡ setting.workers)
@@ -75,11 +75,11 @@ IsSeatOf setting table worker seat owed published =
     × TaskHere (job_of setting) seat.me.0.task × (seat.me.0.room ≡ room_of setting) × Carries worker seat.me
     × Remembers seat.me.0 owed published × (nodes_of seat.me.0.plan ≡ (job_of setting).plan)
 
--- the pass is one of this table
+-- the pass belongs to this table
 abbrev pub IsPassOf : CoreTable → Pass → Type 0
 IsPassOf table pass = IsSeatOf table.setting table.table.shared.table_id pass.worker pass.seat pass.owed.items pass.published
 
--- the task is run at a leaf, or kept
+-- a tick is due: the task is `Run` at a leaf (a start), or `Kept` (an end)
 abbrev pub IsTickDue : CoreJob → Task → Type 0
 IsTickDue job Idle = ⊥
 IsTickDue job (Run n) = IsLeaf (job.plan.kind n)
@@ -90,7 +90,7 @@ IsTickDue job (Ended n s e) = ⊥
 IsTickDue job (Whole n) = ⊥
 IsTickDue job (Handed p) = ⊥
 
--- the task is run at an inner node, half, or whole of the left side of a series
+-- an open is due: the task is `Run` at an inner node, `Half`, or `Whole` at the left side of a series
 abbrev pub IsOpenDue : CoreJob → Task → Type 0
 IsOpenDue job Idle = ⊥
 IsOpenDue job (Run n) = IsInner (job.plan.kind n)
@@ -101,7 +101,7 @@ IsOpenDue job (Ended n s e) = ⊥
 IsOpenDue job (Whole n) = (p : ℕ) × (job.plan.after n ≡ OpenSecond p)
 IsOpenDue job (Handed p) = ⊥
 
--- the task is ended, handed, or whole of the right side of a series
+-- a finish is due: the task is `Ended`, `Handed`, or `Whole` at the right side of a series
 abbrev pub IsFinishDue : CoreJob → Task → Type 0
 IsFinishDue job Idle = ⊥
 IsFinishDue job (Run n) = ⊥
@@ -112,7 +112,7 @@ IsFinishDue job (Ended n s e) = Unit {0}
 IsFinishDue job (Whole n) = (p : ℕ) × (job.plan.after n ≡ FinishParent p)
 IsFinishDue job (Handed p) = Unit {0}
 
--- the task once a side is opened
+-- the task after an open: `Half` after the right side of a parallel block, else `Idle`
 abbrev pub half_if : Maybe Kind → ℕ → Task
 half_if None p = Idle
 half_if (Some (LeafNode leaf)) p = Idle
@@ -129,7 +129,7 @@ opened_task job (Ended n s e) = Idle
 opened_task job (Whole n) = Idle
 opened_task job (Handed p) = Idle
 
--- the node that is finished where the task is this
+-- n is the node that a finish with this task marks as done
 abbrev pub IsFinished : CoreJob → Task → ℕ → Type 0
 IsFinished job Idle n = ⊥
 IsFinished job (Run m) n = ⊥
@@ -140,7 +140,7 @@ IsFinished job (Ended m s e) n = n ≡ m
 IsFinished job (Whole m) n = job.plan.after m ≡ FinishParent n
 IsFinished job (Handed p) n = n ≡ p
 
--- the task is whole of a side of a parallel block
+-- an arrival is due: the task is `Whole` at a side of a parallel block
 abbrev pub IsArriveDue : CoreJob → Task → Type 0
 IsArriveDue job Idle = ⊥
 IsArriveDue job (Run n) = ⊥

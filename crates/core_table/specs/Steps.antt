@@ -1,4 +1,4 @@
--- What a step makes of the state that the table shows: the statement that a call is its one event.
+-- What a step makes of the state that the table shows: the form of the refinement statements in `Calls.antt`.
 use Rattle.std.specs.Prelude.{ℕ, ◌≡◌, ◌≢◌, ◌<◌, length, slice_index}
 use mathlib.Core.Option.{some}
 use lib.ListN.{get_elem?}
@@ -11,12 +11,12 @@ use Rattle.core_table.specs.declared.view.View.{View}
 use Rattle.core_table.specs.Shows.{St, Shows}
 use Rattle.core_table.specs.Plays.{Sat}
 
--- the table shows a state of which this holds
+-- the table shows a state that satisfies `Is`
 abbrev pub ShowsOne : CoreJob → ℕ → (State → Type 0) → St → Type 0
 ShowsOne job room Is t = (shown : Shows job room t) × Is shown.state
 
--- Whatever state the table shows when the word becomes f of what it was, the seat has a new view and an act with which it
--- shows one that the step makes of it: `Makes` says which, by the state before and the number found.
+-- For any table that shows a state before word i becomes f of itself, there are a new view and a valid act on the slots
+-- such that `tells` holds of the seat after the step, and the table then shows a state that `Makes` allows.
 abbrev pub Steps : CoreJob → ℕ → ℕ → ℕ → Sat → ℕ → (ℕ → ℕ) → (ℕ → Sat → Type 0) → (State → ℕ → State → Type 0) → Type 0
 Steps job room slots id me i f tells Makes =
     (t : St) (before : Shows job room t) → length t.homes ≡ slots → get_elem? t.views id ≡ some me.0
@@ -25,23 +25,23 @@ Steps job room slots id me i f tells Makes =
     × ShowsOne job room (Makes before.state (slice_index t.words i)) (stepped t i (f (slice_index t.words i)) id me.1 w a)
     × tells (slice_index t.words i) (w, carried_after me.1 a)
 
--- what a try makes: where it finds what it wants, and nothing where it does not
+-- a try: it makes `Makes` if it finds the wanted number, else it is a stutter
 abbrev pub TryMakes : ℕ → (State → State → Type 0) → State → ℕ → State → Type 0
 TryMakes wanted Makes before found after = (found ≡ wanted → Makes before after) × (found ≢ wanted → after ≡ before)
 
--- what an arrival makes, by whether the mark that it found was 0
+-- an arrival: `First` if the mark found is 0, else `Second`
 abbrev pub ArrivalMakes : (State → State → Type 0) → (State → State → Type 0) → State → ℕ → State → Type 0
 ArrivalMakes First Second before found after = (found ≡ 0 → First before after) × (found ≢ 0 → Second before after)
 
--- the one event of worker k
+-- the step is this event of worker k
 abbrev pub Makes : CoreJob → ℕ → Event → State → State → Type 0
 Makes job k event before after = Happens job before k event after
 
--- no event: the state stays
+-- a stutter: the state shown stays
 abbrev pub Stays : State → ℕ → State → Type 0
 Stays before found after = after ≡ before
 
--- the draw of a tick, by the task: the leaf starts, or ends
+-- the draw of a tick: the task's leaf starts or ends
 abbrev pub DrawMakes : CoreJob → ℕ → Task → State → State → Type 0
 DrawMakes job k Idle before after = ⊥
 DrawMakes job k (Run n) before after = Happens job before k (Start n) after
@@ -52,6 +52,6 @@ DrawMakes job k (Ended n start end) before after = ⊥
 DrawMakes job k (Whole n) before after = ⊥
 DrawMakes job k (Handed n) before after = ⊥
 
--- some leave, with its receipt
+-- the step is worker k's `Leave` with some receipt
 abbrev pub LeaveMakes : CoreJob → ℕ → State → State → Type 0
 LeaveMakes job k before after = (receipt : Receipt) × Happens job before k (Leave receipt) after

@@ -1,4 +1,4 @@
--- The view of a pass after each of its steps. A step changes the view of its own pass and no other.
+-- The view of a pass after each kind of step. A step changes the view of its own pass only.
 use Rattle.std.specs.Prelude.{ℕ, ◌+◌, ◌==◌, max, min, if◌then◌else◌, Bool, Option as Maybe, None, Some, List, [], ◌∷◌, ◌++◌, true, false}
 use Rattle.sp_order.specs.Jobs.{job_tree}
 use Rattle.core_model.specs.Words.{Entry, Tree}
@@ -9,7 +9,7 @@ use Rattle.core_table.specs.declared.view.View.{View}
 use Rattle.core_table.specs.Shows.{room_of, job_of}
 use Rattle.core_model.specs.declared.setting.Setting.{Setting}
 
--- a view that tells nothing yet, of the numbers below the workers
+-- a view without any step, whose range is all workers
 abbrev pub newcomer : Tree → ℕ → ℕ → ℕ → View
 newcomer tree workers nodes room = record {
   from = 0;
@@ -48,42 +48,42 @@ newcomer tree workers nodes room = record {
   events = [];
 }
 
--- that of the first seat of a table
+-- the view of a table's first seat
 abbrev pub first_view : Setting → View
 first_view key = newcomer (job_tree key.job) key.workers (job_of key).plan.count (room_of key)
 
--- the first number of a range is cut off, and what is left
+-- A split of a range: the pass gets its lowest number, and the first seat keeps the rest.
 abbrev pub pass_of : View → View
 pass_of v = record v { to = v.from + 1 }
 
 abbrev pub rest_of : View → View
 rest_of v = record v { from = v.from + 1 }
 
--- what is left of the first seat once n passes are cut off
+-- the first seat's view after n passes are split off
 abbrev pub rest_from : ℕ → Setting → View
 rest_from n setting = record (first_view setting) { from = n }
 
--- it takes its own record slot
+-- the pass takes its own record slot
 abbrev pub enrolling : View → View
 enrolling v = record v { enrolled = true }
 
--- A step that is an event of the core adds it to the view's events; any other step leaves them as they are. The functions
--- below say what else each kind of step tells.
+-- A step that is an event of the core adds it to the view's events. The functions below say what else each kind of step
+-- changes in the view.
 abbrev pub with_event : View → Event → View
 with_event v event = record v { events = event ∷ v.events }
 
--- The job side. A step tells the new task, and each counts what it did.
+-- The job side.
 abbrev pub with_task : View → Task → View
 with_task v task = record v { task = task; just_posted = false }
 
 abbrev pub claiming : View → ℕ → View
 claiming v n = record v { task = Run n; claims = v.claims + 1; claimed = n ∷ v.claimed; just_posted = false }
 
--- the node was not ready: `word` is what its word was
+-- the claim of n is refused: the step found `word`
 abbrev pub refusing : View → ℕ → ℕ → View
 refusing v n word = record v { refused_nodes = n ∷ v.refused_nodes; found = word; just_posted = false }
 
--- the task once its tick is drawn
+-- the task after its tick is drawn; the other tasks stay
 abbrev pub ticked : Task → ℕ → Task
 ticked Idle tick = Idle
 ticked (Run n) tick = Started n tick
@@ -100,7 +100,7 @@ opening v n task = record v { task = task; opened = n ∷ v.opened; just_posted 
 abbrev pub keeping : View → ℕ → ℕ → View
 keeping v n start = record v { task = Kept n start; call = NotCalled; just_posted = false }
 
--- The looks: at the root, which was done or not; at the stop word, which was 1 or not; at the number of batches.
+-- The looks at the root, the stop word and the number of batches, and the set of the stop word (`stopping`).
 abbrev pub seeing_done : View → View
 seeing_done v = record v { saw_done = true; root_looks = v.root_looks + 1; just_posted = false }
 
@@ -116,12 +116,12 @@ finding_stop v = record v { stop_looks = v.stop_looks + 1; stops_found = v.stops
 abbrev pub finding_none : View → ℕ → View
 finding_none v word = record v { stop_looks = v.stop_looks + 1; found = word; just_posted = false }
 
--- the least number that was told, where this one is told now
+-- the least of the numbers told so far, if any, and n
 abbrev pub least_told : Maybe ℕ → ℕ → Maybe ℕ
 least_told None n = Some n
 least_told (Some b) n = Some (min b n)
 
--- what is told by the first step after a post
+-- the number told by the first step after a post: n if the step before was the post, else as it was
 abbrev pub told_first : Bool → Maybe ℕ → ℕ → Maybe ℕ
 told_first true told n = Some n
 told_first false told n = told
@@ -149,14 +149,14 @@ posting v call = record v {
 abbrev pub new_view : List (List Entry) → HoldView
 new_view book = record { looks = 0; taken = []; answered = []; owed = []; published = false; book = book }
 
--- it wins the flag, and learns the book
+-- the pass wins the flag, and its hold starts with the book
 abbrev pub winning : View → List (List Entry) → View
 winning v book = record v { hold = Some (new_view book); wins = v.wins + 1; just_posted = false }
 
 abbrev pub losing : View → ℕ → View
 losing v word = record v { refused_wins = v.refused_wins + 1; found = word; just_posted = false }
 
--- a look that takes the call of worker u, and one that does not
+-- The hold after a look that takes the call of worker u (`taken_view`), and after one that takes none (`passed_view`).
 abbrev pub taken_view : HoldView → ℕ → OpRecord → HoldView
 taken_view h u call = record h { looks = h.looks + 1; taken = record { worker = u; call = call } ∷ h.taken; owed = h.owed ++ u ∷ [] }
 
@@ -166,7 +166,7 @@ passed_view h = record h { looks = h.looks + 1 }
 abbrev pub published_view : HoldView → List Entry → HoldView
 published_view h batch = record h { published = true; book = h.book ++ batch ∷ [] }
 
--- the list without the first that is this number
+-- the list without the first occurrence of u
 abbrev pub without_first : ℕ → List ℕ → List ℕ
 without_first u [] = []
 without_first u (x ∷ xs) = if x == u then xs else x ∷ without_first u xs
@@ -177,20 +177,20 @@ answered_view h u = record h { answered = u ∷ h.answered; owed = without_first
 abbrev pub with_hold : View → HoldView → View
 with_hold v h = record v { hold = Some h; just_posted = false }
 
--- a look that takes none, and the status that it found
+-- the view after a look that takes no call and found this status
 abbrev pub passing : View → HoldView → ℕ → View
 passing v h status = record v { hold = Some (passed_view h); found = status; just_posted = false }
 
--- the book of a hold; without a hold the book that was seen before
+-- the book of a hold, or without a hold the book seen before
 abbrev pub book_after : Maybe HoldView → List (List Entry) → List (List Entry)
 book_after None seen = seen
 book_after (Some h) seen = h.book
 
--- The hold stays known as it was when it was released, and its book is the one that the pass has seen.
+-- `last` keeps the released hold, and `book_seen` becomes its book.
 abbrev pub releasing : View → View
 releasing v = record v { hold = None; last = v.hold; book_seen = book_after v.hold v.book_seen; just_posted = false }
 
--- it leaves, and sees the book
+-- the pass leaves with its receipt, and sees the book
 abbrev pub leaving : View → OpRecord → Receipt → List (List Entry) → View
 leaving v call receipt book = record v {
   call = Got receipt;
@@ -199,6 +199,6 @@ leaving v call receipt book = record v {
   just_posted = false;
 }
 
--- or finds another status, and stays
+-- the leave is refused: the status found is not 3
 abbrev pub staying : View → ℕ → View
 staying v status = record v { refused_leaves = v.refused_leaves + 1; found = status; just_posted = false }

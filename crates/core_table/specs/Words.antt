@@ -1,10 +1,10 @@
--- Which word of the table says what of the state, and how it says it.
+-- The layout of a table's words, and how each word encodes its part of the state.
 use Rattle.std.specs.Prelude.{ℕ, ◌≡◌, ◌<◌, ◌+◌, ◌*◌, Option, None, Some, List, length, slice_index}
 use Rattle.core_table.specs.CoreWords.{Progress, Waiting, Ready, Taken, Done, Ran, Status, Free, Pending, Executing, Served}
 use Rattle.core_model.specs.State.{Hold}
 
--- The words are numbered. First stand the statuses of the workers, then the flag, the number of batches, the tick and
--- the stop word, then three words for each node: how far it has come, its join mark, and its value.
+-- The layout: the workers' statuses, the flag, the number of batches, the tick, the stop word, then three blocks with a
+-- word for each node: its progress, its join mark (the number of sides that have arrived), and its value.
 abbrev pub flag_at : ℕ → ℕ
 flag_at workers = workers
 
@@ -26,8 +26,8 @@ mark_at workers nodes n = workers + 4 + nodes + n
 abbrev pub value_at : ℕ → ℕ → ℕ → ℕ
 value_at workers nodes n = workers + 4 + nodes + nodes + n
 
--- How far a node has come, packed: 2 bits say which, and of a leaf that has run the worker has 5 bits, the start 20
--- and the end 20.
+-- A node's progress, from the lowest bit: 2 bits for which progress; for a leaf that has run also 5 bits for the
+-- worker, 20 for the start tick, and the rest for the end tick.
 abbrev pub progress_code : Progress → ℕ
 progress_code Waiting = 0
 progress_code Ready = 1
@@ -41,17 +41,17 @@ status_code Pending = 1
 status_code Executing = 2
 status_code (Served receipt) = 3
 
--- 0 where the flag is free, else one more than the number of its worker
+-- 0 if the flag is free, else the holder's worker number plus 1
 abbrev pub flag_code : Option Hold → ℕ
 flag_code None = 0
 flag_code (Some h) = h.worker + 1
 
--- the word has the value, if there is one
+-- the word is the value, if there is one
 abbrev pub HasValue : Option ℕ → ℕ → Type 0
 HasValue None word = Unit {0}
 HasValue (Some value) word = word ≡ value
 
--- the words say these parts of a state
+-- the words encode these parts of a state
 pub record WordsShow (workers nodes : ℕ) (words : List ℕ) (node : ℕ → Progress) (mark : ℕ → ℕ) (value : ℕ → Option ℕ)
     (status : ℕ → Status) (hold : Option Hold) (tick count : ℕ) : Type 0 where
   pub wide : length words ≡ workers + 4 + nodes + nodes + nodes

@@ -1,4 +1,4 @@
-//! How a table is closed.
+//! Closing a table: the report of the run, from the table's last words and its book.
 ghost use Rattle.std.specs.Prelude.{◌≡◌, ◌≢◌, ℕ, ◌+◌, ◌<◌, ◌≤◌, [], Some, length, map, true, IfOk, vec_capacity, vec_len};
 ghost use Rattle.std.specs.List.{AllByRecursion, range_with_len};
 ghost use Rattle.std.specs.Mem.Slots.{slots_items, slots_len, slots_filled, IsFull};
@@ -25,7 +25,7 @@ use sp_order::PlannedJob;
 use sp_order::laws::{leaf_has_one_node, plan_has_sides, plan_stands_for_tree};
 use std::alloc::{AllocError, Global};
 
-/// The rows of the leaves, as the words of a closed table tell them.
+/// One row for each leaf, in leaf order, unpacked from the words of its node (`progress_code` in `specs/Words.antt`).
 fn read_rows(
     closed: &Closed<Slot, Global>,
     job: &PlannedJob,
@@ -64,7 +64,7 @@ fn read_rows(
     rows
 }
 
-/// Gives up a closed table whose slots are taken from this number on.
+/// Frees a closed table. Slots from `count` on must already be empty.
 fn drop_slots(closed: Closed<Slot, Global>, count: usize)
     requires { (count < slots_len closed.slots)
         × HasSlotsBelow (slots_filled closed.slots) (slots_len closed.slots) count }
@@ -77,8 +77,8 @@ fn drop_slots(closed: Closed<Slot, Global>, count: usize)
 }
 
 impl CoreTable {
-    /// The report of a table whose root this pass has seen done: the rows of the table's own words, and its own book.
-    /// Where memory is wanting the table is given up.
+    /// Closes a table whose root `pass` has seen done. The report has its rows from the table's words, and the table's
+    /// book as its history. If memory runs out, the table is dropped.
     ///
     /// Memory: proportional to the leaves.
     pub fn close(self, alloc: Global, pass: Pass) -> Result<Report, AllocError>

@@ -1,4 +1,4 @@
-//! The calls of the gate: how a worker's call comes into a batch, and its receipt back.
+//! The gate side: posting a call, winning the flag, taking, publishing and answering a batch, and leaving.
 ghost use Rattle.std.specs.Prelude.{List, ◌≡◌, ◌≢◌, ℕ, ◌+◌, ◌<◌, ◌≤◌, ◌^◌, ◌∷◌, [], true, false, None, Some, IfSome, IfNone, IfOk, IfErr, length};
 ghost use Rattle.batch_history.specs.declared.batch.Entry.{Entry};
 ghost use Rattle.core_table.specs.CoreWords.{NotCalled, Started, Post as PostOf, Win as WinOf, Take as TakeOf, Publish as PublishOf, Answer as AnswerOf, Release as ReleaseOf, Leave as LeaveOf};
@@ -23,7 +23,7 @@ use core_model::{CallState, Receipt};
 use launch_batch::Shop;
 
 impl CoreTable {
-    /// Posts the call of the leaf that has started. The pass is trapped then.
+    /// Posts the call of the started leaf. The pass is trapped from then until its `leave` succeeds.
     pub fn post(&self, pass: &mut Pass, call: OpRecord)
         requires pass { IsPassOf self.now pass.old }
         requires free { (view pass.old).call ≡ NotCalled }
@@ -40,7 +40,7 @@ impl CoreTable {
         pass.call = CallState::Out;
     }
 
-    /// Tries for the flag.
+    /// Tries to win the flag, which makes this worker the combiner. Returns the shop, or `None` if the flag is held.
     pub fn win(&self, pass: &mut Pass) -> Option<Shop>
         requires pass { IsPassOf self.now pass.old }
         requires trapped { IsTrapped pass.old }
@@ -67,7 +67,7 @@ impl CoreTable {
         }
     }
 
-    /// Tries to leave with the receipt.
+    /// Tries to leave with the receipt. `Err` is the status word found, if that is not 3 (served).
     pub fn leave(&self, pass: &mut Pass) -> Result<Receipt, u64>
         requires pass { IsPassOf self.now pass.old }
         requires trapped { IsTrapped pass.old }
@@ -99,7 +99,7 @@ impl CoreTable {
         Ok(receipt)
     }
 
-    /// Looks at worker u, and takes its call if that is pending.
+    /// Looks at worker `u`, the next in order, and takes its call if one is pending. `Err` is the status word found.
     pub fn take(&self, pass: &mut Pass, u: u32) -> Result<OpRecord, u64>
         requires pass { IsPassOf self.now pass.old }
         requires low { u < (job_in self.now).workers }
@@ -129,7 +129,7 @@ impl CoreTable {
         }
     }
 
-    /// The batch joins the book.
+    /// Appends the batch to the book and increments the batch count. The book returns to its slot.
     pub fn publish(&self, pass: &mut Pass, batch: Batch)
         requires pass { IsPassOf self.now pass.old }
         requires due { (h : HoldView) × ((view pass.old).hold ≡ Some h)
@@ -153,7 +153,7 @@ impl CoreTable {
         pass.published = true;
     }
 
-    /// Hands worker u its receipt. Those that are owed one are answered in any order.
+    /// Hands worker `u` its receipt. The owed workers may be answered in any order.
     pub fn answer(&self, pass: &mut Pass, u: u32, receipt: Receipt)
         requires pass { IsPassOf self.now pass.old }
         requires low { u < (job_in self.now).workers }
@@ -176,7 +176,7 @@ impl CoreTable {
         pass.owed.remove(at);
     }
 
-    /// Lets go of the flag, where no call was taken, or all that were are answered.
+    /// Releases the flag, after a look at every worker and an answer to every call taken.
     pub fn release(&self, pass: &mut Pass, shop: Shop)
         requires pass { IsPassOf self.now pass.old }
         requires due { (h : HoldView) × ((view pass.old).hold ≡ Some h)
@@ -191,7 +191,7 @@ impl CoreTable {
         }
     }
 
-    /// Where the hold has published: the shop goes home.
+    /// Releases a hold that has published: the shop returns to its slot.
     fn release_shop(&self, pass: &mut Pass, shop: Shop)
         requires pass { IsPassOf self.now pass.old }
         requires published { pass.old.published ≡ true }
@@ -207,7 +207,7 @@ impl CoreTable {
         shared.store::<ReleaseShop>(&mut pass.seat, at, 0);
     }
 
-    /// Where it has not: the shop and the book go home.
+    /// Releases a hold that has not published: the shop and the book return to their slots.
     fn release_both(&self, pass: &mut Pass, shop: Shop)
         requires pass { IsPassOf self.now pass.old }
         requires unpublished { pass.old.published ≡ false }

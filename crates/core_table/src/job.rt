@@ -1,4 +1,4 @@
-//! The calls of the job side, and the looks.
+//! The job side (claim, tick, open, keep, finish, arrive), and the calls on the root, batch count and stop word.
 ghost use Rattle.std.specs.Prelude.{◌≡◌, ◌≢◌, ℕ, ◌+◌, ◌%◌, ◌<◌, ◌≤◌, ◌∷◌, Some, IsTrue, IsFalse};
 ghost use Rattle.core_model.specs.Words.{Arrive as ArriveAt};
 ghost use Rattle.core_table.specs.CoreWords.{Event, Idle, Run, Half, Started, Ended, Whole, Handed, Claim as ClaimOf, Keep as KeepOf, FinishLeaf, ArriveFirst, ArriveSecond};
@@ -16,7 +16,7 @@ use crate::table::{CoreTable, Pass};
 use core_model::{CallState, Task};
 use sp_order::node::{Kind, Move};
 
-/// The task once its tick is drawn.
+/// The task after its tick is drawn: `Run` becomes `Started`, and `Kept` becomes `Ended`.
 fn ticked(task: Task, tick: u64) -> Task
     ensures { result ≡ ticked task tick }
 {
@@ -31,7 +31,7 @@ fn ticked(task: Task, tick: u64) -> Task
     }
 }
 
-/// What a worker has in hand once it has finished a node.
+/// The task after a node is finished: `Whole`, or `Idle` after the root (node 0).
 fn task_after(node: u32) -> Task
     ensures { result ≡ next_task node }
 {
@@ -43,7 +43,7 @@ fn task_after(node: u32) -> Task
 }
 
 impl CoreTable {
-    /// Claims the node if it is ready.
+    /// Claims the node if it is ready. A number past the last node is refused, at the cost of one step on word 0.
     pub fn claim(&self, pass: &mut Pass, node: u32) -> bool
         requires pass { IsPassOf self.now pass.old }
         requires free { IsNotTrapped pass.old }
@@ -69,7 +69,7 @@ impl CoreTable {
         true
     }
 
-    /// Draws a tick: the leaf starts or ends.
+    /// Draws a tick, which starts or ends the task's leaf. The answer is the tick.
     pub fn tick(&self, pass: &mut Pass) -> u64
         requires pass { IsPassOf self.now pass.old }
         requires free { IsNotTrapped pass.old }
@@ -86,7 +86,7 @@ impl CoreTable {
         tick
     }
 
-    /// Opens the next side of the block that the task names: the answer is the node that is made ready.
+    /// Opens the next side of the task's block: parallel right then left, series left then right. Returns that side.
     pub fn open_node(&self, pass: &mut Pass) -> u32
         requires pass { IsPassOf self.now pass.old }
         requires free { IsNotTrapped pass.old }
@@ -173,7 +173,7 @@ impl CoreTable {
         right
     }
 
-    /// Keeps the value of the leaf that has started.
+    /// Stores the value of the started leaf: that of its work, or the reply that its call got.
     pub fn keep(&self, pass: &mut Pass, value: u64)
         requires pass { IsPassOf self.now pass.old }
         requires free { IsNotTrapped pass.old }
@@ -195,7 +195,7 @@ impl CoreTable {
         pass.call = CallState::NotCalled;
     }
 
-    /// The node that the task names, or the block that it ends, is done.
+    /// Marks as done the leaf that has ended, the series whose right side is whole, or the block handed over.
     pub fn finish(&self, pass: &mut Pass)
         requires pass { IsPassOf self.now pass.old }
         requires free { IsNotTrapped pass.old }
@@ -266,7 +266,7 @@ impl CoreTable {
         pass.task = task_after(node);
     }
 
-    /// Arrives at the parallel block: the answer is whether this side is the second one.
+    /// Arrives at the join of the task's parallel block. True if the other side arrived before.
     pub fn arrive(&self, pass: &mut Pass) -> bool
         requires pass { IsPassOf self.now pass.old }
         requires free { IsNotTrapped pass.old }
@@ -298,7 +298,7 @@ impl CoreTable {
         second
     }
 
-    /// Whether the root is done at this look. A trapped pass may ask too.
+    /// Looks whether the root is done. A trapped pass may ask too.
     pub fn root_done(&self, pass: &mut Pass) -> bool
         requires pass { IsPassOf self.now pass.old }
         ensures pass { IsPassOf self.now pass.new }
@@ -311,7 +311,7 @@ impl CoreTable {
         self.table.shared.load::<LookAtRoot>(&mut pass.seat, at) % 4 == 3
     }
 
-    /// How many batches are published at this look. A trapped pass may ask too.
+    /// Looks at the number of published batches. A trapped pass may ask too.
     pub fn since(&self, pass: &mut Pass) -> u64
         requires pass { IsPassOf self.now pass.old }
         ensures pass { IsPassOf self.now pass.new }
@@ -333,7 +333,7 @@ impl CoreTable {
         self.table.shared.store::<Stop>(&mut pass.seat, at, 1);
     }
 
-    /// Whether the stop word is 1 at this look. A trapped pass may ask too.
+    /// Looks whether the stop word is 1. A trapped pass may ask too.
     pub fn stopped(&self, pass: &mut Pass) -> bool
         requires pass { IsPassOf self.now pass.old }
         ensures pass { IsPassOf self.now pass.new }

@@ -1,4 +1,4 @@
-//! The laws of the table: what it uses of the layers below, and that each of its calls is its one event.
+//! The table's laws: each call is one event of the core or a stutter, and what the state shown satisfies.
 ghost use Rattle.std.specs.Prelude.{◌≡◌, ◌<◌, ◌+◌, ◌≤◌, ℕ, List, [], length, slice_index};
 ghost use mathlib.Core.Option.{some};
 ghost use lib.ListN.{get_elem?};
@@ -28,7 +28,7 @@ use core_model::laws::report::done_root_ends_all;
 use core_model::laws::wait::{event_keeps_waits, trapped_waits_from_now};
 use sp_order::laws::{plan_has_root, plan_has_sides, plan_stands_for_tree};
 
-/// They hold of each job.
+/// The core's laws, instantiated for a table's job.
 pub(crate) fn laws_hold()
     ensures { (key : Setting) → (job_of key).plan.count < 40000
         → length key.job.acts ≡ leaves (job_tree key.job)
@@ -51,8 +51,8 @@ pub(crate) fn laws_hold()
     done_root_ends_all();
 }
 
-/// Whatever the table is when a pass steps, as long as it meets the rule: what is shown after a call's step is what the
-/// event of the call makes of what was shown before it; and a try that finds what it did not want, or a look, leaves it.
+/// The refinement, at the step of each call on any table that meets the rule. A `take` is an event even if it takes no
+/// call. A refused claim, win or leave, a look at the root, count or stop word, and `stop` are stutters.
 pub fn each_call_is_its_event()
     ensures { (key : Setting) → IsSound key
         → (slots id k : ℕ) (v : View) (xs : List (ℕ × Slot)) → IsViewOf key k v
@@ -61,7 +61,7 @@ pub fn each_call_is_its_event()
     laws_hold();
 }
 
-/// A table shows at most one state: two that the same words, slots and views show agree in all that a table keeps of one.
+/// A table shows at most one state: any two states that it shows agree on everything that `AreOne` lists.
 pub fn at_most_one_state_is_shown()
     ensures { (key : Setting) → IsSound key
         → (t : TableState) (one two : Shown key t)
@@ -70,8 +70,8 @@ pub fn at_most_one_state_is_shown()
     laws_hold();
 }
 
-/// What stands in a beginning of a book stands there in the book: so the entry of a receipt stands in each longer book that
-/// begins with what the pass has seen.
+/// An entry keeps its batch and place when a book grows. So a receipt's entry stands there in every book that extends
+/// the one the pass has seen.
 pub fn entries_stay_where_they_stand()
     ensures { (front book : List (List Entry)) (batch place : ℕ) (entry : Entry)
         → IsFront front book
@@ -79,8 +79,8 @@ pub fn entries_stay_where_they_stand()
         → StandsAt book batch place entry }
 {}
 
-/// A table in which each worker has a seat without events shows the opening state. So a table that was just made does: on
-/// it no leaf has run.
+/// A table on which every worker's seat has no events shows the opening state. So a new table does: no leaf has run
+/// on it.
 pub fn tables_without_events_show_the_opening_state()
     ensures { (key : Setting) (t : TableState) (shown : Shown key t)
         → ((w : ℕ) → w < key.workers → (id : ℕ) × (v : View) × (get_elem? t.views id ≡ some v)
@@ -88,7 +88,7 @@ pub fn tables_without_events_show_the_opening_state()
         → shown.state ≡ opening_state }
 {}
 
-/// The stop word is 0 until a pass sets it, and 1 from then on. So a look finds it set only where some pass has set it.
+/// The stop word is 0 until a pass sets it, and 1 from then on. A look finds it set only if some pass has set it.
 pub fn the_stop_word_is_set_by_a_pass()
     ensures found { (key : Setting) (t : TableState) (shown : Shown key t) (id : ℕ) (v : View)
         → get_elem? t.views id ≡ some v

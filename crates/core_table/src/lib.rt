@@ -1,11 +1,10 @@
-//! The running table: the state of the scheduler's core as words and slots that threads share, one word a step.
+//! The running table: the state of the scheduler's core as shared atomic words and slots. A step changes one word.
 //!
-//! At every moment between two steps of any passes the table shows one state of the core, with the invariant
-//! (`specs/Shows.antt`), and each call is one event of the core, or none. That an event keeps the invariant is a law of
-//! `core_model`, which is cited here and not proved again. No call takes a lock or waits. The crate stands on
-//! `core_model`, whose events and laws it shares, on `launch_batch` and `batch_history`, whose shop and book lie in
-//! two of its slots, on `sp_order` and `seq_objects`, and on `atomic_table`, which has the words, the slots and the
-//! seats.
+//! Between any two steps of any passes, the table shows one state of the core that satisfies the invariant
+//! (`specs/Shows.antt` is the refinement mapping). Each call is one event of the core or a stutter, and its step is the
+//! linearization point. `core_model` proves that events keep the invariant; this crate only cites that law. No call
+//! takes a lock or waits. `atomic_table` provides the words, slots and seats; `launch_batch` and `batch_history` the
+//! shop and the book, in two slots; `core_model` the events and laws; `sp_order` the plan; `seq_objects` the acts.
 #![tactic(auto)]
 
 mod close;

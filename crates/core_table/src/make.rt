@@ -1,4 +1,4 @@
-//! How a table is made, with its passes.
+//! Making a table in the opening state, with one pass for each worker.
 ghost use Rattle.std.specs.Prelude.{◌≡◌, ◌≢◌, ℕ, ◌+◌, ◌<◌, ◌≤◌, ◌∷◌, ◌++◌, [], Some, length, replicate, slice_set, slice_get, IsSome, IfSome, IfOk};
 ghost use Rattle.sp_order.specs.Jobs.{job_tree};
 ghost use Rattle.sp_order.specs.Preorder.{nodes_of};
@@ -20,7 +20,7 @@ use sp_order::node::Kind;
 use sp_order::{Job, PlannedJob};
 use std::alloc::{AllocError, Global};
 
-/// The words of the opening state: the root is ready.
+/// The words of the opening state: all are 0 but the root's, which is 1 (ready).
 fn opening_words(alloc: Global, workers: usize, nodes: usize) -> Result<Vec<u64>, AllocError>
     requires { (workers ≤ 32) × (0 < nodes) × (nodes < 40000) }
     ensures { IfOk result (λ v. v.items
@@ -31,8 +31,8 @@ fn opening_words(alloc: Global, workers: usize, nodes: usize) -> Result<Vec<u64>
     Ok(words)
 }
 
-/// The slots of the opening state: an empty record slot for each worker, the opening shop, and a book with room for so
-/// many batches.
+/// The slots of the opening state: a vacant record slot for each worker, an empty shop, and an empty book with room for
+/// `room` batches.
 fn opening_slots(alloc: Global, workers: usize, room: usize) -> Result<Vec<Slot>, AllocError>
     requires { workers ≤ 32 }
     ensures { IfOk result (λ v. v.items
@@ -49,7 +49,7 @@ fn opening_slots(alloc: Global, workers: usize, room: usize) -> Result<Vec<Slot>
     Ok(slots)
 }
 
-/// Whether the leaf of a node calls: 1, or 0.
+/// 1 if the node is a leaf that makes a call, else 0.
 fn calls_at(job: &PlannedJob, node: u32) -> usize
     requires { node < (nodes_of (job_tree job.now)).count }
     ensures { (workers : ℕ) → result
@@ -64,7 +64,7 @@ fn calls_at(job: &PlannedJob, node: u32) -> usize
     }
 }
 
-/// How many leaves call.
+/// The number of leaves that make a call, and so the most batches that a run can need.
 fn count_calls(job: &PlannedJob, nodes: u32) -> usize
     requires { (nodes ≡ (nodes_of (job_tree job.now)).count) × (nodes < 40000) }
     ensures { (workers : ℕ) → result ≡ call_count (core_job job.now workers) }
@@ -77,8 +77,8 @@ fn count_calls(job: &PlannedJob, nodes: u32) -> usize
 }
 
 impl CoreTable {
-    /// The table of a job that has leaves, in the opening state, and a pass for each worker, in the order of their
-    /// numbers.
+    /// The table of a job that has leaves, in the opening state, and one pass for each worker, in order of worker
+    /// number. There are 1 to 32 workers.
     ///
     /// Memory: proportional to the nodes and the workers.
     pub fn make(
@@ -98,7 +98,7 @@ impl CoreTable {
         CoreTable::of(alloc, setting)
     }
 
-    /// The table of what it is made for.
+    /// The table and the passes of a setting: a planned job and a number of workers.
     fn of(alloc: Global, setting: Setting) -> Result<(CoreTable, Vec<Pass>), AllocError>
         requires workers { (0 < setting.workers) × (setting.workers ≤ 32) }
         ensures table { IfOk result (λ r. setting_in r.0 ≡ setting) }

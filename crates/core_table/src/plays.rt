@@ -1,4 +1,4 @@
-//! The rule of the table, and the kinds of its steps, with what each tells.
+//! The table's rule and one play for each kind of step: what a seat learns from that step (`specs/Plays.antt`).
 ghost use Rattle.core_table.specs.Shows.{Shown};
 ghost use Rattle.core_table.specs.Views.{first_view, pass_of, rest_of};
 ghost use Rattle.core_table.specs.Plays.{claimed, strayed, drawn, half_opened, opened, kept, finished, arrived, looked_at_root, heard, enrolled, posted, won, took, admitted, published, answered, released_shop, released_both, left, stopped_all, looked_at_stop};
@@ -76,7 +76,7 @@ impl Play<Slot, View> for Hear {
     ghost then = { heard };
 }
 
-/// Cuts a number off.
+/// Splits the seat of the lowest worker number off the first seat.
 pub struct Cut;
 
 impl Split<View> for Cut {
@@ -109,7 +109,7 @@ impl Play<Slot, View> for Take {
     ghost then = { took };
 }
 
-/// A look before a publish.
+/// A look at the batch count before a publish: the book has room, and stays a history with the batch.
 pub struct Admit;
 
 impl Play<Slot, View> for Admit {

@@ -1,6 +1,6 @@
-//! That a table can be shared by threads, and its passes sent to them.
+//! A table is `Sync` and a pass is `Send`.
 //!
-//! A prover's search that goes through all parts of a table at once comes to its limit. So it is led from part to part.
+//! The search for `Sync` on the whole table exceeds its budget, so each field is shown first.
 ghost use denote.Builtin.{u32 as number_row};
 ghost use denote.Param.Send.{IsSend, IsSync};
 ghost use Rattle.atomic_table.specs.contracts.owned.Table.{the_row as words_row};
@@ -24,17 +24,17 @@ use core_model::Setting;
 use launch_batch::Shop;
 use std::alloc::Global;
 
-/// It can be sent. It is for proofs, and does nothing.
+/// States that `T` is `Send`. For proofs only; does nothing at run time.
 fn is_sent<T: Send>()
     ensures { IsSend T.row }
 {}
 
-/// It can be shared. It is for proofs, and does nothing.
+/// States that `T` is `Sync`. For proofs only; does nothing at run time.
 fn is_shared<T: Sync>()
     ensures { IsSync T.row }
 {}
 
-/// What a slot holds can be sent. It is for proofs, and does nothing.
+/// `Slot` is `Send`. For proofs only; does nothing at run time.
 fn slots_are_sent()
     ensures { IsSend slot_row }
 {
@@ -42,7 +42,7 @@ fn slots_are_sent()
     is_sent::<Slot>();
 }
 
-/// So can the parts of a pass.
+/// The fields of `Pass` that need a proof, the seat and `owed`, are `Send`.
 fn seats_are_sent()
     ensures seat { IsSend (seat_row slot_row view_row) }
     ensures owed { IsSend (list_row number_row heap_row heap_ghosts) }
@@ -52,7 +52,7 @@ fn seats_are_sent()
     is_sent::<Vec<u32>>();
 }
 
-/// And the parts of a table can be shared.
+/// The fields of `CoreTable` that need a proof, the table and the setting, are `Sync`.
 fn words_are_shared()
     ensures words { IsSync (words_row slot_row view_row setting_row law_row heap_row law_ghosts heap_ghosts) }
     ensures setting { IsSync setting_row }
@@ -62,7 +62,7 @@ fn words_are_shared()
     is_shared::<Table<Slot, View, Setting, Law, Global>>();
 }
 
-/// All threads can share a table, and a pass can go to its worker's thread.
+/// Threads can share a `CoreTable`, and a `Pass` can be sent to its worker's thread.
 pub fn tables_go_to_threads()
     ensures shared { IsSync table_row }
     ensures sent { IsSend pass_row }

@@ -1,4 +1,4 @@
-//! The table and its passes.
+//! `CoreTable`, which all workers share, and `Pass`, which each worker owns.
 ghost use Rattle.std.specs.Prelude.{◌≡◌, ◌≢◌, ℕ, ◌+◌, ◌<◌, ◌≤◌, Some, length, vec_len, vec_capacity};
 ghost use Rattle.std.specs.Coded.{codes};
 ghost use Rattle.sp_order.specs.Jobs.{job_tree};
@@ -15,7 +15,7 @@ use seq_objects::Act;
 use sp_order::PlannedJob;
 use std::alloc::Global;
 
-/// The running table: the state of a core as words and slots, which all passes of the table share.
+/// The running table: the core's state as atomic words and slots that all passes share.
 #[derive(Drop)]
 pub struct CoreTable {
     pub(crate) table: Table<Slot, View, Setting, Law, Global>,
@@ -30,16 +30,16 @@ pub struct CoreTable {
         × (length setting.job.acts ≤ 20000) },
 }
 
-/// The seat of one worker at a table. It is never copied, so what its worker has in hand is its own.
+/// One worker's access to a table. A pass cannot be copied, so no other thread can act on the worker's task or call.
 #[derive(Drop)]
 pub struct Pass {
     pub(crate) seat: Seat<Slot, View>,
     pub(crate) worker: u32,
     pub(crate) task: Task,
     pub(crate) call: CallState,
-    /// The workers that it has taken and not answered, in the order in which its seat has their slots.
+    /// The workers taken and not answered, in the order of the seat's list: a slot is exposed only at its head.
     pub(crate) owed: Vec<u32>,
-    /// Whether its hold has published.
+    /// Whether the present hold of the flag has published its batch.
     pub(crate) published: bool,
     ghost number: { (seat.me.0.from ≡ worker) × (seat.me.0.to ≡ worker + 1) },
     ghost own: { (seat.me.0.task ≡ task) × (seat.me.0.call ≡ call) },
@@ -56,7 +56,7 @@ impl CoreTable {
         &self.setting.job
     }
 
-    /// What a leaf does: no step of work, where the job has no leaf of this number. Memory: none.
+    /// The act of a leaf; `Work(0)` for a number past the last leaf. Memory: none.
     pub fn act(&self, leaf: u32) -> Act
         ensures { result ≡ (job_in self.now).act leaf }
     {
@@ -71,28 +71,28 @@ impl Pass {
     ghost use Rattle.std.specs.Prelude.{IsTrue, ◌↔◌};
     ghost use Rattle.core_table.specs.Passes.{view, IsTrapped};
 
-    /// The number of its worker. Memory: none.
+    /// The worker's number. Memory: none.
     pub fn worker(&self) -> u32
         ensures { result ≡ (view self.now).from }
     {
         self.worker
     }
 
-    /// Its task. Memory: none.
+    /// The worker's present task. Memory: none.
     pub fn task(&self) -> Task
         ensures { result ≡ (view self.now).task }
     {
         self.task
     }
 
-    /// How far its call has come. Memory: none.
+    /// The state of the worker's call: not called, outstanding, or answered. Memory: none.
     pub fn call(&self) -> CallState
         ensures { result ≡ (view self.now).call }
     {
         self.call
     }
 
-    /// Whether it has posted a call that it has not left. Memory: none.
+    /// Whether the worker's call is outstanding: posted, and not left. Memory: none.
     pub fn trapped(&self) -> bool
         ensures { IsTrue result ↔ IsTrapped self.now }
     {

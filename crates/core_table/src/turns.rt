@@ -1,4 +1,4 @@
-//! How a seat's list of slots is turned, so that the slot of one worker comes to its front.
+//! Rotating a seat's list of slots, to bring one worker's slot to the head.
 ghost use Rattle.std.specs.Prelude.{◌≡◌, true};
 ghost use Rattle.core_table.specs.Shows.{among};
 ghost use Rattle.core_table.specs.Code.Turns.{turns, IsFirstAt};
@@ -7,7 +7,7 @@ use crate::slot::Slot;
 use crate::view::View;
 use atomic_table::Seat;
 
-/// Turns the list so many times, each time by a call of itself. It changes nothing at run time.
+/// Moves the head of the seat's list to its back, `times` times. The list exists in proofs only.
 pub(crate) fn turn_by(seat: &mut Seat<Slot, View>, times: usize)
     ensures table { (seat.new.table_id ≡ seat.old.table_id) × (seat.new.id ≡ seat.old.id) }
     ensures me { seat.new.me ≡ (seat.old.me.0, turns times seat.old.me.1) }
@@ -18,7 +18,7 @@ pub(crate) fn turn_by(seat: &mut Seat<Slot, View>, times: usize)
     }
 }
 
-/// Where the number first stands among these.
+/// The index at which `number` first occurs.
 pub(crate) fn first_place(numbers: &[u32], number: u32) -> usize
     requires { among numbers.now number ≡ true }
     ensures { IsFirstAt numbers.now number result }

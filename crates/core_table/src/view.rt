@@ -1,4 +1,4 @@
-//! What a pass knows. No value of these types is made: they exist in proofs alone.
+//! What a pass knows. No value of these types exists at run time: they are for contracts and proofs.
 
 use crate::slot::OpRecord;
 use batch_history::Entry;
@@ -6,7 +6,7 @@ use core_model::{CallState, Event, Receipt, Task};
 use sp_order::Plan;
 use std::collections::LinkedList;
 
-/// A call that the holder of the flag took, with its worker.
+/// A call that the flag's holder took, with the worker that posted it.
 #[derive(Clone, Copy)]
 pub struct TakenCall {
     pub worker: u32,
@@ -20,15 +20,15 @@ pub struct LeftCall {
     pub receipt: Receipt,
 }
 
-/// What the holder of the flag knows of its hold.
+/// What the flag's holder knows of its hold.
 pub struct HoldView {
-    /// How many workers it has looked at.
+    /// The number of workers looked at, in worker order from 0.
     pub looks: u64,
-    /// The calls that it took, the latest first.
+    /// The calls taken, the latest first.
     pub taken: LinkedList<TakenCall>,
-    /// The workers that it has answered, the latest first.
+    /// The workers answered, the latest first.
     pub answered: LinkedList<u64>,
-    /// Those that are taken and not answered, in the order in which they were taken.
+    /// The workers taken and not answered, in the order in which they were taken.
     pub owed: LinkedList<u64>,
     pub published: bool,
     pub book: LinkedList<LinkedList<Entry>>,
@@ -36,58 +36,58 @@ pub struct HoldView {
 
 /// What a pass knows, and what it has done.
 pub struct View {
-    /// Its number is `from`, and `to` is one more. The first seat has all numbers from `from` to below `to`.
+    /// The range of worker numbers, `from` to below `to`. A pass has one; the first seat has all not yet split off.
     pub from: u64,
     pub to: u64,
-    /// How many workers and nodes there are, and for how many batches the book has room: one for each leaf that calls.
+    /// The numbers of workers and nodes, and the batches that the book has room for: one for each leaf that calls.
     pub workers: u64,
     pub nodes: u64,
     pub room: u64,
-    /// The nodes of the job: with the task they tell which event a step is.
+    /// The job's plan. With the task it determines which event a step is.
     pub plan: Plan,
     pub task: Task,
     pub call: CallState,
-    /// What it posted last.
+    /// The call posted last.
     pub posted: Option<OpRecord>,
-    /// The calls that it has left, in the order in which it made them.
+    /// The calls left, with their receipts, in the order in which they were made.
     pub left: LinkedList<LeftCall>,
-    /// Its hold, where it has the flag, and the hold that it released last, as it was then.
+    /// The present hold, if the pass has the flag, and the last hold as it was when released.
     pub hold: Option<HoldView>,
     pub last: Option<HoldView>,
-    /// Whether it has taken its own record slot.
+    /// Whether the pass has taken its worker's record slot from the table, as its first step.
     pub enrolled: bool,
-    /// Whether it has seen the root done, and how often it looked.
+    /// Whether a look has found the root done, and the number of looks at the root.
     pub saw_done: bool,
     pub root_looks: u64,
-    /// How often it claimed a node, those nodes, the nodes that its claim refused, and those that it opened: each list
-    /// with the latest first.
+    /// The number of successful claims and their nodes, the nodes of refused claims, and the nodes opened; each list
+    /// has the latest first.
     pub claims: u64,
     pub claimed: LinkedList<u64>,
     pub refused_nodes: LinkedList<u64>,
     pub opened: LinkedList<u64>,
-    /// How often it won the flag, how often its win was refused, and how often its leave was.
+    /// The numbers of successful wins, of refused wins and of refused leaves.
     pub wins: u64,
     pub refused_wins: u64,
     pub refused_leaves: u64,
-    /// The word that its latest refused try found, or its latest look that took no call, found the root not done, or found
-    /// the stop word not set.
+    /// The word found by the latest of these: a refused claim, win or leave, a take that took no call, a look that
+    /// found the root not done, or a look that found the stop word not 1.
     pub found: u64,
-    /// How often it set the stop word, how often it looked at it, and how often it then found it set.
+    /// The numbers of sets of the stop word, of looks at it, and of looks that found it set.
     pub stops: u64,
     pub stop_looks: u64,
     pub stops_found: u64,
-    /// The greatest number of batches that it was ever told, the greatest before its latest post, and the least
-    /// after that; and how often it asked.
+    /// The answers of `since` (numbers of published batches): the greatest ever, the greatest before the latest post
+    /// and the least after it; and the number of those calls.
     pub greatest: u64,
     pub before: u64,
     pub after: Option<u64>,
     pub since_looks: u64,
-    /// Whether its latest step was a post. And what it was told by the first step after its latest post, if that
-    /// step asked for the number of batches.
+    /// Whether the latest step was a post; and the answer of the first step after the latest post, if that step was a
+    /// `since`.
     pub just_posted: bool,
     pub first_since: Option<u64>,
-    /// The longest beginning of the book that it has seen: it sees the whole book at each leave and at each release.
+    /// The prefix of the book that the pass has seen: the whole book as of its latest leave or release.
     pub book_seen: LinkedList<LinkedList<Entry>>,
-    /// The events of the core that its steps were, the latest first.
+    /// The core events that the steps of this pass made, the latest first.
     pub events: LinkedList<Event>,
 }

@@ -1,4 +1,4 @@
--- What a closed table tells to a pass that has seen the root done.
+-- What a pass that has seen the root done knows of the closed table.
 use Rattle.std.proofs.Common.{ℕ, zero, suc, ◌≡◌, ◌<◌, ◌+◌, ◌/◌, ◌%◌, true, Option as Maybe, List, [], ◌∷◌, length, get_or, arith, refl, sym, subst}
 use mathlib.Core.Option.{some, some-injective, some-ne-none}
 use lib.ListN.{get_elem?}

@@ -1,4 +1,4 @@
--- The rows that the words of a closed table tell.
+-- The rows that are read from the words of a closed table.
 use Rattle.std.proofs.Common.{ℕ, ◌≡◌, ◌≢◌, ◌<◌, ◌≤◌, ◌/◌, ◌%◌, Option as Maybe, None, Some, List, length, get_or, arith, refl, sym, ap, ◌∙◌}
 use Rattle.std.specs.List.{AllByRecursion}
 use Rattle.batch_history.specs.declared.row.Row.{Row}

@@ -26,7 +26,7 @@ use Rattle.core_table.proofs.PassLemmas.PassKept.{books}
 use Rattle.core_table.proofs.CloseLemmas.Closes.{Last, closes}
 use Rattle.core_table.proofs.CloseLemmas.LastRows.{rows_told}
 
--- what the report tells of the table, and of the steps
+-- what the report says of the table and of the trace
 pub record Reported (key : Setting) (v : View) (report : Report) : Type 0 where
   pub table : St
   pub told : IsReportOfTable key table report

@@ -1,4 +1,4 @@
--- Lists of which something holds of each member.
+-- Lemmas on lists all of whose members satisfy a property.
 use Rattle.std.proofs.Common.{ℕ, zero, suc, ◌≡◌, ◌≢◌, ◌<◌, ◌+◌, None, List, [], ◌∷◌, ◌++◌, map, length, get_or, arith, refl, ◌∙◌}
 use Rattle.batch_history.specs.declared.row.Row.{Row}
 use Rattle.std.specs.List.{AllByRecursion, range_with_len}
@@ -17,7 +17,7 @@ pub each_append : {A : Type 0} (P : A → Type 0) (xs ys : List A) → AllByRecu
 each_append P [] ys h g = g
 each_append P (x ∷ xs) ys h g = (h.0, each_append P xs ys h.1 g)
 
--- what is past the acts does not call
+-- a leaf number past the acts makes no call
 pub call_within : (acts : List Act) (u : ℕ) → op_in (get_or acts u (Work 0)) ≢ None → u < length acts
 call_within [] u call = absurd (call refl)
 call_within (act ∷ acts) zero call = omega arith
@@ -32,6 +32,6 @@ next_from (r ∷ rows) row first (suc count) of leaf =
     let more = next_from rows row (first + 1) count (cc) (leaf ∙ omega arith) in
     let e : suc count + 1 ≡ suc (count + 1) = omega arith in rw (e, head, more) refl
 
--- one more row, of the next leaf
+-- the leaves of the rows after the next leaf's row is pushed
 pub next_row : (rows : List Row) (row : Row) (count : ℕ) → map (λ (r : Row). r.leaf) rows ≡ range_with_len 0 count → row.leaf ≡ count → map (λ (r : Row). r.leaf) (rows ++ row ∷ []) ≡ range_with_len 0 (count + 1)
 next_row rows row count of leaf = next_from rows row 0 count of (leaf ∙ omega arith)

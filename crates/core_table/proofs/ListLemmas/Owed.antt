@@ -1,4 +1,4 @@
--- Those that a hold owes a receipt, as its calls go on; and how the list of their slots is turned.
+-- The owed workers of a hold after each gate call, and the rotation of their slots.
 use Rattle.std.proofs.Common.{ℕ, zero, suc, ◌≡◌, ◌≢◌, ◌<◌, ◌≤◌, ◌+◌, ◌-◌, ◌==◌, if◌then◌else◌, Bool, true, false, Option as Maybe, None, Some, List, [], ◌∷◌, ◌++◌, length, get_or, take, drop, arith, refl, sym, ap, ◌∙◌, subst, inl, inr, length-append, append_assoc}
 use Rattle.std.specs.List.{AllByRecursion}
 use Rattle.std.proofs.lemmas.List.{append-nil, map-append, length-map}
@@ -29,7 +29,7 @@ if_yes a b p q e = grind (arith, nat_tests)
 true_false : (b : Bool) → b ≡ true → b ≡ false → ⊥
 true_false b e f = absurd (cc)
 
--- who is among these, with one more behind them
+-- membership in a list with one more at its end
 among_front : (xs ys : List ℕ) (v : ℕ) → among xs v ≡ true → among (xs ++ ys) v ≡ true
 among_front [] ys v e = absurd (cc)
 among_front (x ∷ xs) ys v e = let more = among_front xs ys v in grind (arith, nat_tests, more)
@@ -42,7 +42,7 @@ among_either : (xs : List ℕ) (u v : ℕ) → among (xs ++ u ∷ []) v ≡ true
 among_either [] u v e ne = absurd (true_false (if v == u then true else false) e (if_no v u true false ne))
 among_either (x ∷ xs) u v e ne = let more = among_either xs u v in grind (arith, nat_tests, more)
 
--- and without the first that is this number
+-- membership after the first occurrence of a number is removed
 among_without : (xs : List ℕ) (u v : ℕ) → v ≢ u → among xs v ≡ true → among (without_first u xs) v ≡ true
 among_without [] u v ne e = e
 among_without (x ∷ xs) u v ne e = elim (cases_eq x u) [
@@ -106,7 +106,7 @@ fewer (x ∷ xs) u = elim (cases_eq x u) [
   | inr other ↦ let more = fewer xs u in rw (if_no x u xs (x ∷ without_first u xs) other) (omega (arith, more))
 ]
 
--- a hold that was just won owes nobody
+-- a hold just won owes no receipt
 pub owes_new : (book : List (List Entry)) → Owes (new_view book)
 owes_new book = record {
   each = λ u e f. absurd (true_false false e refl);
@@ -120,7 +120,7 @@ owes_new book = record {
 took_either : (u v : ℕ) (call : OpRecord) (taken : List TakenCall) → took_in (record { worker = u; call = call } ∷ taken) v ≡ true → v ≢ u → took_in taken v ≡ true
 took_either u v call taken e ne = sym (if_no v u true (took_in taken v) ne) ∙ e
 
--- it owes one more, that it has just taken
+-- after a take it owes one more
 pub owes_taken : (h : HoldView) (call : OpRecord) → h.published ≡ false → Owes h → Owes (taken_view h h.looks call)
 owes_taken h call unpublished o =
     let u = h.looks in
@@ -148,7 +148,7 @@ owes_passed h o = record { each = o.each; only = o.only; distinct = o.distinct; 
 pub owes_published : (h : HoldView) (batch : List Entry) → Owes h → Owes (published_view h batch)
 owes_published h batch o = record { each = o.each; only = o.only; distinct = o.distinct; few = o.few; below = o.below; early = λ e. absurd (true_false true refl e) }
 
--- it owes one less
+-- after an answer it owes one less
 pub owes_answered : (h : HoldView) (u : ℕ) → h.published ≡ true → Owes h → Owes (answered_view h u)
 owes_answered h u published o =
     let less = fewer h.owed u in record {
@@ -170,7 +170,7 @@ none_owed : (xs : List ℕ) → ((u : ℕ) → among xs u ≡ true → ⊥) → 
 none_owed [] h = refl
 none_owed (x ∷ xs) h = absurd (h x (if_yes x x true (among xs x) refl))
 
--- it owes nobody where all are answered
+-- it owes none once every taken worker is answered
 pub owes_nobody : (h : HoldView) → Owes h → ((u : ℕ) → took_in h.taken u ≡ true → among h.answered u ≡ true) → h.owed ≡ []
 owes_nobody h o all = none_owed h.owed (λ u e. true_false (among h.answered u) (all u (o.only u e).0) (o.only u e).1)
 
@@ -180,11 +180,11 @@ some_hold a b e = cc
 held_some : (a : Maybe HoldView) (h : HoldView) → a ≡ Some h → a ≡ None → ⊥
 held_some a h e f = absurd (cc)
 
--- what a pass remembers after a call that leaves its hold
+-- `Remembers` after a call that does not change the hold
 pub remembers_kept : (v w : View) (owed : List ℕ) (published : Bool) → w.hold ≡ v.hold → Remembers v owed published → Remembers w owed published
 remembers_kept v w owed published same m = record { none = λ e. m.none (sym same ∙ e); holds = λ h e. m.holds h (sym same ∙ e) }
 
--- and after one that gives it this hold, or takes it away
+-- after one that sets the hold, and after one that clears it
 pub remembers_hold : (w : View) (owed : List ℕ) (published : Bool) (h : HoldView) → w.hold ≡ Some h → owed ≡ h.owed → published ≡ h.published → Owes h → Remembers w owed published
 remembers_hold w owed published h holds same told o = record {
   none = λ e. absurd (held_some w.hold h holds e);
@@ -194,7 +194,7 @@ remembers_hold w owed published h holds same told o = record {
 pub remembers_none : (w : View) (owed : List ℕ) (published : Bool) → w.hold ≡ None → owed ≡ [] → Remembers w owed published
 remembers_none w owed published nothing empty = record { none = λ _. empty; holds = λ h e. absurd (held_some w.hold h e nothing) }
 
--- turning
+-- rotation
 turned_last : (x : ℕ × Slot) (xs ys : List (ℕ × Slot)) → turned ((x ∷ xs) ++ ys) ≡ xs ++ (ys ++ x ∷ [])
 turned_last x xs ys = append_assoc xs ys (x ∷ [])
 
@@ -202,13 +202,13 @@ turned_first : (n : ℕ) (xs : List (ℕ × Slot)) → turns n (turned xs) ≡ t
 turned_first zero xs = refl
 turned_first (suc n) xs = ap turned (turned_first n xs)
 
--- so many turns bring so many to the back
+-- `length xs` rotations bring xs to the back
 pub turns_all : (xs ys : List (ℕ × Slot)) → turns (length xs) (xs ++ ys) ≡ ys ++ xs
 turns_all [] ys = sym (append-nil ys)
 turns_all (x ∷ xs) ys =
     sym (turned_first (length xs) ((x ∷ xs) ++ ys)) ∙ (ap (turns (length xs)) (turned_last x xs ys) ∙ (turns_all xs (ys ++ x ∷ []) ∙ append_assoc ys (x ∷ []) xs))
 
--- where a number first stands
+-- the first occurrence of a number satisfies `IsFirstAt`
 pub first_at : (xs : List ℕ) (u i : ℕ) → i < length xs → get_or xs i 0 ≡ u → among (take i xs) u ≡ false → IsFirstAt xs u i
 first_at [] u i low is yet = absurd (omega (arith, low))
 first_at (x ∷ xs) u zero low is yet = record { low = low; split = ap (λ y. y ∷ xs) is; rest = if_yes x u xs (x ∷ without_first u xs) is }
@@ -249,7 +249,7 @@ length_behind (x ∷ xs) (suc i) low = let more = length_behind xs i (omega (ari
 vacant_append : (xs ys : List ℕ) → vacant (xs ++ ys) ≡ vacant xs ++ vacant ys
 vacant_append xs ys = rw map-append refl
 
--- the slot of the number comes to the front
+-- i rotations bring the slot of u to the head
 pub to_front : (owed : List ℕ) (u i : ℕ) (last : ℕ × Slot) → IsFirstAt owed u i
     → turns i (vacant owed ++ last ∷ []) ≡ (u, Slots.Vacant) ∷ ((vacant (drop (suc i) owed) ++ last ∷ []) ++ vacant (take i owed))
 to_front owed u i last at =
@@ -260,7 +260,7 @@ to_front owed u i last at =
     ap (λ l. vacant l ++ last ∷ []) at.split ∙ (ap (λ l. l ++ last ∷ []) (vacant_append front (u ∷ behind)) ∙ append_assoc (vacant front) (vacant (u ∷ behind)) (last ∷ [])) in
     ap (turns i) cut ∙ (ap (λ n. turns n (vacant front ++ ((u, Slots.Vacant) ∷ (vacant behind ++ last ∷ [])))) long ∙ turns_all (vacant front) ((u, Slots.Vacant) ∷ (vacant behind ++ last ∷ [])))
 
--- and the others to their places
+-- the remaining rotations restore the order of the others
 pub to_places : (owed : List ℕ) (u i n : ℕ) (last : ℕ × Slot) → IsFirstAt owed u i → n ≡ length owed - i
     → turns n ((vacant (drop (suc i) owed) ++ last ∷ []) ++ vacant (take i owed)) ≡ vacant (without_first u owed) ++ last ∷ []
 to_places owed u i n last at is =

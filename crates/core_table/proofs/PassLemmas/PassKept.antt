@@ -1,4 +1,4 @@
--- A pass stays one of its table, where its view changes in what is not the table's.
+-- A pass still belongs to its table after each kind of call.
 use Rattle.std.proofs.Common.{ℕ, ◌≡◌, ◌≢◌, ◌+◌, Bool, true, false, None, Some, List, [], ◌∷◌, ◌++◌, get_or, refl, sym, ap, ◌∙◌, subst}
 use Rattle.std.proofs.lemmas.List.{map-append}
 use Rattle.sp_order.specs.Preorder.{nodes_of}
@@ -52,7 +52,7 @@ pass_kept {owed} {published} setting table k old new w same is workers nodes roo
   ap nodes_of (ap (λ (m : Sat). m.0.plan) is ∙ plan) ∙ p.9,
 )
 
--- a pass of the gate: its view and its slots are those
+-- a pass after a gate call, from its new view and slots
 pub pass_made : {owed owed' : List ℕ} {published published' : Bool} (setting : Setting) (table : TableId) (k : ℕ) (old new : Seat Slot View) (w : View) (xs : List (ℕ × Slot)) → new.table_id ≡ old.table_id → new.me ≡ (w, xs)
     → w.workers ≡ old.me.0.workers → w.nodes ≡ old.me.0.nodes → w.room ≡ old.me.0.room → w.enrolled ≡ old.me.0.enrolled → w.task ≡ old.me.0.task → w.plan ≡ old.me.0.plan → Carries k (w, xs) → Remembers w owed' published'
     → IsSeatOf setting table k old owed published → IsSeatOf setting table k new owed' published'
@@ -69,15 +69,15 @@ pass_made {owed} {owed'} {published} {published'} setting table k old new w xs s
   ap nodes_of (ap (λ (m : Sat). m.0.plan) is ∙ plan) ∙ p.9,
 )
 
--- what stands first in a seat's list
+-- the head of a seat's list
 pub first : (m : Sat) (v : View) (k : ℕ) (x : Slot) (xs : List (ℕ × Slot)) → m ≡ (v, (k, x) ∷ xs) → m.1 ≡ (k, x) ∷ rest m.1
 first m v k x xs e = ap (λ (z : Sat). z.1) e ∙ ap (λ (z : Sat). (k, x) ∷ rest z.1) (sym e)
 
--- after an exchange of it
+-- the list after an exchange of the head
 pub swapped : (m n : Sat) (v : View) (k : ℕ) (x y : Slot) (xs : List (ℕ × Slot)) → m ≡ (v, (k, x) ∷ xs) → n ≡ (m.0, (k, y) ∷ rest m.1) → n ≡ (v, (k, y) ∷ xs)
 swapped m n v k x y xs e f = f ∙ ap (λ (z : Sat). (z.0, (k, y) ∷ rest z.1)) e
 
--- and once it is turned behind the others
+-- the list after the head is moved to the back
 pub turned_to : (m n : Sat) (v : View) (xs : List (ℕ × Slot)) → m ≡ (v, xs) → n ≡ (m.0, turned m.1) → n ≡ (v, turned xs)
 turned_to m n v xs e f = f ∙ ap (λ (z : Sat). (z.0, turned z.1)) e
 
@@ -135,7 +135,7 @@ carries_published k workers v h batch out wide =
       holds = λ g f. subst (λ (z : HoldView). HolderCarries z.published w z (vacant h.owed ++ (workers, Slots.Vacant) ∷ [])) (same_hold _ g f) (rw wide refl);
     }
 
--- the list of a holder that has not published, of a table of so many workers
+-- the list of a holder that has not published
 pub holder_list : (k workers room : ℕ) (me : Sat) (h : HoldView) → me.0.hold ≡ Some h → h.published ≡ false → me.0.workers ≡ workers → me.0.room ≡ room → Carries k me
     → me ≡ (me.0, (workers + 1, Slots.Book (reserved h.book room)) ∷ (workers, Slots.Vacant) ∷ vacant h.owed)
 holder_list k workers room me h is early wide roomy m =
@@ -143,7 +143,7 @@ holder_list k workers room me h is early wide roomy m =
     let l = t ∙ (ap (λ (n : ℕ). (n + 1, Slots.Book (reserved h.book me.0.room)) ∷ (n, Slots.Vacant) ∷ vacant h.owed) wide
     ∙ ap (λ (r : ℕ). (workers + 1, Slots.Book (reserved h.book r)) ∷ (workers, Slots.Vacant) ∷ vacant h.owed) roomy) in λ i. (me.0, l i)
 
--- what an exchange found first
+-- the content that an exchange of the head found
 pub found_book : (m : Sat) (v : View) (k : ℕ) (x : Slot) (b : ReservedView) (xs ys : List (ℕ × Slot)) → m ≡ (v, (k, Slots.Book b) ∷ xs) → m.1 ≡ (k, x) ∷ ys → Slots.Book b ≡ x
 found_book m v k x b xs ys e f = ap (λ (l : List (ℕ × Slot)). (get_or l 0 (k, x)).1) (sym (ap (λ (z : Sat). z.1) e) ∙ f)
 
@@ -159,7 +159,7 @@ out_by (Got receipt) out = absurd (out (λ e. cc))
 pub held_out : (k : ℕ) (me : Sat) (h : HoldView) → Carries k me → me.0.hold ≡ Some h → me.0.call ≡ Out
 held_out k me h carries holds = out_by me.0.call (λ ne. let clash : Some h ≡ None = sym holds ∙ (carries.free ne).0 in absurd (cc))
 
--- and of one that has published
+-- the list of a holder that has published
 pub holder_after : (k workers : ℕ) (me : Sat) (h : HoldView) (owed : List ℕ) → me.0.hold ≡ Some h → h.published ≡ true → h.owed ≡ owed → me.0.workers ≡ workers → Carries k me → me ≡ (me.0, vacant owed ++ (workers, Slots.Vacant) ∷ [])
 holder_after k workers me h owed is there same wide m =
     let t : HolderCarries true me.0 h me.1 = subst (λ (b : Bool). HolderCarries b me.0 h me.1) there (m.holds h is) in

@@ -1,4 +1,4 @@
--- The table at the start, how the first seat is cut into passes, and how a pass takes its record slot.
+-- The opening table, splitting the first seat into passes, and enrolling a pass.
 use Rattle.std.proofs.Common.{ℕ, zero, suc, ◌≡◌, ◌≢◌, ◌<◌, ◌≤◌, ◌+◌, ◌⊎◌, false, Option as Maybe, None, List, [], ◌∷◌, ◌++◌, map, length, replicate, get_or, set, arith, refl, sym, ap, ◌∙◌, subst, inl, inr, ⊎_elim, length-set, length-append, get_or-set_other}
 use Rattle.std.proofs.lemmas.List.{length-map, length-replicate}
 use Rattle.std.proofs.lemmas.Bool.{cases_eq}
@@ -41,7 +41,7 @@ at_snoc_at (x ∷ xs) a b (suc j) e = ⊎_elim (λ t. inl t) (λ t. inr (t.0, (l
 told_cut : (v : View) (a b : ℕ) → SameTold v (record v { from = a; to = b })
 told_cut v a b = record { task = refl; call = refl; posted = refl; left = refl; enrolled = refl; saw_done = refl; greatest = refl; before = refl; after = refl; book_seen = refl }
 
--- and each number is in the range of a seat where a pass is cut off: its number in that of the new seat, the others where they were
+-- after a split every worker is in the range of a seat: the pass's worker in the new one's, the others in the old
 seat_cut : (views : List View) (id x : ℕ) (seat : ℕ → ℕ) (v : View) → get_elem? views id ≡ some v → HasSeat views (seat x) x
     → HasSeat (set views id (rest_of v) ++ pass_of v ∷ []) (put seat v.from (length views) x) x
 seat_cut views id x seat v me h =
@@ -88,7 +88,7 @@ agree_cut views id v steps me some_left old i u x e lo hi = ⊎_elim
     old id v x me lo' (omega arith) ∙ ap (λ (y : View). y.events) q.0)
     (at_snoc_at (set views id (rest_of v)) (pass_of v) u i e)
 
--- and so is what it has set
+-- and so are its sets of the stop word
 stop_both : (views : List View) (id : ℕ) (v : View) (word : ℕ) → get_elem? views id ≡ some v → StopShows word views → StopShows word (set views id (rest_of v) ++ pass_of v ∷ [])
 stop_both views id v word me =
     stop_cut views id v (rest_of v) (pass_of v) word
@@ -106,7 +106,7 @@ stop_both views id v word me =
       | inr ne ↦ (i, u, at_longer (set views id (rest_of v)) (pass_of v ∷ []) i u (set_else views id i (rest_of v) ne ∙ e), refl)
     ])
 
--- a pass is cut off
+-- a pass is split off
 pub cuts : (job : CoreJob) (room id : ℕ) (v : View) → v.from < v.to → Splits (Shows job room) id v (rest_of v) (pass_of v)
 cuts job room id v some_left t o me =
     let z = length t.views in

@@ -51,7 +51,7 @@ use Rattle.core_model.specs.Entries.{StandsAt}
 use Rattle.core_table.proofs.StepLemmas.TakeOk.{pending_is_new, taken_is_new}
 use Rattle.core_table.proofs.TableLemmas.Through.{SameTold, told_again, reseen, through, hold_others, hold_won, hold_gone, hold_same, slots_record}
 
--- what the words say
+-- what the number found says of the flag, or of a status
 free_flag : (h : Maybe Hold) → flag_code h ≡ 0 → h ≡ None
 free_flag None e = refl
 free_flag (Some h) e = absurd (omega (arith, e))
@@ -122,7 +122,7 @@ is_served job laws s k call r parts st is =
       stands = subst (λ (e : Entry). StandsAt s.book r.batch r.place e) t.4 t.5;
     }
 
--- what the third number says of a receipt
+-- the receipt's batch is at most one past `after`
 told_by : (job : CoreJob) (s : State) (k since : ℕ) (r : Receipt) (p : Place) → s.status k ≡ Served r → task_place job s.book (s.task k) ≡ Some p → WaitsSince job s k since → p.batch ≤ since + 1
 told_by job s k since r p st at h = rw (st, at) at h
 
@@ -158,7 +158,7 @@ took_later t taken x e = grind (arith, nat_tests)
 took_first : (t : TakenCall) (taken : List TakenCall) → took_in (t ∷ taken) t.worker ≡ true
 took_first t taken = grind (arith, nat_tests)
 
--- what holds of each worker that was taken
+-- a property of every taken worker holds of all on the list
 each_taken : (P : ℕ → Type 0) (taken : List TakenCall) → ((x : ℕ) → took_in taken x ≡ true → P x) → AllByRecursion P (map (λ (t : TakenCall). t.worker) taken)
 each_taken P [] h = tt
 each_taken P (t ∷ taken) h = (h t.worker (took_first t taken), each_taken P taken (λ x e. h x (took_later t taken x e)))
@@ -177,7 +177,7 @@ left_with job room s k r h = (h.0, (r, h.1))
 others_before : (taken : List TakenCall) (u : ℕ) → ((x : ℕ) → took_in taken x ≡ true → x < u) → AllByRecursion (λ y. u ≢ y) (map (λ (t : TakenCall). t.worker) taken)
 others_before taken u low = each_taken (λ y. u ≢ y) taken (λ x e is. let below = low x e in absurd (omega (arith, below, is)))
 
--- the calls that the hold has taken, with the one that it takes now, have room beside the book
+-- the book has room for the calls taken before and the one taken now
 taken_fit : (job : CoreJob) (laws : Laws job) (s : State) (k u : ℕ) (h : HoldView) → Parts job s → s.hold ≡ Some (hold_of k h) → h.published ≡ false → s.status u ≡ Pending
     → AllByRecursion (λ y. u ≢ y) (map (λ (t : TakenCall). t.worker) h.taken) → AreDistinct (map (λ (t : TakenCall). t.worker) h.taken) → ((x : ℕ) → among h.answered x ≡ false)
     → length (flat s.book) + length h.taken + 1 ≤ call_count job
@@ -293,7 +293,7 @@ module _ (job : CoreJob) (room : ℕ) (laws : Laws job) (slots id : ℕ) (v : Vi
         ((λ zero. absurd (ne zero)), (λ _. refl), ap flag_at (sym sized)),
       ))
 
-  -- a trapped pass that has not the flag tries to leave
+  -- a trapped pass without the flag tries to leave
   pub leaves : v.enrolled ≡ true → v.call ≡ Out → v.hold ≡ None → Steps job room slots id (v, xs) k (λ y. either (eqb y 3) 0 y) (G.left (step slots k 3 0 none) (v, xs)) (TryMakes 3 (LeaveMakes job k))
   leaves enrolled out idle t o wide me fits =
       let s = o.state in
@@ -486,7 +486,7 @@ module _ (job : CoreJob) (room : ℕ) (laws : Laws job) (slots id : ℕ) (v : Vi
         (h, holds, (λ q e. ap (λ (z : Receipt). (V.with_event (V.with_hold v h') (Answer u z), xs)) (same_receipt u r q e))),
       )
 
-  -- the flag is let go: the shop goes home, and the book too where nothing was published
+  -- a release returns the shop to the table, and the book too if nothing was published
   let_go : (h : HoldView) (homes : List (Option Slot)) → v.hold ≡ Some h → h.looks ≡ job.workers → ((u : ℕ) → took_in h.taken u ≡ true → among h.answered u ≡ true)
       → (t : St) (o : Shows job room t) → get_elem? t.views id ≡ some v → length homes ≡ length t.homes → ((x : ℕ) → x < job.workers → get_elem? homes x ≡ get_elem? t.homes x)
       → ShopAt None o.state.book (get_elem? homes job.workers) → BookAt room None o.state.book (get_elem? homes (job.workers + 1))

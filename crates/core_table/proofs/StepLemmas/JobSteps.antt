@@ -44,7 +44,7 @@ ready_word IsTaken e = absurd (omega (arith, e))
 ready_word Done e = absurd (omega (arith, e))
 ready_word (Ran w s d) e = absurd (omega (arith, e))
 
--- a node that becomes no done one does not undo the root
+-- the root stays done when the progress of a node that is not done changes
 root_kept : (node : ℕ → Progress) (n : ℕ) (x : Progress) → is_done (node n) ≡ false → is_done (node 0) ≡ true → is_done (put node n x 0) ≡ true
 root_kept node n x undone done = grind (arith, nat_tests)
 

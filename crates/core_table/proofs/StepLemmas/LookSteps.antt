@@ -1,4 +1,4 @@
--- The looks: at the root, at the number of batches, and at what is no node.
+-- The looks at the root, the batch count and the stop word, the set of the stop word, and claims past the last node.
 use Rattle.std.proofs.Common.{ℕ, ◌≡◌, ◌<◌, ◌≤◌, ◌+◌, ◌%◌, ◌⊎◌, min, true, Option as Maybe, None, Some, List, length, get_or, set, eqb, arith, refl, sym, ap, ◌∙◌, subst, inl, inr, get_or-set_same}
 use Rattle.std.proofs.lemmas.Bool.{cases_eq}
 use mathlib.Core.Option.{none}
@@ -40,7 +40,7 @@ few_status Pending = omega arith
 few_status Executing = omega arith
 few_status (Served r) = omega arith
 
--- the third number stays what it was told first
+-- the least number told is the first, if later ones are no smaller
 told_least : (after : Maybe ℕ) (n : ℕ) (b : ℕ) → ((c : ℕ) → after ≡ Some c → c ≤ n) → least_told after n ≡ Some b → (after ≡ Some b) ⊎ ((after ≡ None) × (b ≡ n))
 told_least None n b low e = inr (refl, (cc))
 told_least (Some c) n b low e = let h = low c refl in let same : min c n ≡ c = omega arith in inl (rw same at e)
@@ -98,7 +98,7 @@ module _ (job : CoreJob) (room : ℕ) (laws : Laws job) (slots id : ℕ) (v : Vi
         (refl, ap count_at (sym sized)),
       )
 
-  -- a claim of what is no node: a status is at most 3, so the exchange finds what it did not want
+  -- a claim past the last node: a status is at most 3, so the exchange, which wants at least 4, is refused
   pub strays : (n : ℕ) → v.nodes ≤ n → 0 < P → Steps job room slots id (v, xs) 0 (λ y. either (eqb y (4 + n)) 0 y) (strayed (step slots 0 (4 + n) 0 none) (v, xs)) (Stays)
   strays n far any t o wide me fits =
       let word = get_or t.words 0 0 in

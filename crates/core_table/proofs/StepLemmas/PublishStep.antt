@@ -45,11 +45,11 @@ executing_free st e f = absurd (cc)
 place_same : (a b : Place) (o : Maybe Place) → o ≡ Some a → o ≡ Some b → a ≡ b
 place_same a b o e f = cc
 
--- what begins a book begins a longer one
+-- a prefix of a book is a prefix of a longer one
 longer : (xs ys : List (List Entry)) (batch : List Entry) → IsFront xs ys → IsFront xs (ys ++ batch ∷ [])
 longer xs ys batch h = (h.0 ++ batch ∷ [], ap (λ l. l ++ batch ∷ []) h.1 ∙ append_assoc xs h.0 (batch ∷ []))
 
--- what a view tells of a worker, once a batch is published
+-- `Mine` after a batch is published
 module _ (job : CoreJob) (laws : Laws job) (s : State) (k : ℕ) (batch : List Entry) (parts : Parts job s) where
   abbrev later : State
   later = record s { book = s.book ++ batch ∷ []; objects = served s.objects batch; hold = published s.hold }
@@ -183,7 +183,7 @@ module _ (job : CoreJob) (room : ℕ) (laws : Laws job) (slots id : ℕ) (v : Vi
         happens = record { worker_in = low; needs = (hold_of k h, (known.0, refl), due.looked, due.some, due.early); does = (batch, batch_of, refl) };
       }
 
-  -- a look before it, which tells that the book has room for the batch and that it stays a history with it
+  -- the look before a publish: the book has room for the batch, and stays a history with it
   pub admits : (i : ℕ) → v.workers ≡ job.workers → v.room ≡ call_count job → job.workers ≤ 32 → Steps job room slots id (v, xs) i (λ y. y) (G.admitted (step slots i 0 0 none) (v, xs)) (Stays)
   admits i sized roomy few t o wide me fits =
       let s = o.state in

@@ -1,4 +1,4 @@
--- What a look that takes a call tells of its leaf: it is not in the book, and is none of those taken before.
+-- The leaf of a call just taken is neither in the book nor that of a call taken before.
 use Rattle.std.proofs.Common.{ℕ, ◌≡◌, ◌≢◌, None, Some, arith, refl, sym, ap, ◌∙◌}
 use Rattle.core_model.specs.declared.status.Receipt.{Receipt}
 use Rattle.core_model.specs.declared.status.Status.{Status}
@@ -38,7 +38,7 @@ leaves_differ job laws s u x a b kept is it same =
     let node : is.0 ≡ it.0 = at ∙ (ap job.plan.node_of same ∙ sym at') in
     same_worker job s u x is.0 kept (rw is.2 refl) (rw it.2 (ap Some (sym node)))
 
--- and so the call that a look takes is none of those that the hold took before
+-- so the leaf of the call that a look takes is not one of those taken before
 pub taken_is_new : (job : CoreJob) (laws : Laws job) (s : State) (k u x : ℕ) (h : HoldView) (a b : OpRecord) → (kept : Parts job s) → s.hold ≡ Some (hold_of k h) → u ≡ h.looks → record_in h.taken x ≡ Some b → IsRecordOf job s.book (s.task u) a → IsRecordOf job s.book (s.task x) b → a.leaf ≢ b.leaf
 taken_is_new job laws s k u x h a b kept held next taken is it same =
     let stands = rw held at kept.hold in

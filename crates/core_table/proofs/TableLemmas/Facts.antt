@@ -1,4 +1,4 @@
--- What the parts of the invariant tell of a worker and of its call, in the form in which the steps use it.
+-- Consequences of the invariant for a worker and its call, in the form in which the steps use them.
 use Rattle.std.proofs.Common.{ℕ, ◌≡◌, ◌≢◌, Bool, true, false, Option as Maybe, None, Some, refl, sym, ap, ◌∙◌, inl, inr}
 use Rattle.sp_order.specs.declared.node.Kind.TheVariants.{LeafNode}
 use Rattle.core_model.specs.declared.task.Task.TheVariants.{Started, Kept, Ended}
@@ -27,7 +27,7 @@ is_free job s k parts ne = is_free_if (s.status k) (λ trapped. ne ((parts.statu
 pub is_trapped : (job : CoreJob) (s : State) (k : ℕ) → Parts job s → s.call k ≡ Out → s.status k ≢ Free
 is_trapped job s k parts out = (parts.statuses.out k).0 out
 
--- and so a call is out where a status is not free
+-- so a worker whose status is not free has its call out
 pub is_out : (job : CoreJob) (s : State) (k : ℕ) → Parts job s → s.status k ≢ Free → s.call k ≡ Out
 is_out job s k parts trapped = (parts.statuses.out k).1 trapped
 
@@ -35,7 +35,7 @@ untrue : (b : Bool) → (b ≡ true → ⊥) → b ≡ false
 untrue true h = absurd (h refl)
 untrue false h = refl
 
--- whom the hold has taken, and has not answered
+-- a worker is executing exactly if the hold has taken it and not answered
 pub not_taken : (job : CoreJob) (s : State) (k : ℕ) → Parts job s → s.status k ≢ Executing → is_taken_by s.hold k ≡ false
 not_taken job s k parts ne = untrue (is_taken_by s.hold k) (λ e. ne ((parts.statuses.executing k).1 e))
 

@@ -1,4 +1,4 @@
--- A step shows the state that its event makes.
+-- After a step the table shows the state that its event makes, or after a stutter the same state.
 use Rattle.std.proofs.Common.{ℕ, zero, suc, ◌≡◌, ◌≢◌, ◌<◌, ◌≤◌, ◌+◌, Bool, true, false, ◌&&◌, not, ◌⊎◌, Option as Maybe, None, Some, List, [], ◌∷◌, ◌++◌, map, length, get_or, set, arith, refl, sym, ap, ◌∙◌, subst, inl, inr, ⊎_elim}
 use Rattle.std.proofs.lemmas.Bool.{cases_eq}
 use Rattle.std.proofs.lemmas.Bool.Decides.{nat_tests}
@@ -41,18 +41,18 @@ use Rattle.core_table.specs.Words.{stop_at}
 use Rattle.core_table.proofs.TableLemmas.Traces.{AddsEvent, reached_next, agree_next, agree_still, stop_still}
 use Rattle.core_table.proofs.TableLemmas.Words.{put_at, put_other}
 
--- who sits in the seat id has number k alone
+-- the seat id, whose range is k alone, is the seat of worker k
 pub mine_of : (job : CoreJob) (room : ℕ) (t : St) (o : Shows job room t) (id k : ℕ) (v : View) → get_elem? t.views id ≡ some v → v.from ≡ k → v.to ≡ k + 1
     → (k < job.workers) × Mine job o.state (get_elem? t.homes k) (o.seat k) id v k
 mine_of job room t o id k v me from to = o.views id v k me (omega arith) (omega arith)
 
--- what stands in a list has a number below its length
+-- an index with a member is below the list's length
 pub at_below : {A : Type 0} (l : List A) (i : ℕ) (a : A) → get_elem? l i ≡ some a → i < length l
 at_below [] i a e = absurd (some-ne-none a (sym e))
 at_below (x ∷ xs) zero a e = omega arith
 at_below (x ∷ xs) (suc i) a e = let low = at_below xs i a e in omega (arith, low)
 
--- each number stays in the range of its seat where the view of worker k changes
+-- every worker stays in the range of its seat when the view of worker k changes
 pub seat_stays : (views : List View) (id k : ℕ) (v w : View) → get_elem? views id ≡ some v → v.from ≡ k → v.to ≡ k + 1 → w.from ≡ k → w.to ≡ k + 1
     → (seat x : ℕ) → HasSeat views seat x → HasSeat (set views id w) seat x
 seat_stays views id k v w me from to from' to' seat x h = elim (cases_eq seat id) [
@@ -105,7 +105,7 @@ moved job room laws t o id k v w words homes event new happens me from to from' 
   happens,
 )
 
--- the views, where only that of worker k changes, and the state does not
+-- the views, when only that of worker k changes and the state stays
 views_still : (job : CoreJob) (room : ℕ) (t : St) (o : Shows job room t) (id k : ℕ) (v w : View)
     → get_elem? t.views id ≡ some v → v.from ≡ k → v.to ≡ k + 1 → w.from ≡ k → w.to ≡ k + 1
     → (Mine job o.state (get_elem? t.homes k) (o.seat k) id v k → Mine job o.state (get_elem? t.homes k) (o.seat k) id w k)
@@ -122,7 +122,7 @@ views_still job room t o id k v w me from to from' to' own i u x e lo hi = let m
     (λ q. o.views i u x q.1 lo hi)
     (at_set t.views id i w u e)
 
--- a step on a word that tells nothing of the state
+-- a step on a word that encodes no part of the state
 pub renewed : (job : CoreJob) (room : ℕ) (t : St) (o : Shows job room t) (id k : ℕ) (v w : View) (words : List ℕ)
     → get_elem? t.views id ≡ some v → v.from ≡ k → v.to ≡ k + 1 → w.from ≡ k → w.to ≡ k + 1
     → w.events ≡ v.events → StopShows (get_or words (stop_at job.workers) 0) (set t.views id w)
@@ -147,7 +147,7 @@ renewed job room t o id k v w words me from to from' to' events stop shown own =
   refl,
 )
 
--- a look, or a try that finds what it did not want
+-- a look or a refused try
 pub looked : (job : CoreJob) (room : ℕ) (t : St) (o : Shows job room t) (id k j : ℕ) (v w : View)
     → get_elem? t.views id ≡ some v → v.from ≡ k → v.to ≡ k + 1 → w.from ≡ k → w.to ≡ k + 1
     → w.events ≡ v.events → w.stops ≡ v.stops → (0 < w.stops_found → (0 < v.stops_found) ⊎ (get_or t.words (stop_at job.workers) 0 ≡ 1))
@@ -162,7 +162,7 @@ looked job room t o id k j v w me from to from' to' events stops found own =
 pub true_false : true ≡ false → ⊥
 true_false e = cc
 
--- what is recorded of a worker was taken
+-- a worker with a record in the list was taken
 pub record_took : (taken : List TakenCall) (u : ℕ) (call : OpRecord) → record_in taken u ≡ Some call → took_in taken u ≡ true
 record_took [] u call e = absurd (cc)
 record_took (t ∷ taken) u call e = let again = record_took taken u call in grind (arith, nat_tests, again)
@@ -170,14 +170,14 @@ record_took (t ∷ taken) u call e = let again = record_took taken u call in gri
 held_yes : (took answered : Bool) → took ≡ true → answered ≡ false → (took && not answered) ≡ true
 held_yes took answered a b = grind arith
 
--- a free worker is none of those that the holder took and has not answered
+-- a free worker is not one that the holder took and has not answered
 pub free_untaken : (job : CoreJob) (s : State) (k x : ℕ) (v : HoldView) (call : OpRecord) → Parts job s → s.status k ≡ Free → s.hold ≡ Some (hold_of x v) → record_in v.taken k ≡ Some call → among v.answered k ≡ false → ⊥
 free_untaken job s k x v call kept free hold is none_yet =
     let row = not_taken job s k kept (rw free (λ e. cc)) in
     let row' = rw hold at row in
     let yes = held_yes (took_in v.taken k) (among v.answered k) (record_took v.taken k call is) none_yet in absurd (cc)
 
--- what a view tells of the hold, where a free worker's task changes
+-- `HoldKnown` is kept when a free worker's task changes
 pub hold_still : (job : CoreJob) (s new : State) (k x : ℕ) → Parts job s → s.status k ≡ Free → new.hold ≡ s.hold → new.book ≡ s.book → ((u : ℕ) → u ≢ k → new.task u ≡ s.task u)
     → (v : Maybe HoldView) → HoldKnown job s v x → HoldKnown job new v x
 hold_still job s new k x kept free same_hold same_book same_task None h = λ hold is. h hold (sym same_hold ∙ is)
@@ -281,21 +281,21 @@ job_step job room laws t o id k v w words event node mark value tick call y happ
       since = out_others job laws s k x u event node mark value tick call y o.parts happens ne (calls x ne) m.since;
     })
 
--- the table's key is what it is made for
+-- the key of a table is its setting
 pub keyed : (key setting : Setting) (slots id : ℕ) (me : Sat) (i : ℕ) (f : ℕ → ℕ) (tells : ℕ → Sat → Type 0) → key ≡ setting → Allows (Shown setting) slots id me i f tells → Allows (Shown key) slots id me i f tells
 keyed key setting slots id me i f tells e h = subst (λ (y : Setting). Allows (Shown y) slots id me i f tells) (sym e) h
 
 pub few_nodes : (nodes count : ℕ) → nodes ≡ count → nodes < 40000 → count < 40000
 few_nodes nodes count e h = omega (arith, e, h)
 
--- what a try makes, where it finds what it wants, and where it does not
+-- `TryMakes` for a try that finds the wanted number, and for one that does not
 pub found : {job : CoreJob} {room : ℕ} {t : St} {before : State} (word wanted : ℕ) (Makes : State → State → Type 0) → word ≡ wanted → ShowsOne job room (Makes before) t → ShowsOne job room (TryMakes wanted Makes before word) t
 found word wanted Makes is h = (h.0, ((λ _. h.1), (λ ne. absurd (ne is))))
 
 pub missed : {job : CoreJob} {room : ℕ} {t : St} {before : State} (word wanted : ℕ) (Makes : State → State → Type 0) → word ≢ wanted → ShowsOne job room (λ (s : State). s ≡ before) t → ShowsOne job room (TryMakes wanted Makes before word) t
 missed word wanted Makes ne h = (h.0, ((λ is. absurd (ne is)), (λ _. h.1)))
 
--- of an arrival, by whether the mark that it found was 0
+-- `ArrivalMakes` for a mark found at 0, and for another
 pub found_none : {job : CoreJob} {room : ℕ} {t : St} {before : State} (word : ℕ) (First Second : State → State → Type 0) → word ≡ 0 → ShowsOne job room (First before) t → ShowsOne job room (ArrivalMakes First Second before word) t
 found_none word First Second is h = (h.0, ((λ _. h.1), (λ ne. absurd (ne is))))
 

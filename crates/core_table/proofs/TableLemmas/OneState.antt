@@ -1,4 +1,4 @@
--- A table shows at most one state: each part of it is read from its keeper.
+-- A table shows at most one state: each part is determined by a word, a slot or a view.
 use Rattle.std.proofs.Common.{ℕ, ◌≡◌, ◌≢◌, ◌<◌, ◌≤◌, ◌+◌, ◌/◌, ◌%◌, Option as Maybe, None, Some, List, get_or, arith, refl, sym, ap, ◌∙◌, subst, inl, inr}
 use mathlib.Core.Option.{some, some-injective}
 use lib.ListN.{get_elem?}
@@ -25,7 +25,7 @@ use Rattle.core_table.specs.OneState.{AreOne}
 use Rattle.core_table.specs.Code.Laws.{Laws}
 use Rattle.core_table.proofs.CloseLemmas.Closes.{worker_of, start_of, end_of}
 
--- the word of a node tells how far it has come, if no node that is done has the word of a leaf that has run
+-- a node's word determines its progress, if the worker and start of what has run fit their bits
 same_progress : (x y : Progress) → progress_code x ≡ progress_code y
     → ((w s e : ℕ) → x ≡ Ran w s e → (w < 32) × (s < 1048576)) → ((w s e : ℕ) → y ≡ Ran w s e → (w < 32) × (s < 1048576))
     → ((w s e : ℕ) → y ≡ Ran w s e → x ≢ Done) → ((w s e : ℕ) → x ≡ Ran w s e → y ≢ Done) → x ≡ y
@@ -70,7 +70,7 @@ shops a b e = cc
 some_both : (a b : Slot) → some (some a) ≡ some (some b) → a ≡ b
 some_both a b e = some-injective _ _ (some-injective _ _ e)
 
--- the word of a worker tells its status, and the slot the receipt
+-- a worker's status word and record slot determine its status
 same_status : (job : CoreJob) (p q : List (List Entry)) (a b : Task) (x y : Status) (home : Home) → status_code x ≡ status_code y → RecordAt job p a x home → RecordAt job q b y home → x ≡ y
 same_status job p q a b Free Free home same at at' = refl
 same_status job p q a b Free Pending home same at at' = absurd (omega (arith, same))
@@ -89,14 +89,14 @@ same_status job p q a b (Served r) Pending home same at at' = absurd (omega (ari
 same_status job p q a b (Served r) Executing home same at at' = absurd (omega (arith, same))
 same_status job p q a b (Served r) (Served x) home same at at' = ap Served (receipts r x (some_both _ _ (sym at ∙ at')))
 
--- each number past the workers' is that of nobody, and each other one has a seat
+-- case split on whether w is a worker's number
 by_worker : (workers w : ℕ) (Goal : Type 0) → (w < workers → Goal) → (workers ≤ w → Goal) → Goal
 by_worker workers w Goal inside outside = elim (dec_le workers w) [
   | yes high ↦ outside high
   | no low ↦ inside (lt_of_not-le low)
 ]
 
--- what the one seat of a worker tells of two states
+-- what the one seat of a worker says of two states
 record BothMine (job : CoreJob) (t : St) (a b : State) (w : ℕ) : Type 0 where
   view : View
   seat : ℕ
@@ -119,12 +119,12 @@ both_mine job room t a b w low =
 out_not : (c : CallState) → c ≡ Out → c ≡ NotCalled → ⊥
 out_not c e f = absurd (cc)
 
--- the flag of a state names one of the workers
+-- the flag's holder is one of the workers
 flag_inside : (job : CoreJob) (s : State) (h : Hold) → Parts job s → s.hold ≡ Some h → h.worker < job.workers
 flag_inside job s h kept held = let is = rw held at kept.hold in
     by_worker job.workers h.worker (h.worker < job.workers) (λ low. low) (λ high. absurd (out_not (s.call h.worker) is.0 (kept.beyond h.worker high).2))
 
--- the hold and the book
+-- the two states agree in the hold and the book
 record SameHold (a b : State) : Type 0 where
   hold : a.hold ≡ b.hold
   book : a.book ≡ b.book
@@ -145,7 +145,7 @@ same_hold job room t a b (Some h) y e f =
     let m = both_mine job room t a b h.worker (flag_inside job a.state h a.parts e) in
     told_hold job a.state b.state m.view.hold h.worker h e refl m.one.hold m.two.hold
 
--- what has run is short
+-- the worker and start of a leaf that has run fit their bits
 ran_low : (job : CoreJob) (laws : Laws job) (s : State) (n w t e : ℕ) → job.workers ≤ 32 → Parts job s → s.node n ≡ Ran w t e → (w < 32) × (t < 1048576)
 ran_low job laws s n w t e few kept ran =
     let worker = kept.ticks.among n w t e ran in

@@ -1,4 +1,4 @@
--- What an event of another worker, or one that leaves a worker's own task and call, keeps of what the worker's view tells.
+-- What a view says of its worker is kept by events of other workers, and by those that keep its task and call.
 use Rattle.std.proofs.Common.{ℕ, ◌≡◌, ◌≢◌, ◌<◌, ◌+◌, true, Option as Maybe, None, Some, List, set, arith, refl, sym, ap, ◌∙◌, subst, inl, inr, length-set}
 use Rattle.std.proofs.lemmas.Bool.{cases_eq}
 use mathlib.Core.Option.{Option, some}
@@ -22,7 +22,7 @@ use Rattle.core_table.specs.Shows.{Home, IsFront, IsRecordOf, RecordAt, ShopAt, 
 use Rattle.core_table.proofs.TableLemmas.Words.{put_at, put_other}
 use Rattle.core_table.proofs.TableLemmas.Facts.{is_trapped}
 
--- the views of a pass before and after a step that leaves its task and its call
+-- the views of a pass before and after a step that keeps its task and its call
 pub record SameTold (v w : View) : Type 0 where
   pub task : w.task ≡ v.task
   pub call : w.call ≡ v.call
@@ -38,7 +38,7 @@ pub record SameTold (v w : View) : Type 0 where
 pub told_again : (v : View) → SameTold v v
 told_again v = record { task = refl; call = refl; posted = refl; left = refl; enrolled = refl; saw_done = refl; greatest = refl; before = refl; after = refl; book_seen = refl }
 
--- a seat of another number tells the same
+-- `Mine` is kept for a seat of another worker
 pub reseat : (job : CoreJob) (s : State) (home : Home) (seat seat' id id' : ℕ) (v w : View) (x : ℕ) → seat' ≡ id' → SameTold v w → w.hold ≡ v.hold → Mine job s home seat id v x → Mine job s home seat' id' w x
 reseat job s home seat seat' id id' v w x sits told hold m = record {
   sits = sits;
@@ -59,7 +59,7 @@ reseat job s home seat seat' id id' v w x sits told hold m = record {
   };
 }
 
--- and so does a view that has seen more of the book
+-- and for a view that has seen more of the book
 pub reseen : (job : CoreJob) (s : State) (home : Home) (seat id : ℕ) (v : View) (x : ℕ) (book : List (List Entry)) → IsFront book s.book → Mine job s home seat id v x → Mine job s home seat id (record v { book_seen = book }) x
 reseen job s home seat id v x book front m = record {
   sits = m.sits;
@@ -74,7 +74,7 @@ reseen job s home seat id v x book front m = record {
   since = record { most = m.since.most; early = m.since.early; late = m.since.late; placed = m.since.placed; waits = m.since.waits };
 }
 
--- and so does the same seat
+-- and for the same seat
 pub again : (job : CoreJob) (s : State) (home : Home) (seat id : ℕ) (v w : View) (x : ℕ) → SameTold v w → w.hold ≡ v.hold → Mine job s home seat id v x → Mine job s home seat id w x
 again job s home seat id v w x told hold m = reseat job s home seat seat id id v w x m.sits told hold m
 
@@ -104,22 +104,22 @@ through job laws s new k x event v w home home' seat id kept happens same_task s
 same_worker : (h g : Hold) → Some h ≡ Some g → h.worker ≡ g.worker
 same_worker h g e = let f : h ≡ g = cc in ap (λ (x : Hold). x.worker) f
 
--- what other passes tell of the hold, where it stays the holder's
+-- `HoldKnown` of other passes, when the holder stays
 pub hold_others : (job : CoreJob) (s new : State) (k x : ℕ) (h g : Hold) → x ≢ k → s.hold ≡ Some h → h.worker ≡ k → new.hold ≡ Some g → g.worker ≡ k → (v : Maybe HoldView) → HoldKnown job s v x → HoldKnown job new v x
 hold_others job s new k x h g ne was at now at' None m = λ i is f. let e = same_worker g i (sym now ∙ is) in ne (sym f ∙ (sym e ∙ at'))
 hold_others job s new k x h g ne was at now at' (Some v) m = let e = same_worker h (hold_of x v) (sym was ∙ m.0) in absurd (ne (sym e ∙ at))
 
--- where the flag is won
+-- when the flag is won
 pub hold_won : (job : CoreJob) (s new : State) (k x : ℕ) (g : Hold) → x ≢ k → s.hold ≡ None → new.hold ≡ Some g → g.worker ≡ k → (v : Maybe HoldView) → HoldKnown job s v x → HoldKnown job new v x
 hold_won job s new k x g ne was now at None m = λ i is f. let e = same_worker g i (sym now ∙ is) in ne (sym f ∙ (sym e ∙ at))
 hold_won job s new k x g ne was now at (Some v) m = let e = sym was ∙ m.0 in absurd (cc)
 
--- where it is let go
+-- when it is released
 pub hold_gone : (job : CoreJob) (s new : State) (k x : ℕ) (h : Hold) → x ≢ k → s.hold ≡ Some h → h.worker ≡ k → new.hold ≡ None → (v : Maybe HoldView) → HoldKnown job s v x → HoldKnown job new v x
 hold_gone job s new k x h ne was at now None m = λ i is. let e = sym now ∙ is in absurd (cc)
 hold_gone job s new k x h ne was at now (Some v) m = let e = same_worker h (hold_of x v) (sym was ∙ m.0) in absurd (ne (sym e ∙ at))
 
--- where it stays, and so do the tasks and the book
+-- when hold, tasks and book stay
 pub hold_same : (job : CoreJob) (s new : State) (x : ℕ) → new.hold ≡ s.hold → new.book ≡ s.book → ((u : ℕ) → new.task u ≡ s.task u) → (v : Maybe HoldView) → HoldKnown job s v x → HoldKnown job new v x
 hold_same job s new x same_hold same_book same_task None m = λ i is. m i (sym same_hold ∙ is)
 hold_same job s new x same_hold same_book same_task (Some v) m = (

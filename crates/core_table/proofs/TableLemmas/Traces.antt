@@ -1,4 +1,4 @@
--- The steps that lead to the state that is shown, and what the views tell of them.
+-- The trace that leads to the state shown, and its agreement with the views.
 use Rattle.std.proofs.Common.{ℕ, ◌≡◌, ◌≢◌, ◌<◌, ◌≤◌, ◌+◌, ◌⊎◌, List, [], ◌∷◌, ◌++◌, length, set, arith, refl, sym, ap, ◌∙◌, subst, inl, inr, ⊎_elim, append_assoc}
 use Rattle.std.proofs.lemmas.List.{append-nil}
 use Rattle.std.proofs.lemmas.Bool.Decides.{nat_tests}
@@ -14,7 +14,7 @@ use Rattle.core_model.specs.State.{CoreJob, CoreState, State, opening_core}
 use Rattle.core_table.specs.declared.view.View.{View}
 use Rattle.core_table.specs.Shows.{event_if, events_by, EventsAgree, StopShows}
 
--- one step more
+-- the trace with one more step
 pub reached_more : (job : CoreJob) (first : CoreState) (steps : List Step) (mid : CoreState) (step : Step) (last : CoreState)
     → ReachesFrom job first steps mid → IsStep job mid step.worker step.event last → ReachesFrom job first (steps ++ step ∷ []) last
 reached_more job first [] mid step last e is = (last, subst (λ (c : CoreState). IsStep job c step.worker step.event last) e is, refl)
@@ -69,7 +69,7 @@ agree_still views id k v w steps me from to from' to' events old i u x e lo hi =
     (λ q. old i u x q.1 lo hi)
     (at_set views id i w u e)
 
--- the stop word stays, and so does what the seats have set
+-- `StopShows` is kept when the stop word and a view's `stops` stay
 pub stop_still : (views : List View) (id : ℕ) (v w : View) (word word' : ℕ) → id < length views → get_elem? views id ≡ some v → word' ≡ word → w.stops ≡ v.stops
     → (0 < w.stops_found → (0 < v.stops_found) ⊎ (word ≡ 1)) → StopShows word views → StopShows word' (set views id w)
 stop_still views id v w word word' low me same stops found h = record {
@@ -102,7 +102,7 @@ stop_set views id v w word word' low me one stops h = record {
   found = λ i u e some_found. one;
 }
 
--- each seat's view that is cut in two
+-- `StopShows` is kept when a seat's view is split in two
 pub stop_cut : (views : List View) (id : ℕ) (v w y : View) (word : ℕ) → ((i : ℕ) (u : View) → get_elem? (set views id w ++ y ∷ []) i ≡ some u → (j : ℕ) × (x : View) × (get_elem? views j ≡ some x) × (u.stops ≡ x.stops) × (u.stops_found ≡ x.stops_found))
     → ((i : ℕ) (u : View) → get_elem? views i ≡ some u → (j : ℕ) × (x : View) × (get_elem? (set views id w ++ y ∷ []) j ≡ some x) × (x.stops ≡ u.stops))
     → StopShows word views → StopShows word (set views id w ++ y ∷ [])

@@ -1,4 +1,4 @@
--- How the words change, where a part of what they say does.
+-- How the words change when one part of the state that they encode changes.
 use Rattle.std.proofs.Common.{ℕ, ◌≡◌, ◌≢◌, ◌<◌, Option, Some, List, get_or, set, arith, refl, sym, ◌∙◌, subst, inl, inr, length-set, get_or-set_other, get_or-set_same}
 use Rattle.std.proofs.lemmas.Bool.Decides.{nat_tests}
 use Rattle.std.proofs.lemmas.Bool.{cases_eq}
@@ -125,6 +125,6 @@ module _ (P N : ℕ) (ws : List ℕ) (node : ℕ → Progress) (mark : ℕ → �
     values = λ m b. subst (HasValue (value m)) (sym (get_or-set_other ws (stop_at P) (value_at P N m) (x) 0 (λ e. omega arith))) (h.values m b);
   }
 
--- the flag's word tells its worker alone
+-- the flag's word depends on the holder's number only
 pub flag_same : (P N : ℕ) (ws : List ℕ) (node : ℕ → Progress) (mark : ℕ → ℕ) (value : ℕ → Option ℕ) (status : ℕ → Status) (hold hold' : Option Hold) (tick count : ℕ) → flag_code hold ≡ flag_code hold' → WordsShow P N ws node mark value status hold tick count → WordsShow P N ws node mark value status hold' tick count
 flag_same P N ws node mark value status hold hold' tick count e h = record { wide = h.wide; statuses = h.statuses; flag = h.flag ∙ e; batches = h.batches; ticks = h.ticks; progress = h.progress; marks = h.marks; values = h.values }

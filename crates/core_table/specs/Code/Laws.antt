@@ -1,4 +1,4 @@
--- What the table uses of the layers below.
+-- The laws of `core_model` and `sp_order` that the table's proofs cite, for one job.
 use Rattle.std.specs.Prelude.{ℕ, ◌≡◌, ◌<◌, ◌≤◌, ◌+◌, ◌*◌, ◌^◌, List, [], ◌∷◌, ◌++◌, length, true, false, None, Some}
 use Rattle.std.specs.List.{AllByRecursion}
 use Rattle.seq_objects.specs.Pairs.{AreDistinct}
@@ -27,12 +27,13 @@ pub record Laws (job : CoreJob) : Type 0 where
   pub arrive : (n p : ℕ) → job.plan.after n ≡ Arrive p → (l : ℕ) × (r : ℕ) × (job.plan.kind p ≡ Some (ParNode l r)) × IsSide job.plan p n
   pub opening : Parts job opening_state
   pub root : 0 < job.plan.count
-  -- a side that arrives finds a mark below 2
+  -- a side that is about to arrive finds a mark below 2
   pub mark : (s : State) (w p l r n : ℕ) → Parts job s → s.task w ≡ Whole n → job.plan.kind p ≡ Some (ParNode l r) → IsSide job.plan p n → s.mark p < 2
-  -- the book has no more batches than entries, and with the calls that no batch has yet no more than there are calls
+  -- The book has at most as many batches as entries. Its entries and any distinct unserved workers together number at
+  -- most the job's calls.
   pub batches : (s : State) → Parts job s → length s.book ≤ length (flat s.book)
   pub room : (s : State) (workers : List ℕ) → Parts job s → AreDistinct workers → AllByRecursion (IsUnserved s) workers → length (flat s.book) + length workers ≤ call_count job
-  -- what a publish adds to the entries of a worker
+  -- a publish adds no entry for a worker that was not taken, and one, in the new last batch, for each that was
   pub untaken : (old new : State) (worker : ℕ) → Parts job old → Happens job old worker Publish new → (w : ℕ) → is_taken_by old.hold w ≡ false
       → (entries_of w (flat new.book) ≡ entries_of w (flat old.book)) × (task_place job new.book (old.task w) ≡ task_place job old.book (old.task w))
   pub taken : (old new : State) (worker : ℕ) → Parts job old → Happens job old worker Publish new → (w : ℕ) → is_taken_by old.hold w ≡ true
@@ -40,12 +41,13 @@ pub record Laws (job : CoreJob) : Type 0 where
       × (place : Place) × (task_place job new.book (old.task w) ≡ Some place)
       × (place.batch ≡ length old.book) × (place.entry.worker ≡ w)
       × (entries_of w (flat new.book) ≡ entries_of w (flat old.book) ++ place.entry ∷ [])
-  -- a served worker has the receipt of its call's entry
+  -- the receipt of a served worker is that of its call's entry in the book
   pub receipt : (s : State) (worker node leaf : ℕ) (op : Op) (receipt : Receipt) → Parts job s → s.status worker ≡ Served receipt → HasStarted job s worker node leaf → op_of job.act s.book leaf ≡ Some op
       → (place : Place) × (task_place job s.book (s.task worker) ≡ Some place)
       × (place_of s.book leaf ≡ Some place) × (receipt ≡ receipt_for place)
       × (place.entry ≡ record { leaf = leaf; worker = worker; op = op; reply = receipt.reply })
       × StandsAt s.book receipt.batch receipt.place place.entry
-  -- the leaves that call have short numbers
+  -- the number of a leaf that calls is below 2^32
   pub low : (leaf : ℕ) → IsCall job leaf → leaf < 2 ^ 32
+  -- once the root is done, the flag is free
   pub ended : (s : State) → Parts job s → is_done (s.node 0) ≡ true → s.hold ≡ None

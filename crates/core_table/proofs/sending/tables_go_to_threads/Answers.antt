@@ -1,4 +1,4 @@
--- A table and a pass, from their parts.
+-- A table is `Sync` and a pass is `Send`, from their fields.
 use denote.Param.Send.{sendable}
 use denote.Param.SendFields.{declared_send, declared_sync}
 use Rattle.core_table.specs.contracts.table.CoreTable as table

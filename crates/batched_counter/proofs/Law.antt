@@ -1,4 +1,4 @@
--- The outs of the pieces come to the replies of one addition after another.
+-- The outs of the pieces give the replies of serving the additions one after another.
 use Rattle.std.proofs.Common.{◌≡◌, ℕ, ◌+◌, List, [], ◌∷◌, refl, ap, arith}
 use Rattle.seq_objects.specs.declared.call.Call.{Call}
 use Rattle.seq_objects.specs.declared.op.Op.{Op}
@@ -17,7 +17,7 @@ use Rattle.batched_counter.specs.Code.End.{CanJoin, all_replies, number_replies,
 use Rattle.batched_counter.proofs.BeginLemmas.Pieces.{flat, flat_is}
 use Rattle.batched_counter.proofs.EndLemmas.Sums.{bounded_all, end_is, replies_are}
 
--- additions, one after another
+-- additions served one after another
 serial_step : (n : ℕ) (op : Op) (worker leaf : ℕ) (calls : List Call) → object_of op ≡ Counter → ((m : ℕ) → replies_to_all (of_counter m) calls ≡ number_replies 0 (sums_from m (addends calls))) → replies_to_all (of_counter n) (record { worker = worker; leaf = leaf; op = op } ∷ calls) ≡ number_replies 0 (sums_from n (addends (record { worker = worker; leaf = leaf; op = op } ∷ calls)))
 serial_step n (CounterAdd a) worker leaf calls is ih = let e : n + a ≡ 0 + (n + a) = omega arith in rw (ih (n + a)) (ap (λ k. Number k ∷ number_replies 0 (sums_from (n + a) (addends calls))) e)
 serial_step n (Push a) worker leaf calls is ih = absurd cc
@@ -50,7 +50,7 @@ pub serial_after : (n : ℕ) (calls : List Call) → AreOf Counter calls
 serial_after n [] all = let e : n ≡ n + 0 = omega arith in ap of_counter e
 serial_after n (call ∷ calls) all = after_step n call.op call.worker call.leaf calls all.0 (λ m. serial_after m calls all.1)
 
--- the law, for the replies and for the number
+-- the law of batches, for the replies and for the number
 pub law_replies : (rest : Rest) (o : BatchContext ℕ Piece) (outs : List Served) → IsContextOf rest o
     → AllMeet Meets o.ins outs
     → all_replies rest.number outs ≡ replies_to_all (of_counter o.before) o.calls

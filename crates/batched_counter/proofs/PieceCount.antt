@@ -14,7 +14,7 @@ use Rattle.batched_counter.proofs.BeginLemmas.Pieces.{length_addends}
 length_drop : (n : ℕ) (xs : List ℕ) → length (drop n xs) ≡ length xs - n
 length_drop n xs = grind (arith, common_steps)
 
--- so many pieces have room for the list, and one piece less has not
+-- this many pieces hold the whole list, and one piece fewer does not
 covers : (size : ℕ) (xs : List ℕ) (pieces : List (List ℕ)) → 0 < size → IsCutInto size xs pieces
     → (length xs ≤ length pieces * size) × (length pieces * size < length xs + size)
 covers size xs [] some cut = rw cut (omega arith, omega (arith, some))
@@ -27,7 +27,7 @@ covers size xs (piece ∷ other ∷ pieces) some cut =
     let ih = covers size (drop size xs) (other ∷ pieces) some cut.2 in
     (omega (arith, left, cut.2.0, ih.0), omega (arith, left, cut.2.0, ih.1))
 
--- two multiples that lie within one step from a number on are one
+-- two multiples of a size that are at least n and less than n + size are equal
 same_multiple : (n size a b : ℕ) → n ≤ a * size → a * size < n + size → n ≤ b * size
     → b * size < n + size → a ≡ b
 same_multiple n size a b from_a below_a from_b below_b = elim (cases_order a b) [
@@ -47,7 +47,7 @@ length_addends_in : (pieces : List Piece) → length (addends_in pieces) ≡ len
 length_addends_in [] = refl
 length_addends_in (piece ∷ pieces) = omega (arith, length_addends_in pieces)
 
--- a batch of no calls has no pieces
+-- an empty list is cut into no pieces
 none_counted : (size : ℕ) (xs : List ℕ) (pieces : List (List ℕ)) → length xs ≡ 0
     → IsCutInto size xs pieces → length pieces ≡ 0
 none_counted size xs [] none cut = refl

@@ -1,4 +1,4 @@
--- The additions of a batch, and which of them can be served.
+-- The addends of a batch, and when the counter can serve it.
 use Rattle.std.specs.Prelude.{ℕ, ◌+◌, ◌<◌, ◌^◌, List, map}
 use Rattle.seq_objects.specs.declared.op.Op.{Op}
 use Rattle.seq_objects.specs.declared.op.Op.TheVariants.{CounterAdd}
@@ -7,16 +7,16 @@ use Rattle.seq_objects.specs.Objects.{Objects}
 use Rattle.seq_objects.specs.Batches.{AreOf, Counter}
 use Rattle.batched_counter.specs.Sums.{total}
 
--- what an operation adds to the counter
+-- the addend of an operation; 0 for one that is no addition
 abbrev pub addend_of : Op → ℕ
 addend_of (CounterAdd addend) = addend
 addend_of _ = 0
 
--- what the calls add, in their order
+-- the addends of the calls, in call order
 abbrev pub addends : List Call → List ℕ
 addends calls = map (λ call. addend_of call.op) calls
 
--- all calls are additions, and the number stays below 2^64
+-- all calls are additions, and the counter stays below 2^64
 pub record MayServe (objects : Objects) (calls : List Call) : Type 0 where
   pub adds : AreOf Counter calls
   pub fits : objects.counter + total (addends calls) < 2 ^ 64

@@ -1,2 +1,2 @@
--- The definitions of the code's own: what its loops come to.
+-- Definitions that only the code cites: the results of the end's loops.
 pub mod End

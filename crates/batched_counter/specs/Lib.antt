@@ -1,4 +1,4 @@
--- The rules of the batched counter: its calls, its pieces, and sums. `Code` is what only the code cites.
+-- The rules of the batched counter: its calls, its pieces, and sums. Only the code cites `Code`.
 pub mod Sums
 pub mod Calls
 pub mod Pieces

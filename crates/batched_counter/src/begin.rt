@@ -1,4 +1,4 @@
-//! Cutting the additions of a batch into pieces.
+//! Cuts a batch of additions into pieces.
 ghost use Rattle.std.specs.Prelude.{◌≡◌, ◌+◌, ◌<◌, ◌≤◌, ◌/◌, ◌^◌, length, IfOk};
 ghost use Rattle.batched_counter.specs.Sums.{total};
 ghost use Rattle.batched_counter.specs.Calls.{addend_of, addends};
@@ -8,7 +8,7 @@ use crate::piece::Piece;
 use seq_objects::{Call, Op};
 use std::alloc::{AllocError, Global};
 
-/// What an operation adds to the counter.
+/// The addend of an operation; 0 for one that is not a `CounterAdd`.
 fn addend_of(op: Op) -> u32
     ensures { result ≡ addend_of op }
 {
@@ -18,7 +18,7 @@ fn addend_of(op: Op) -> u32
     }
 }
 
-/// What calls add, in their order.
+/// The addends of the calls, in call order.
 fn addends_of(alloc: Global, calls: &[Call]) -> Result<Vec<u64>, AllocError>
     ensures { IfOk result (λ v. v.items ≡ addends calls.now) }
 {
@@ -29,7 +29,7 @@ fn addends_of(alloc: Global, calls: &[Call]) -> Result<Vec<u64>, AllocError>
     Ok(all)
 }
 
-/// The pieces of a batch, each of a sixteenth of the calls, rounded up; the last may be shorter.
+/// Cuts the calls into at most 16 pieces. Each has a sixteenth of the calls, rounded up; the last may be shorter.
 pub(crate) fn pieces_of(alloc: Global, calls: &[Call]) -> Result<Vec<Piece>, AllocError>
     requires fits { total (addends calls.now) < 2 ^ 64 }
     requires some { 0 < length calls.now }

@@ -1,4 +1,4 @@
-//! A counter that serves batches of additions.
+//! The counter, and its implementation of `Batched`.
 ghost use Rattle.std.specs.Prelude.{◌≡◌, ℕ, IfOk, IsOk};
 ghost use Rattle.seq_objects.specs.Serial.{replies_to_all, after_all, of_counter};
 ghost use Rattle.seq_objects.specs.Pieces.{AllMeet, BatchContext};
@@ -14,7 +14,7 @@ use seq_objects::{Batched, Call, Reply};
 use std::alloc::{AllocError, Global};
 use std::marker::Model;
 
-/// A counter. Contracts see it as its number.
+/// A counter that serves additions in batches. Contracts see it as its number.
 #[derive(Drop)]
 pub struct Counter {
     number: u64,

@@ -1,4 +1,4 @@
-//! Adding up what the pieces come to.
+//! Combines the sums of the pieces into replies and a new number.
 ghost use Rattle.std.specs.Prelude.{◌≡◌, ◌+◌, ◌<◌, ◌++◌, ◌^◌, IfOk, OnOk};
 ghost use Rattle.std.specs.List.{AllByRecursion};
 ghost use Rattle.batched_counter.specs.Code.End.{CanJoin, all_replies, number_replies, number_after};
@@ -7,7 +7,7 @@ use crate::piece::Served;
 use seq_objects::Reply;
 use std::alloc::{AllocError, Global};
 
-/// Appends the replies to a piece's calls, where `base` is the number before the piece.
+/// Appends the replies to a piece's calls. `base` is the number before the piece.
 fn push_numbers(replies: &mut Vec<Reply>, base: u64, prefixes: &[u64]) -> Result<(), AllocError>
     requires { AllByRecursion (λ prefix. base + prefix < 2 ^ 64) prefixes.now }
     ensures { OnOk result (replies.new.items ≡ replies.old.items ++ number_replies base prefixes.now) }
@@ -18,7 +18,7 @@ fn push_numbers(replies: &mut Vec<Reply>, base: u64, prefixes: &[u64]) -> Result
     Ok(())
 }
 
-/// The number after a batch, and the replies to it. Room for `calls` replies is taken at once.
+/// The number after a batch, and the replies to its calls. `calls` is only the capacity that the replies are given.
 pub(crate) fn join_pieces(
     alloc: Global,
     number: u64,

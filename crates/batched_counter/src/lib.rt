@@ -1,8 +1,8 @@
 //! A counter that serves a batch of additions in pieces.
 //!
-//! `Counter` obeys the law of batches: the pieces are summed apart from one another, and the end adds to each of
-//! their sums what came before. So the replies to a batch and the number after it are those of one addition after
-//! another. `laws` says how many pieces a batch has. The crate stands on `seq_objects`, which has the law of batches.
+//! `Counter` implements `Batched` of `seq_objects` as a two-level prefix sum. Each piece computes the prefix sums of
+//! its own addends, independently of the others; the end adds to them the number before the piece. So the replies and
+//! the final number are those of serving the additions one after another. `laws` states how many pieces a batch has.
 #![tactic(auto)]
 
 mod begin;

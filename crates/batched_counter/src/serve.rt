@@ -1,11 +1,11 @@
-//! Summing a piece.
+//! Serves a piece: prefix sums in place.
 ghost use Rattle.std.specs.Prelude.{◌≡◌, ◌<◌, ◌^◌};
 ghost use Rattle.batched_counter.specs.Sums.{total, sums_from};
 ghost use Rattle.batched_counter.specs.Pieces.{Meets};
 
 use crate::piece::{Piece, Served};
 
-/// Puts the sum of each front of some addends in the place of its last one, and gives the sum of all.
+/// Overwrites each addend with the sum up to and including it, and returns the total.
 fn sum_up(addends: &mut [u64]) -> u64
     requires { total addends.old < 2 ^ 64 }
     ensures sums { addends.new ≡ sums_from 0 addends.old }
@@ -19,7 +19,7 @@ fn sum_up(addends: &mut [u64]) -> u64
     sum
 }
 
-/// The sum of each front of a piece's addends, and of all of them.
+/// Computes the prefix sums and the total of a piece, in the piece's own vector.
 ///
 /// Memory: none.
 pub(crate) fn serve_piece(piece: Piece) -> Served

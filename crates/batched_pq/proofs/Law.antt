@@ -1,5 +1,5 @@
--- The law of batches: with the inserts of a batch the shards are the bag with all inserts, and each can give as
--- many items as there are takes.
+-- The law of batches: after the pieces, the shards form the bag with all inserts, and each can give as many items as
+-- there are takes.
 use Rattle.std.proofs.Common.{◌≡◌, ℕ, ◌+◌, List, [], ◌∷◌, ◌++◌, length, refl, ap, sym, subst, arith}
 use Rattle.seq_objects.specs.Orders.{Ascends, copies}
 use Rattle.seq_objects.specs.Pieces.{AllMeet, BatchContext}
@@ -48,7 +48,7 @@ pub eight : (rest : Rest) (o : BatchContext (List ℕ) Piece) (outs : List Shard
     → IsContextOf rest o → AllMeet Meets o.ins outs → length outs ≡ 8
 eight rest o outs kept met = omega (arith, same_length o.ins outs met, pieces_count 0 (inserts_of o.calls) (takes_of o.calls) o.ins kept.cut.pieces)
 
--- the shards after the pieces are the bag with all inserts
+-- after the pieces, the shards form the bag with all inserts
 pub whole : (rest : Rest) (o : BatchContext (List ℕ) Piece) (outs : List ShardView)
     → IsContextOf rest o → AllMeet Meets o.ins outs
     → bag_of outs ≡ with_items (inserts_of o.calls) o.before
@@ -69,7 +69,7 @@ pub law_content : (rest : Rest) (o : BatchContext (List ℕ) Piece) (outs : List
 law_content rest o outs kept met =
     rw (kept.takes, whole rest o outs kept met) (sym (serial_after o.before o.calls kept.may kept.batch.order))
 
--- a shard that was prepared is the out that its piece owes
+-- a prepared shard meets its piece
 pub prepared : (piece : Piece) (out : ShardView) → Ascends (all_of piece.shard)
     → all_of out ≡ with_items piece.inserts.items (all_of piece.shard) → CanGive piece.takes out
     → Meets piece out

@@ -13,7 +13,7 @@ use Rattle.batched_pq.specs.Code.Bags.{with_items}
 use Rattle.batched_pq.specs.Calls.{item_of, inserts_of, takes_of}
 use Rattle.batched_pq.specs.Code.End.{take_replies, after_takes, insert_replies}
 
--- no insert comes behind a take
+-- in batch order, no insert follows a take
 not_before : (op : Op) (worker worker' : ℕ) → object_of op ≡ Queue
     → ComesFirst PqTake worker op worker' → item_of op ≡ None
 not_before (CounterAdd a) worker worker' is first = absurd cc
@@ -82,7 +82,7 @@ pub serial_after : (bag : List ℕ) (calls : List Call) → AreOf Queue calls �
 serial_after bag [] is order = refl
 serial_after bag (call ∷ calls) is order = served_step bag call.op call.worker call.leaf calls is.0 is.1 order.0 (λ bag'. serial_after bag' calls is.1 order.1)
 
--- one take of those that are left
+-- one of the remaining takes
 pub take_replied : (takes counter : ℕ) (bag : List ℕ) → counter < takes
     → take_replies (takes - counter) bag ≡ number_or_empty (least bag) ∷ take_replies (takes - (counter + 1)) (without_least bag)
 take_replied takes counter bag more = let e : takes - counter ≡ suc (takes - (counter + 1)) = omega arith in rw e refl

@@ -1,4 +1,4 @@
--- The definitions of the code's own: the heap's nodes and runs, and how takes are replied to.
+-- Definitions that only the code cites: the heap's nodes and runs, and the replies to takes.
 pub mod Bags
 pub mod Nodes
 pub mod Runs

@@ -1,4 +1,4 @@
--- The rules of the batched queue: its calls, its shards and its pieces. `Code` is what only the code cites.
+-- The rules of the batched queue: its calls, its shards and its pieces. Only the code cites `Code`.
 pub mod Bags
 pub mod Shards
 pub mod Calls

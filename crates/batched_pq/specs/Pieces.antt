@@ -1,4 +1,4 @@
--- The pieces of a batch: a piece for each shard.
+-- The pieces of a batch, one for each shard.
 use Rattle.std.specs.Prelude.{◌≡◌, ℕ, ◌+◌, ◌≤◌, ◌⊎◌, List, [], ◌∷◌, ◌++◌, length}
 use Rattle.seq_objects.specs.declared.call.Call.{Call}
 use Rattle.seq_objects.specs.Objects.{Objects}
@@ -11,36 +11,36 @@ use Rattle.batched_pq.specs.declared.piece.Rest.{Rest}
 use Rattle.batched_pq.specs.Shards.{ShardView, all_of, bag_of, NoneExceeds}
 use Rattle.batched_pq.specs.Calls.{MayServe, inserts_of, takes_of, inserts_for}
 
--- the shards in the pieces
+-- the shard of each piece
 abbrev pub shards_in : List Piece → List ShardView
 shards_in [] = []
 shards_in (piece ∷ pieces) = piece.shard ∷ shards_in pieces
 
--- from a shard on, each up to the last has its part of the inserts, and the number of takes
+-- the pieces of the shards from `shard` to 7: each has its share of the inserts, and the number of takes of the batch
 abbrev pub ArePieces : ℕ → List ℕ → ℕ → List Piece → Type 0
 ArePieces shard inserts takes [] = shard ≡ 8
 ArePieces shard inserts takes (piece ∷ pieces) =
     (piece.inserts.items ≡ inserts_for shard 0 inserts) × (piece.takes ≡ takes)
     × ArePieces (shard + 1) inserts takes pieces
 
--- there is a piece for each of the eight shards, and the shards together have the items of the bag
+-- there is a piece for each of the eight shards, and the shards together hold the items of the bag
 pub record Cut (objects : Objects) (calls : List Call) (ins : List Piece) : Type 0 where
   pub pieces : ArePieces 0 (inserts_of calls) (takes_of calls) ins
   pub bag : bag_of (shards_in ins) ≡ objects.bag
 
--- how many pieces there are: one for each shard, whatever the calls
+-- the number of shards, whatever the calls
 abbrev pub piece_count : Objects → List Call → ℕ
 piece_count objects calls = 8
 
--- the out has the items of the shard and the inserts; its front ascends, none of the front's items exceeds one
--- of the rest, and there are enough for the takes or there is no rest
+-- the out holds the items of the shard and the inserts; its front ascends, none of the front's items exceeds one of the
+-- rest, and the front suffices for the takes unless the rest is empty
 pub record Meets (piece : Piece) (out : ShardView) : Type 0 where
   pub items : (n : ℕ) → copies n (all_of out) ≡ copies n (all_of piece.shard ++ piece.inserts.items)
   pub ascends : Ascends out.front
   pub least : NoneExceeds out.front out.rest
   pub enough : (piece.takes ≤ length out.front) ⊎ (out.rest ≡ [])
 
--- what is kept are the numbers of inserts and of takes of the batch, which was cut so
+-- the rest keeps the numbers of inserts and takes of one batch, whose pieces are a `Cut` of it
 pub record IsContextOf (rest : Rest) (o : BatchContext (List ℕ) Piece) : Type 0 where
   pub batch : AreOneBatch o.calls
   pub may : MayServe (of_bag o.before) o.calls

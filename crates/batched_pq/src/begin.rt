@@ -1,4 +1,4 @@
-//! Cutting a batch into a piece for each shard.
+//! Cuts a batch into one piece for each shard.
 ghost use Rattle.std.specs.Prelude.{◌≡◌, ◌<◌, ◌≤◌, length, IfOk};
 ghost use Rattle.batched_pq.specs.Calls.{item_of, takes_in, inserts_of, takes_of, inserts_for};
 ghost use Rattle.batched_pq.specs.Pieces.{ArePieces, shards_in};
@@ -8,7 +8,7 @@ use crate::shard::Shard;
 use seq_objects::{Call, Op};
 use std::alloc::{AllocError, Global};
 
-/// The item that an operation inserts.
+/// The item that an operation inserts, if it is an insert.
 fn item_of(op: Op) -> Option<u32>
     ensures { result ≡ item_of op }
 {
@@ -18,7 +18,7 @@ fn item_of(op: Op) -> Option<u32>
     }
 }
 
-/// One for a take.
+/// 1 for a take, 0 for any other operation.
 fn takes_in(op: Op) -> usize
     ensures is { result ≡ takes_in op }
     ensures small { result ≤ 1 }
@@ -29,7 +29,7 @@ fn takes_in(op: Op) -> usize
     }
 }
 
-/// The items that are inserted, in the order of the calls. Room is taken for all calls but `takes` of them.
+/// The inserted items, in call order. The capacity is the number of calls less `takes`.
 pub(crate) fn inserts_of(
     alloc: Global,
     calls: &[Call],
@@ -46,7 +46,7 @@ pub(crate) fn inserts_of(
     Ok(inserts)
 }
 
-/// How many calls are takes.
+/// How many of the calls are takes.
 pub(crate) fn takes_of(calls: &[Call]) -> usize
     ensures { result ≡ takes_of calls.now }
 {
@@ -57,7 +57,7 @@ pub(crate) fn takes_of(calls: &[Call]) -> usize
     takes
 }
 
-/// The inserts of one shard. Where it has none, no memory is taken.
+/// The inserts of shard `number`: every eighth, starting at that index. It allocates nothing if there are none.
 fn inserts_for(alloc: Global, number: usize, inserts: &[u32]) -> Result<Vec<u32>, AllocError>
     requires { number < 8 }
     ensures { IfOk result (λ v. v.items ≡ inserts_for number 0 inserts.now) }
@@ -71,7 +71,7 @@ fn inserts_for(alloc: Global, number: usize, inserts: &[u32]) -> Result<Vec<u32>
     Ok(own)
 }
 
-/// A piece for each shard.
+/// One piece for each shard, in shard order.
 pub(crate) fn pieces_of(
     alloc: Global,
     shards: Vec<Shard>,

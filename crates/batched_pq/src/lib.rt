@@ -1,9 +1,9 @@
-//! A priority queue in eight shards, which serves a batch of inserts and takes in pieces.
+//! A priority queue in eight shards that serves a batch of inserts and takes in pieces.
 //!
-//! `Queue` obeys the law of batches: each shard takes its part of a batch's inserts and brings its least
-//! items to its front, apart from the other shards, and the end takes the least of the fronts, one for each
-//! take. So the replies to a batch and the items after it are those of one call after another. `laws` says how
-//! many pieces a batch has. The crate stands on `seq_objects`, which has the law of batches.
+//! `Queue` implements `Batched` of `seq_objects`. Each piece adds its share of the inserts to one shard and moves that
+//! shard's least items to its front, independently of the others. The end takes the least item of all fronts, once for
+//! each take. So the replies to a batch and the items after it are those of serving the calls one after another. `laws`
+//! states how many pieces a batch has.
 #![tactic(auto)]
 
 mod begin;

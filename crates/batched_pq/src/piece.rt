@@ -1,8 +1,8 @@
-//! A piece of a batch, which has one shard, what it comes to, and what is kept meanwhile.
+//! A piece of a batch, its result, and what the queue keeps meanwhile.
 
 use crate::shard::Shard;
 
-/// A shard, its part of a batch's inserts, and the number of takes of the whole batch.
+/// A shard, its share of a batch's inserts, and the number of takes of the whole batch.
 #[derive(Drop)]
 pub struct Piece {
     pub shard: Shard,
@@ -10,10 +10,10 @@ pub struct Piece {
     pub takes: usize,
 }
 
-/// A piece's shard with its inserts, ready for the takes.
+/// A piece's shard with its inserts, and a front that suffices for the takes.
 pub type Served = Shard;
 
-/// How many inserts and takes a batch has.
+/// What a queue keeps while its pieces are served: a batch's numbers of inserts and takes.
 #[derive(Drop)]
 pub struct Rest {
     pub inserts: usize,

@@ -1,4 +1,4 @@
-//! A priority queue that serves batches of inserts and takes.
+//! The queue, and its implementation of `Batched`.
 ghost use Rattle.std.specs.Prelude.{◌≡◌, ℕ, List, [], IfOk};
 ghost use Rattle.seq_objects.specs.Serial.{replies_to_all, after_all, of_bag};
 ghost use Rattle.seq_objects.specs.Pieces.{AllMeet, BatchContext};
@@ -15,8 +15,8 @@ use seq_objects::{Batched, Call, Reply};
 use std::alloc::{AllocError, Global};
 use std::marker::Model;
 
-/// Numbers, of which the least is taken first, in eight shards. Contracts see them as an ascending list, where
-/// one number may stand several times.
+/// A priority queue of numbers, least first, in eight shards. Contracts see it as an ascending list, in which a number
+/// may occur several times.
 #[derive(Drop)]
 pub struct Queue {
     shards: Vec<Shard>,

@@ -1,4 +1,4 @@
-//! Serving a piece: its inserts, and the least items to the front.
+//! Serves a piece: adds its inserts, and moves the least items to the front.
 ghost use Rattle.std.specs.Prelude.{IfOk};
 ghost use Rattle.batched_pq.specs.Pieces.{Meets};
 
@@ -6,7 +6,7 @@ use crate::piece::{Piece, Served};
 use crate::shard::prepare;
 use std::alloc::{AllocError, Global};
 
-/// Puts the inserts of a piece into its shard, and brings enough items for all takes to the front.
+/// Adds the inserts of a piece to its shard, and fills the front for all takes of the batch.
 pub(crate) fn serve_piece(alloc: Global, piece: Piece) -> Result<Served, AllocError>
     ensures { IfOk result (λ out. Meets piece out) }
 {

@@ -1,4 +1,4 @@
--- Small facts on lists and tests that several proofs use.
+-- Small facts on lists and comparisons that several proofs use.
 use Rattle.std.proofs.Common.{◌≡◌, ℕ, true, false, cond, List, [], ◌∷◌, ◌++◌, length, take, drop, subst, arith}
 use Rattle.std.specs.List.{AllByRecursion}
 use Rattle.std.proofs.lemmas.Grind.{common_steps}

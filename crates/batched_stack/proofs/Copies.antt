@@ -1,15 +1,15 @@
--- A change of room is paid by the calls since the last change of that stripe's room.
+-- The amortized cost of rooms: the calls since a stripe's last change of room pay for its next one.
 use Rattle.std.proofs.Common.{◌≡◌, ℕ, zero, suc, ◌+◌, ◌-◌, ◌*◌, ◌/◌, ◌%◌, ◌<◌, ◌≤◌, ◌⊎◌, inl, inr, true, false, cond, ltb, eqb, List, [], ◌∷◌, slice_index, refl, arith}
 use Rattle.std.proofs.lemmas.Bool.{ltb-true, lt-ltb, eq-eqb, eqb-true, eqb-false}
 use Rattle.batched_stack.specs.Stripes.{stripe_length}
 use Rattle.batched_stack.specs.Rooms.{NeedsRoom, IsRoomFor, IsNext, AreNext}
 use Rattle.batched_stack.specs.Copies.{BatchCounts, length_after, FollowRule, copied_by, copied_items, call_count, first_rooms}
 
--- what the calls since the last change have paid
+-- the credit that the calls since the last change have built up
 abbrev paid : ℕ → ℕ → ℕ
 paid room len = 2 * (len - room / 2) + cond (ltb 16 room) (2 * (room / 4 - len)) 0
 
--- one item more or less pays at most two
+-- one item more or less adds at most two to the credit
 paid_step : (room len new : ℕ) → (new ≡ len + 1) ⊎ (len ≡ new + 1)
     → paid room new ≤ paid room len + 2
 paid_step room len new change =
@@ -18,7 +18,7 @@ paid_step room len new change =
       | false ↦ elim change [ inl more ↦ omega (arith, more) | inr less ↦ omega (arith, less) ]
     ]
 
--- a new room starts with nothing paid
+-- a new room starts without credit
 paid_new : (len new : ℕ) → IsRoomFor len new → paid new len ≡ 0
 paid_new len new r =
     elim (ltb 16 new) as (λ b. ltb 16 new ≡ b → 2 * (len - new / 2) + cond b (2 * (new / 4 - len)) 0 ≡ 0) [
@@ -38,12 +38,12 @@ change room len new (inl (out, fresh)) =
     elim (eqb new room) as (λ b. cond b 0 len + paid new len ≤ paid room len) [ true ↦ omega (arith, none, enough) | false ↦ omega (arith, none, enough) ]
 change room len new (inr (stays, is)) = rw (is, eq-eqb room room refl) (omega arith)
 
--- what has been paid for the first so many stripes, where the stack has n items
+-- the credit of the first j stripes, where the stack has n items
 abbrev paid_by : ℕ → List ℕ → ℕ → ℕ
 paid_by zero rooms n = 0
 paid_by (suc j) rooms n = paid (slice_index rooms j) (stripe_length j n) + paid_by j rooms n
 
--- the changes of the first so many stripes
+-- the credit of the first j stripes covers what their changes of room copy
 changes : (stripes : ℕ) (rooms : List ℕ) (n : ℕ) (new : List ℕ) → stripes ≤ 16 → AreNext rooms n new
     → copied_by stripes rooms n new + paid_by stripes new n ≤ paid_by stripes rooms n
 changes zero rooms n new few next = omega arith
@@ -58,7 +58,7 @@ other_length j n low other = omega (arith, other)
 own_length : (j n : ℕ) → j < 16 → n % 16 ≡ j → stripe_length j (n + 1) ≡ stripe_length j n + 1
 own_length j n low is = omega (arith, is)
 
--- stripes that the item does not lie in
+-- the credit of the stripes below the item's own is unchanged
 paid_same : (stripes : ℕ) (rooms : List ℕ) (n : ℕ) → stripes ≤ n % 16
     → paid_by stripes rooms (n + 1) ≡ paid_by stripes rooms n
 paid_same zero rooms n above = refl
@@ -66,7 +66,7 @@ paid_same (suc j) rooms n above =
     let same : stripe_length j (n + 1) ≡ stripe_length j n = other_length j n (omega (arith, above)) (λ is. omega (arith, above, is)) in
     rw same (omega (arith, paid_same j rooms n (omega (arith, above))))
 
--- of the first so many stripes at most one changes where the stack has one item more or less
+-- one item more or less on the stack adds at most two to the credit of the first j stripes
 paid_up : (stripes : ℕ) (rooms : List ℕ) (n : ℕ) → stripes ≤ 16
     → (paid_by stripes rooms (n + 1) ≤ paid_by stripes rooms n + 2) × (paid_by stripes rooms n ≤ paid_by stripes rooms (n + 1) + 2)
 paid_up zero rooms n few = (omega arith, omega arith)

@@ -1,4 +1,4 @@
--- The stripes that are put back are those of the items that one call after another leaves.
+-- The stripes after the end are those of the items that serving the calls one after another leaves.
 use Rattle.std.proofs.Common.{◌≡◌, ℕ, ◌+◌, ◌-◌, ◌<◌, ◌≤◌, inr, false, List, [], ◌∷◌, ◌++◌, length, take, drop, reverse, map, replicate, get_or, sym, ap, subst, ◌∙◌, length-append, length-take-le, arith}
 use Rattle.std.specs.List.{AllByRecursion}
 use Rattle.std.proofs.lemmas.List.{get_or-replicate, length-map, length-drop, length-reverse}

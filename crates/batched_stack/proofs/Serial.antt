@@ -1,4 +1,4 @@
--- What one call after another makes of a stack, and replies.
+-- The stack and the replies after serving calls one after another.
 use Rattle.std.proofs.Common.{◌≡◌, ℕ, zero, suc, ◌+◌, ◌-◌, inl, inr, List, [], ◌∷◌, ◌++◌, length, take, replicate, refl, sym, ap, subst, ◌∙◌, append_assoc, append-nil, length-take-le, arith}
 use Rattle.std.specs.List.{AllByRecursion}
 use Rattle.std.proofs.lemmas.List.{take-take}
@@ -14,7 +14,7 @@ use Rattle.seq_objects.specs.Batches.{AreInBatchOrder, AreOf, object_of, Stack}
 use Rattle.seq_objects.specs.Serial.{replies_to_all, after_all, of_stack}
 use Rattle.batched_stack.specs.Calls.{pushes_of, pops_of}
 
--- the replies to so many pops, and what they leave
+-- the replies to a number of pops, and the items that they leave
 abbrev pub pop_replies : List ℕ → ℕ → List Reply
 pop_replies items zero = []
 pop_replies items (suc pops) = number_or_empty (top items) ∷ pop_replies (without_top items) pops
@@ -94,7 +94,7 @@ off_is items (suc pops) =
     let less : length items - 1 - pops ≡ length items - suc pops = omega arith in
     off_is (without_top items) pops ∙ rw long (take-take (length items - 1 - pops) (length items - 1) items (omega arith) ∙ ap (λ n. take n items) less)
 
--- a batch leaves the items and the pushed ones, without as many of the last as there are pops
+-- a batch leaves the items and the pushed ones, less the last one for each pop
 pub serial_after : (items : List ℕ) (calls : List Call) → AreOf Stack calls → AreInBatchOrder calls
     → after_all (of_stack items) calls ≡ of_stack (take (length (items ++ pushes_of calls) - pops_of calls) (items ++ pushes_of calls))
 serial_after items calls of order = serial_off items calls of order ∙ ap of_stack (off_is (items ++ pushes_of calls) (pops_of calls))

@@ -1,4 +1,4 @@
--- The calls of a batch of the stack.
+-- The pushes and pops of a batch.
 use Rattle.std.specs.Prelude.{ℕ, ◌+◌, List, [], ◌∷◌, ◌++◌}
 use Rattle.seq_objects.specs.declared.op.Op.{Op}
 use Rattle.seq_objects.specs.declared.op.Op.TheVariants.{Push, Pop}
@@ -6,26 +6,26 @@ use Rattle.seq_objects.specs.declared.call.Call.{Call}
 use Rattle.seq_objects.specs.Objects.{Objects}
 use Rattle.seq_objects.specs.Batches.{AreOf, Stack}
 
--- the item that an operation pushes, if it is a push
+-- the item that an operation pushes, as a list; empty where it is no push
 abbrev pub pushes_in : Op → List ℕ
 pushes_in (Push item) = item ∷ []
 pushes_in _ = []
 
--- 1 for a pop
+-- 1 for a pop, 0 for any other operation
 abbrev pub pops_in : Op → ℕ
 pops_in Pop = 1
 pops_in _ = 0
 
--- the items that are pushed, in the order of the calls
+-- the pushed items, in call order
 abbrev pub pushes_of : List Call → List ℕ
 pushes_of [] = []
 pushes_of (call ∷ calls) = pushes_in call.op ++ pushes_of calls
 
--- how many pops there are
+-- the number of pops
 abbrev pub pops_of : List Call → ℕ
 pops_of [] = 0
 pops_of (call ∷ calls) = pops_in call.op + pops_of calls
 
--- a batch of any pushes and pops can be served
+-- any batch of calls of the stack can be served
 abbrev pub MayServe : Objects → List Call → Type 0
 MayServe objects calls = AreOf Stack calls

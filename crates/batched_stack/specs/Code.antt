@@ -1,4 +1,4 @@
--- The definitions of the code's own: its invariant, what cutting takes and leaves, and what the end puts together.
+-- Definitions that only the code cites: the invariant, what cutting takes and leaves, and what the end reassembles.
 pub mod Begin
 pub mod End
 pub mod Invariant

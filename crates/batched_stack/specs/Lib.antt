@@ -1,5 +1,4 @@
--- The rules of the batched stack: its calls, its stripes and their rooms, and its pieces. `Code` is what only the code
--- cites.
+-- The rules of the batched stack: its calls, its stripes and their rooms, and its pieces. Only the code cites `Code`.
 pub mod Calls
 pub mod Stripes
 pub mod Lists

@@ -1,4 +1,4 @@
--- The items and the rooms of stripes, by stripe.
+-- The items and the rooms of a list of stripes.
 use Rattle.std.specs.Prelude.{ℕ, List, map}
 use Rattle.batched_stack.specs.declared.stripe.Stripe.{Stripe}
 

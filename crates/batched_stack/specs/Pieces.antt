@@ -1,4 +1,4 @@
--- The pieces of a batch. With n items before it, push i is item n + i; a pop takes the last item there is.
+-- The pieces of a batch. With n items before it, push i becomes item n + i; a pop takes the last item there is.
 use Rattle.std.specs.Prelude.{◌≡◌, ℕ, zero, suc, ◌+◌, ◌-◌, ◌%◌, ◌<◌, ◌^◌, Bool, false, ◌==◌, nat_lt, if◌then◌else◌, List, [], ◌∷◌, ◌++◌, length, take, drop, reverse, map, filter, slice_index, slice_index_or}
 use Rattle.std.specs.List.{AllByRecursion, range_with_len}
 use Rattle.seq_objects.specs.declared.call.Call.{Call}
@@ -13,67 +13,69 @@ use Rattle.batched_stack.specs.Stripes.{StackView, stripe, stripe_length}
 use Rattle.batched_stack.specs.Lists.{lists, rooms_in}
 use Rattle.batched_stack.specs.Rooms.{NeedsRoom, IsNext}
 
--- the pushes that go to stripe j, where the first is item n
+-- the pushes that go to stripe j, where the first becomes item n
 abbrev pub pushes_to : ℕ → ℕ → List ℕ → List ℕ
 pushes_to j n [] = []
 pushes_to j n (item ∷ items) =
     if n % 16 == j then item ∷ pushes_to j (n + 1) items else pushes_to j (n + 1) items
 
--- how many of a number of pops take an item of stripe j, where there are n items: the last is item n - 1
+-- of these pops, the number that take an item of stripe j, from a stack of n items whose last is item n - 1
 abbrev pub pops_from : ℕ → ℕ → ℕ → ℕ
 pops_from j n zero = 0
 pops_from j zero (suc pops) = 0
 pops_from j (suc n) (suc pops) = if n % 16 == j then 1 + pops_from j n pops else pops_from j n pops
 
--- stripe j has a push, or a pop that finds an item
+-- whether stripe j has a push, or a pop that finds an item, where n items stand before the batch
 abbrev pub is_called : ℕ → List ℕ → ℕ → ℕ → Bool
 is_called n pushes pops j =
     nat_lt 0 (length (pushes_to j n pushes) + pops_from j (n + length pushes) pops)
 
--- stripe 0 where there is no other
+-- the list; stripe 0 alone where it is empty
 abbrev pub or_first : List ℕ → List ℕ
 or_first [] = 0 ∷ []
 or_first (j ∷ js) = j ∷ js
 
--- the stripes that get a piece, ascending: those with calls, or stripe 0 where none has any
+-- the stripes that get a piece, ascending: those with a call, or stripe 0 where none has one
 abbrev pub piece_numbers : ℕ → List ℕ → ℕ → List ℕ
 piece_numbers n pushes pops = or_first (filter (is_called n pushes pops) (range_with_len 0 16))
 
--- the stripes that the pieces have
+-- the stripe number of each piece
 abbrev pub numbers_in : List Piece → List ℕ
 numbers_in pieces = map (λ piece. piece.number) pieces
 
--- the piece has its stripe of the stack, the pushes to it, and the number of the pops that take an item of it
+-- the piece has its stripe's items of the stack, the pushes to it, and the number of pops that take an item of it
 pub record IsPieceOf (stack puts : List ℕ) (takes : ℕ) (piece : Piece) : Type 0 where
   pub items : piece.stripe.items.items ≡ stripe piece.number stack
   pub pushes : piece.pushes.items ≡ pushes_to piece.number (length stack) puts
   pub pops : piece.pops ≡ pops_from piece.number (length stack + length puts) takes
 
--- The pieces of a batch, one for each stripe that gets one. That each has its stripe's present room, which the
--- items don't tell, is said by `IsContextOf`.
+-- The pieces of a batch, one for each stripe that gets one. Only `IsContextOf` says that each stripe has its present
+-- room, since the items do not determine the room.
 pub record Cut (objects : Objects) (calls : List Call) (pieces : List Piece) : Type 0 where
   pub numbers : numbers_in pieces ≡ piece_numbers (length objects.stack) (pushes_of calls) (pops_of calls)
   pub each : AllByRecursion (IsPieceOf objects.stack (pushes_of calls) (pops_of calls)) pieces
 
--- how many pieces there are: as many as stripes that get one
+-- the number of stripes that get a piece
 abbrev pub piece_count : Objects → List Call → ℕ
 piece_count objects calls =
     length (piece_numbers (length objects.stack) (pushes_of calls) (pops_of calls))
 
--- the pushes were put on the stripe, and then the pops took its last items; the room is the next one
+-- the stripe is as after its pushes and then its pops, the popped items stand newest first, and the room is the next
+-- one
 pub record Meets (piece : Piece) (served : Served) : Type 0 where
   pub number : served.number ≡ piece.number
   pub items : served.stripe.items.items ≡ take (length (piece.stripe.items.items ++ piece.pushes.items) - piece.pops) (piece.stripe.items.items ++ piece.pushes.items)
   pub popped : served.popped.items ≡ reverse (drop (length (piece.stripe.items.items ++ piece.pushes.items) - piece.pops) (piece.stripe.items.items ++ piece.pushes.items))
   pub room : IsNext piece.stripe.room (length served.stripe.items.items) served.stripe.room
 
--- a stripe that no piece has is kept as it was
+-- stripe j has the items and the room that it had in the stack before
 pub record IsKept (before : StackView) (stripes : List (List ℕ)) (rooms : List ℕ) (j : ℕ) : Type 0 where
   pub items : slice_index_or stripes j [] ≡ stripe j before.items
   pub room : slice_index rooms j ≡ slice_index before.rooms j
 
--- What is kept is of the stack before the batch: the numbers of items, pushes and pops, and each stripe that
--- no piece has. The batch was cut so, each piece has its stripe's present room, and no stripe needed another.
+-- The rest belongs to this batch: it has the numbers of items, pushes and pops, and the stripes that no piece has. The
+-- pieces are a `Cut` of the batch, and each stripe has its present room. No stripe needed another room before the
+-- batch, and the items with the pushes are fewer than 2^63.
 pub record IsContextOf (rest : Rest) (o : BatchContext StackView Piece) : Type 0 where
   pub batch : AreOneBatch o.calls
   pub calls : AreOf Stack o.calls

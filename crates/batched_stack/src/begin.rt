@@ -1,4 +1,4 @@
-//! Cutting a batch into pieces, each of one stripe.
+//! Cuts a batch into pieces, each with one stripe.
 ghost use Rattle.std.specs.Prelude.{◌≡◌, ℕ, ◌+◌, ◌-◌, ◌%◌, ◌<◌, ◌≤◌, ◌^◌, ◌++◌, nat_lt, [], ◌∷◌, false, filter, length, map, slice_index, slice_index_or, slice_set, IfOk, OnOk, option_to_list};
 ghost use Rattle.std.specs.List.{AllByRecursion, range_with_len};
 ghost use Rattle.seq_objects.specs.Objects.{has};
@@ -16,7 +16,7 @@ use seq_objects::{Call, Op};
 use std::alloc::{AllocError, Global};
 use std::mem;
 
-/// The item that an operation pushes.
+/// The item that an operation pushes, if it is a push.
 fn item_in(op: Op) -> Option<u32>
     ensures { option_to_list result ≡ pushes_in op }
 {
@@ -26,7 +26,7 @@ fn item_in(op: Op) -> Option<u32>
     }
 }
 
-/// 1 for a pop.
+/// 1 for a pop, 0 for any other operation.
 fn pops_in(op: Op) -> usize
     ensures is { result ≡ pops_in op }
     ensures most { result ≤ 1 }
@@ -37,7 +37,7 @@ fn pops_in(op: Op) -> usize
     }
 }
 
-/// The items that the pushes of a batch put on the stack. Room is taken for all calls but `pops` of them.
+/// The items that a batch pushes, in call order. The capacity is the number of calls less `pops`.
 pub(crate) fn pushes_of(alloc: Global, calls: &[Call], pops: usize) -> Result<Vec<u32>, AllocError>
     ensures { IfOk result (λ v. v.items ≡ pushes_of calls.now) }
 {
@@ -61,7 +61,7 @@ pub(crate) fn pops_of(calls: &[Call]) -> usize
     pops
 }
 
-/// Each sixteenth item, from the one at `first` on.
+/// Every sixteenth item, starting at index `first`.
 fn each_sixteenth(alloc: Global, items: &[u32], first: usize) -> Result<Vec<u32>, AllocError>
     requires { first < 16 }
     ensures { IfOk result (λ v. v.items ≡ stripe first items.now) }
@@ -75,7 +75,7 @@ fn each_sixteenth(alloc: Global, items: &[u32], first: usize) -> Result<Vec<u32>
     Ok(found)
 }
 
-/// How many of the first `count` items of the stack lie in a stripe.
+/// How many of the first `count` items of a stack lie in stripe `number`.
 pub(crate) fn length_of(number: usize, count: usize) -> usize
     requires low { number < 16 }
     requires fits { count < 2 ^ 63 }
@@ -84,7 +84,8 @@ pub(crate) fn length_of(number: usize, count: usize) -> usize
     (count + 15 - number) / 16
 }
 
-/// Which push of a batch is the first that goes to a stripe.
+/// The index of the first push that goes to stripe `number`, on a stack of `count` items. The batch may have fewer
+/// pushes.
 fn first_push(number: usize, count: usize) -> usize
     requires { number < 16 }
     ensures { result ≡ (number + 16 - count % 16) % 16 }
@@ -92,7 +93,7 @@ fn first_push(number: usize, count: usize) -> usize
     (number + 16 - count % 16) % 16
 }
 
-/// How many of the pops take an item of a stripe.
+/// How many of the batch's pops take an item of stripe `number`, where `total` counts the items with the pushed ones.
 #[tactic(auto, using(crate::proofs::BeginLemmas::Parts::pops_from_is))]
 fn pops_of_stripe(number: usize, total: usize, pops: usize) -> usize
     requires low { number < 16 }
@@ -102,7 +103,7 @@ fn pops_of_stripe(number: usize, total: usize, pops: usize) -> usize
     length_of(number, total) - length_of(number, total.saturating_sub(pops))
 }
 
-/// Whether a stripe has a push, of which `first` is the first one, or a pop.
+/// Whether a stripe has a push or a pop. `first` is the index of its first push, `pops` counts its own pops.
 fn has_calls(first: usize, pushes: &[u32], pops: usize) -> bool
     requires { first < 16 }
     ensures { result ≡ nat_lt 0 (stripe_length first (length pushes.now) + pops) }
@@ -110,7 +111,7 @@ fn has_calls(first: usize, pushes: &[u32], pops: usize) -> bool
     first < pushes.len() || pops > 0
 }
 
-/// Takes a stripe out, and gives it to a piece with its calls.
+/// Moves a stripe into a new piece with its calls. An empty stripe is left in its place.
 fn add_piece(
     stripes: &mut Vec<Stripe>,
     pieces: &mut Vec<Piece>,
@@ -138,7 +139,8 @@ fn add_piece(
     Ok(())
 }
 
-/// A piece for each stripe that has a push or a pop that finds an item, and the stripes without those.
+/// Makes a piece for each stripe that has a push, or a pop that finds an item. Returns the 16 stripes, with empty ones
+/// in place of those that moved, and the pieces.
 fn cut_called(
     alloc: Global,
     stripes: Vec<Stripe>,
@@ -167,7 +169,8 @@ fn cut_called(
     Ok((stripes, pieces))
 }
 
-/// Cuts a batch into pieces, and gives the stripes that no piece has.
+/// Cuts a batch into at least one piece: stripe 0 gets a piece if no stripe has a call. Returns the stripes and the
+/// pieces, as `cut_called` does.
 pub(crate) fn cut_pieces(
     alloc: Global,
     stripes: Vec<Stripe>,

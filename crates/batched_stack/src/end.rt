@@ -1,4 +1,4 @@
-//! Putting the pieces of a batch back together.
+//! Reassembles a stack and its replies from the outs of the pieces.
 ghost use Rattle.std.specs.Prelude.{◌≡◌, ℕ, ◌+◌, ◌-◌, ◌≤◌, ◌<◌, ◌^◌, ◌++◌, [], length, map, replicate, IfOk, OnOk};
 ghost use Rattle.batched_stack.specs.Lists.{lists, rooms_in};
 ghost use Rattle.batched_stack.specs.Code.End.{with_outs, HavePopped, popped_item, number_replies, stack_replies};
@@ -9,7 +9,7 @@ use crate::stripe::Stripe;
 use seq_objects::Reply;
 use std::alloc::{AllocError, Global};
 
-/// As many empty vectors as there are stripes, in memory that is used again.
+/// 16 empty vectors, one for each stripe, in reused memory.
 fn empty_vectors(alloc: Global, memory: Vec<Vec<u32>>) -> Result<Vec<Vec<u32>>, AllocError>
     ensures { IfOk result (λ v. map (λ items. items.items) v.items ≡ replicate 16 []) }
 {
@@ -21,8 +21,8 @@ fn empty_vectors(alloc: Global, memory: Vec<Vec<u32>>) -> Result<Vec<Vec<u32>>, 
     Ok(vectors)
 }
 
-/// Puts each stripe that a piece had back in its place, and gives the items that were popped from each stripe, in
-/// memory that is used again.
+/// Returns each piece's stripe to its place. Also returns the items popped from each stripe; the outer vector reuses
+/// `memory`.
 pub(crate) fn put_back(
     alloc: Global,
     stripes: Vec<Stripe>,
@@ -50,7 +50,7 @@ pub(crate) fn put_back(
     Ok((stripes, popped))
 }
 
-/// The rooms of the stripes, in memory that is used again.
+/// The rooms of the stripes, in reused memory.
 pub(crate) fn rooms_of(memory: Vec<u64>, stripes: &[Stripe]) -> Result<Vec<u64>, AllocError>
     ensures { IfOk result (λ v. v.items ≡ rooms_in stripes.now) }
 {
@@ -62,7 +62,8 @@ pub(crate) fn rooms_of(memory: Vec<u64>, stripes: &[Stripe]) -> Result<Vec<u64>,
     Ok(rooms)
 }
 
-/// Item `place` of the stack, which had `total` items and keeps the first `left`, among the items that were taken.
+/// The item at `place`, counted from the bottom, looked up among the popped items. The stack had `total` items, pushes
+/// included, and keeps the first `left`.
 fn popped_item(popped: &[Vec<u32>], total: usize, left: usize, place: usize) -> u32
     requires sixteen { length popped.now ≡ 16 }
     requires fits { total < 2 ^ 63 }
@@ -75,7 +76,7 @@ fn popped_item(popped: &[Vec<u32>], total: usize, left: usize, place: usize) -> 
     taken[length_of(place % 16, total) - 1 - place / 16]
 }
 
-/// Appends the replies to the pops that find an item.
+/// Appends the replies to the pops that find an item, the top item first.
 fn push_numbers(
     replies: &mut Vec<Reply>,
     popped: &[Vec<u32>],
@@ -105,7 +106,7 @@ fn push_same(replies: &mut Vec<Reply>, reply: Reply, times: usize) -> Result<(),
     Ok(())
 }
 
-/// The replies to the pushes, and then to the pops.
+/// The replies to a batch: to the pushes, to the pops that find an item, and to the pops that find none.
 pub(crate) fn replies_of(
     alloc: Global,
     popped: &[Vec<u32>],

@@ -1,10 +1,9 @@
-//! A stack that serves a batch of pushes and pops in stripes.
+//! A stack that serves a batch of pushes and pops in pieces.
 //!
-//! `Stack` obeys the law of batches: its items lie in 16 stripes, each piece of a batch works on one of them,
-//! and the replies and the items afterwards are those of one call after another. Each stripe's vector has
-//! exactly the room that its room number says, and the number changes by one rule; `laws` says that the items
-//! copied by all changes of room are at most twice the calls, and how many pieces a batch has. The crate stands on
-//! `seq_objects`, which has the law of batches.
+//! `Stack` implements `Batched` of `seq_objects`. Its items lie in 16 stripes, by their place modulo 16. Each piece of
+//! a batch works on one stripe; the replies and the items afterwards are those of serving the calls one after another.
+//! A stripe's vector has exactly the capacity that its room says, and one rule changes the room. `laws` bounds the
+//! items that changes of room copy by twice the calls, and states how many pieces a batch has.
 #![tactic(auto)]
 
 mod begin;

@@ -1,15 +1,15 @@
-//! A piece of a batch, which has one stripe, what it comes to, and what is kept meanwhile.
+//! A piece of a batch, its result, and what the stack keeps meanwhile.
 ghost use Rattle.std.specs.Prelude.{◌+◌, ◌<◌, ◌≤◌, length};
 
 use crate::stripe::Stripe;
 
-/// A stripe, with the batch's calls of it.
+/// One stripe, with its part of a batch's calls.
 #[derive(Drop)]
 pub struct Piece {
-    /// Which of the stripes it is.
+    /// The stripe's number, from 0.
     pub number: usize,
     pub stripe: Stripe,
-    /// The items that go to this stripe, in their order.
+    /// The items pushed to this stripe, in call order.
     pub pushes: Vec<u32>,
     /// How many of the batch's pops take an item of this stripe.
     pub pops: usize,
@@ -17,7 +17,7 @@ pub struct Piece {
     ghost few: { pops ≤ length stripe.items.items + length pushes.items },
 }
 
-/// A stripe after its piece, and the items that were taken, the newest first.
+/// A stripe after its piece, and the items popped from it or from its pushes, the newest first.
 #[derive(Drop)]
 pub struct Served {
     pub number: usize,
@@ -26,9 +26,9 @@ pub struct Served {
     ghost low: { number < 16 },
 }
 
-/// What is kept of a stack while its pieces are worked on: the stripes that no piece has, how many items the stack
-/// had, and how many pushes and pops the batch has. The rooms and the popped items are those that the batch before
-/// left: memory that is used again.
+/// What a stack keeps while its pieces are served: the stripes that no piece has, the number of items before the batch,
+/// and the batch's numbers of pushes and pops. `rooms` and `popped` are memory for the end to reuse; their contents are
+/// stale.
 #[derive(Drop)]
 pub struct Rest {
     pub stripes: Vec<Stripe>,

@@ -1,4 +1,4 @@
-//! Serving the calls of one stripe.
+//! Serves the calls of one stripe.
 ghost use Rattle.std.specs.Prelude.{◌≡◌, ◌-◌, ◌≤◌, ◌++◌, length, take, drop, reverse, IfOk, OnOk, vec_capacity};
 ghost use Rattle.batched_stack.specs.Pieces.{Meets};
 
@@ -7,7 +7,7 @@ use crate::stripe::Stripe;
 use crate::stripe::room::settled_stripe;
 use std::alloc::{AllocError, Global};
 
-/// Takes the last `count` items off, and appends them to `popped`, the last one first.
+/// Pops the last `count` items and appends them to `popped`, the last one first.
 fn take_newest(items: &mut Vec<u32>, count: usize, popped: &mut Vec<u32>) -> Result<(), AllocError>
     requires { count ≤ length items.old.items }
     ensures items { OnOk result (items.new.items ≡ take (length items.old.items - count) items.old.items) }
@@ -22,7 +22,7 @@ fn take_newest(items: &mut Vec<u32>, count: usize, popped: &mut Vec<u32>) -> Res
     Ok(())
 }
 
-/// Serves the calls of one stripe. What is pushed and popped again never gets into the stripe.
+/// Serves the calls of one stripe. An item that is pushed and popped in the same batch never enters the stripe.
 pub(crate) fn serve_piece(alloc: Global, piece: Piece) -> Result<Served, AllocError>
     ensures { IfOk result (λ served. Meets piece served) }
 {

@@ -1,4 +1,4 @@
-//! A stack that serves batches of pushes and pops.
+//! The stack, and its implementation of `Batched`.
 ghost use Rattle.std.specs.Prelude.{◌≡◌, [], length, IfOk, OnOk};
 ghost use Rattle.seq_objects.specs.Serial.{replies_to_all, after_all, of_stack};
 ghost use Rattle.seq_objects.specs.Pieces.{AllMeet, BatchContext};
@@ -20,8 +20,8 @@ use seq_objects::{Batched, Call, Reply};
 use std::alloc::{AllocError, Global};
 use std::marker::Model;
 
-/// A stack in 16 stripes. Contracts see its items, the last one the top, and the rooms of its stripes. What the
-/// last batch popped is kept as memory for the next.
+/// A stack in 16 stripes. Contracts see its items, the top last, and the rooms of its stripes. `popped` is what the
+/// last batch popped, kept as memory for the next.
 #[derive(Drop)]
 pub struct Stack {
     stripes: Vec<Stripe>,
@@ -42,10 +42,10 @@ impl Model for Stack {
     ghost invariant = { λ s. StackInvariant s.stripes.items s.rooms.items s.count };
 }
 
-/// More items than any memory holds.
+/// More items than any memory holds. It keeps the numbers of items and pushes, and their sum, below 2^63.
 const TOO_MANY: usize = 1 << 62;
 
-/// The 16 stripes of an empty stack.
+/// The 16 stripes of an empty stack, each with its first room.
 fn empty_stripes(alloc: Global) -> Result<Vec<Stripe>, AllocError>
     ensures { IfOk result (λ v. AreEmpty v.items) }
 {
@@ -57,7 +57,7 @@ fn empty_stripes(alloc: Global) -> Result<Vec<Stripe>, AllocError>
 }
 
 impl Stack {
-    /// A stack without items.
+    /// An empty stack.
     pub fn new(alloc: Global) -> Result<Stack, AllocError>
         ensures items { IfOk result (λ s. s.items ≡ []) }
         ensures rooms { IfOk result (λ s. s.rooms ≡ first_rooms) }
@@ -72,7 +72,7 @@ impl Stack {
         })
     }
 
-    /// The rooms of the 16 stripes: how many items each stripe's vector has room for.
+    /// The rooms of the 16 stripes: the capacity of each stripe's vector, in items.
     pub fn rooms(&self) -> &[u64]
         ensures rooms { result.now ≡ self.now.rooms }
         ensures sixteen { length result.now ≡ 16 }
@@ -138,7 +138,7 @@ impl Batched for Stack {
         ensures content { IfOk result (λ p. (o : BatchContext StackView PieceOf)
             → IsContextOf rest o → AllMeet Meets o.ins outs.items
             → of_stack p.0.items ≡ after_all (of_stack o.before.items) o.calls) }
-        // Each stripe's room is the one that the rule gives.
+        // The room of each stripe follows the rule of rooms.
         ensures rooms { IfOk result (λ p. (o : BatchContext StackView PieceOf) → IsContextOf rest o
             → AllMeet Meets o.ins outs.items
             → AreNext o.before.rooms (length p.0.items) p.0.rooms) }

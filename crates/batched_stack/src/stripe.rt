@@ -1,9 +1,9 @@
-//! A stripe of a stack: the items of one remainder modulo 16.
+//! A stripe of a stack: the items whose places are equal modulo 16.
 ghost use Rattle.std.specs.Prelude.{◌≡◌, vec_capacity};
 
 pub(crate) mod room;
 
-/// Each sixteenth item of a stack, and the room of the vector that they lie in.
+/// Every sixteenth item of a stack, the lowest first, and its vector's room. The room is exactly the vector's capacity.
 #[derive(Drop)]
 pub struct Stripe {
     pub items: Vec<u32>,

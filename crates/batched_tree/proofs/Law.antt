@@ -1,4 +1,4 @@
--- The outs of the pieces come to the replies and the content of one call after another.
+-- The outs of the pieces give the replies and the content of serving the calls one after another.
 use Rattle.std.proofs.Common.{◌≡◌, ℕ, ◌+◌, ◌<◌, ◌≤◌, inl, inr, Bool, true, false, not, cond, nat_lt, List, [], ◌∷◌, ◌++◌, map, filter, length, get_or, drop, slice_get, None, refl, ap, sym, ◌∙◌, append-nil, arith}
 use Rattle.std.proofs.Math.ListN.{set}
 use Rattle.std.specs.List.{AllByRecursion}
@@ -35,7 +35,7 @@ use Rattle.batched_tree.proofs.BeginLemmas.Dealing.{groups_within}
 use Rattle.batched_tree.proofs.BeginLemmas.Ranges.{cut_pieces}
 use Rattle.batched_tree.proofs.ServeLemmas.Halves.{shared, halves_replies, halves_after, set_after, kept}
 
--- the first piece has the calls below the first start, and the other pieces have the others
+-- the first piece has the calls below the first start, and the other pieces have the remaining calls
 merged_split : (b : ℕ) (starts : List ℕ) (calls : List Call) (q : List Reply) (qs : List (List Reply))
     → merged_replies (map (λ call. group_of (key_of call) (b ∷ starts)) calls) (q ∷ qs) ≡ shared b calls q (merged_replies (map (λ call. group_of (key_of call) starts) (calls_from b calls)) qs)
 merged_split b starts [] q qs = refl
@@ -54,7 +54,7 @@ merged_alone : (objects : Objects) (calls : List Call)
 merged_alone objects [] = refl
 merged_alone objects (call ∷ calls) = ap (λ rs. reply_to objects call.op ∷ rs) (merged_alone (after objects call.op) calls)
 
--- where no key is beyond, a piece replies what one thread would
+-- without a key beyond its range, a piece gives the serial replies
 or_none : (reply : Reply) → or_beyond reply None ≡ reply
 or_none (Number number) = refl
 or_none Done = refl
@@ -78,7 +78,7 @@ replies_none : (objects : Objects) (calls : List Call)
 replies_none objects [] = refl
 replies_none objects (call ∷ calls) = rw (within_none call.op (reply_to objects call.op), replies_none (after objects call.op) calls) refl
 
--- calls that are left out leave the others in their order
+-- filtering calls keeps the order of the others
 pairs_filter : (R : Call → Call → Type 0) (test : Call → Bool) (calls : List Call)
     → EachPair R calls → EachPair R (filter test calls)
 pairs_filter R test [] each = tt
@@ -98,7 +98,7 @@ tree_below b calls tree = all_filter (λ call. object_of call.op ≡ Tree) (λ c
 tree_from : (b : ℕ) (calls : List Call) → AreOf Tree calls → AreOf Tree (calls_from b calls)
 tree_from b calls tree = all_filter (λ call. object_of call.op ≡ Tree) (λ call. not (nat_lt (key_of call) b)) calls tree
 
--- what a piece owes, said of the set and the calls of which it is a part
+-- the out that a piece owes, in terms of the whole set and all calls
 no_more : (ins : List Piece) (outs : List Served) → ins ≡ [] → AllMeet Meets ins outs → outs ≡ []
 no_more [] [] none meet = refl
 no_more [] (out ∷ outs) none meet = absurd meet
@@ -158,7 +158,7 @@ pieces_after (b ∷ starts) set calls (piece ∷ ins) (out ∷ outs) up tree pie
     let keys : (after_all (of_set high) (calls_from b calls)).set ≡ joined_keys outs = ap (λ (objects : Objects). objects.set) rest in
     both ∙ rw (own, ← keys) law
 
--- the subtrees stand in order
+-- the keys of the pieces' forests ascend from piece to piece
 abbrev IsAbove : List ℕ → ℕ → Type 0
 IsAbove set k = AllByRecursion (λ x. x < k) set
 
@@ -219,7 +219,7 @@ length_outs [] (out ∷ outs) meet = absurd meet
 length_outs (piece ∷ ins) [] meet = absurd meet
 length_outs (piece ∷ ins) (out ∷ outs) meet = omega (arith, length_outs ins outs meet.1)
 
--- what the end stands on
+-- the facts that the end relies on
 pieces_of : (rest : Rest) (o : BatchContext (List ℕ) Piece) (r : IsContextOf rest o)
     → AreCutPieces o.before o.calls (starts_of r.cut.groups) o.ins
 pieces_of rest o r = cut_pieces (of_set o.before) o.calls o.ins (some_key o.calls r.batch.some) r.cut

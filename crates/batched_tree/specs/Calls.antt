@@ -1,4 +1,4 @@
--- The calls of a batch of the tree: their keys, and which can be served.
+-- The calls of the tree: their keys, and which batches can be served.
 use Rattle.std.specs.Prelude.{ℕ, Bool, true, false, List, map}
 use Rattle.key_sets.specs.Groups.{distinct}
 use Rattle.seq_objects.specs.declared.op.Op.{Op}
@@ -7,7 +7,7 @@ use Rattle.seq_objects.specs.declared.call.Call.{Call}
 use Rattle.seq_objects.specs.Objects.{Objects, argument_of}
 use Rattle.seq_objects.specs.Batches.{AreOf, Tree}
 
--- whether an operation is one of the tree
+-- whether the operation is one of the tree
 abbrev pub is_of_tree : Op → Bool
 is_of_tree (TreeInsert key) = true
 is_of_tree (TreeRemove key) = true
@@ -15,11 +15,11 @@ is_of_tree (TreeFind key) = true
 is_of_tree (TreeNext key) = true
 is_of_tree _ = false
 
--- the key of a call of the tree
+-- the argument of a call's operation, which is the key for a call of the tree
 abbrev pub key_of : Call → ℕ
 key_of call = argument_of call.op
 
--- the keys of calls, in their order
+-- the keys of the calls, in call order
 abbrev pub keys_of : List Call → List ℕ
 keys_of calls = map (λ call. key_of call) calls
 
@@ -27,6 +27,6 @@ keys_of calls = map (λ call. key_of call) calls
 abbrev pub distinct_keys : List Call → List ℕ
 distinct_keys calls = distinct (keys_of calls)
 
--- all calls are of the tree
+-- any batch of calls of the tree can be served
 abbrev pub MayServe : Objects → List Call → Type 0
 MayServe objects calls = AreOf Tree calls

@@ -1,4 +1,5 @@
--- The definitions of the code's own: calls on the sides of a key, pieces as they are cut off, and what outs come to.
+-- Definitions that only the code cites: the calls on each side of a key, pieces as they are cut off, and what the end
+-- makes of the outs.
 pub mod Sides
 pub mod Begin
 pub mod End

@@ -1,4 +1,4 @@
--- The rules of the batched set: its calls, its pieces and their replies. `Code` is what only the code cites.
+-- The rules of the batched set: its calls, its pieces and their replies. Only the code cites `Code`.
 pub mod Calls
 pub mod Code
 pub mod Pieces

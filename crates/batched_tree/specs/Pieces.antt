@@ -1,4 +1,4 @@
--- The pieces of a batch: a part of the set and of the calls for each group of the calls' keys.
+-- The pieces of a batch: one for each group of the calls' keys, with a part of the set and of the calls.
 use Rattle.std.specs.Prelude.{◌≡◌, ℕ, List, [], ◌∷◌, length, filter, map}
 use Rattle.std.specs.declared.option.Option.{Option}
 use Rattle.std.specs.Option.{unwrap_or}
@@ -15,15 +15,15 @@ use Rattle.batched_tree.specs.Calls.{MayServe, key_of, distinct_keys}
 use Rattle.key_sets.specs.Groups.{AreGroups, least_of, starts_of, is_in, least_beyond, group_of, group_size, group_count}
 use Rattle.batched_tree.specs.Replies.{replies_within}
 
--- the part of a group: the keys of the set in its range, the calls whose keys are in the group, and the least
--- key of the set beyond the range, if there is one
+-- the piece of a group: the set's keys from `start` to before `end`, the calls with keys in the group, and the least
+-- key of the set beyond that range, if there is one
 pub record IsPiece (set : List ℕ) (calls : List Call) (group : List ℕ) (start : ℕ) (end : Option ℕ) (piece : Piece) : Type 0 where
   pub keys_are : piece.forest.keys ≡ filter (is_in start end) set
   pub calls_are : piece.calls.items ≡ filter (λ call. has (key_of call) group) calls
   pub beyond_is : piece.beyond ≡ least_beyond end set
 
--- each group has a part, in the order of the groups. The range of the first group begins at `start`, that of
--- each other group at its least key, and each ends before the least key of the next group
+-- there is one piece for each group, in order. The first range begins at `start`, each other at its group's least key;
+-- each range ends before the least key of the next group, and the last has no end
 abbrev pub ArePieces : List ℕ → List Call → ℕ → List (List ℕ) → List Piece → Type 0
 ArePieces set calls start [] pieces = pieces ≡ []
 ArePieces set calls start (group ∷ groups) [] = ⊥
@@ -31,22 +31,23 @@ ArePieces set calls start (group ∷ groups) (piece ∷ pieces) =
     IsPiece set calls group start (least_of groups) piece
     × ArePieces set calls (unwrap_or (least_of groups) 0) groups pieces
 
--- a group has a sixteenth of the distinct keys of the calls, rounded up, and the first range begins at 0
+-- each group but the last has a sixteenth of the calls' distinct keys, rounded up; the first range begins at 0
 pub record Cut (objects : Objects) (calls : List Call) (ins : List Piece) : Type 0 where
   pub groups : List (List ℕ)
   pub groups_are : AreGroups (group_size (length (distinct_keys calls))) (distinct_keys calls) groups
   pub pieces : ArePieces objects.set calls 0 groups ins
 
--- how many pieces there are: as many as the calls have distinct keys, up to 16, and above half of these, rounded up
+-- the number of groups of the calls' distinct keys: their number divided by the size of a group, rounded up
 abbrev pub piece_count : Objects → List Call → ℕ
 piece_count objects calls = group_count (length (distinct_keys calls))
 
--- the out has the keys after the calls, and the replies to them
+-- the out has the keys after the calls, and the replies to them, in which `beyond` may answer for a missing next key
 pub record Meets (piece : Piece) (served : Served) : Type 0 where
   pub keys : served.forest.keys ≡ (after_all (of_set piece.forest.keys) piece.calls.items).set
   pub replies : served.replies.items ≡ replies_within piece.beyond (of_set piece.forest.keys) piece.calls.items
 
--- what is kept is the number of the group of each call of the batch, which could be served and was cut so
+-- the rest keeps the group of each call of a batch that can be served, whose pieces are a `Cut` of it; the set's keys
+-- strictly ascend
 pub record IsContextOf (rest : Rest) (o : BatchContext (List ℕ) Piece) : Type 0 where
   pub ascends : StrictlyAscends o.before
   pub batch : AreOneBatch o.calls

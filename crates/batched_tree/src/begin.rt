@@ -1,4 +1,4 @@
-//! Cutting a set into pieces, and dealing the calls of a batch to them.
+//! Cuts a set into pieces, and distributes the calls of a batch among them.
 ghost use Rattle.std.specs.Prelude.{◌≡◌, ◌+◌, true, [], length, map, IfOk};
 ghost use Rattle.std.specs.List.{list_all};
 ghost use Rattle.key_sets.specs.Groups.{group_of};
@@ -13,7 +13,7 @@ use seq_objects::Call;
 use std::alloc::{AllocError, Global};
 use tree_forest::{Forest, Remaining};
 
-/// A piece that has no calls yet.
+/// A piece without calls. Its vectors come from the pool.
 fn piece_of(forest: Forest, beyond: Option<u32>, pool: &mut Pool) -> Piece
     ensures { IsCutPiece forest.keys [] beyond result }
 {
@@ -25,7 +25,7 @@ fn piece_of(forest: Forest, beyond: Option<u32>, pool: &mut Pool) -> Piece
     }
 }
 
-/// The piece of a batch with one group, to which the whole forest moves, as it is.
+/// The single piece of a batch with one group. It gets the forest uncut, and all calls.
 fn whole_piece(
     alloc: Global,
     set: Forest,
@@ -43,7 +43,7 @@ fn whole_piece(
     Ok(pieces)
 }
 
-/// The pieces whose ranges but the first begin with the starts, before they have calls.
+/// Cuts the set at the starts into pieces without calls. The first piece has the keys below the first start.
 fn empty_pieces(
     alloc: Global,
     set: Forest,
@@ -63,7 +63,8 @@ fn empty_pieces(
     Ok(pieces)
 }
 
-/// The pieces of a batch whose groups but the first begin with the starts, where `groups` has the group of each call.
+/// The pieces of a batch, one for each group. `starts` has the least key of each group but the first, and `groups` the
+/// group of each call.
 pub(crate) fn pieces_of(
     alloc: Global,
     set: Forest,

@@ -1,4 +1,4 @@
-//! Joining the forests of the pieces, and merging their replies.
+//! Joins the forests of the pieces, and merges their replies.
 ghost use Rattle.std.specs.Prelude.{◌≡◌, ◌<◌, [], ◌∷◌, length, drop, slice_get, IfOk};
 ghost use Rattle.std.specs.List.{AllByRecursion};
 ghost use Rattle.batched_tree.specs.declared.piece.Served.{Served as ServedOf};
@@ -11,7 +11,7 @@ use std::alloc::{AllocError, Global};
 use std::marker::Model;
 use tree_forest::Forest;
 
-/// The replies of a piece that are left. Contracts see them as a list.
+/// A piece's replies from `at` on, which no call has yet. Contracts see them as a list.
 #[derive(Drop)]
 pub(crate) struct Replies {
     all: Vec<Reply>,
@@ -48,7 +48,7 @@ impl Replies {
     }
 }
 
-/// One forest of the forests of all pieces, and the replies of each piece.
+/// Joins the forests of all pieces from left to right, and collects each piece's replies.
 fn join_pieces(
     alloc: Global,
     outs: Vec<Served>,
@@ -76,7 +76,7 @@ fn join_pieces(
     Ok((forest, replies))
 }
 
-/// The replies in the order of the calls, where `groups` has the group of each call.
+/// The replies in call order, where `groups` has the group of each call. Each call takes the next reply of its group.
 fn merge_replies(
     alloc: Global,
     groups: &[usize],
@@ -98,8 +98,8 @@ fn merge_replies(
     Ok(replies)
 }
 
-/// One forest of the forests of all pieces, and the replies in the order of the calls, where `groups` has the group of
-/// each call. A piece that is the only one has both as they are.
+/// The joined forest of all pieces, and the replies in call order, where `groups` has the group of each call. The
+/// forest and the replies of an only piece are returned as they are.
 pub(crate) fn join_outs(
     alloc: Global,
     groups: &[usize],

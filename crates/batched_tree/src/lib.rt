@@ -1,11 +1,10 @@
 //! A set of numbers that serves a batch of calls in pieces, each of which owns a part of the set's 2-3 trees.
 //!
-//! `TreeSet` obeys the law of batches: the keys of a batch are cut into groups, the forest of trees is cut below the
-//! least key of each group but the first, and the pieces work on their forests of subtrees apart from one another. The
-//! replies to a batch and the keys after it are those of one call after another. A piece also knows the least
-//! key beyond its range, which may be the next key of a call. `laws` says how many pieces a batch has. The crate stands on
-//! `seq_objects`, which has the law, on `key_sets`, which cuts keys into groups, and on `tree_forest`, whose subtrees move
-//! whole at a cut.
+//! `TreeSet` implements `Batched` of `seq_objects`. `key_sets` cuts the distinct keys of a batch into groups. The
+//! forest of trees is cut below the least key of each group but the first, and each piece works on its own forest. The
+//! subtrees of `tree_forest` move whole at a cut. A piece also knows the least key beyond its range, which may answer a
+//! `TreeNext`. The replies to a batch and the keys after it are those of serving the calls one after another. `laws`
+//! states how many pieces a batch has.
 #![tactic(auto)]
 
 mod begin;

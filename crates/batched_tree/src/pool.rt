@@ -6,7 +6,7 @@ use std::alloc::Global;
 use std::mem;
 use tree_forest::ForestPool;
 
-/// Boxes and vectors for reuse. Nothing that contracts say of a set depends on them.
+/// Boxes and vectors for reuse. No contract of a set depends on their content.
 #[derive(Drop)]
 pub struct Pool {
     pub trees: ForestPool,
@@ -34,7 +34,7 @@ impl Pool {
         }
     }
 
-    /// A vector for the calls of a piece, which is empty.
+    /// An empty vector for the calls of a piece.
     pub fn take_calls(&mut self) -> Vec<Call>
         ensures { result.items ≡ [] }
     {
@@ -47,12 +47,12 @@ impl Pool {
         }
     }
 
-    /// Keeps the vector, unless there is no memory for its place here.
+    /// Keeps the vector for reuse. Drops it if the pool cannot grow.
     pub fn keep_calls(&mut self, calls: Vec<Call>) {
         if let Err(_) = self.calls.push(calls) {}
     }
 
-    /// A vector for the replies of a piece. It may have what an earlier batch left in it.
+    /// A vector for the replies of a piece, with stale content.
     pub fn take_replies(&mut self) -> Vec<Reply> {
         match self.replies.pop() {
             Some(replies) => replies,
@@ -60,7 +60,7 @@ impl Pool {
         }
     }
 
-    /// Keeps the vector, unless there is no memory for its place here.
+    /// Keeps the vector for reuse. Drops it if the pool cannot grow.
     pub fn keep_replies(&mut self, replies: Vec<Reply>) {
         if let Err(_) = self.replies.push(replies) {}
     }
@@ -73,7 +73,7 @@ impl Pool {
         )
     }
 
-    /// Keeps the vectors.
+    /// Keeps the two vectors for reuse.
     pub fn keep_keys(&mut self, keys: Vec<u32>, starts: Vec<u32>) {
         self.keys = keys;
         self.starts = starts;
@@ -84,7 +84,7 @@ impl Pool {
         mem::replace(&mut self.groups, Vec::new(self.alloc))
     }
 
-    /// Keeps the vector.
+    /// Keeps the vector for reuse.
     pub fn keep_groups(&mut self, groups: Vec<usize>) {
         self.groups = groups;
     }

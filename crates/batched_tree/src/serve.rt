@@ -1,4 +1,4 @@
-//! Serving a piece: its calls on its forest, one after another.
+//! Serves a piece: its calls on its forest, one after another.
 ghost use Rattle.std.specs.Prelude.{◌≡◌, true, IfOk, OnOk};
 ghost use Rattle.seq_objects.specs.Objects.{after, reply_to};
 ghost use Rattle.seq_objects.specs.Serial.{of_set};
@@ -11,7 +11,7 @@ use seq_objects::{Op, Reply};
 use std::alloc::AllocError;
 use tree_forest::Forest;
 
-/// Serves one operation on a forest, where `beyond` is the least key of the whole set beyond the forest's range.
+/// Serves one operation on a forest. `beyond` is the least key of the whole set beyond the forest's range.
 fn serve_one(forest: &mut Forest, beyond: Option<u32>, op: Op) -> Result<Reply, AllocError>
     requires { is_of_tree op ≡ true }
     ensures reply { IfOk result (λ reply. reply ≡ reply_within beyond op (reply_to (of_set forest.old.keys) op)) }
@@ -27,7 +27,7 @@ fn serve_one(forest: &mut Forest, beyond: Option<u32>, op: Op) -> Result<Reply, 
     Ok(reply)
 }
 
-/// Serves the calls of a piece.
+/// Serves the calls of a piece in their order.
 pub(crate) fn serve_piece(piece: Piece) -> Result<Served, AllocError>
     ensures { IfOk result (λ served. Meets piece served) }
 {

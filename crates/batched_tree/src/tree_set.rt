@@ -1,4 +1,4 @@
-//! A set of numbers that serves batches of calls.
+//! The set, and its implementation of `Batched`.
 ghost use Rattle.std.specs.Prelude.{◌≡◌, ℕ, [], List, IfOk, IsOk};
 ghost use Rattle.seq_objects.specs.Orders.{StrictlyAscends};
 ghost use Rattle.seq_objects.specs.Serial.{replies_to_all, after_all, of_set};
@@ -19,8 +19,8 @@ use std::alloc::{AllocError, Global};
 use std::marker::Model;
 use tree_forest::Forest;
 
-/// A set of numbers. Contracts see it as the list of its keys, which strictly ascends. Between batches its keys stand in
-/// at most 65 trees.
+/// A set of numbers. Contracts see it as the strictly ascending list of its keys. Between batches the keys lie in at
+/// most 65 trees.
 #[derive(Drop)]
 pub struct TreeSet {
     forest: Forest,
@@ -41,7 +41,7 @@ impl Model for TreeSet {
 }
 
 impl TreeSet {
-    /// The empty set.
+    /// An empty set.
     ///
     /// Memory: none.
     pub fn new(alloc: Global) -> Result<TreeSet, AllocError>
@@ -54,7 +54,7 @@ impl TreeSet {
         })
     }
 
-    /// The keys of each set strictly ascend. For proofs; does nothing.
+    /// The keys of a set strictly ascend. The function does nothing; proofs use its contract.
     pub fn keys_ascend(&self)
         ensures { StrictlyAscends self.now }
     {

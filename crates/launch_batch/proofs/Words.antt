@@ -1,4 +1,4 @@
--- The words that most lemmas speak in, handed on from the rules: calls, batches and books, pieces and outs, and the objects.
+-- Re-exports the names that most lemmas use: calls, batches and books, pieces and outs, and the objects.
 pub use Rattle.std.specs.List.{AllByRecursion}
 pub use Rattle.seq_objects.specs.declared.call.Call.{Call}
 pub use Rattle.seq_objects.specs.declared.reply.Reply.{Reply}

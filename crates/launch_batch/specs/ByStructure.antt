@@ -1,4 +1,4 @@
--- The pieces and the outs of each structure.
+-- The pieces and the outs of a batch, selected by structure.
 use Rattle.std.specs.Prelude.{ℕ, ◌+◌, List, [], ◌∷◌}
 use Rattle.batched_counter.specs.declared.piece.Piece.{Piece as CounterPiece}
 use Rattle.batched_counter.specs.declared.piece.Served.{Served as CounterServed}
@@ -13,12 +13,12 @@ use Rattle.launch_batch.specs.declared.piece.PieceIn.TheVariants as piece
 use Rattle.launch_batch.specs.declared.piece.PieceOut.{PieceOut}
 use Rattle.launch_batch.specs.declared.piece.PieceOut.TheVariants as done
 
--- pieces of one structure, at consecutive places
+-- a structure's pieces, made pieces of the batch at consecutive places from `place` on
 abbrev pub placed : {In : Type 0} → (ℕ → In → PieceIn) → ℕ → List In → List PieceIn
 placed make place [] = []
 placed make place (input ∷ ins) = make place input ∷ placed make (place + 1) ins
 
--- the pieces of each structure
+-- the pieces of each structure, in their order
 abbrev pub counter_pieces : List PieceIn → List CounterPiece
 counter_pieces [] = []
 counter_pieces (piece.Counter place input ∷ ins) = input ∷ counter_pieces ins
@@ -47,7 +47,7 @@ queue_pieces (piece.Stack place input ∷ ins) = queue_pieces ins
 queue_pieces (piece.Tree place input ∷ ins) = queue_pieces ins
 queue_pieces (piece.Queue place input ∷ ins) = input ∷ queue_pieces ins
 
--- and the outs of each
+-- the outs of each structure, in their order
 abbrev pub counter_outs : List PieceOut → List CounterServed
 counter_outs [] = []
 counter_outs (done.Counter out ∷ outs) = out ∷ counter_outs outs

@@ -1,4 +1,4 @@
--- The calls that a shop can serve as one batch, and that batch.
+-- The calls that a shop can serve as one batch, and the batch that serves them.
 use Rattle.std.specs.Prelude.{◌≡◌, ◌≢◌, ◌<◌, ◌≤◌, ◌+◌, List, [], ◌∷◌, ◌++◌, length, map}
 use Rattle.std.specs.List.{AllByRecursion}
 use Rattle.seq_objects.specs.declared.call.Call.{Call}
@@ -8,8 +8,8 @@ use Rattle.batch_history.specs.declared.batch.Entry.{Entry}
 use Rattle.batch_history.specs.Book.{flat, IsLegalFrom}
 use Rattle.batch_history.specs.Serving.{served_book, calls_in}
 
--- at least one call, of distinct workers below 32; of distinct leaves, none of which is in the book; and no more
--- calls than 20,000 with those of the book
+-- there is a call; the workers are distinct and below 32; the leaves are distinct and none is in the book; book and
+-- calls together have at most 20,000 calls
 pub record MayServe (book : List (List Entry)) (calls : List Call) : Type 0 where
   pub some : 0 < length calls
   pub workers : AreDistinct (map (λ call. call.worker) calls)
@@ -19,13 +19,13 @@ pub record MayServe (book : List (List Entry)) (calls : List Call) : Type 0 wher
       (map (λ call. call.leaf) calls)
   pub most : length (flat book) + length calls ≤ 20000
 
--- the elements of the first list, each once, are those of the second, in whatever order
+-- the second list is a permutation of the first
 abbrev pub AreSame : {X : Type 0} → List X → List X → Type 0
 AreSame {X} [] others = others ≡ []
 AreSame {X} (x ∷ xs) others =
     (before : List X) × (later : List X) × (others ≡ before ++ x ∷ later) × AreSame xs (before ++ later)
 
--- exactly these calls, in batch order, with the replies of serving them one after another after the book
+-- the batch has exactly these calls, in batch order, with the replies of serving them one after another after the book
 pub record IsServiceOf (book : List (List Entry)) (calls : List Call) (batch : List Entry) : Type 0 where
   pub same : AreSame calls (calls_in batch)
   pub order : AreInBatchOrder (calls_in batch)

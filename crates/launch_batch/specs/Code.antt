@@ -1,5 +1,5 @@
--- The definitions of the code's own: the forms of a structure, a batch that was served, how calls and outs are
--- dealt to their structures, how the structures' pieces are put at their places, and their replies together again.
+-- Definitions that only the code cites: the forms of a structure, a batch that was served, how calls and outs are
+-- sorted by structure, the rows of places, and how the structures' replies are merged.
 pub mod Finishing
 pub mod Halves
 pub mod Merging

@@ -1,4 +1,4 @@
--- What the structures of a shop contain together, and numbers of calls.
+-- The contents of a shop's structures, and bounds on the numbers of calls.
 use Rattle.std.specs.Prelude.{ℕ, ◌≡◌, ◌<◌, ◌≤◌, ◌*◌, ◌^◌, List, length}
 use Rattle.seq_objects.specs.declared.call.Call.{Call}
 use Rattle.seq_objects.specs.Objects.{Objects, argument_of}
@@ -9,16 +9,16 @@ use Rattle.launch_batch.specs.declared.structures.Structures.{Structures}
 use Rattle.batch_history.specs.Book.{flat}
 use Rattle.batch_history.specs.Serving.{served_book}
 
--- the serial objects with what the four structures contain
+-- the serial objects with the contents of the four structures
 abbrev pub contents : ℕ → StackView → List ℕ → List ℕ → Objects
 contents counter stack tree queue = record { counter = counter; stack = stack.items; set = tree; bag = queue }
 
--- the structures contain what serving the history gives, and the counter is no greater than its calls can make it
+-- the contents are those that serving the history gives, and the counter is at most 2^32 for each entry of it
 pub record IsKept (counter : ℕ) (stack : StackView) (tree queue : List ℕ) (history : List (List Entry)) : Type 0 where
   pub contents : contents counter stack tree queue ≡ served_book history
   pub room : counter ≤ length (flat history) * 2 ^ 32
 
--- the same of the structures of a shop, each of which stands whole
+-- each structure of the shop is whole, and their contents satisfy `IsKept`
 pub record AreKept (structures : Structures) (history : List (List Entry)) : Type 0 where
   pub number : ℕ
   pub view : StackView
@@ -30,6 +30,6 @@ pub record AreKept (structures : Structures) (history : List (List Entry)) : Typ
   pub queue : structures.queue ≡ Whole bag
   pub kept : IsKept number view keys bag history
 
--- the leaf and the operation's argument fit 32 bits
+-- the call's leaf and its operation's argument fit 32 bits
 abbrev pub IsNarrow : Call → Type 0
 IsNarrow call = (call.leaf < 2 ^ 32) × (argument_of call.op < 2 ^ 32)

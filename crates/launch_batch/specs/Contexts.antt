@@ -1,4 +1,4 @@
--- The context of a batch over all structures, and what is kept of it until it ends.
+-- The context of a batch over all structures, and how an opened batch belongs to it.
 use Rattle.std.specs.Prelude.{ℕ, ◌≡◌, List}
 use Rattle.std.specs.List.{AllByRecursion}
 use Rattle.seq_objects.specs.Batches.{AreInBatchOrder, Counter, Stack, Tree, Queue, calls_of}
@@ -16,8 +16,8 @@ use Rattle.launch_batch.specs.Contents.{IsKept, IsNarrow}
 use Rattle.launch_batch.specs.Halves.{IsHalfContextOf}
 use Rattle.launch_batch.specs.ByStructure.{counter_pieces, stack_pieces, tree_pieces, queue_pieces}
 
--- The structures before the batch had the contents of the book. The calls are kept in batch order, and each
--- structure was opened with its own of them.
+-- The opened batch has the history before it, and the calls in batch order; the calls may be served. The structures had
+-- the contents of that history, and each was opened with its own calls, or stayed whole without any.
 pub record IsContextOf (opened : Opened) (o : BatchContext (List (List Entry)) PieceIn) : Type 0 where
   pub book : opened.history ≡ o.before
   pub may : MayServe o.before o.calls

@@ -1,5 +1,5 @@
 -- The rules of a batch over all structures: its calls, its pieces and their places, what a shop contains, and the
--- context of a batch. `Code` is what only the code cites.
+-- context of a batch. Only the code cites `Code`.
 pub mod Calls
 pub mod Contents
 pub mod Pieces

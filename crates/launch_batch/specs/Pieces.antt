@@ -1,4 +1,4 @@
--- The pieces of a batch, what each owes, and outs that are put back at the places of their pieces.
+-- The pieces of a batch, what each owes, and outs that are put back in the order of their pieces.
 use Rattle.std.specs.Prelude.{ℕ, ◌≡◌, ◌⊎◌, List, [], ◌∷◌}
 use Rattle.seq_objects.specs.Pieces.{AllMeet}
 use Rattle.batched_counter.specs.Pieces.{Meets as CounterMeets}
@@ -17,7 +17,7 @@ place_of (piece.Stack place input) = place
 place_of (piece.Tree place input) = place
 place_of (piece.Queue place input) = place
 
--- the out is of the piece's structure, and is what that structure's pieces owe
+-- the out is of the piece's structure, and meets the piece by that structure's own rule
 abbrev pub Meets : PieceIn → PieceOut → Type 0
 Meets (piece.Counter place input) (done.Counter out) = CounterMeets input out
 Meets (piece.Stack place input) (done.Stack out) = StackMeets input out
@@ -36,16 +36,17 @@ Meets (piece.Queue place input) (done.Counter out) = ⊥
 Meets (piece.Queue place input) (done.Stack out) = ⊥
 Meets (piece.Queue place input) (done.Tree out) = ⊥
 
--- a piece that was run, and its out
+-- one run of a piece: the piece and its out
 pub record Run : Type 0 where
   pub input : PieceIn
   pub out : PieceOut
 
--- the out is that of a run of a piece with this place
+-- some run of a piece with this place gave this out
 abbrev pub IsOutAt : List Run → ℕ → PieceOut → Type 0
 IsOutAt [] place out = ⊥
 IsOutAt (run ∷ runs) place out = ((place_of run.input ≡ place) × (run.out ≡ out)) ⊎ IsOutAt runs place out
 
--- the outs of the runs, in whatever order these were, stand in the order of the places
+-- the outs correspond one by one to the places: each is the out of some run at its place, whatever the order of the
+-- runs
 abbrev pub ArePutBack : List Run → List ℕ → List PieceOut → Type 0
 ArePutBack runs places outs = AllMeet (IsOutAt runs) places outs

@@ -1,5 +1,5 @@
--- The places of the pieces of a batch, of which each structure has a row: the counter from 0 on, the stack from 16 on,
--- the tree from 32 on, the queue from 48 on.
+-- The places of the pieces of a batch. Each structure has a row: the counter from 0 on, the stack from 16 on, the tree
+-- from 32 on, the queue from 48 on.
 use Rattle.std.specs.Prelude.{ℕ, ◌<◌, ◌≤◌, List, [], ◌∷◌, ◌++◌}
 use Rattle.std.specs.List.{range_with_len}
 use Rattle.seq_objects.specs.declared.call.Call.{Call}
@@ -13,19 +13,19 @@ use Rattle.batch_history.specs.Serving.{served_book}
 use Rattle.launch_batch.specs.declared.piece.PieceIn.{PieceIn}
 use Rattle.launch_batch.specs.declared.piece.PieceIn.TheVariants as piece
 
--- the piece stands in the row of its own structure
+-- the place of the piece lies in its own structure's row
 abbrev pub IsInOwnRow : PieceIn → Type 0
 IsInOwnRow (piece.Counter place input) = place < 16
 IsInOwnRow (piece.Stack place input) = (16 ≤ place) × (place < 32)
 IsInOwnRow (piece.Tree place input) = (32 ≤ place) × (place < 48)
 IsInOwnRow (piece.Queue place input) = (48 ≤ place) × (place < 56)
 
--- consecutive places, one for each piece; none where a structure has no calls
+-- `count` consecutive places from `first` on; none if the structure has no calls
 abbrev pub row : ℕ → List Call → ℕ → List ℕ
 row first [] count = []
 row first (call ∷ calls) count = range_with_len first count
 
--- the places of the pieces of a batch of these calls, in batch order, after this book
+-- the places of the pieces of a batch of these calls, which stand in batch order, after this book
 abbrev pub places : List (List Entry) → List Call → List ℕ
 places book calls =
     row 0 (calls_of Counter calls) (counter_count (served_book book) (calls_of Counter calls))

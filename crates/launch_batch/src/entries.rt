@@ -1,4 +1,4 @@
-//! The entries of calls that were served.
+//! Makes the history entries of served calls.
 ghost use Rattle.std.specs.Prelude.{◌≡◌, IfOk};
 ghost use Rattle.batch_history.specs.Serving.{calls_in, replies_in};
 ghost use Rattle.launch_batch.specs.Code.Merging.{merged_replies};
@@ -8,7 +8,7 @@ use batch_history::Entry;
 use seq_objects::{Call, Reply};
 use std::alloc::{AllocError, Global};
 
-/// The entries of these calls, each of which has the next reply of its structure.
+/// The entries of the calls. Each call takes the next reply of its structure.
 pub(crate) fn entries_of(
     alloc: Global,
     calls: &[Call],

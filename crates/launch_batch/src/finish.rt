@@ -1,4 +1,4 @@
-//! A batch that the structures have served, which goes into the history.
+//! Moves a served batch into the history.
 ghost use Rattle.std.specs.Prelude.{◌≡◌, [], ◌∷◌, ◌++◌, List, IfOk};
 ghost use Rattle.seq_objects.specs.declared.call.Call.{Call as CallOf};
 ghost use Rattle.batch_history.specs.declared.batch.Entry.{Entry as EntryOf};
@@ -13,8 +13,8 @@ use batch_history::{Batch, History};
 use seq_objects::Call;
 use std::alloc::{AllocError, Global};
 
-/// The shop after a batch, from its structures, the history before it, its calls and the replies of each
-/// structure. The entries are made once, and stand in the history.
+/// The shop after a batch, made from the structures, the history before the batch, its calls, and each structure's
+/// replies. The entries are built once, directly for the history.
 pub(crate) fn finish(
     alloc: Global,
     structures: Box<Structures>,
@@ -36,7 +36,7 @@ pub(crate) fn finish(
     })
 }
 
-/// A copy of the last batch of a history.
+/// A copy of the last batch of a history, which must have one.
 pub(crate) fn last_batch(alloc: Global, history: &History) -> Result<Batch, AllocError>
     requires { (book : List (List EntryOf)) × (batch : List EntryOf) × (history.now ≡ book ++ batch ∷ []) }
     ensures { IfOk result (λ b. (book : List (List EntryOf)) (batch : List EntryOf)

@@ -1,4 +1,4 @@
-//! A structure in a batch.
+//! A structure during a batch: whole, or open.
 ghost use Rattle.std.specs.Prelude.{◌≡◌, ◌<◌, ◌≤◌, length, true, IfOk};
 ghost use Rattle.seq_objects.specs.Batches.{AreOneBatch, calls_of};
 ghost use Rattle.seq_objects.specs.Pieces.{AllMeet, BatchContext};
@@ -12,12 +12,12 @@ use seq_objects::{Batched, Call, Reply};
 use std::alloc::{AllocError, Global};
 use std::mem;
 
-/// A structure, whole or open: then it is what is kept of it while the pieces of a batch are worked on.
+/// A structure of the shop. During a batch that calls it, it is open: only the rest that its `begin` returned is kept.
 #[derive(Drop)]
 pub enum Half<T, R> {
     Whole(T),
     Open(R),
-    /// While one of the two is made of the other, and where memory has failed in that.
+    /// The state during a change between the two, which stays if memory runs out.
     Moved,
 }
 
@@ -28,7 +28,7 @@ impl<T: Drop, R: Drop> Half<T, R> {
         matches!(self, Half::Open(_))
     }
 
-    /// Takes the whole structure out.
+    /// Takes the whole structure out, and leaves `Moved`.
     fn take_whole(&mut self) -> T
         requires { is_whole self.old ≡ true }
         ensures { self.old ≡ WholeOf result }
@@ -39,7 +39,7 @@ impl<T: Drop, R: Drop> Half<T, R> {
         structure
     }
 
-    /// Takes out what is kept of the structure.
+    /// Takes the rest out, and leaves `Moved`.
     fn take_rest(&mut self) -> R
         requires { is_open self.old ≡ true }
         ensures { self.old ≡ OpenOf result }
@@ -50,7 +50,7 @@ impl<T: Drop, R: Drop> Half<T, R> {
         rest
     }
 
-    /// Puts the other form in.
+    /// Stores the structure in its new form.
     fn put(&mut self, other: Half<T, R>)
         ensures { self.new ≡ other }
     {
@@ -58,7 +58,8 @@ impl<T: Drop, R: Drop> Half<T, R> {
     }
 }
 
-/// Opens a structure for the calls of it, if there are any.
+/// Opens a structure for its calls, and returns its pieces. Without calls the structure stays whole, and there are
+/// none.
 fn open<T: Batched>(
     alloc: Global,
     half: &mut Half<T, T::Rest>,
@@ -83,7 +84,7 @@ fn open<T: Batched>(
     Ok(ins)
 }
 
-/// Opens a structure for its own of the calls of a batch.
+/// Opens a structure for those calls of a batch that belong to it.
 pub(crate) fn open_own<T: Batched>(
     alloc: Global,
     half: &mut Half<T, T::Rest>,
@@ -108,7 +109,8 @@ pub(crate) fn open_own<T: Batched>(
     open(alloc, half, &own)
 }
 
-/// Puts a structure together again, and gives the replies to the calls of it.
+/// Closes a structure, and returns the replies to its calls. A structure that is not open stays as it is, without
+/// replies.
 pub(crate) fn close<T: Batched>(
     alloc: Global,
     half: &mut Half<T, T::Rest>,

@@ -1,4 +1,4 @@
-//! The laws of a batch, each as the contract of a function that does nothing.
+//! The laws of a batch. Each is the contract of a function that does nothing.
 ghost use Rattle.std.specs.Prelude.{◌≡◌, List, map};
 ghost use Rattle.std.specs.List.{AllByRecursion};
 ghost use Rattle.seq_objects.specs.declared.call.Call.{Call};
@@ -14,20 +14,21 @@ use crate::piece::{PieceIn, PieceOut};
 
 fn can_be_sent<T: Send>() {}
 
-/// Pieces and outs can be sent to another thread.
+/// Pieces and outs are `Send`.
 pub fn pieces_can_be_sent() {
     can_be_sent::<PieceIn>();
     can_be_sent::<PieceOut>();
 }
 
-/// There is one service of calls after a book: who serves them, and in which order they are given, changes nothing.
+/// A list of calls has at most one service after a book: the entries, with their order and replies, are determined.
 pub fn a_service_is_one()
     ensures { (book : List (List Entry)) (calls : List Call) (batch other : List Entry) → IsServiceOf book calls batch
         → IsServiceOf book calls other → batch ≡ other }
 {}
 
-/// The pieces of a batch, each run once, in whatever order and by anyone: there are outs that stand at the places of
-/// their pieces, and whichever these are, they are what the end of the batch wants.
+/// The pieces of a batch may run in any order, each once, on any thread. `some`: there are outs that stand in the order
+/// of the pieces' places. `meet`: if the places strictly ascend and each run's out meets its piece, all such outs meet
+/// the pieces in order, as the end of the batch requires.
 pub fn pieces_run_in_any_order()
     ensures some { (ins : List Input) (runs : List Run) → AreSame ins (map (λ run. run.input) runs)
         → (outs : List Output) × ArePutBack runs (map place_of ins) outs }

@@ -1,10 +1,11 @@
 //! One batch over the four batched structures.
 //!
-//! A `Shop` keeps the counter, the stack, the set and the queue, and the history of the batches that they have
-//! served. A batch is opened with its calls, which gives its pieces; anyone may work on a piece by `run_piece`, in
-//! any order; and the end gives the entries of the calls, which are those of serving them one after another in
-//! batch order, and the history with this batch. `laws` says that the batch does not depend on who ran which piece
-//! when. The crate stands on the four structures, whose laws of batches it puts together, and on `batch_history`.
+//! A `Shop` holds the counter, the stack, the set and the queue, and the history of the batches that they served.
+//! `Shop::begin` takes the calls of a batch and returns its pieces. Any thread may run a piece by `run_piece`, in any
+//! order. `Opened::end` returns the shop, its history extended by this batch, and the batch's entries, whose replies
+//! are those of serving the calls one after another in batch order. `laws` states that the pieces may run in any order,
+//! and that the calls and the book before them determine the batch. The crate combines the laws of batches of the four
+//! structures, and builds on `batch_history`.
 #![tactic(auto)]
 
 mod deal;

@@ -1,4 +1,4 @@
-//! The replies of the four structures, of which each call takes the next one of its own.
+//! The replies of the four structures, which the calls of a batch consume in order.
 ghost use Rattle.std.specs.Prelude.{◌≡◌, drop, slice_get};
 ghost use Rattle.seq_objects.specs.Batches.{object_of};
 ghost use Rattle.launch_batch.specs.Code.Merging.{left_of, without_first};
@@ -6,7 +6,7 @@ ghost use Rattle.launch_batch.specs.Code.Merging.{left_of, without_first};
 use seq_objects::{Op, Reply};
 use std::marker::Model;
 
-/// The replies of a structure that are left. Contracts see them as a list.
+/// A structure's replies from `at` on, which no call has yet. Contracts see them as a list.
 #[derive(Drop)]
 pub(crate) struct Replies {
     all: Vec<Reply>,
@@ -43,7 +43,7 @@ impl Replies {
     }
 }
 
-/// The replies of the four structures that are left.
+/// The remaining replies of each structure.
 #[derive(Drop)]
 pub(crate) struct Remaining {
     pub(crate) counter: Replies,
@@ -53,7 +53,7 @@ pub(crate) struct Remaining {
 }
 
 impl Remaining {
-    /// The next reply of the structure that an operation is of.
+    /// Takes the next reply of the structure that the operation belongs to.
     pub(crate) fn next(&mut self, op: Op) -> Option<Reply>
         ensures reply { result ≡ slice_get (left_of (object_of op) self.old) 0 }
         ensures rest { self.new ≡ without_first (object_of op) self.old }

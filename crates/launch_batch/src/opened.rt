@@ -1,4 +1,4 @@
-//! A batch that was opened, and its end.
+//! An opened batch, and its end.
 ghost use Rattle.std.specs.Prelude.{◌≡◌, [], ◌∷◌, ◌++◌, List, IfOk};
 ghost use Rattle.seq_objects.specs.Pieces.{AllMeet, BatchContext};
 ghost use Rattle.batch_history.specs.declared.batch.Entry.{Entry as EntryOf};
@@ -19,7 +19,7 @@ use batch_history::{Batch, History};
 use seq_objects::Call;
 use std::alloc::{AllocError, Global};
 
-/// What is kept of a shop while the pieces of a batch are worked on.
+/// What a shop keeps while the pieces of a batch run.
 #[derive(Drop)]
 pub struct Opened {
     pub structures: Box<Structures>,
@@ -29,7 +29,7 @@ pub struct Opened {
 }
 
 impl Opened {
-    /// The shop after the batch, from the outs of each structure.
+    /// Closes the structures with the outs of each, and returns the shop after the batch.
     pub(crate) fn into_shop(self, alloc: Global, outs: Outs) -> Result<Shop, AllocError>
         requires { (o : BatchContext (List (List EntryOf)) Input) × IsContextOf self o
             × HaveMet o.ins outs }
@@ -58,9 +58,9 @@ impl Opened {
         Ok(shop)
     }
 
-    /// Ends a batch, with an out for each of its pieces, in their order. The shop's history has this batch more,
-    /// which has exactly the calls that were given, in batch order, with the replies of serving them one after
-    /// another. The shop is given up when memory runs out.
+    /// Ends a batch, given an out for each piece, in piece order. Returns the shop, whose history has one more batch,
+    /// and that batch: exactly the given calls, in batch order, with the replies of serving them one after another. The
+    /// shop is lost if memory runs out.
     pub fn end(self, alloc: Global, outs: Vec<PieceOut>) -> Result<(Shop, Batch), AllocError>
         requires { (o : BatchContext (List (List EntryOf)) Input) × IsContextOf self o
             × AllMeet Meets o.ins outs.items }

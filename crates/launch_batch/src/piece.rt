@@ -1,4 +1,4 @@
-//! The pieces of a batch, and what is made of them.
+//! The pieces of a batch, and their outs.
 ghost use Rattle.std.specs.Prelude.{◌≡◌, IfOk};
 ghost use Rattle.launch_batch.specs.Pieces.{Meets, place_of};
 
@@ -9,8 +9,7 @@ use batched_tree::{Piece as TreePiece, Served as TreeServed, TreeSet};
 use seq_objects::Batched;
 use std::alloc::{AllocError, Global};
 
-/// A piece of a batch: its place among all pieces, and what its structure gives it. It owns all that it needs, and
-/// can be sent to another thread.
+/// A piece of a batch: its place, and the input that its structure gave it. It owns all its data and is `Send`.
 #[derive(Drop)]
 pub enum PieceIn {
     Counter(u32, CounterPiece),
@@ -19,7 +18,7 @@ pub enum PieceIn {
     Queue(u32, QueuePiece),
 }
 
-/// What a piece answers. It can be sent to another thread.
+/// The output of a piece. It is `Send`.
 #[derive(Drop)]
 pub enum PieceOut {
     Counter(CounterServed),
@@ -29,8 +28,8 @@ pub enum PieceOut {
 }
 
 impl PieceIn {
-    /// The place of the piece: from 0 on for the counter's, from 16 on for the stack's, from 32 on for the tree's and
-    /// from 48 on for the queue's.
+    /// The place of the piece. The counter's places start at 0, the stack's at 16, the tree's at 32 and the queue's at
+    /// 48.
     ///
     /// Memory: none.
     pub fn place(&self) -> u32
@@ -45,7 +44,7 @@ impl PieceIn {
     }
 }
 
-/// Works on one piece, which anyone may do.
+/// Runs one piece. Any thread may do so.
 pub fn run_piece(alloc: Global, input: PieceIn) -> Result<PieceOut, AllocError>
     ensures { IfOk result (λ out. Meets input out) }
 {

@@ -1,4 +1,4 @@
-//! The pieces of the four structures, at their places.
+//! Assigns places to the pieces of the four structures.
 ghost use Rattle.std.specs.Prelude.{◌≡◌, ℕ, ◌+◌, ◌^◌, ◌<◌, ◌≤◌, ◌++◌, length, IfOk, OnOk};
 ghost use Rattle.launch_batch.specs.declared.piece.PieceIn.{PieceIn as Input};
 ghost use Rattle.launch_batch.specs.declared.piece.PieceIn.TheVariants as piece;
@@ -12,12 +12,12 @@ use batched_stack::Piece as StackPiece;
 use batched_tree::Piece as TreePiece;
 use std::alloc::{AllocError, Global};
 
-/// A piece of one structure, which has a place among those of all.
+/// A piece of one structure, which becomes a piece of the batch at a given place.
 trait Placed: Drop {
-    /// The piece at its place, for contracts.
+    /// `at`, for contracts.
     ghost at: { ℕ → Self → Input };
 
-    /// The piece at its place.
+    /// The piece of the batch at this place.
     fn at(self, place: u32) -> PieceIn
         ensures { result ≡ at place self };
 }
@@ -54,7 +54,7 @@ impl Placed for QueuePiece {
     }
 }
 
-/// Puts the pieces of a structure behind others, from a place on.
+/// Appends the pieces of a structure, at consecutive places from `first` on.
 fn put<T: Placed>(pieces: &mut Vec<PieceIn>, ins: Vec<T>, first: u32) -> Result<(), AllocError>
     requires { first + length ins.items < 2 ^ 32 }
     ensures { OnOk result (pieces.new.items ≡ pieces.old.items ++ placed T.at first ins.items) }

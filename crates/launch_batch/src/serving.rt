@@ -1,4 +1,4 @@
-//! A batch that one worker serves.
+//! Serves a whole batch on one thread.
 ghost use Rattle.std.specs.Prelude.{◌≡◌, [], ◌∷◌, ◌++◌, List, IfOk};
 ghost use Rattle.batch_history.specs.declared.batch.Entry.{Entry as EntryOf};
 ghost use Rattle.launch_batch.specs.Calls.{MayServe, IsServiceOf};
@@ -10,7 +10,7 @@ use crate::shop::Shop;
 use seq_objects::Call;
 use std::alloc::{AllocError, Global};
 
-/// The outs of pieces that are run one after another, each put behind those of its structure.
+/// Runs the pieces one after another, and sorts their outs by structure.
 fn run_pieces(alloc: Global, pieces: Vec<PieceIn>) -> Result<Outs, AllocError>
     ensures { IfOk result (HaveMet pieces.items) }
 {
@@ -22,8 +22,8 @@ fn run_pieces(alloc: Global, pieces: Vec<PieceIn>) -> Result<Outs, AllocError>
     Ok(all)
 }
 
-/// Serves these calls as one batch, by its pieces one after another. The batch is the last one of the shop's history. The
-/// shop is given up when memory runs out.
+/// Serves the calls as one batch, running its pieces one after another. The batch becomes the last of the shop's
+/// history. The shop is lost if memory runs out.
 pub fn serve(alloc: Global, shop: Shop, calls: Vec<Call>) -> Result<Shop, AllocError>
     requires { MayServe shop calls.items }
     ensures { IfOk result (λ s. (batch : List EntryOf)

@@ -46,7 +46,7 @@ impl Model for Shop {
 }
 
 impl Shop {
-    /// The opening structures, and no batch.
+    /// A shop with empty structures, the counter at 0, and no batch in its history.
     pub fn new(alloc: Global) -> Result<Shop, AllocError>
         ensures { IfOk result (λ s. s ≡ []) }
     {
@@ -62,7 +62,7 @@ impl Shop {
         })
     }
 
-    /// The batches that were served.
+    /// The history of the served batches.
     ///
     /// Memory: none.
     pub fn history(&self) -> &History
@@ -71,7 +71,7 @@ impl Shop {
         &self.history
     }
 
-    /// The batches that were served, when the structures are given up.
+    /// The history of the served batches. The structures are dropped.
     ///
     /// Memory: none.
     pub fn into_history(self) -> History
@@ -80,8 +80,8 @@ impl Shop {
         self.history
     }
 
-    /// Opens a batch of these calls, in whatever order they are given. Its pieces are for the structures that are
-    /// called, each in its structure's row of places, and stand in ascending order of place. The shop is given up when memory runs out.
+    /// Opens a batch of these calls, given in any order. Each called structure gets pieces, at places in its own row;
+    /// all pieces stand in ascending order of place. The shop is lost if memory runs out.
     pub fn begin(
         self,
         alloc: Global,

@@ -8,7 +8,7 @@ use Rattle.batched_counter.specs.Sums.{total}
 use Rattle.batched_counter.specs.Calls.{addends}
 use Rattle.batched_counter.specs.Pieces.{addends_in, IsCutInto}
 
--- the lists, one after another
+-- the concatenation of the lists
 abbrev pub flat : List (List ℕ) → List ℕ
 flat [] = []
 flat (xs ∷ xss) = xs ++ flat xss
@@ -25,7 +25,7 @@ pub total_append : (xs ys : List ℕ) → total (xs ++ ys) ≡ total xs + total 
 total_append [] ys = omega arith
 total_append (x ∷ xs) ys = omega (arith, total_append xs ys)
 
--- a part of the numbers comes to no more
+-- the sum of a part is at most the sum of the whole
 total_take : (n : ℕ) (xs : List ℕ) → total (take n xs) ≤ total xs
 total_take n xs = omega (arith, rw (take_drop n xs) at (total_append (take n xs) (drop n xs)))
 
@@ -49,7 +49,7 @@ drop_end : (size at : ℕ) (xs : List ℕ)
     → drop (min (at + size) (length xs)) xs ≡ drop size (drop at xs)
 drop_end size at xs = grind (arith, common_steps)
 
--- one more piece behind those before
+-- appending one more piece
 pub one_more : (size at end : ℕ) (xs piece : List ℕ) (before : List (List ℕ)) → at < length xs
     → end ≡ min (at + size) (length xs) → piece ≡ take (end - at) (drop at xs)
     → ((ps : List (List ℕ)) → IsCutInto size (drop at xs) ps → IsCutInto size xs (before ++ ps))
@@ -62,7 +62,7 @@ one_more size at end xs piece before lt is e told ps c =
     let rest_cut = rw rest at c in
     rw append_assoc (told (piece ∷ ps) (some, first, rest_cut))
 
--- the addends of some calls in a row
+-- the addends of consecutive calls
 pub addends_part : (n m : ℕ) (calls : List Call)
     → addends (take n (drop m calls)) ≡ take n (drop m (addends calls))
 addends_part n m calls = grind (arith, common_steps, take-map {X = Call} {Y = ℕ}, drop-map {X = Call} {Y = ℕ})
@@ -74,7 +74,7 @@ length_addends (call ∷ calls) = grind (arith, common_steps, length_addends cal
 pub sixteenth : (n : ℕ) → 0 < n → (n - 1) / 16 + 1 ≡ (n + 15) / 16
 sixteenth n h = omega arith
 
--- at the end nothing is left to be cut
+-- at the end nothing remains to be cut
 pub all_cut : (size at : ℕ) (xs : List ℕ) (cuts : List (List ℕ)) → length xs ≤ at
     → ((ps : List (List ℕ)) → IsCutInto size (drop at xs) ps → IsCutInto size xs (cuts ++ ps))
     → IsCutInto size xs cuts

@@ -1,4 +1,4 @@
--- What the outs of the pieces come to, as sums of all addends.
+-- The replies and the number of the end, as sums of all addends.
 use Rattle.std.proofs.Common.{◌≡◌, ℕ, ◌+◌, ◌<◌, ◌^◌, List, [], ◌∷◌, ◌++◌, length, drop, get_or, refl, sym, ap, subst, ◌∙◌, arith}
 use Rattle.std.proofs.lemmas.List.{drop_more}
 use Rattle.std.specs.List.{AllByRecursion}
@@ -27,7 +27,7 @@ numbers_append n (x ∷ xs) ys =
     let e : n + (x + total xs) ≡ n + x + total xs = omega arith in
     rw e (ap (λ r. Number (0 + (n + x)) ∷ r) (numbers_append (n + x) xs ys))
 
--- the replies, by pieces
+-- the replies, piece by piece
 pub replies_are : (base : ℕ) (ins : List Piece) (outs : List Served) → AllMeet Meets ins outs
     → all_replies base outs ≡ number_replies 0 (sums_from base (flat (addends_in ins)))
 replies_are base [] [] m = refl
@@ -47,7 +47,7 @@ end_is base (piece ∷ ins) [] m = absurd m
 end_is base (piece ∷ ins) (out ∷ outs) m =
     rw m.0.total (omega (arith, end_is (base + total piece.addends.items) ins outs m.1, total_append piece.addends.items (flat (addends_in ins))))
 
--- no sum is too great
+-- no sum overflows
 sums_bounded : (base n limit : ℕ) (xs : List ℕ) → base + (n + total xs) < limit
     → AllByRecursion (λ p. base + p < limit) (sums_from n xs)
 sums_bounded base n limit [] h = tt
@@ -62,7 +62,7 @@ bounded_all base (piece ∷ ins) (out ∷ outs) m h =
     let t = total_append piece.addends.items (flat (addends_in ins)) in
     rw (m.0.prefixes, m.0.total) (sums_bounded base 0 (2 ^ 64) piece.addends.items (omega arith), omega arith, bounded_all (base + total piece.addends.items) ins outs m.1 (omega arith))
 
--- the numbers of the next of the outs fit
+-- the numbers of the next out fit 64 bits
 pub next_fits : (base i : ℕ) (outs : List Served) (out : Served) → i < length outs
     → out ≡ get_or outs i out → CanJoin base (drop i outs)
     → AllByRecursion (λ prefix. base + prefix < 2 ^ 64) out.prefixes.items

@@ -1,4 +1,4 @@
--- Inserts that are dealt out to the shards: together the shards have each of them once.
+-- Distributing the inserts among the shards: together the shards get each insert once.
 use Rattle.std.proofs.Common.{◌≡◌, ◌≢◌, ℕ, zero, suc, ◌+◌, ◌%◌, ◌<◌, ◌≤◌, nat_lt, List, [], ◌∷◌, ◌++◌, length, get_or, drop, Bool, true, false, ◌==◌, refl, ap, sym, ◌∙◌, arith}
 use Rattle.std.proofs.lemmas.Grind.{common_steps}
 use Rattle.std.proofs.lemmas.Bool.Decides.{nat_tests}
@@ -29,14 +29,14 @@ passes shard i items within other =
     let first : drop i items ≡ get_or items i 0 ∷ drop (i + 1) items = grind (arith, common_steps) in
     rw first (first_passes shard i (get_or items i 0) (drop (i + 1) items) other)
 
--- behind the last insert there is none
+-- no insert follows the last one
 pub none_after : (shard i : ℕ) (items : List ℕ) → length items ≤ i
     → inserts_for shard i (drop i items) ≡ []
 none_after shard i items past =
     let none : drop i items ≡ [] = grind (arith, common_steps) in
     rw none refl
 
--- none of so many inserts goes to the shard
+-- none of this many inserts goes to the shard
 passed : (count shard i : ℕ) (items : List ℕ) → ((j : ℕ) → j < count → (i + j) % 8 ≢ shard)
     → inserts_for shard i (drop i items) ≡ inserts_for shard (i + count) (drop (i + count) items)
 passed zero shard i items others = let same : i + 0 ≡ i = omega arith in rw same refl
@@ -67,7 +67,7 @@ next_one shard i items within is =
     let next : i + 1 + 7 ≡ i + 8 = omega arith in
     goes shard i items within is ∙ ap (λ (xs : List ℕ). get_or items i 0 ∷ xs) (rw next at (passed 7 shard (i + 1) items (λ j less same. omega (arith, same, less, is))))
 
--- the copies of a number in the inserts of so many shards, from one on
+-- the copies of a number in the inserts of a number of consecutive shards
 abbrev spread : (n i : ℕ) → List ℕ → (shard count : ℕ) → ℕ
 spread n i items shard zero = 0
 spread n i items shard (suc count) = copies n (inserts_for shard i items) + spread n i items (shard + 1) count

@@ -16,7 +16,7 @@ range_last a (suc n) =
     let same : a + 1 + n ≡ a + suc n = omega arith in
     ap (λ l. a ∷ l) (range_last (a + 1) n ∙ ap (λ k. range_with_len (a + 1) n ++ k ∷ []) same)
 
--- the stripes below the number are cut, and the others and those that no piece has are as they were
+-- the stripes below the number are cut; the others, and those that no piece has, are unchanged
 pub record IsCutBelow (old : List Stripe) (n : ℕ) (puts : List ℕ) (takes number : ℕ) (new : List Stripe) (pieces : List Piece) : Type 0 where
   pub numbers : numbers_in pieces ≡ filter (is_called n puts takes) (range_with_len 0 number)
   pub each : AllByRecursion (IsCutOf old n puts takes) pieces
@@ -31,7 +31,7 @@ called_more n puts takes number =
     ∙ ap (filter (is_called n puts takes)) (range_last 0 number ∙ ap (λ k. range_with_len 0 number ++ k ∷ []) zero_more)
     ∙ filter-append (is_called n puts takes) (range_with_len 0 number) (number ∷ [])
 
--- a stripe without calls stays
+-- a stripe without calls is not taken
 pub skip : (old new : List Stripe) (n : ℕ) (puts : List ℕ) (takes number : ℕ) (pieces : List Piece)
     → IsCutBelow old n puts takes number new pieces → is_called n puts takes number ≡ false
     → IsCutBelow old n puts takes (number + 1) new pieces
@@ -41,7 +41,7 @@ skip old new n puts takes number pieces cut none = record {
   kept = λ j same. cut.kept j (λ less. same (omega (arith, less)));
 }
 
--- a stripe with calls goes to a piece
+-- a stripe with calls moves to a piece
 pub take_out : (old now new : List Stripe) (n : ℕ) (puts : List ℕ) (takes number : ℕ) (pieces more : List Piece) (mine : List ℕ) (taken : ℕ)
     → IsCutBelow old n puts takes number now pieces → is_called n puts takes number ≡ true
     → mine ≡ pushes_to number n puts → taken ≡ pops_from number (n + length puts) takes

@@ -11,7 +11,7 @@ use Rattle.batched_stack.specs.Pieces.{numbers_in, or_first}
 use Rattle.batched_stack.specs.Code.Begin.{IsTaken, IsSame}
 use Rattle.batched_stack.proofs.Basics.{true_not_false}
 
--- a number of the range that is not among those that pass does not pass
+-- a number of the range that the filter leaves out fails the test
 pub not_passed : (p : ℕ → Bool) (j a n : ℕ) → has j (filter p (range_with_len a n)) ≡ false → a ≤ j
     → j < a + n → p j ≡ false
 not_passed p j a zero none from below = absurd (omega (arith, from, below))
@@ -27,7 +27,7 @@ not_passed p j a (suc n) none from below =
       ] none
     ] refl
 
--- where some stripe has calls, those are the stripes that get a piece
+-- if some stripe has calls, the stripes with calls are those that get a piece
 pub some_called : (pieces : List Piece) (called : List ℕ) → numbers_in pieces ≡ called
     → 0 < length pieces → numbers_in pieces ≡ or_first called
 some_called [] called is some = absurd (omega (arith, some))
@@ -37,7 +37,7 @@ none_there : (pieces : List Piece) → length pieces ≡ 0 → pieces ≡ []
 none_there [] none = refl
 none_there (piece ∷ pieces) none = absurd (omega (arith, none))
 
--- where none has, stripe 0 gets one
+-- if none has, stripe 0 gets one
 pub none_called : (now : List Stripe) (pieces more : List Piece) (called puts : List ℕ) (takes : ℕ)
     → numbers_in pieces ≡ called → length pieces ≡ 0
     → (piece : Piece) × (more ≡ pieces ++ piece ∷ []) × IsTaken now 0 puts takes piece

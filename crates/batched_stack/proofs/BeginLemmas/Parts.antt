@@ -1,4 +1,4 @@
--- The pushes and the pops of a stripe, by its lengths.
+-- The pushes and the pops of a stripe, computed from its lengths.
 use Rattle.std.proofs.Common.{◌≡◌, ℕ, zero, suc, ◌+◌, ◌-◌, ◌%◌, ◌<◌, ◌≤◌, true, false, cond, eqb, List, [], ◌∷◌, ◌++◌, length, refl, sym, ◌∙◌, ap, arith}
 use Rattle.std.proofs.lemmas.Bool.{eqb-true, eqb-false}
 use Rattle.batched_stack.specs.Stripes.{stripe_length, stripe}
@@ -13,7 +13,7 @@ elsewhere : (j n pops : ℕ) → j < 16 → (n % 16 ≡ j → ⊥)
     → stripe_length j n - stripe_length j (n - pops) ≡ stripe_length j (n + 1) - stripe_length j (n + 1 - (pops + 1))
 elsewhere j n pops low other = omega (arith, other)
 
--- the pops that find an item of a stripe are as many as the stripe has items less than before
+-- the number of pops that take an item of a stripe is the difference of its lengths before and after
 pub pops_from_is : (j n pops : ℕ) → j < 16
     → pops_from j n pops ≡ stripe_length j n - stripe_length j (n - pops)
 pops_from_is j n zero low = omega arith
@@ -41,7 +41,7 @@ first_other j n low other = omega (arith, other)
 first_low : (j n : ℕ) → (j + 16 - n % 16) % 16 < 16
 first_low j n = omega arith
 
--- the pushes to a stripe are each sixteenth push, from the first one to it on
+-- the pushes to a stripe are every sixteenth push, from its first one on
 pub pushes_to_is : (j n : ℕ) (items : List ℕ) → j < 16
     → pushes_to j n items ≡ stripe ((j + 16 - n % 16) % 16) items
 pushes_to_is j n [] low = let none : stripe_length ((j + 16 - n % 16) % 16) 0 ≡ 0 = omega arith in rw none refl
@@ -54,7 +54,7 @@ pushes_to_is j n (item ∷ items) low =
       | false ↦ λ e. ih ∙ ap (λ xs. xs ++ stripe ((first + 16 - 1 % 16) % 16) items) (sym (one_elsewhere first item (first_other j n low (eqb-false (n % 16) j e)) (first_low j n))) ∙ sym more
     ] refl
 
--- no more pops take an item of a stripe than the stripe and the pushes to it have
+-- at most as many pops take an item of a stripe as it has items, with the pushes to it
 pub few_pops : (j n pops : ℕ) (items : List ℕ) → j < 16
     → pops_from j (n + length items) pops ≤ stripe_length j n + length (stripe ((j + 16 - n % 16) % 16) items)
 few_pops j n pops items low =

@@ -1,4 +1,4 @@
--- What each stripe has after a batch.
+-- Each stripe after a batch.
 use Rattle.std.proofs.Common.{◌≡◌, ◌≢◌, ℕ, ◌+◌, ◌-◌, ◌*◌, ◌<◌, ◌≤◌, ◌⊎◌, inl, inr, Bool, true, false, cond, eqb, ◌||◌, List, [], ◌∷◌, ◌++◌, length, take, drop, reverse, map, filter, replicate, get_or, set, refl, sym, ap, subst, ◌∙◌, append-nil, length-append, length-set, arith}
 use Rattle.std.specs.List.{AllByRecursion, range_with_len}
 use Rattle.std.proofs.lemmas.Bool.{eqb-true, eqb-false, ltb-false}
@@ -37,20 +37,20 @@ placed_at part d Good j xs (out ∷ outs) within each stays =
           subst Good (sym (get_or-set_other xs out.number j (part out) d other)) (stays (ap (λ b. b || has j (map (λ (o : Served). o.number) outs)) e ∙ none))
     ] refl)
 
--- a room that the rule has given needs no other
+-- a room that the rule gave does not need to change
 pub next_stays : (room len new : ℕ) → IsNext room len new → NeedsRoom new len → ⊥
 next_stays room len new (inr (stays, is)) needs = stays (subst (λ (r : ℕ). NeedsRoom r len) is needs)
 next_stays room len new (inl (out, fresh)) (inl short) = absurd (omega (arith, fresh.enough, short))
 next_stays room len new (inl (out, fresh)) (inr (big, small)) = elim fresh.least [ inl is ↦ absurd (omega (arith, is, big)) | inr less ↦ absurd (omega (arith, less, small)) ]
 
--- the items with the pushed ones, and how many are left after the pops
+-- the items with the pushed ones, and how many remain after the pops
 abbrev pub all_items : BatchContext StackView Piece → List ℕ
 all_items o = o.before.items ++ pushes_of o.calls
 
 abbrev pub left_of : BatchContext StackView Piece → ℕ
 left_of o = length (all_items o) - pops_of o.calls
 
--- what stripe j has
+-- stripe j after the batch
 pub record HasLeft (o : BatchContext StackView Piece) (j : ℕ) (list : List ℕ) : Type 0 where
   pub is : list ≡ take (stripe_length j (left_of o)) (stripe j (all_items o))
 
@@ -119,7 +119,7 @@ nothing_in : (xs : List ℕ) (n : ℕ) → Rattle.std.specs.Prelude.nat_lt 0 (le
 nothing_in [] n none = let no = ltb-false 0 (0 + n) none in (refl, omega (arith, no))
 nothing_in (x ∷ xs) n none = let no = ltb-false 0 (length (x ∷ xs) + n) none in absurd (omega (arith, no))
 
--- a stripe without calls has what it had
+-- a stripe without calls is unchanged
 pub idle : (rest : Rest) (o : BatchContext StackView Piece) → IsContextOf rest o → (j : ℕ) → j < 16
     → has j (numbers_in o.ins) ≡ false
     → (stripe j (all_items o) ≡ stripe j o.before.items) × (stripe_length j (left_of o) ≡ length (stripe j (all_items o))) × (stripe_length j (left_of o) ≡ stripe_length j (length o.before.items))

@@ -1,4 +1,4 @@
--- One reply more.
+-- Appending one more reply.
 use Rattle.std.proofs.Common.{◌≡◌, ℕ, ◌+◌, ◌-◌, List, [], ◌∷◌, ◌++◌, sym, ap, ◌∙◌, append_assoc, arith}
 use Rattle.std.proofs.lemmas.List.FromFn.{map-range_with_len_more}
 use Rattle.seq_objects.specs.declared.reply.Reply.{Reply}

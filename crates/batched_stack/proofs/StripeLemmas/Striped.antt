@@ -18,7 +18,7 @@ pub item_at : (p : ℕ) (xs : List ℕ) → p < length xs
     → get_or (stripe (p % 16) xs) (p / 16) 0 ≡ get_or xs p 0
 item_at p xs h = get_stripe (p % 16) (p / 16) p xs (omega arith) (omega arith)
 
--- the stripes of a front
+-- the stripes of a list's prefix
 front_length : (j m n : ℕ) → m ≤ n → stripe_length j m ≤ stripe_length j n
 front_length j m n h = omega arith
 
@@ -71,7 +71,7 @@ append_at j j' xs ys k h e b =
       | inr (inr above) ↦ more (omega arith)
     ]
 
--- what is put on a stripe: the pushes from its first one on
+-- the pushes to a stripe: every sixteenth, from its first one on
 pub stripe_append : (j : ℕ) (xs ys : List ℕ) → j < 16
     → stripe j (xs ++ ys) ≡ stripe j xs ++ stripe ((j + 16 - length xs % 16) % 16) ys
 stripe_append j xs ys h =

@@ -1,4 +1,4 @@
--- The items that stripes make, and the stripes that a list makes.
+-- From stripes to the list that they form, and back.
 use Rattle.std.proofs.Common.{◌≡◌, ℕ, ◌+◌, ◌*◌, ◌/◌, ◌%◌, ◌<◌, List, [], length, get_or, refl, sym, ◌∙◌, ap, arith}
 use Rattle.std.proofs.lemmas.List.FromFn.{fill_by_all, length-map-range_with_len, get_or-map-range_with_len}
 use Rattle.batched_stack.specs.Stripes.{stripe_length, stripe, items_of}
@@ -26,7 +26,7 @@ item_in stripes n j k low less =
     let at = get_items_of stripes n (16 * k + j) (within j k n less) in
     sym (at ∙ ap (λ i. get_or (get_or stripes i []) ((16 * k + j) / 16) 0) (place j k low) ∙ ap (λ h. get_or (get_or stripes j []) h 0) (height j k low))
 
--- the stripes of the list that stripes make are these
+-- the stripes of the list that given stripes form are these stripes
 pub stripe_of_items : (stripes : List (List ℕ)) (n j : ℕ) → j < 16
     → length (get_or stripes j []) ≡ stripe_length j n
     → stripe j (items_of stripes n) ≡ get_or stripes j []
@@ -35,7 +35,7 @@ stripe_of_items stripes n j low long =
     let same : stripe_length j (length (items_of stripes n)) ≡ stripe_length j n = ap (stripe_length j) len in
     sym (fill_by_all (λ i. get_or (items_of stripes n) (16 * i + j) 0) (get_or stripes j []) (stripe_length j (length (items_of stripes n))) 0 (long ∙ sym same) (λ k less. item_in stripes n j k low (rw same at less)))
 
--- stripes that are those of a list make the list
+-- the stripes of a list form that list
 pub items_from : (stripes : List (List ℕ)) (items : List ℕ) → ((j : ℕ) → j < 16
     → get_or stripes j [] ≡ stripe j items) → items_of stripes (length items) ≡ items
 items_from stripes items each =

@@ -1,14 +1,14 @@
-//! The rule of rooms, and vectors of the room that it gives.
+//! The rule of rooms, and vectors with the capacity that it gives.
 ghost use Rattle.std.specs.Prelude.{◌≡◌, ◌+◌, ◌≤◌, ◌<◌, ◌^◌, ◌++◌, [], length, IfOk, vec_capacity};
 ghost use Rattle.batched_stack.specs.Rooms.{IsNext};
 
 use crate::stripe::Stripe;
 use std::alloc::{AllocError, Global};
 
-/// A length that no memory holds.
+/// More items than any memory holds. Shorter lengths keep the arithmetic of rooms from overflow.
 const TOO_LONG: usize = 1 << 60;
 
-/// A stripe without items, with the room that each stripe has at first.
+/// An empty stripe with the first room, 16.
 pub(crate) fn empty_stripe(alloc: Global) -> Result<Stripe, AllocError>
     ensures items { IfOk result (λ s. s.items.items ≡ []) }
     ensures room { IfOk result (λ s. s.room ≡ 16) }
@@ -19,7 +19,7 @@ pub(crate) fn empty_stripe(alloc: Global) -> Result<Stripe, AllocError>
     })
 }
 
-/// What stands in the place of a stripe that a piece has.
+/// An empty stripe that stands in for one that a piece has.
 ///
 /// Memory: none.
 pub(crate) fn no_stripe(alloc: Global) -> Stripe
@@ -31,7 +31,7 @@ pub(crate) fn no_stripe(alloc: Global) -> Stripe
     }
 }
 
-/// The room of a stripe after a piece that leaves it `len` items.
+/// The room of a stripe that has `len` items after a piece and had the room `room` before it.
 fn next_room(room: u64, len: u64) -> u64
     requires { len < 2 ^ 60 }
     ensures { IsNext room len result }
@@ -47,7 +47,7 @@ fn next_room(room: u64, len: u64) -> u64
     }
 }
 
-/// Appends items to a vector that has room for them.
+/// Appends items to a vector whose capacity suffices.
 fn push_all(items: &mut Vec<u32>, more: &[u32])
     requires { length items.old.items + length more.now ≤ vec_capacity items.old }
     ensures items { items.new.items ≡ items.old.items ++ more.now }
@@ -58,7 +58,7 @@ fn push_all(items: &mut Vec<u32>, more: &[u32])
     }
 }
 
-/// The items in a vector with the next room: the same one, where the room stays.
+/// The items in a vector of capacity `next`. The vector stays the same where `next` is its room.
 fn in_room(alloc: Global, items: Vec<u32>, room: u64, next: u64) -> Result<Vec<u32>, AllocError>
     requires real { vec_capacity items ≡ room }
     requires fits { length items.items ≤ next }
@@ -73,8 +73,8 @@ fn in_room(alloc: Global, items: Vec<u32>, room: u64, next: u64) -> Result<Vec<u
     Ok(copied)
 }
 
-/// A stripe of `items` and then `more`, whose room is the next after `room`. A length that no memory could
-/// hold is answered as out of memory.
+/// A stripe of `items` followed by `more`, with the room that the rule gives after `room`. A length of 2^60 or more is
+/// answered as out of memory.
 pub(crate) fn settled_stripe(
     alloc: Global,
     items: Vec<u32>,

@@ -1,4 +1,4 @@
--- One more call goes to the piece of its group.
+-- Adding one more call to the piece of its group.
 use Rattle.std.proofs.Common.{◌≡◌, ℕ, zero, suc, ◌+◌, ◌<◌, ◌≤◌, inl, inr, true, false, nat_lt, List, [], ◌∷◌, ◌++◌, map, length, get_or, take, ap, ◌∙◌, append-nil, arith}
 use Rattle.std.proofs.Math.ListN.{set}
 use Rattle.std.specs.List.{AllByRecursion}

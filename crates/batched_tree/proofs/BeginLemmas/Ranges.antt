@@ -1,4 +1,4 @@
--- The pieces that are cut off one after another are the parts of the groups.
+-- The pieces that are cut off one after another are the pieces of the groups.
 use Rattle.std.proofs.Common.{◌≡◌, ℕ, suc, ◌<◌, ◌≤◌, ◌⊎◌, inl, inr, Bool, true, false, not, ◌&&◌, nat_lt, nat_le, List, [], ◌∷◌, ◌++◌, filter, length, map, get_or, take, drop, slice_get, Some, None, refl, sym, ap, ◌∙◌, subst, arith}
 use Rattle.std.specs.List.{AllByRecursion}
 use Rattle.std.specs.declared.option.Option.{Option}
@@ -103,7 +103,7 @@ calls_further : (start b : ℕ) (calls : List Call) → start ≤ b
 calls_further start b calls le = filter_both (λ call. not (nat_lt (key_of call) b)) (λ call. not (nat_lt (key_of call) start)) calls
     ∙ filter_where (λ call. not (nat_lt (key_of call) start) && not (nat_lt (key_of call) b)) (λ call. not (nat_lt (key_of call) b)) calls (each_of (λ (call : Call). (not (nat_lt (key_of call) start) && not (nat_lt (key_of call) b)) ≡ not (nat_lt (key_of call) b)) (λ call. not_less_further start b (key_of call) le) calls)
 
--- the two forms of what a piece has: cut off from what is left, and said of the whole
+-- the two descriptions of a piece: cut off from the remainder, and selected from the whole
 last_keys : (start : ℕ) (set : List ℕ) → from start set ≡ filter (is_in start None) set
 last_keys start set = filter_where (λ k. not (nat_lt k start)) (is_in start None) set (each_of (λ k. not (nat_lt k start) ≡ nat_le start k) (λ k. not_less k start) set)
 
@@ -130,7 +130,7 @@ first_beyond : (start b : ℕ) (set : List ℕ) → start ≤ b
     → slice_get (from b (from start set)) 0 ≡ least_beyond (Some b) set
 first_beyond start b set le = ap (λ keys. slice_get keys 0) (from_further start b set le) ∙ first_found (λ k. not (nat_lt k b)) set ∙ find_where (λ k. not (nat_lt k b)) (λ k. nat_le b k) (λ k. not_less k b) set
 
--- what is known where the groups of some keys are still to come
+-- the facts known while some groups are still to be cut off
 record IsAt (start : ℕ) (keys : List ℕ) (calls : List Call) : Type 0 where
   some : 0 < length keys
   ascends : StrictlyAscends keys
@@ -170,7 +170,7 @@ step_at size start b keys set calls is at =
       };
     }
 
--- from the pieces to the parts
+-- from cut pieces to the pieces of the groups
 parts_are : (size : ℕ) (starts keys : List ℕ) (start : ℕ) (set : List ℕ) (calls : List Call) (pieces : List Piece)
     → 0 < size → AreStarts size keys starts → IsAt start keys calls
     → AreCutPieces (from start set) (calls_from start calls) starts pieces → ArePieces set calls start (groups_by size keys starts) pieces
@@ -187,7 +187,7 @@ parts_are size (b ∷ starts) keys start set calls (piece ∷ pieces) some are a
     let others : AreCutPieces (from b set) (calls_from b calls) starts pieces = rw (s.others, s.later) at are_pieces.1 in
     rw next (own, parts_are size starts (drop size keys) b set calls pieces some are.1 s.next others)
 
--- and back
+-- and the converse
 pieces_are : (size : ℕ) (groups : List (List ℕ)) (keys : List ℕ) (start : ℕ) (set : List ℕ) (calls : List Call) (pieces : List Piece)
     → 0 < size → AreGroups size keys groups → IsAt start keys calls
     → ArePieces set calls start groups pieces → AreCutPieces (from start set) (calls_from start calls) (starts_of groups) pieces
@@ -226,7 +226,7 @@ from_0 set = filter_all (λ k. not (nat_lt k 0)) not_below_0 set
 calls_from_0 : (calls : List Call) → calls_from 0 calls ≡ calls
 calls_from_0 calls = filter_all (λ call. not (nat_lt (key_of call) 0)) (λ call. not_below_0 (key_of call)) calls
 
--- the pieces that are cut off are the parts of the batch, and the other way
+-- cut pieces are the pieces of the groups, and conversely
 pub pieces_cut : (objects : Objects) (calls : List Call) (starts : List ℕ) (pieces : List Piece)
     → 0 < length (distinct_keys calls)
     → AreStarts (group_size (length (distinct_keys calls))) (distinct_keys calls) starts → AreCutPieces objects.set calls starts pieces → (cut : Cut objects calls pieces) × (starts_of cut.groups ≡ starts)
@@ -258,7 +258,7 @@ starts_ascend calls keys starts some is are =
     let some' = some_key calls some in
     starts_up (group_size (length (distinct_keys calls))) (distinct_keys calls) starts (omega arith) (distinct_ascends (keys_of calls)) are'
 
--- how a batch was opened, by what the code tells of it
+-- the context of a batch, from what the code establishes
 pub remembered : (set : List ℕ) (calls : List Call) (keys starts : List ℕ) (pieces : List Piece) (rest : Rest)
     → StrictlyAscends set → AreOneBatch calls → AreOf Tree calls → keys ≡ distinct_keys calls
     → AreStarts (group_size (length keys)) keys starts → AreCutPieces set calls starts pieces → rest.groups.items ≡ map (λ call. group_of (key_of call) starts) calls

@@ -1,4 +1,4 @@
--- Calls that are served on a set are served on the two sides of a key apart from one another.
+-- Serving calls on a set is serving them on the two sides of a key separately.
 use Rattle.std.proofs.Common.{◌≡◌, ℕ, ◌<◌, ◌≤◌, ◌⊎◌, inl, inr, true, false, not, nat_lt, if◌then◌else◌, List, [], ◌∷◌, ◌++◌, get_or, drop, slice_get, Some, Bool, refl, ap, sym, subst, ◌∙◌, arith}
 use Rattle.std.specs.declared.option.Option.{Option}
 use Rattle.std.specs.List.{AllByRecursion}
@@ -24,7 +24,7 @@ abbrev pub shared : ℕ → List Call → List Reply → List Reply → List Rep
 shared b [] lows highs = []
 shared b (call ∷ calls) lows highs = if nat_lt (key_of call) b then get_or lows 0 Empty ∷ shared b calls (drop 1 lows) highs else get_or highs 0 Empty ∷ shared b calls lows (drop 1 highs)
 
--- what an operation of the tree does to a set
+-- the effect of an operation of the tree on a set
 abbrev pub changed : Op → List ℕ → List ℕ
 changed (CounterAdd addend) set = set
 changed (Push item) set = set
@@ -137,7 +137,7 @@ query_or_update PqTake set is = absurd cc
 abbrev pub AreUpdates : List Call → Type 0
 AreUpdates calls = AllByRecursion (λ call. 4 ≤ class_of call.op) calls
 
--- behind an update there are updates alone
+-- in batch order, only updates follow an update
 updates_last : (op : Op) (worker : ℕ) (calls : List Call) → 4 ≤ class_of op
     → AllByRecursion (λ later. ComesFirst op worker later.op later.worker) calls → AreUpdates calls
 updates_last op worker [] update later = tt
@@ -145,7 +145,7 @@ updates_last op worker (call ∷ calls) update later =
     let here : 4 ≤ class_of call.op = elim later.0 [ inl less ↦ omega (arith, update, less) | inr same ↦ omega (arith, update, same.0) ] in
     (here, updates_last op worker calls update later.1)
 
--- the key beyond the lower side is the first of the upper side, or there are updates alone
+-- the key beyond the lower side is the first of the upper side, or only updates remain
 abbrev Knows : Option ℕ → List ℕ → List Call → Type 0
 Knows beyond high calls = (beyond ≡ slice_get high 0) ⊎ AreUpdates calls
 
@@ -189,7 +189,7 @@ halves_replies b (call ∷ calls) low high beyond tree order down up known = eli
       rw (test, s.reply, s.whole, is) (ap (λ rs. reply_to (of_set high) call.op ∷ rs) rest)
 ]
 
--- the set after calls, said of sets alone
+-- the set after calls, in terms of sets alone
 pub set_after : (set : List ℕ) (calls : List Call) → AreOf Tree calls
     → after_all (of_set set) calls ≡ of_set (after_all (of_set set) calls).set
 set_after set [] tree = refl

@@ -1,4 +1,4 @@
--- What a batch is opened with.
+-- The facts at the opening of a batch.
 use Rattle.std.proofs.Common.{ℕ, ◌≤◌, ◌<◌, ◌+◌, ◌*◌, ◌^◌, List, length, map, arith}
 use Rattle.launch_batch.proofs.Words.{AllByRecursion, Call, AreDistinct, Counter, Stack, Tree, Queue, AreInBatchOrder, AreOneBatch, object_of, same_object, calls_of, of_counter, Entry, flat, MayServe, AreSame, IsNarrow}
 use Rattle.seq_objects.proofs.Filters.{each_filter, are_of}
@@ -33,7 +33,7 @@ may_add book calls ordered number may same narrow room = record {
       omega (arith, small, few, many, most, room);
 }
 
--- some object is called
+-- some object has a call
 pub some_dealt : (calls ordered : List Call) → AreSame calls ordered → 0 < length calls
     → 0 < length (calls_of Counter ordered) + length (calls_of Stack ordered) + length (calls_of Tree ordered) + length (calls_of Queue ordered)
 some_dealt calls ordered same some =

@@ -1,4 +1,4 @@
--- What the structures have served.
+-- Closing the structures, each of which has served its calls.
 use Rattle.std.proofs.Common.{List, sym, subst}
 use Rattle.launch_batch.proofs.Words.{Call, Object, Counter, Stack, Tree, Queue, calls_of, of_counter, of_stack, of_set, of_bag, BatchContext, Entry, PieceIn, MayServe, IsKept}
 use Rattle.launch_batch.specs.declared.opened.Opened.{Opened}

@@ -1,4 +1,4 @@
--- What a batch comes to when it ends.
+-- The entries, the history and the structures at the end of a batch.
 use Rattle.std.proofs.Common.{ℕ, ◌≡◌, List, [], ◌∷◌, ◌++◌, length, refl, sym, ap, subst, ◌∙◌, arith}
 use Rattle.launch_batch.proofs.Words.{AllByRecursion, Call, Objects, opening, Object, Counter, Stack, Tree, Queue, AreInBatchOrder, object_of, same_object, calls_of, after_all, replies_to_all, alone, of_counter, StackView, Entry, flat, IsHistory, served, served_book, calls_in, replies_in, AreSame, IsServiceOf, contents, IsNarrow, left_of, merged_replies}
 use Rattle.seq_objects.proofs.Filters.{each_filter}
@@ -20,7 +20,7 @@ module _ (structures : Structures) (book : List (List Entry)) (ordered : List Ca
   abbrev before : Objects
   before = contents r.number r.view r.keys r.bag
 
-  -- the replies of the four structures, put together by call, are those of one call after another
+  -- the merged replies of the four structures are those of serving the calls one after another
   replies_are : merged_replies ordered replies ≡ replies_to_all (served_book book) ordered
   replies_are = merged_serial before ordered replies each ∙ ap (λ p. replies_to_all p ordered) r.kept.contents where
     each : (object : Object) → left_of object replies ≡ replies_to_all (alone object before) (calls_of object ordered)
@@ -37,7 +37,7 @@ module _ (structures : Structures) (book : List (List Entry)) (ordered : List Ca
       replies = legal_is (served_book book) entries (told ∙ replies_are ∙ ap (replies_to_all (served_book book)) (sym calls));
     }
 
-    -- so the history with this batch is one
+    -- so the history with this batch is a history
     pub history : IsHistory book → IsServiceOf book given entries → IsHistory (book ++ entries ∷ [])
     history h is = history_made book given entries r.may is h (subst (AllByRecursion IsNarrow) (sym calls) r.narrow)
 
@@ -49,7 +49,7 @@ module _ (structures : Structures) (book : List (List Entry)) (ordered : List Ca
         ∙ ap (after_all (served_book book)) calls
         ∙ ap (λ p. after_all p ordered) (sym r.kept.contents)
 
-    -- and the structures have its contents
+    -- and the structures have the contents that it gives
     pub kept : AreKept structures (book ++ entries ∷ [])
     kept =
         let counted : r.counter.now ≡ (after_all (of_counter r.number) (calls_of Counter ordered)).counter = ap (λ (p : Objects). p.counter) r.counter.after in

@@ -62,6 +62,6 @@ module _ (book : List (List Entry)) (calls : List Call) (batch : List Entry) (ma
         (subst (AllByRecursion (λ leaf. leaf < 2 ^ 32)) (map-map (λ (c : Call). c.leaf) call_in batch) (each_mapped (λ (c : Call). c.leaf) IsNarrow (λ leaf. leaf < 2 ^ 32) (λ c n. n.0) (calls_in batch) narrow))));
   }
 
--- how long the book is then
+-- the number of entries in the book with this batch
 pub length_book : (book : List (List Entry)) (batch : List Entry) → length (flat (book ++ batch ∷ [])) ≡ length (flat book) + length batch
 length_book book batch = ap length (flat_append book batch) ∙ length-append (flat book) batch

@@ -1,4 +1,4 @@
--- Entries and the serial service of their calls, and how far the counter can come.
+-- Entries, the serial service of their calls, and a bound on the counter.
 use Rattle.std.proofs.Common.{◌≡◌, ◌+◌, ◌*◌, ◌<◌, ◌≤◌, ◌^◌, List, [], ◌∷◌, length, refl, arith}
 use Rattle.launch_batch.proofs.Words.{AllByRecursion, Call, Objects, after, reply_to, argument_of, after_all, replies_to_all, Entry, IsLegalFrom, served, calls_in, replies_in, IsNarrow}
 use Rattle.seq_objects.specs.declared.op.Op.{Op}
@@ -17,7 +17,7 @@ pub served_is : (o : Objects) (entries : List Entry) → served o entries ≡ af
 served_is o [] = refl
 served_is o (e ∷ entries) = served_is (after o e.op) entries
 
--- an operation adds less than 2^32 to the counter
+-- an operation adds at most 2^32 to the counter
 counter_step : (o : Objects) (op : Op) → argument_of op < 2 ^ 32 → (after o op).counter ≤ o.counter + 2 ^ 32
 counter_step o (CounterAdd a) small = omega (arith, small)
 counter_step o _ small = omega arith
@@ -29,7 +29,7 @@ counter_most o (call ∷ calls) narrow =
     let rest = counter_most (after o call.op) calls narrow.1 in
     omega (arith, first, rest)
 
--- and so does a call
+-- an addend is at most 2^32
 addend_small : (op : Op) → argument_of op < 2 ^ 32 → addend_of op ≤ 2 ^ 32
 addend_small (CounterAdd a) h = omega (arith, h)
 addend_small _ h = omega arith

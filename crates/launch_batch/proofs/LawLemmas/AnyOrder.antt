@@ -1,4 +1,4 @@
--- Outs of pieces that were run in any order stand at the places of their pieces.
+-- Outs of pieces run in any order, put back at the places of their pieces.
 use Rattle.std.proofs.Common.{ℕ, ◌≡◌, ◌<◌, inl, inr, List, [], ◌∷◌, map, refl, sym, ap, subst, ◌∙◌, arith}
 use Rattle.launch_batch.proofs.Words.{AllByRecursion, AllMeet, PieceIn, PieceOut, AreSame, Run, Meets, place_of, IsOutAt, ArePutBack}
 use Rattle.key_sets.specs.Keys.{StrictlyAscends}
@@ -23,7 +23,7 @@ by_place (i ∷ ins) a b up here there is =
       ]
     ]
 
--- the piece of an out is one of a batch's, has its place and is met
+-- the piece of an out is a piece of the batch, has the out's place, and is met by the out
 found : (ins : List PieceIn) (runs : List Run) (place : ℕ) (out : PieceOut) → AllByRecursion (λ (run : Run). Among run.input ins) runs → AllByRecursion (λ (run : Run). Meets run.input run.out) runs
     → IsOutAt runs place out → (input : PieceIn) × Among input ins × (place_of input ≡ place) × Meets input out
 found ins [] place out among met at = absurd at

@@ -1,4 +1,4 @@
--- Calls have one batch order, and one service.
+-- Calls have at most one batch order, and at most one service.
 use Rattle.std.proofs.Common.{◌≡◌, inl, inr, List, [], ◌∷◌, refl, sym, ap, subst, ◌∙◌}
 use Rattle.launch_batch.proofs.Words.{AllByRecursion, Call, Reply, Objects, after, reply_to, AreInBatchOrder, Entry, IsLegalFrom, served_book, call_in, calls_in, IsServiceOf}
 use Rattle.seq_objects.proofs.CallOrder.{IsFirst, one_way}
@@ -7,14 +7,14 @@ use Rattle.launch_batch.proofs.ListLemmas.Among.{Among, each_among, among_same, 
 not_both : (x y : Call) → IsFirst x y → IsFirst y x → ⊥
 not_both x y first second = one_way x.op y.op x.worker y.worker first second
 
--- a later call of the one list is a later one of the other
+-- a later call of one list is a later call of the other
 later_too : (x y : Call) (xs ys : List Call) → x ≡ y → AllByRecursion (IsFirst x) xs → ((z : Call) → Among z (x ∷ xs) → Among z (y ∷ ys)) → (z : Call) → Among z xs → Among z ys
 later_too x y xs ys same first to z there = elim (to z (inr there)) [
   | inl is ↦ let twice = subst (IsFirst x) (is ∙ sym same) (each_among (IsFirst x) xs z first there) in absurd (not_both x x twice twice)
   | inr more ↦ more
 ]
 
--- two lists in batch order with the same calls are one
+-- two lists in batch order with the same calls are equal
 one_order : (xs ys : List Call) → AreInBatchOrder xs → AreInBatchOrder ys → ((z : Call) → Among z xs → Among z ys) → ((z : Call) → Among z ys → Among z xs) → xs ≡ ys
 one_order [] [] up up' to from = refl
 one_order [] (y ∷ ys) up up' to from = absurd (from y (inl refl))
@@ -35,7 +35,7 @@ make call reply = record { leaf = call.leaf; worker = call.worker; op = call.op;
 entry_same : (e f : Entry) → call_in e ≡ call_in f → e.reply ≡ f.reply → e ≡ f
 entry_same e f calls replies = ap (λ c. make c e.reply) calls ∙ ap (make (call_in f)) replies
 
--- the calls and the objects before them fix the replies
+-- the calls and the objects before them determine the replies
 one_reply_each : (objects : Objects) (batch other : List Entry) → calls_in batch ≡ calls_in other → IsLegalFrom objects batch → IsLegalFrom objects other → batch ≡ other
 one_reply_each objects [] [] same legal legal' = refl
 one_reply_each objects [] (f ∷ other) same legal legal' = absurd cc

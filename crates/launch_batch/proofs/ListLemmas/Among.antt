@@ -1,4 +1,4 @@
--- What is among the elements of a list, and of the same elements in another order.
+-- Membership in a list, and in a permutation of it.
 use Rattle.std.proofs.Common.{◌≡◌, ◌⊎◌, inl, inr, List, [], ◌∷◌, ◌++◌, refl, sym, subst}
 use Rattle.launch_batch.proofs.Words.{AllByRecursion, AreSame}
 use Rattle.seq_objects.proofs.Elements.{each_so}
@@ -15,7 +15,7 @@ each_among P (y ∷ xs) x all there = elim there [
   | inr later ↦ each_among P xs x all.1 later
 ]
 
--- each element is among them
+-- each element is a member
 pub all_among : {X : Type 0} (xs : List X) → AllByRecursion (λ x. Among x xs) xs
 all_among [] = tt
 all_among (y ∷ xs) = (inl refl, each_so (λ x. Among x xs) (λ x. Among x (y ∷ xs)) (λ x there. inr there) xs (all_among xs))
@@ -31,7 +31,7 @@ among_between x y (z ∷ before) later there = elim there [
   | inr more ↦ inr (among_between x y before later more)
 ]
 
--- what is among a list is among the same elements in another order
+-- a member of a list is a member of each permutation of it
 pub among_same : {X : Type 0} (xs others : List X) → AreSame xs others → (x : X) → Among x xs → Among x others
 among_same [] others same x there = absurd there
 among_same (y ∷ xs) others same x there =
@@ -42,6 +42,6 @@ among_same (y ∷ xs) others same x there =
       | inr more ↦ among_between x y before later (among_same xs (before ++ later) same.3 x more)
     ])
 
--- and the other way round
+-- the converse
 pub same_among : {X : Type 0} (xs others : List X) → AreSame xs others → (x : X) → Among x others → Among x xs
 same_among xs others same x there = each_among (λ y. Among y xs) others x (each_same (λ y. Among y xs) xs others same (all_among xs)) there

@@ -2,7 +2,7 @@
 use Rattle.std.proofs.Common.{◌≡◌, ◌+◌, ◌≤◌, Bool, true, false, cond, List, [], ◌∷◌, length, refl, arith}
 use Rattle.launch_batch.proofs.Words.{Call, Object, Counter, Stack, Tree, Queue, object_of, same_object, calls_of}
 
--- there are no more of one object than of all
+-- one object has at most as many calls as all together
 pub few_own : (object : Object) (calls : List Call) → length (calls_of object calls) ≤ length calls
 few_own object [] = omega arith
 few_own object (call ∷ calls) = step (same_object object (object_of call.op)) (few_own object calls) where
@@ -10,7 +10,7 @@ few_own object (call ∷ calls) = step (same_object object (object_of call.op)) 
   step true rest = omega (arith, rest)
   step false rest = omega (arith, rest)
 
--- each call is of one of the four
+-- each call belongs to one of the four objects
 pub all_dealt : (calls : List Call) → length calls ≡ length (calls_of Counter calls) + length (calls_of Stack calls) + length (calls_of Tree calls) + length (calls_of Queue calls)
 all_dealt [] = refl
 all_dealt (call ∷ calls) = step (object_of call.op) (all_dealt calls) where

@@ -1,4 +1,4 @@
--- Replies that are put together by call.
+-- Merging the structures' replies, call by call.
 use Rattle.std.proofs.Common.{◌≡◌, ℕ, suc, Bool, true, false, cond, List, [], ◌∷◌, length, get_or, drop, refl, ap, sym, ◌∙◌, arith}
 use Rattle.launch_batch.proofs.Words.{Call, Reply, Objects, after, Object, Counter, Stack, Tree, Queue, object_of, same_object, calls_of, replies_to_all, replies_of, alone, left_of, without_first, merged_replies}
 use Rattle.seq_objects.specs.declared.reply.Reply.TheVariants.{Empty}
@@ -10,7 +10,7 @@ pub length_merged : (calls : List Call) (remaining : Remaining) → length (merg
 length_merged [] remaining = refl
 length_merged (call ∷ calls) remaining = omega (arith, length_merged calls (without_first (object_of call.op) remaining))
 
--- what is left of an object's replies, and of the others'
+-- the remaining replies of an object, and of the others
 own_left : (object : Object) (remaining : Remaining) → left_of object (without_first object remaining) ≡ drop 1 (left_of object remaining)
 own_left Counter remaining = refl
 own_left _ remaining = refl
@@ -34,7 +34,7 @@ fewer [] n is = absurd (omega (arith, is))
 fewer (reply ∷ replies) n is = omega (arith, is)
 
 module _ (object : Object) where
-  -- as many of an object's replies are left as of its calls: then each of its calls has its own
+  -- an object has as many remaining replies as remaining calls, so each of its calls gets its own reply
   pub merged_are : (calls : List Call) (remaining : Remaining) → length (left_of object remaining) ≡ length (calls_of object calls)
       → replies_of object calls (merged_replies calls remaining) ≡ left_of object remaining
   merged_are [] remaining count = none (left_of object remaining) count where
@@ -64,7 +64,7 @@ pub length_replies : (objects : Objects) (calls : List Call) → length (replies
 length_replies objects [] = refl
 length_replies objects (call ∷ calls) = omega (arith, length_replies (after objects call.op) calls)
 
--- where each object's replies are those to its own calls alone, all are the serial ones
+-- if each object's replies are those to its own calls alone, the merged replies are the serial ones
 pub merged_serial : (objects : Objects) (calls : List Call) (remaining : Remaining) → ((object : Object) → left_of object remaining ≡ replies_to_all (alone object objects) (calls_of object calls))
     → merged_replies calls remaining ≡ replies_to_all objects calls
 merged_serial objects calls remaining are =

@@ -22,7 +22,7 @@ range_row a (suc n) b le =
       ascend = (each_so (λ k. a + 1 ≤ k) (λ k. a < k) (λ k above. omega (arith, above)) (range_with_len (a + 1) n) later.from, later.ascend);
     }
 
--- a row behind another is one with it
+-- a row that continues another forms one row with it
 two_rows : (a b c : ℕ) (low high : List ℕ) → a ≤ b → b ≤ c → IsRow a b low → IsRow b c high → IsRow a c (low ++ high)
 two_rows a b c low high le le' l h = record {
   from = each_append (λ k. a ≤ k) low high l.from (each_so (λ k. b ≤ k) (λ k. a ≤ k) (λ k above. omega (arith, above, le)) high h.from);
@@ -40,7 +40,7 @@ row_of_four a b c d few_a few_b few_c few_d =
 pub length_of_four : (a b c d : ℕ) → length (four_rows a b c d) ≡ a + b + c + d
 length_of_four a b c d = simp (length-append, length-range_with_len)
 
--- there is a piece where some structure has calls, and there are at most 56
+-- there is a piece if some structure has calls, and there are at most 56
 pub some_and_few : (n p q r s a b c d : ℕ) → n ≡ a + b + c + d → a ≤ 16 → b ≤ 16 → c ≤ 16 → d ≤ 8
     → (0 < p → 1 ≤ a) → (0 < q → 1 ≤ b) → (0 < r → 1 ≤ c) → (0 < s → 1 ≤ d) → 0 < p + q + r + s → (1 ≤ n) × (n ≤ 56)
 some_and_few n p q r s a b c d is few_a few_b few_c few_d i j k l some =

@@ -1,4 +1,4 @@
--- Pieces that are put at consecutive places, and those of each structure among all.
+-- Pieces at consecutive places, and selecting those of each structure.
 use Rattle.std.proofs.Common.{◌≡◌, ◌<◌, ◌≤◌, ℕ, ◌+◌, List, [], ◌∷◌, ◌++◌, length, map, refl, sym, ap, ◌∙◌, arith, append_assoc}
 use Rattle.std.specs.List.{range_with_len}
 use Rattle.launch_batch.proofs.Words.{AllByRecursion, PieceIn, place_of, placed}
@@ -7,7 +7,7 @@ placed_more : {In : Type 0} (make : ℕ → In → PieceIn) (place n : ℕ) (xs 
 placed_more make place n [] x is = let e : place ≡ n = omega (arith, is) in ap (λ p. make p x ∷ []) e
 placed_more make place n (y ∷ xs) x is = ap (λ l. make place y ∷ l) (placed_more make (place + 1) n xs x (omega (arith, is)))
 
--- one more piece behind others
+-- appending one more piece
 pub put_more : {In : Type 0} (make : ℕ → In → PieceIn) (old now : List PieceIn) (place n : ℕ) (xs : List In) (x : In) → now ≡ old ++ placed make place xs → n ≡ place + length xs
     → now ++ make n x ∷ [] ≡ old ++ placed make place (xs ++ x ∷ [])
 put_more make old now place n xs x is at =
@@ -19,7 +19,7 @@ pub places_placed : {In : Type 0} (make : ℕ → In → PieceIn) (place : ℕ) 
 places_placed make place [] has = refl
 places_placed make place (x ∷ xs) has = rw (has place x, places_placed make (place + 1) xs has) refl
 
--- what holds of a piece at each of these places holds of all that are put there
+-- a property of a piece at each of these places holds for all pieces placed there
 pub each_placed : {In : Type 0} (P : PieceIn → Type 0) (make : ℕ → In → PieceIn) (place : ℕ) (xs : List In)
     → ((n : ℕ) (x : In) → place ≤ n → n < place + length xs → P (make n x)) → AllByRecursion P (placed make place xs)
 each_placed P make place [] holds = tt
@@ -28,7 +28,7 @@ each_placed P make place (x ∷ xs) holds = (
   each_placed P make (place + 1) xs (λ n y from below. holds n y (omega (arith, from)) (omega (arith, below))),
 )
 
--- of a structure's own pieces before others, all are its own; of another's, none
+-- selecting a structure from placed pieces followed by others: all of its own pieces, none of another structure's
 module _ {X : Type 0} (own : List PieceIn → List X) where
   pub all_own : (make : ℕ → X → PieceIn) → ((n : ℕ) (x : X) (rest : List PieceIn) → own (make n x ∷ rest) ≡ x ∷ own rest)
       → (place : ℕ) (xs : List X) (rest : List PieceIn) → own (placed make place xs ++ rest) ≡ xs ++ own rest

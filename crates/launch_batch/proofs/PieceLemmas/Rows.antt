@@ -1,4 +1,4 @@
--- The pieces of the four structures, each structure's put behind those of another.
+-- The pieces of the four structures, appended structure by structure.
 use Rattle.std.proofs.Common.{◌≡◌, ◌≤◌, ◌<◌, List, [], ◌++◌, length, map, refl, sym, subst, ◌∙◌, append-nil, append_assoc, arith}
 use Rattle.std.proofs.lemmas.List.{map-append}
 use Rattle.launch_batch.proofs.Words.{AllByRecursion, CounterPiece, StackPiece, TreePiece, QueuePiece, PieceIn, place_of, placed, counter_pieces, stack_pieces, tree_pieces, queue_pieces}

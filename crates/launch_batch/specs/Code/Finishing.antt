@@ -12,8 +12,8 @@ use Rattle.launch_batch.specs.Calls.{MayServe, AreSame}
 use Rattle.launch_batch.specs.Contents.{IsKept, IsNarrow}
 use Rattle.launch_batch.specs.Code.Halves.{HasServed}
 
--- The structures had the contents of the book, and each has served its own of the calls, which were given in
--- whatever order.
+-- `ordered` is `calls` in batch order, and `calls` may be served after the book. The structures had the contents of the
+-- book; each has served its own calls of `ordered`, with its part of the replies.
 pub record HaveServed (structures : Structures) (book : List (List Entry)) (ordered : List Call)
     (replies : Remaining) (calls : List Call) : Type 0 where
   pub may : MayServe book calls

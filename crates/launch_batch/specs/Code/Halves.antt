@@ -17,14 +17,15 @@ is_open (Whole structure) = false
 is_open (Open rest) = true
 is_open Moved = false
 
--- the structure stands whole, and may serve these calls
+-- the structure is whole, and may serve these calls
 pub record CanServe {T R : Type 0} (content : T → Objects) (may_serve : Objects → List Call → Type 0)
     (half : Half T R) (calls : List Call) : Type 0 where
   pub before : T
   pub whole : half ≡ Whole before
   pub may : may_serve (content before) calls
 
--- the structure stands whole, as it is once these calls were served one after another, with these replies
+-- the structure is whole, with the content after serving these calls one after another from `before`, and `replies` are
+-- the replies to them
 pub record HasServed {T R : Type 0} (content : T → Objects) (half : Half T R) (before : T)
     (calls : List Call) (replies : List Reply) : Type 0 where
   pub now : T

@@ -1,4 +1,4 @@
--- Calls that are dealt to their structures, and the structures' replies put together again.
+-- How calls are assigned to structures, and how the structures' replies are merged.
 use Rattle.std.specs.Prelude.{List, [], ◌∷◌, drop, slice_index_or}
 use Rattle.seq_objects.specs.declared.call.Call.{Call}
 use Rattle.seq_objects.specs.declared.reply.Reply.{Reply}
@@ -8,28 +8,28 @@ use Rattle.launch_batch.specs.declared.deal.Structure.{Structure}
 use Rattle.launch_batch.specs.declared.deal.Structure.TheVariants as structure
 use Rattle.launch_batch.specs.declared.merge.Remaining.{Remaining}
 
--- the object that a structure serves
+-- the object that a structure implements
 abbrev pub object_served : Structure → Object
 object_served structure.Counter = Counter
 object_served structure.Stack = Stack
 object_served structure.Tree = Tree
 object_served structure.Queue = Queue
 
--- the replies of one object's structure that are left
+-- the remaining replies of one object
 abbrev pub left_of : Object → Remaining → List Reply
 left_of Counter remaining = remaining.counter
 left_of Stack remaining = remaining.stack
 left_of Tree remaining = remaining.tree
 left_of Queue remaining = remaining.queue
 
--- the first of one object's replies is taken
+-- the remaining replies, without the first of one object's
 abbrev pub without_first : Object → Remaining → Remaining
 without_first Counter remaining = record remaining { counter = drop 1 remaining.counter }
 without_first Stack remaining = record remaining { stack = drop 1 remaining.stack }
 without_first Tree remaining = record remaining { tree = drop 1 remaining.tree }
 without_first Queue remaining = record remaining { queue = drop 1 remaining.queue }
 
--- each call has the next reply of its object
+-- each call takes the next reply of its object; `Empty` if none is left
 abbrev pub merged_replies : List Call → Remaining → List Reply
 merged_replies [] remaining = []
 merged_replies (call ∷ calls) remaining =

@@ -1,4 +1,4 @@
--- The pieces of the four structures in one list, each structure's in a row of places.
+-- The pieces of the four structures in one list, each structure's in its row of places.
 use Rattle.std.specs.Prelude.{ℕ, ◌≡◌, ◌<◌, List, length, map, ◌++◌}
 use Rattle.std.specs.List.{AllByRecursion, range_with_len}
 use Rattle.seq_objects.specs.Orders.{StrictlyAscends}
@@ -11,11 +11,12 @@ use Rattle.launch_batch.specs.Pieces.{place_of}
 use Rattle.launch_batch.specs.Places.{IsInOwnRow}
 use Rattle.launch_batch.specs.ByStructure.{counter_pieces, stack_pieces, tree_pieces, queue_pieces}
 
--- the places of so many pieces of each structure
+-- the places of a, b, c and d pieces of the counter, the stack, the tree and the queue
 abbrev pub four_rows : ℕ → ℕ → ℕ → ℕ → List ℕ
 four_rows a b c d = range_with_len 0 a ++ range_with_len 16 b ++ range_with_len 32 c ++ range_with_len 48 d
 
--- the pieces are those of the four structures, whose places ascend
+-- the list has the pieces of the four structures, each at consecutive places in its structure's row; the places ascend
+-- and are below 56
 pub record AreInRows (pieces : List PieceIn) (for_counter : List CounterPiece)
     (for_stack : List StackPiece) (for_tree : List TreePiece) (for_queue : List QueuePiece) : Type 0 where
   pub counter : counter_pieces pieces ≡ for_counter

@@ -2,7 +2,7 @@ use Rattle.std.proofs.Common.{◌≡◌, ◌+◌, ◌-◌, ◌%◌, ◌++◌, dr
 use Rattle.batched_pq.specs.Calls.{inserts_for}
 use Rattle.batched_pq.proofs.begin.inserts_for.Given as goal
 
--- the shard's inserts so far and those of what is left are all
+-- the shard's inserts so far, followed by those among the remaining inserts, are all of them
 abbrev pub invariant-loop-i : goal.invariant-loop-i
 invariant-loop-i l = record {
   own : l.i % 8 ≡ l.number;

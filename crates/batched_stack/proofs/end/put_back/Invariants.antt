@@ -4,7 +4,7 @@ use Rattle.batched_stack.specs.Lists.{lists, rooms_in}
 use Rattle.batched_stack.specs.Code.End.{with_outs}
 use Rattle.batched_stack.proofs.end.put_back.Given as goal
 
--- putting back the outs that are left gives what putting back all gives
+-- putting back the remaining outs gives the result of putting back all
 abbrev pub invariant-loop-out : goal.invariant-loop-out
 invariant-loop-out l =
     let outs = l.initial.out-iterator.rest.items in

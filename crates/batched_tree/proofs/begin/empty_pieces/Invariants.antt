@@ -3,7 +3,7 @@ use Rattle.batched_tree.specs.declared.piece.Piece.{Piece}
 use Rattle.batched_tree.specs.Code.Begin.{AreCutPieces}
 use Rattle.batched_tree.proofs.begin.empty_pieces.Given as goal
 
--- the parts of what is left continue those so far
+-- the parts of the remaining set continue those so far
 abbrev pub invariant-loop-start : goal.invariant-loop-start
 invariant-loop-start l = record {
   pieces : (more : List Piece) → AreCutPieces l.rest [] (drop l.start-index l.starts) more

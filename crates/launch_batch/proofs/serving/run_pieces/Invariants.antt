@@ -2,7 +2,7 @@ use Rattle.std.proofs.Common.{◌≡◌, ◌++◌}
 use Rattle.launch_batch.specs.Code.Outs.{HaveMet}
 use Rattle.launch_batch.proofs.serving.run_pieces.Given as goal
 
--- the outs so far are what the pieces that were taken owe
+-- the outs so far meet the pieces that were run
 abbrev pub invariant-loop-piece : goal.invariant-loop-piece
 invariant-loop-piece l = record {
   met : HaveMet l.yielded l.all;

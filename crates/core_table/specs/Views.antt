@@ -147,7 +147,7 @@ posting v call = record v {
 }
 
 abbrev pub new_view : List (List Entry) → HoldView
-new_view book = record { looks = 0; taken = []; answered = []; owed = []; published = false; book = book }
+new_view book = record { looks = 0; found = []; taken = []; answered = []; owed = []; published = false; book = book }
 
 -- the pass wins the flag, and its hold starts with the book
 abbrev pub winning : View → List (List Entry) → View
@@ -158,10 +158,15 @@ losing v word = record v { refused_wins = v.refused_wins + 1; found = word; just
 
 -- The hold after a look that takes the call of worker u (`taken_view`), and after one that takes none (`passed_view`).
 abbrev pub taken_view : HoldView → ℕ → OpRecord → HoldView
-taken_view h u call = record h { looks = h.looks + 1; taken = record { worker = u; call = call } ∷ h.taken; owed = h.owed ++ u ∷ [] }
+taken_view h u call = record h {
+  looks = h.looks + 1;
+  found = 1 ∷ h.found;
+  taken = record { worker = u; call = call } ∷ h.taken;
+  owed = h.owed ++ u ∷ [];
+}
 
-abbrev pub passed_view : HoldView → HoldView
-passed_view h = record h { looks = h.looks + 1 }
+abbrev pub passed_view : HoldView → ℕ → HoldView
+passed_view h status = record h { looks = h.looks + 1; found = status ∷ h.found }
 
 abbrev pub published_view : HoldView → List Entry → HoldView
 published_view h batch = record h { published = true; book = h.book ++ batch ∷ [] }
@@ -179,7 +184,7 @@ with_hold v h = record v { hold = Some h; just_posted = false }
 
 -- the view after a look that takes no call and found this status
 abbrev pub passing : View → HoldView → ℕ → View
-passing v h status = record v { hold = Some (passed_view h); found = status; just_posted = false }
+passing v h status = record v { hold = Some (passed_view h status); found = status; just_posted = false }
 
 -- the book of a hold, or without a hold the book seen before
 abbrev pub book_after : Maybe HoldView → List (List Entry) → List (List Entry)

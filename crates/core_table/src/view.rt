@@ -24,6 +24,8 @@ pub struct LeftCall {
 pub struct HoldView {
     /// The number of workers looked at, in worker order from 0.
     pub looks: u64,
+    /// The status that each of these looks found, the latest first: 1 is pending.
+    pub found: LinkedList<u64>,
     /// The calls taken, the latest first.
     pub taken: LinkedList<TakenCall>,
     /// The workers answered, the latest first.

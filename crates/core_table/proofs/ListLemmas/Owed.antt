@@ -142,8 +142,8 @@ owes_taken h call unpublished o =
       early = o.early;
     }
 
-pub owes_passed : (h : HoldView) → Owes h → Owes (passed_view h)
-owes_passed h o = record { each = o.each; only = o.only; distinct = o.distinct; few = omega (arith, o.few); below = λ v took. let low = o.below v took in omega (arith, low); early = o.early }
+pub owes_passed : (h : HoldView) (status : ℕ) → Owes h → Owes (passed_view h status)
+owes_passed h status o = record { each = o.each; only = o.only; distinct = o.distinct; few = omega (arith, o.few); below = λ v took. let low = o.below v took in omega (arith, low); early = o.early }
 
 pub owes_published : (h : HoldView) (batch : List Entry) → Owes h → Owes (published_view h batch)
 owes_published h batch o = record { each = o.each; only = o.only; distinct = o.distinct; few = o.few; below = o.below; early = λ e. absurd (true_false true refl e) }

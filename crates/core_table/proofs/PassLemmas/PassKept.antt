@@ -122,7 +122,7 @@ carries_passed k u v h status xs out is m =
     let w : View = with_event (passing v h status) (Take u) in record {
       free = λ ne. absurd (ne out);
       trapped = λ _ e. absurd (cc);
-      holds = λ g f. subst (λ (z : HoldView). HolderCarries z.published w z xs) (same_hold _ g f) (elim h.published as (λ (b : Bool). HolderCarries b v h xs → HolderCarries b w (passed_view h) xs) [ false ↦ λ y. y | true ↦ λ y. y ] (m.holds h is));
+      holds = λ g f. subst (λ (z : HoldView). HolderCarries z.published w z xs) (same_hold _ g f) (elim h.published as (λ (b : Bool). HolderCarries b v h xs → HolderCarries b w (passed_view h status) xs) [ false ↦ λ y. y | true ↦ λ y. y ] (m.holds h is));
     }
 
 -- a holder that has published

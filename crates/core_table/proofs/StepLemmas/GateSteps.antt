@@ -136,8 +136,8 @@ if_false : (a b : ℕ) (x : Bool) → (if a == b then true else x) ≡ false →
 if_false a b x e = ((λ f. grind (arith, nat_tests)), grind (arith, nat_tests))
 
 -- a look that finds nothing pending
-take_passes : (s : State) (k u : ℕ) (h : HoldView) → s.hold ≡ Some (hold_of k h) → is_pending (s.status u) ≡ false → record s { hold = Some (hold_of k (V.passed_view h)) } ≡ made s k (Take u)
-take_passes s k u h held p = rw (p, held) refl
+take_passes : (s : State) (k u : ℕ) (h : HoldView) (status : ℕ) → s.hold ≡ Some (hold_of k h) → is_pending (s.status u) ≡ false → record s { hold = Some (hold_of k (V.passed_view h status)) } ≡ made s k (Take u)
+take_passes s k u h status held p = rw (p, held) refl
 
 -- and one that takes a call
 take_takes : (s : State) (k u : ℕ) (h : HoldView) (call : OpRecord) → s.hold ≡ Some (hold_of k h) → s.status u ≡ Pending → record s { status = put s.status u Executing; hold = Some (hold_of k (V.taken_view h u call)) } ≡ made s k (Take u)
@@ -422,10 +422,10 @@ module _ (job : CoreJob) (room : ℕ) (laws : Laws job) (slots id : ℕ) (v : Vi
       ))
       (λ ne.
       let other_status : is_pending (s.status u) ≡ false = other_word (s.status u) (λ e. ne (o.words.statuses u low ∙ e)) in
-      let h' = V.passed_view h in
+      let h' = V.passed_view h word in
       let w : View = V.with_event (V.passing v h word) (Take u) in
       let new : State = record s { hold = Some (hold_of k h') } in
-      let happens : Happens job s k (Take u) new = record { worker_in = m.0; needs = (hold_of k h, (held, refl), next, low); does = take_passes s k u h held other_status } in (
+      let happens : Happens job s k (Take u) new = record { worker_in = m.0; needs = (hold_of k h, (held, refl), next, low); does = take_passes s k u h word held other_status } in (
         w,
         keeps,
         tt,

@@ -63,10 +63,10 @@ module _ (t : CoreTable) (node n : ℕ) (before : List (List Entry)) (calls : Li
         start = f.start;
         task = ap (λ (v : View). v.task) now ∙ f.task;
         call = ap (λ (v : View). v.call) now ∙ f.call;
-        h = passed_view f.h;
-        hold = ap (λ (v : View). v.hold) now ∙ ap (λ (x : HoldView). Some (passed_view x)) same;
+        h = passed_view f.h seen;
+        hold = ap (λ (v : View). v.hold) now ∙ ap (λ (x : HoldView). Some (passed_view x seen)) same;
         book = f.book;
-        taken = taken_same n calls f.h f.taken;
+        taken = taken_same n calls f.h seen f.taken;
       }
 
   -- a publish

@@ -73,8 +73,8 @@ taken_more room u calls h call few t new =
     }
 
 -- a look that takes none
-pub taken_same : (u : ℕ) (calls : List Call) (h : HoldView) → HasTaken u calls h → HasTaken (u + 1) calls (passed_view h)
-taken_same u calls h t = record {
+pub taken_same : (u : ℕ) (calls : List Call) (h : HoldView) (status : ℕ) → HasTaken u calls h → HasTaken (u + 1) calls (passed_view h status)
+taken_same u calls h status t = record {
   looks = ap (λ n. n + 1) t.looks;
   each = t.each;
   only = t.only;

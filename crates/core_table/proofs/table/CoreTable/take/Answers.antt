@@ -35,7 +35,7 @@ returns-then-seen-ne1-clause-pass c =
     let out : old.me.0.call ≡ Out = held_out c.args.pass.now.worker old.me e.0 c.requires.pass.7 e.1 in
     pass_made c.args.self.now.setting _ c.args.pass.now.worker old c.compare_exchange-seen.new.seat w old.me.1 c.compare_exchange-seen.ensures.0 (e.4 c.if-seen-ne1.true) refl refl refl refl refl refl
     (carries_passed c.args.pass.now.worker c.args.u old.me.0 e.0 c.compare_exchange-seen.result old.me.1 out e.1 c.requires.pass.7)
-    (let m = c.requires.pass.8.holds e.0 e.1 in remembers_hold w _ _ (passed_view e.0) refl m.0 m.1 (owes_passed e.0 m.2)) c.requires.pass
+    (let m = c.requires.pass.8.holds e.0 e.1 in remembers_hold w _ _ (passed_view e.0 c.compare_exchange-seen.result) refl m.0 m.1 (owes_passed e.0 c.compare_exchange-seen.result m.2)) c.requires.pass
 
 pub returns-clause-pass : goal.returns-clause-pass
 returns-clause-pass c =

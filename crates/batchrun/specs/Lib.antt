@@ -1,4 +1,4 @@
--- What the program promises, with what it takes from the crates below. `Code` is what only the code cites.
+-- What the program promises, with what it takes from the crates below. `Code` holds what only the code cites.
 pub use Rattle.bt_io.specs.Bytes
 pub use Rattle.bt_io.specs.Causes
 pub use Rattle.bt_io.specs.Memory

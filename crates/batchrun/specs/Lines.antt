@@ -1,4 +1,4 @@
--- The line that each status has on err, and the number with which the process exits.
+-- The line that each status has on err, and the exit code of the process.
 use Rattle.std.specs.Prelude.{ℕ, List, [], ◌++◌, codes}
 use Rattle.std.specs.Fmt.{decimal}
 use Rattle.job_syntax.specs.Lines.{line_in, fault_words}

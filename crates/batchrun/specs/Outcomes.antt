@@ -1,5 +1,5 @@
--- What each status of a run says: one definition for each concern, with a line for each status. `Commands` says which of
--- them a command owes.
+-- What each status of a run means: one definition for each concern, with a line for each status. `Commands` says which
+-- of these a command owes.
 use Rattle.std.specs.Prelude.{◌≡◌, ℕ, ◌<◌, ◌≤◌, ◌⊎◌, List, length, Bool, IsTrue, Option, None, Some, IfSome}
 use Rattle.std.specs.Io.KnownBytes.{Appends, Keeps}
 use Rattle.bt_io.specs.Bytes.{AppendsFront}
@@ -15,7 +15,7 @@ use Rattle.batchrun.specs.declared.status.Refusal.TheVariants.{TooLong, Job}
 use Rattle.batchrun.specs.declared.status.Status.{Status}
 use Rattle.batchrun.specs.declared.status.Status.TheVariants.{Done, Made, Usage, ReadFault, Refused, WriteFault, Memory}
 
--- The bytes that were read are a job's, and the report is lawful for this job and this count of workers.
+-- The bytes that were read are a text of a job, and the report is lawful for this job and this number of workers.
 pub record HasRun (held : Option (List ℕ)) (workers : ℕ) (report : Report) : Type 0 where
   pub bytes : List ℕ
   pub read : WasRead 1048576 held bytes
@@ -23,14 +23,15 @@ pub record HasRun (held : Option (List ℕ)) (workers : ℕ) (report : Report) :
   pub accepted : IsJobOf bytes job
   pub lawful : Lawful job workers report
 
--- The bytes that were read are a job's, the report is lawful, and it is the one that turns make of this job: those of the
--- schedule, and then those of all workers round robin from worker 0 on.
+-- The bytes that were read are a text of a job, and the report is lawful and the one that turns make of this job: those
+-- of the schedule, and then those of all workers round robin from worker 0 on.
 pub record HasDriven (held : Option (List ℕ)) (workers : ℕ) (schedule : List ℕ) (report : Report) : Type 0 where
   pub run : HasRun held workers report
   pub driven : IsDrivenReport run.job workers schedule report
 
--- The bytes that were read are a job's, the report is lawful, and it is that of a run of the model: a trace of events of
--- the workers leads from the opening state of this job to the state that the report tells.
+-- The bytes that were read are a text of a job, and the report is lawful and that of a run of the model: a trace of
+-- events of the workers leads from the opening state of this job to a state whose root is done, and the report is that
+-- of this state. For a job without leaves it has no rows and no batches.
 pub record IsModelRun (held : Option (List ℕ)) (workers : ℕ) (report : Report) : Type 0 where
   pub run : HasRun held workers report
   pub model : IsRunReport run.job workers report
@@ -41,7 +42,8 @@ pub record IsRefused (held : Option (List ℕ)) (fault : JobFault) : Type 0 wher
   pub read : WasRead 1048576 held bytes
   pub why : IsFaultOf bytes fault
 
--- Which report comes, and what out took. `Runs` says what a run owes of its report, and `lines` are what it prints of it.
+-- Whether there is a report, and what out took. `Runs` is what a run owes of its report, and `lines` what it prints of
+-- it. Where the status is none of `Done`, `Made` and `WriteFault`, there is no report and out takes nothing.
 abbrev pub Prints : (Report → Type 0) → (Report → List ℕ) → Status → Option Report → Option (List ℕ) → Option (List ℕ) → Type 0
 Prints Runs lines Done (Some report) old new = Runs report × Appends old new (lines report)
 Prints Runs lines Made (Some report) old new = Runs report × Appends old new (lines report)
@@ -52,8 +54,8 @@ Prints Runs lines WriteFault None old new = ⊥
 Prints Runs lines status None old new = Keeps old new
 Prints Runs lines status (Some report) old new = ⊥
 
--- Why a status comes where a file is read: by the bytes held under it, and by whether the count of faults of the shelf or of
--- out rose.
+-- Why a status comes where a file is read: by the bytes held under its name, and by whether the fault count of the
+-- shelf or of out rose.
 abbrev pub FileCause : Status → Option (List ℕ) → Type 0 → Type 0 → Type 0
 FileCause Done held ReadsFailed WritesFailed = Unit {0}
 FileCause Made held ReadsFailed WritesFailed = ⊥
@@ -64,18 +66,19 @@ FileCause (Refused (Job fault)) held ReadsFailed WritesFailed = IsRefused held f
 FileCause WriteFault held ReadsFailed WritesFailed = WritesFailed
 FileCause Memory held ReadsFailed WritesFailed = Unit {0}
 
--- why a status comes where a job is made
+-- why a status comes where a job is generated
 abbrev pub MadeCause : Status → Type 0 → Type 0
 MadeCause Made WritesFailed = Unit {0}
 MadeCause WriteFault WritesFailed = WritesFailed
 MadeCause Memory WritesFailed = Unit {0}
 MadeCause status WritesFailed = ⊥
 
--- the status is this one, unless memory ran out
+-- the status is `wanted`, or memory ran out
 abbrev pub IsUnlessMemory : Status → Status → Type 0
 IsUnlessMemory status wanted = (status ≡ wanted) ⊎ (status ≡ Memory)
 
--- Which status comes where the file's bytes are told and no fault comes in between: the one that they call for.
+-- Which status comes where the bytes of the file are known and no read fails, and for an accepted job no write: the one
+-- that the bytes call for, unless memory runs out.
 pub record FileCompletes (status : Status) (held : Option (List ℕ)) (ReadsFailed WritesFailed : Type 0) : Type 0 where
   pub too_long : (bytes : List ℕ) → held ≡ Some bytes → ¬ ReadsFailed
       → 1048576 < length bytes → IsUnlessMemory status (Refused TooLong)
@@ -84,24 +87,24 @@ pub record FileCompletes (status : Status) (held : Option (List ℕ)) (ReadsFail
   pub accepted : (bytes : List ℕ) (job : JobValue) → held ≡ Some bytes → ¬ ReadsFailed → ¬ WritesFailed
       → length bytes ≤ 1048576 → IsJobOf bytes job → IsUnlessMemory status Done
 
--- a write fault comes only where the lines of this report are longer than the room that out has left
+-- a write fault comes only where the lines of the report are longer than the room that out has left
 abbrev pub FailsPast : (Report → List ℕ) → Status → Option Report → ℕ → Type 0
 FailsPast lines WriteFault (Some report) room = room < length (lines report)
 FailsPast lines status report room = Unit {0}
 
--- the text of this report, if there is one, is within the room
+-- the text of the report, if there is one, fits the room
 abbrev pub TextFits : Option Report → ℕ → Type 0
 TextFits None room = Unit {0}
 TextFits (Some report) room = length (report_text report) ≤ room
 
--- Where the shelf never fails and holds an accepted job, and the text of the report is within the room that out has
--- left, the run is done, unless memory runs out.
+-- Where the shelf never fails and holds an accepted job, and the text of the report fits the room that out has left,
+-- the run is done, unless memory runs out.
 abbrev pub IsFileAssured : Status → Option Report → Option (List ℕ) → Bool → ℕ → Type 0
 IsFileAssured status report held never_fails room =
     (bytes : List ℕ) (job : JobValue) → held ≡ Some bytes → length bytes ≤ 1048576 → IsJobOf bytes job
     → IsTrue never_fails → TextFits report room → IsUnlessMemory status Done
 
--- an accepted job is held
+-- the bytes held are known, at most 1,048,576, and a text of a job
 pub record HoldsJob (held : Option (List ℕ)) : Type 0 where
   pub bytes : List ℕ
   pub job : JobValue

@@ -1,4 +1,4 @@
-//! The command line: the words after the program's name, and the command that they are.
+//! The command line: the words after the program's name, and the commands that they may be.
 ghost use Rattle.std.specs.Prelude.{◌<◌, ◌≤◌, IsTrue};
 ghost use Rattle.batchrun.specs.Words.{is_schedule};
 
@@ -12,7 +12,7 @@ pub(crate) use self::parser::parse;
 pub(crate) struct StepCommand<'a> {
     pub(crate) file: &'a str,
     pub(crate) workers: u32,
-    /// The workers of the first turns, a digit each.
+    /// The workers of the first turns, one digit each.
     pub(crate) schedule: &'a str,
     ghost some_workers: { 0 < workers },
     ghost few_workers: { workers ≤ 32 },
@@ -28,7 +28,7 @@ pub(crate) struct RunCommand<'a> {
     ghost few_workers: { workers ≤ 32 },
 }
 
-/// A `gen` command: a job is made from two numbers, and each worker is a thread.
+/// A `gen` command: runs a job generated from a size and a seed, with a thread for each worker.
 #[derive(Clone, Copy)]
 pub(crate) struct GenCommand {
     pub(crate) size: u32,
@@ -40,7 +40,7 @@ pub(crate) struct GenCommand {
     ghost few_workers: { workers ≤ 32 },
 }
 
-/// What the words ask for.
+/// The command that the words are.
 #[derive(Clone, Copy)]
 pub(crate) enum Command<'a> {
     Step(StepCommand<'a>),

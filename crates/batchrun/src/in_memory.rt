@@ -1,4 +1,4 @@
-//! A run over memory, in which no call fails.
+//! A run by turns over a shelf and sinks in memory, in which no read or write is told to fail.
 ghost use Rattle.std.specs.Prelude.{◌≡◌, ◌-◌, [], length, Some, IfSome};
 ghost use Rattle.std.specs.Option.{ForSome, option_and_then};
 ghost use Rattle.bt_io.specs.Causes.{Rose};
@@ -16,7 +16,7 @@ use crate::status::Status;
 use bt_io::{MemShelf, MemSink};
 use std::alloc::Global;
 
-/// Runs a `step` command over a shelf and a sink in memory, where no call is told to fail. Where the shelf holds an
+/// Runs a `step` command over a shelf and a sink in memory, where no call is told to fail. If the shelf holds an
 /// accepted job and the sink has room for the text of its report, the run is done, unless memory runs out.
 pub fn step_in_memory(
     alloc: Global,

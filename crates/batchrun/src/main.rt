@@ -1,10 +1,9 @@
 //! The program: reads a job of work and calls, runs it, and prints what each leaf and each call did.
 //!
-//! `batchrun` is the whole program over any shelf and sinks, and carries the headline: a run that is done has
-//! printed a lawful report. `run_step` does the work of a `step` command and waits for nobody; a `run` command
-//! has a thread for each worker. Both tell how one private run of the
-//! command ended. `main` only hands in the real words, files and
-//! streams. The crate stands on all layers below it.
+//! `program::batchrun` is the whole program over any shelf and sinks, and carries the headline: a run that is done has
+//! printed a lawful report. `program::run_step` does the work of a `step` command and waits for no thread; a `run` and
+//! a `gen` command have a thread for each worker. Each call does one run, and tells how it ended. `main` only passes in
+//! the real words, files and streams. The crate stands on all layers below it.
 #![tactic(auto)]
 
 pub mod command;
@@ -23,7 +22,7 @@ use status::Status;
 use std::env;
 use std::process::ExitCode;
 
-/// Ends a run that has no words, with its line on err.
+/// Ends a run whose words could not be had, with the line of its status on err.
 fn ended<E: Sink>(err: &mut E, status: Status) -> ExitCode {
     tell(err, status.line());
     ExitCode::from(status.number())

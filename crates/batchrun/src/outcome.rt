@@ -4,7 +4,7 @@ ghost use Rattle.std.specs.Prelude.{◌≡◌, None};
 use crate::status::Status;
 use batch_history::Report;
 
-/// How a run ended, and what it did: there is a report exactly where one was to be written.
+/// How a run ended, and its report, which is present exactly where its lines were to be written.
 #[derive(Drop)]
 pub struct Outcome {
     pub status: Status,
@@ -12,7 +12,7 @@ pub struct Outcome {
 }
 
 impl Outcome {
-    /// A run that ended before it had a report.
+    /// The outcome of a run that ended before it had a report.
     pub(crate) fn stopped(status: Status) -> Outcome
         ensures status { result.status ≡ status }
         ensures report { result.report ≡ None }

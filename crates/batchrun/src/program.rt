@@ -65,7 +65,7 @@ fn run_command<R: Threads + Wait + Sync, I: Shelf, O: Sink, G: Pause + Sync>(
     }
 }
 
-/// Runs what the words ask for.
+/// Runs the command that the words are, if they are one.
 fn run_words<R: Threads + Wait + Sync, I: Shelf, O: Sink, G: Pause + Sync>(
     rt: &R,
     alloc: Global,
@@ -86,7 +86,7 @@ fn run_words<R: Threads + Wait + Sync, I: Shelf, O: Sink, G: Pause + Sync>(
     }
 }
 
-/// Runs the `step` command that the words ask for.
+/// Runs the `step` command that the words are.
 fn step_words<I: Shelf, O: Sink>(
     alloc: Global,
     words: &[String],
@@ -106,7 +106,7 @@ fn step_words<I: Shelf, O: Sink>(
     }
 }
 
-/// Writes the line of a run's status on err, and gives its outcome.
+/// Writes the line of an outcome's status on err, and gives the outcome back.
 fn told<E: Sink>(err: &mut E, outcome: Outcome) -> Outcome
     ensures same { (result.status ≡ outcome.status) × (result.report ≡ outcome.report) }
     ensures tells { Tells (fault_line result.status) (E.taken err.old) (E.taken err.new)
@@ -116,11 +116,11 @@ fn told<E: Sink>(err: &mut E, outcome: Outcome) -> Outcome
     outcome
 }
 
-/// Does the whole of a `step` command: reads the job of its file, runs it, and writes the report on `out`, or
-/// the line that says why not on `err`.
+/// Runs a `step` command whole: reads the job of its file, runs it, and writes the report on `out`, or the line that
+/// says why not on `err`.
 ///
-/// The text is made whole and written once. It waits for nobody, and asks the shelf for the command's file
-/// alone. Memory may run out at any step.
+/// The report's text is made whole before it is written. The run waits for no thread, and asks the shelf for the
+/// command's file alone. Memory may run out at any step.
 pub fn run_step<I: Shelf, O: Sink, E: Sink>(
     alloc: Global,
     words: &[String],
@@ -144,10 +144,10 @@ pub fn run_step<I: Shelf, O: Sink, E: Sink>(
     told(err, step_words(alloc, words, shelf, out))
 }
 
-/// Does what the words say: the whole program over any shelf and sinks.
+/// Runs the program on its words, over any shelf and sinks.
 ///
-/// A `step` command is done as by `run_step`. A `run` and a `gen` command wait for their threads, which call `pause` at
-/// the points of the run.
+/// A `step` command runs as in `run_step`. A `run` and a `gen` command wait for their threads, which call `pause` at
+/// the points of the gate.
 pub fn batchrun<R: Threads + Wait + Sync, I: Shelf, O: Sink, E: Sink, G: Pause + Sync>(
     rt: &R,
     alloc: Global,

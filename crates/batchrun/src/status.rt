@@ -1,16 +1,16 @@
-//! The status of a run: how it ended, and the number with which the process exits.
+//! The status of a run: how it ended, and the exit code of the process.
 ghost use Rattle.std.specs.Prelude.{◌≡◌};
 
 pub mod line;
 
 use job_lang::JobFault;
 
-/// Why a file was not taken.
+/// Why a file was refused.
 #[derive(Clone, Copy)]
 pub enum Refusal {
-    /// It has more than 1,048,576 bytes.
+    /// The file has more than 1,048,576 bytes.
     TooLong,
-    /// Its bytes are no job.
+    /// The bytes of the file are not a job.
     Job(JobFault),
 }
 
@@ -21,11 +21,11 @@ pub enum Status {
     Done,
     /// The summary of a generated job was written.
     Made,
-    /// The words are no command.
+    /// The words are not a command.
     Usage,
-    /// The file could not be chosen or read to its end.
+    /// The file could not be opened or read to its end.
     ReadFault,
-    /// The file was not taken.
+    /// The file was refused.
     Refused(Refusal),
     /// The report could not be written whole.
     WriteFault,
@@ -36,7 +36,7 @@ pub enum Status {
 impl Status {
     ghost use Rattle.batchrun.specs.Lines.{exit_of};
 
-    /// The number with which the process exits.
+    /// The exit code of the process.
     pub fn number(self) -> u8
         ensures { result ≡ exit_of self }
     {

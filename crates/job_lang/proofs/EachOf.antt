@@ -1,4 +1,4 @@
--- What holds of each element of a list holds of each of its parts, and of each of the lists that such lists make.
+-- A property of each element of a list holds of each element of its parts, and of lists concatenated from such lists.
 use Rattle.std.proofs.Common.{ℕ, zero, suc, ◌+◌, List, [], ◌∷◌, ◌++◌, take, drop, map, sym, subst}
 use Rattle.std.proofs.Math.Seq.{take-add}
 use Rattle.std.specs.List.{AllByRecursion}

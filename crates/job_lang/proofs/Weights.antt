@@ -1,4 +1,4 @@
--- A measure of items, by which their walks end.
+-- A measure of items, by which recursion over them terminates.
 use Rattle.std.proofs.Common.{◌≡◌, ℕ, zero, suc, ◌+◌, ◌<◌, ◌≤◌, List, [], ◌∷◌, length, get_or, Vec, Global, ap, ◌∙◌, arith}
 use Rattle.job_syntax.specs.declared.item.Item.{Item, Block}
 use Rattle.job_syntax.specs.declared.item.BlockKind.{BlockKind as CodeBlockKind}

@@ -1,4 +1,4 @@
--- The numbers of operations and of acts.
+-- The number that an operation or an act carries.
 use Rattle.std.specs.Prelude.{ℕ, ◌<◌, ◌^◌, List, Option, Some, None, IfSome}
 use Rattle.std.specs.List.{AllByRecursion}
 use Rattle.seq_objects.specs.declared.act.Act.{Act}
@@ -21,7 +21,7 @@ abbrev pub act_number : Act → Option ℕ
 act_number (Work steps) = Some steps
 act_number (Call op) = op_number op
 
--- a number, if there is one, fits 32 bits
+-- the number, if there is one, fits 32 bits
 abbrev pub IsSmall : Option ℕ → Type 0
 IsSmall number = IfSome number (λ number. number < 2 ^ 32)
 

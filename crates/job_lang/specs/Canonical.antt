@@ -1,4 +1,4 @@
--- The canonical text of a job: its shape, with every block of two items, on one line.
+-- The canonical text of a job: its shape on one line, with two items in every block.
 use Rattle.std.specs.Prelude.{ℕ, List, [], ◌∷◌, ◌++◌, take, drop, Option, None, Some, codes}
 use Rattle.std.specs.Fmt.{decimal}
 use Rattle.seq_objects.specs.declared.act.Act.{Act}
@@ -23,7 +23,7 @@ tree_text (seq left right) acts =
 tree_text (par left right) acts =
     codes "par { " ++ tree_text left (take (leaves left) acts) ++ codes " " ++ tree_text right (drop (leaves left) acts) ++ codes " }"
 
--- a job without leaves has the empty text; each other text ends with a line feed
+-- a job without leaves has the empty text; every other text ends with a line feed
 abbrev pub shape_text : Option Tree → List Act → List ℕ
 shape_text None acts = []
 shape_text (Some tree) acts = tree_text tree acts ++ codes "\n"

@@ -2,7 +2,7 @@
 use Rattle.std.specs.Prelude.{ℕ, zero, suc, ◌+◌, ◌/◌, List, [], ◌∷◌, length, take, drop, Option, Some, None}
 use Rattle.sp_order.specs.Precedence.{Tree}
 
--- how many of k shapes stand on the left
+-- how many of `k` shapes go to the left half
 abbrev pub half : ℕ → ℕ
 half k = (k + 1) / 2
 
@@ -10,8 +10,8 @@ abbrev pub both : (Tree → Tree → Tree) → Option Tree → Option Tree → O
 both kind (Some left) (Some right) = Some (kind left right)
 both kind _ _ = None
 
--- None for no shapes, the shape itself for one, and else the two halves of the list, each joined in this way.
--- The number bounds how often the list is halved.
+-- `None` for no shapes, the shape itself for one, and else the two halves of the list, each joined in the same way. The
+-- number bounds how often the list is halved.
 abbrev pub join_within : (Tree → Tree → Tree) → ℕ → List Tree → Option Tree
 join_within kind zero shapes = None
 join_within kind (suc bound) [] = None

@@ -1,4 +1,4 @@
--- The job language: which texts are jobs, of which job each is, and which fault a text has that is none.
+-- The job language: which texts are jobs, the job of each, and the fault of a text that is not a job.
 use Rattle.std.specs.Prelude.{◌≡◌, ℕ, ◌≤◌, List, None, Some}
 use Rattle.sp_order.specs.Jobs.{JobValue}
 use Rattle.job_syntax.specs.declared.fault.JobFault.{JobFault}
@@ -12,8 +12,8 @@ use Rattle.job_lang.specs.Counts.{count}
 use Rattle.job_lang.specs.Meaning.{job_of}
 use Rattle.job_lang.specs.Limits.{IsLeavesLine, argument_line}
 
--- The text is a job's: no byte outside comments is forbidden, the grammar gives it items, these have at most 20,000 leaves,
--- no argument is out of range in a copy, and the job is that of the items.
+-- The text is a text of the job: no byte outside comments is forbidden, the grammar gives the text items, these make at
+-- most 20,000 leaves, no argument is out of range in a copy, and the job is that of the items.
 pub record IsJobOf (text : List ℕ) (job : JobValue) : Type 0 where
   pub allowed : forbidden_line text ≡ None
   pub items : Items
@@ -22,18 +22,19 @@ pub record IsJobOf (text : List ℕ) (job : JobValue) : Type 0 where
   pub small : argument_line (words_on_lines text) items ≡ None
   pub means : job ≡ job_of items
 
--- the grammar accepts the text
+-- the text is a text of some job
 abbrev pub Accepts : List ℕ → Type 0
 Accepts text = (job : JobValue) × IsJobOf text job
 
--- The grammar gives the text these items, but the leaves are too many, on this line.
+-- The grammar gives the text items, but they make too many leaves, which the fault puts on this line.
 pub record HasTooManyLeaves (text : List ℕ) (line : ℕ) : Type 0 where
   pub allowed : forbidden_line text ≡ None
   pub items : Items
   pub read : AreItemsOf (words_on_lines text) items
   pub where_it_is : IsLeavesLine (words_on_lines text) items line
 
--- The grammar gives the text these items, and the leaves are few enough, but an argument is out of range in some copy.
+-- The grammar gives the text items that make at most 20,000 leaves, but an argument is out of range in some copy, on
+-- this line.
 pub record HasArgumentOutOfRange (text : List ℕ) (line : ℕ) : Type 0 where
   pub allowed : forbidden_line text ≡ None
   pub items : Items
@@ -41,8 +42,9 @@ pub record HasArgumentOutOfRange (text : List ℕ) (line : ℕ) : Type 0 where
   pub few : count items ≤ 20000
   pub where_it_is : argument_line (words_on_lines text) items ≡ Some line
 
--- The text has this fault, the first in this order: a forbidden byte; a token, or the end of the text, that can't stand, has
--- a wrong number or nests too deep; too many leaves; an argument out of range.
+-- The text has this fault. The first in this order counts: a forbidden byte; a fault of reading, which is a token or
+-- the end of the text that does not fit, a bad number, or too deep a nesting; too many leaves; an argument out of
+-- range.
 abbrev pub IsFaultOf : List ℕ → JobFault → Type 0
 IsFaultOf text (fault.Byte line) = forbidden_line text ≡ Some line
 IsFaultOf text (fault.Leaves line) = HasTooManyLeaves text line

@@ -1,5 +1,5 @@
--- The job language, from the items of a text to the job that it stands for, with what it takes from job_syntax. `Code` is
--- what only the code cites.
+-- The job language, from the items of a text to its job, with what it takes from `job_syntax`. `Code` holds what only
+-- the code cites.
 pub use Rattle.job_syntax.specs.Text
 pub use Rattle.job_syntax.specs.Words
 pub use Rattle.job_syntax.specs.Grammar

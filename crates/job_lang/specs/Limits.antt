@@ -1,5 +1,5 @@
--- The limits of a text whose tokens have no fault: it has too many leaves, or an argument is out of range, since it does
--- not fit 32 bits in some copy.
+-- The limits of a text whose tokens have no fault: it may have too many leaves, or an argument that does not fit 32
+-- bits in some copy.
 use Rattle.std.specs.Prelude.{◌≡◌, ℕ, ◌+◌, ◌-◌, ◌*◌, ◌<◌, ◌≤◌, ◌^◌, List, [], ◌∷◌, ◌++◌, filter, Bool, true, false, ◌&&◌, Option, Some, None, nat_le}
 use Rattle.job_syntax.specs.declared.lexer.word.Word.{Word}
 use Rattle.job_syntax.specs.declared.lexer.word.Word.TheVariants.{Copies}
@@ -9,7 +9,7 @@ use Rattle.job_syntax.specs.Faults.{words_of}
 use Rattle.job_syntax.specs.Blocks.{word_number}
 use Rattle.job_lang.specs.Counts.{count, count_first}
 
--- The line of the first token of the first item of the job with which the leaves are more than 20,000.
+-- The line of the first token of the first top-level item with which the leaves are more than 20,000.
 pub record IsLeavesLine (tokens : List WordOnLine) (items : Items) (line : ℕ) : Type 0 where
   pub before : Items
   pub from_item : Items
@@ -23,19 +23,19 @@ pub record IsLeavesLine (tokens : List WordOnLine) (items : Items) (line : ℕ) 
   pub place : items_words before ≡ words_of front
   pub line_is : line ≡ first.line
 
--- how many copies the innermost loop has, inside a block
+-- the number of copies of the innermost loop inside a block, where `copies` is that outside it
 abbrev pub copies_inside : ℕ → BlockKind → ℕ
 copies_inside copies seq_block = copies
 copies_inside copies par_block = copies
 copies_inside copies (for_loop number) = word_number number
 copies_inside copies (pfor_loop number) = word_number number
 
--- a factor and an addend make a number past 32 bits in the last of the copies, if there is one
+-- there is a copy, and factor and addend make a number past 32 bits in the last one
 abbrev pub is_out_of_range : ℕ → ℕ × ℕ → Bool
 is_out_of_range copies by = nat_le 1 copies && nat_le (2 ^ 32) (by.0 * (copies - 1) + by.1)
 
--- for each argument that depends on the copy, in the order of the text, whether it is out of range; the number says how
--- many copies the innermost loop has
+-- for each argument that depends on the copy, in the order of the text, whether it is out of range; `copies` is the
+-- number of copies of the innermost loop
 abbrev pub leaf_range_flags : ℕ → Leaf → List Bool
 leaf_range_flags copies (with_argument op (Copies (Some by))) = is_out_of_range copies by ∷ []
 leaf_range_flags copies _ = []

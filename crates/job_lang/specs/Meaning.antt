@@ -1,4 +1,4 @@
--- What items stand for: the shapes of their copies, and the acts of the leaves from left to right.
+-- The meaning of items: the shapes of their copies, and the acts of the leaves from left to right.
 use Rattle.std.specs.Prelude.{ℕ, zero, suc, ◌+◌, ◌*◌, List, [], ◌∷◌, ◌++◌, Some, option_to_list}
 use Rattle.seq_objects.specs.declared.act.Act.{Act}
 use Rattle.seq_objects.specs.declared.act.Act.TheVariants.{Work, Call}
@@ -11,13 +11,13 @@ use Rattle.job_syntax.specs.Grammar.{Items, nothing, leaf_then, block_then, seq_
 use Rattle.job_syntax.specs.Blocks.{word_number}
 use Rattle.job_lang.specs.Joins.{join_of}
 
--- the number of an argument in the copy of this number
+-- the value of an argument in copy `copy`
 abbrev pub number_in : ℕ → Word → ℕ
 number_in copy (Number (Some number)) = number
 number_in copy (Copies (Some by)) = by.0 * copy + by.1
 number_in copy _ = 0
 
--- one line for each form of a leaf
+-- the act of each operation, by the value of its argument
 abbrev pub act_with : UnaryOp → ℕ → Act
 act_with work number = Work number
 act_with counter_add number = Call (CounterAdd number)
@@ -33,12 +33,12 @@ act_of copy (with_argument op argument) = act_with op (number_in copy argument)
 act_of copy stack_pop = Call Pop
 act_of copy queue_take = Call PqTake
 
--- the lists of all the copies, one after another, copy 0 first
+-- the lists of all copies, one after another, copy 0 first
 abbrev pub each_copy : {X : Type 0} → ℕ → (ℕ → List X) → List X
 each_copy zero in_copy = []
 each_copy (suc copies) in_copy = each_copy copies in_copy ++ in_copy copies
 
--- what the leaves do, from left to right, in the copy of the innermost loop that has this number
+-- the acts of the leaves, from left to right, in copy `copy` of the innermost loop around the items
 abbrev pub acts_in : ℕ → Items → List Act
 acts_in copy nothing = []
 acts_in copy (leaf_then l more) = act_of copy l ∷ acts_in copy more
@@ -47,12 +47,12 @@ acts_in copy (block_then par_block body more) = acts_in copy body ++ acts_in cop
 acts_in copy (block_then (for_loop copies) body more) = each_copy (word_number copies) (λ k. acts_in k body) ++ acts_in copy more
 acts_in copy (block_then (pfor_loop copies) body more) = each_copy (word_number copies) (λ k. acts_in k body) ++ acts_in copy more
 
--- the shape to which shapes are joined, in a list that is empty where there are none
+-- the joined shape, as a list, which is empty where there are no shapes
 abbrev pub join_list : (Tree → Tree → Tree) → List Tree → List Tree
 join_list kind shapes = option_to_list (join_of kind shapes)
 
--- The shapes of the items, without those that vanish. A block joins the shapes of its items, in series or in parallel; a
--- loop joins so its copies, each of which is its items in series.
+-- The shapes of the items; an item without leaves has none. A block joins the shapes of its items, in series or in
+-- parallel. A loop joins its copies in this way, each of which is its items in series.
 abbrev pub shapes_in : ℕ → Items → List Tree
 shapes_in copy nothing = []
 shapes_in copy (leaf_then _ more) = leaf ∷ shapes_in copy more
@@ -63,6 +63,6 @@ shapes_in copy (block_then (for_loop copies) body more) =
 shapes_in copy (block_then (pfor_loop copies) body more) =
     join_list par (each_copy (word_number copies) (λ k. join_list seq (shapes_in k body))) ++ shapes_in copy more
 
--- the job of items that stand in no loop: they run in series
+-- the job of items outside every loop, which run in series
 abbrev pub job_of : Items → JobValue
 job_of items = record { shape = join_of seq (shapes_in 0 items); acts = acts_in 0 items }

@@ -1,4 +1,4 @@
-//! The job of items: the shapes of their copies, and what their leaves do.
+//! Expansion: the job of items, with the shapes and the acts of all copies.
 ghost use Rattle.std.specs.Prelude.{◌≡◌, ℕ, ◌<◌, ◌≤◌, ◌++◌, map, IfOk, option_to_list};
 ghost use Rattle.std.specs.Option.{option_map};
 ghost use Rattle.sp_order.specs.Precedence.{tree_of, seq};
@@ -19,7 +19,7 @@ use seq_objects::{Act, Op};
 use sp_order::{Job, Shape};
 use std::alloc::{AllocError, Global};
 
-/// The number that an argument says in copy `copy` of its innermost loop.
+/// The value of an argument in copy `copy` of its innermost loop.
 fn number_in(copy: u32, argument: Argument) -> u32
     requires { FitsArgument copy (argument_word argument) }
     ensures { result ≡ number_in copy (argument_word argument) }
@@ -30,7 +30,7 @@ fn number_in(copy: u32, argument: Argument) -> u32
     }
 }
 
-/// What a leaf does whose argument says this number.
+/// The act of an operation whose argument has this value.
 fn act_with(op: UnaryOp, number: u32) -> Act
     ensures { result ≡ act_with (unary_op_of op) number }
 {
@@ -46,7 +46,7 @@ fn act_with(op: UnaryOp, number: u32) -> Act
     }
 }
 
-/// What a leaf does in copy `copy`.
+/// The act of a leaf in copy `copy`.
 fn act_in(copy: u32, leaf: Leaf) -> Act
     requires { FitsLeaf copy (leaf_of leaf) }
     ensures { result ≡ act_of copy (leaf_of leaf) }
@@ -58,7 +58,7 @@ fn act_in(copy: u32, leaf: Leaf) -> Act
     }
 }
 
-/// How a block joins its shapes.
+/// How a block of this kind joins its shapes.
 fn order_in(kind: BlockKind) -> Order
     ensures { join_by result ≡ join_in (block_kind_of kind) }
 {
@@ -68,7 +68,7 @@ fn order_in(kind: BlockKind) -> Order
     }
 }
 
-/// The shapes of the items in copy `copy`. What their leaves do goes to the end of `acts`.
+/// The shapes of the items in copy `copy`. Their acts are appended to `acts`.
 #[cycle(expanding)]
 #[tactic(auto, using(crate::proofs::ExpandLemmas::Copies::fits_item, crate::proofs::Weights::weight_item))]
 fn shapes_in(
@@ -90,7 +90,7 @@ fn shapes_in(
     Ok(shapes)
 }
 
-/// The shape of the item in copy `copy`, if it has leaves there.
+/// The shape of the item in copy `copy`, if it has leaves there. Its acts are appended to `acts`.
 #[cycle(expanding)]
 #[tactic(auto, using(crate::proofs::ExpandLemmas::Copies::block_shapes, crate::proofs::ExpandLemmas::Copies::block_acts, crate::proofs::ExpandLemmas::Copies::block_fits, crate::proofs::Weights::weight_block))]
 fn shape_in(
@@ -117,7 +117,7 @@ fn shape_in(
     }
 }
 
-/// The shapes that a block joins in copy `copy`.
+/// The shapes that a block joins in copy `copy`. Their acts are appended to `acts`.
 #[cycle(expanding)]
 fn block_shapes(
     alloc: Global,
@@ -141,7 +141,8 @@ fn block_shapes(
     }
 }
 
-/// The shapes of `copies` copies, without those that have no leaf. Each copy is its items in series.
+/// The shapes of `copies` copies, each of them the items in series; copies without leaves give none. Their acts are
+/// appended to `acts`.
 #[cycle(expanding)]
 fn shapes_of_copies(
     alloc: Global,
@@ -166,8 +167,8 @@ fn shapes_of_copies(
     Ok(shapes)
 }
 
-/// The job of items that stand in no loop. Items that make no leaf are taken out first, so that each visit of an
-/// item makes one: a row of empty blocks in a loop costs no time in its copies.
+/// The job of items outside every loop. Items that make no leaf are removed first, so that each visit of an item makes
+/// a leaf: a row of empty blocks inside a loop costs no time in the copies.
 #[tactic(auto, using(crate::proofs::ExpandLemmas::Leaves::job_leaves, crate::proofs::ExpandLemmas::Leaves::acts_count, crate::proofs::ExpandLemmas::Vanishing::same_shapes, crate::proofs::ExpandLemmas::Vanishing::same_acts, crate::proofs::ExpandLemmas::Vanishing::kept_fits))]
 pub(crate) fn expand(alloc: Global, mut items: Vec<Item>) -> Result<Job, AllocError>
     requires few { count (items_of items.items) ≤ 20000 }

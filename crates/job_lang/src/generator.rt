@@ -1,4 +1,4 @@
-//! Makes a job from a number: it puts numbers into all structures, asks the tree, and empties the stack and the queue.
+//! The generator: a job that inserts into all structures, queries the tree, and empties the stack and the queue.
 ghost use Rattle.std.specs.Prelude.{◌≡◌, ◌+◌, ◌*◌, ◌≤◌, ◌++◌, map, length, IfOk, OnOk};
 ghost use Rattle.sp_order.specs.Precedence.{tree_of, leaf_count};
 ghost use Rattle.job_lang.specs.Code.Draws.{HaveSmallKeys};
@@ -10,7 +10,7 @@ use seq_objects::{Act, Op};
 use sp_order::{Job, Shape};
 use std::alloc::{AllocError, Global};
 
-/// The number that follows another in the sequence.
+/// The next number of the sequence: a linear congruential generator modulo 2^64.
 fn next_number(number: u64) -> u64
     ensures { result ≡ next_number number }
 {
@@ -19,7 +19,7 @@ fn next_number(number: u64) -> u64
         .wrapping_add(1_442_695_040_888_963_407)
 }
 
-/// The operation that a number draws, by its upper half.
+/// The operation that a number draws, by its upper 32 bits.
 fn op_drawn(number: u64) -> Op
     ensures { result ≡ op_drawn number }
 {
@@ -33,7 +33,7 @@ fn op_drawn(number: u64) -> Op
     }
 }
 
-/// The operations that the numbers after the seed draw.
+/// The operations that the `size` numbers after the seed draw.
 fn growing_ops(alloc: Global, seed: u64, size: u32) -> Result<Vec<Op>, AllocError>
     ensures { IfOk result (λ ops. ops.items ≡ growing_ops seed size) }
 {
@@ -46,7 +46,7 @@ fn growing_ops(alloc: Global, seed: u64, size: u32) -> Result<Vec<Op>, AllocErro
     Ok(ops)
 }
 
-/// For each key that is put into the tree, a find of the next key.
+/// For each key that is inserted into the tree, in order, a find of that key plus 1.
 fn finds_for(alloc: Global, ops: &[Op]) -> Result<Vec<Op>, AllocError>
     requires { HaveSmallKeys ops.now }
     ensures { IfOk result (λ finds. finds.items ≡ finds_for ops.now) }
@@ -86,7 +86,7 @@ fn takes_for(alloc: Global, ops: &[Op]) -> Result<Vec<Op>, AllocError>
     Ok(takes)
 }
 
-/// Adds a part: what its leaves do to the end of `acts`, and their shape, if there are any, to that of `parts`.
+/// Appends a part: its calls to `acts`, and the shape of its leaves, if it has any, to `parts`.
 fn push_part(
     alloc: Global,
     order: Order,
@@ -109,7 +109,7 @@ fn push_part(
     Ok(())
 }
 
-/// Adds the four parts of the job that grows by these operations.
+/// Appends the four parts of the job with this growing phase.
 fn push_parts(
     alloc: Global,
     ops: &[Op],
@@ -127,7 +127,7 @@ fn push_parts(
     push_part(alloc, Order::Series, &takes_for(alloc, ops)?, acts, parts)
 }
 
-/// The job that grows by these operations: its parts, in series.
+/// The job with this growing phase: its parts, in series.
 #[tactic(auto, using(crate::proofs::GeneratorLemmas::Counts::leaves_are_acts, crate::proofs::GeneratorLemmas::Counts::few_acts))]
 fn job_growing_by(alloc: Global, ops: &[Op]) -> Result<Job, AllocError>
     requires few { length ops.now ≤ 5000 }
@@ -142,8 +142,8 @@ fn job_growing_by(alloc: Global, ops: &[Op]) -> Result<Job, AllocError>
     Ok(Job::of(shape, acts))
 }
 
-/// The job of `size` that `seed` gives: a growing phase of `size` calls, which `seed` draws, an asking phase and a
-/// shrinking one.
+/// The job of `seed` and `size`: a growing phase of `size` calls drawn from the seed, an asking phase and a shrinking
+/// phase.
 #[tactic(auto, using(crate::proofs::GeneratorLemmas::Draws::length_growing, crate::proofs::GeneratorLemmas::Draws::small_keys))]
 pub fn generate(alloc: Global, seed: u64, size: u32) -> Result<Job, AllocError>
     requires some { 1 ≤ size }

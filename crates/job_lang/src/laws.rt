@@ -34,7 +34,7 @@ pub fn accepted_jobs_have_small_arguments()
         → AllByRecursion (λ act. count_of_act argument_of act < 2 ^ 32) job.acts }
 {}
 
-/// The words of an operation, as a report has them, are the text of the job that makes this one call.
+/// The words of an operation in a report, if its number fits 32 bits, are a text of the job with this one call.
 #[tactic(auto, using(crate::proofs::WriterLemmas::Jobs::words_are_a_job))]
 pub fn reported_words_are_a_job()
     ensures { (op : Op) → IsSmall (op_number op)
@@ -48,7 +48,8 @@ pub fn generated_jobs_have_few_leaves()
     ensures most { (seed size : ℕ) → leaf_count (generated seed size).shape ≤ 2 * size + 2 }
 {}
 
-/// The canonical text of a generated job is a text of this job. The writer writes it, and the reader reads it.
+/// The canonical text of a generated job of size at most 5,000 is a text of this job, with less than 700,000 bytes. The
+/// job is at most 15 deep, so the writer accepts it.
 pub fn generated_jobs_have_texts()
     ensures depth { (seed size : ℕ) → size ≤ 5000 → depth_of (generated seed size).shape ≤ 15 }
     ensures short { (seed size : ℕ) → size ≤ 5000 → length (canonical_text (generated seed size)) < 700000 }
@@ -62,7 +63,7 @@ pub fn generated_jobs_have_small_arguments()
         → AllByRecursion (λ act. count_of_act argument_of act < 2 ^ 32) (generated seed size).acts }
 {}
 
-/// A generated job fills each structure before it asks it.
+/// A generated job fills each structure before it queries it.
 pub fn generated_jobs_fill_first()
     ensures { (seed size : ℕ) → 1 ≤ size → FillsFirst (generated seed size) }
 {}

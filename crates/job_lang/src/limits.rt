@@ -1,4 +1,4 @@
-//! The limits of a job whose words have no fault: its leaves, and the range of its arguments.
+//! The limits of a job whose words have no fault: the number of its leaves, and the range of its arguments.
 ghost use Rattle.std.specs.Prelude.{◌≡◌, ◌<◌, ◌≤◌, ◌^◌, IfSome, IfNone, length};
 ghost use Rattle.job_lang.specs.Counts.{count};
 ghost use Rattle.job_syntax.specs.Faults.{words_of};
@@ -15,10 +15,10 @@ use crate::limits::leaf_count::count_item;
 use crate::limits::word_count::item_word_count;
 use job_syntax::{Cursor, Item, WordOnLine};
 
-/// The most leaves of a job.
+/// The most leaves that a job may have.
 const MOST_LEAVES: u64 = 20_000;
 
-/// The line of the first word of the first item with which the leaves are too many.
+/// The line of the first word of the first top-level item with which the leaves are more than 20,000, if there is one.
 pub(crate) fn leaves_line(words: &[WordOnLine], items: &[Item]) -> Option<u32>
     requires writes { items_words (items_of items.now) ≡ words_of words.now }
     requires short { length words.now < 2 ^ 59 }
@@ -37,7 +37,7 @@ pub(crate) fn leaves_line(words: &[WordOnLine], items: &[Item]) -> Option<u32>
     None
 }
 
-/// The line of the first argument that is out of range in some copy.
+/// The line of the first argument that is out of range in some copy, if there is one.
 #[tactic(auto, using(crate::proofs::LimitLemmas::ArgumentRanges::found_line))]
 pub(crate) fn argument_line(words: &[WordOnLine], items: &[Item]) -> Option<u32>
     ensures { result ≡ argument_line words.now (items_of items.now) }

@@ -1,4 +1,4 @@
-//! Reads a job from its text, room by room: bytes, words, items, limits, copies.
+//! The reader, stage by stage: bytes, words, items, limits, copies.
 ghost use Rattle.std.specs.Prelude.{◌≡◌, ◌≤◌, ◌⊎◌, Ok, Err, IfOk, length};
 ghost use Rattle.sp_order.specs.Jobs.{JobValue};
 ghost use Rattle.job_lang.specs.Language.{IsJobOf, IsFaultOf};
@@ -11,7 +11,7 @@ use job_syntax::{JobErr, JobFault, forbidden_line, last_line, read_items, words_
 use sp_order::Job;
 use std::alloc::Global;
 
-/// Reads a text, and answers its job or its fault.
+/// Reads a text, and gives its job or its fault.
 #[tactic(auto, using(crate::proofs::ReaderLemmas::ReadingFaults::reading_fault, crate::proofs::LimitLemmas::Arguments::numbers_fit))]
 fn read(alloc: Global, text: &[u8]) -> Result<Job, JobErr>
     requires { length text.now ≤ 1048576 }
@@ -33,7 +33,7 @@ fn read(alloc: Global, text: &[u8]) -> Result<Job, JobErr>
     Ok(job)
 }
 
-/// The job that a text writes, or its fault. For want of memory it may answer `Memory` for any text, and for nothing else.
+/// The job of a text, or its fault. Where memory runs out, and only there, the answer is `Memory`.
 pub fn read_job(alloc: Global, text: &[u8]) -> Result<Job, JobErr>
     requires { length text.now ≤ 1048576 }
     ensures job { IfOk result (λ job. IsJobOf text.now job) }

@@ -1,4 +1,4 @@
-//! Writes the canonical text of a job.
+//! The writer of canonical texts.
 ghost use Rattle.std.specs.Prelude.{◌≡◌, ◌<◌, ◌≤◌, ◌+◌, ◌++◌, IfOk, OnOk, length, take, drop, string_bytes};
 ghost use Rattle.sp_order.specs.Precedence.{tree_of, leaves};
 ghost use Rattle.sp_order.specs.Depth.{depth_of};
@@ -23,7 +23,7 @@ fn push_act(text: &mut String, act: Act) -> Result<(), AllocError>
     }
 }
 
-/// Writes the first of the acts, and answers those behind it.
+/// Writes the first of the acts, and gives the rest of them.
 fn push_leaf<'a>(text: &mut String, acts: &'a [Act]) -> Result<&'a [Act], AllocError>
     ensures text { OnOk result (string_bytes text.new ≡ string_bytes text.old ++ first_act_text acts.now) }
     ensures rest { IfOk result (λ rest. rest.now ≡ drop 1 acts.now) }
@@ -38,7 +38,7 @@ fn push_leaf<'a>(text: &mut String, acts: &'a [Act]) -> Result<&'a [Act], AllocE
     }
 }
 
-/// Writes the shape whose leaves do the first of the acts, and answers the acts behind these. The recursion is as deep as
+/// Writes the shape, whose leaves do the first of the acts, and gives the rest of the acts. The recursion is as deep as
 /// the shape.
 #[cycle(shapes)]
 fn push_shape<'a>(
@@ -64,7 +64,7 @@ fn push_shape<'a>(
     }
 }
 
-/// Writes two shapes in braces, and answers the acts behind theirs.
+/// Writes two shapes in braces, and gives the acts after theirs.
 #[cycle(shapes)]
 fn push_sides<'a>(
     text: &mut String,
@@ -103,7 +103,7 @@ fn push_job(text: &mut String, job: &Job) -> Result<(), AllocError>
     }
 }
 
-/// The canonical text of a job: on one line, with every block of two items. The reader gives the job back.
+/// The canonical text of a job: on one line, with two items in every block. The reader gives the job back.
 pub fn write_job(alloc: Global, job: &Job) -> Result<Vec<u8>, AllocError>
     requires { depth_of job.now.shape ≤ 32 }
     ensures text { IfOk result (λ text. text.items ≡ canonical_text job.now) }

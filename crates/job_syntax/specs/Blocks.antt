@@ -1,22 +1,22 @@
--- How often a block runs its items, and how deep blocks nest.
+-- How many times a block runs its items, and how deep blocks nest.
 use Rattle.std.specs.Prelude.{ℕ, ◌+◌, max, Some}
 use Rattle.job_syntax.specs.declared.lexer.word.Word.{Word}
 use Rattle.job_syntax.specs.declared.lexer.word.Word.TheVariants.{Number}
 use Rattle.job_syntax.specs.Grammar.{Items, nothing, leaf_then, block_then, BlockKind, seq_block, par_block, for_loop, pfor_loop}
 
--- the number that a word says
+-- the value of a number word, else 0
 abbrev pub word_number : Word → ℕ
 word_number (Number (Some number)) = number
 word_number _ = 0
 
--- how often a block runs its items
+-- how many times a block runs its items
 abbrev pub copies_of : BlockKind → ℕ
 copies_of seq_block = 1
 copies_of par_block = 1
 copies_of (for_loop copies) = word_number copies
 copies_of (pfor_loop copies) = word_number copies
 
--- how many blocks are open where most are
+-- the largest number of blocks that are open at once
 abbrev pub nesting : Items → ℕ
 nesting nothing = 0
 nesting (leaf_then leaf more) = nesting more

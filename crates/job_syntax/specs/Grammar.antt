@@ -27,20 +27,20 @@ pub data UnaryOp : Type 0 where
   tree_next : UnaryOp
   queue_insert : UnaryOp
 
--- an operation, and its argument if it has one
+-- an operation, with its argument if it takes one
 pub data Leaf : Type 0 where
   with_argument : UnaryOp → (argument : Word) → Leaf
   stack_pop : Leaf
   queue_take : Leaf
 
--- what opens a block: its word, and for a loop the number of copies
+-- the head of a block: its word, and for a loop the number of copies
 pub data BlockKind : Type 0 where
   seq_block : BlockKind
   par_block : BlockKind
   for_loop : (copies : Word) → BlockKind
   pfor_loop : (copies : Word) → BlockKind
 
--- A derivation of items: nothing, a leaf and more items, or a block with its body and more items.
+-- A derivation of items: none, a leaf and more items, or a block with its body and more items.
 pub data Items : Type 0 where
   nothing : Items
   leaf_then : Leaf → (more : Items) → Items
@@ -77,7 +77,7 @@ abbrev pub is_number : Word → Bool
 is_number (Number number) = true
 is_number _ = false
 
--- whether a word is an argument, inside a loop or outside every loop
+-- whether a word is an argument; `looped` says whether a loop is open
 abbrev pub is_argument : Bool → Word → Bool
 is_argument looped (Number number) = true
 is_argument looped (Copies copies) = looped
@@ -100,24 +100,24 @@ IsBlockKind par_block = Unit {0}
 IsBlockKind (for_loop copies) = IsTrue (is_number copies)
 IsBlockKind (pfor_loop copies) = IsTrue (is_number copies)
 
--- each word in the place of a number or of an argument is one; the flag says whether a loop is open
+-- each word in the place of a number or an argument is one; `looped` says whether a loop is open
 abbrev pub AreItems : Bool → Items → Type 0
 AreItems looped nothing = Unit {0}
 AreItems looped (leaf_then leaf more) = IsLeaf looped leaf × AreItems looped more
 AreItems looped (block_then kind body more) = IsBlockKind kind × AreItems (looped || is_loop kind) body × AreItems looped more
 
--- the loose grammar derives the words, by these items
+-- the loose grammar derives the words, and these items are the derivation
 pub record Derives (words : List Word) (items : Items) : Type 0 where
   pub writes : items_words items ≡ words
   pub fits : AreItems false items
 
--- some list of further tokens makes of the words a list that the loose grammar derives
+-- some further tokens extend the words to a list that the loose grammar derives
 pub record CanGoOn (words : List Word) : Type 0 where
   pub further : List (List ℕ)
   pub items : Items
   pub derives : Derives (words ++ map word_of further) items
 
--- items one after another
+-- two lists of items, one after the other
 infixl 6 ◌then◌
 abbrev pub ◌then◌ : Items → Items → Items
 nothing then last = last

@@ -1,5 +1,5 @@
--- The syntax of the job language, from the bytes of a text to its items, or to its first fault of reading. `Code` is what
--- only the code cites.
+-- The syntax of the job language, from the bytes of a text to its items or its first fault of reading. `Code` holds
+-- what only the code cites.
 pub mod Text
 pub mod Words
 pub mod Grammar

@@ -1,4 +1,4 @@
--- The line of the text that a fault names, and what is said of the fault.
+-- The line of a fault, and its message.
 use Rattle.std.specs.Prelude.{ℕ, List, codes}
 use Rattle.job_syntax.specs.declared.fault.JobFault.{JobFault}
 use Rattle.job_syntax.specs.declared.fault.JobFault.TheVariants.{Byte, Grammar, Number, Nesting, Leaves, Argument}

@@ -1,4 +1,4 @@
--- The bytes of a job's text: comments, lines, and the tokens between blanks.
+-- The bytes of a job's text: comments, lines, and tokens.
 use Rattle.std.specs.Prelude.{ℕ, ◌+◌, List, [], ◌∷◌, Bool, true, false, ◌||◌, ◌&&◌, not, Option, Some, None, if◌then◌else◌, ◌==◌, nat_le}
 
 -- a line feed ends a line
@@ -17,12 +17,12 @@ is_brace byte = byte == 123 || byte == 125
 abbrev pub is_hash : ℕ → Bool
 is_hash byte = byte == 35
 
--- outside comments a byte is a blank or a visible character of ASCII
+-- whether a byte is allowed outside comments: a blank, or a visible ASCII character
 abbrev pub is_allowed : ℕ → Bool
 is_allowed byte = is_blank byte || (nat_le 33 byte && nat_le byte 126)
 
--- The text with a blank in place of each byte of its comments. A comment begins at a `#`, may hold any bytes, and ends
--- before the next line feed. The flag says whether the front stands inside one.
+-- The text with a space in place of each byte of its comments. A comment begins at a `#`, may hold any bytes, and ends
+-- before the next line feed. `inside` says whether the front is inside a comment.
 abbrev pub bare : Bool → List ℕ → List ℕ
 bare inside [] = []
 bare inside (byte ∷ text) =
@@ -33,7 +33,7 @@ bare inside (byte ∷ text) =
 abbrev pub without_comments : List ℕ → List ℕ
 without_comments text = bare false text
 
--- the line behind a byte, and the line of the end of a text, where the line at its front is given
+-- the line after a byte, and the line at the end of a text, where `line` is the line at the front
 abbrev pub line_behind : ℕ → ℕ → ℕ
 line_behind line byte = if is_line_feed byte then line + 1 else line
 
@@ -41,11 +41,11 @@ abbrev pub last_line_from : ℕ → List ℕ → ℕ
 last_line_from line [] = line
 last_line_from line (byte ∷ text) = last_line_from (line_behind line byte) text
 
--- lines are counted from 1
+-- lines count from 1
 abbrev pub last_line : List ℕ → ℕ
 last_line text = last_line_from 1 text
 
--- the line of the first byte that is not allowed, if there is one
+-- the line of the first byte that is not allowed, if any, where `line` is the line at the front
 abbrev pub forbidden_line_from : ℕ → List ℕ → Option ℕ
 forbidden_line_from line [] = None
 forbidden_line_from line (byte ∷ text) =
@@ -59,7 +59,7 @@ pub record Token : Type 0 where
   pub text : List ℕ
   pub line : ℕ
 
--- neither a blank nor a brace: a byte of a chunk, in a text without comments
+-- a byte of a chunk: no blank, no brace and no `#`
 abbrev pub is_in_chunk : ℕ → Bool
 is_in_chunk byte = not (is_blank byte || is_brace byte || is_hash byte)
 
@@ -67,13 +67,14 @@ abbrev pub begins_in_chunk : List ℕ → Bool
 begins_in_chunk [] = false
 begins_in_chunk (byte ∷ text) = is_in_chunk byte
 
--- A byte of a chunk, before the tokens behind it. The flag says whether it touches the next chunk and so is its first byte.
+-- The tokens that begin with this byte of a chunk. The flag says whether the next byte is of the same chunk; if so, the
+-- byte goes to the front of the next token.
 abbrev pub before_tokens : ℕ → ℕ → Bool → List Token → List Token
 before_tokens byte line true (token ∷ tokens) = record { text = byte ∷ token.text; line = line } ∷ tokens
 before_tokens byte line _ tokens = record { text = byte ∷ []; line = line } ∷ tokens
 
--- the tokens of a text without comments, where the line at its front is given: each brace, and each longest run of bytes
--- that are neither blanks nor braces
+-- the tokens of a text without comments, where `line` is the line at its front: each brace, and each longest run of
+-- bytes that are neither blanks nor braces
 abbrev pub tokens_from : ℕ → List ℕ → List Token
 tokens_from line [] = []
 tokens_from line (byte ∷ text) =

@@ -1,4 +1,4 @@
--- The items of the code as derivations.
+-- The view of the code's items, as derivations of the grammar.
 use Rattle.std.specs.Prelude.{List, [], ◌∷◌, Some, map}
 use Rattle.job_syntax.specs.declared.lexer.word.Word.{Word}
 use Rattle.job_syntax.specs.declared.lexer.word.Word.TheVariants.{Number, Copies}
@@ -40,17 +40,17 @@ block_kind_of kind.Par = grammar.par_block
 block_kind_of (kind.For copies) = grammar.for_loop (Number (Some copies))
 block_kind_of (kind.Pfor copies) = grammar.pfor_loop (Number (Some copies))
 
--- derivations one after another
+-- the derivation of several lists of items, one after another
 abbrev pub one_after_another : List grammar.Items → grammar.Items
 one_after_another [] = grammar.nothing
 one_after_another (items ∷ more) = items then one_after_another more
 
--- one level of an item, where the items inside are derivations already
+-- one level of an item, whose inner items are derivations already
 abbrev pub item_step : Item-F grammar.Items → grammar.Items
 item_step (Item-F.Leaf leaf) = grammar.leaf_then (leaf_of leaf) grammar.nothing
 item_step (Item-F.Block kind inside) = grammar.block_then (block_kind_of kind) (one_after_another inside.items) grammar.nothing
 
--- an item, as a derivation of one
+-- the derivation of a single item
 abbrev pub item_of : Item → grammar.Items
 item_of = fold-Item grammar.Items item_step
 

@@ -1,4 +1,4 @@
--- What each token says.
+-- Which word each token spells.
 use Rattle.std.specs.Prelude.{ℕ, ◌+◌, ◌-◌, ◌*◌, ◌^◌, List, [], ◌∷◌, length, take, drop, map, Bool, false, ◌||◌, ◌&&◌, not, Option, Some, None, if◌then◌else◌, ◌==◌, nat_le, nat_lt, codes}
 use Rattle.std.specs.Str.{bytes_eq}
 use Rattle.std.specs.List.{list_all}
@@ -11,26 +11,26 @@ use Rattle.job_syntax.specs.declared.lexer.word.WordOnLine.{WordOnLine}
 abbrev pub is_digit : ℕ → Bool
 is_digit byte = nat_le 48 byte && nat_le byte 57
 
--- digits alone, and at least one
+-- digits alone, at least one
 abbrev pub are_digits : List ℕ → Bool
 are_digits [] = false
 are_digits (byte ∷ text) = list_all is_digit (byte ∷ text)
 
--- the number that digits say, behind those that said the first number
+-- the value of digits that follow others of value `number`
 abbrev pub digits_from : ℕ → List ℕ → ℕ
 digits_from number [] = number
 digits_from number (digit ∷ digits) = digits_from (10 * number + (digit - 48)) digits
 
--- there is no leading zero but that of `0` itself
+-- no leading zero, except in `0` itself
 abbrev pub begins_well : List ℕ → Bool
 begins_well [] = false
 begins_well (digit ∷ digits) = not (digit == 48) || length digits == 0
 
--- the number of a run of digits, if it is spelled well and fits 32 bits
+-- the value of a run of digits, if it has no leading zero and fits 32 bits
 abbrev pub number_of : List ℕ → Option ℕ
 number_of digits = if begins_well digits && nat_lt (digits_from 0 digits) (2 ^ 32) then Some (digits_from 0 digits) else None
 
--- the bytes before the first `+`, and those behind it
+-- the bytes before the first `+`, and those after it
 abbrev pub before_plus : List ℕ → List ℕ
 before_plus [] = []
 before_plus (byte ∷ text) = if byte == 43 then [] else byte ∷ before_plus text
@@ -43,14 +43,14 @@ abbrev pub pair_of : Option ℕ → Option ℕ → Option (ℕ × ℕ)
 pair_of (Some factor) (Some addend) = Some (factor, addend)
 pair_of _ _ = None
 
--- what stands behind `@*`: digits, a plus sign, digits
+-- the word of a token `@*`, where `text` is the rest of it: digits, a plus sign, digits
 abbrev pub copies_word : List ℕ → Word
 copies_word text =
     if are_digits (before_plus text) && are_digits (behind_plus text)
     then Copies (pair_of (number_of (before_plus text)) (number_of (behind_plus text)))
     else Other
 
--- a token that is none of the quoted words
+-- the word of a token that is not a quoted word
 abbrev pub argument_word : List ℕ → Word
 argument_word text =
     if are_digits text then Number (number_of text)
@@ -81,7 +81,7 @@ word_of text =
     else if bytes_eq text (codes "pfor") then Pfor
     else argument_word text
 
--- the words of a text, each with its line
+-- the words of a text's tokens, each with its line
 abbrev pub word_on_line : Token → WordOnLine
 word_on_line token = record { word = word_of token.text; line = token.line }
 

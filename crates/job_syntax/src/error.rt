@@ -1,4 +1,4 @@
-//! The errors of reading a job: a fault of the text, or want of memory.
+//! The errors of reading a job: a fault of the text, or memory ran out.
 use crate::fault::JobFault;
 use std::alloc::{AllocError, AllocFailed};
 use thiserror::Error;

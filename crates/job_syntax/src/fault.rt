@@ -1,30 +1,30 @@
-//! The faults of a text that is no job.
+//! The faults of a text that is not a job.
 ghost use Rattle.std.specs.Prelude.{◌≡◌};
 
 use thiserror::Error;
 
-/// Why a text is no job, and on which of its lines. Lines are counted from 1.
+/// Why a text is not a job, and on which line. Lines count from 1.
 #[derive(Clone, Copy, Debug, Error)]
 #[error("line {}: {}", self.line(), self.words())]
 pub enum JobFault {
     /// A byte that is not allowed outside comments.
     Byte { line: u32 },
-    /// A token that does not fit the grammar, or an end that comes too early.
+    /// A token that does not fit the grammar, or a text that ends too early.
     Grammar { line: u32 },
-    /// A number that is spelled wrong or too large.
+    /// A number with a leading zero, or past 32 bits.
     Number { line: u32 },
-    /// A block inside too many others.
+    /// A block inside 32 others.
     Nesting { line: u32 },
-    /// More leaves than a job may have.
+    /// More than 20,000 leaves.
     Leaves { line: u32 },
-    /// An argument that is out of range in some copy.
+    /// An argument that does not fit 32 bits in some copy.
     Argument { line: u32 },
 }
 
 impl JobFault {
     ghost use Rattle.job_syntax.specs.Lines.{line_in, fault_words};
 
-    /// The line that it names.
+    /// The line of the fault.
     pub fn line(self) -> u32
         ensures { result ≡ line_in self }
     {
@@ -38,7 +38,7 @@ impl JobFault {
         }
     }
 
-    /// What is said of it, behind its line.
+    /// The message for the fault, which is printed after its line.
     pub fn words(self) -> &'static str
         ensures { result.now ≡ fault_words self }
     {

@@ -1,4 +1,4 @@
-//! The items of a text, before the copies of its loops are made.
+//! The items of a text, before its loops are expanded into copies.
 
 /// The argument of a leaf.
 #[derive(Clone, Copy)]
@@ -29,7 +29,7 @@ pub enum Leaf {
     QueueTake,
 }
 
-/// What opens a block: its word, and for a loop the number of copies.
+/// The head of a block: its word, and for a loop the number of copies.
 #[derive(Clone, Copy)]
 pub enum BlockKind {
     Seq,
@@ -44,7 +44,7 @@ impl BlockKind {
     ghost use Rattle.job_syntax.specs.Grammar.{is_loop};
     ghost use Rattle.job_syntax.specs.Views.{block_kind_of};
 
-    /// How often the block runs its items.
+    /// How many times the block runs its items.
     pub fn copies(self) -> u32
         ensures { result ≡ copies_of (block_kind_of self) }
     {

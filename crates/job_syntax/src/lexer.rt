@@ -12,7 +12,7 @@ use crate::lexer::word::WordOnLine;
 use crate::lexer::word_of::word_of;
 use std::alloc::{AllocError, Global};
 
-/// The words that the tokens of a text say, each with its line.
+/// The words of the text's tokens, in order, each with its line.
 pub fn words_in(alloc: Global, text: &[u8]) -> Result<Vec<WordOnLine>, AllocError>
     requires { length text.now ≤ 1048576 }
     ensures { IfOk result (λ words. words.items ≡ words_on_lines text.now) }

@@ -1,13 +1,15 @@
-//! The syntax of the job language: which items a text writes, or which fault a reader meets in it from left to right.
+//! The syntax of the job language: the items that a text writes, or the fault that a reader meets in it from left to
+//! right.
 //!
-//! The text goes through two rooms. `lexer` makes words of its bytes: `words_in` gives exactly the words that the text's
-//! tokens say, each with its line, and `forbidden_line` the line of the first byte outside comments that is not allowed.
-//! `parser` makes items of the words, once from left to right, with a stack of open blocks: `read_items` gives the items
-//! that the grammar gives the words, or their fault of reading. `fault` and `error` have what a reader answers.
+//! The text passes two stages. `lexer` makes words of its bytes: `words_in` gives exactly the words of the text's
+//! tokens, each with its line, and `forbidden_line` the line of the first byte outside comments that is not allowed.
+//! `parser` makes items of the words, in one pass from left to right, with a stack of open blocks: `read_items` gives
+//! the items that the grammar gives the words, or their fault of reading. `fault` and `error` define what a reader
+//! answers.
 //!
-//! What the items mean, and the job that they stand for, is said and made in `job_lang`, above. In `specs/` the rules stand
-//! at the top, and what only the code and its proofs cite in `Code/`. The crate stands on `thiserror` alone, for how faults
-//! are displayed, of which no clause speaks.
+//! `job_lang`, above, defines what the items mean and makes their job. In `specs/` the rules stand at the top, and what
+//! only the code and its proofs cite in `Code/`. The crate stands on `thiserror` alone, for the display of faults, of
+//! which no clause speaks.
 #![tactic(auto)]
 
 pub mod error;

@@ -1,4 +1,4 @@
-//! Reads the words of a text once, with a stack of open blocks.
+//! The parser: one pass over the words of a text, with a stack of open blocks.
 ghost use Rattle.std.specs.Prelude.{◌≡◌, ◌≤◌, ◌∷◌, Err, IfOk, length};
 ghost use Rattle.job_syntax.specs.Faults.{IsReadingFault};
 ghost use Rattle.job_syntax.specs.ItemsOf.{AreItemsOf};
@@ -38,7 +38,7 @@ fn read_argument(
     Ok(())
 }
 
-/// Reads the call of an object, and adds the leaf.
+/// Reads the rest of a call behind its object's name, and adds the leaf.
 fn read_call(
     stack: &mut BlockStack,
     object: Object,
@@ -76,7 +76,7 @@ fn read_brace(
     Ok(())
 }
 
-/// Reads what the word begins: a leaf, or the start of a block up to its `{`. Or closes a block.
+/// Reads what this word begins: a whole leaf, a block up to its `{`, or the end of the innermost block.
 fn read_step(
     stack: &mut BlockStack,
     token: WordOnLine,
@@ -113,7 +113,7 @@ fn read_step(
     }
 }
 
-/// Reads the words to their end.
+/// Reads all words.
 fn read_all(alloc: Global, mut words: Cursor, last: u32) -> Result<Vec<Item>, JobErr>
     ensures { Gives (λ items. items_of items.items) result (read_from last start words.entry) }
 {
@@ -128,7 +128,8 @@ fn read_all(alloc: Global, mut words: Cursor, last: u32) -> Result<Vec<Item>, Jo
     }
 }
 
-/// The items that the words write, or the first fault. An end that comes too early is a fault of the last line.
+/// The items that the words write, or their first fault. A text that ends too early has a `Grammar` fault on line
+/// `last`.
 pub fn read_items(alloc: Global, words: &[WordOnLine], last: u32) -> Result<Vec<Item>, JobErr>
     ensures items { IfOk result (λ items. AreItemsOf words.now (items_of items.items)) }
     ensures fault { (fault : JobFault) → result ≡ Err (Bad fault) → IsReadingFault last words.now fault }

@@ -1,4 +1,4 @@
--- A tree is less deep than it has leaves.
+-- The depth of a tree is below the number of its leaves.
 use Rattle.std.proofs.Common.{◌<◌, arith}
 use Rattle.sp_order.specs.Precedence.{Tree, leaf, seq, par, leaves}
 use Rattle.sp_order.specs.Depth.{tree_depth}

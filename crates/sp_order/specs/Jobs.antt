@@ -6,26 +6,26 @@ use Rattle.seq_objects.specs.contracts.act.Act as act
 use Rattle.sp_order.specs.Precedence.{Tree, leaf, leaf_count}
 use Rattle.sp_order.specs.TreeEncoding.{coded_tree}
 
--- the shape, and what the leaves do, from left to right
+-- a shape, and the acts of its leaves from left to right
 pub record JobValue : Type 0 where
   pub shape : Option Tree
   pub acts : List Act
 
--- the tree of a shape, where there is one
+-- the tree, or a leaf where there is none
 abbrev pub tree_or_leaf : Option Tree → Tree
 tree_or_leaf None = leaf
 tree_or_leaf (Some tree) = tree
 
--- the tree of a job that has leaves
+-- the tree of a job, for jobs that have leaves
 abbrev pub job_tree : JobValue → Tree
 job_tree job = tree_or_leaf job.shape
 
--- there is one act for each leaf, and there are not too many
+-- there is one act for each leaf, and there are at most 20,000
 pub record IsJob (job : JobValue) : Type 0 where
   pub leaves : leaf_count job.shape ≡ length job.acts
   pub most : length job.acts ≤ 20000
 
--- by what a proof tells jobs apart
+-- an injective encoding of jobs, by which proofs compare them
 abbrev pub coded_job : Coded JobValue
 coded_job =
     code_by (Option Tree × List Act) (coded× (coded_option coded_tree) (coded_list act.the_row.coded)) (λ job. (job.shape, job.acts)) (λ parts. record { shape = parts.0; acts = parts.1 }) (λ _. refl)

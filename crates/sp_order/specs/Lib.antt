@@ -1,5 +1,5 @@
--- Shapes, jobs, plans, the precedence of leaves and what jobs come to, with what they take from seq_objects. `Code` is
--- what only the code cites.
+-- Shapes, jobs, plans, the precedence of leaves and totals over a job's operations, with what they take from
+-- `seq_objects`. `Code` holds what only the code cites.
 pub use Rattle.seq_objects.specs.Objects
 pub mod Precedence
 pub mod Jobs

@@ -1,4 +1,4 @@
--- Jobs that fill each structure before they ask it.
+-- Jobs that fill each structure before they query it.
 use Rattle.std.specs.Prelude.{◌≡◌, ℕ, ◌≤◌, Some, slice_get}
 use Rattle.seq_objects.specs.declared.op.Op.{Op}
 use Rattle.seq_objects.specs.declared.act.Act.TheVariants.{Call}
@@ -6,13 +6,13 @@ use Rattle.sp_order.specs.Precedence.{IsBefore}
 use Rattle.sp_order.specs.Jobs.{JobValue}
 use Rattle.sp_order.specs.Totals.{pushes, pops, tree_inserts, tree_removes, tree_finds, queue_inserts, queue_takes, total}
 
--- each leaf that calls what the first count counts is before each leaf that calls what the second counts
+-- each leaf whose call counts under `early` is before each leaf whose call counts under `late`
 abbrev pub ComesBefore : JobValue → (Op → ℕ) → (Op → ℕ) → Type 0
 ComesBefore job early late =
     (u v : ℕ) (first second : Op) → slice_get job.acts u ≡ Some (Call first) → slice_get job.acts v ≡ Some (Call second)
     → 1 ≤ early first → 1 ≤ late second → IsBefore job.shape u v
 
--- Pushes come before pops, inserts of the queue before takes, and inserts of the tree before finds. There are no fewer
+-- Pushes are before pops, inserts of the queue before takes, and inserts of the tree before finds. There are no fewer
 -- pops than pushes, no fewer takes than inserts of the queue, and no removals from the tree.
 pub record FillsFirst (job : JobValue) : Type 0 where
   pub stack : ComesBefore job pushes pops

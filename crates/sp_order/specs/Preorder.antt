@@ -8,7 +8,7 @@ use Rattle.sp_order.specs.Precedence.{Tree, leaf, seq, par, leaves}
 use Rattle.sp_order.specs.Plans.{Nodes}
 use Rattle.sp_order.specs.PlanOf.{node_count}
 
--- what its nodes are, numbered from `node` on, with its leaves numbered from `first` on
+-- the kinds of the nodes, numbered from `node` on, with the leaves numbered from `first` on
 abbrev pub kinds_from : ℕ → ℕ → Tree → List Kind
 kinds_from node first leaf = LeafNode first ∷ []
 kinds_from node first (seq left right) =
@@ -18,7 +18,7 @@ kinds_from node first (par left right) =
     ParNode (node + 1) (node + 1 + node_count left)
     ∷ (kinds_from (node + 1) first left ++ kinds_from (node + 1 + node_count left) (first + leaves left) right)
 
--- what follows its nodes, numbered from `node` on, where `after` follows the whole
+-- the moves of the nodes, numbered from `node` on, where the top has the move `after`
 abbrev pub moves_from : ℕ → Move → Tree → List Move
 moves_from node after leaf = after ∷ []
 moves_from node after (seq left right) =
@@ -26,7 +26,7 @@ moves_from node after (seq left right) =
 moves_from node after (par left right) =
     after ∷ (moves_from (node + 1) (Arrive node) left ++ moves_from (node + 1 + node_count left) (Arrive node) right)
 
--- the nodes of its leaves, from left to right
+-- the nodes of the leaves, from left to right
 abbrev pub leaf_nodes_from : ℕ → Tree → List ℕ
 leaf_nodes_from node leaf = node ∷ []
 leaf_nodes_from node (seq left right) =

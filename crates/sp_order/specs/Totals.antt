@@ -1,4 +1,4 @@
--- What the operations of a job come to: how many there are of a kind, the sums of the numbers that they carry, and the
+-- Totals over the operations of a job: how many there are of a kind, the sums of the numbers that they carry, and the
 -- keys that they insert.
 use Rattle.std.specs.Prelude.{ℕ, ◌+◌, List, [], ◌∷◌}
 use Rattle.seq_objects.specs.declared.op.Op.{Op}
@@ -8,12 +8,12 @@ use Rattle.seq_objects.specs.declared.act.Act.TheVariants.{Work, Call}
 use Rattle.seq_objects.specs.Objects.{has, with_key}
 use Rattle.seq_objects.specs.Orders.{one_if}
 
--- the number that a counter add adds
+-- the addend of a counter add, else 0
 abbrev pub added : Op → ℕ
 added (CounterAdd addend) = addend
 added _ = 0
 
--- 1 for a push of the stack, and the number that it pushes
+-- for a push of the stack, 1, and the number that it pushes
 abbrev pub pushes : Op → ℕ
 pushes (Push item) = 1
 pushes _ = 0
@@ -40,12 +40,12 @@ abbrev pub tree_finds : Op → ℕ
 tree_finds (TreeFind key) = 1
 tree_finds _ = 0
 
--- 1 for a find of a key of this set
+-- 1 for a find of the tree whose key is in the set
 abbrev pub finds_in : List ℕ → Op → ℕ
 finds_in set (TreeFind key) = one_if (has key set)
 finds_in set _ = 0
 
--- 1 for an insert of the queue, and the number that it inserts
+-- for an insert of the queue, 1, and the number that it inserts
 abbrev pub queue_inserts : Op → ℕ
 queue_inserts (PqInsert item) = 1
 queue_inserts _ = 0
@@ -59,22 +59,22 @@ abbrev pub queue_takes : Op → ℕ
 queue_takes PqTake = 1
 queue_takes _ = 0
 
--- what an act's operation counts for, and 0 for work
+-- the count of a call's operation, and 0 for work
 abbrev pub count_of_act : (Op → ℕ) → Act → ℕ
 count_of_act count (Work steps) = 0
 count_of_act count (Call op) = count op
 
--- the sum over the acts of a job
+-- the sum of the counts of the acts
 abbrev pub total : (Op → ℕ) → List Act → ℕ
 total count [] = 0
 total count (act ∷ acts) = count_of_act count act + total count acts
 
--- a set with the key of an insert of the tree
+-- the set, with the key of an insert of the tree
 abbrev pub with_key_of : Act → List ℕ → List ℕ
 with_key_of (Call (TreeInsert key)) set = with_key key set
 with_key_of _ set = set
 
--- the keys that the acts insert into the tree, each once
+-- the set of keys that the acts insert into the tree
 abbrev pub keys_inserted : List Act → List ℕ
 keys_inserted [] = []
 keys_inserted (act ∷ acts) = with_key_of act (keys_inserted acts)

@@ -1,17 +1,16 @@
--- A tree as a list of numbers, by which proofs tell trees apart: the left side, the right side, and then the
--- number of their node.
+-- Trees in postfix notation, as lists of numbers: an injective encoding, by which proofs compare trees.
 use Rattle.std.specs.Prelude.{◌≡◌, ℕ, zero, suc, List, [], ◌∷◌, ◌++◌, refl}
 use Rattle.std.proofs.Common.{◌∙◌, ap, sym, append_assoc, append-nil}
 use Rattle.std.specs.Coded.{Coded, code_by, coded_list, coded_ℕ}
 use Rattle.sp_order.specs.Precedence.{Tree, leaf, seq, par}
 
--- the left side, the right side, and then 1 or 2; 0 for a leaf
+-- the left side, the right side, and then 1 for `seq` or 2 for `par`; 0 for a leaf
 abbrev pub encode : Tree → List ℕ
 encode leaf = 0 ∷ []
 encode (seq left right) = encode left ++ (encode right ++ 1 ∷ [])
 encode (par left right) = encode left ++ (encode right ++ 2 ∷ [])
 
--- the trees on a stack, after these numbers
+-- the stack of trees after these numbers; a block that finds fewer than two trees there is skipped
 abbrev pub decode_onto : List ℕ → List Tree → List Tree
 decode_onto [] stack = stack
 decode_onto (zero ∷ more) stack = decode_onto more (leaf ∷ stack)
@@ -24,7 +23,7 @@ abbrev pub top : List Tree → Tree
 top [] = leaf
 top (tree ∷ stack) = tree
 
--- the numbers of a tree put that tree on the stack
+-- decoding the numbers of a tree pushes that tree
 pub decode_onto-encode : (tree : Tree) (more : List ℕ) (stack : List Tree) → decode_onto (encode tree ++ more) stack ≡ decode_onto more (tree ∷ stack)
 decode_onto-encode leaf more stack = refl
 decode_onto-encode (seq a b) more stack =

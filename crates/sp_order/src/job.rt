@@ -1,4 +1,4 @@
-//! A job: a shape, and what each of its leaves does.
+//! Jobs: a shape, and an act for each of its leaves.
 ghost use Rattle.std.specs.Prelude.{◌≡◌, ◌<◌, ◌≤◌, length};
 ghost use Rattle.std.specs.Option.{option_map};
 ghost use Rattle.sp_order.specs.Precedence.{tree_of, leaf_count};
@@ -7,8 +7,8 @@ use crate::shape::Shape;
 use seq_objects::Act;
 use std::marker::Model;
 
-/// A shape, and what its leaves do, from left to right. A job of no leaves has no shape. Contracts see it as
-/// a `JobValue`.
+/// A shape and the acts of its leaves, from left to right: at most 20,000. A job without leaves has no shape. Contracts
+/// see it as a `JobValue`.
 #[derive(Drop)]
 pub struct Job {
     shape: Option<Shape>,
@@ -33,7 +33,7 @@ impl Job {
     ghost use Rattle.sp_order.specs.Jobs.{IsJob};
     ghost use Rattle.sp_order.specs.Depth.{depth_of};
 
-    /// The job of this shape, whose leaves do these acts. Memory: none.
+    /// The job of this shape, whose leaves do these acts. It takes no memory.
     pub fn of(shape: Option<Shape>, acts: Vec<Act>) -> Job
         requires leaves { leaf_count (option_map tree_of shape) ≡ length acts.items }
         requires most { length acts.items ≤ 20000 }
@@ -43,7 +43,7 @@ impl Job {
         Job { shape, acts }
     }
 
-    /// Its shape, if it has leaves.
+    /// The shape, or `None` for a job without leaves.
     pub fn shape(&self) -> Option<&Shape>
         ensures shape { option_map (λ shape. tree_of shape.now) result ≡ self.now.shape }
         ensures job { IsJob self.now }
@@ -51,7 +51,7 @@ impl Job {
         self.shape.as_ref()
     }
 
-    /// What its leaves do, from left to right: at most 20,000.
+    /// The acts of the leaves, from left to right: at most 20,000.
     pub fn acts(&self) -> &[Act]
         ensures acts { result.now ≡ self.now.acts }
         ensures job { IsJob self.now }
@@ -59,8 +59,8 @@ impl Job {
         self.acts.as_slice()
     }
 
-    /// How deep its shape is: 0 where there is none and for a leaf, else one more than the deeper side. It
-    /// calls itself once for each level, of which there are fewer than leaves.
+    /// The depth of the shape in blocks: 0 without a shape and for a leaf, else one more than the deeper side. The
+    /// recursion takes one call a level, and there are fewer levels than leaves.
     pub fn depth(&self) -> u32
         ensures depth { result ≡ depth_of self.now.shape }
         ensures most { result < 20000 }

@@ -1,7 +1,7 @@
-//! Series-parallel jobs: how the leaves of a job are put together, and which leaf is before which.
+//! Series-parallel jobs: how the leaves of a job are composed, and which leaf is before which.
 //!
-//! The precedence of a shape is defined here; that each leaf ran after all leaves before it is said over
-//! it. The crate stands on `seq_objects`, which has what a leaf does.
+//! This crate defines the precedence of leaves, over which a report's promise is stated: each leaf ran after all leaves
+//! before it. It stands on `seq_objects`, which defines what a leaf does.
 #![tactic(auto)]
 
 pub mod job;

@@ -1,27 +1,27 @@
-//! What the nodes of a plan are, and what follows them.
+//! The nodes of a plan: their kinds, and what follows them.
 ghost use Rattle.std.specs.Prelude.{◌≡◌};
 
-/// What a node is.
+/// The kind of a node.
 #[derive(Clone, Copy)]
 pub enum Kind {
-    /// A leaf, by its number among the leaves.
+    /// A leaf, with its number among the leaves.
     LeafNode(u32),
-    /// A series, by the nodes of its left side and of its right side.
+    /// A series, with the nodes of its left side and of its right side.
     SeqNode(u32, u32),
-    /// A parallel block, by the nodes of its left side and of its right side.
+    /// A parallel block, with the nodes of its left side and of its right side.
     ParNode(u32, u32),
 }
 
-/// What is to be done once a node is done, with the number of its parent.
+/// What follows a node once it is done, with the number of its parent.
 #[derive(Clone, Copy, PartialEq)]
 pub enum Move {
-    /// Nothing: it is the root, so the job is done.
+    /// The node is the root, so the job is done.
     Root,
-    /// It is the left side of a series: its right side may begin.
+    /// The node is the left side of a series, whose right side may begin.
     OpenSecond(u32),
-    /// It is the right side of a series, which is done too.
+    /// The node is the right side of a series, which is done too.
     FinishParent(u32),
-    /// It is a side of a parallel block, which is done once both sides are.
+    /// The node is a side of a parallel block, which is done once both sides are.
     Arrive(u32),
 }
 

@@ -1,4 +1,4 @@
-//! Plans: the nodes of a job, numbered in preorder.
+//! Plans: the nodes of a job's shape, numbered in preorder.
 ghost use Rattle.std.specs.Prelude.{◌≡◌, ◌<◌, ◌≤◌, ◌↔◌, Some, IsSome, IsTrue, IfOk};
 ghost use Rattle.sp_order.specs.Precedence.{leaves, IsBefore};
 ghost use Rattle.sp_order.specs.Preorder.{nodes_of};
@@ -11,10 +11,10 @@ use crate::node::{Kind, Move};
 use std::alloc::{AllocError, Global};
 use std::marker::Model;
 
-/// The nodes of a shape, numbered in preorder: the root is node 0, the left side of node n is node n + 1, and
-/// its right side is the node after all those of its left side. Leaves are numbered from 0, from left to
-/// right. Contracts see a plan as the tree that it stands for: `nodes_of` has the nodes of a tree, and the
-/// function `plan_stands_for_tree` of `laws` says that they stand for it.
+/// The nodes of a shape, numbered in preorder: the root is node 0, the left side of node n is node n + 1, and its right
+/// side is the node after all nodes of the left side. Leaves are numbered from 0, from left to right. Contracts see a
+/// plan as the tree it stands for: `nodes_of` gives the nodes of that tree, and the law `plan_stands_for_tree` says
+/// that they encode it.
 #[derive(Drop)]
 pub struct Plan {
     built: PlanBuilder,
@@ -36,8 +36,8 @@ impl Model for Plan {
 }
 
 impl Plan {
-    /// The plan of the job's shape, in time linear in its leaves. It does not recurse, so a deep shape takes no more
-    /// of the call stack than a flat one.
+    /// The plan of the job's shape, in time linear in its leaves. It does not recurse, so a deep shape takes no more of
+    /// the call stack than a flat one.
     pub fn of(alloc: Global, job: &Job) -> Result<Plan, AllocError>
         requires { IsSome job.now.shape }
         ensures { IfOk result (λ plan. Some plan ≡ job.now.shape) }
@@ -55,7 +55,7 @@ impl Plan {
         Ok(Plan { built: builder })
     }
 
-    /// The count of its nodes, whose numbers are those below it.
+    /// The number of nodes. They are numbered from 0.
     pub fn nodes(&self) -> u32
         ensures nodes { result ≡ (nodes_of self.now).count }
         ensures most { result < 40000 }
@@ -63,7 +63,7 @@ impl Plan {
         self.built.kinds.len() as u32
     }
 
-    /// What this node is.
+    /// The kind of this node.
     pub fn kind(&self, node: u32) -> Kind
         requires { node < (nodes_of self.now).count }
         ensures { Some result ≡ (nodes_of self.now).kind node }
@@ -71,7 +71,7 @@ impl Plan {
         self.built.kinds[node as usize]
     }
 
-    /// What is to be done once this node is done.
+    /// What follows this node once it is done.
     pub fn after(&self, node: u32) -> Move
         requires { node < (nodes_of self.now).count }
         ensures { result ≡ (nodes_of self.now).after node }
@@ -87,8 +87,8 @@ impl Plan {
         self.built.leaf_nodes[leaf as usize]
     }
 
-    /// Whether leaf u is before leaf v: a walk from v up to the node where the two part, in time linear in the depth.
-    /// Memory: none.
+    /// Whether leaf `u` is before leaf `v`. The walk climbs from `v` to the node at which the two leaves part, in time
+    /// linear in the depth. It takes no memory.
     pub fn before(&self, u: u32, v: u32) -> bool
         requires u_in { u < leaves self.now }
         requires v_in { v < leaves self.now }
@@ -101,7 +101,7 @@ impl Plan {
             let Some(parent) = after.parent() else {
                 return false;
             };
-            // The two leaves part at this parent: u is on its left side, and v on its right side.
+            // The two leaves part at this parent: `u` is under its left side, and `v` under its right side.
             if parent < first {
                 return after == Move::FinishParent(parent);
             }

@@ -1,4 +1,4 @@
-//! A job with its plan: what a run keeps of a job.
+//! A job with its plan: the form of a job that a run keeps.
 ghost use Rattle.std.specs.Prelude.{◌≡◌, ◌<◌, Some, IsSome, IfOk, slice_get};
 ghost use Rattle.sp_order.specs.Jobs.{IsJob, job_tree};
 ghost use Rattle.sp_order.specs.Precedence.{leaves};
@@ -32,7 +32,7 @@ impl Model for PlannedJob {
 }
 
 impl PlannedJob {
-    /// The job, with the plan of its shape and a copy of its acts, in time linear in its leaves.
+    /// Plans the job: makes the plan of its shape and copies its acts, in time linear in the leaves.
     pub fn of(alloc: Global, job: &Job) -> Result<PlannedJob, AllocError>
         requires { IsSome job.now.shape }
         ensures { IfOk result (λ planned. planned ≡ job.now) }
@@ -43,7 +43,7 @@ impl PlannedJob {
         Ok(PlannedJob { plan, acts })
     }
 
-    /// The count of its nodes, whose numbers are those below it.
+    /// The number of nodes of the plan. They are numbered from 0.
     pub fn nodes(&self) -> u32
         ensures nodes { result ≡ (nodes_of (job_tree self.now)).count }
         ensures most { result < 40000 }
@@ -53,7 +53,7 @@ impl PlannedJob {
         self.plan.nodes()
     }
 
-    /// What this node is.
+    /// The kind of this node.
     pub fn kind(&self, node: u32) -> Kind
         requires { node < (nodes_of (job_tree self.now)).count }
         ensures { Some result ≡ (nodes_of (job_tree self.now)).kind node }
@@ -61,7 +61,7 @@ impl PlannedJob {
         self.plan.kind(node)
     }
 
-    /// What is to be done once this node is done.
+    /// What follows this node once it is done.
     pub fn after(&self, node: u32) -> Move
         requires { node < (nodes_of (job_tree self.now)).count }
         ensures { result ≡ (nodes_of (job_tree self.now)).after node }
@@ -77,7 +77,7 @@ impl PlannedJob {
         self.plan.node_of(leaf)
     }
 
-    /// What its leaves do, from left to right: at most 20,000.
+    /// The acts of the leaves, from left to right: at most 20,000.
     pub fn acts(&self) -> &[Act]
         ensures acts { result.now ≡ self.now.acts }
         ensures job { IsJob self.now }
@@ -85,7 +85,7 @@ impl PlannedJob {
         self.acts.as_slice()
     }
 
-    /// What this leaf does.
+    /// The act of this leaf.
     pub fn act(&self, leaf: u32) -> Act
         requires { leaf < leaves (job_tree self.now) }
         ensures { slice_get self.now.acts leaf ≡ Some result }

@@ -1,12 +1,12 @@
 //! Series-parallel shapes: how the leaves of a job are composed.
 ghost use Rattle.std.specs.Prelude.{◌≡◌, ◌<◌, ◌^◌};
 
-/// How the leaves of a job are put together. Leaves are numbered from 0, from left to right.
+/// A series-parallel composition of leaves. Leaves are numbered from 0, from left to right.
 #[derive(Drop)]
 pub enum Shape {
     /// One leaf.
     Leaf,
-    /// The left side, and after it the right side.
+    /// The left side, and then the right side.
     Seq(Box<Shape>, Box<Shape>),
     /// The two sides, in any order or at once.
     Par(Box<Shape>, Box<Shape>),
@@ -16,7 +16,7 @@ impl Shape {
     ghost use Rattle.sp_order.specs.Precedence.{tree_of};
     ghost use Rattle.sp_order.specs.Depth.{tree_depth};
 
-    /// The depth: 0 for a leaf, else one more than that of the deeper side. It recurses once for each level.
+    /// The depth in blocks: 0 for a leaf, else one more than that of the deeper side. It recurses once for each level.
     pub(crate) fn depth(&self) -> u32
         requires { tree_depth (tree_of self.now) < 2 ^ 32 }
         ensures { result ≡ tree_depth (tree_of self.now) }

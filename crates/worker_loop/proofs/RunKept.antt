@@ -1,4 +1,4 @@
--- What the type of the state behind the lock keeps over a turn, and what the report of its core is.
+-- A turn keeps the invariant of the state behind the lock, and the report of its core is that of a run of the job.
 use Rattle.std.proofs.Common.{ℕ, ◌≡◌, ◌∙◌, ap, subst, sym, Bool, false, Option, Result, Ok, Err, IfOk}
 use Rattle.sp_order.specs.Jobs.{JobValue, job_tree}
 use Rattle.sp_order.specs.Precedence.{Tree, leaves}
@@ -11,11 +11,11 @@ use Rattle.batcher_core.specs.declared.turn.Turn.TheVariants.{Moved}
 use Rattle.batcher_core.specs.Cores.{CoreView, job_in, state_in, IsTurnResult}
 use Rattle.worker_loop.specs.Runs.{IsCoreOf, IsRunOf}
 
--- the job of a core of this job
+-- the model's job of a core of this job
 pub job_of_core : (value : JobValue) (count : ℕ) (core : CoreView) → IsCoreOf value count core → job_in core ≡ core_job value count
 job_of_core value count core is = ap (λ (job : JobValue). core_job job core.workers) is.job_is ∙ ap (core_job value) is.workers
 
--- a turn that moved leads to a reached state
+-- a turn with an event leads to a reached state
 pub run_moved : (value : JobValue) (count : ℕ) (old new : CoreView) (failed : Bool) (w : ℕ) → IsRunOf value count (record { core = old; failed = failed })
     → (new.job ≡ old.job) × (new.workers ≡ old.workers) → IsTurnResult Moved (job_in old) (state_in old) w (state_in new) → new.spent ≡ false
     → ((job : CoreJob) (a b : CoreState) (worker : ℕ) (event : Event) → IsReached job a → IsStep job a worker event b → IsReached job b)
@@ -28,7 +28,7 @@ run_moved value count old new failed w run same moved unspent leads = record {
       leads (core_job value count) (state_in old) (state_in new) w step.0 (run.reached ok) step.2;
 }
 
--- the report of a core whose state is reached
+-- the report of a run from a reached state is that of a run of the job
 pub run_reported : {E : Type 0} (made : Result Report E) (value : JobValue) (count : ℕ) (core : CoreView) → IsCoreOf value count core
     → IsReached (core_job value count) (state_in core) → IfOk made (IsRunFrom (job_in core) (leaves (job_tree core.job)) (state_in core))
     → ((job : CoreJob) (leaf_total : ℕ) (state : CoreState) (report : Report) → IsReached job state → IsRunFrom job leaf_total state report → IsRunFrom job leaf_total opening_core report)

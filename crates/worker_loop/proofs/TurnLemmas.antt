@@ -1,4 +1,4 @@
--- A turn that is given the work that was due, after the turn that asked for it.
+-- A turn that is given the work due, right after the turn that asked for it.
 use Rattle.std.proofs.Common.{ℕ, ◌≡◌, ◌∙◌, ap, subst, sym, Option, None, Some, Result, Ok, Err, IfOk}
 use Rattle.sp_order.specs.Jobs.{JobValue}
 use Rattle.core_model.specs.State.{CoreState, CoreJob, core_job}
@@ -11,7 +11,7 @@ job_same : (old new : CoreView) → (new.job ≡ old.job) × (new.workers ≡ ol
 job_same old new same =
     ap (λ (job : JobValue). core_job job new.workers) same.0 ∙ ap (core_job old.job) same.1
 
--- the turn that asked has changed nothing, so what the next one did it did from the state before both
+-- the asking turn changed nothing, so the second one started from the state before both
 pub given_turn : {E : Type 0} (old mid : CoreView) (w : ℕ) (new : CoreState) (result : Result Turn E)
     → (mid.job ≡ old.job) × (mid.workers ≡ old.workers) → state_in mid ≡ state_in old
     → IfOk result (λ t. IsTurnResult t (job_in mid) (state_in mid) w new) → IfOk result (λ t. IsTurnResult t (job_in old) (state_in old) w new)

@@ -1,2 +1,2 @@
--- The definitions of the code's own: which hints belong to which deques.
+-- What only the code and its proofs cite: which hints belong to which deques.
 pub mod Hints

@@ -1,6 +1,5 @@
--- The rules of the workers in threads: what the type of the state behind the lock keeps, what a look at
--- it does and answers, where the gate is, and when a worker over the running table ends. `Code` is what only the
--- code cites.
+-- The rules of runs in threads: the state behind the lock and its invariant, what a look does and answers, the points
+-- of the gate, and when a worker over the running table ends. `Code` holds what only the code cites.
 pub mod Runs
 pub mod Looks
 pub mod Points

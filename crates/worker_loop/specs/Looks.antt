@@ -1,4 +1,4 @@
--- What a worker's look at the state behind the lock has done, by what it answers.
+-- What a look does to the state behind the lock, by its answer.
 use Rattle.std.specs.Prelude.{ℕ, ◌≡◌, ◌<◌, ◌≤◌, ◌-◌, ◌⊎◌, true, false}
 use Rattle.std.specs.Prelude.{List, length, slice_index, Option, Some, None}
 use Rattle.batcher_core.specs.Cores.{job_in, state_in, due_in, is_over_in, IsTurnResult}
@@ -8,19 +8,21 @@ use Rattle.worker_loop.specs.declared.locked.turn.Look.{Look}
 use Rattle.worker_loop.specs.declared.locked.turn.Look.TheVariants.{Moved, Due, Idle, Ended}
 use Rattle.worker_loop.specs.Runs.{RunView}
 
--- the newest node of a list that has become longer, or none
+-- the newest node of a list that is longer than before, or `None` for one that is not
 abbrev pub IsMade : ℕ → List ℕ → Option ℕ → Type 0
 IsMade before list None = length list ≤ before
 IsMade before list (Some node) = (before < length list) × (node ≡ slice_index list (length list - 1))
 
--- the run was going on before the look, and memory did not run out in it
+-- the run was neither over nor failed before the look, and memory did not run out in the look
 pub record WentOn (old new : RunView) : Type 0 where
   pub going : old.failed ≡ false
   pub unfinished : is_over_in old.core ≡ false
   pub whole : new.failed ≡ false
 
--- One event of the worker has happened, the one of its turn. Or nothing: so many steps of work are due of
--- it, or it has no event. Or the run is over, or memory ran out, in this look or before.
+-- What each answer of a look by worker `w` says. `Moved`: the event of the worker's turn has happened, with what it
+-- left the worker doing and the newest node of its list, if the list grew. `Due`: this many steps of work are due of
+-- the worker, and the state is unchanged. `Idle`: the worker has no event, and the state is unchanged. `Ended`: after
+-- the look the run is over, or memory has run out.
 abbrev pub HasLooked : ℕ → RunView → RunView → Look → Type 0
 HasLooked w old new (Moved doing made) =
     WentOn old new × IsTurnResult turns.Moved (job_in old.core) (state_in old.core) w (state_in new.core)

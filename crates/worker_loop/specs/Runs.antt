@@ -1,4 +1,4 @@
--- What contracts see of the state behind the lock, and what its type keeps.
+-- The state behind the lock: its view in contracts, and what its type keeps.
 use Rattle.std.specs.Prelude.{ℕ, ◌≡◌, Bool, Some, false}
 use Rattle.sp_order.specs.Jobs.{JobValue, job_tree}
 use Rattle.core_model.specs.Runs.{IsReached}
@@ -10,14 +10,14 @@ pub record RunView : Type 0 where
   pub core : CoreView
   pub failed : Bool
 
--- the core is one of this job, which has leaves, and of so many workers
+-- the core is one of this job, which has leaves, and has `count` workers
 pub record IsCoreOf (job : JobValue) (count : ℕ) (core : CoreView) : Type 0 where
   pub job_is : core.job ≡ job
   pub workers : core.workers ≡ count
   pub shape : job.shape ≡ Some (job_tree job)
 
--- What the type of the state behind the lock keeps. The core is one of the given job and of this number of workers. Unless
--- memory ran out it is not spent, so it has the core's invariant, and events lead to its state from the opening state.
+-- The invariant of the type of the state behind the lock. The core is one of the given job, with `count` workers.
+-- Unless memory ran out, the core is not spent, and events lead from the opening state to its state.
 pub record IsRunOf (job : JobValue) (count : ℕ) (run : RunView) : Type 0 where
   pub of_job : IsCoreOf job count run.core
   pub whole : run.failed ≡ false → run.core.spent ≡ false

@@ -1,15 +1,15 @@
-//! The workers of a run, in threads.
+//! Runs of a job in threads.
 //!
-//! There are two runs, with one promise: the report is lawful, however the turns fall.
+//! There are two runs, and both promise a lawful report for every interleaving of the threads.
 //!
-//! - `table_run`: all threads share the running table, the deques and the board, and take no lock. Once the others are there
-//!   (`start_barrier`) each worker takes the turns of `worker_turns`.
-//! - `locked`: the reference implementation. All threads share the scheduler's core under one lock (`run`), and each worker
-//!   takes turns on it (`worker`): it holds the lock for one turn at a time (`turn`), and does outside it the work of its
-//!   leaves, its pushes and its pauses. Where it has no event it looks for a sign of work in the deques (`hints`).
+//! - `table_run`: all threads share the running table, the deques and the board, and take no lock. After a bounded wait
+//!   for the others (`start_barrier`) each worker takes the turns of `worker_turns`.
+//! - `locked`: the reference implementation. All threads share the scheduler's core under one lock (`run`). A worker
+//!   holds the lock for one turn at a time (`turn`), and does outside it the work of its leaves, its pushes and its
+//!   pauses (`worker`). A worker that has no event looks for a sign of work in the deques (`hints`).
 //!
-//! Each makes the workers of a job, runs them, and joins them all. A job without leaves is not run. That more
-//! than one thread worked, that none waits in vain, and how long a run takes, is not claimed. The crate stands on
+//! Each run makes the workers of a job, runs them, and joins them all. A job without leaves starts no threads. The
+//! crate does not claim that more than one thread works, that no worker starves, or how long a run takes. It stands on
 //! `batcher_core` and `two_deques`, and on `core_table` and `worker_turns`.
 #![tactic(auto)]
 
@@ -22,7 +22,7 @@ pub use locked::run_locked;
 pub use table_run::run_table;
 pub use worker_turns::{Called, Did, Stop, Trapped, call, free_turn, launch, trapped_turn};
 
-/// What all workers of a run over the running table share. `Crew::make` makes it, and the workers.
+/// What the workers of a run over the running table share. `Crew::make` makes it together with the workers.
 pub type Crew<'a, G> = worker_crew::Crew<'a, CoreTable, G>;
 
 /// One worker of a run over the running table.

@@ -1,4 +1,5 @@
-//! The reference implementation of a run in threads, with the same promise: they take turns on one core, under one lock.
+//! The reference implementation of a run in threads, with the same promise: the threads take turns on one core, under
+//! one lock.
 ghost use Rattle.std.specs.Prelude.{◌≡◌, ◌<◌, ◌≤◌, Some, IfOk, false};
 ghost use Rattle.batch_history.specs.Lawful.{Lawful};
 ghost use Rattle.core_model.specs.Reports.{IsRunReport};
@@ -27,8 +28,8 @@ use std::thread;
 use std::thread::Threads;
 use two_deques::{Decks, Hand};
 
-/// Lets so many workers run in threads, joins them, and gives the report. What they left is done on the
-/// caller's thread.
+/// Runs the workers in threads, joins them, and gives the report. What they left undone is finished on the caller's
+/// thread.
 fn run_in_threads<S: LockedRun + Send, R: Threads + Wait + Sync, G: Pause + Sync>(
     rt: &R,
     alloc: Global,
@@ -68,7 +69,7 @@ fn run_in_threads<S: LockedRun + Send, R: Threads + Wait + Sync, G: Pause + Sync
     run.into_inner().report(alloc)
 }
 
-/// Runs the core of the given job in as many threads as it has workers.
+/// Runs a core at its opening state in as many threads as it has workers. `J` names its job.
 fn run_core<J: JobBrand + Send + Sync, R: Threads + Wait + Sync, G: Pause + Sync>(
     rt: &R,
     alloc: Global,
@@ -90,13 +91,11 @@ fn run_core<J: JobBrand + Send + Sync, R: Threads + Wait + Sync, G: Pause + Sync
     run_in_threads::<Run<J>, R, G>(rt, alloc, run, workers, room, pause)
 }
 
-/// Runs a job in threads, one for each worker, that take turns on the scheduler's core under one lock.
-/// Where a thread cannot be made, the caller does its work. Each thread is joined before this returns,
-/// also where memory ran out. What the workers left of a run in which memory did not run out is done on
-/// the caller's thread.
+/// Runs a job in threads, one for each worker, that take turns on the scheduler's core under one lock. Where a thread
+/// cannot be spawned, the caller does its work. All threads are joined before this returns, also where memory ran out.
+/// Unless memory ran out, what the workers left undone is finished on the caller's thread.
 ///
-/// The gate is called outside the lock: where a worker has started a leaf, and where it has posted a
-/// call.
+/// The gate is called outside the lock: where a worker has started a leaf, and where it has posted a call.
 pub fn run_locked<R: Threads + Wait + Sync, G: Pause + Sync>(
     rt: &R,
     alloc: Global,

@@ -1,14 +1,13 @@
-//! The start of the workers.
+//! The start barrier of the workers.
 
 use crossbeam_utils::Backoff;
 use std::sync::atomic::{AtomicU64, Ordering};
 
-/// How often a worker looks whether the others have come.
+/// The most looks that a worker takes at the count of arrivals.
 const MOST_LOOKS: u32 = 1_000;
 
-/// Waits until all workers of a run have come, but not for long: a thread that cannot be made never
-/// comes while the others wait. Without it the first thread would do most short jobs before another one
-/// is there.
+/// A start barrier of at most 1,000 looks: a thread that could not be spawned never arrives. Without the barrier the
+/// first thread would do most short jobs before another one starts.
 pub(crate) fn wait_for_others(came: &AtomicU64, workers: u32) {
     came.fetch_add(1, Ordering::SeqCst);
     let backoff = Backoff::new();

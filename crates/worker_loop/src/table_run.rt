@@ -26,16 +26,16 @@ use std::thread::Threads;
 use worker_crew::sending::{crews_go_to_threads, workers_go_to_threads};
 use worker_turns::work;
 
-/// What threads share of a run over the running table. The threads are started over a type that is said to be shared,
-/// and that a crew can be shared is shown once.
+/// What the threads of a run over the running table share. The threads are started over any `Sync` team, so that `Sync`
+/// of a crew is shown only once.
 trait Team {
-    /// The worker can begin.
+    /// The worker is ready to start.
     ghost ready: { Self → MeOf PassOf → Type 0 };
 
-    /// The pass is one of the table.
+    /// The pass belongs to the team's table.
     ghost gave: { Self → PassOf → Type 0 };
 
-    /// Lets the worker work until the run has ended for it. It gives its pass back.
+    /// Runs the worker until the run has ended for it, and returns its pass.
     fn work<R: Wait>(&self, rt: &R, alloc: Global, me: Me) -> Pass
         requires { ready self.now me }
         ensures gave { gave self.now result }
@@ -53,8 +53,8 @@ impl<'a, G: Pause> Team for Crew<'a, G> {
     }
 }
 
-/// Lets so many workers work, each in a thread of its own where one can be made, once the others are there, and joins
-/// them. Each gives its pass back.
+/// Runs each worker after the start barrier, in a thread of its own where one can be spawned, and joins all threads.
+/// Each worker returns its pass.
 fn work_in_threads<C: Team + Sync, R: Threads + Wait + Sync>(
     rt: &R,
     alloc: Global,
@@ -84,7 +84,7 @@ fn work_in_threads<C: Team + Sync, R: Threads + Wait + Sync>(
     )
 }
 
-/// Lets the workers of a crew work, each until it has seen the root done, or knows the stop word set.
+/// Runs the workers of a crew, each until it has seen the root done, or knows that the stop word is set.
 fn work_as_crew<R: Threads + Wait + Sync, G: Pause + Sync>(
     rt: &R,
     alloc: Global,
@@ -102,7 +102,8 @@ fn work_as_crew<R: Threads + Wait + Sync, G: Pause + Sync>(
     work_in_threads(rt, alloc, crew, crew.workers, mes)
 }
 
-/// Whether the run came to its end: no worker has set the stop word, and the root is done.
+/// Whether the run came to its end: no worker has set the stop word, and the root is done. The looks are recorded in
+/// the pass.
 fn has_ended(table: &CoreTable, pass: &mut Pass) -> bool
     requires pass { IsPassOf table.now pass.old }
     ensures pass { IsPassOf table.now pass.new }
@@ -112,8 +113,8 @@ fn has_ended(table: &CoreTable, pass: &mut Pass) -> bool
     !table.stopped(pass) && table.root_done(pass)
 }
 
-/// The report of a run that has come to its end. Memory ran out where a worker has set the stop word, or the root is
-/// not done.
+/// The report of a run that came to its end. The answer is an error where a worker has set the stop word, because
+/// memory ran out there, or where the root is not done, or where memory runs out here.
 fn close(alloc: Global, table: CoreTable, pass: Pass) -> Result<Report, AllocError>
     requires pass { IsPassOf table pass }
     ensures lawful { IfOk result (λ report. Lawful (planned_in table)
@@ -127,10 +128,11 @@ fn close(alloc: Global, table: CoreTable, pass: Pass) -> Result<Report, AllocErr
     table.close(alloc, pass)
 }
 
-/// Runs a job in threads, one for each worker, over the running table: a worker takes nodes and pieces from its own deques and
-/// steals from those of the others, and calls become batches, whose pieces it helps with while it waits. No step takes a
-/// lock. Where a thread cannot be made, the caller does its work. Each thread is joined before this returns, also where
-/// memory ran out: a worker in which it does sets the stop word, and the run answers that.
+/// Runs a job in threads, one for each worker, over the running table. A worker takes nodes and pieces from its own
+/// deques and steals from those of the others. Calls become batches, and a worker that waits for its call helps with
+/// the pieces. No step takes a lock. Where a thread cannot be spawned, the caller does its work. All threads are joined
+/// before this returns, also where memory ran out: the worker that ran out sets the stop word, and the run then returns
+/// an error.
 ///
 /// The gate is called where a worker has started a leaf, where it has posted a call, where it has won the flag, and
 /// where it is about to run a piece.

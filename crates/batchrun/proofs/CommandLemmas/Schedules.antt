@@ -12,10 +12,10 @@ all_below workers (byte ∷ word) names =
     let both = and_parts (nat_lt (digit_value byte) workers) (list_all (λ byte. nat_lt (digit_value byte) workers) word) names in
     (ltb-true (digit_value byte) workers both.0, all_below workers word both.1)
 
--- each worker of a schedule is one of so many
+-- each worker of a schedule is below `workers`
 pub scheduled_below : (workers : ℕ) (word : List ℕ) → IsTrue (is_schedule workers word) → AllByRecursion (λ worker. worker < workers) (workers_named word)
 scheduled_below workers word is = all_below workers word (and_parts (nat_le (length word) 65536) (list_all (λ byte. nat_lt (digit_value byte) workers) word) is).1
 
--- where no digit is left, all workers are named
+-- after the last digit all workers are named
 pub all_named : (so_far word : List ℕ) (at : ℕ) → length word ≤ at → so_far ++ workers_named (drop at word) ≡ workers_named word → so_far ≡ workers_named word
 all_named so_far word at past named = sym (append-nil so_far) ∙ ap (λ rest. so_far ++ workers_named rest) (sym (drop_all at word past)) ∙ named

@@ -56,7 +56,7 @@ module _ (no_fault : NoFault) (one_fault : OneFault) (file : List ℕ) (workers 
     });
   }
 
--- a run of a job that was made
+-- a run of a generated job
 pub run_of_made : (size seed workers : ℕ) (held : List ℕ → Option (List ℕ)) (status : Status) (report : Option Report) (old new : Option (List ℕ)) (R W : Type 0) (never_fails : Bool) (room : ℕ)
     → Prints (Lawful (generated seed size) workers) (summary_of_report seed size) status report old new → PrintsSummary (Some (gen size seed workers)) status old new
     → MadeCause status W → FailsPast (summary_of_report seed size) status report room

@@ -1,4 +1,4 @@
--- What follows from the cause of a status and from its report.
+-- Consequences of the cause of a status and of its report.
 use Rattle.std.proofs.Common.{◌≡◌, ℕ, ◌<◌, ◌≤◌, List, length, Bool, Option, Some, None, IfSome, Result, Ok, Err, IfOk, inl, inr, refl, sym, ap, subst, ◌∙◌, arith}
 use Rattle.std.specs.Prelude.{IsTrue}
 use Rattle.std.proofs.lemmas.List.{length-map}
@@ -25,16 +25,16 @@ pub rows_count : (job : JobValue) (workers : ℕ) (report : Report) → HasRows 
 rows_count job workers report rows =
     sym (length-map report.rows (λ (row : Row). row.leaf)) ∙ ap length rows.leaves ∙ length-range_with_len 0 (leaf_count job.shape)
 
--- so has that of a run which gives one
+-- so does the report of a run, where the run gives one
 pub rows_counted : {E : Type 0} (job : JobValue) (workers : ℕ) (run : Result Report E) → IfOk run (λ report. Lawful job workers report) → IfOk run (λ report. length report.rows ≡ leaf_count job.shape)
 rows_counted job workers (Ok report) lawful = rows_count job workers report lawful.rows
 rows_counted job workers (Err e) lawful = tt
 
--- what a run does with the job that it read
+-- a lawful report of the job that was read satisfies `HasRun`
 has_run : (held : Option (List ℕ)) (workers : ℕ) (job : JobValue) (report : Report) → HasJob held job → Lawful job workers report → HasRun held workers report
 has_run held workers job report has lawful = record { bytes = has.bytes; read = has.read; job = job; accepted = has.accepted; lawful = lawful }
 
--- the report of a run that is written is what the run did with the job that it read
+-- the report of an outcome satisfies `HasRun`, for the job that was read
 pub ran : {E : Type 0} (held : Option (List ℕ)) (workers : ℕ) (job : JobValue) (run : Result Report E) (status : Status) (report : Option Report) (old new : Option (List ℕ))
     → HasJob held job → IfOk run (λ report. Lawful job workers report)
     → Prints (λ report. run ≡ Ok report) report_text status report old new → Prints (HasRun held workers) report_text status report old new
@@ -42,7 +42,7 @@ ran held workers job run status report old new has lawful line =
     prints_with (λ report. run ≡ Ok report) (HasRun held workers) report_text
     (λ report is. has_run held workers job report has (rw is at lawful)) status report old new line
 
--- so it is where turns made it
+-- and `HasDriven`, where turns made it
 pub drove : {E : Type 0} (held : Option (List ℕ)) (workers : ℕ) (job : JobValue) (turns : List ℕ) (run : Result Report E) (status : Status) (report : Option Report) (old new : Option (List ℕ))
     → HasJob held job → IfOk run (λ report. Lawful job workers report) → IfOk run (λ report. IsDrivenReport job workers turns report)
     → Prints (λ report. run ≡ Ok report) report_text status report old new → Prints (HasDriven held workers turns) report_text status report old new
@@ -57,33 +57,33 @@ unfolding has_run
 model_of held workers job (Ok report) has lawful model = record { run = has_run held workers job report has lawful; model = model }
 model_of held workers job (Err e) has lawful model = tt
 
--- and so it is where the run is one of the model
+-- and `IsModelRun`, where the run is one of the model
 pub models : {E : Type 0} (held : Option (List ℕ)) (workers : ℕ) (job : JobValue) (run : Result Report E) (status : Status) (report : Option Report) (old new : Option (List ℕ))
     → HasJob held job → IfOk run (λ report. Lawful job workers report) → IfOk run (IsRunReport job workers)
     → Prints (λ report. run ≡ Ok report) report_text status report old new → IfSome report (IsModelRun held workers)
 models held workers job run status report old new has lawful model line =
     report_owes (IsModelRun held workers) run report_text status report old new (model_of held workers job run has lawful model) line
 
--- the bytes that were read are those that are held
+-- where the bytes held are known, they are the bytes that were read
 same_bytes : (held : Option (List ℕ)) (told bytes : List ℕ) → WasRead 1048576 held bytes → held ≡ Some told → bytes ≡ told
 same_bytes None told bytes read is = cc
 same_bytes (Some xs) told bytes read is = let same : xs ≡ told = cc in read.whole ∙ same
 
--- a text has one fault at most, and is no job then
+-- a text that is a job has no fault
 abbrev pub NoFault : Type 0
 NoFault = (text : List ℕ) (job : JobValue) (fault : JobFault) → IsJobOf text job → IsFaultOf text fault → ⊥
 
 abbrev pub OneFault : Type 0
 OneFault = (text : List ℕ) (fault fault' : JobFault) → IsFaultOf text fault → IsFaultOf text fault' → fault ≡ fault'
 
--- the job of the bytes that are held is that of the bytes that were read
+-- a job of the bytes held is a job of the bytes that were read
 job_read : (held : Option (List ℕ)) (told bytes : List ℕ) (job : JobValue) → WasRead 1048576 held bytes → held ≡ Some told → IsJobOf told job → IsJobOf bytes job
 job_read held told bytes job read is accepted = subst (λ text. IsJobOf text job) (sym (same_bytes held told bytes read is)) accepted
 
 told_short : (told xs : List ℕ) → Some told ≡ Some xs → 1048576 < length told → length xs ≤ 1048576 → ⊥
 told_short told xs is long short = let same : told ≡ xs = cc in omega (arith, ap length same)
 
--- the run is assured where no reading fails and the report's text is within the room
+-- the run is assured where no read fails and the report's text fits the room
 pub is_assured : NoFault → (status : Status) (report : Option Report) (held : Option (List ℕ)) (workers : ℕ) (R W : Type 0) (old new : Option (List ℕ)) (never_fails : Bool) (room : ℕ)
     → FileCause status held R W → Prints (HasRun held workers) report_text status report old new → (IsTrue never_fails → (told : List ℕ) → held ≡ Some told → status ≡ ReadFault → ⊥) → FailsPast report_text status report room
     → IsFileAssured status report held never_fails room
@@ -99,11 +99,11 @@ is_assured no_fault (Refused TooLong) report (Some xs) workers R W old new never
 is_assured no_fault (Refused (Job fault)) report held workers R W old new never_fails room why line reads past told job is short accepted never fits =
     absurd (no_fault why.bytes job fault (job_read held told why.bytes job why.read is accepted) why.why)
 
--- the fault of the bytes that are held is that of the bytes that were read
+-- a fault of the bytes held is a fault of the bytes that were read
 fault_read : (held : Option (List ℕ)) (told bytes : List ℕ) (fault : JobFault) → WasRead 1048576 held bytes → held ≡ Some told → IsFaultOf told fault → IsFaultOf bytes fault
 fault_read held told bytes fault read is has = subst (λ text. IsFaultOf text fault) (sym (same_bytes held told bytes read is)) has
 
--- a file whose bytes are held is too long where the status says so
+-- known bytes within the limit are not refused as too long
 too_long_held : (held : Option (List ℕ)) (told : List ℕ) → held ≡ Some told → IfSome held (λ bytes. 1048576 < length bytes) → length told ≤ 1048576 → ⊥
 too_long_held None told is long short = cc
 too_long_held (Some xs) told is long short = let same : xs ≡ told = cc in omega (arith, ap length same, long, short)
@@ -112,7 +112,7 @@ too_long_held (Some xs) told is long short = let same : xs ≡ told = cc in omeg
 read_short : (held : Option (List ℕ)) (told bytes : List ℕ) → WasRead 1048576 held bytes → held ≡ Some told → 1048576 < length told → ⊥
 read_short held told bytes read is long = omega (arith, read.short, long, ap length (same_bytes held told bytes read is))
 
--- a file that is too long is refused as such
+-- a file that is too long is refused as such, unless memory runs out
 too_long_ends : (status : Status) (report : Option Report) (held : Option (List ℕ)) (workers : ℕ) (R W : Type 0) (old new : Option (List ℕ)) (told : List ℕ)
     → FileCause status held R W → Prints (HasRun held workers) report_text status report old new → held ≡ Some told → ¬ R → 1048576 < length told → IsUnlessMemory status (Refused TooLong)
 too_long_ends Done None held workers R W old new told why line is calm long = absurd line
@@ -126,7 +126,7 @@ too_long_ends WriteFault (Some report) held workers R W old new told why line is
 too_long_ends (Refused TooLong) report held workers R W old new told why line is calm long = inl refl
 too_long_ends (Refused (Job fault)) report held workers R W old new told why line is calm long = absurd (read_short held told why.bytes why.read is long)
 
--- a file with a fault is refused for it
+-- a file with a fault is refused for it, unless memory runs out
 fault_ends : NoFault → OneFault → (status : Status) (report : Option Report) (held : Option (List ℕ)) (workers : ℕ) (R W : Type 0) (old new : Option (List ℕ)) (told : List ℕ) (fault : JobFault)
     → FileCause status held R W → Prints (HasRun held workers) report_text status report old new → held ≡ Some told → ¬ R → length told ≤ 1048576 → IsFaultOf told fault → IsUnlessMemory status (Refused (Job fault))
 fault_ends no_fault one_fault Done None held workers R W old new told fault why line is calm short has = absurd line
@@ -145,7 +145,7 @@ fault_ends no_fault one_fault (Refused TooLong) report held workers R W old new 
 fault_ends no_fault one_fault (Refused (Job found)) report held workers R W old new told fault why line is calm short has =
     inl (ap (λ (f : JobFault). Refused (Job f)) (one_fault why.bytes found fault why.why (fault_read held told why.bytes fault why.read is has)))
 
--- an accepted job is done, where out doesn't fail
+-- an accepted job is done where no write fails, unless memory runs out
 job_ends : NoFault → (status : Status) (held : Option (List ℕ)) (R W : Type 0) (told : List ℕ) (job : JobValue)
     → FileCause status held R W → held ≡ Some told → ¬ R → ¬ W → length told ≤ 1048576 → IsJobOf told job → IsUnlessMemory status Done
 job_ends no_fault Done held R W told job why is calm calm' short accepted = inl refl
@@ -158,7 +158,7 @@ job_ends no_fault (Refused TooLong) held R W told job why is calm calm' short ac
 job_ends no_fault (Refused (Job fault)) held R W told job why is calm calm' short accepted =
     absurd (no_fault why.bytes job fault (job_read held told why.bytes job why.read is accepted) why.why)
 
--- each file ends a run as its bytes call for
+-- each file ends a run as its bytes call for, unless memory runs out
 pub completes : OneFault → NoFault → (status : Status) (report : Option Report) (held : Option (List ℕ)) (workers : ℕ) (R W : Type 0) (old new : Option (List ℕ))
     → FileCause status held R W → Prints (HasRun held workers) report_text status report old new → FileCompletes status held R W
 completes one_fault no_fault status report held workers R W old new why line = record {

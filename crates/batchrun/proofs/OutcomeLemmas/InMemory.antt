@@ -1,4 +1,4 @@
--- Over memory in which no call is told to fail, a run is done.
+-- Over memory in which no call is told to fail, a run is done, unless memory runs out.
 use Rattle.std.proofs.Common.{◌≡◌, ℕ, ◌-◌, List, [], length, Option, Some, None, IfSome, refl}
 use Rattle.std.specs.Prelude.{◌==◌}
 use Rattle.std.specs.Option.{ForSome, option_and_then}
@@ -11,7 +11,7 @@ use Rattle.batchrun.specs.Commands.{Driven, RunsModel, IsAssured, lines_of}
 use Rattle.batchrun.specs.declared.status.Status.{Status}
 use Rattle.batchrun.specs.declared.status.Status.TheVariants.{Done}
 
--- a sink of which no write is told to fail has all the room left that it has not used
+-- a sink in memory that no write is told to fail in has the room that it has not used
 pub all_room : (out : MemorySink) → out.fails ≡ [] → room_left_of out ≡ out.room - length out.taken
 all_room out none = rw none refl
 
@@ -32,7 +32,7 @@ step_lines (Some (step file workers schedule)) asks = refl
 step_lines (Some (run file workers)) asks = absurd asks
 step_lines (Some (gen size seed workers)) asks = absurd asks
 
--- a run by turns owes what its command does
+-- a run by turns fails to write only past the room
 pub step_writes : (words : Option Command) (status : Status) (report : Option Report) (room : ℕ) → IsStep words
     → ForSome words (λ command. FailsPast (lines_of (Some command)) status report room) → FailsPast report_text status report room
 step_writes None status report room asks past = absurd asks

@@ -1,4 +1,4 @@
--- What follows for a run of a job that was made.
+-- Consequences for a run of a generated job.
 use Rattle.std.proofs.Common.{◌≡◌, ℕ, ◌<◌, ◌≤◌, List, length, Option, Some, None, Result, Ok, Err, IfOk, inl, inr, refl, ap, subst, arith}
 use Rattle.std.specs.Io.KnownBytes.{Appends}
 use Rattle.sp_order.specs.Jobs.{JobValue}
@@ -11,7 +11,7 @@ use Rattle.batchrun.specs.Commands.{PrintsSummary}
 use Rattle.batchrun.specs.declared.status.Status.{Status}
 use Rattle.batchrun.specs.declared.status.Status.TheVariants.{Done, Made, Usage, ReadFault, Refused, WriteFault, Memory}
 
--- what holds of each report of a kind holds of that of a run which gives one
+-- what follows for each report with a property follows for the report of a run
 pub if_run : {E : Type 0} (Told Owed : Report → Type 0) (run : Result Report E) → ((report : Report) → Told report → Owed report) → IfOk run Told → IfOk run Owed
 if_run Told Owed (Ok report) owed told = owed report told
 if_run Told Owed (Err e) owed told = tt
@@ -30,7 +30,7 @@ module _ (size seed workers : ℕ) (Runs : Report → Type 0)
   prints_summary WriteFault report old new line = tt
   prints_summary Memory report old new line = tt
 
-  -- where it is within the room, the job is made, unless memory runs out
+  -- where the summary fits the room, the status is `Made`, unless memory runs out
   pub made_assured : (status : Status) (report : Option Report) (W : Type 0) (old new : Option (List ℕ)) (room : ℕ)
       → MadeCause status W → Prints Runs (summary_of_report seed size) status report old new → FailsPast (summary_of_report seed size) status report room
       → length (summary_of_job seed size workers (generated seed size)) ≤ room → IsUnlessMemory status Made
@@ -43,7 +43,7 @@ module _ (size seed workers : ℕ) (Runs : Report → Type 0)
   made_assured ReadFault report W old new room why line past fits = absurd why
   made_assured (Refused refusal) report W old new room why line past fits = absurd why
 
--- where no write fails, the job is made, unless memory runs out
+-- where no write fails, the status is `Made`, unless memory runs out
 pub made_completes : (status : Status) (W : Type 0) → MadeCause status W → ¬ W → IsUnlessMemory status Made
 made_completes Made W why calm = inl refl
 made_completes Memory W why calm = inr refl

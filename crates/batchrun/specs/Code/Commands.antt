@@ -1,4 +1,4 @@
--- The command that was read of the words.
+-- The commands of the code, as those of the specification.
 use Rattle.batchrun.specs.Words.{Command, step, run, gen, workers_named}
 use Rattle.batchrun.specs.declared.command.Command.{Command as ReadCommand}
 use Rattle.batchrun.specs.declared.command.Command.TheVariants.{Step, Run, Gen}

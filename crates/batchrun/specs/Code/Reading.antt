@@ -1,4 +1,4 @@
--- What the reading of a file gives: its job, or why it ended before there was one.
+-- The result of reading a file: its job, or the status that ended the run.
 use Rattle.std.specs.Prelude.{ℕ, ◌<◌, List, length, Option, IfSome}
 use Rattle.sp_order.specs.Jobs.{JobValue}
 use Rattle.job_lang.specs.Language.{IsJobOf}
@@ -8,13 +8,13 @@ use Rattle.batchrun.specs.declared.status.Refusal.TheVariants.{TooLong, Job}
 use Rattle.batchrun.specs.declared.status.Status.{Status}
 use Rattle.batchrun.specs.declared.status.Status.TheVariants.{ReadFault, Refused, Memory}
 
--- the bytes that were read are this job's
+-- the bytes that were read are a text of this job
 pub record HasJob (held : Option (List ℕ)) (job : JobValue) : Type 0 where
   pub bytes : List ℕ
   pub read : WasRead 1048576 held bytes
   pub accepted : IsJobOf bytes job
 
--- the reading ended with this status, before there was a job
+-- the reading ended the run with this status, before there was a job
 abbrev pub EndsReading : Status → Option (List ℕ) → Type 0 → Type 0
 EndsReading ReadFault held ReadsFailed = ReadsFailed
 EndsReading (Refused TooLong) held ReadsFailed = IfSome held (λ bytes. 1048576 < length bytes)

@@ -1,4 +1,4 @@
--- All that a run of words owes, but its line on err.
+-- Everything that a run of the program's words owes, except its line on err.
 use Rattle.std.specs.Prelude.{◌≡◌, ◌↔◌, ℕ, List, Bool, Option, IsNone}
 use Rattle.std.specs.Option.{ForSome}
 use Rattle.batch_history.specs.declared.report.Report.{Report}

@@ -5,13 +5,13 @@ use Rattle.bt_io.specs.Bytes.{AppendsFront}
 use Rattle.batchrun.specs.declared.status.Status.{Status}
 use Rattle.batchrun.specs.declared.status.Status.TheVariants.{Done, WriteFault, Memory}
 
--- out took the lines whole, and the status is `done`; or it took a front of them, since a write failed, and that comes only
--- where the lines are longer than the room
+-- Out took all of the lines, and the status is `done`. Or out took only a front of them because a write failed, which
+-- happens only where the lines are longer than the room.
 abbrev pub WritesLines : Status → List ℕ → Status → Option (List ℕ) → Option (List ℕ) → Type 0 → ℕ → Type 0
 WritesLines done lines status old new WritesFailed room =
     ((status ≡ done) × Appends old new lines) ⊎ ((status ≡ WriteFault) × AppendsFront old new lines × WritesFailed × (room < length lines))
 
--- the writing of a text ended with this status
+-- the writing of a text may end with this status
 abbrev pub EndsWriting : Status → Type 0 → Type 0
 EndsWriting Done WritesFailed = Unit {0}
 EndsWriting WriteFault WritesFailed = WritesFailed

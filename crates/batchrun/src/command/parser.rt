@@ -8,14 +8,14 @@ use crate::command::schedule::is_schedule;
 use crate::command::{Command, GenCommand, RunCommand, StepCommand};
 use decimals::number_between;
 
-/// The count of workers that a word asks for, if it is a number from 1 to 32.
+/// The number of workers that a word gives, from 1 to 32.
 fn workers_asked(word: &str) -> Option<u32>
     ensures { result ≡ workers_in word.now }
 {
     number_between(word.as_bytes(), 1, 32).map(|workers| workers as u32)
 }
 
-/// The size of a generated job that a word asks for, if it is a number from 1 to 5,000.
+/// The size of a generated job that a word gives, from 1 to 5,000.
 fn size_asked(word: &str) -> Option<u32>
     ensures { result ≡ size_in word.now }
 {
@@ -90,7 +90,7 @@ fn parse_long<'a>(name: &str, first: &'a str, second: &str, third: &'a str) -> O
     }
 }
 
-/// The command that the words are, if they are one. Memory: none.
+/// The command that the words are, if they are one. It takes no memory.
 pub(crate) fn parse(words: &[String]) -> Option<Command<'_>>
     ensures { option_map command_in result ≡ command_of (spelled words.now) }
 {

@@ -1,4 +1,4 @@
-//! The word of a schedule: a digit of base 32 for each turn.
+//! The schedule word: one digit of base 32 for each turn.
 ghost use Rattle.std.specs.Prelude.{◌≡◌, ◌<◌, ◌++◌, IfOk, IsTrue, nat_lt, map, drop};
 ghost use Rattle.std.specs.List.{AllByRecursion, list_all};
 ghost use Rattle.batchrun.specs.Words.{digit_value, is_schedule, workers_named};
@@ -6,10 +6,10 @@ ghost use Rattle.batchrun.specs.Words.{digit_value, is_schedule, workers_named};
 use crate::command::StepCommand;
 use std::alloc::{AllocError, Global};
 
-/// The most turns that a schedule may list, a byte each.
+/// The most turns that a schedule may list, one byte each.
 const MOST_TURNS: usize = 65_536;
 
-/// The number that a digit of base 32 stands for; 32 for a byte that is no digit.
+/// The value of a digit of base 32; 32 for a byte that is not a digit.
 fn digit_value(byte: u8) -> u32
     ensures { result ≡ digit_value byte }
 {

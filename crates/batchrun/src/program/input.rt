@@ -1,4 +1,4 @@
-//! What a command's file holds: its bytes, read to their end, and the job that they are.
+//! The job of a command's file: its bytes, read to their end, and the job that they are.
 ghost use Rattle.std.specs.Prelude.{◌≡◌, Err, IsSome, IfOk, IfErr, IsTrue};
 ghost use Rattle.bt_io.specs.Causes.{Rose};
 ghost use Rattle.batchrun.specs.Code.Reading.{HasJob, EndsReading};
@@ -13,7 +13,7 @@ use std::alloc::Global;
 /// The most bytes that a job's file may have.
 const MOST_BYTES: usize = 1_048_576;
 
-/// The job that a file's bytes are.
+/// Reads the job of a file. The error is the status with which the run then ends.
 pub(crate) fn read_job_of<I: Shelf>(alloc: Global, shelf: &mut I, file: &str) -> Result<Job, Status>
     requires { IsTrue (I.may shelf.old file.now) }
     ensures ok { IfOk result (HasJob (I.held shelf.old file.now)) }

@@ -1,4 +1,4 @@
-//! What is written of a run's report: its text, or its summary.
+//! What a run prints of its report: its text, or its summary.
 ghost use Rattle.std.specs.Prelude.{◌≡◌, Ok, length, IfOk};
 ghost use Rattle.bt_io.specs.Causes.{Rose};
 ghost use Rattle.sp_order.specs.Precedence.{leaf_count};
@@ -15,7 +15,7 @@ use bt_io::{Failed, Sink, write_all};
 use sp_order::Job;
 use std::alloc::{AllocError, Global};
 
-/// Writes the lines of a report. Where out takes them whole, the run ends as `done`.
+/// Writes the lines of a report. The status is `done` where out takes them whole, else `WriteFault`.
 fn write_lines<O: Sink>(out: &mut O, lines: &[u8], done: Status) -> Status
     ensures { WritesLines done lines.now result (O.taken out.old) (O.taken out.new)
         (Rose (O.faults out.old) (O.faults out.new)) (O.room_left out.old) }
@@ -26,7 +26,7 @@ fn write_lines<O: Sink>(out: &mut O, lines: &[u8], done: Status) -> Status
     }
 }
 
-/// Ends a run of the job: writes the text of its report, unless memory ran out before.
+/// Ends a run of a file's job: writes the text of its report, unless memory ran out before.
 pub(crate) fn write_report<O: Sink>(
     alloc: Global,
     job: &Job,
@@ -52,7 +52,7 @@ pub(crate) fn write_report<O: Sink>(
     }
 }
 
-/// Ends a run of a job that was made: writes the summary of its report, unless memory ran out before.
+/// Ends a run of a generated job: writes the summary of its report, unless memory ran out before.
 pub(crate) fn write_summary<O: Sink>(
     alloc: Global,
     command: &GenCommand,

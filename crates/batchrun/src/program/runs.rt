@@ -1,4 +1,4 @@
-//! The run of each command: its job is read or made, is run, and what is to be told of it is written.
+//! The run of each command: it reads or generates the job, runs it, and writes the report or its summary.
 ghost use Rattle.std.specs.Prelude.{◌≡◌, ◌≤◌, ℕ, Some, Err, length, IsSome, IfOk, IfSome, IsTrue};
 ghost use Rattle.bt_io.specs.Causes.{Rose};
 ghost use Rattle.batch_history.specs.Lawful.{Lawful};
@@ -31,7 +31,7 @@ use std::sync::Wait;
 use std::thread::Threads;
 use worker_loop::run_table;
 
-/// Runs a job by the turns of a command.
+/// Runs a job by turns, first those that the command's schedule names.
 fn run_by_schedule(
     alloc: Global,
     command: &StepCommand<'_>,
@@ -107,7 +107,7 @@ pub(crate) fn run_file<R: Threads + Wait + Sync, I: Shelf, O: Sink, G: Pause + S
     }
 }
 
-/// Each lawful report of a generated job has the summary of the job, which can be made. It is for proofs, and does
+/// Every lawful report of a generated job has the summary of that job, which can be made. For proofs only; it does
 /// nothing.
 fn generated_jobs_have_one_summary()
     ensures sums { (seed size workers : ℕ) (report : Report) → 1 ≤ size → size ≤ 5000
@@ -122,7 +122,7 @@ fn generated_jobs_have_one_summary()
     summary_is_the_jobs();
 }
 
-/// Makes the job of a command's numbers, runs it in threads, and writes its summary.
+/// Generates the job of the command, runs it in threads, and writes its summary.
 pub(crate) fn run_made<R: Threads + Wait + Sync, O: Sink, G: Pause + Sync>(
     rt: &R,
     alloc: Global,

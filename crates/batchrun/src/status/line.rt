@@ -5,7 +5,7 @@ ghost use Rattle.program_io.specs.Lines.{said, told_text};
 use crate::status::{Refusal, Status};
 use program_io::Line;
 
-/// The program's line that says this of no line of its input.
+/// The program's line with these words, which names no line of its input.
 fn says(words: &'static [u8]) -> Option<Line<'static>>
     ensures { told_text result ≡ said (codes "batchrun") None words.now }
 {
@@ -19,7 +19,7 @@ fn says(words: &'static [u8]) -> Option<Line<'static>>
 impl Status {
     ghost use Rattle.batchrun.specs.Lines.{fault_line};
 
-    /// The line on err, if the status has one.
+    /// The line on err, or `None` for a run that wrote its lines.
     #[tactic(auto, using(crate::proofs::RefusalLines::refusal_said))]
     pub fn line(self) -> Option<Line<'static>>
         ensures { told_text result ≡ fault_line self }

@@ -1,4 +1,4 @@
--- What items stand for, one after another and copy by copy.
+-- The meaning of items, one after another and copy by copy.
 use Rattle.std.proofs.Common.{◌≡◌, ℕ, zero, suc, ◌+◌, ◌<◌, List, [], ◌∷◌, ◌++◌, length, take, get_or, Vec, Global, refl, sym, ap, ◌∙◌, arith, append_assoc, subst}
 use Rattle.seq_objects.specs.declared.act.Act.{Act}
 use Rattle.sp_order.specs.Precedence.{Tree}
@@ -42,7 +42,7 @@ fits_at c (x ∷ xs) (suc i) d h k = fits_at c xs i d (fits_then c (item_of x) (
 pub fits_item : (c : ℕ) (x : Item) (xs : List Item) (i : ℕ) → Fits c (items_of xs) → i < length xs → x ≡ get_or xs i x → Fits c (item_of x)
 fits_item c x xs i h k e = subst (λ x. Fits c (item_of x)) (sym e) (fits_at c xs i x h k)
 
--- one more item
+-- the meaning of the first items and one more
 shapes_more : (c : ℕ) (xs : List Item) (i : ℕ) (x : Item) → i < length xs → x ≡ get_or xs i x → shapes_in c (items_of (take (i + 1) xs)) ≡ shapes_in c (items_of (take i xs)) ++ shapes_in c (item_of x)
 shapes_more c xs i x h e = ap (shapes_in c) (items_of_more xs i x h e) ∙ shapes_then c (items_of (take i xs)) (item_of x)
 
@@ -57,7 +57,7 @@ acts_step c xs i x old now new e f h n =
     n ∙ ap (λ y. y ++ acts_in c (item_of x)) e ∙ append_assoc old (acts_in c (items_of (take i xs))) (acts_in c (item_of x))
     ∙ ap (λ y. old ++ y) (sym (acts_more c xs i x h f))
 
--- one level
+-- the meaning of an item, by its inner items
 pub block_shapes : (c : ℕ) (kind : CodeBlockKind) (inside : Vec Item Global) → shapes_in c (item_of (Block kind inside)) ≡ shapes_in c (block_then (block_kind_of kind) (items_of inside.items) nothing)
 block_shapes c kind inside = ap (shapes_in c) (item_of_block kind inside)
 

@@ -1,4 +1,4 @@
--- A list of shapes that is joined in halves.
+-- Lists of shapes that are joined in halves.
 use Rattle.std.proofs.Common.{◌≡◌, ℕ, zero, suc, ◌+◌, ◌-◌, ◌/◌, ◌≤◌, List, [], ◌∷◌, length, map, take, drop, Option, Some, refl, sym, ap, ◌∙◌, arith, length-take, length-drop}
 use Rattle.std.specs.Option.{option_map}
 use Rattle.std.proofs.lemmas.List.{take-map, drop-map, length-map, drop-take, drop-drop}
@@ -6,7 +6,7 @@ use Rattle.sp_order.specs.declared.shape.Shape.{Shape}
 use Rattle.sp_order.specs.Precedence.{Tree, tree_of}
 use Rattle.job_lang.specs.Joins.{join_within, join_of, both, half}
 
--- any bound that suffices
+-- all sufficient bounds give the same join
 enough : (kind : Tree → Tree → Tree) (n m : ℕ) (xs : List Tree) → length xs ≤ n → length xs ≤ m → join_within kind n xs ≡ join_within kind m xs
 enough kind zero zero xs h k = refl
 enough kind zero (suc m) [] h k = refl
@@ -31,7 +31,7 @@ join_of_halves kind (x ∷ y ∷ zs) h =
     ap (λ a. both kind a (join_within kind n (drop at xs))) (enough kind n (length (take at xs)) (take at xs) (simp length-take (omega arith)) (omega arith))
     ∙ ap (λ b. both kind (join_of kind (take at xs)) b) (enough kind n (length (drop at xs)) (drop at xs) (simp length-drop (omega arith)) (omega arith))
 
--- the joined halves of a list are the joined list
+-- joining the joined halves of a list joins the list
 join_halves : (kind : Tree → Tree → Tree) (xs front back : List Shape) (left right : Option Shape) → 2 ≤ length xs → front ≡ take (half (length xs)) xs → back ≡ drop (half (length xs)) xs
     → option_map tree_of left ≡ join_of kind (map tree_of front) → option_map tree_of right ≡ join_of kind (map tree_of back)
     → both kind (option_map tree_of left) (option_map tree_of right) ≡ join_of kind (map tree_of xs)
@@ -42,7 +42,7 @@ join_halves kind xs front back left right many is is' l r =
     let q : option_map tree_of right ≡ join_of kind (drop (half (length ts)) ts) = r ∙ ap (λ f. join_of kind (map tree_of f)) is' ∙ ap (join_of kind) (sym (drop-map tree_of (half (length xs)) xs)) ∙ ap (λ m. join_of kind (drop (half m) ts)) (sym same) in
     ap (λ a. both kind a (option_map tree_of right)) p ∙ ap (both kind (join_of kind (take (half (length ts)) ts))) q ∙ sym (join_of_halves kind ts (omega (arith, same, many)))
 
--- the last shapes of a list, joined from the last ones of it and from the last ones of what is then left
+-- joining the last shapes of a list, by the last half of them and then by the last ones of what is left
 pub join_last_halves : (kind : Tree → Tree → Tree) (old mid : List Shape) (count : ℕ) (left right : Shape) → 2 ≤ count → count ≤ length old
     → mid ≡ take (length old - count / 2) old
     → Some (tree_of right) ≡ join_of kind (map tree_of (drop (length old - count / 2) old))

@@ -1,4 +1,4 @@
--- A job has an act for each leaf of its shape, and as many as its items count.
+-- A job has an act for each leaf of its shape, and as many as `count` gives for its items.
 use Rattle.std.proofs.Common.{◌≡◌, ℕ, zero, suc, ◌+◌, ◌*◌, ◌<◌, ◌≤◌, List, [], ◌∷◌, length, take, drop, Option, Some, None, IsSome, refl, ap, ◌∙◌, arith, length-take, length-drop, length-append}
 use Rattle.std.specs.Prelude.{sum_by, option_to_list}
 use Rattle.std.proofs.lemmas.List.Sums.{sum_by-take-drop, sum_by-append, sum_by-cons}
@@ -76,7 +76,7 @@ each_length : (n m : ℕ) (g : ℕ → List Act) → ((k : ℕ) → length (g k)
 each_length zero m g h = omega arith
 each_length (suc n) m g h = simp length-append (omega (arith, each_length n m g h, h n))
 
--- the acts are as many as the items count
+-- there are as many acts as `count` gives
 pub acts_count : (items : Items) (c : ℕ) → length (acts_in c items) ≡ count items
 acts_count nothing c = refl
 acts_count (leaf_then _ more) c = omega (arith, acts_count more c)

@@ -41,7 +41,7 @@ only_full_then (block_then kind body a) b =
     ap (full_block_then kind body) (only_full_then a b)
     ∙ sym (block_then_by (is_nothing body || copies_of kind == 0) kind body (only_full a) (only_full b))
 
--- whether an item stays
+-- whether pruning keeps an item
 abbrev pub is_full : Item → Bool
 is_full x = not (is_nothing (only_full (item_of x)))
 
@@ -91,7 +91,7 @@ full_items (x ∷ xs) =
     first_stays (is_full x) x (filter is_full xs) ∙ ap (λ first. first then items_of (filter is_full xs)) (sym (item_stays x))
     ∙ ap (λ more. only_full (item_of x) then more) (full_items xs) ∙ sym (only_full_then (item_of x) (items_of xs))
 
--- the first `i` items are as the old ones without what makes no leaf inside them, the others as before
+-- the first `i` items are pruned inside, and the others are unchanged
 abbrev pub ArePrunedInside : ℕ → List Item → List Item → Type 0
 ArePrunedInside zero now old = now ≡ old
 ArePrunedInside (suc i) [] old = ⊥

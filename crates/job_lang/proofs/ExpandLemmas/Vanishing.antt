@@ -1,4 +1,4 @@
--- Items that make no leaf stand for nothing: without them the others stand for the same.
+-- Items that make no leaf have no meaning: pruning them keeps the meaning of the rest.
 use Rattle.std.proofs.Common.{◌≡◌, ℕ, zero, suc, List, [], ◌∷◌, ◌++◌, Bool, true, false, refl, sym, ap, ◌∙◌, eqb-true}
 use Rattle.std.specs.Prelude.{◌||◌, ◌==◌, if◌then◌else◌}
 use Rattle.seq_objects.specs.declared.act.Act.{Act}
@@ -27,7 +27,7 @@ loop_gone n nothing f none e = each_nothing n (f nothing) none
 loop_gone n (leaf_then leaf more) f none e = ap (λ m. each_copy m (f (leaf_then leaf more))) (eqb-true n 0 e)
 loop_gone n (block_then kind inside more) f none e = ap (λ m. each_copy m (f (block_then kind inside more))) (eqb-true n 0 e)
 
--- what a block stands for, before what more items stand for, where the block is taken out if it stands for nothing
+-- the meaning of a block and more items is kept where the block is removed, if it contributes nothing
 block_kept : {X : Type 0} (empty : Bool) (front : List X) (meaning : Items → List X) (kind : BlockKind) (body more : Items) → (empty ≡ true → front ≡ []) → meaning (block_then kind body more) ≡ front ++ meaning more
     → meaning (if empty then more else block_then kind body more) ≡ front ++ meaning more
 block_kept true front meaning kind body more gone is = ap (λ x. x ++ meaning more) (sym (gone refl))

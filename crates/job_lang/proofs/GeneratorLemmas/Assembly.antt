@@ -1,4 +1,4 @@
--- Four lists that are put behind a list, one after another.
+-- Appending four lists, one after another.
 use Rattle.std.proofs.Common.{◌≡◌, List, ◌++◌, map, ap, ◌∙◌, append_assoc}
 use Rattle.std.proofs.lemmas.List.{map-append}
 

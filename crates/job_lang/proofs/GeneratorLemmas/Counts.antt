@@ -1,4 +1,4 @@
--- How many leaves the generated job has, and what its acts come to.
+-- The number of leaves of the generated job, and the totals of its acts.
 use Rattle.std.proofs.Common.{◌≡◌, ◌+◌, ◌*◌, ◌≤◌, List, [], ◌∷◌, ◌++◌, length, map, refl, ap, ◌∙◌, arith, length-append}
 use Rattle.std.specs.Prelude.{sum_by}
 use Rattle.std.proofs.lemmas.List.{length-map, length-replicate}
@@ -11,7 +11,7 @@ use Rattle.sp_order.specs.Totals.{pushes, queue_inserts, total}
 use Rattle.job_lang.specs.Generator.{finds_for, calls, pops_for, takes_for, part, job_growing_by}
 use Rattle.job_lang.proofs.ExpandLemmas.Leaves.{join_of_leaves, series_leaves, parallel_leaves}
 
--- what comes behind the growing phase
+-- the operations after the growing phase
 abbrev pub later_ops : List Op → List Op
 later_ops ops = finds_for ops ++ (pops_for ops ++ takes_for ops)
 
@@ -21,7 +21,7 @@ later_parts ops = part par (finds_for ops) ++ (part seq (pops_for ops) ++ part s
 pub length_calls : (ops : List Op) → length (calls ops) ≡ length ops
 length_calls ops = length-map ops (λ op. Call op)
 
--- of the finds, pops and takes but the two last ones each belongs to another operation
+-- each find, and each pop and take but one of either kind, belongs to another operation of the growing phase
 pub answers : (ops : List Op) → length (finds_for ops) + total pushes (calls ops) + total queue_inserts (calls ops) ≤ length ops
 answers [] = omega arith
 answers (CounterAdd addend ∷ ops) = omega (arith, answers ops)

@@ -1,4 +1,4 @@
--- What is drawn: as many operations as asked for, each of which puts a small number in.
+-- The drawn operations: there are as many as asked for, and each inserts a small number.
 use Rattle.std.proofs.Common.{◌≡◌, ℕ, zero, suc, ◌/◌, ◌%◌, ◌^◌, ◌<◌, Bool, true, false, List, [], ◌∷◌, length, Some, refl, subst, arith}
 use Rattle.std.specs.Prelude.{slice_get, ◌==◌, if◌then◌else◌}
 use Rattle.std.specs.List.{AllByRecursion}
@@ -9,7 +9,7 @@ use Rattle.sp_order.specs.Totals.{pops, tree_removes, tree_finds, queue_takes}
 use Rattle.job_lang.specs.Code.Draws.{HaveSmallKeys}
 use Rattle.job_lang.specs.Generator.{next_number, op_drawn, growing_ops}
 
--- an operation that takes nothing out and asks for nothing, and has a small number
+-- an operation that inserts: it neither removes nor queries, and its number is small
 pub record Grows (op : Op) : Type 0 where
   pub pops : pops op ≡ 0
   pub removes : tree_removes op ≡ 0
@@ -42,6 +42,6 @@ grows_at [] i op all is = cc
 grows_at (o ∷ ops) zero op all is = let same : o ≡ op = cc in subst Grows same all.0
 grows_at (o ∷ ops) (suc i) op all is = grows_at ops i op all.1 is
 
--- the keys of the finds fit
+-- the keys inserted into the tree are small, so those of the finds fit
 pub small_keys : (seed size : ℕ) → HaveSmallKeys (growing_ops seed size)
 small_keys seed size i key is = (grows_at (growing_ops seed size) i (TreeInsert key) (all_grow seed size) is).small

@@ -1,4 +1,4 @@
--- The generated job fills its structures before it asks them.
+-- The generated job fills its structures before it queries them.
 use Rattle.std.proofs.Common.{◌≡◌, ℕ, zero, suc, ◌+◌, ◌-◌, ◌<◌, ◌≤◌, ◌⊎◌, List, [], ◌∷◌, ◌++◌, length, map, take, drop, replicate, Option, Some, None, IsSome, inl, inr, refl, sym, ap, subst, ◌∙◌, arith, length-take, length-drop}
 use Rattle.std.specs.Prelude.{sum_by, slice_get, option_to_list}
 use Rattle.std.specs.List.{AllByRecursion}
@@ -19,7 +19,7 @@ use Rattle.job_lang.proofs.GeneratorLemmas.Phases.{total_append}
 use Rattle.job_lang.proofs.GeneratorLemmas.Counts.{later_ops, later_parts, later_leaves, length_acts, each_leaf}
 use Rattle.job_lang.proofs.GeneratorLemmas.Draws.{Grows, all_grow, length_growing}
 
--- the tree that is there, with its leaves
+-- the tree of a shape that is present, with its number of leaves
 there : (tree : Option Tree) (n : ℕ) → IsSome tree → leaf_count tree ≡ n → (t : Tree) × (tree ≡ Some t) × (leaves t ≡ n)
 there None n some count = cc
 there (Some t) n some count = (t, refl, count)
@@ -27,7 +27,8 @@ there (Some t) n some count = (t, refl, count)
 below_or : (m n : ℕ) → (m < n) ⊎ (n ≤ m)
 below_or m n = grind arith
 
--- A list of shapes in series: each leaf of the first comes before each of the others.
+-- The tree has `all` leaves, and each of the first `first` is before each of the others. So it is where shapes are
+-- joined in series.
 pub record IsSeriesFrom (first : ℕ) (all : ℕ) (tree : Tree) : Type 0 where
   pub count : leaves tree ≡ all
   pub before : (u v : ℕ) → u < first → first ≤ v → v < all → IsBeforeFrom 0 tree u v
@@ -65,7 +66,7 @@ series_from (suc n) t (x ∷ xs) few =
           (both_series (leaves t) (leaves t + sum_by leaves (take m ts)) (sum_by leaves (drop m ts)) front.0 right.0 (omega arith) front.2 right.2),
     )
 
--- so are those of the first part before those of the others
+-- each leaf of the first part of a job is before those of the other parts
 starts : (ops : List Op) (parts : List Tree) → 0 < length ops → (u v : ℕ) → u < length ops → length ops ≤ v → v < length ops + sum_by leaves parts
     → IsBefore (join_of seq (part par ops ++ parts)) u v
 starts ops parts some u v low high less =
@@ -76,7 +77,7 @@ starts ops parts some u v low high less =
     let shape : join_of seq (part par ops ++ parts) ≡ Some series.0 = ap (λ o. join_of seq (option_to_list o ++ parts)) first.1 ∙ series.1 in
     subst (λ shape. IsBefore shape u v) (sym shape) (series.2.before u v (omega (arith, low, first.2)) (omega (arith, high, first.2)) (omega (arith, less, first.2)))
 
--- operations that a count leaves out
+-- no operation of the list counts
 abbrev pub Lacks : (Op → ℕ) → List Op → Type 0
 Lacks count ops = AllByRecursion (λ op. count op ≡ 0) ops
 
@@ -89,7 +90,7 @@ lacks_copies : (count : Op → ℕ) (n : ℕ) (op : Op) → count op ≡ 0 → L
 lacks_copies count zero op h = tt
 lacks_copies count (suc n) op h = (h, lacks_copies count n op h)
 
--- one that is counted is in the first list, or in the second
+-- where one of two lists has nothing that counts, an operation that counts is in the other
 in_first : (count : Op → ℕ) (xs ys : List Op) (u : ℕ) (op : Op) → Lacks count ys → slice_get (calls (xs ++ ys)) u ≡ Some (Call op) → 1 ≤ count op → u < length xs
 in_first count [] ys u op lacks is counts = absurd (omega (arith, counts, lacks_at count ys u op lacks is))
 in_first count (x ∷ xs) ys zero op lacks is counts = omega arith
@@ -100,7 +101,7 @@ in_second count [] ys u op lacks is counts = omega arith
 in_second count (x ∷ xs) ys zero op lacks is counts = let same : x ≡ op = cc in absurd (omega (arith, counts, ap count (sym same), lacks.0))
 in_second count (x ∷ xs) ys (suc u) op lacks is counts = omega (arith, in_second count xs ys u op lacks.1 is counts)
 
--- totals
+-- totals of lists where nothing counts
 total_lacks : (count : Op → ℕ) (ops : List Op) → Lacks count ops → total count (calls ops) ≡ 0
 total_lacks count [] lacks = refl
 total_lacks count (op ∷ ops) lacks = omega (arith, lacks.0, total_lacks count ops lacks.1)
@@ -109,7 +110,7 @@ total_copies : (count : Op → ℕ) (n : ℕ) (op : Op) → count op ≡ 1 → t
 total_copies count zero op h = refl
 total_copies count (suc n) op h = omega (arith, h, total_copies count n op h)
 
--- the finds are counted by no other count
+-- finds count only as finds
 finds_lack : (count : Op → ℕ) (ops : List Op) → ((key : ℕ) → count (TreeFind key) ≡ 0) → Lacks count (finds_for ops)
 finds_lack count [] h = tt
 finds_lack count (TreeInsert key ∷ ops) h = (h (key + 1), finds_lack count ops h)

@@ -1,4 +1,4 @@
--- What the phases of a generated job call, as loops come to it operation by operation.
+-- The calls of the phases of a generated job, as its loops make them one operation at a time.
 use Rattle.std.proofs.Common.{◌≡◌, ℕ, suc, ◌+◌, ◌-◌, ◌<◌, List, [], ◌∷◌, ◌++◌, length, take, get_or, replicate, refl, sym, ap, ◌∙◌, arith, append_assoc, append-nil}
 use Rattle.std.proofs.lemmas.List.{take_more, replicate_more}
 use Rattle.std.proofs.lemmas.List.Elements.{filter_map-append}
@@ -7,7 +7,7 @@ use Rattle.seq_objects.specs.declared.op.Op.TheVariants.{Push, TreeInsert, TreeF
 use Rattle.sp_order.specs.Totals.{pushes, queue_inserts, total}
 use Rattle.job_lang.specs.Generator.{next_number, op_drawn, growing_ops, find_for, finds_for, calls}
 
--- the growing phase with one more operation, from the next number on
+-- the growing phase so far with one more operation, and the next number of the sequence
 pub growing_more : (seed size x i : ℕ) (ops new : List Op) (next : ℕ) (op : Op) → i < size → next ≡ next_number x → op ≡ op_drawn next → new ≡ ops ++ op ∷ []
     → ops ++ growing_ops x (size - i) ≡ growing_ops seed size → new ++ growing_ops next (size - (i + 1)) ≡ growing_ops seed size
 growing_more seed size x i ops new next op less is_next is_op is_new so_far =
@@ -30,7 +30,7 @@ total_more count ops i d less =
     ap (λ xs. total count (calls xs)) (take_more ops i d less)
     ∙ omega (arith, total_append count (take i ops) (get_or ops i d ∷ []))
 
--- what takes out again the operations so far, with one that counts and with one that does not
+-- the pops or takes so far, after an operation that counts and after one that does not
 pub one_more : (count : Op → ℕ) (back : Op) (ops : List Op) (i : ℕ) (d : Op) → i < length ops → count (get_or ops i d) ≡ 1
     → replicate (total count (calls (take (i + 1) ops)) + 1) back ≡ replicate (total count (calls (take i ops)) + 1) back ++ back ∷ []
 one_more count back ops i d less counts =
@@ -43,7 +43,7 @@ no_more count back ops i d less counts =
     let same : total count (calls (take (i + 1) ops)) ≡ total count (calls (take i ops)) = omega (arith, total_more count ops i d less, counts) in
     ap (λ n. replicate (n + 1) back) same
 
--- only a push counts as one, and only an insert of the queue
+-- only a push counts as a push, and only an insert of the queue as one
 pub not_push : (op : Op) → ((item : ℕ) → op ≡ Push item → ⊥) → pushes op ≡ 0
 not_push (Push item) other = absurd (other item refl)
 not_push _ other = refl
@@ -52,7 +52,7 @@ pub not_queue_insert : (op : Op) → ((item : ℕ) → op ≡ PqInsert item → 
 not_queue_insert (PqInsert item) other = absurd (other item refl)
 not_queue_insert _ other = refl
 
--- the finds so far, with an insert of the tree and with another operation
+-- the finds so far, after an insert of the tree and after another operation
 finds_more : (ops : List Op) (i : ℕ) (d op : Op) → i < length ops → get_or ops i d ≡ op → finds_for (take (i + 1) ops) ≡ finds_for (take i ops) ++ finds_for (op ∷ [])
 finds_more ops i d op less is =
     ap finds_for (take_more ops i d less ∙ ap (λ o. take i ops ++ o ∷ []) is) ∙ filter_map-append find_for (take i ops) (op ∷ [])

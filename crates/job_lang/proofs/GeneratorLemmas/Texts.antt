@@ -1,4 +1,4 @@
--- The generated job is a job with a canonical text: it is not deep, and its numbers fit.
+-- The generated job has a canonical text: its depth and its numbers are within the limits.
 use Rattle.std.proofs.Common.{◌≡◌, ℕ, zero, suc, ◌+◌, ◌*◌, ◌^◌, ◌<◌, ◌≤◌, max, List, [], ◌∷◌, ◌++◌, length, map, take, drop, replicate, Option, Some, None, refl, arith, length-append, length-take, length-drop}
 use Rattle.std.specs.Prelude.{option_to_list}
 use Rattle.std.specs.List.{AllByRecursion}
@@ -20,11 +20,11 @@ use Rattle.job_lang.proofs.GeneratorLemmas.Draws.{Grows, all_grow, length_growin
 use Rattle.job_lang.proofs.EachOf.{each_append, each_of_first, each_of_rest}
 use Rattle.job_lang.proofs.WriterLemmas.Jobs.{canonical_is_job, canonical_is_short}
 
--- trees that are all at most so deep
+-- trees of at most this depth
 abbrev AreWithin : ℕ → List Tree → Type 0
 AreWithin depth trees = AllByRecursion (λ tree. tree_depth tree ≤ depth) trees
 
--- Of 2 to the k trees a join is k deeper at most.
+-- A join of at most 2^k trees adds at most k to the depth.
 module _ (kind : Tree → Tree → Tree) (deepens : (a b : Tree) → tree_depth (kind a b) ≡ 1 + max (tree_depth a) (tree_depth b)) where
   both_depth : (depth : ℕ) (a b : Option Tree) → depth_of a ≤ depth → depth_of b ≤ depth → depth_of (both kind a b) ≤ suc depth
   both_depth depth None b h g = omega arith
@@ -122,7 +122,7 @@ all_small ops grow =
     (small_append (finds_for ops) (pops_for ops ++ takes_for ops) (small_finds ops grow)
     (small_append (pops_for ops) (takes_for ops) (small_copies (total pushes (calls ops) + 1) Pop tt) (small_copies (total queue_inserts (calls ops) + 1) PqTake tt)))
 
--- what holds of the generated job
+-- what the laws say of the generated job
 generated_is_job : (seed size : ℕ) → size ≤ 5000 → IsJob (generated seed size)
 generated_is_job seed size few =
     let ops = growing_ops seed size in

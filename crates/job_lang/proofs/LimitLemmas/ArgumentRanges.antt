@@ -1,4 +1,4 @@
--- The flags of arguments out of range, item after item, and where the first of them is found.
+-- The flags of arguments out of range, item by item, and the search for the first one that is set.
 use Rattle.std.proofs.Common.{◌≡◌, ℕ, ◌+◌, ◌<◌, List, [], ◌∷◌, ◌++◌, length, take, drop, get_or, Vec, Global, Bool, true, false, Option, Some, None, refl, sym, ap, ◌∙◌, append_assoc, append-nil}
 use Rattle.job_syntax.specs.declared.lexer.word.WordOnLine.{WordOnLine}
 use Rattle.job_syntax.specs.declared.item.Item.{Item, Leaf as ItemLeaf, Block}
@@ -21,7 +21,7 @@ range_flags_of_leaf c leaf = ap (range_flags c) (item_of_leaf leaf) ∙ append-n
 pub range_flags_of_block : (c : ℕ) (kind : CodeBlockKind) (inside : Vec Item Global) → range_flags c (item_of (Block kind inside)) ≡ range_flags (copies_inside c (block_kind_of kind)) (items_of inside.items)
 range_flags_of_block c kind inside = ap (range_flags c) (item_of_block kind inside) ∙ append-nil (range_flags (copies_inside c (block_kind_of kind)) (items_of inside.items))
 
--- without words nothing is found
+-- without words no line is found
 pub no_words : (flags : List Bool) → first_line flags [] ≡ None
 no_words [] = refl
 no_words (true ∷ flags) = refl
@@ -31,7 +31,7 @@ pub ran_out : (flags : List Bool) (words rest : List WordOnLine) → dependents 
 ran_out flags words rest none none' = λ behind.
     ap (first_line (flags ++ behind)) none ∙ no_words (flags ++ behind) ∙ sym (ap (first_line behind) none' ∙ no_words behind)
 
--- one more item, in which nothing was found
+-- after one more item in which no line was found
 pub passed : (c : ℕ) (xs : List Item) (i : ℕ) (x : Item) (words before behind : List WordOnLine) → i < length xs → x ≡ get_or xs i x
     → Finds (range_flags c (items_of (take i xs))) words None before → Finds (range_flags c (item_of x)) before None behind
     → Finds (range_flags c (items_of (take (i + 1) xs))) words None behind
@@ -40,7 +40,7 @@ passed c xs i x words before behind within is front here = λ flags.
     ∙ ap (λ e. first_line e (dependents words)) (append_assoc (range_flags c (items_of (take i xs))) (range_flags c (item_of x)) flags)
     ∙ front (range_flags c (item_of x) ++ flags) ∙ here flags
 
--- the item in which a line was found
+-- after an item in which a line was found
 pub found_here : (c : ℕ) (xs : List Item) (i : ℕ) (x : Item) (line : ℕ) (words before behind : List WordOnLine) → i < length xs → x ≡ get_or xs i x
     → Finds (range_flags c (items_of (take i xs))) words None before → Finds (range_flags c (item_of x)) before (Some line) behind
     → Finds (range_flags c (items_of xs)) words (Some line) behind
@@ -58,7 +58,7 @@ found_alone : (found : Option ℕ) → found_or found None ≡ found
 found_alone None = refl
 found_alone (Some line) = refl
 
--- what is found in all items is the line
+-- the result of the search in all items is `argument_line`
 pub found_line : (items : Items) (words behind : List WordOnLine) (found : Option ℕ) → Finds (range_flags 0 items) words found behind → found ≡ argument_line words items
 found_line items words behind found finds =
     sym (found_alone found) ∙ sym (finds [])

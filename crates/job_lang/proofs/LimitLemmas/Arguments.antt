@@ -1,4 +1,4 @@
--- Where no argument is out of range in the last copy, each number of each copy fits 32 bits.
+-- Where no argument is out of range in the last copy, the numbers of all copies fit 32 bits.
 use Rattle.std.proofs.Common.{◌≡◌, ℕ, suc, ◌+◌, ◌-◌, ◌*◌, ◌^◌, ◌<◌, ◌≤◌, List, [], ◌∷◌, ◌++◌, length, filter, Bool, true, false, Some, None, refl, ap, ◌∙◌, arith, length-append}
 use Rattle.std.specs.Prelude.{◌&&◌, nat_le, if◌then◌else◌}
 use Rattle.std.proofs.Math.Nat.{mul-le-mul_left}
@@ -64,7 +64,7 @@ not_both : (a b : Bool) → a ≡ true → (a && b) ≡ false → b ≡ false
 not_both true b first whole = whole
 not_both false b first whole = absurd (cc first)
 
--- what fits in the last copy fits in each
+-- a number that fits in the last copy fits in each
 number_fits : (by : ℕ × ℕ) (c k : ℕ) → k < c → is_out_of_range c by ≡ false → by.0 * k + by.1 < 2 ^ 32
 number_fits by c k below small =
     let last : by.0 * (c - 1) + by.1 < 2 ^ 32 = leb-false (2 ^ 32) (by.0 * (c - 1) + by.1) (not_both (nat_le 1 c) (nat_le (2 ^ 32) (by.0 * (c - 1) + by.1)) (le-leb 1 c (omega (arith, below))) small) in
@@ -109,7 +109,7 @@ fits_outside (block_then (for_loop n) body more) fits small =
 fits_outside (block_then (pfor_loop n) body more) fits small =
     let parts = parts_false (range_flags (word_number n) body) (range_flags 0 more) small in ((λ i within. fits_inside body (word_number n) i within parts.0), fits_outside more fits.2 parts.1)
 
--- where the text has no argument out of range
+-- where no argument of the text is out of range, all numbers fit
 pub numbers_fit : (words : List WordOnLine) (items : Items) → Derives (words_of words) items → argument_line words items ≡ None → Fits 0 items
 numbers_fit words items derives none =
     let few = range_flags_few items 0 in

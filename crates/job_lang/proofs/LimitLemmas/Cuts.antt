@@ -1,4 +1,4 @@
--- Counts that are cut.
+-- Counts that are capped.
 use Rattle.std.proofs.Common.{Vec, Global, ◌≡◌, ℕ, zero, suc, ◌+◌, ◌*◌, ◌<◌, ◌≤◌, min, List, length, take, get_or, sym, ap, ◌∙◌, arith, inl, inr}
 use Rattle.std.proofs.Math.Nat.{mul-le-mul_left}
 use Rattle.std.proofs.lemmas.Bool.{cases_lt}
@@ -33,7 +33,7 @@ cut_mul k (suc n) c = elim (cases_lt c k) [
   | inr h ↦ over k n c h
 ]
 
--- one more item
+-- the count of the first items and one more
 pub count_more : (xs : List Item) (i : ℕ) (x : Item) → i < length xs → x ≡ get_or xs i x → count (items_of (take (i + 1) xs)) ≡ count (items_of (take i xs)) + count (item_of x)
 count_more xs i x h e = ap count (items_of_more xs i x h e) ∙ count_then (items_of (take i xs)) (item_of x)
 

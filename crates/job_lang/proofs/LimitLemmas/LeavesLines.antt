@@ -17,7 +17,7 @@ step_counts : (x : Item-F Items) (more : Items) → count_first (item_step x the
 step_counts (Item-F.Leaf leaf) more = refl
 step_counts (Item-F.Block kind inside) more = omega arith
 
--- an item counts as it does where it is the first of some
+-- `count_first` of an item before others is the item's `count`
 item_counts : (x : Item) (more : Items) → count_first (item_of x then more) ≡ count (item_of x)
 item_counts x more = let level = level_of x in ap (λ y. count_first (y then more)) level.1 ∙ step_counts level.0 more ∙ ap count (sym level.1)
 
@@ -36,7 +36,7 @@ pub first_word : (words : List WordOnLine) (xs : List Item) (i place : ℕ) (x :
 first_word words xs i place x writes within is at =
     omega (arith, words_length words xs writes, word_count_more xs i x within is, front_word_count xs (i + 1), item_writes x, at)
 
--- the words of an item are no more than the text's, and end within it
+-- the words of an item are no more than the text's, and end within them
 pub last_word : (words : List WordOnLine) (xs : List Item) (i place : ℕ) (x : Item) → items_words (items_of xs) ≡ words_of words → i < length xs → x ≡ get_or xs i x → place ≡ length (items_words (items_of (take i xs))) → place + length (items_words (item_of x)) ≤ length words
 last_word words xs i place x writes within is at =
     omega (arith, words_length words xs writes, word_count_more xs i x within is, front_word_count xs (i + 1), at)

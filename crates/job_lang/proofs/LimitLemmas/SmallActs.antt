@@ -20,7 +20,7 @@ use Rattle.job_lang.specs.Language.{IsJobOf}
 use Rattle.job_lang.proofs.EachOf.{each_append}
 use Rattle.job_lang.proofs.LimitLemmas.Arguments.{numbers_fit}
 
--- the number that a word says by itself fits 32 bits
+-- the number of a plain number word, if it has one, fits 32 bits
 abbrev SaysSmall : Word → Type 0
 SaysSmall (Number number) = IsSmall number
 SaysSmall _ = Unit {0}
@@ -38,7 +38,7 @@ small_number digits = small_when (begins_well digits) (digits_from 0 digits)
 record IsSmallWord (it : Word) : Type 0 where
   says : SaysSmall it
 
--- a choice of two words that say small numbers is one
+-- a choice between two small words is a small word
 chosen : (first : Bool) (a b : Word) → SaysSmall a → IsSmallWord b → IsSmallWord (if first then a else b)
 chosen true a b small small' = record { says = small }
 chosen false a b small small' = small'
@@ -78,7 +78,7 @@ small_words : (some : List Token) → AllByRecursion SaysSmall (words_of (map wo
 small_words [] = tt
 small_words (token ∷ some) = ((small_word token.text).says, small_words some)
 
--- what holds of each element of a list holds of those of both its parts
+-- a property of each element of a list holds of each element of both its parts
 parts : (front back : List Word) → AllByRecursion SaysSmall (front ++ back) → AllByRecursion SaysSmall front × AllByRecursion SaysSmall back
 parts [] back each = (tt, each)
 parts (first ∷ front) back each = let both = parts front back each.1 in ((each.0, both.0), both.1)
@@ -112,7 +112,7 @@ small_copies_of zero in_copy small = tt
 small_copies_of (suc copies) in_copy small =
     each_append IsSmallAct (each_copy copies in_copy) (in_copy copies) (small_copies_of copies in_copy (λ k below. small k (omega (arith, below)))) (small copies (omega arith))
 
--- what stands in a block, and behind it
+-- the words inside a block, and after it
 block_parts : (kind : BlockKind) (body more : Items) → AllByRecursion SaysSmall (items_words (block_then kind body more)) → AllByRecursion SaysSmall (items_words body) × AllByRecursion SaysSmall (items_words more)
 block_parts kind body more each =
     let behind = (parts (kind_words kind) (Open ∷ (items_words body ++ Close ∷ items_words more)) each).1.1 in

@@ -1,4 +1,4 @@
--- Where the leaves are too many, one line is that of the leaves.
+-- A job with too many leaves has exactly one leaves line.
 use Rattle.std.proofs.Common.{◌≡◌, ℕ, zero, suc, ◌+◌, ◌-◌, ◌*◌, ◌<◌, ◌≤◌, List, [], ◌∷◌, ◌++◌, length, take, drop, refl, sym, ap, ◌∙◌, arith, inl, inr, length-append}
 use Rattle.std.proofs.lemmas.Bool.{cases_lt}
 use Rattle.std.proofs.lemmas.List.{take-append-drop, length-map}
@@ -16,13 +16,13 @@ first_of_all nothing = omega arith
 first_of_all (leaf_then leaf more) = omega arith
 first_of_all (block_then kind body more) = omega arith
 
--- with a line of the leaves they are too many
+-- where there is a leaves line, the leaves are too many
 pub too_many : (tokens : List WordOnLine) (items : Items) (line : ℕ) → IsLeavesLine tokens items line → 20000 < count items
 too_many tokens items line is =
     let all = ap count is.parts in
     omega (arith, all, count_then is.before is.from_item, first_of_all is.from_item, is.many)
 
--- two places at which the leaves go past the limit are the same
+-- there is one place at which the leaves exceed the limit
 
 one_place : (before before' from from' : Items) (most : ℕ) → before then from ≡ before' then from' → count before ≤ most → most < count before + count_first from → count before' ≤ most → most < count before' + count_first from' → before ≡ before'
 one_place nothing nothing from from' most same few many few' many' = refl
@@ -61,7 +61,7 @@ one_line tokens items line line' is also =
     let first = same_first is.front also.front is.first also.first is.behind also.behind (sym word_count ∙ word_counts ∙ width') (is.stands ∙ sym also.stands) in
     is.line_is ∙ ap (λ token. token.line) first ∙ sym also.line_is
 
--- and some line is that of the leaves
+-- where the leaves are too many, there is such a line
 
 record Place (items : Items) (most : ℕ) : Type 0 where
   before : Items

@@ -1,4 +1,4 @@
--- How many words items write, one after another.
+-- The number of words that items write, one after another.
 use Rattle.std.proofs.Common.{◌≡◌, ℕ, ◌+◌, ◌<◌, ◌≤◌, List, length, take, drop, get_or, Vec, Global, sym, ap, ◌∙◌, arith, append-nil, length-append}
 use Rattle.std.proofs.Math.Seq.{take-append_seam, drop-append_seam}
 use Rattle.std.proofs.lemmas.List.{take-map, drop-map}
@@ -12,7 +12,7 @@ use Rattle.job_syntax.specs.Views.{items_of, item_of, leaf_of, block_kind_of}
 use Rattle.job_syntax.proofs.ParserLemmas.Derivations.{words_then}
 use Rattle.job_syntax.proofs.ParserLemmas.Levels.{items_of_more, items_of_parts, item_of_leaf, item_of_block}
 
--- the words of the first items are the first words, and those of the others are the words behind
+-- the words of the first items come first, and those of the others after them
 pub front_words : (tokens : List WordOnLine) (before rest : Items) → items_words (before then rest) ≡ words_of tokens → items_words before ≡ words_of (take (length (items_words before)) tokens)
 front_words tokens before rest writes =
     sym (take-append_seam (items_words before) (items_words rest)) ∙ ap (take (length (items_words before))) (sym (words_then before rest) ∙ writes)
@@ -23,7 +23,7 @@ behind_words tokens before rest writes =
     sym (drop-append_seam (items_words before) (items_words rest)) ∙ ap (drop (length (items_words before))) (sym (words_then before rest) ∙ writes)
     ∙ drop-map (λ token. token.word) (length (items_words before)) tokens
 
--- each leaf writes a word
+-- each leaf writes at least one word
 pub leaf_writes : (leaf : Leaf) → 0 < length (leaf_words leaf)
 leaf_writes (with_argument op argument) = simp length-append (omega arith)
 leaf_writes stack_pop = omega arith
@@ -40,7 +40,7 @@ word_count_more xs i x h e =
     ap (λ items. length (items_words items)) (items_of_more xs i x h e)
     ∙ ap length (words_then (items_of (take i xs)) (item_of x)) ∙ length-append (items_words (items_of (take i xs))) (items_words (item_of x))
 
--- an item writes no more words than the items among which it stands
+-- an item writes no more words than the items that it is one of
 pub word_count_item : (x : Item) (xs : List Item) (i : ℕ) → i < length xs → x ≡ get_or xs i x → length (items_words (item_of x)) ≤ length (items_words (items_of xs))
 word_count_item x xs i h e = omega (arith, word_count_more xs i x h e, front_word_count xs (i + 1))
 

@@ -1,4 +1,4 @@
--- A text has one job or one fault, and what a reader may so answer.
+-- A text has one job or one fault, and so what a reader may answer is determined.
 use Rattle.std.proofs.Common.{◌≡◌, ℕ, ◌<◌, ◌≤◌, List, Option, Some, None, Result, Ok, Err, refl, sym, ap, ◌∙◌, arith, subst, inl, inr, ◌⊎◌}
 use Rattle.std.specs.Prelude.{IfOk}
 use Rattle.std.proofs.lemmas.Bool.{cases_lt}
@@ -23,7 +23,7 @@ use Rattle.job_lang.proofs.LimitLemmas.TooManyLeaves.{too_many, one_line, some_l
 pub one_job : (text : List ℕ) (job job' : JobValue) → IsJobOf text job → IsJobOf text job' → job ≡ job'
 one_job text job job' is also = is.means ∙ ap job_of (one_items (words_on_lines text) is.items also.items is.read also.read) ∙ sym also.means
 
--- a job and a fault exclude one another
+-- a text with a job has no fault
 
 reads_well : (text : List ℕ) (found : JobFault) (job : JobValue) → IsJobOf text job → IsReadingFault (last_line text) (words_on_lines text) found → ⊥
 reads_well text found job is read = items_or_fault (last_line text) (words_on_lines text) is.items found is.read read
@@ -139,8 +139,8 @@ allowed_or_not text (Some line) forbidden = inr (fault.Byte line, forbidden)
 pub job_or_fault : (text : List ℕ) → Accepts text ⊎ ((found : JobFault) × IsFaultOf text found)
 job_or_fault text = allowed_or_not text (forbidden_line text) refl
 
--- A reader that answers jobs and faults rightly answers the job of a text that has one, and its fault where it has one, but
--- for want of memory.
+-- A reader whose jobs and faults are right answers the job of each text that has one, and the fault of each text that
+-- has one, unless memory runs out.
 
 pub answers_job : (text : List ℕ) (result : Result JobValue JobErr) → IfOk result (λ job. IsJobOf text job) → ((found : JobFault) → result ≡ Err (Bad found) → IsFaultOf text found) → (job : JobValue) → IsJobOf text job → (result ≡ Ok job) ⊎ (result ≡ Err Memory)
 answers_job text (Ok read) right wrong job is = inl (ap (λ job. Ok job) (one_job text read job right is))

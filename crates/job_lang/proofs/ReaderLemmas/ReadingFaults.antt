@@ -1,4 +1,4 @@
--- Which faults a reading may find.
+-- Which kinds of fault a reading may find.
 use Rattle.std.proofs.Common.{◌≡◌, ℕ, List, [], ◌∷◌, ◌++◌, None, inl, inr}
 use Rattle.job_syntax.specs.declared.lexer.word.WordOnLine.{WordOnLine}
 use Rattle.job_syntax.specs.declared.fault.JobFault.{JobFault}
@@ -8,7 +8,7 @@ use Rattle.job_syntax.specs.Words.{words_on_lines}
 use Rattle.job_syntax.specs.Faults.{IsReadingFault, IsReadingFaultBehind}
 use Rattle.job_lang.specs.Language.{IsFaultOf}
 
--- a reading finds no fault of another kind
+-- a reading finds no fault of the other kinds
 
 no_byte : (last line : ℕ) (before tokens : List WordOnLine) → IsReadingFaultBehind last before tokens (fault.Byte line) → ⊥
 no_byte last line before [] found = cc (found.0)
@@ -25,7 +25,7 @@ no_argument last line before [] found = cc (found.0)
 no_argument last line before (token ∷ tokens) (inl here) = here
 no_argument last line before (token ∷ tokens) (inr behind) = no_argument last line (before ++ token ∷ []) tokens behind.1
 
--- a fault of reading is the text's
+-- a fault of reading is a fault of the text
 pub reading_fault : (text : List ℕ) (found : JobFault) → forbidden_line text ≡ None → IsReadingFault (last_line text) (words_on_lines text) found → IsFaultOf text found
 reading_fault text (fault.Byte line) allowed read = absurd (no_byte (last_line text) line [] (words_on_lines text) read)
 reading_fault text (fault.Leaves line) allowed read = absurd (no_leaves (last_line text) line [] (words_on_lines text) read)

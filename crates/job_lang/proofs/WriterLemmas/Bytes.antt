@@ -1,4 +1,4 @@
--- The bytes of the canonical text: none stands for a comment, each is allowed, and they are few.
+-- The bytes of the canonical text: none begins a comment, each is allowed, and they are few.
 use Rattle.std.proofs.Common.{◌≡◌, ℕ, ◌+◌, ◌*◌, ◌<◌, ◌≤◌, ◌^◌, List, [], ◌∷◌, ◌++◌, length, take, drop, codes, Bool, true, false, not, ◌&&◌, None, refl, ap, ◌∙◌, arith, length-append}
 use Rattle.std.specs.List.{list_all}
 use Rattle.std.specs.Fmt.{decimal}
@@ -89,7 +89,7 @@ plain_tree (par left right) acts small =
     plain_block (codes "par { ") (tree_text left (take (leaves left) acts)) (tree_text right (drop (leaves left) acts)) refl
     (plain_tree left (take (leaves left) acts) (first_small (leaves left) acts small)) (plain_tree right (drop (leaves left) acts) (last_small (leaves left) acts small))
 
--- A leaf takes 23 bytes at most, and a block 9 more; there are more leaves than blocks.
+-- A leaf takes at most 23 bytes, and a block at most 9 more; there are more leaves than blocks.
 
 short_number : (words : List ℕ) (n : ℕ) → length words ≤ 13 → n < 2 ^ 32 → length (words ++ decimal n) ≤ 23
 short_number words n few small = omega (arith, length-append words (decimal n), length-decimal-le 10 n (omega arith) (omega (arith, small)) (omega (arith, small)), few)

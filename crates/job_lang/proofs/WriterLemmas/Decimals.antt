@@ -1,4 +1,4 @@
--- A number in decimal is one token, which says the number.
+-- A number in decimal is one token, which spells the number.
 use Rattle.std.proofs.Common.{◌≡◌, ℕ, zero, suc, ◌+◌, ◌-◌, ◌*◌, ◌%◌, ◌<◌, ◌^◌, List, [], ◌∷◌, ◌++◌, length, get_or, Bool, true, false, not, ◌||◌, Some, None, refl, ap, subst, ◌∙◌, arith}
 use Rattle.std.specs.Prelude.{◌==◌, if◌then◌else◌}
 use Rattle.std.specs.Fmt.{decimal}
@@ -11,7 +11,7 @@ use Rattle.job_syntax.specs.declared.lexer.word.Word.TheVariants.{Number}
 use Rattle.job_syntax.specs.Text.{tokens_from, is_in_chunk, begins_in_chunk, before_tokens}
 use Rattle.job_syntax.specs.Words.{is_digit, are_digits, digits_from, begins_well, number_of, argument_word, word_of}
 
--- each byte passes, where each digit does
+-- each byte of a decimal passes a test that each digit passes
 pub each_byte : (test : ℕ → Bool) → ((digit : ℕ) → digit < 10 → test (48 + digit) ≡ true) → (n : ℕ) → n < 2 ^ 32 → list_all test (decimal n) ≡ true
 each_byte test digits n small = decimal_by_steps (λ n bytes. list_all test bytes ≡ true)
     (λ n one. and_from (test (48 + n)) true (digits n one) refl)
@@ -28,7 +28,7 @@ digit_in_chunk digit low = grind (arith, common_steps)
 pub decimal_in_chunk : (n : ℕ) → n < 2 ^ 32 → list_all is_in_chunk (decimal n) ≡ true
 decimal_in_chunk = each_byte is_in_chunk digit_in_chunk
 
--- what the digits say
+-- the value of the digits
 
 digits_behind : (number : ℕ) (digits : List ℕ) (last : ℕ) → digits_from number (digits ++ last ∷ []) ≡ 10 * digits_from number digits + (last - 48)
 digits_behind number [] last = refl
@@ -82,7 +82,7 @@ pub decimal_word : (n : ℕ) → n < 2 ^ 32 → word_of (decimal n) ≡ Number (
 decimal_word n small =
     digits_word (decimal n) (decimal_nonempty n (omega (arith, small))) (each_byte is_digit digit_is n small) ∙ ap (λ number. Number number) (decimal_number n small)
 
--- bytes of a chunk are one token, where the text behind them does not go on with it
+-- bytes of a chunk are one token, where the text after them does not continue the chunk
 
 chunk_step : (line byte : ℕ) (text : List ℕ) → is_in_chunk byte ≡ true → tokens_from line (byte ∷ text) ≡ before_tokens byte line (begins_in_chunk text) (tokens_from line text)
 chunk_step line byte text inside = grind (arith, common_steps)

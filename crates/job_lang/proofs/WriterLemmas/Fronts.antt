@@ -1,4 +1,4 @@
--- The text of a shape is made of as many acts as it has leaves.
+-- The text of a shape depends only on as many acts as it has leaves.
 use Rattle.std.proofs.Common.{◌≡◌, ℕ, ◌+◌, List, [], ◌∷◌, ◌++◌, take, drop, codes, refl, sym, ap, arith, append_assoc}
 use Rattle.std.proofs.lemmas.List.{drop-take, take-take}
 use Rattle.seq_objects.specs.declared.act.Act.{Act}
@@ -14,7 +14,7 @@ front_text (seq left right) acts =
 front_text (par left right) acts =
     rw (take-take (leaves left) (leaves left + leaves right) acts (omega arith), drop-take (leaves left) (leaves right) acts, front_text right (drop (leaves left) acts)) refl
 
--- The text of a block is its word and what its sides add.
+-- The text of a block is its word and the texts that its sides append.
 
 pub seq_text : {whole left right left' right' : Tree} {one two : List ℕ} (acts : List Act) (before : List ℕ) → whole ≡ seq left right → left' ≡ left → right' ≡ right → one ≡ before ++ codes "seq " → two ≡ one ++ sides_text left' right' acts → two ≡ before ++ tree_text whole acts
 seq_text {left = left} {right = right} acts before shape same_left same_right first second =

@@ -41,7 +41,7 @@ abbrev pub first_leaf : List Act → Items → Items
 first_leaf [] more = more
 first_leaf (act ∷ acts) more = leaf_then (leaf_of_act act) more
 
--- the items of a shape whose leaves do these acts, and more items behind them
+-- the items of a shape whose leaves do these acts, before more items
 abbrev pub tree_items : Tree → List Act → Items → Items
 tree_items leaf acts more = first_leaf acts more
 tree_items (seq left right) acts more =
@@ -162,7 +162,7 @@ tree_range_flags copies (par left right) acts more =
     let front = tree_range_flags copies left (take (leaves left) acts) (tree_items right (drop (leaves left) acts) nothing) in
     ap (λ x. x ++ range_flags copies more) (front ∙ back)
 
--- each word stands in its place
+-- the items fit the grammar
 
 leaf_fits : (act : Act) (more : Items) → AreItems false more → AreItems false (leaf_then (leaf_of_act act) more)
 leaf_fits (Work steps) more fits = (refl, fits)
@@ -184,7 +184,7 @@ tree_fits (seq left right) acts more fits =
 tree_fits (par left right) acts more fits =
     (tt, tree_fits left (take (leaves left) acts) (tree_items right (drop (leaves left) acts) nothing) (tree_fits right (drop (leaves left) acts) nothing tt), fits)
 
--- and each number is good
+-- each number of the words has no leading zero and fits 32 bits
 
 abbrev pub AreGood : List Word → Type 0
 AreGood words = AllByRecursion (λ word. IsTrue (has_good_numbers word)) words

@@ -1,4 +1,4 @@
--- The canonical text of a job is the job's, and it is short.
+-- The canonical text of a job is a text of that job, and it is short.
 use Rattle.std.proofs.Common.{◌≡◌, ℕ, ◌<◌, ◌≤◌, List, [], ◌∷◌, ◌++◌, length, codes, false, Option, Some, None, refl, sym, ap, subst, ◌∙◌, arith, append-nil, length-append}
 use Rattle.std.specs.Prelude.{filter, IsTrue}
 use Rattle.seq_objects.specs.Words.{op_words}
@@ -22,7 +22,7 @@ use Rattle.job_lang.proofs.WriterLemmas.Items.{AreGood, tree_items, job_again, t
 use Rattle.job_lang.proofs.WriterLemmas.Bytes.{ArePlain, bare_same, none_forbidden, plain_append, plain_tree, short_tree}
 use Rattle.job_lang.proofs.WriterLemmas.Words.{said_from, tree_said}
 
--- a shape's text, and blanks behind it
+-- the text of a shape, with blanks after it
 pub tree_is_job : (tree : Tree) (acts : List Act) (blanks : List ℕ) → length acts ≡ leaves tree → length acts ≤ 20000 → tree_depth tree ≤ 32 → AreSmall acts → ArePlain blanks → begins_in_chunk blanks ≡ false → said_from 1 blanks ≡ [] → IsJobOf (tree_text tree acts ++ blanks) (record { shape = Some tree; acts = acts })
 tree_is_job tree acts blanks same few deep small plain ends silent =
     let text = tree_text tree acts ++ blanks in
@@ -65,7 +65,7 @@ shape_is_short (Some tree) acts same few small = omega (arith, length-append (tr
 pub canonical_is_short : (job : JobValue) → IsJob job → AreSmall job.acts → length (canonical_text job) < 700000
 canonical_is_short job is_job small = shape_is_short job.shape job.acts is_job.leaves is_job.most small
 
--- the words of an operation, as a report has them, are the text of the job that makes this one call
+-- the words of an operation in a report are a text of the job with this one call
 pub words_are_a_job : (op : Op) → IsSmall (op_number op) → IsJobOf (op_words op) (record { shape = Some leaf; acts = Call op ∷ [] })
 words_are_a_job op small =
     subst (λ text. IsJobOf text (record { shape = Some leaf; acts = Call op ∷ [] })) (append-nil (op_words op))

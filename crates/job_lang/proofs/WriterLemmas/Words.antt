@@ -1,4 +1,4 @@
--- The tokens of the canonical text say the words of its items.
+-- The tokens of the canonical text spell the words of its items.
 use Rattle.std.proofs.Common.{◌≡◌, ℕ, ◌<◌, ◌^◌, List, [], ◌∷◌, ◌++◌, length, take, drop, map, codes, false, Some, refl, sym, ap, ◌∙◌, arith, append_assoc}
 use Rattle.std.specs.Fmt.{decimal}
 use Rattle.seq_objects.specs.Words.{op_words}
@@ -19,7 +19,7 @@ use Rattle.job_lang.proofs.WriterLemmas.Decimals.{chunk_token, decimal_token, de
 use Rattle.job_lang.proofs.WriterLemmas.Bytes.{first_small, last_small}
 use Rattle.job_lang.proofs.WriterLemmas.Items.{leaf_of_op, leaf_of_act, tree_items, left_length, right_length}
 
--- what the tokens of a text say
+-- the words of a text's tokens
 abbrev pub said_from : ℕ → List ℕ → List Word
 said_from line text = words_of (map word_on_line (tokens_from line text))
 

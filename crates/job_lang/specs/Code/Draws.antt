@@ -1,8 +1,8 @@
--- What the code keeps of the operations that are drawn.
+-- What the code relies on of the operations that are drawn.
 use Rattle.std.specs.Prelude.{◌≡◌, ℕ, ◌<◌, List, Some, slice_get}
 use Rattle.seq_objects.specs.declared.op.Op.{Op}
 use Rattle.seq_objects.specs.declared.op.Op.TheVariants.{TreeInsert}
 
--- the keys that go into the tree fit 16 bits
+-- the keys inserted into the tree fit 16 bits
 abbrev pub HaveSmallKeys : List Op → Type 0
 HaveSmallKeys ops = (i key : ℕ) → slice_get ops i ≡ Some (TreeInsert key) → key < 65536

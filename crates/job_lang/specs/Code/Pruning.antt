@@ -7,11 +7,11 @@ abbrev pub is_nothing : Items → Bool
 is_nothing nothing = true
 is_nothing _ = false
 
--- a block, where it has a copy and its items are not empty, before more items
+-- a block before more items, or these alone where the block has no copies or its body is empty
 abbrev pub full_block_then : BlockKind → Items → Items → Items
 full_block_then kind body more = if is_nothing body || copies_of kind == 0 then more else block_then kind body more
 
--- without the blocks that have no copy, or no items
+-- the items without the top-level blocks that have no copies, or no items
 abbrev pub only_full : Items → Items
 only_full nothing = nothing
 only_full (leaf_then leaf more) = leaf_then leaf (only_full more)

@@ -1,4 +1,4 @@
--- Each number that depends on the copy fits 32 bits.
+-- Each argument that depends on the copy fits 32 bits.
 use Rattle.std.specs.Prelude.{ℕ, ◌+◌, ◌*◌, ◌<◌, ◌^◌, Some}
 use Rattle.job_syntax.specs.declared.lexer.word.Word.{Word}
 use Rattle.job_syntax.specs.declared.lexer.word.Word.TheVariants.{Copies}
@@ -14,7 +14,7 @@ FitsLeaf copy (with_argument op argument) = FitsArgument copy argument
 FitsLeaf copy stack_pop = Unit {0}
 FitsLeaf copy queue_take = Unit {0}
 
--- the numbers of the items in the copy of this number
+-- the arguments of the items fit in copy `copy` of the innermost loop around them, and in each copy of the loops inside
 abbrev pub Fits : ℕ → Items → Type 0
 Fits copy nothing = Unit {0}
 Fits copy (leaf_then leaf more) = FitsLeaf copy leaf × Fits copy more

@@ -1,4 +1,4 @@
--- The text of the two sides of a block, with its braces.
+-- The text of the two sides of a block, in braces.
 use Rattle.std.specs.Prelude.{ℕ, List, ◌++◌, drop, codes}
 use Rattle.seq_objects.specs.declared.act.Act.{Act}
 use Rattle.sp_order.specs.Precedence.{Tree, leaves}

@@ -1,4 +1,4 @@
-//! Joins a list of shapes to one, by halves.
+//! Joins a list of shapes to one, by halves, so that the depth grows with the logarithm of their number.
 ghost use Rattle.std.specs.Prelude.{◌≡◌, ◌<◌, ◌≤◌, ◌-◌, Some, IfOk, length, map, take, drop};
 ghost use Rattle.std.specs.Option.{option_map};
 ghost use Rattle.sp_order.specs.Precedence.{tree_of};
@@ -15,7 +15,7 @@ pub(crate) enum Order {
     Parallel,
 }
 
-/// Two shapes as one.
+/// Joins two shapes.
 fn both(alloc: Global, order: Order, left: Shape, right: Shape) -> Result<Shape, AllocError>
     ensures { IfOk result (λ shape. tree_of shape ≡ join_by order (tree_of left) (tree_of right)) }
 {
@@ -27,7 +27,8 @@ fn both(alloc: Global, order: Order, left: Shape, right: Shape) -> Result<Shape,
     }
 }
 
-/// Takes the last `count` shapes and joins them: one is itself, and of more both halves are joined in this way.
+/// Takes the last `count` shapes and joins them. A single shape is the result itself; more are halved, and both halves
+/// joined in the same way.
 fn join_last(
     alloc: Global,
     order: Order,
@@ -53,7 +54,7 @@ fn join_last(
     both(alloc, order, left, right)
 }
 
-/// All the shapes as one, if there are any.
+/// Joins all the shapes, if there are any.
 pub(crate) fn join(
     alloc: Global,
     order: Order,

@@ -1,11 +1,11 @@
-//! Items without those that make no leaf, so that each visit of an item in a copy makes one.
+//! Removes the items that make no leaf, so that each visit of an item in a copy makes one.
 ghost use Rattle.std.specs.Prelude.{◌≡◌, not};
 ghost use Rattle.job_syntax.specs.Views.{items_of, item_of};
 ghost use Rattle.job_lang.specs.Code.Pruning.{is_nothing, only_full, without_empty};
 
 use job_syntax::Item;
 
-/// Whether the item is a leaf, or a block that has a copy and items.
+/// Whether the item is a leaf, or a block that has at least one copy and one item.
 fn is_full(item: &Item) -> bool
     ensures { result ≡ not (is_nothing (only_full (item_of item.now))) }
 {
@@ -15,14 +15,14 @@ fn is_full(item: &Item) -> bool
     }
 }
 
-/// Takes out the blocks that have no copy, or no items.
+/// Removes the blocks that have no copies, or no items.
 fn keep_full(items: &mut Vec<Item>)
     ensures { items_of items.new.items ≡ only_full (items_of items.old.items) }
 {
     items.retain(|item| is_full(item));
 }
 
-/// Takes out the items that make no leaf, at every level.
+/// Removes the items that make no leaf, at every level.
 #[cycle(pruning)]
 pub(crate) fn take_out_empty(items: &mut Vec<Item>)
     ensures { items_of items.new.items ≡ without_empty (items_of items.old.items) }
@@ -33,7 +33,7 @@ pub(crate) fn take_out_empty(items: &mut Vec<Item>)
     keep_full(items);
 }
 
-/// Takes out the items inside that make no leaf.
+/// Removes the items inside this one that make no leaf, at every level.
 #[cycle(pruning)]
 fn take_out_inside(item: &mut Item)
     ensures { only_full (item_of item.new) ≡ without_empty (item_of item.old) }

@@ -1,4 +1,4 @@
-//! The first argument that is out of range: that does not fit 32 bits in some copy.
+//! The search for the first argument that is out of range: one that does not fit 32 bits in some copy.
 ghost use Rattle.std.specs.Prelude.{◌≡◌, [], ◌∷◌, IfSome, IfNone};
 ghost use Rattle.job_lang.specs.Limits.{copies_inside, is_out_of_range, leaf_range_flags, range_flags};
 ghost use Rattle.job_lang.specs.Code.Searches.{dependents, Finds};
@@ -6,7 +6,7 @@ ghost use Rattle.job_syntax.specs.Views.{argument_word, leaf_of, block_kind_of, 
 
 use job_syntax::{Argument, BlockKind, Cursor, Item, Leaf, Word, WordOnLine};
 
-/// Takes the words up to the next that depends on the copy, and answers that one.
+/// Takes words up to and with the next that depends on the copy, and gives that one.
 fn next_dependent(words: &mut Cursor) -> Option<WordOnLine>
     ensures some { IfSome result (λ word. dependents words.old ≡ word ∷ dependents words.new) }
     ensures none { IfNone result ((dependents words.old ≡ []) × (dependents words.new ≡ [])) }
@@ -19,7 +19,7 @@ fn next_dependent(words: &mut Cursor) -> Option<WordOnLine>
     None
 }
 
-/// The number of copies of the innermost loop inside a block, where it is `copies` outside.
+/// The number of copies of the innermost loop inside a block, where `copies` is that outside it.
 fn copies_inside(copies: u32, kind: BlockKind) -> u32
     ensures { result ≡ copies_inside copies (block_kind_of kind) }
 {
@@ -29,7 +29,7 @@ fn copies_inside(copies: u32, kind: BlockKind) -> u32
     }
 }
 
-/// Whether the factor times the number of the copy, plus the addend, does not fit 32 bits in the last of the copies.
+/// Whether the number does not fit 32 bits in the last of the copies, where it is largest.
 fn is_out_of_range(copies: u32, factor: u32, addend: u32) -> bool
     ensures { result ≡ is_out_of_range copies (factor, addend) }
 {
@@ -40,7 +40,7 @@ fn is_out_of_range(copies: u32, factor: u32, addend: u32) -> bool
     u64::from(factor) * last + u64::from(addend) > u64::from(u32::MAX)
 }
 
-/// The line of the leaf's argument, if it is out of range in some copy.
+/// The line of the leaf's argument, if that is out of range in some copy.
 #[tactic(auto, using(crate::proofs::LimitLemmas::ArgumentRanges::ran_out))]
 fn out_of_range_in_leaf(copies: u32, leaf: Leaf, words: &mut Cursor) -> Option<u32>
     ensures { Finds (leaf_range_flags copies (leaf_of leaf)) words.old result words.new }
@@ -58,7 +58,7 @@ fn out_of_range_in_leaf(copies: u32, leaf: Leaf, words: &mut Cursor) -> Option<u
     }
 }
 
-/// The line of the first argument among the items that is out of range in some copy.
+/// The line of the first argument of the items that is out of range in some copy.
 #[cycle(scanning)]
 pub(crate) fn out_of_range_in_items(copies: u32, items: &[Item], words: &mut Cursor) -> Option<u32>
     ensures { Finds (range_flags copies (items_of items.now)) words.old result words.new }
@@ -71,7 +71,7 @@ pub(crate) fn out_of_range_in_items(copies: u32, items: &[Item], words: &mut Cur
     None
 }
 
-/// The line of the first argument in the item that is out of range in some copy.
+/// The line of the first argument of the item that is out of range in some copy.
 #[cycle(scanning)]
 #[tactic(auto, using(crate::proofs::LimitLemmas::ArgumentRanges::range_flags_of_leaf, crate::proofs::LimitLemmas::ArgumentRanges::range_flags_of_block))]
 fn out_of_range_in_item(copies: u32, item: &Item, words: &mut Cursor) -> Option<u32>

@@ -1,14 +1,14 @@
-//! The number of leaves that items make, up to one more than a job may have.
+//! The number of leaves that items make, capped at one more than a job may have.
 ghost use Rattle.std.specs.Prelude.{◌≡◌, min};
 ghost use Rattle.job_lang.specs.Counts.{count};
 ghost use Rattle.job_syntax.specs.Views.{items_of, item_of};
 
 use job_syntax::Item;
 
-/// One more leaf than a job may have. A count goes no further, so that it does not overflow.
+/// The cap of counts, one more than the leaves that a job may have. It prevents overflow.
 const CUT: u64 = 20_001;
 
-/// The number of leaves that the items make, or 20,001 where they make more.
+/// The number of leaves that the items make, capped at 20,001.
 #[cycle(counting_leaves)]
 pub(crate) fn count_items(items: &[Item]) -> u64
     ensures { result ≡ min 20001 (count (items_of items.now)) }
@@ -20,7 +20,7 @@ pub(crate) fn count_items(items: &[Item]) -> u64
     leaves
 }
 
-/// The number of leaves that the item makes, or 20,001 where it makes more.
+/// The number of leaves that the item makes, capped at 20,001.
 #[cycle(counting_leaves)]
 #[tactic(auto, using(crate::proofs::LimitLemmas::Cuts::block_cut, crate::proofs::LimitLemmas::Cuts::count_leaf))]
 pub(crate) fn count_item(item: &Item) -> u64

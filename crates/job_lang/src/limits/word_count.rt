@@ -1,4 +1,4 @@
-//! The number of words that items write, which tells where among the words an item begins.
+//! The number of words that items write, by which the first word of an item is found.
 ghost use Rattle.std.specs.Prelude.{◌≡◌, ◌<◌, ◌^◌, length};
 ghost use Rattle.job_syntax.specs.Grammar.{unary_op_words, leaf_words, kind_words, items_words};
 ghost use Rattle.job_syntax.specs.Views.{unary_op_of, leaf_of, block_kind_of, item_of, items_of};
@@ -29,7 +29,7 @@ fn leaf_word_count(leaf: Leaf) -> usize
     }
 }
 
-/// The words that open a block, without its brace.
+/// The number of words that open a block, without its brace.
 fn kind_word_count(kind: BlockKind) -> usize
     ensures { result ≡ length (kind_words (block_kind_of kind)) }
 {

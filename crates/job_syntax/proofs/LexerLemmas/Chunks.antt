@@ -26,7 +26,7 @@ plain byte chunk =
     let parts = none_of (byte == 9) (byte == 10) (byte == 13) (byte == 32) (byte == 123) (byte == 125) (byte == 35) chunk in
     record { feed = parts.0; hash = parts.1; blank = parts.2; brace = parts.3 }
 
--- comments aside, a text begins in a chunk where its first byte is one of a chunk
+-- removing comments does not change whether a text begins in a chunk
 begins-bare :
     (byte : ℕ) (text : List ℕ) (feed hash : Bool) → (byte == 10) ≡ feed → (byte == 35) ≡ hash
     → begins_in_chunk (if feed then 10 ∷ bare false text else if hash then 32 ∷ bare true text else byte ∷ bare false text) ≡ is_in_chunk byte
@@ -50,7 +50,7 @@ run_off byte text other = rw other refl
 abbrev first_of : ℕ → ℕ → List ℕ → List Token
 first_of line len text = record { text = take len text; line = line } ∷ tokens_from line (bare false (drop len text))
 
--- the chunk of a byte, and of those of a chunk behind it
+-- the token of a byte of a chunk is the byte and the run of chunk bytes behind it
 abbrev BeginsChunk : ℕ → ℕ → List ℕ → Type 0
 BeginsChunk line byte text = tokens_from line (bare false (byte ∷ text)) ≡ first_of line (suc (run text)) (byte ∷ text)
 

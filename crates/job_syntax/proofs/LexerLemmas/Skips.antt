@@ -1,4 +1,4 @@
--- Blanks and comments at the front are passed.
+-- Skipping blanks and comments at the front keeps the tokens.
 use Rattle.std.proofs.Common.{◌≡◌, ◌≢◌, ℕ, ◌-◌, ◌≤◌, [], ◌∷◌, List, length, get_or, take, drop, Bool, true, false, refl, ◌∙◌, arith, eqb-true}
 use Rattle.std.proofs.lemmas.Bool.{ne_eqb}
 use Rattle.std.proofs.Math.Seq.{take-length}
@@ -6,11 +6,11 @@ use Rattle.std.specs.Prelude.{IsTrue, ◌==◌}
 use Rattle.job_syntax.specs.Text.{tokens_from, forbidden_line_from, bare}
 use Rattle.job_syntax.specs.Code.Fronts.{begins_token, behind_comment}
 
--- the rest of a slice, as its pattern has it
+-- the rest of a slice, as the pattern's length gives it
 rest_is : (byte : ℕ) (text : List ℕ) → take (length (byte ∷ text) - 1) text ≡ text
 rest_is byte text = let same : length (byte ∷ text) - 1 ≡ length text = omega arith in rw same (take-length text)
 
--- what passes a blank passes a comment
+-- a reading that skips a space skips a comment
 
 comment_step : {A : Type 0} (read : List ℕ → A) → ((text : List ℕ) → read (32 ∷ text) ≡ read text) → (byte : ℕ) (text : List ℕ) (feed : Bool) → read (bare true text) ≡ read (bare false (behind_comment text)) → (byte == 10) ≡ feed
     → read (bare true (byte ∷ text)) ≡ read (bare false (behind_comment (byte ∷ text)))

@@ -12,7 +12,7 @@ use Rattle.job_syntax.proofs.ParserLemmas.Derivations.{words_then}
 use Rattle.job_syntax.proofs.ParserLemmas.Runs.{run-none, run-append, run_derived}
 use Rattle.job_syntax.proofs.ParserLemmas.Reached.{opening_words, AreBlocks, IsReached, start_reached, fits-then, moved, added, reach, reach_brace}
 
--- the items, once each open block is closed
+-- the items after each open block is closed
 abbrev completed : List OpenBlock → Items → Items
 completed [] items = items
 completed (block ∷ blocks) items = completed blocks (block.before then block_then block.kind items nothing)
@@ -31,7 +31,7 @@ fits-completed [] items outer fits = fits
 fits-completed (block ∷ blocks) items outer fits =
     fits-completed blocks _ outer.2 (fits-then (are_looped blocks) block.before (block_then block.kind items nothing) outer.0 (outer.1, fits, tt))
 
--- where one more token can stand
+-- words that can go on after one more token can go on
 goes_on_by : (words : List Word) (text : List ℕ) → CanGoOn (words ++ word_of text ∷ []) → CanGoOn words
 goes_on_by words text goes = record {
   further = text ∷ goes.further;
@@ -77,7 +77,7 @@ goes_on words blocks items pfor_copies reached =
     goes_on_by words (codes "0") (goes_on_brace (pfor_loop zero) (moved (a_brace (pfor_loop zero)) zero reached refl refl))
 goes_on words blocks items (a_brace kind) reached = goes_on_brace kind reached
 
--- many more words
+-- the same for a list of further words
 reach_all : (more words : List Word) (from : Option State) → IfSome from (IsReached words) → IfSome (run from more) (IsReached (words ++ more))
 reach_all [] words from reached = subst (λ all. IfSome from (IsReached all)) (sym (append-nil words)) reached
 reach_all (first ∷ more) words None reached = rw (run-none more) tt
@@ -89,7 +89,7 @@ goes_on_from : (words more : List Word) (items : Items) (to : Option State) → 
 goes_on_from words more items None reached leads = let dies = run-none more in absurd (cc (dies, leads))
 goes_on_from words more items (Some state) reached leads = goes_on words state.blocks state.items state.place reached
 
--- The front of a derived list can go on.
+-- Each front of a derived list can go on.
 pub front_goes_on : (words more : List Word) (items : Items) → Derives (words ++ more) items → CanGoOn words
 front_goes_on words more items derives =
     goes_on_from words more items (run (Some start) words) (reach_all words [] (Some start) start_reached)

@@ -23,15 +23,15 @@ item_of_leaf l = search (rules, the_lemmas)
 pub item_of_block : (h : CodeBlockKind) (v : Vec Item Global) → item_of (Block h v) ≡ block_then (block_kind_of h) (items_of v.items) nothing
 item_of_block h v = search (rules, the_lemmas)
 
--- the first items, and one more
+-- the derivation of the first items and one more
 pub items_of_more : (xs : List Item) (i : ℕ) (x : Item) → i < length xs → x ≡ get_or xs i x → items_of (take (i + 1) xs) ≡ items_of (take i xs) then item_of x
 items_of_more xs i x h e =
     ap items_of (take_more xs i x h) ∙ items_of_push (take i xs) (get_or xs i x) ∙ ap (λ y. items_of (take i xs) then item_of y) (sym e)
 
--- the first items, and the others
+-- the derivations of the first items and of the others make that of all
 pub items_of_parts : (xs : List Item) (i : ℕ) → items_of (take i xs) then items_of (drop i xs) ≡ items_of xs
 items_of_parts xs i = sym (items_of_append (take i xs) (drop i xs)) ∙ ap items_of (take-append-drop i xs)
 
--- any item is one level over the items inside
+-- each item is one level over the items inside it
 pub level_of : (x : Item) → (y : Item-F Items) × (item_of x ≡ item_step y)
 level_of x = (map-Item Item Items item_of (out-Item x), fold_out-Item Items item_step x)

@@ -1,4 +1,4 @@
--- What the machine answers is the derivation or the first fault.
+-- The machine's answer is the derivation or the first fault.
 use Rattle.std.proofs.Common.{◌≡◌, ℕ, ◌+◌, ◌-◌, ◌<◌, List, [], ◌∷◌, ◌++◌, length, Bool, true, false, Option, Some, None, Result, Ok, Err, refl, sym, ap, ◌∙◌, append_assoc, append-nil, arith, subst, inl, inr}
 use Rattle.std.proofs.lemmas.List.{map-append}
 use Rattle.std.proofs.lemmas.Bool.{leb-true, leb-false}
@@ -16,7 +16,7 @@ use Rattle.job_syntax.proofs.ParserLemmas.Runs.{run-append, run_derived, dead}
 use Rattle.job_syntax.proofs.ParserLemmas.Reached.{IsReached, start_reached, reach}
 use Rattle.job_syntax.proofs.ParserLemmas.Completions.{goes_on}
 
--- how many blocks are open after a step
+-- the number of open blocks after a step
 depth_item : (blocks : List OpenBlock) (items : Items) (word : Word) → IfSome (item_step blocks items word) (λ state. length state.blocks ≡ open_behind (length blocks) (word ∷ []))
 depth_item [] items Close = tt
 depth_item (block ∷ blocks) items Close = omega arith
@@ -63,13 +63,13 @@ open_behind-append n (Open ∷ a) b = open_behind-append (n + 1) a b
 open_behind-append n (Close ∷ a) b = open_behind-append (n - 1) a b
 open_behind-append n (_ ∷ a) b = open_behind-append n a b
 
--- the state that the tokens lead to
+-- the state is the one after the tokens
 record Stands (before : List WordOnLine) (state : State) : Type 0 where
   pub runs : run (Some start) (words_of before) ≡ Some state
   pub reached : IsReached (words_of before) state
   pub open_now : length state.blocks ≡ open_behind 0 (words_of before)
 
--- the items of all tokens, of which those behind the first ones have no fault, or their fault
+-- the answer is the items of all tokens, where none of those after `before` has a fault, or else their fault
 abbrev pub AreAnswer : ℕ → List WordOnLine → List WordOnLine → Result Items JobFault → Type 0
 AreAnswer last before tokens answer =
     MatchResult answer (λ items. Derives (words_of (before ++ tokens)) items × AreClean before tokens) (IsReadingFaultBehind last before tokens)
@@ -102,7 +102,7 @@ at_end last before blocks items for_copies stands = (refl, no_place before block
 at_end last before blocks items pfor_copies stands = (refl, no_place before blocks items pfor_copies stands.runs (λ e. cc))
 at_end last before blocks items (a_brace kind) stands = (refl, no_place before blocks items (a_brace kind) stands.runs (λ e. cc))
 
--- after one more token
+-- the run over one more token
 run-push : (before : List WordOnLine) (state : State) (token : WordOnLine) (to : Option State) → run (Some start) (words_of before) ≡ Some state → step state token.word ≡ to →
     run (Some start) (words_of (before ++ token ∷ [])) ≡ to
 run-push before state token to runs e =
@@ -168,6 +168,6 @@ answer_behind last [] before state stands = at_end last before state.blocks stat
 answer_behind last (token ∷ tokens) before state stands =
     at_step last token tokens before state stands (λ front next h. answer_behind last tokens front next h) _ refl
 
--- The machine's answer on all tokens is the derivation, or the fault.
+-- The machine's answer on all tokens is their items or their fault.
 pub answer_on_all : (last : ℕ) (tokens : List WordOnLine) → AreAnswer last [] tokens (read_from last start tokens)
 answer_on_all last tokens = answer_behind last tokens [] start (record { runs = refl; reached = start_reached; open_now = refl })

@@ -1,4 +1,4 @@
--- How deep derived items nest, and how many blocks are open at each `{` of their words.
+-- The nesting of derived items, and the number of blocks open at each `{` of their words.
 use Rattle.std.proofs.Common.{◌≡◌, ℕ, ◌+◌, ◌-◌, ◌<◌, ◌≤◌, List, [], ◌∷◌, ◌++◌, refl, sym, ap, ◌∙◌, append_assoc, arith, subst}
 use Rattle.std.specs.Prelude.{Bool, IsTrue, ◌||◌, ◌↔◌}
 use Rattle.std.specs.List.{AllByRecursion}
@@ -12,14 +12,14 @@ use Rattle.job_syntax.specs.Blocks.{nesting}
 use Rattle.job_syntax.proofs.ParserLemmas.MachineAnswers.{open_behind-push}
 use Rattle.job_syntax.proofs.ParserLemmas.Completions.{front_goes_on}
 
--- each `{` finds fewer than 32 open blocks, where the number says how many are open at the front
+-- at each `{` fewer than 32 blocks are open, where `n` are open at the front
 abbrev pub AreNested : ℕ → List Word → Type 0
 AreNested n [] = Unit {0}
 AreNested n (Open ∷ words) = (n < 32) × AreNested (n + 1) words
 AreNested n (Close ∷ words) = AreNested (n - 1) words
 AreNested n (_ ∷ words) = AreNested n words
 
--- no brace stands in a leaf, nor in the words that open a block
+-- neither a leaf nor the head of a block has a brace
 skip_argument : (looped : Bool) (n : ℕ) (argument : Word) (words : List Word) → IsTrue (is_argument looped argument) → AreNested n (argument ∷ words) ↔ AreNested n words
 skip_argument looped n (Number number) words fits = ((λ h. h), (λ h. h))
 skip_argument looped n (Copies by) words fits = ((λ h. h), (λ h. h))
@@ -59,7 +59,7 @@ block_front kind body more words =
 after_close_again : (n : ℕ) → n + 1 - 1 ≡ n
 after_close_again n = omega arith
 
--- from the braces to the items
+-- the nesting of items follows from the blocks open at their braces
 pub nesting_within : (looped : Bool) (n : ℕ) (items : Items) (words : List Word) → AreItems looped items → n ≤ 32 →
     AreNested n (items_words items ++ words) → (n + nesting items ≤ 32) × AreNested n words
 nesting_within looped n nothing words fits room within_nesting = (omega (arith, room), within_nesting)
@@ -73,7 +73,7 @@ nesting_within looped n (block_then kind body more) words fits room within_nesti
     let rest = nesting_within looped n more words fits.2 room (subst (λ m. AreNested m (items_words more ++ words)) (after_close_again n) first.1) in
     (omega (arith, first.0, rest.0), rest.1)
 
--- from the items to the braces
+-- the blocks open at the braces follow from the nesting of the items
 pub nested_within : (looped : Bool) (n : ℕ) (items : Items) (words : List Word) → AreItems looped items → n + nesting items ≤ 32 →
     AreNested n words → AreNested n (items_words items ++ words)
 nested_within looped n nothing words fits room within_nesting = within_nesting
@@ -87,7 +87,7 @@ nested_within looped n (block_then kind body more) words fits room within_nestin
     subst (AreNested n) (sym (block_front kind body more words))
     ((skip_kind n kind (items_words body ++ Close ∷ (items_words more ++ words)) fits.0).1 (omega (arith, room), first))
 
--- one word
+-- the same for one word
 nested_first : (n : ℕ) (word : Word) (words : List Word) → (word ≡ Open → n < 32) → AreNested (open_behind n (word ∷ [])) words → AreNested n (word ∷ words)
 nested_first n Open words room within_nesting = (room refl, within_nesting)
 nested_first n Close words room within_nesting = within_nesting

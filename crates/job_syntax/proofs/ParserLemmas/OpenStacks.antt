@@ -1,4 +1,4 @@
--- The open blocks and the items of the code, after a change.
+-- The view of the code's `BlockStack` after each change.
 use Rattle.std.proofs.Common.{◌≡◌, ◌+◌, List, [], ◌∷◌, ◌++◌, length, Bool, true, false, Some, refl, sym, ap, ◌∙◌, arith, Vec, Global, vec_len, eqb-true, eq-eqb}
 use Rattle.std.specs.Prelude.{◌==◌, IsTrue, ◌||◌}
 use Rattle.std.specs.List.{list_any}
@@ -61,7 +61,7 @@ outside_now blocks empty e = (
   (λ h. e ∙ eq-eqb (vec_len blocks) 0 (blocks.ok.0 ∙ ap length (none_when_none_seen blocks.items h))),
 )
 
--- the innermost block is closed
+-- the view after the innermost block is closed
 pub closing : (old rest : List OpenBlock) (block : OpenBlock) (body : Vec Item Global) (new : List Item) → old ≡ rest ++ block ∷ [] → new ≡ block.before.items ++ Block block.kind body ∷ [] → after_close (blocks_on [] old) (items_of body.items) ≡ Some (at (blocks_on [] rest) (items_of new) an_item)
 closing old rest block body new e f =
     ap (λ blocks. after_close (blocks_on [] blocks) (items_of body.items)) e

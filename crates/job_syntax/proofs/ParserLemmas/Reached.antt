@@ -1,4 +1,4 @@
--- What a state that the machine reaches says of the words that led there.
+-- What a state that the machine reaches implies for the words that led there.
 use Rattle.std.proofs.Common.{◌≡◌, List, [], ◌∷◌, ◌++◌, Bool, true, false, Option, Some, None, refl, sym, ap, ◌∙◌, append_assoc, append-nil}
 use Rattle.std.specs.Prelude.{if◌then◌else◌, IfSome}
 use Rattle.job_syntax.specs.declared.lexer.word.Word.{Word}
@@ -9,7 +9,7 @@ use Rattle.job_syntax.specs.Grammar.{Items, nothing, leaf_then, block_then, ◌t
 use Rattle.job_syntax.specs.Code.Machine.{OpenBlock, ParsedCall, unary, whole, call_behind, Place, an_item, an_argument, a_call, for_copies, pfor_copies, a_brace, State, at, start, are_looped, with_leaf, after_open, item_step, call_step, step_at}
 use Rattle.job_syntax.proofs.ParserLemmas.Derivations.{words_then}
 
--- the words that lead into the open blocks
+-- the words that open the blocks, with the items before them
 abbrev pub opening_words : List OpenBlock → List Word
 opening_words [] = []
 opening_words (block ∷ blocks) = opening_words blocks ++ (items_words block.before ++ (kind_words block.kind ++ Open ∷ []))
@@ -39,7 +39,7 @@ abbrev pub IsPlace : Place → Type 0
 IsPlace (a_brace kind) = IsBlockKind kind
 IsPlace _ = Unit {0}
 
--- The words lead to the state, and what was read so far fits.
+-- The words are those that lead to this state, and its items and its place fit the grammar.
 pub record IsReached (words : List Word) (state : State) : Type 0 where
   pub writes : state_words state ≡ words
   pub blocks : AreBlocks state.blocks
@@ -59,7 +59,7 @@ longer : (front items place next words : List Word) (last : Word) → front ++ (
 longer front items place next words last writes e =
     ap (λ end. front ++ (items ++ end)) (sym e) ∙ simp append_assoc refl ∙ ap (λ all. all ++ last ∷ []) writes
 
--- the place alone changes
+-- a step that changes only the place
 pub moved : {words : List Word} {blocks : List OpenBlock} {items : Items} {old : Place} (new : Place) (last : Word) →
     IsReached words (at blocks items old) → place_words old ++ last ∷ [] ≡ place_words new → IsPlace new →
     IsReached (words ++ last ∷ []) (at blocks items new)
@@ -70,7 +70,7 @@ moved {words} {blocks} {items} {old} new last reached e fits = record {
   place = fits;
 }
 
--- a leaf is whole
+-- a step that completes a leaf
 pub added : {words : List Word} {blocks : List OpenBlock} {items : Items} {old : Place} (leaf : Leaf) (last : Word) →
     IsReached words (at blocks items old) → place_words old ++ last ∷ [] ≡ leaf_words leaf → IsLeaf (are_looped blocks) leaf →
     IsReached (words ++ last ∷ []) (with_leaf blocks items leaf)
@@ -99,7 +99,7 @@ reach_pfor : (words : List Word) (blocks : List OpenBlock) (items : Items) (last
 reach_pfor words blocks items last reached false e = tt
 reach_pfor words blocks items last reached true e = moved (a_brace (pfor_loop last)) last reached refl e
 
--- the words of a call, and what a whole one needs
+-- the words of a call, and what a whole one needs to fit
 abbrev call_words : ParsedCall → List Word
 call_words (unary op) = unary_op_words op
 call_words (whole leaf) = leaf_words leaf
@@ -161,7 +161,7 @@ reach_item words blocks items For reached = moved for_copies For reached refl tt
 reach_item words blocks items Pfor reached = moved pfor_copies Pfor reached refl tt
 reach_item words blocks items _ reached = tt
 
--- one more word
+-- a step by one word reaches its state by the words so far and this one
 pub reach : (words : List Word) (blocks : List OpenBlock) (items : Items) (place : Place) (last : Word) → IsReached words (at blocks items place) →
     IfSome (step_at blocks items place last) (IsReached (words ++ last ∷ []))
 reach words blocks items an_item last reached = reach_item words blocks items last reached

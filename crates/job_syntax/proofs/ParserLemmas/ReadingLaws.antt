@@ -18,7 +18,7 @@ use Rattle.job_syntax.proofs.ParserLemmas.Nestings.{AreNested, nesting_within, n
 whole_words : (tokens : List WordOnLine) (items : Items) → Derives (words_of tokens) items → words_of tokens ≡ items_words items ++ []
 whole_words tokens items derives = sym derives.writes ∙ sym (append-nil (items_words items))
 
--- What is derived and has no fault are items within the limits of numbers and of nesting.
+-- Derived tokens without a fault have their items: they keep the limits of numbers and of nesting.
 pub items_when_clean : (tokens : List WordOnLine) (items : Items) → Derives (words_of tokens) items → AreClean [] tokens → AreItemsOf tokens items
 items_when_clean tokens items derives clean = record {
   derives = derives;
@@ -29,7 +29,7 @@ items_when_clean tokens items derives clean = record {
       omega (arith, within.0);
 }
 
--- In a list of words that has items no token has a fault.
+-- In a list of words that has items, no token has a fault.
 pub clean_when_items : (tokens : List WordOnLine) (items : Items) → AreItemsOf tokens items → AreClean [] tokens
 clean_when_items tokens items read =
     let within_nesting = nested_within false 0 items [] read.derives.fits (omega (arith, read.nests)) tt in
@@ -43,11 +43,11 @@ one_items tokens a b read also = one_derivation read.derives also.derives
 pub one_reading_fault : (last : ℕ) (tokens : List WordOnLine) (f g : JobFault) → IsReadingFault last tokens f → IsReadingFault last tokens g → f ≡ g
 one_reading_fault last tokens f g found also = one_fault_behind last tokens [] f g found also
 
--- What has items has no fault.
+-- A list of words that has items has no fault.
 pub items_or_fault : (last : ℕ) (tokens : List WordOnLine) (items : Items) (f : JobFault) → AreItemsOf tokens items → IsReadingFault last tokens f → ⊥
 items_or_fault last tokens items f read found = derived_or_fault last tokens [] items f read.derives (clean_when_items tokens items read) found
 
--- what the machine answers are the items, or the fault
+-- the machine's answer is the items, or the fault
 items_read : (last : ℕ) (tokens : List WordOnLine) (items : Items) → read_from last start tokens ≡ Ok items → AreItemsOf tokens items
 items_read last tokens items e =
     let answer = subst (AreAnswer last [] tokens) e (answer_on_all last tokens) in
@@ -65,7 +65,7 @@ either last tokens (Err f) e = inr (f, fault_read last tokens f e)
 pub items_or_reading_fault : (last : ℕ) (tokens : List WordOnLine) → ((items : Items) × AreItemsOf tokens items) ⊎ ((f : JobFault) × IsReadingFault last tokens f)
 items_or_reading_fault last tokens = either last tokens (read_from last start tokens) refl
 
--- what was read are the items, and what was refused has the fault
+-- a result that agrees with the machine is the items, or the fault
 pub given_items : {X : Type 0} (last : ℕ) (tokens : List WordOnLine) (view : X → Items) (result : Result X JobErr) → Gives view result (read_from last start tokens) →
     IfOk result (λ read. AreItemsOf tokens (view read))
 given_items last tokens view (Ok read) gives = items_read last tokens (view read) gives

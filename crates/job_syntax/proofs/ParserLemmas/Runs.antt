@@ -1,4 +1,4 @@
--- What the machine does on what the grammar derives.
+-- The machine's run on words that the grammar derives.
 use Rattle.std.proofs.Common.{◌≡◌, List, [], ◌∷◌, ◌++◌, Option, Some, None, refl, sym, ap, ◌∙◌, append_assoc, append-nil}
 use Rattle.std.specs.Prelude.{option_and_then, map}
 use Rattle.job_syntax.specs.declared.lexer.word.Word.{Word}
@@ -8,17 +8,17 @@ use Rattle.job_syntax.specs.Grammar.{Items, nothing, leaf_then, block_then, ◌t
 use Rattle.job_syntax.proofs.ParserLemmas.Derivations.{then_assoc, then_nothing}
 use Rattle.job_syntax.specs.Code.Machine.{OpenBlock, an_item, State, at, start, are_looped, with_leaf, after_open, step, run}
 
--- a run over two lists is two runs
+-- a run over two lists is a run over one and then the other
 pub run-append : (state : Option State) (a b : List Word) → run state (a ++ b) ≡ run (run state a) b
 run-append state [] b = refl
 run-append state (first ∷ a) b = run-append (option_and_then (λ state. step state first) state) a b
 
--- a dead run stays dead
+-- a run that has failed stays failed
 pub run-none : (words : List Word) → run None words ≡ None
 run-none [] = refl
 run-none (first ∷ words) = run-none words
 
--- the words of a leaf lead past it
+-- the words of a leaf lead to the state with that leaf
 run_leaf : (blocks : List OpenBlock) (items : Items) (leaf : Leaf) (words : List Word) → IsLeaf (are_looped blocks) leaf →
     run (Some (at blocks items an_item)) (leaf_words leaf ++ words) ≡ run (Some (with_leaf blocks items leaf)) words
 run_leaf blocks items (with_argument work argument) words fits = rw fits refl
@@ -32,7 +32,7 @@ run_leaf blocks items (with_argument queue_insert argument) words fits = rw fits
 run_leaf blocks items stack_pop words fits = refl
 run_leaf blocks items queue_take words fits = refl
 
--- the words that open a block lead into it
+-- the words that open a block lead to the state inside it
 run_kind : (blocks : List OpenBlock) (items : Items) (kind : BlockKind) (words : List Word) → IsBlockKind kind →
     run (Some (at blocks items an_item)) (kind_words kind ++ Open ∷ words) ≡ run (Some (after_open blocks items kind)) words
 run_kind blocks items seq_block words fits = refl
@@ -40,7 +40,7 @@ run_kind blocks items par_block words fits = refl
 run_kind blocks items (for_loop copies) words fits = rw fits refl
 run_kind blocks items (pfor_loop copies) words fits = rw fits refl
 
--- the words of items lead past them
+-- the words of items lead to the state with those items
 run_items : (blocks : List OpenBlock) (before items : Items) (words : List Word) → AreItems (are_looped blocks) items →
     run (Some (at blocks before an_item)) (items_words items ++ words) ≡ run (Some (at blocks (before then items) an_item)) words
 run_items blocks before nothing words fits = rw then_nothing refl
@@ -57,14 +57,14 @@ run_items blocks before (block_then kind body more) words fits =
     ∙ run_items blocks (before then block_then kind body nothing) more words fits.2
     ∙ ap (λ items. run (Some (at blocks items an_item)) words) (then_assoc before (block_then kind body nothing) more)
 
--- what is derived leads to its items, with no block open
+-- derived words lead to their items, with no block open
 pub run_derived : {words : List Word} {items : Items} → Derives words items → run (Some start) words ≡ Some (at [] items an_item)
 run_derived {words} {items} derives =
     ap (run (Some start)) (sym derives.writes)
     ∙ ap (run (Some start)) (sym (append-nil (items_words items)))
     ∙ run_items [] nothing items [] derives.fits
 
--- where the machine is dead nothing more helps
+-- words on which the machine fails cannot go on
 pub dead : (words : List Word) → run (Some start) words ≡ None → CanGoOn words → ⊥
 dead words stops goes =
     let more = map word_of goes.further in
@@ -74,7 +74,7 @@ dead words stops goes =
     let d : run (run (Some start) words) more ≡ run None more = ap (λ state. run state more) stops in
     cc (a, b, c, d)
 
--- a list has one derivation
+-- a list of words has one derivation
 pub one_derivation : {words : List Word} {a b : Items} → Derives words a → Derives words b → a ≡ b
 one_derivation {words} {a} {b} derives also =
     let p = run_derived derives in

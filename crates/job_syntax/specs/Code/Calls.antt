@@ -1,4 +1,4 @@
--- The parsed calls of the code, as calls of the machine.
+-- The view of the code's parsed calls, as calls of the machine.
 use Rattle.std.specs.Prelude.{Option, Some, None}
 use Rattle.job_syntax.specs.declared.parser.call.ParsedCall.{ParsedCall}
 use Rattle.job_syntax.specs.declared.parser.call.ParsedCall.TheVariants.{WithArgument, Whole}

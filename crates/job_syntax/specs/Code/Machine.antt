@@ -1,4 +1,4 @@
--- A machine that reads one word at a time.
+-- A state machine that reads one word at a time: the parser, as its proofs see it.
 use Rattle.std.specs.Prelude.{ℕ, List, [], ◌∷◌, Bool, false, ◌||◌, Option, Some, None, if◌then◌else◌, option_and_then, nat_le, length, Result, Ok, Err}
 use Rattle.job_syntax.specs.declared.lexer.word.Word.{Word}
 use Rattle.job_syntax.specs.declared.lexer.word.Word.TheVariants.{Open, Close, Work, Counter, Stack, Tree, Queue, Add, Push, Pop, Insert, Remove, Find, Next, Take, Seq, Par, For, Pfor}
@@ -10,17 +10,17 @@ use Rattle.job_syntax.specs.declared.parser.call.Object.TheVariants as object
 use Rattle.job_syntax.specs.Grammar.{Items, nothing, leaf_then, block_then, ◌then◌, BlockKind, seq_block, par_block, for_loop, pfor_loop, Leaf, with_argument, stack_pop, queue_take, UnaryOp, work, counter_add, stack_push, tree_insert, tree_remove, tree_find, tree_next, queue_insert, is_loop, is_number, is_argument}
 use Rattle.job_syntax.specs.Faults.{has_good_numbers}
 
--- an open block: the items before it, and what opened it
+-- an open block: the items before it, and its head
 pub record OpenBlock : Type 0 where
   pub before : Items
   pub kind : BlockKind
 
--- a call whose argument is still to come, or one that is whole
+-- a call that still needs its argument, or a whole leaf
 pub data ParsedCall : Type 0 where
   unary : UnaryOp → ParsedCall
   whole : Leaf → ParsedCall
 
--- the call that a word behind the name of an object says
+-- the call that an object's name and the word behind it spell, if any
 abbrev pub call_behind : Object → Word → Option ParsedCall
 call_behind object.Counter Add = Some (unary counter_add)
 call_behind object.Stack Push = Some (unary stack_push)
@@ -33,7 +33,7 @@ call_behind object.Queue Insert = Some (unary queue_insert)
 call_behind object.Queue Take = Some (whole queue_take)
 call_behind _ _ = None
 
--- what has to come next
+-- what must come next
 pub data Place : Type 0 where
   an_item : Place
   an_argument : UnaryOp → Place
@@ -42,7 +42,7 @@ pub data Place : Type 0 where
   pfor_copies : Place
   a_brace : BlockKind → Place
 
--- the open blocks, the innermost first, the items so far in the innermost, and what comes next
+-- the open blocks, the innermost first; the items read so far inside the innermost; and what must come next
 pub record State : Type 0 where
   pub blocks : List OpenBlock
   pub items : Items
@@ -54,20 +54,20 @@ at blocks items place = record { blocks = blocks; items = items; place = place }
 abbrev pub start : State
 start = at [] nothing an_item
 
--- whether one of the open blocks is a loop
+-- whether an open block is a loop
 abbrev pub are_looped : List OpenBlock → Bool
 are_looped [] = false
 are_looped (block ∷ blocks) = are_looped blocks || is_loop block.kind
 
--- the state behind one more leaf
+-- the state after one more leaf
 abbrev pub with_leaf : List OpenBlock → Items → Leaf → State
 with_leaf blocks items leaf = at blocks (items then leaf_then leaf nothing) an_item
 
--- the state inside one more block
+-- the state after one more block is opened
 abbrev pub after_open : List OpenBlock → Items → BlockKind → State
 after_open blocks items kind = at (record { before = items; kind = kind } ∷ blocks) nothing an_item
 
--- the state behind the innermost block, if one is open
+-- the state after the innermost block is closed, if one is open
 abbrev pub after_close : List OpenBlock → Items → Option State
 after_close [] items = None
 after_close (block ∷ blocks) items = Some (at blocks (block.before then block_then block.kind items nothing) an_item)
@@ -109,24 +109,25 @@ step_at blocks items (a_brace kind) word = brace_step blocks items kind word
 abbrev pub step : State → Word → Option State
 step state word = step_at state.blocks state.items state.place word
 
--- the state to which the words lead
+-- the state after the words, or `None` once a word does not fit
 abbrev pub run : Option State → List Word → Option State
 run state [] = state
 run state (word ∷ words) = run (option_and_then (λ state. step state word) state) words
 
--- a `{` needs a place among the open blocks
+-- a `{` is a fault where 32 blocks are open
 abbrev pub within_nesting : ℕ → ℕ → Word → State → Result State JobFault
 within_nesting line open_now Open new = if nat_le 32 open_now then Err (fault.Nesting line) else Ok new
 within_nesting line open_now _ new = Ok new
 
--- one token and where it leads, with the faults of numbers and of nesting
+-- One token and the state after it. A token that does not fit is a `Grammar` fault; else bad numbers are a `Number`
+-- fault; else a `{` too many is a `Nesting` fault.
 abbrev pub checked_step : State → WordOnLine → Option State → Result State JobFault
 checked_step state token None = Err (fault.Grammar token.line)
 checked_step state token (Some new) =
     if has_good_numbers token.word then within_nesting token.line (length state.blocks) token.word new
     else Err (fault.Number token.line)
 
--- the end of the tokens, where the last line is given
+-- at the end of the tokens: the items, or a `Grammar` fault on line `last` where something is still open
 abbrev pub end_at : ℕ → Place → List OpenBlock → Items → Result Items JobFault
 end_at last an_item [] items = Ok items
 end_at last _ _ items = Err (fault.Grammar last)
@@ -135,7 +136,7 @@ abbrev pub on_state : (State → Result Items JobFault) → Result State JobFaul
 on_state f (Ok state) = f state
 on_state f (Err found) = Err found
 
--- the items of the tokens from a state on, or the first fault
+-- the items that the tokens make from this state on, or the first fault
 abbrev pub read_from : ℕ → State → List WordOnLine → Result Items JobFault
 read_from last state [] = end_at last state.place state.blocks state.items
 read_from last state (token ∷ tokens) =

@@ -1,4 +1,4 @@
--- The open blocks and the items of the code as a state of the machine.
+-- The view of the code's `BlockStack`, as a state of the machine.
 use Rattle.std.specs.Prelude.{List, [], ◌∷◌}
 use Rattle.job_syntax.specs.declared.parser.blocks.OpenBlock.{OpenBlock}
 use Rattle.job_syntax.specs.declared.parser.blocks.BlockStack.{BlockStack}
@@ -9,7 +9,7 @@ use Rattle.job_syntax.specs.Views.{items_of, block_kind_of}
 abbrev pub block_view : OpenBlock → machine.OpenBlock
 block_view block = record { before = items_of block.before.items; kind = block_kind_of block.kind }
 
--- the open blocks, the innermost first, on top of others
+-- the open blocks, turned round so that the innermost is first, before those of `under`
 abbrev pub blocks_on : List machine.OpenBlock → List OpenBlock → List machine.OpenBlock
 blocks_on under [] = under
 blocks_on under (block ∷ blocks) = blocks_on (block_view block ∷ under) blocks

@@ -1,4 +1,4 @@
--- The tokens that are left to a scanner.
+-- The view of a scanner: the tokens that are left to it.
 use Rattle.std.specs.Prelude.{List, false}
 use Rattle.job_syntax.specs.declared.lexer.scanner.Scanner.{Scanner}
 use Rattle.job_syntax.specs.Text.{Token, tokens_from, bare}

@@ -1,4 +1,4 @@
-//! The tokens of a text, one after another.
+//! The scanner: the tokens of a text, one after another.
 ghost use Rattle.std.specs.Prelude.{◌≡◌, ◌+◌, ◌<◌, ◌≤◌, ◌^◌, [], ◌∷◌, MatchOption, length, IsTrue};
 ghost use Rattle.std.specs.List.{prefix_len};
 ghost use Rattle.job_syntax.specs.Text.{is_brace, is_in_chunk, tokens};
@@ -6,14 +6,14 @@ ghost use Rattle.job_syntax.specs.Code.Fronts.{begins_token, token_len};
 
 use crate::lexer::text::behind_comment;
 
-/// A brace or a chunk, and the line of its first byte.
+/// A token, which is a brace or a chunk, and the line of its first byte.
 #[derive(Clone, Copy)]
 pub(crate) struct Token<'a> {
     pub(crate) text: &'a [u8],
     pub(crate) line: u32,
 }
 
-/// The text that is left to scan, and the line at its front.
+/// The text that is left to scan, and the line number at its front.
 #[derive(Drop)]
 pub(crate) struct Scanner<'a> {
     text: &'a [u8],
@@ -21,14 +21,14 @@ pub(crate) struct Scanner<'a> {
     ghost line_fits: { line + length text.now < 2 ^ 32 },
 }
 
-/// Whether a byte is a brace.
+/// Whether a byte is `{` or `}`.
 fn is_brace(byte: u8) -> bool
     ensures { result ≡ is_brace byte }
 {
     matches!(byte, b'{' | b'}')
 }
 
-/// Whether a byte outside comments belongs to a chunk. The first test is enough for most of them.
+/// Whether a byte outside comments belongs to a chunk. The first test decides most bytes.
 fn is_in_chunk(byte: u8) -> bool
     ensures { result ≡ is_in_chunk byte }
 {
@@ -36,7 +36,7 @@ fn is_in_chunk(byte: u8) -> bool
         || !matches!(byte, b'\t' | b'\n' | b'\r' | b' ' | b'{' | b'}' | b'#')
 }
 
-/// The number of bytes of a chunk at the front.
+/// The length of the chunk at the front, 0 where none is.
 fn chunk_len(text: &[u8]) -> usize
     ensures { result ≡ prefix_len (λ byte. is_in_chunk byte) text.now }
 {
@@ -48,7 +48,7 @@ fn chunk_len(text: &[u8]) -> usize
     text.len()
 }
 
-/// The number of bytes of the token at the front.
+/// The length of the token at the front.
 fn token_len(text: &[u8]) -> usize
     ensures { result ≡ token_len text.now }
 {
@@ -61,7 +61,7 @@ fn token_len(text: &[u8]) -> usize
 impl<'a> Scanner<'a> {
     ghost use Rattle.job_syntax.specs.Code.Scanners.{tokens_left};
 
-    /// Stands at the front of a text, on its first line.
+    /// A scanner at the front of a text, on line 1.
     pub(crate) fn new(text: &'a [u8]) -> Scanner<'a>
         requires { length text.now ≤ 1048576 }
         ensures { tokens_left result ≡ tokens text.now }
@@ -69,7 +69,7 @@ impl<'a> Scanner<'a> {
         Scanner { text, line: 1 }
     }
 
-    /// Skips the blanks and the comments at the front.
+    /// Skips the blanks and comments at the front.
     #[tactic(auto, using(crate::proofs::LexerLemmas::Skips::passes))]
     fn skip(&mut self)
         ensures left { tokens_left self.new ≡ tokens_left self.old }
@@ -88,7 +88,7 @@ impl<'a> Scanner<'a> {
         }
     }
 
-    /// The next token.
+    /// Takes the next token, if one is left.
     #[tactic(auto, using(crate::proofs::LexerLemmas::Chunks::first_token, crate::proofs::LexerLemmas::Chunks::token_len_within))]
     pub(crate) fn next_token(&mut self) -> Option<Token<'a>>
         ensures { MatchOption result ((tokens_left self.old ≡ []) × (tokens_left self.new ≡ []))

@@ -1,16 +1,16 @@
-//! The lines of a text, its comments, and its first byte that is not allowed.
+//! The bytes of a text: its lines, its comments, and its first byte that is not allowed.
 ghost use Rattle.std.specs.Prelude.{◌≡◌, ◌≤◌, length};
 ghost use Rattle.job_syntax.specs.Text.{is_allowed, forbidden_line, last_line};
 ghost use Rattle.job_syntax.specs.Code.Fronts.{behind_comment};
 
-/// Whether a byte may stand outside comments.
+/// Whether a byte is allowed outside comments.
 fn is_allowed(byte: u8) -> bool
     ensures { result ≡ is_allowed byte }
 {
     matches!(byte, b'\t' | b'\n' | b'\r' | b' '..=b'~')
 }
 
-/// What stands behind the comment that is open at the front of a text: the text from its first line feed on.
+/// The text behind a comment that is open at its front: from the first line feed on, or nothing.
 pub(crate) fn behind_comment(text: &[u8]) -> &[u8]
     ensures left { result.now ≡ behind_comment text.now }
     ensures within { length result.now ≤ length text.now }
@@ -25,7 +25,7 @@ pub(crate) fn behind_comment(text: &[u8]) -> &[u8]
     left
 }
 
-/// The line of the first byte outside comments that is not allowed, if there is one.
+/// The line of the first byte outside comments that is not allowed, if any. Lines count from 1.
 pub fn forbidden_line(text: &[u8]) -> Option<u32>
     requires { length text.now ≤ 1048576 }
     ensures { result ≡ forbidden_line text.now }
@@ -33,7 +33,7 @@ pub fn forbidden_line(text: &[u8]) -> Option<u32>
     let mut line = 1;
     let mut left = text;
     while let [first, rest @ ..] = left {
-        // most bytes, by few tests
+        // a shortcut: these tests decide most bytes
         if matches!(*first, b'$'..=b'~') || *first == b' ' {
             left = rest;
             continue;
@@ -51,7 +51,7 @@ pub fn forbidden_line(text: &[u8]) -> Option<u32>
     None
 }
 
-/// The number of the last line of a text.
+/// The number of a text's last line. Lines count from 1.
 pub fn last_line(text: &[u8]) -> u32
     requires { length text.now ≤ 1048576 }
     ensures { result ≡ last_line text.now }

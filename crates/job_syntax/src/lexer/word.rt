@@ -1,7 +1,7 @@
-//! The words of the language, and the line that each stands on.
+//! The words of the language, each with its line.
 
-/// What a token says. A `Number` has no number, and a `Copies` no factor and addend, where one of these has a leading
-/// zero or does not fit 32 bits.
+/// What a token spells. `Number` holds `None` where its digits have a leading zero or do not fit 32 bits, and `Copies`
+/// holds `None` where those of its factor or its addend do.
 #[derive(Clone, Copy)]
 pub enum Word {
     Open,
@@ -23,15 +23,15 @@ pub enum Word {
     Par,
     For,
     Pfor,
-    /// A run of digits.
+    /// A run of digits, with its value.
     Number(Option<u32>),
     /// The number of the copy times a factor, plus an addend.
     Copies(Option<(u32, u32)>),
-    /// No word of the language.
+    /// Not a word of the language.
     Other,
 }
 
-/// A word, and the line on which its token begins.
+/// A word, and the line of its token's first byte.
 #[derive(Clone, Copy)]
 pub struct WordOnLine {
     pub word: Word,

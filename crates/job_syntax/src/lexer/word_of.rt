@@ -1,17 +1,17 @@
-//! The word that a token says: a quoted word of the grammar, a number, or one that depends on the copy.
+//! Which word a token spells: a quoted word of the grammar, a number, or one that depends on the copy.
 ghost use Rattle.std.specs.Prelude.{◌≡◌, ◌+◌, ◌<◌, [], IfSome, IfNone, IsTrue, not, length, take, drop};
 ghost use Rattle.job_syntax.specs.Words.{are_digits, begins_well, number_of, before_plus, behind_plus, copies_word, argument_word, word_of};
 
 use crate::lexer::word::Word;
 
-/// Whether a text is a run of digits.
+/// Whether a text is digits alone, at least one.
 fn are_digits(text: &[u8]) -> bool
     ensures { result ≡ are_digits text.now }
 {
     !text.is_empty() && text.iter().all(|byte| byte.is_ascii_digit())
 }
 
-/// Whether a run of digits begins with a zero, and has more digits.
+/// Whether a run of digits has a leading zero: `0` alone does not.
 fn has_leading_zero(digits: &[u8]) -> bool
     requires { IsTrue (are_digits digits.now) }
     ensures { result ≡ not (begins_well digits.now) }
@@ -19,7 +19,7 @@ fn has_leading_zero(digits: &[u8]) -> bool
     matches!(digits, [b'0', _, ..])
 }
 
-/// The number of a run of digits, if it has no leading zero and fits.
+/// The value of a run of digits, if it has no leading zero and fits 32 bits.
 fn number_of(digits: &[u8]) -> Option<u32>
     requires { IsTrue (are_digits digits.now) }
     ensures { result ≡ number_of digits.now }
@@ -51,7 +51,7 @@ fn plus_in(text: &[u8]) -> Option<usize>
     None
 }
 
-/// The word of a token that begins with `@*`, where `text` is what stands behind that.
+/// The word of a token that begins with `@*`, where `text` is the rest of it.
 fn copies_word(text: &[u8]) -> Word
     ensures { result ≡ copies_word text.now }
 {
@@ -67,7 +67,7 @@ fn copies_word(text: &[u8]) -> Word
     }
 }
 
-/// The word of a token that is none of the quoted words.
+/// The word of a token that is not a quoted word.
 fn argument_word(text: &[u8]) -> Word
     ensures { result ≡ argument_word text.now }
 {
@@ -111,7 +111,7 @@ fn quoted_word(text: &[u8]) -> Option<Word>
     Some(word)
 }
 
-/// The word that a token says.
+/// The word that a token spells.
 pub(crate) fn word_of(text: &[u8]) -> Word
     ensures { result ≡ word_of text.now }
 {

@@ -9,14 +9,14 @@ use crate::item::{BlockKind, Item, Leaf};
 use std::alloc::{AllocError, Global};
 use std::mem;
 
-/// An open block: the items before it, and what opened it.
+/// An open block: the items before it, and its head.
 #[derive(Drop)]
 pub(crate) struct OpenBlock {
     pub(crate) before: Vec<Item>,
     pub(crate) kind: BlockKind,
 }
 
-/// The open blocks, the innermost last, and the items so far in the innermost.
+/// The open blocks, the innermost last, and the items read so far inside the innermost one.
 #[derive(Drop)]
 pub(crate) struct BlockStack {
     alloc: Global,
@@ -59,7 +59,7 @@ impl BlockStack {
         self.blocks.is_empty()
     }
 
-    /// How many blocks are open.
+    /// The number of open blocks.
     #[tactic(auto, using(crate::proofs::ParserLemmas::OpenStacks::depth_now))]
     pub(crate) fn depth(&self) -> usize
         ensures { result ≡ length (view self.now).blocks }
@@ -101,7 +101,7 @@ impl BlockStack {
         Ok(())
     }
 
-    /// The items of the innermost block.
+    /// The items read so far inside the innermost block, or in the text where no block is open.
     pub(crate) fn into_items(self) -> Vec<Item>
         ensures { items_of result.items ≡ (view self).items }
     {

@@ -15,14 +15,14 @@ pub(crate) enum Object {
     Queue,
 }
 
-/// A call without its argument, if it has one.
+/// A call: one that still needs its argument, or a whole leaf.
 #[derive(Clone, Copy)]
 pub(crate) enum ParsedCall {
     WithArgument(UnaryOp),
     Whole(Leaf),
 }
 
-/// The call that the word behind the name of an object says, if it says one.
+/// The call that an object's name and the word behind it spell, if any.
 pub(crate) fn call_behind(object: Object, word: Word) -> Option<ParsedCall>
     ensures { found_view result ≡ call_behind object word }
 {

@@ -1,4 +1,4 @@
-//! The words that are left to read.
+//! A cursor over the words that are left to read.
 ghost use Rattle.std.specs.Prelude.{◌≡◌, ◌≤◌, [], ◌∷◌, Ok, Err, MatchOption, MatchResult, length};
 
 use crate::fault::JobFault;
@@ -7,11 +7,11 @@ use crate::lexer::word::{Word, WordOnLine};
 use crate::parser::call::{Object, ParsedCall, call_behind};
 use std::marker::Model;
 
-/// The most blocks that are open at once.
+/// The most blocks that may be open at once.
 const MAX_OPEN_BLOCKS: usize = 32;
 
-/// The words that are left to read. A call takes what has to come next, or answers the fault that it finds: at the end of
-/// the words one on the last line.
+/// The words that are left to read. `argument`, `number`, `brace` and `call` take the word that must come next, or
+/// answer the fault that they find. At the end of the words that is a `Grammar` fault on line `last`.
 #[derive(Drop)]
 pub struct Cursor<'a> {
     rest: &'a [WordOnLine],
@@ -27,14 +27,14 @@ impl<'a> Model for Cursor<'a> {
 }
 
 impl<'a> Cursor<'a> {
-    /// Stands before the first of the words.
+    /// A cursor before the first of the words.
     pub fn new(words: &'a [WordOnLine]) -> Cursor<'a>
         ensures { result ≡ words.now }
     {
         Cursor { rest: words }
     }
 
-    /// The next word, if one is left.
+    /// Takes the next word, if one is left.
     pub fn next(&mut self) -> Option<WordOnLine>
         ensures { MatchOption result ((self.old ≡ []) × (self.new ≡ []))
             (λ token. self.old ≡ token ∷ self.new) }
@@ -57,7 +57,7 @@ impl<'a> Cursor<'a> {
     ghost use Rattle.job_syntax.specs.Views.{argument_word};
     ghost use Rattle.job_syntax.specs.declared.lexer.word.Word.TheVariants.{Number};
 
-    /// An argument, inside a loop or outside every loop.
+    /// Takes an argument. `looped` says whether a loop is open, where it may depend on the copy.
     pub(crate) fn argument(&mut self, last: u32, looped: bool) -> Result<Argument, JobFault>
         ensures gives { MatchResult result
             (λ argument. word_at last (is_argument looped) self.old ≡ Ok (argument_word argument, self.new))
@@ -76,7 +76,7 @@ impl<'a> Cursor<'a> {
         }
     }
 
-    /// A number.
+    /// Takes a number.
     pub(crate) fn number(&mut self, last: u32) -> Result<u32, JobFault>
         ensures gives { MatchResult result
             (λ number. word_at last is_number self.old ≡ Ok (Number (Some number), self.new))
@@ -93,7 +93,7 @@ impl<'a> Cursor<'a> {
         }
     }
 
-    /// A `{`, where `open_now` blocks are open.
+    /// Takes a `{`, where `open_now` blocks are open.
     pub(crate) fn brace(&mut self, last: u32, open_now: usize) -> Result<(), JobFault>
         ensures gives { MatchResult result
             (λ _. brace_at last open_now self.old ≡ Ok self.new)
@@ -112,7 +112,7 @@ impl<'a> Cursor<'a> {
         }
     }
 
-    /// The call of an object whose name was read.
+    /// Takes the word behind an object's name, which makes a call.
     pub(crate) fn call(&mut self, last: u32, object: Object) -> Result<ParsedCall, JobFault>
         ensures gives { MatchResult result
             (λ call. call_at last object self.old ≡ Ok (call_view call, self.new))

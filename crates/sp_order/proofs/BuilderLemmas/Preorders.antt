@@ -1,4 +1,4 @@
--- The plan of a tree stands for it, and its nodes tell it.
+-- The preorder nodes of a tree are a plan that stands for it, and determine it.
 use Rattle.std.proofs.Common.{Option, Some, ◌≡◌, ℕ, zero, suc, ◌+◌, ◌<◌, List, [], ◌∷◌, ◌++◌, length, refl, ap, sym, ◌∙◌, arith, length-append, append_assoc, append-nil, get_or}
 use Rattle.std.specs.List.{slice_get}
 use Rattle.std.proofs.lemmas.Option.{slice_get-get_or, slice_get_past, same_Some}
@@ -35,7 +35,7 @@ length-leaf_nodes_from (seq a b) n =
 length-leaf_nodes_from (par a b) n =
     omega (arith, length-append (leaf_nodes_from (n + 1) a) (leaf_nodes_from (n + 1 + node_count a) b), length-leaf_nodes_from a (n + 1), length-leaf_nodes_from b (n + 1 + node_count a))
 
--- from n on, the function reads this list
+-- from `n` on, the function gives the items of this list
 abbrev Reads : {A : Type 0} → (ℕ → Option A) → ℕ → List A → Type 0
 Reads f n xs = (k : ℕ) → k < length xs → f (n + k) ≡ slice_get xs k
 
@@ -68,7 +68,7 @@ reads_head f n x xs h =
     let e : n + 0 ≡ n = omega arith in
     rw e at (h 0 (omega arith))
 
--- a tree whose lists a plan reads stands there
+-- a tree whose lists a plan has from a node on occurs there
 stands_read : (plan : Nodes) (tree : Tree) (n u : ℕ) (m : Move) → Reads plan.kind n (kinds_from n u tree) → Reads (λ k. Some (plan.after k)) n (moves_from n m tree) → Reads (λ i. Some (plan.node_of i)) u (leaf_nodes_from n tree) → OccursAt plan tree n u m
 stands_read plan leaf n u m kinds moves places = (
   reads_head plan.kind n (LeafNode u) [] kinds,
@@ -113,7 +113,7 @@ plan_of_tree tree = record {
   no_move = λ n out. get_or_past (moves_from 0 Root tree) n Root (rw (length-moves_from tree 0 Root) out);
 }
 
--- the nodes of a tree tell that tree
+-- the kinds of a tree's nodes determine the tree
 trees_of_kinds-kinds_from : (tree : Tree) (n u : ℕ) (more : List Kind) → trees_of_kinds (kinds_from n u tree ++ more) ≡ tree ∷ trees_of_kinds more
 trees_of_kinds-kinds_from leaf n u more = refl
 trees_of_kinds-kinds_from (seq a b) n u more =

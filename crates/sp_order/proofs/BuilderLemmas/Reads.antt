@@ -1,4 +1,4 @@
--- What is read in the lists of a tree is what its plan says.
+-- What is read in the lists of a tree is what its `nodes_of` gives.
 use Rattle.std.proofs.Common.{Option, None, Some, ◌≡◌, ℕ, ◌+◌, ◌<◌, ◌≤◌, length, refl, ap, sym, ◌∙◌, arith, get_or, List, IsSome}
 use Rattle.std.specs.Option.{unwrap_or}
 use Rattle.std.proofs.lemmas.List.{get_or_read}
@@ -47,7 +47,7 @@ pub leaf_node_read : (lists : Lists) (tree : Tree) → lists ≡ lists_of tree �
 unfolding nodes_of
 leaf_node_read lists tree h u node low read = rw h at (get_or_read lists.leaf_nodes u node (omega (arith, count_of_leaf_nodes lists tree h)) read 0)
 
--- the kinds that are listed tell the tree that they are of
+-- the listed kinds determine their tree
 pub lists_tell : (lists : Lists) (tree : Tree) → lists ≡ lists_of tree → tree_of_kinds lists.kinds ≡ tree
 lists_tell lists tree h = ap (λ (l : Lists). tree_of_kinds l.kinds) h ∙ tree_of_kinds-kinds_from tree
 

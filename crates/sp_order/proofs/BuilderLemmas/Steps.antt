@@ -1,4 +1,4 @@
--- Each step of the builder leaves the same to come: what is in the lists, and then what is on the stack.
+-- Each step of the builder preserves `with_all`: the lists, extended by what is on the stack.
 use Rattle.std.proofs.Common.{◌≡◌, ℕ, ◌+◌, ◌≤◌, List, [], ◌∷◌, ◌++◌, length, refl, ap, ◌∙◌, arith, Result, Ok, Err, IfOk, length-append, append_assoc, slice_set}
 use Rattle.std.specs.List.{All}
 use Rattle.std.proofs.lemmas.List.{set_at, length_push, length-set}
@@ -21,7 +21,7 @@ with_all-push (p ∷ stack) pending lists = ap (with_pending p) (with_all-push s
 same_lists : (k k' : List Kind) (m m' : List Move) (l l' : List ℕ) → k ≡ k' → m ≡ m' → l ≡ l' → (let x : Lists = record { kinds = k; moves = m; leaf_nodes = l } in let y : Lists = record { kinds = k'; moves = m'; leaf_nodes = l' } in x ≡ y)
 same_lists k k' m m' l l' e f g = λ i. record { kinds = e i; moves = f i; leaf_nodes = g i }
 
--- a block's place is filled in when its right side begins
+-- the entry of a block is overwritten when its right side is visited
 filled : (before : List Kind) (n : ℕ) (old new : Kind) (xs ys : List Kind) → length before ≡ n → slice_set ((before ++ old ∷ []) ++ xs) n new ++ ys ≡ before ++ new ∷ (xs ++ ys)
 filled before n old new xs ys size =
     rw (append_assoc before (old ∷ []) xs, set_at before old xs new n size) (append_assoc before (new ∷ xs) ys)
@@ -74,7 +74,7 @@ below_more low high (OpenSecond p) le below = omega arith
 below_more low high (FinishParent p) le below = omega arith
 below_more low high (Arrive p) le below = omega arith
 
--- the parents of all sides on the stack are in the lists, with the two sides of the last node
+-- the parents of all sides on the stack are listed, where the two sides of the last node are pushed
 parents_more : (stack : List Pending) (left right : Pending) (low high : ℕ) → low ≤ high → All (λ p. HasParentBelow low p.after) stack → HasParentBelow high left.after → HasParentBelow high right.after
     → All (λ p. HasParentBelow high p.after) ((stack ++ right ∷ []) ++ left ∷ [])
 parents_more stack left right low high le below of_left of_right =
@@ -84,7 +84,7 @@ parents_more stack left right low high le below of_left of_right =
     of_right)
     of_left
 
--- what a step leaves on the stack and in the lists, where it lists the node of a block
+-- the stack and the lists after a step that lists the node of a block
 pub record ListsBlock (pending left right : Pending) (node : Kind) (stack new_stack : List Pending) (lists new_lists : Lists) : Type 0 where
   pub kinds_are : new_lists.kinds ≡ with_side lists.kinds pending.after (length lists.kinds) ++ node ∷ []
   pub moves_are : new_lists.moves ≡ lists.moves ++ pending.after ∷ []
@@ -131,12 +131,12 @@ par_listed pending left right stack new_stack lists new_lists a b h whole of_lef
     (with_par (with_side lists.kinds pending.after (length lists.kinds)) lists.moves lists.leaf_nodes (length lists.kinds) pending.after a b (length-with_side lists.kinds pending.after (length lists.kinds))) in
     rw (new_is, h.stack_is) (with_all-push (stack ++ right ∷ []) left node_listed ∙ with_all-push stack right (with_pending left node_listed) ∙ ap (with_all stack) core)
 
--- what holds after a step that succeeded, from what its parts say of success
+-- what holds after a step that succeeded, from what each of its parts ensures
 pub if_both : {X E : Type 0} (r : Result X E) (P Q R : Type 0) → IfOk r (λ _. P) → IfOk r (λ _. Q) → (P → Q → R) → IfOk r (λ _. R)
 if_both (Ok x) P Q R p q then = then p q
 if_both (Err e) P Q R p q then = tt
 
--- a further side makes the lists longer
+-- visiting the sides on the stack does not shorten the lists
 pub kinds_no_shorter : (stack : List Pending) (lists : Lists) → length lists.kinds ≤ length (with_all stack lists).kinds
 kinds_no_shorter [] lists = omega arith
 kinds_no_shorter (p ∷ stack) lists =

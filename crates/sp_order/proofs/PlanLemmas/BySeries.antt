@@ -1,4 +1,5 @@
--- A leaf is before another one if and only if some series has them under its sides.
+-- A leaf is before another one if and only if some series has the first under its left side and the second under its
+-- right side.
 use Rattle.std.proofs.Common.{Some, ◌≡◌, ℕ, ◌+◌, ◌<◌, ◌≤◌, ◌↔◌, inl, inr, refl, arith}
 use Rattle.std.proofs.lemmas.Bool.{cases_lt}
 use Rattle.sp_order.specs.declared.node.Kind.TheVariants.{SeqNode}
@@ -11,7 +12,7 @@ use Rattle.sp_order.proofs.PlanLemmas.Occurrences.{node_cases, StandsAt, stands_
 use Rattle.sp_order.proofs.PlanLemmas.Laws.{plan_laws, below_count}
 use Rattle.sp_order.proofs.PlanLemmas.Descents.{covers, stays, leaf_at}
 
--- a series node p with the sides l and r, whose nodes end at `most`
+-- `p` is a series node with the sides `l` and `r`, whose nodes end before `most`
 pub record SeriesAt (plan : Nodes) (p l r most : ℕ) : Type 0 where
   pub left : Tree
   pub right : Tree
@@ -45,7 +46,7 @@ series_at plan tree n u m h p l r low high series =
     let at : StandsAt plan p (n + node_count tree) = stands_at plan tree n u m h p low high in
     top_series plan at.tree p at.first (n + node_count tree) (plan.after p) at.stands at.ends l r series
 
--- what is under the left side of a series is before the right side
+-- whatever is under the left side of a series has a number between those of the series and of its right side
 pub left_within : (plan : Nodes) → IsPlan plan → (p l r most : ℕ) → SeriesAt plan p l r most → (k : ℕ) → IsUnder plan l k → (p < k) × (k < r)
 left_within plan laws p l r most at k under =
     let inside = stays plan laws at.left l at.first (OpenSecond p) at.stands_left k under in
@@ -56,7 +57,7 @@ right_within plan laws p l r most at k under =
     let inside = stays plan laws at.right r (at.first + leaves at.left) (FinishParent p) at.stands_right k under in
     (inside.0, omega (arith, at.ends))
 
--- the nodes from a series to its right side are under its left side
+-- the nodes numbered between a series and its right side are under its left side
 pub left_covers : (plan : Nodes) (p l r most : ℕ) → SeriesAt plan p l r most → (k : ℕ) → p < k → k < r → IsUnder plan l k
 left_covers plan p l r most at k low high =
     covers plan at.left l at.first (OpenSecond p) at.stands_left k (omega (arith, at.left_is)) (omega (arith, at.right_is))
@@ -79,7 +80,8 @@ series_from_before plan (seq a b) n u m h i j (inr (inr k)) =
       under_right = covers plan b (n + 1 + node_count a) (u + leaves a) (FinishParent n) h.3 (plan.node_of j) at_j.1 at_j.2;
     }
 
--- a leaf whose node is in a tree that stands, or is not, is one of its leaves, or is not
+-- a leaf numbered below the end of the tree's leaves, whose node is before the tree, is before those leaves; and
+-- likewise after them
 leaf_below : (plan : Nodes) (tree : Tree) (n u : ℕ) (m : Move) → OccursAt plan tree n u m → (i : ℕ) → i < u + leaves tree → plan.node_of i < n → i < u
 leaf_below plan tree n u m h i high low = elim (cases_lt i u) [
   | inl e ↦ e

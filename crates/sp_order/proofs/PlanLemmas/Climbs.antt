@@ -1,4 +1,4 @@
--- The way up from a leaf's node to the node where it parts from another leaf.
+-- The climb from a leaf's node to the node where it parts from another leaf.
 use Rattle.std.proofs.Common.{Option, None, Some, ◌≡◌, ℕ, ◌+◌, ◌<◌, ◌≤◌, ◌⊎◌, ◌↔◌, Bool, false, IsTrue, inl, inr, refl, ap, arith}
 use Rattle.sp_order.specs.declared.node.Kind.{Kind}
 use Rattle.sp_order.specs.declared.node.Kind.TheVariants.{LeafNode, SeqNode, ParNode}
@@ -10,8 +10,8 @@ use Rattle.sp_order.proofs.PlanLemmas.Laws.{plan_laws, below_count}
 use Rattle.sp_order.proofs.PlanLemmas.Descents.{under_trans, under_le, leaf_at}
 use Rattle.sp_order.proofs.PlanLemmas.BySeries.{SeriesAt, series_at, left_within, left_covers, before_by_series}
 
--- The node is above the last leaf's. If a series has the first leaf's node under its left side and the last
--- one's under its right side, the node is still under that right side.
+-- The last leaf's node is under this node. If a series has the first leaf's node under its left side and the last one's
+-- under its right side, this node is still under that right side.
 pub record Climbs (plan : Nodes) (first last node : ℕ) : Type 0 where
   pub inside : node < plan.count
   pub above : IsUnder plan node last
@@ -28,7 +28,7 @@ series_of : (plan : Nodes) (tree : Tree) → IsPlanOf plan tree → (p l r : ℕ
 series_of plan tree h p l r series =
     series_at plan tree 0 0 Root h.stands p l r (omega arith) (omega (arith, below_count plan tree h p (λ none. cc))) series
 
--- the first leaf's node is after the series that has it under its left side, and before the right side
+-- the first leaf's node has a number between those of the series that has it under its left side, and of the right side
 first_within : (plan : Nodes) (tree : Tree) → IsPlanOf plan tree → (first last : ℕ) → (s : IsBySeries plan first last) → (s.parent < first) × (first < s.right)
 first_within plan tree h first last s =
     left_within plan (plan_laws plan tree h) s.parent s.left s.right (0 + node_count tree) (series_of plan tree h s.parent s.left s.right s.series) first s.under_left
@@ -57,12 +57,12 @@ climb_on plan tree h first last node parent climbs side low =
       ];
     }
 
--- no series has the two under its sides once the way up has come to the first leaf's node, or past it
+-- no series has the two under its sides once the climb is at the first leaf's node or before it
 pub climbed_past : (plan : Nodes) (tree : Tree) → IsPlanOf plan tree → (first last node : ℕ) → Climbs plan first last node → node ≤ first → IsBySeries plan first last → ⊥
 climbed_past plan tree h first last node climbs low s =
     absurd (omega (arith, under_le plan (plan_laws plan tree h) s.right node (climbs.right s), (first_within plan tree h first last s).1))
 
--- nor where it has come to the root
+-- nor once the climb is at the root
 pub climbed_out : (plan : Nodes) (tree : Tree) → IsPlanOf plan tree → (first last node : ℕ) → Climbs plan first last node → parent_of (plan.after node) ≡ None → IsBySeries plan first last → ⊥
 climbed_out plan tree h first last node climbs none s =
     let e = under_root plan s.right node (climbs.right s) none in
@@ -70,7 +70,7 @@ climbed_out plan tree h first last node climbs none s =
     let g : parent_of (plan.after node) ≡ Some s.parent = rw e at f in
     cc
 
--- a node that finishes its parent is the right side of a series
+-- a node whose move finishes its parent is the right side of a series
 right_side : (plan : Nodes) → IsPlan plan → (parent node : ℕ) (kind : Option Kind) → plan.kind parent ≡ kind → HasSide kind node → plan.after node ≡ FinishParent parent → (left : ℕ) × (plan.kind parent ≡ Some (SeqNode left node))
 right_side plan laws parent node None is side after = absurd side
 right_side plan laws parent node (Some (LeafNode u)) is side after = absurd side
@@ -88,7 +88,7 @@ right_side plan laws parent node (Some (ParNode l r)) is (inr e) after =
     let g : plan.after node ≡ Arrive parent = rw e f in
     cc
 
--- where the parent is before the first leaf's node, the two leaves part at it
+-- a parent numbered before the first leaf's node is where the two leaves part
 pub parted : (plan : Nodes) (tree : Tree) → IsPlanOf plan tree → (first last node parent : ℕ) → Climbs plan first last node → first < node → IsSide plan parent node → parent < first → (plan.after node ≡ FinishParent parent) ↔ IsBySeries plan first last
 parted plan tree h first last node parent climbs high side low =
     let laws : IsPlan plan = plan_laws plan tree h in (
@@ -113,7 +113,7 @@ parted plan tree h first last node parent climbs high side low =
       ],
     )
 
--- what decides whether such a series is there decides whether the one leaf is before the other
+-- a decision of whether such a series exists also decides whether leaf `u` is before leaf `v`
 pub by_climb : (plan : Nodes) (tree : Tree) → IsPlanOf plan tree → (u v : ℕ) → u < leaves tree → v < leaves tree → (first : ℕ) → first ≡ plan.node_of u → (answer : Bool) → (IsTrue answer ↔ IsBySeries plan first (plan.node_of v)) → IsTrue answer ↔ IsBeforeFrom 0 tree u v
 by_climb plan tree h u v of_u of_v first is answer decides =
     let by_series = before_by_series plan tree h u v of_u of_v in

@@ -1,4 +1,4 @@
--- Which nodes are under which, in a tree that stands: those under a node are an interval of numbers.
+-- Which nodes are under which, in a tree that occurs in a plan: the nodes under a node are an interval of numbers.
 use Rattle.std.proofs.Common.{Some, ◌≡◌, ℕ, ◌+◌, ◌<◌, ◌≤◌, ◌⊎◌, inl, inr, ap, arith}
 use Rattle.std.proofs.lemmas.Bool.{cases_lt}
 use Rattle.sp_order.specs.declared.node.Kind.TheVariants.{LeafNode}
@@ -17,7 +17,7 @@ pub under_le : (plan : Nodes) → IsPlan plan → (a b : ℕ) → IsUnder plan a
 under_le plan laws a b itself = omega arith
 under_le plan laws a b (one_below {top} {parent} {node} v side) = omega (arith, under_le plan laws a parent v, laws.deeper parent b side)
 
--- the nodes of a tree that stands are under its top
+-- the nodes of a tree that occurs are under its top
 pub covers : (plan : Nodes) (tree : Tree) (n u : ℕ) (m : Move) → OccursAt plan tree n u m → (k : ℕ) → n ≤ k → k < n + node_count tree → IsUnder plan n k
 covers plan leaf n u m h k low high = let e : k ≡ n = omega arith in rw e itself
 covers plan (seq a b) n u m h k low high = elim (node_cases n (node_count a) (node_count b) k low high) [
@@ -39,7 +39,7 @@ covers plan (par a b) n u m h k low high = elim (node_cases n (node_count a) (no
       (covers plan b (n + 1 + node_count a) (u + leaves a) (Arrive n) h.3 k i.0 i.1)
 ]
 
--- the sides of the top of a tree that stands are nodes of it
+-- the sides of the top of a tree that occurs are nodes of it
 sides_within : (plan : Nodes) (tree : Tree) (n u : ℕ) (m : Move) → OccursAt plan tree n u m → (k : ℕ) → HasSide (plan.kind n) k → (n < k) × (k < n + node_count tree)
 sides_within plan leaf n u m h k side = absurd (rw h.0 at side)
 sides_within plan (seq a b) n u m h k side =
@@ -55,7 +55,7 @@ sides_within plan (par a b) n u m h k side =
       | inr e ↦ (omega arith, omega (arith, node_count_above_0 b))
     ]
 
--- what is under the top of a tree that stands is a node of it
+-- whatever is under the top of a tree that occurs is a node of it
 pub stays : (plan : Nodes) → IsPlan plan → (tree : Tree) (n u : ℕ) (m : Move) → OccursAt plan tree n u m → (k : ℕ) → IsUnder plan n k → (n ≤ k) × (k < n + node_count tree)
 stays plan laws tree n u m h k itself = (omega arith, omega (arith, node_count_above_0 tree))
 stays plan laws tree n u m h k (one_below {top} {parent} {node} v side) =
@@ -64,7 +64,7 @@ stays plan laws tree n u m h k (one_below {top} {parent} {node} v side) =
     let within = sides_within plan at.tree parent at.first (plan.after parent) at.stands k (laws.has_side parent k side) in
     (omega arith, omega (arith, at.ends))
 
--- each leaf number has its node
+-- the node of each leaf number is a leaf node with this number, inside the tree
 pub leaf_at : (plan : Nodes) (tree : Tree) (n u : ℕ) (m : Move) → OccursAt plan tree n u m → (i : ℕ) → u ≤ i → i < u + leaves tree → (plan.kind (plan.node_of i) ≡ Some (LeafNode i)) × (n ≤ plan.node_of i) × (plan.node_of i < n + node_count tree)
 leaf_at plan leaf n u m h i low high =
     let e : i ≡ u = omega arith in

@@ -1,4 +1,4 @@
--- What holds at each node of a plan that stands for a tree.
+-- The local facts of a plan that stands for a tree.
 use Rattle.std.proofs.Common.{Option, None, Some, ◌≡◌, ◌≢◌, ℕ, ◌+◌, ◌<◌, inl, inr, refl, sym, ap, ◌∙◌, arith}
 use Rattle.std.proofs.lemmas.Bool.{cases_eq, cases_lt}
 use Rattle.sp_order.specs.declared.node.Kind.{Kind}
@@ -10,7 +10,7 @@ use Rattle.sp_order.specs.Plans.{Nodes, parent_of, IsSide, HasSide, IsPlan}
 use Rattle.sp_order.specs.PlanOf.{OccursAt, IsPlanOf, node_count}
 use Rattle.sp_order.proofs.PlanLemmas.Occurrences.{node_count_above_0, top_after, StandsAt, stands_at, HasParent, has_parent}
 
--- what a node's kind says of its sides, or of its leaf
+-- what a node's kind implies for its sides, or for its leaf
 abbrev FitsKind : Nodes → Option Kind → ℕ → Type 0
 FitsKind plan None n = ⊥
 FitsKind plan (Some (LeafNode u)) n = plan.node_of u ≡ n
@@ -79,12 +79,12 @@ plan_laws plan tree h = record {
   outside = λ n out. h.no_kind n (rw h.count at out);
 }
 
--- a tree that stands has a root
+-- a tree that occurs at node 0 has a root
 has_top : (plan : Nodes) (tree : Tree) → OccursAt plan tree 0 0 Root → plan.kind 0 ≢ None
 has_top plan leaf h none = let e = h.0 in cc
 has_top plan (seq a b) h none = let e = h.0 in cc
 has_top plan (par a b) h none = let e = h.0 in cc
 
--- and so has a plan that stands for one
+-- and so does a plan that stands for a tree
 pub has_root : (plan : Nodes) (tree : Tree) → IsPlanOf plan tree → plan.kind 0 ≢ None
 has_root plan tree h = has_top plan tree h.stands

@@ -1,4 +1,4 @@
--- Trees that stand in a plan.
+-- Trees that occur in a plan.
 use Rattle.std.proofs.Common.{◌≡◌, ℕ, ◌+◌, ◌<◌, ◌≤◌, ◌⊎◌, inl, inr, refl, arith}
 use Rattle.std.proofs.lemmas.Bool.{cases_eq}
 use Rattle.sp_order.specs.declared.node.Move.{Move}
@@ -17,11 +17,11 @@ top_after plan leaf n u m h = h.1
 top_after plan (seq a b) n u m h = h.1
 top_after plan (par a b) n u m h = h.1
 
--- a node of a block is its top, or is in its left side, or in its right side
+-- a node of a block is its top, or in its left side, or in its right side
 pub node_cases : (n a b k : ℕ) → n ≤ k → k < n + (a + b + 1) → (k ≡ n) ⊎ (((n + 1 ≤ k) × (k < n + 1 + a)) ⊎ ((n + 1 + a ≤ k) × (k < n + 1 + a + b)))
 node_cases n a b k low high = grind arith
 
--- each node of a tree that stands is the top of a tree that stands, which ends where the whole does or before
+-- a tree occurs with its top at node `k`, and its nodes are below `most`; each node of a tree that occurs is such a top
 pub record StandsAt (plan : Nodes) (k most : ℕ) : Type 0 where
   pub tree : Tree
   pub first : ℕ
@@ -52,14 +52,14 @@ stands_at plan (par a b) n u m h k low high = elim (node_cases n (node_count a) 
   | inr (inr i) ↦ within_more plan k _ _ (omega arith) (stands_at plan b (n + 1 + node_count a) (u + leaves a) (Arrive n) h.3 k i.0 i.1)
 ]
 
--- what the move after a node says of its parent
+-- what a node's move implies for its parent
 abbrev pub HasParent : Nodes → Move → ℕ → Type 0
 HasParent plan Root n = ⊥
 HasParent plan (OpenSecond p) n = (p < n) × HasSide (plan.kind p) n
 HasParent plan (FinishParent p) n = (p < n) × HasSide (plan.kind p) n
 HasParent plan (Arrive p) n = (p < n) × HasSide (plan.kind p) n
 
--- each node of a tree that stands, but for its top, is a side of another one
+-- each node of a tree that occurs, except its top, is a side of another one
 pub has_parent : (plan : Nodes) (tree : Tree) (n u : ℕ) (m : Move) → OccursAt plan tree n u m → (k : ℕ) → n < k → k < n + node_count tree → HasParent plan (plan.after k) k
 has_parent plan leaf n u m h k low high = absurd (omega arith)
 has_parent plan (seq a b) n u m h k low high = elim (node_cases n (node_count a) (node_count b) k (omega arith) high) [

@@ -1,4 +1,4 @@
-//! The builder of a plan: a walk over a shape in preorder, with a stack of its own in place of recursion.
+//! The builder of a plan: a preorder walk over a shape, with an explicit stack in place of recursion.
 ghost use Rattle.std.specs.Prelude.{◌≡◌, ◌+◌, ◌^◌, ◌<◌, [], ◌∷◌, ◌++◌, length, IfOk};
 ghost use Rattle.sp_order.specs.Code.PlanBuilder.{lists_in, with_side, HasParentBelow, with_pending, with_all, HaveParents};
 
@@ -6,8 +6,8 @@ use crate::node::{Kind, Move};
 use crate::shape::Shape;
 use std::alloc::{AllocError, Global};
 
-/// The nodes that were visited so far: `kinds` and `moves` have an item for each node, and `leaf_nodes` the node
-/// of each leaf.
+/// The nodes visited so far. `kinds` and `moves` have an item for each node, in preorder; `leaf_nodes` has the node of
+/// each leaf.
 #[derive(Drop)]
 pub(crate) struct PlanBuilder {
     pub(crate) kinds: Vec<Kind>,
@@ -15,7 +15,7 @@ pub(crate) struct PlanBuilder {
     pub(crate) leaf_nodes: Vec<u32>,
 }
 
-/// A side that is not visited yet, and what is to be done once it is done.
+/// A side that is still to be visited, and what follows it once it is done.
 #[derive(Clone, Copy)]
 pub(crate) struct Pending<'a> {
     pub(crate) shape: &'a Shape,
@@ -23,7 +23,7 @@ pub(crate) struct Pending<'a> {
 }
 
 impl PlanBuilder {
-    /// A builder that has visited nothing. Memory: none.
+    /// A builder that has visited no node. It takes no memory.
     pub(crate) fn new(alloc: Global) -> PlanBuilder
         ensures kinds { result.kinds.items ≡ [] }
         ensures moves { result.moves.items ≡ [] }
@@ -36,7 +36,7 @@ impl PlanBuilder {
         }
     }
 
-    /// Visits the top node of this side, and puts its own two sides on the stack.
+    /// Visits the top node of this side, and pushes that node's own sides onto the stack.
     pub(crate) fn visit<'a>(
         &mut self,
         pending: Pending<'a>,
@@ -80,8 +80,8 @@ impl PlanBuilder {
         }
     }
 
-    /// Sets the right side of the node's parent to this node. The left side of a parallel block stands there too,
-    /// until the right one is visited. Memory: none.
+    /// Records this node as the right side of its parent, unless it is the left side of a series. The left side of a
+    /// parallel block is overwritten there when the right side is visited. It takes no memory.
     fn set_side(&mut self, after: Move, node: u32)
         requires parent { HasParentBelow node after }
         requires node { node ≡ length self.old.kinds.items }
@@ -100,7 +100,7 @@ impl PlanBuilder {
         }
     }
 
-    /// Adds a leaf, with the next leaf number.
+    /// Appends a leaf node, with the next leaf number.
     fn add_leaf(&mut self, node: u32) -> Result<(), AllocError>
         requires { length self.old.leaf_nodes.items < 2 ^ 32 }
         ensures kinds { IfOk result (λ _. self.new.kinds.items ≡ self.old.kinds.items ++ Kind.LeafNode (length self.old.leaf_nodes.items) ∷ []) }
@@ -113,7 +113,7 @@ impl PlanBuilder {
         Ok(())
     }
 
-    /// Adds a block of this kind, and puts its sides on the stack, the left one on top.
+    /// Appends a block node of this kind, and pushes its sides, the left one on top.
     fn add_block<'a>(
         &mut self,
         kind: Kind,

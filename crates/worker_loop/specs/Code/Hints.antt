@@ -4,8 +4,8 @@ use Rattle.two_deques.specs.declared.decks.Decks.{Decks}
 use Rattle.two_deques.specs.Hands.{workers_of, IsHandOf}
 use Rattle.worker_loop.specs.declared.locked.hints.WorkHints.{WorkHints}
 
--- the hand was made with these deques, whose workers the hints counts, and the last victim is one of
--- them
+-- The hand belongs to these deques, the hints have their number of workers, which is at most 32, and the last victim is
+-- one of these workers.
 pub record AreHintsOf (decks : Decks) (f : WorkHints) : Type 0 where
   pub hand : IsHandOf decks f.hand
   pub workers : f.workers ≡ workers_of decks

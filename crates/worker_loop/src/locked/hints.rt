@@ -1,4 +1,4 @@
-//! How a worker that has no event looks for work.
+//! How a worker without an event looks for a sign of work.
 ghost use Rattle.std.specs.Prelude.{◌≡◌, ◌≢◌, ◌<◌, ◌≤◌};
 ghost use Rattle.two_deques.specs.Hands.{held, workers_of, IsHandOf};
 ghost use Rattle.worker_loop.specs.Code.Hints.{AreHintsOf};
@@ -7,7 +7,7 @@ use crossbeam_utils::Backoff;
 use std::sync::Wait;
 use two_deques::{Decks, Hand};
 
-/// A worker's hand, whom it stole from last, and how long it pauses. At the start it names itself.
+/// A worker's hand, its last victim, and its backoff. At the start the victim is the worker itself.
 #[derive(Drop)]
 pub(crate) struct WorkHints {
     pub(crate) hand: Hand,
@@ -16,7 +16,7 @@ pub(crate) struct WorkHints {
     backoff: Backoff,
 }
 
-/// The next of the workers, round robin.
+/// The next worker, round robin.
 fn after(worker: u32, workers: u32) -> u32
     requires { (worker < workers) × (workers ≤ 32) }
     ensures below { result < workers }
@@ -26,7 +26,7 @@ fn after(worker: u32, workers: u32) -> u32
 }
 
 impl WorkHints {
-    /// The hints of a hand, among so many workers.
+    /// The hints of a hand, among `workers` workers.
     pub(crate) fn new(hand: Hand, workers: u32) -> WorkHints
         ensures { (result.hand ≡ hand) × (result.victim ≡ (held hand).worker)
             × (result.workers ≡ workers) }
@@ -39,7 +39,7 @@ impl WorkHints {
         }
     }
 
-    /// Whom it steals from next: the next of the other workers.
+    /// The next victim: the next worker, round robin, other than the owner of the hand.
     fn next_victim(&self) -> u32
         requires workers { (1 < self.now.workers) × (self.now.workers ≤ 32) }
         requires victim { self.now.victim < self.now.workers }
@@ -54,8 +54,7 @@ impl WorkHints {
         }
     }
 
-    /// Whether a deque gave a node: the own one, or else the next of the others. One worker does not
-    /// steal.
+    /// Whether a deque gave a node: the worker's own, or else the next victim's. A single worker does not steal.
     fn finds<R: Wait>(&mut self, rt: &R, decks: &Decks) -> bool
         requires hints { AreHintsOf decks.now self.old }
         ensures hints { AreHintsOf decks.now self.new }
@@ -70,8 +69,8 @@ impl WorkHints {
         decks.steal_core(rt, &mut self.hand, self.victim).is_some()
     }
 
-    /// Looks for a node once, and pauses where there is none. A node is a sign that there is work, and no
-    /// more: which node is claimed is settled by the core's own lists.
+    /// Looks for a node once, and backs off where there is none. A node found is only a sign of work: the core's own
+    /// lists decide which node is claimed.
     pub(crate) fn find<R: Wait>(&mut self, rt: &R, decks: &Decks)
         requires hints { AreHintsOf decks.now self.old }
         ensures hints { AreHintsOf decks.now self.new }
@@ -83,7 +82,7 @@ impl WorkHints {
         }
     }
 
-    /// The worker had an event: its next pause is a short one.
+    /// Resets the backoff: the worker had an event, so its next pause is short.
     pub(crate) fn had_event(&self) {
         self.backoff.reset();
     }

@@ -18,8 +18,8 @@ use core_model::laws::run::step_leads_to_reached;
 use std::alloc::{AllocError, Global};
 use std::marker::{Brand, Model, PhantomData};
 
-/// Which job is run, and by how many workers. Nothing is known of a value under a lock but what its type
-/// says, so the type of the state behind the lock names the job. Each call of a run picks it.
+/// The job of a run and its number of workers, as a type. Only its type tells anything of a value behind a lock, so the
+/// type of the state names the job. Each run picks its own brand.
 pub trait JobBrand {
     ghost job: { JobValue };
 
@@ -32,34 +32,33 @@ impl JobBrand for Brand {
     ghost workers = { 1 };
 }
 
-/// What the workers do with the state behind the lock.
+/// The operations on the state behind the lock.
 pub trait LockedRun: Drop {
     ghost job: { JobValue };
 
     ghost workers: { ℕ };
 
-    /// What contracts see of it.
+    /// The view of the state in contracts.
     ghost seen: { Self → RunView };
 
-    /// A look of the worker, which has done this work, if it has done some.
+    /// A look by the worker, with the work that it has done outside the lock, if any.
     fn look(&mut self, worker: u32, spun: Option<Spun>) -> Look
         requires { worker < workers }
         ensures { HasLooked worker (seen self.old) (seen self.new) result };
 
-    /// Memory ran out in a worker, outside the lock.
+    /// Records that memory ran out in a worker, outside the lock.
     fn fail(&mut self)
         ensures { seen self.new ≡ record (seen self.old) { failed = true } };
 
-    /// The report of the run, if memory did not run out.
+    /// The report of the run, or an error where memory ran out.
     fn report(self, alloc: Global) -> Result<Report, AllocError>
         ensures whole { IfOk result (λ _. (seen self).failed ≡ false) }
         ensures lawful { IfOk result (λ report. Lawful job workers report) }
         ensures run { IfOk result (IsRunReport job workers) };
 }
 
-/// The core of the given job, and whether memory ran out in some worker. Whoever takes the lock finds a
-/// core of this job, whatever the others did, and one that is not spent unless memory ran out. So it has
-/// the core's invariant then.
+/// The core of the given job, and whether memory ran out in some worker. Each taker of the lock finds a core of this
+/// job, whatever the other workers did. Unless memory ran out, the core is not spent and so has the core's invariant.
 #[derive(Drop)]
 pub struct Run<J: JobBrand> {
     core: Core,
@@ -83,7 +82,7 @@ impl<J: JobBrand> Model for Run<J> {
 }
 
 impl<J: JobBrand> Run<J> {
-    /// The run of a core that is at its start.
+    /// The run of a core that is at its opening state.
     pub fn new(core: Core) -> Run<J>
         requires job { IsCoreOf J.job J.workers core }
         requires unspent { core.spent ≡ false }
@@ -97,8 +96,9 @@ impl<J: JobBrand> Run<J> {
         }
     }
 
-    /// Unless the core is spent it has the invariant, for the given job and workers. So that holds
-    /// whenever the lock is free. It is for proofs, and does nothing.
+    /// A law about each value of the type, and so about the state whenever the lock is free: a core that is not spent
+    /// has the invariant, for the given job and workers; and it is not spent unless memory ran out. The function does
+    /// nothing.
     pub fn stands(&self)
         ensures invariant { self.now.core.spent ≡ false
             → Invariant (core_job J.job J.workers) (state_in self.now.core) }
@@ -115,8 +115,8 @@ impl<J: JobBrand> LockedRun for Run<J> {
 
     ghost seen = { λ run. run };
 
-    /// One turn of the worker, which has done this work, if it has done some. Where memory runs out in it
-    /// the run has failed, and each later look answers that it is ended.
+    /// One turn of the worker, with the work that it has done outside the lock, if any. Where memory runs out in the
+    /// turn, the run has failed, and each later look answers `Ended`.
     fn look(&mut self, worker: u32, spun: Option<Spun>) -> Look
         requires { worker < J.workers }
         ensures { HasLooked worker self.old self.new result }
@@ -140,14 +140,14 @@ impl<J: JobBrand> LockedRun for Run<J> {
         }
     }
 
-    /// Memory ran out in a worker, outside the lock.
+    /// Records that memory ran out in a worker, outside the lock.
     fn fail(&mut self)
         ensures { self.new ≡ record self.old { failed = true } }
     {
         self.failed = true;
     }
 
-    /// The report of the run, if memory did not run out. What the workers left is done here.
+    /// The report of the run, or an error where memory ran out. What the workers left undone is finished here.
     fn report(self, alloc: Global) -> Result<Report, AllocError>
         ensures whole { IfOk result (λ _. self.failed ≡ false) }
         ensures lawful { IfOk result (λ report. Lawful J.job J.workers report) }

@@ -7,13 +7,13 @@ ghost use Rattle.worker_loop.specs.Looks.{IsMade};
 use batcher_core::{Core, Doing, Spun, Turn};
 use std::alloc::AllocError;
 
-/// What a worker's look at the core gave.
+/// The result of a worker's look at the core.
 #[derive(Clone, Copy)]
 pub enum Look {
-    /// An event happened. It left the worker doing this, and this node is the newest of its list, if the
-    /// list grew.
+    /// An event of the worker happened. It left the worker `doing` this; `made` is the newest node of the worker's
+    /// list, if the list grew.
     Moved { doing: Doing, made: Option<u32> },
-    /// The worker is to do so many steps of work outside the lock, and to come back with it.
+    /// The worker is to do this many steps of work outside the lock, and to hand them in at its next look.
     Due(u32),
     /// The worker has no event in this state.
     Idle,
@@ -21,7 +21,7 @@ pub enum Look {
     Ended,
 }
 
-/// The newest node of a list, if the list is longer than before.
+/// The newest node of a list, if the list is longer than `before`.
 pub(crate) fn newest_if_longer(list: &[u32], before: usize) -> Option<u32>
     ensures { IsMade before list.now result }
 {
@@ -32,7 +32,7 @@ pub(crate) fn newest_if_longer(list: &[u32], before: usize) -> Option<u32>
     }
 }
 
-/// The work that was done, if it is this number of steps.
+/// The work that was done, if it has exactly this many steps.
 fn work_of(spun: Option<Spun>, steps: u32) -> Option<Spun>
     ensures { IfSome result (λ s. s ≡ steps) }
 {
@@ -42,7 +42,7 @@ fn work_of(spun: Option<Spun>, steps: u32) -> Option<Spun>
     }
 }
 
-/// A turn of the worker. Where work is due, and it is the work that was done, the turn is given this.
+/// A turn of the worker. If the turn asks for work and the work done matches, a second turn is given the work at once.
 #[tactic(auto, using(crate::proofs::TurnLemmas::given_turn))]
 pub(crate) fn turn_with(
     core: &mut Core,

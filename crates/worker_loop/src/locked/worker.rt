@@ -1,4 +1,4 @@
-//! The turns of one worker.
+//! The loop of one worker under the lock.
 ghost use Rattle.std.specs.Prelude.{◌≡◌, ◌≤◌};
 ghost use Rattle.two_deques.specs.Hands.{held, workers_of, IsHandOf};
 ghost use Rattle.worker_loop.specs.Code.Hints.{AreHintsOf};
@@ -15,20 +15,20 @@ use std::sync::{Mutex, Wait};
 use std::thread;
 use two_deques::{Decks, Hand};
 
-/// What all workers of a run share.
+/// What the workers of a run share.
 #[derive(Drop)]
 pub(crate) struct Shared<'a, S: LockedRun, G> {
     pub(crate) run: Mutex<S>,
     pub(crate) decks: Decks,
-    /// How many workers have come.
+    /// How many workers have arrived at the start barrier.
     pub(crate) came: AtomicU64,
     pub(crate) workers: u32,
     pub(crate) pause: &'a G,
     ghost sizes: { (workers ≡ S.workers) × (workers ≡ workers_of decks) × (workers ≤ 32) },
 }
 
-/// What a worker carries from turn to turn: how it looks for work, work that it did and has not handed
-/// in, and what its last event left it doing.
+/// What a worker carries from turn to turn: how it looks for work, the work that it did and has not handed in, and what
+/// its last event left it doing.
 #[derive(Drop)]
 struct Worker {
     hints: WorkHints,
@@ -36,8 +36,8 @@ struct Worker {
     doing: Doing,
 }
 
-/// The point of the gate to which an event has brought a worker, by what it was doing and what it does. A
-/// call stays posted over several events.
+/// The point of the gate that an event brings a worker to, by what the worker did before the event (`was`) and does
+/// after it. A call stays posted over several events, so only its first one is a point.
 fn point_reached(was: Doing, doing: Doing) -> Option<Point>
     ensures { result ≡ point_by was doing }
 {
@@ -64,7 +64,7 @@ impl Worker {
         }
     }
 
-    /// An event left the worker doing this. Where it has come to a point of the gate, it is held there.
+    /// Records what an event left the worker doing. At a point of the gate, the worker may be held there.
     fn now_does<G: Pause>(&mut self, pause: &G, doing: Doing)
         ensures { self.new.hints ≡ self.old.hints }
     {
@@ -75,8 +75,8 @@ impl Worker {
         }
     }
 
-    /// Tells the others of a node that became ready, and lets them to the lock. A push that is refused fails
-    /// the run.
+    /// Pushes a node that became ready, as a sign to the other workers, and yields the thread to them. A refused push
+    /// fails the run. The answer is whether the worker goes on.
     fn tell<S: LockedRun, R: Wait, G>(&mut self, rt: &R, shared: &Shared<S, G>, node: u32) -> bool
         requires hints { AreHintsOf shared.now.decks self.old.hints }
         ensures hints { AreHintsOf shared.now.decks self.new.hints }
@@ -89,8 +89,7 @@ impl Worker {
         false
     }
 
-    /// What the worker does outside the lock after a look at the core. It answers whether the worker goes
-    /// on.
+    /// What the worker does outside the lock after a look at the core. The answer is whether the worker goes on.
     fn follow<S: LockedRun, R: Wait, G: Pause>(
         &mut self,
         rt: &R,
@@ -128,8 +127,8 @@ impl Worker {
     }
 }
 
-/// Takes the turns of one worker, until the run is over or memory runs out, once the others are there. The
-/// lock is held for one turn at a time.
+/// Takes the turns of one worker, after the start barrier, until the run is over or memory runs out. The lock is held
+/// for one turn at a time.
 pub(crate) fn work<S: LockedRun, R: Wait, G: Pause>(rt: &R, shared: &Shared<S, G>, hand: Hand)
     requires { IsHandOf shared.now.decks hand }
 {
@@ -138,8 +137,8 @@ pub(crate) fn work<S: LockedRun, R: Wait, G: Pause>(rt: &R, shared: &Shared<S, G
     for _ in rt.forever() {
         let number = worker.hints.hand.worker();
         let spun = worker.spun.take();
-        // A guard that stood in the head of a `match` or an `if` would live to its end, and with it the
-        // lock.
+        // The look is bound by `let`: a guard in the head of a `match` or an `if` would hold the lock to the end of
+        // that block.
         let look = shared.run.lock(rt).look(number, spun);
         if !worker.follow(rt, shared, look) {
             break;

@@ -1,4 +1,4 @@
--- The way up from v's node ends where the two leaves part.
+-- The climb from `v`'s node ends where the two leaves part.
 use Rattle.std.proofs.Common.{◌≡◌, ◌↔◌, false, IsTrue, sym, ◌∙◌, arith, rules}
 use Rattle.sp_order.specs.declared.node.Move.TheVariants.{FinishParent}
 use Rattle.sp_order.specs.Preorder.{nodes_of}

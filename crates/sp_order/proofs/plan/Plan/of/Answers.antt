@@ -1,4 +1,4 @@
--- At each step, adding what is left on the stack gives the lists of the job's tree.
+-- At each step, the lists extended by what is left on the stack are those of the job's tree.
 use Rattle.std.proofs.Common.{Some, ◌≡◌, List, [], length, ap, sym, ◌∙◌, arith}
 use Rattle.std.proofs.lemmas.List.{nil_from_length}
 use Rattle.std.proofs.lemmas.List.Elements.{All-pop}

@@ -1,5 +1,4 @@
--- A book is a list of batches, and a batch is a list of entries. Batches are numbered from 0, and so are the
--- places in a batch.
+-- A book is a list of batches, and a batch is a list of entries. Batches, and places in a batch, are numbered from 0.
 use Rattle.std.specs.Prelude.{◌≡◌, ◌≢◌, ◌<◌, ◌^◌, List, [], ◌∷◌, ◌++◌, map}
 use Rattle.std.specs.List.{AllByRecursion}
 use Rattle.seq_objects.specs.Objects.{Objects, opening, after, reply_to}
@@ -12,22 +11,22 @@ abbrev pub flat : List (List Entry) → List Entry
 flat [] = []
 flat (batch ∷ book) = batch ++ flat book
 
--- serving the operations one after another, from these objects on, gives exactly the replies
+-- each reply is the serial one: that of serving the operations one after another, from these objects on
 abbrev pub IsLegalFrom : Objects → List Entry → Type 0
 IsLegalFrom objects [] = Unit {0}
 IsLegalFrom objects (entry ∷ entries) = (entry.reply ≡ reply_to objects entry.op) × IsLegalFrom (after objects entry.op) entries
 
--- the book is a history of the serial objects
+-- the book is legal from the opening objects on
 abbrev pub IsLegal : List (List Entry) → Type 0
 IsLegal book = IsLegalFrom opening (flat book)
 
--- a batch: not empty, in batch order, and of distinct workers
+-- a batch is not empty, in batch order, and of distinct workers
 pub record IsBatch (batch : List Entry) : Type 0 where
   pub some : batch ≢ []
   pub order : EachPair (λ first second. ComesFirst first.op first.worker second.op second.worker) batch
   pub workers : AreDistinct (map (λ entry. entry.worker) batch)
 
--- what a `History` keeps: legal batches of workers below 32, and no leaf twice
+-- the invariant of a `History`: legal batches, workers below 32, distinct leaves, and leaves below 2^32
 pub record IsHistory (book : List (List Entry)) : Type 0 where
   pub legal : IsLegal book
   pub batches : AllByRecursion IsBatch book

@@ -1,2 +1,2 @@
--- What only the code and its proofs cite: a tally to which entries are added.
+-- Cited by code and proofs only: a tally under extension.
 pub mod Tallies

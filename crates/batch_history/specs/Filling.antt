@@ -1,4 +1,4 @@
--- Books in which a structure is filled before it is asked, and what its finds tell then.
+-- Entries that fill a structure before they query it, and what finds reply then.
 use Rattle.std.specs.Prelude.{◌≡◌, ℕ, ◌≤◌, List}
 use Rattle.seq_objects.specs.declared.op.Op.{Op}
 use Rattle.seq_objects.specs.declared.op.Op.TheVariants.{TreeFind}
@@ -6,7 +6,7 @@ use Rattle.seq_objects.specs.Objects.{has, yes_or_no}
 use Rattle.seq_objects.specs.Pairs.{EachPair}
 use Rattle.batch_history.specs.declared.batch.Entry.{Entry}
 
--- no entry that the second count counts stands before one that the first counts
+-- no entry counted by `late` comes before one counted by `early`
 abbrev pub StandsBefore : (Op → ℕ) → (Op → ℕ) → List Entry → Type 0
 StandsBefore early late entries = EachPair (λ first second. 1 ≤ late first.op → 1 ≤ early second.op → ⊥) entries
 

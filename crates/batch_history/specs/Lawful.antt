@@ -1,5 +1,5 @@
--- When a report is lawful for a job and a number of workers. It has seven parts, each a record or a fact of
--- its own: rows, order, calls, replies, ticks, batches and values.
+-- When a report is lawful for a job and a number of workers. The seven parts are rows, order, calls, replies, ticks,
+-- batches and values.
 use Rattle.std.specs.Prelude.{◌≡◌, ◌≢◌, ℕ, ◌*◌, ◌<◌, ◌⊎◌, List, [], ◌∷◌, map, slice_get, Some, IsSomeAnd, Contains}
 use Rattle.std.specs.Option.{ForSome}
 use Rattle.std.specs.List.{AllByRecursion, range_with_len}
@@ -16,13 +16,13 @@ use Rattle.batch_history.specs.declared.batch.Entry.{Entry}
 use Rattle.batch_history.specs.declared.row.Row.{Row}
 use Rattle.batch_history.specs.declared.report.Report.{Report}
 
--- the starts and ends of the rows
+-- the starts and ends of the rows, alternating
 abbrev pub ticks_of : List Row → List ℕ
 ticks_of [] = []
 ticks_of (row ∷ rows) = row.start ∷ row.end ∷ ticks_of rows
 
--- The report names the workers, and has one row for each leaf, in leaf order. Their workers are among those
--- named. Each row starts before it ends; the starts and ends are the numbers below twice the leaves, each once.
+-- The report states the number of workers and has one row for each leaf, in leaf order. The rows' workers are below
+-- that number. Each row starts before it ends; the starts and ends are the numbers below twice the leaves, each once.
 pub record HasRows (job : JobValue) (workers : ℕ) (report : Report) : Type 0 where
   pub names : report.workers ≡ workers
   pub leaves : map (λ row. row.leaf) report.rows ≡ range_with_len 0 (leaf_count job.shape)
@@ -30,38 +30,37 @@ pub record HasRows (job : JobValue) (workers : ℕ) (report : Report) : Type 0 w
   pub starts_first : AllByRecursion (λ row. row.start < row.end) report.rows
   pub ticks : HasEachOnce (λ tick. tick < 2 * leaf_count job.shape) (ticks_of report.rows)
 
--- the fact holds of the rows of two leaves
+-- `P` holds of the rows of leaves `u` and `v`
 abbrev pub ForRows : Report → ℕ → ℕ → (Row → Row → Type 0) → Type 0
 ForRows report u v P = ForSome (slice_get report.rows u) (λ row. ForSome (slice_get report.rows v) (λ row'. P row row'))
 
--- A leaf that is before another ends before the other starts. Of two leaves of one worker, one ends before the
--- other starts.
+-- A leaf that precedes another in series-parallel order ends before the other starts. Of two leaves of one worker, one
+-- ends before the other starts.
 pub record KeepsOrder (job : JobValue) (report : Report) : Type 0 where
   pub before : (u v : ℕ) → IsBefore job.shape u v → ForRows report u v (λ row row'. row.end < row'.start)
   pub alone : (u v : ℕ) → u ≢ v → ForRows report u v (λ row row'. row.worker ≡ row'.worker → (row.end < row'.start) ⊎ (row'.end < row.start))
 
--- the leaf calls
+-- the leaf's act is a call
 abbrev pub IsCallLeaf : JobValue → ℕ → Type 0
 IsCallLeaf job leaf = (op : Op) × (slice_get job.acts leaf ≡ Some (Call op))
 
--- The leaves of the book are the leaves that call, each once, each with its leaf's operation and the worker of
--- its leaf's row.
+-- The book has each calling leaf exactly once, with the leaf's operation and the worker of its row.
 pub record HasCalls (job : JobValue) (report : Report) : Type 0 where
   pub leaves : HasEachOnce (IsCallLeaf job) (map (λ entry. entry.leaf) (flat report.history))
   pub operations : AllByRecursion (λ entry. op_of (act_of job.acts) report.history entry.leaf ≡ Some entry.op) (flat report.history)
   pub workers : AllByRecursion (λ entry. ForSome (slice_get report.rows entry.leaf) (λ row. row.worker ≡ entry.worker)) (flat report.history)
 
--- the entry stands in the batch of that number
+-- the batch with this number contains the entry
 abbrev pub IsInBatch : Report → ℕ → Entry → Type 0
 IsInBatch report number entry = IsSomeAnd (slice_get report.history number) (λ batch. Contains batch entry)
 
--- A call whose leaf ended before the leaf of another started stands in an earlier batch.
+-- Real-time order: if one call's leaf ended before another's started, the first call is in an earlier batch.
 abbrev pub KeepsTicks : Report → Type 0
 KeepsTicks report =
     (b c : ℕ) (first second : Entry) → IsInBatch report b first → IsInBatch report c second
     → ForRows report first.leaf second.leaf (λ row row'. row.end < row'.start → b < c)
 
--- The value of a leaf that works is what its work gives, and that of a leaf that calls is its reply's.
+-- A leaf of work has the value of its work, and a calling leaf that of its reply.
 pub record HasValues (job : JobValue) (report : Report) : Type 0 where
   pub work : (leaf steps : ℕ) → slice_get job.acts leaf ≡ Some (Work steps) → ForSome (slice_get report.rows leaf) (λ row. row.value ≡ spin_of steps)
   pub calls : AllByRecursion (λ entry. ForSome (slice_get report.rows entry.leaf) (λ row. row.value ≡ value_of entry.reply)) (flat report.history)

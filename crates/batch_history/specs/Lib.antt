@@ -1,5 +1,5 @@
--- Books, the reports that are lawful, their text and their summary, with what they take from seq_objects and sp_order. `Code`
--- is what only the code cites.
+-- Books, lawful reports, their text and their summary, with the specifications they use of `seq_objects` and
+-- `sp_order`. `Code` is cited by code and proofs only.
 pub use Rattle.seq_objects.specs.Objects
 pub use Rattle.seq_objects.specs.BatchOrder
 pub use Rattle.seq_objects.specs.Spin

@@ -1,14 +1,14 @@
--- Where the entry of a leaf stands in a book.
+-- The place of a leaf's entry in a book.
 use Rattle.std.specs.Prelude.{ℕ, ◌+◌, ◌==◌, if◌then◌else◌, List, [], ◌∷◌, None, Option, Some}
 use Rattle.batch_history.specs.declared.batch.Entry.{Entry}
 
--- where an entry stands: the number of its batch, and its place in it
+-- an entry with the number of its batch and its place in that batch
 pub record Place : Type 0 where
   pub batch : ℕ
   pub place : ℕ
   pub entry : Entry
 
--- where the first entry of a leaf stands in a batch with this number, from this place on
+-- the place of a leaf's first entry in a list; the list is the batch `batch` from `place` on
 abbrev pub place_in : ℕ → ℕ → List Entry → ℕ → Option Place
 place_in batch place [] leaf = None
 place_in batch place (entry ∷ entries) leaf =
@@ -19,11 +19,11 @@ abbrev pub or_else : Option Place → Option Place → Option Place
 or_else (Some place) other = Some place
 or_else None other = other
 
--- where the first entry of a leaf stands in the batches from this number on
+-- the place of a leaf's first entry in the batches of a list, the first of which has the number `batch`
 abbrev pub place_from : ℕ → List (List Entry) → ℕ → Option Place
 place_from batch [] leaf = None
 place_from batch (entries ∷ book) leaf = or_else (place_in batch 0 entries leaf) (place_from (batch + 1) book leaf)
 
--- where the entry of a leaf stands in the book
+-- the place of a leaf's first entry in a book
 unfoldable pub place_of : List (List Entry) → ℕ → Option Place
 place_of book leaf = place_from 0 book leaf

@@ -1,4 +1,4 @@
--- Calls and their entries, and the shared objects after they were served.
+-- Entries as calls, acts and replies, and the shared objects after serving them.
 use Rattle.std.specs.Prelude.{List, [], ◌∷◌, map}
 use Rattle.seq_objects.specs.Objects.{Objects, opening, after}
 use Rattle.seq_objects.specs.declared.act.Act.{Act}
@@ -8,12 +8,12 @@ use Rattle.seq_objects.specs.declared.reply.Reply.{Reply}
 use Rattle.batch_history.specs.declared.batch.Entry.{Entry}
 use Rattle.batch_history.specs.Book.{flat}
 
--- the objects after serving the operations of these entries one after another
+-- the objects after these entries' operations, one after another
 abbrev pub served : Objects → List Entry → Objects
 served objects [] = objects
 served objects (entry ∷ entries) = served (after objects entry.op) entries
 
--- the objects after the batches of a book
+-- the objects after all batches of a book, from the opening objects on
 abbrev pub served_book : List (List Entry) → Objects
 served_book book = served opening (flat book)
 
@@ -25,7 +25,7 @@ call_in entry = record { worker = entry.worker; leaf = entry.leaf; op = entry.op
 abbrev pub calls_in : List Entry → List Call
 calls_in entries = map call_in entries
 
--- the acts of the leaves that made the calls
+-- the acts of calling with the entries' operations
 abbrev pub acts_in : List Entry → List Act
 acts_in entries = map (λ entry. act.Call entry.op) entries
 

@@ -1,4 +1,4 @@
--- The summary of a run: six lines, by what its book tells.
+-- The summary of a run: six lines of totals.
 use Rattle.std.specs.Prelude.{◌≡◌, ℕ, ◌<◌, ◌^◌, List, ◌++◌, length, codes}
 use Rattle.std.specs.Fmt.{decimal}
 use Rattle.sp_order.specs.Precedence.{leaf_count}
@@ -40,12 +40,11 @@ six_lines seed size workers leaves tally =
 abbrev pub summary_of_report : ℕ → ℕ → Report → List ℕ
 summary_of_report seed size report = six_lines seed size report.workers (length report.rows) (tally_of (flat report.history))
 
--- the summary of a job, by its shape and its acts alone
+-- the summary of a job, from its shape and acts alone
 abbrev pub summary_of_job : ℕ → ℕ → ℕ → JobValue → List ℕ
 summary_of_job seed size workers job = six_lines seed size workers (leaf_count job.shape) (tally_of_acts job.acts)
 
--- What makes a summary of a report of the job: there is a row for each leaf, and the two sums of what was popped and taken
--- fit 64 bits.
+-- When the code can make a summary: there are as many rows as leaves, and the popped and the taken sums fit 64 bits.
 pub record CanBeSummed (job : JobValue) (report : Report) : Type 0 where
   pub rows : length report.rows ≡ leaf_count job.shape
   pub popped : (tally_of (flat report.history)).popped < 2 ^ 64

@@ -1,4 +1,4 @@
--- What a book tells by its replies, and what the acts of a job come to.
+-- The totals of a list of entries, by their replies, and those of a job's acts.
 use Rattle.std.specs.Prelude.{ℕ, List, [], ◌∷◌, ◌+◌, length}
 use Rattle.seq_objects.specs.declared.op.Op.{Op}
 use Rattle.seq_objects.specs.declared.op.Op.TheVariants.{CounterAdd, Pop, TreeInsert, TreeFind, PqTake}
@@ -10,27 +10,27 @@ use Rattle.batch_history.specs.Serving.{acts_in}
 use Rattle.batch_history.specs.declared.batch.Entry.{Entry}
 use Rattle.batch_history.specs.declared.tally.Tally.{Tally}
 
--- the number of a reply, and 0 where it has none
+-- the number in a reply, or 0 if it has none
 abbrev pub number_of : Reply → ℕ
 number_of (reply.Number number) = number
 number_of _ = 0
 
--- 1 for a yes
+-- 1 for the reply yes, else 0
 abbrev pub yes_of : Reply → ℕ
 yes_of reply.Yes = 1
 yes_of _ = 0
 
--- the number that a pop of the stack replied
+-- the number that a pop replied; 0 for other operations
 abbrev pub popped : Op → Reply → ℕ
 popped Pop reply = number_of reply
 popped _ reply = 0
 
--- the number that a take of the queue replied
+-- the number that a take of the queue replied; 0 for other operations
 abbrev pub queue_taken : Op → Reply → ℕ
 queue_taken PqTake reply = number_of reply
 queue_taken _ reply = 0
 
--- 1 for an insert of the tree that replied yes, and for a find that did
+-- 1 for an insert into the tree that replied yes; `keys_found` is the same for a find
 abbrev pub new_keys : Op → Reply → ℕ
 new_keys (TreeInsert key) reply = yes_of reply
 new_keys _ reply = 0
@@ -39,22 +39,22 @@ abbrev pub keys_found : Op → Reply → ℕ
 keys_found (TreeFind key) reply = yes_of reply
 keys_found _ reply = 0
 
--- the sum over entries
+-- the sum of a count over entries
 abbrev pub over_replies : (Op → Reply → ℕ) → List Entry → ℕ
 over_replies count [] = 0
 over_replies count (entry ∷ entries) = count entry.op entry.reply + over_replies count entries
 
--- the number that a counter add replied; where it is another operation, the number before it
+-- the reply of a counter add; for another operation, the number before it
 abbrev pub sum_after : ℕ → Op → Reply → ℕ
 sum_after number (CounterAdd addend) reply = number_of reply
 sum_after number _ reply = number
 
--- the number that the last counter add replied; where there is none, the number before the entries
+-- the reply of the last counter add; without one, the number before the entries
 abbrev pub last_sum : ℕ → List Entry → ℕ
 last_sum number [] = number
 last_sum number (entry ∷ entries) = last_sum (sum_after number entry.op entry.reply) entries
 
--- what entries tell, of which the first stands at the opening
+-- the tally of entries that start at the opening objects
 abbrev pub tally_of : List Entry → Tally
 tally_of entries = record {
   calls = length entries;
@@ -67,8 +67,8 @@ tally_of entries = record {
   taken = over_replies queue_taken entries;
 }
 
--- What acts come to: the calls, the sum of the addends, the pushes, the sum of what they push, the keys that are inserted
--- into the tree, the finds of such keys, the inserts of the queue, and the sum of what they insert.
+-- The tally that a job's acts imply: the calls, the sum of the addends, the pushes, the sum of the pushed items, the
+-- number of distinct inserted keys, the finds of such keys, the inserts of the queue, and the sum of their items.
 abbrev pub tally_of_acts : List Act → Tally
 tally_of_acts acts = record {
   calls = total (λ op. 1) acts;

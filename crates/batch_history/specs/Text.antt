@@ -17,12 +17,12 @@ entry_line batch place entry =
     codes "batch " ++ decimal batch ++ codes " place " ++ decimal place ++ codes " worker " ++ decimal entry.worker ++ codes " leaf " ++ decimal entry.leaf
     ++ codes " " ++ op_words entry.op ++ codes " -> " ++ reply_words entry.reply ++ codes "\n"
 
--- the lines of a batch, from a place on
+-- the lines of a batch's entries, which start at this place
 abbrev pub batch_lines : ℕ → ℕ → List Entry → List ℕ
 batch_lines batch place [] = []
 batch_lines batch place (entry ∷ entries) = entry_line batch place entry ++ batch_lines batch (place + 1) entries
 
--- the lines of a book, from a batch on
+-- the lines of batches, the first of which has this number
 abbrev pub book_lines : ℕ → List (List Entry) → List ℕ
 book_lines batch [] = []
 book_lines batch (entries ∷ book) = batch_lines batch 0 entries ++ book_lines (batch + 1) book

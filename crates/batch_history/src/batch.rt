@@ -1,10 +1,10 @@
-//! Batches: the calls that were served together, with their replies.
+//! Batches: calls that were served together, with their replies.
 ghost use Rattle.std.specs.Prelude.{◌≡◌};
 
 use seq_objects::{Op, Reply};
 use std::marker::Model;
 
-/// A call that was served: the leaf that made it, the worker that ran this leaf, the operation and its reply.
+/// A served call: the leaf that made it, the worker that ran the leaf, the operation and its reply.
 #[derive(Clone, Copy)]
 pub struct Entry {
     pub leaf: u32,
@@ -13,7 +13,7 @@ pub struct Entry {
     pub reply: Reply,
 }
 
-/// The calls that were served together, in the order in which they were served. Contracts see it as a list.
+/// The entries of a batch, in the order in which they were served. Contracts see a list.
 #[derive(Drop)]
 pub struct Batch {
     entries: Vec<Entry>,
@@ -29,14 +29,16 @@ impl Model for Batch {
 }
 
 impl Batch {
-    /// The batch of these entries, in their order. Memory: none.
+    /// A batch of these entries, in this order.
+    ///
+    /// Memory: none.
     pub fn of(entries: Vec<Entry>) -> Batch
         ensures { result ≡ entries.items }
     {
         Batch { entries }
     }
 
-    /// Its entries, in the order in which they were served: place 0 first.
+    /// The entries in serial order, from place 0.
     pub fn entries(&self) -> &[Entry]
         ensures { result.now ≡ self.now }
     {

@@ -1,12 +1,12 @@
-//! The history of a run: its batches, in the order in which they were served.
+//! The history of a run: its batches in the order in which they were served.
 ghost use Rattle.std.specs.Prelude.{◌≡◌, [], ◌∷◌, ◌++◌, OnOk, OnErr};
 
 use crate::batch::Batch;
 use std::alloc::{AllocError, Global};
 use std::marker::Model;
 
-/// Batches, numbered from 0 in the order in which they were served. Contracts see it as a list of batches,
-/// which is a history at every moment: `IsHistory` says what that means.
+/// Batches, numbered from 0 in the order of service. Contracts see a list of batches; the type invariant is
+/// `IsHistory`.
 #[derive(Drop)]
 pub struct History {
     pub(crate) batches: Vec<Batch>,
@@ -27,7 +27,9 @@ impl Model for History {
 impl History {
     ghost use Rattle.batch_history.specs.Book.{IsHistory};
 
-    /// The history of no batches. Memory: none.
+    /// The empty history.
+    ///
+    /// Memory: none.
     pub fn new(alloc: Global) -> History
         ensures { result ≡ [] }
     {
@@ -36,7 +38,7 @@ impl History {
         }
     }
 
-    /// Its batches, batch 0 first.
+    /// The batches, from batch 0.
     pub fn batches(&self) -> &[Batch]
         ensures batches { result.now ≡ self.now }
         ensures history { IsHistory self.now }
@@ -44,7 +46,7 @@ impl History {
         self.batches.as_slice()
     }
 
-    /// Puts one more batch behind the others. Where memory runs out the history stays as it was.
+    /// Appends a batch. On an `AllocError` the history is unchanged.
     pub fn append(&mut self, batch: Batch) -> Result<(), AllocError>
         requires { IsHistory (self.old ++ batch ∷ []) }
         ensures ok { OnOk result (self.new ≡ self.old ++ batch ∷ []) }

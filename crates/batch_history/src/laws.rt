@@ -1,5 +1,6 @@
-//! The laws of summaries and of replies, each as the contract of a function that does nothing: what the calls of a run come
-//! to, whatever its schedule, and how great their replies are. Those on `entries` hold of any legal list of them, those on a `report` of any lawful one.
+//! The laws of summaries and replies: each is the contract of an empty function. They bound the replies of a run and
+//! fix what its calls add up to, independently of the schedule. A clause on `entries` assumes only the legality or the
+//! order that it names; a clause on a `report` assumes that the report is lawful.
 ghost use Rattle.std.specs.Prelude.{◌≡◌, ℕ, ◌-◌, ◌≤◌, ◌<◌, ◌^◌, ◌↔◌, true, List, [], length, Contains};
 ghost use Rattle.std.specs.List.{AllByRecursion};
 ghost use Rattle.seq_objects.specs.Objects.{opening, has, argument_of, value_of};
@@ -20,8 +21,9 @@ ghost use Rattle.batch_history.specs.Filling.{StandsBefore, FindsIn};
 ghost use Rattle.batch_history.specs.Tally.{last_sum, over_replies, popped, queue_taken, new_keys, keys_found, tally_of, tally_of_acts};
 ghost use Rattle.batch_history.specs.Summary.{CanBeSummed, summary_of_report, summary_of_job};
 
-/// By any count of operations the calls of a lawful report come to what the job's acts come to, and they insert the same
-/// keys. Where the leaves of some calls are before those of others in the job, the calls stand so in the report.
+/// For every count of operations, a lawful report's calls have the same total as the job's acts, and they insert the
+/// same keys. If all leaves with `early` calls precede all leaves with `late` calls in the job, the calls are in that
+/// order in the report.
 pub fn calls_are_the_jobs()
     ensures totals { (job : JobValue) (workers : ℕ) (report : Report) → Lawful job workers report
         → (count : Op → ℕ) → total count (acts_in (flat report.history)) ≡ total count job.acts }
@@ -32,7 +34,7 @@ pub fn calls_are_the_jobs()
         → StandsBefore early late (flat report.history) }
 {}
 
-/// The last counter add replies the sum of all addends, in whatever order the adds come.
+/// The last counter add replies the sum of all addends.
 pub fn last_add_replies_the_sum()
     ensures entries { (entries : List Entry) → IsLegalFrom opening entries
         → last_sum 0 entries ≡ total added (acts_in entries) }
@@ -40,8 +42,8 @@ pub fn last_add_replies_the_sum()
         → last_sum 0 (flat report.history) ≡ total added job.acts }
 {}
 
-/// A stack that is pushed on before it is popped has as many items left as it got more pushes than pops. Where none is
-/// left, what was popped sums to what was pushed.
+/// If all pushes come before all pops, the items left are the surplus of pushes over pops. If there is no surplus, the
+/// popped numbers sum to the pushed ones.
 pub fn pops_after_pushes_empty_the_stack()
     ensures left { (entries : List Entry) → StandsBefore pushes pops entries
         → length (served opening entries).stack
@@ -56,8 +58,8 @@ pub fn pops_after_pushes_empty_the_stack()
         × (over_replies popped (flat report.history) ≡ total pushed job.acts) }
 {}
 
-/// A queue that is filled before it is taken from has as many items left as it got more inserts than takes. Where none
-/// is left, what was taken sums to what was inserted.
+/// If all inserts come before all takes, the items left are the surplus of inserts over takes. If there is no surplus,
+/// the taken numbers sum to the inserted ones.
 pub fn takes_after_inserts_empty_the_queue()
     ensures left { (entries : List Entry) → StandsBefore queue_inserts queue_takes entries
         → length (served opening entries).bag
@@ -73,9 +75,9 @@ pub fn takes_after_inserts_empty_the_queue()
         × (over_replies queue_taken (flat report.history) ≡ total queue_inserted job.acts) }
 {}
 
-/// The inserted keys are those of the inserts, each once. Where no key is removed from the tree, as many inserts reply
-/// yes as there are inserted keys. Where moreover all inserts come before all finds, a find replies yes if its key was
-/// inserted, and no if it was not.
+/// `keys_inserted` lists the keys of the inserts, ascending and without repetition. If no key is removed, as many
+/// inserts reply yes as there are such keys. If moreover all inserts come before all finds, a find replies yes exactly
+/// if its key is one of them.
 pub fn finds_after_inserts_tell_the_inserted_keys()
     ensures inserted { (key : ℕ) (acts : List Act)
         → (has key (keys_inserted acts) ≡ true) ↔ Contains acts (Call (TreeInsert key)) }
@@ -93,16 +95,17 @@ pub fn finds_after_inserts_tell_the_inserted_keys()
         ≡ total (finds_in (keys_inserted job.acts)) job.acts) }
 {}
 
-/// All lawful reports of a job that fills each structure before it asks it have one tally: that of the job's acts.
+/// If a job fills each structure before it queries it, empties the stack and the queue, and removes no key
+/// (`FillsFirst`), the tally of every lawful report is that of the job's acts.
 pub fn tally_is_the_jobs()
     ensures { (job : JobValue) (workers : ℕ) (report : Report)
         → FillsFirst job → Lawful job workers report
         → tally_of (flat report.history) ≡ tally_of_acts job.acts }
 {}
 
-/// All lawful reports of a job that fills each structure before it asks it have one summary: that of the job. It can be
-/// made where the items that are pushed sum to less than 2^64, and so do those that are inserted into the queue; so it
-/// is where there are at most 20,000 acts with arguments below 2^32.
+/// Under `FillsFirst`, every lawful report has the summary of the job. The code can make it if the pushed items sum to
+/// less than 2^64, and likewise the items inserted into the queue. At most 20,000 acts with arguments below 2^32
+/// suffice for that.
 pub fn summary_is_the_jobs()
     ensures lines { (job : JobValue) (workers : ℕ) (report : Report) (seed size : ℕ)
         → FillsFirst job → Lawful job workers report
@@ -117,8 +120,8 @@ pub fn summary_is_the_jobs()
         → CanBeSummed job report }
 {}
 
-/// Where the arguments of its calls are below 2^32, and there are at most 2^32 of them, the number that each reply of a
-/// legal list of entries stands for is below 2^64. So it is in a lawful report of a job of so few acts.
+/// If all arguments are below 2^32 and there are at most 2^32 entries, the value of each reply of a legal list is below
+/// 2^64. The same holds of a lawful report of a job with at most 2^32 acts with such arguments.
 pub fn replies_are_small()
     ensures entries { (entries : List Entry) → IsLegalFrom opening entries
         → AllByRecursion (λ entry. argument_of entry.op < 2 ^ 32) entries → length entries ≤ 2 ^ 32

@@ -1,10 +1,9 @@
-//! What a run did: the history of its batches, the rows of its leaves, and the report made of both.
+//! What a run did: the history of its batches, the rows of its leaves, and the report of both.
 //!
-//! The headline of the whole project is defined here: when a report is lawful for a job and a number of
-//! workers. A `History` keeps, at every moment, that its batches are what the serial objects would have
-//! given. The report's text is made here too, and its summary: `laws` says which jobs have one summary for all
-//! runs. The crate stands on `sp_order` and `seq_objects`, on `itoa` for the numbers of the texts, and on `key_sets`
-//! for the laws of the set.
+//! `Lawful` is the headline property of the project: it says when a report is right for a job and a number of workers.
+//! A `History` has the invariant that its batches are legal for the serial objects. The crate also prints a report as
+//! text and as a summary; `laws` says for which jobs all runs have the same summary. It builds on `sp_order` and
+//! `seq_objects`, on `itoa` for decimal numbers, and on `key_sets` for the laws of sets.
 #![tactic(auto)]
 
 pub mod batch;

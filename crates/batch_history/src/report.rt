@@ -1,9 +1,9 @@
-//! The report of a run: its batches, and a row for each of its leaves.
+//! The report of a run: its batches and one row for each leaf.
 
 use crate::history::History;
 use crate::row::Rows;
 
-/// What a run with `workers` workers did. `Lawful` says when it is right for a job.
+/// What a run with `workers` workers did. `Lawful` says when a report is right for a job.
 #[derive(Drop)]
 pub struct Report {
     pub workers: u32,

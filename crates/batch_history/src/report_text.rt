@@ -1,4 +1,4 @@
-//! The text of a report, line by line: the head, the calls in the order of the batches, and the leaves.
+//! The text of a report: a head line, the calls batch by batch, and the leaves.
 ghost use Rattle.std.specs.Prelude.{◌≡◌, ◌++◌, ◌+◌, ◌<◌, ◌^◌, length, IfOk, OnOk, string_bytes};
 ghost use Rattle.std.specs.List.{flat_map};
 ghost use Rattle.sp_order.specs.Precedence.{leaf_count};
@@ -12,7 +12,7 @@ use crate::words::{push_number, push_op, push_reply};
 use sp_order::Job;
 use std::alloc::{AllocError, Global};
 
-/// The count of entries in all batches.
+/// The number of entries in all batches.
 fn count_calls(book: &[Batch]) -> usize
     requires { length (flat book.now) < 2 ^ 64 }
     ensures { result ≡ length (flat book.now) }
@@ -100,8 +100,8 @@ fn push_rows(text: &mut String, rows: &[Row]) -> Result<(), AllocError>
     Ok(())
 }
 
-/// The text of a report of the job: a head line, a line for each call in the order of the batches, and a line
-/// for each leaf, each ended by a line feed. Time and memory: linear in the length of the text.
+/// The text of a report: a head line, a line for each call in the order of the batches, and a line for each leaf, each
+/// with a final line feed. Time and memory: linear in the length of the text.
 pub fn text(alloc: Global, job: &Job, report: &Report) -> Result<Vec<u8>, AllocError>
     requires { length report.now.rows ≡ leaf_count job.now.shape }
     ensures { IfOk result (λ bytes. bytes.items ≡ report_text report.now) }

@@ -1,4 +1,4 @@
-//! Histories that have their room from the start.
+//! Histories with room reserved in advance.
 ghost use Rattle.std.specs.Prelude.{◌≡◌, ◌<◌, ◌≤◌, [], ◌∷◌, ◌++◌, length, IfOk};
 
 use crate::batch::Batch;
@@ -6,8 +6,8 @@ use crate::history::History;
 use std::alloc::{AllocError, Global};
 use std::marker::Model;
 
-/// A history that has its room from the start, so that an append takes no memory and cannot fail. Contracts see its
-/// batches, which are a history at every moment as those of a `History` are, and for how many it has room in all.
+/// A history with reserved room, so that appending allocates nothing and cannot fail. Contracts see its batches and its
+/// total capacity; the type invariant is `IsHistory`, as for a `History`.
 #[derive(Drop)]
 pub struct ReservedHistory {
     batches: Vec<Batch>,
@@ -28,7 +28,7 @@ impl Model for ReservedHistory {
 impl ReservedHistory {
     ghost use Rattle.batch_history.specs.Book.{IsHistory};
 
-    /// The history of no batches, with room for so many.
+    /// The empty history with room for `capacity` batches.
     pub fn with_capacity(alloc: Global, capacity: usize) -> Result<ReservedHistory, AllocError>
         ensures { IfOk result (λ h. h ≡ record { batches = []; capacity = capacity }) }
     {
@@ -37,7 +37,7 @@ impl ReservedHistory {
         })
     }
 
-    /// Its batches, batch 0 first. They are no more than it has room for.
+    /// The batches, from batch 0. There are at most `capacity` of them.
     pub fn batches(&self) -> &[Batch]
         ensures batches { result.now ≡ self.now.batches }
         ensures room { length self.now.batches ≤ self.now.capacity }
@@ -46,7 +46,9 @@ impl ReservedHistory {
         self.batches.as_slice()
     }
 
-    /// Puts one more batch behind the others. Memory: none.
+    /// Appends a batch.
+    ///
+    /// Memory: none.
     pub fn append(&mut self, batch: Batch)
         requires room { length self.old.batches < self.old.capacity }
         requires history { IsHistory (self.old.batches ++ batch ∷ []) }
@@ -56,7 +58,9 @@ impl ReservedHistory {
         self.batches.push_reserved(batch);
     }
 
-    /// The same batches, as a history that has its room no longer. Memory: none.
+    /// The same batches as a `History`, without reserved room.
+    ///
+    /// Memory: none.
     pub fn into_history(self) -> History
         ensures { result ≡ self.batches }
     {

@@ -1,10 +1,10 @@
-//! Rows of a report: who ran each leaf of a run, when, and what its value is.
+//! Rows of a report: who ran each leaf, when, and with which value.
 ghost use Rattle.std.specs.Prelude.{◌≡◌};
 
 use std::marker::Model;
 
-/// What one leaf did: the worker that ran it, the ticks at which it started and ended, and its value. A tick is
-/// a draw from one counter of the run, which starts at 0; it is no measure of time.
+/// What one leaf did: its worker, the ticks at which it started and ended, and its value. Ticks are draws from one
+/// counter of the run that starts at 0; they do not measure time.
 #[derive(Clone, Copy)]
 pub struct Row {
     pub leaf: u32,
@@ -14,7 +14,7 @@ pub struct Row {
     pub value: u64,
 }
 
-/// The rows of a run's leaves. Contracts see it as a list.
+/// The rows of a run's leaves. Contracts see a list.
 #[derive(Drop)]
 pub struct Rows {
     rows: Vec<Row>,
@@ -30,14 +30,16 @@ impl Model for Rows {
 }
 
 impl Rows {
-    /// These rows, in their order. Memory: none.
+    /// These rows, in this order.
+    ///
+    /// Memory: none.
     pub fn of(rows: Vec<Row>) -> Rows
         ensures { result ≡ rows.items }
     {
         Rows { rows }
     }
 
-    /// The rows, in their order.
+    /// The rows, in order.
     pub fn list(&self) -> &[Row]
         ensures { result.now ≡ self.now }
     {

@@ -1,4 +1,4 @@
-//! The summary of a run: six lines, which tell what the run's calls came to, and not who made them or when.
+//! The summary of a run: six lines with totals of its calls, without who made them or when.
 ghost use Rattle.std.specs.Prelude.{◌≡◌, ◌++◌, IfOk, OnOk, string_bytes, codes};
 ghost use Rattle.std.specs.Fmt.{decimal};
 ghost use Rattle.batch_history.specs.Summary.{CanBeSummed, run_line, leaves_line, objects_lines, summary_of_report};
@@ -21,7 +21,7 @@ fn push_run(text: &mut String, seed: u64, size: u32, workers: u32) -> Result<(),
     text.push_str("\n")
 }
 
-/// Puts a line of two numbers, each behind its words.
+/// Appends a line of two numbers, each after its words.
 fn push_two<I: Integer>(
     text: &mut String,
     words: &str,
@@ -46,7 +46,7 @@ fn push_leaves(text: &mut String, leaves: usize, calls: u64) -> Result<(), Alloc
     push_two(text, "leaves ", leaves, " calls ", calls)
 }
 
-/// Puts the lines of the four objects.
+/// Appends the lines of the four objects: counter, stack, tree and queue.
 #[tactic(auto, unfolding(crate::specs::Summary::counter_line, crate::specs::Summary::stack_line, crate::specs::Summary::tree_line, crate::specs::Summary::queue_line))]
 fn push_objects(text: &mut String, tally: &Tally) -> Result<(), AllocError>
     ensures { OnOk result
@@ -71,8 +71,8 @@ fn push_objects(text: &mut String, tally: &Tally) -> Result<(), AllocError>
     )
 }
 
-/// The summary of a report of the job: six lines, each ended by a line feed. The seed and the size stand in them as they
-/// are given. Time: linear in the number of calls. Memory: that of the text.
+/// The summary of a report of the job: six lines, each with a final line feed. `seed` and `size` are printed as given.
+/// Time: linear in the number of calls. Memory: that of the text.
 pub fn made_text(
     alloc: Global,
     seed: u64,

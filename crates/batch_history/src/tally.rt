@@ -1,4 +1,4 @@
-//! Tallies: what the calls of a run come to, by their replies.
+//! Tallies: the totals of a run's calls and replies.
 ghost use Rattle.std.specs.Prelude.{◌≡◌, ◌<◌, ◌^◌, [], ◌∷◌};
 ghost use Rattle.batch_history.specs.Book.{flat};
 ghost use Rattle.batch_history.specs.Tally.{number_of, yes_of, tally_of};
@@ -8,12 +8,12 @@ use crate::batch::Entry;
 use crate::history::History;
 use seq_objects::{Op, Reply};
 
-/// What the calls of a run come to.
+/// The totals of a run's calls.
 #[derive(Clone, Copy)]
 pub struct Tally {
     /// The number of calls.
     pub calls: u64,
-    /// The number that the last counter add replied, and 0 where there is none.
+    /// The reply of the last counter add, or 0 without one.
     pub counter: u64,
     /// The number of pushes of the stack.
     pub pushed: u64,
@@ -29,7 +29,7 @@ pub struct Tally {
     pub taken: u64,
 }
 
-/// The number of a reply, and 0 where it has none.
+/// The number in a reply, or 0 if it has none.
 fn number(reply: Reply) -> u64
     ensures { result ≡ number_of reply }
 {
@@ -39,7 +39,7 @@ fn number(reply: Reply) -> u64
     }
 }
 
-/// 1 for a yes.
+/// 1 for the reply yes, else 0.
 fn count_yes(reply: Reply) -> u64
     ensures { result ≡ yes_of reply }
 {
@@ -50,7 +50,7 @@ fn count_yes(reply: Reply) -> u64
 }
 
 impl Tally {
-    /// What the calls of a history come to.
+    /// The tally of a history.
     ///
     /// Memory: none.
     pub fn of(history: &History) -> Tally

@@ -1,4 +1,4 @@
-//! Words and numbers that are put behind a text.
+//! Appending words and numbers to a text.
 ghost use Rattle.std.specs.Prelude.{◌≡◌, ◌++◌, OnOk, string_bytes};
 ghost use Rattle.seq_objects.specs.Words.{op_words, reply_words};
 
@@ -6,7 +6,7 @@ use itoa::{Buffer, Integer};
 use seq_objects::{Op, Reply};
 use std::alloc::AllocError;
 
-/// Puts words, and a number behind them.
+/// Appends `words` and then the number in decimal.
 #[inline(always)]
 pub(crate) fn push_number<I: Integer>(
     text: &mut String,
@@ -21,7 +21,7 @@ pub(crate) fn push_number<I: Integer>(
     text.push_str(buffer.format(number))
 }
 
-/// Puts what an operation is called.
+/// Appends the name of an operation, with its argument.
 pub(crate) fn push_op(text: &mut String, op: Op) -> Result<(), AllocError>
     ensures { OnOk result (string_bytes text.new ≡ string_bytes text.old ++ op_words op) }
 {
@@ -38,7 +38,7 @@ pub(crate) fn push_op(text: &mut String, op: Op) -> Result<(), AllocError>
     }
 }
 
-/// Puts the words of a reply.
+/// Appends the words of a reply.
 pub(crate) fn push_reply(text: &mut String, reply: Reply) -> Result<(), AllocError>
     ensures { OnOk result (string_bytes text.new ≡ string_bytes text.old ++ reply_words reply) }
 {

@@ -1,4 +1,4 @@
--- What callers see of a core: its job, its state, what is due, when it is over, and what its turns answer.
+-- What callers see of a core: its job and state, the work that is due, whether it is over, and the results of turns.
 use Rattle.core_state.specs.Abstraction.{core_state_of, state_of}
 use Rattle.core_model.specs.Choice.{choice}
 use Rattle.core_model.specs.Runs.{IsStep}
@@ -17,7 +17,7 @@ pub record CoreView : Type 0 where
   pub job : JobValue
   pub workers : ℕ
   pub table : StoredState
-  -- memory has failed
+  -- an allocation failed in a turn
   pub spent : Bool
 
 abbrev pub job_in : CoreView → CoreJob
@@ -26,11 +26,11 @@ job_in c = core_job c.job c.workers
 abbrev pub state_in : CoreView → CoreState
 state_in c = core_state_of c.table
 
--- how many steps of work are due of this worker
+-- the steps of work that worker `w` has due
 abbrev pub due_in : CoreView → ℕ → Option ℕ
 due_in c w = work_due (job_in c) ((state_of c.table).task w)
 
--- the root is done, and memory has not failed
+-- the core is not spent, and the root is done
 abbrev pub is_over_in : CoreView → Bool
 is_over_in c = not c.spent && is_done ((state_of c.table).node 0)
 
@@ -38,14 +38,14 @@ abbrev pub moved_if : Option Event → Turn
 moved_if None = Idle
 moved_if (Some event) = Moved
 
--- what a turn answers, by the work that is due, by the work that it is given, and by its choice
+-- the result of a turn, from the work that is due, the work that was passed in, and the choice
 abbrev pub turn_answer : Option ℕ → Option ℕ → Option Event → Turn
 turn_answer None spun chosen = moved_if chosen
 turn_answer (Some steps) None chosen = Spin steps
 turn_answer (Some steps) (Some spun) chosen = moved_if chosen
 
--- What has happened in a turn that answers this: the event of the choice, or nothing. Where it is idle, no event of
--- this worker can happen.
+-- The effect of a turn with this result: `Moved` means that the chosen event happened. Otherwise nothing changed, and
+-- `Idle` also means that no event of this worker can happen.
 abbrev pub IsTurnResult : Turn → CoreJob → CoreState → ℕ → CoreState → Type 0
 IsTurnResult Moved job old w new = (event : Event) × (choice job old w ≡ Some event) × IsStep job old w event new
 IsTurnResult (Spin steps) job old w new = new ≡ old

@@ -1,5 +1,5 @@
--- What callers see of a core: its job and its state, its turns and its ends, with what they take from the crates below. The rules
--- are those of `core_model`.
+-- What callers see of a core: its job, state, turns and ends, with the specifications they use of the crates below. The
+-- rules are those of `core_model`.
 pub use Rattle.sp_order.specs.Precedence
 pub use Rattle.sp_order.specs.Plans
 pub use Rattle.sp_order.specs.Preorder

@@ -1,4 +1,4 @@
--- What the live workers' turns made of a core, where some workers have stopped for good.
+-- The outcome of the live workers' turns in a core where some workers have stopped for good.
 use Rattle.batch_history.specs.Lawful.{Lawful}
 use Rattle.batcher_core.specs.Cores.{CoreView, job_in, state_in}
 use Rattle.batcher_core.specs.declared.stopped.Ended.{Ended}
@@ -12,9 +12,9 @@ use Rattle.sp_order.specs.Jobs.{job_tree}
 use Rattle.sp_order.specs.Precedence.{leaves}
 use Rattle.std.specs.Prelude.{Bool, false, true, ℕ, ◌≡◌}
 
--- What the live workers' turns made of a core, from worker 0 on. It is over where the root of the state that they reached is
--- done, and the report is that of this state; it is stuck where the root is not done and no live worker has an event, and then
--- the core is handed back in this state.
+-- The outcome of the live workers' turns from worker 0 on. `Over`: the root of the reached state is done, and the
+-- report is that state's and is lawful. `Stuck`: the root is not done, no live worker has an event, and the core is
+-- returned in this state with its invariant.
 abbrev pub IsEndOf : CoreView → (ℕ → Bool) → Ended → Type 0
 IsEndOf core live (Over report) =
     (last : CoreState) × LiveDrive (job_in core) live (state_in core) 0 last × (is_done (last.state.node 0) ≡ true)

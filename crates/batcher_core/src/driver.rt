@@ -15,8 +15,8 @@ use core_model::laws::report::driven_report_is_of_a_run;
 use sp_order::laws::plan_stands_for_tree;
 use std::alloc::{AllocError, Global};
 
-/// One turn of a worker of a core that is not over. Where work is due, it is done in the turn. Answers whether the core
-/// is over then.
+/// One turn of a worker of a core that is not over. Work that is due is done within the turn. Returns whether the core
+/// is over now.
 #[inline(always)]
 fn take_turn(core: &mut Core, worker: u32) -> Result<bool, AllocError>
     requires worker_in { worker < core.old.workers }
@@ -35,7 +35,7 @@ fn take_turn(core: &mut Core, worker: u32) -> Result<bool, AllocError>
     Ok(core.is_over())
 }
 
-/// The worker whose turn is next, round robin.
+/// The next worker in round-robin order.
 fn next_worker(worker: u32, workers: u32) -> u32
     requires { worker < workers }
     ensures { result ≡ (worker + 1) % workers }
@@ -43,7 +43,7 @@ fn next_worker(worker: u32, workers: u32) -> u32
     if worker + 1 == workers { 0 } else { worker + 1 }
 }
 
-/// Takes turns by the workers of the schedule until the schedule ends or the core is over.
+/// Takes the turns of a schedule until it ends or the core is over.
 fn run_schedule(core: &mut Core, schedule: &[u32]) -> Result<(), AllocError>
     requires { AllByRecursion (λ worker. worker < core.old.workers) schedule.now }
     ensures job { IfOk result (λ _. (core.new.job ≡ core.old.job)
@@ -62,7 +62,7 @@ fn run_schedule(core: &mut Core, schedule: &[u32]) -> Result<(), AllocError>
     Ok(())
 }
 
-/// Takes turns by all workers round robin, beginning with worker 0, until the core is over.
+/// Takes turns by all workers round robin, from worker 0 on, until the core is over.
 fn run_round_robin(core: &mut Core) -> Result<(), AllocError>
     ensures job { IfOk result (λ _. (core.new.job ≡ core.old.job)
         × (core.new.workers ≡ core.old.workers)) }
@@ -83,7 +83,7 @@ fn run_round_robin(core: &mut Core) -> Result<(), AllocError>
     Ok(())
 }
 
-/// Takes turns by the workers of the schedule, and then round robin, until the core is over.
+/// Takes the turns of a schedule, and then turns round robin, until the core is over.
 fn run(core: &mut Core, schedule: &[u32]) -> Result<(), AllocError>
     requires { AllByRecursion (λ worker. worker < core.old.workers) schedule.now }
     ensures job { IfOk result (λ _. (core.new.job ≡ core.old.job)
@@ -97,9 +97,9 @@ fn run(core: &mut Core, schedule: &[u32]) -> Result<(), AllocError>
     run_round_robin(core)
 }
 
-/// Takes turns until the core is over: by the workers of the schedule, and then by all workers round robin, beginning
-/// with worker 0. It always returns, since each event lowers the number of events that are left, and until the core is
-/// over some worker has an event. A spent core gives an `Err`.
+/// Takes turns until the core is over: first by the workers of the schedule, then by all workers round robin from
+/// worker 0 on. Termination: each event lowers the measure, and until the core is over some worker has an event. A
+/// spent core gives an `Err`.
 pub fn drive(alloc: Global, core: Core, schedule: &[u32]) -> Result<Report, AllocError>
     requires { AllByRecursion (λ worker. worker < core.workers) schedule.now }
     ensures driven { IfOk result

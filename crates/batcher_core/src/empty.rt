@@ -1,4 +1,4 @@
-//! The report of a job without leaves, which is not run.
+//! The report of a job without leaves, which needs no run.
 ghost use Rattle.std.specs.Prelude.{ℕ, List, IfSome, IsNone, IsSome};
 ghost use Rattle.batch_history.specs.Lawful.{Lawful};
 ghost use Rattle.core_model.specs.Reports.{IsDrivenReport, IsRunReport};
@@ -7,7 +7,7 @@ use batch_history::{History, Report, Rows};
 use sp_order::Job;
 use std::alloc::Global;
 
-/// The report of a job without leaves. There is none for another job, which is to be run.
+/// The report of a job without leaves. `None` for any other job: that must be run.
 pub fn report_of_empty(alloc: Global, job: &Job, workers: u32) -> Option<Report>
     ensures lawful { IfSome result (λ report. Lawful job.now workers report) }
     ensures run { IfSome result (IsRunReport job.now workers) }

@@ -1,10 +1,9 @@
-//! The core of the scheduler: a job with its state, and the run by turns.
+//! The core of the scheduler on one thread: a job with its state, and the run by turns.
 //!
-//! The rules and the laws of all runs are those of `core_model`; the state, and what a turn does to it, are those of
-//! `core_state`. `drive` takes turns until the root is done, and `report` makes the rows of the report; a job without
-//! leaves has its report at once (`empty`). The crate stands on
-//! these two and on `core_parts`, on `launch_batch`, whose shop lies in the state, on `sp_order`, which has the nodes of a job,
-//! on `batch_history`, which has the book, and on `seq_objects`.
+//! `drive` takes turns until the root is done, and `report` makes the rows of the report; a job without leaves has its
+//! report at once (`empty`). The rules and the laws of all runs are in `core_model`, and the state and its turns in
+//! `core_state`. The crate also builds on `core_parts`, on `launch_batch`, whose shop is part of the state, and on
+//! `sp_order`, `batch_history` and `seq_objects` for nodes, books and operations.
 #![tactic(auto)]
 
 pub mod driver;

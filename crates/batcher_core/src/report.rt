@@ -34,7 +34,7 @@ fn row_of(leaf: u32, progress: Progress, value: Option<u64>) -> Row
     }
 }
 
-/// The rows of the leaves below `leaf_total`, in leaf order. Each of these leaves has run and has a value.
+/// The rows of the leaves below `leaf_total`, in leaf order. Each of these leaves must have run and have a value.
 pub(crate) fn rows_of(
     alloc: Global,
     job: &PlannedJob,

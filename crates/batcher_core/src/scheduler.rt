@@ -1,4 +1,4 @@
-//! The scheduler's core: a job, its workers, and the turns by which they run it.
+//! The scheduler's core: a job, its workers, and the turns that run it.
 ghost use Rattle.std.specs.Prelude.{◌≡◌, ◌<◌, ◌≤◌, ℕ, IfOk, IfErr, IsSome, IfSome, MatchOption, Some, None, true, false, IsTrue, ◌↔◌, map};
 ghost use Rattle.seq_objects.specs.Spin.{spin_of};
 ghost use Rattle.core_model.specs.State.{opening_core};
@@ -27,8 +27,8 @@ use sp_order::laws::{plan_has_sides, plan_stands_for_tree};
 use std::alloc::{AllocError, Global};
 use std::marker::Model;
 
-/// The scheduler's core: a job, its workers, and the state that they have reached. Once memory was wanting in a turn
-/// the core is spent: its state may be part of the way through an event, and it takes no more turns.
+/// The scheduler's core: a job, its workers, and their present state. After an allocation failure in a turn the core is
+/// spent: its state may be part of the way through an event, and it takes no more turns.
 #[derive(Drop)]
 pub struct Core {
     alloc: Global,
@@ -58,7 +58,7 @@ impl Model for Core {
     ghost invariant = { λ c. (0 < c.setting.workers) × (c.spent ≡ false → Represents c.setting c.table) };
 }
 
-/// The value of the work that was done, if some was.
+/// The value of the given work, if there is any.
 fn value_of(spun: &Option<Spun>) -> Option<u64>
     ensures none { spun.now ≡ None → result ≡ None }
     ensures some { IfSome spun.now (λ s. result ≡ Some (spin_of s)) }
@@ -70,7 +70,7 @@ fn value_of(spun: &Option<Spun>) -> Option<u64>
 }
 
 impl Core {
-    /// The core of a job that has leaves, in the opening state.
+    /// The core of a job with leaves, in the opening state.
     ///
     /// Memory: proportional to the nodes and the workers.
     pub fn start(alloc: Global, job: &Job, workers: u32) -> Result<Core, AllocError>
@@ -94,7 +94,7 @@ impl Core {
         })
     }
 
-    /// The number of steps of work that are due of a worker, if it has started a leaf that works.
+    /// The steps of work that a worker has due: those of a working leaf that it has started.
     fn due(&self, worker: u32) -> Option<u32>
         requires unspent { self.now.spent ≡ false }
         requires worker_in { worker < self.now.workers }
@@ -103,7 +103,8 @@ impl Core {
         self.table.work_due(&self.setting, worker)
     }
 
-    /// The event of a worker's next turn, if it has one. `work` is the value of the work that is due, if it is done.
+    /// The event of a worker's next turn, if it has one. `work` is the value of the work that is due, if it was
+    /// computed already.
     #[inline(always)]
     fn choice(&self, worker: u32, work: Option<u64>) -> Option<Event>
         requires unspent { self.now.spent ≡ false }
@@ -115,7 +116,7 @@ impl Core {
         self.table.choose(&self.setting, worker, work)
     }
 
-    /// Whether it is seen at once that a turn of this worker makes no event. It may make none where this is false.
+    /// Cheap check: true implies that the worker has no event; false says nothing.
     ///
     /// Memory: none.
     #[inline(always)]
@@ -128,8 +129,8 @@ impl Core {
         !self.spent && self.table.surely_rests(&self.setting, worker)
     }
 
-    /// The event of a worker's turn happens, if it has one. `work` is the value of the work that is due, if that is done;
-    /// else it is done here.
+    /// Performs the event of a worker's turn, if it has one. `work` is the value of the work that is due; without it,
+    /// the work is done here.
     #[inline(always)]
     pub(crate) fn advance(&mut self, worker: u32, work: Option<u64>) -> Result<Turn, AllocError>
         requires worker_in { worker < self.old.workers }
@@ -159,9 +160,9 @@ impl Core {
         }
     }
 
-    /// One turn of a worker. Where the worker has started a leaf that works, the turn answers how many steps are due
-    /// until it is given that work; else `spun` is not looked at. After an `Err` the core is spent, and each later turn
-    /// is an `Err`.
+    /// One turn of a worker. If the worker has work due and `spun` is `None`, the turn changes nothing and returns the
+    /// number of steps; the caller passes the work done in the next turn. If no work is due, `spun` is ignored. After
+    /// an `Err` the core is spent, and each later turn is an `Err`.
     ///
     /// Memory: at most one node in a list, or one batch.
     pub fn turn(&mut self, worker: u32, spun: Option<Spun>) -> Result<Turn, AllocError>
@@ -189,7 +190,7 @@ impl Core {
         self.advance(worker, value_of(&spun))
     }
 
-    /// The ready nodes of a worker, the oldest first. Beyond the workers there are none.
+    /// A worker's ready nodes, oldest first. A number that is no worker's has none.
     ///
     /// Memory: none.
     #[tactic(auto, unfolding(core_state::specs::Abstraction::ready_of))]
@@ -199,7 +200,7 @@ impl Core {
         self.table.ready.of(worker)
     }
 
-    /// What a worker is doing. In a core that is spent that is always `Doing::Other`.
+    /// What a worker is doing: always `Doing::Other` in a spent core.
     ///
     /// Memory: none.
     pub fn doing(&self, worker: u32) -> Doing
@@ -220,14 +221,14 @@ impl Core {
         self.setting.workers
     }
 
-    /// The invariant, in a core that is not spent. It is for proofs, and does nothing.
+    /// The model's invariant, for a core that is not spent. For proofs only: it does nothing.
     pub fn stands(&self)
         ensures { self.now.spent ≡ false → Invariant (job_in self.now) (state_in self.now) }
     {
         self.invariant_holds();
     }
 
-    /// The invariant of what a core keeps that is not spent. It is for proofs, and does nothing.
+    /// The invariant of the stored state, for a core that is not spent. For proofs only: it does nothing.
     pub(crate) fn invariant_holds(&self)
         ensures { self.now.spent ≡ false
             → RepInvariant self.now.job self.now.workers self.now.table }
@@ -235,7 +236,7 @@ impl Core {
         let _ = &self.spent;
     }
 
-    /// The batches that were served so far. There are none to be shown once the core is spent.
+    /// The batches served so far, `None` in a spent core.
     ///
     /// Memory: none.
     pub fn history(&self) -> Option<&History>

@@ -1,11 +1,11 @@
-//! Work that was done outside the core.
+//! Work done outside the core.
 ghost use Rattle.std.specs.Prelude.{◌≡◌};
 ghost use Rattle.seq_objects.specs.Spin.{spin_of};
 
 use seq_objects::work::spin;
 use std::marker::Model;
 
-/// Work that is done: a number of steps, and the value that they give. Contracts see the number of steps.
+/// Work done: a number of steps and their result. Contracts see the number of steps.
 #[derive(Drop)]
 pub struct Spun {
     steps: u32,
@@ -36,14 +36,14 @@ impl Spun {
         }
     }
 
-    /// The number of steps that were done.
+    /// The number of steps done.
     pub fn number(&self) -> u32
         ensures { result ≡ self.now }
     {
         self.steps
     }
 
-    /// The value that the steps give.
+    /// The value of the steps.
     pub(crate) fn value(&self) -> u64
         ensures { result ≡ spin_of self.now }
     {

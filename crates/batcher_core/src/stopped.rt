@@ -18,16 +18,16 @@ use core_model::laws::stopped::idle_stopped_workers_cost_nothing;
 use sp_order::laws::plan_stands_for_tree;
 use std::alloc::{AllocError, Global};
 
-/// What a run by the live workers ended in.
+/// The outcome of a run by the live workers.
 #[derive(Drop)]
 pub enum Ended {
-    /// The core was over, and this is its report.
+    /// The root is done, and this is the report.
     Over(Report),
-    /// No live worker had an event, and the root was not done: the core, as the turns left it.
+    /// The root is not done, and no live worker has an event. This is the core as the turns left it.
     Stuck(Core),
 }
 
-/// One turn of a worker. Where work is due, it is done in the turn. Answers whether it made an event.
+/// One turn of a worker. Work that is due is done within the turn. Returns whether an event happened.
 fn moves(core: &mut Core, worker: u32) -> Result<bool, AllocError>
     requires worker_in { worker < core.old.workers }
     ensures job { (core.new.job ≡ core.old.job)
@@ -47,7 +47,7 @@ fn moves(core: &mut Core, worker: u32) -> Result<bool, AllocError>
     }
 }
 
-/// A turn of each live worker, in their order, until the core is over. Answers whether some turn made an event.
+/// One turn of each live worker in ascending order, until the core is over. Returns whether some event happened.
 fn take_round(core: &mut Core, live: &[bool]) -> Result<bool, AllocError>
     requires all { length live.now ≡ core.old.workers }
     requires unspent { core.old.spent ≡ false }
@@ -98,9 +98,9 @@ fn run_live(core: &mut Core, live: &[bool]) -> Result<(), AllocError>
     Ok(())
 }
 
-/// Takes turns round robin among the live workers, beginning with worker 0, until the core is over or no live worker has an
-/// event. The others take none, whatever they have in hand. It always returns. Where no worker that is not live has a task,
-/// whose status is then free, the core is over at the end. A spent core gives an `Err`.
+/// Takes turns round robin among the live workers, from worker 0 on, until the core is over or no live worker has an
+/// event. Stopped workers take no turn, whatever their state. It always returns. If no stopped worker has a task, the
+/// core is over at the end. A spent core gives an `Err`.
 pub fn drive_some(alloc: Global, core: Core, live: &[bool]) -> Result<Ended, AllocError>
     requires all { length live.now ≡ core.workers }
     requires some { Contains live.now true }

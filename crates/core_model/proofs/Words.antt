@@ -1,5 +1,4 @@
--- The words that most proofs speak in, handed on from the rules: their types and variants, and the records of a job and of
--- its state.
+-- The types and variants that most proofs use, re-exported from the model, and the records of a job and of its plan.
 pub use Rattle.core_model.specs.Words.{Act, Work, Call, Op, Tree, leaf, seq, par, leaves, Entry}
 pub use Rattle.core_model.specs.Words.{Kind, LeafNode, SeqNode, ParNode, Move, Root, OpenSecond, FinishParent, Arrive, Nodes, IsPlan, IsSide, IsUnder, IsBySeries, HasSide, parent_of, node_count, OccursAt, IsPlanOf}
 pub use Rattle.core_model.specs.Words.{Progress, Waiting, Ready, Taken, Done, Ran, Task, Idle, Run, Half, Started, Kept, Ended, Whole, Handed}

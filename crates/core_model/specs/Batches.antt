@@ -1,4 +1,4 @@
--- The calls of which a batch is made: those of the workers that the hold has taken.
+-- The calls of a batch: those of the workers that the hold has taken.
 use Rattle.core_model.specs.Operations.{op_of}
 use Rattle.core_model.specs.State.{CoreJob}
 use Rattle.core_model.specs.Words.{Entry}
@@ -10,13 +10,13 @@ use Rattle.sp_order.specs.declared.node.Kind.TheVariants.{LeafNode}
 use Rattle.std.specs.List.{AllByRecursion}
 use Rattle.std.specs.Prelude.{Bool, Contains, List, Some, map, true, ℕ, ◌<◌, ◌≡◌}
 
--- the call is that of the leaf at which the task is started, with its operation under the book
+-- the task is a started leaf, and the call has that leaf and its operation
 abbrev pub IsCallOf : CoreJob → List (List Entry) → Task → Call → Type 0
 IsCallOf job book task call =
     (node : ℕ) × (start : ℕ) × (job.plan.kind node ≡ Some (LeafNode call.leaf)) × (task ≡ Started node start)
     × (op_of job.act book call.leaf ≡ Some call.op)
 
--- the calls of the workers that are taken, each once
+-- `calls` has the call of each worker in `took`, exactly once, and no other
 pub record AreTakenCalls (job : CoreJob) (book : List (List Entry)) (task : ℕ → Task) (took : ℕ → Bool) (calls : List Call) : Type 0 where
   pub distinct : AreDistinct (map (λ call. call.worker) calls)
   pub only : AllByRecursion (λ call. (took call.worker ≡ true) × IsCallOf job book (task call.worker) call) calls

@@ -1,4 +1,4 @@
--- The choice of a worker's turn: the event that it makes, or none. In each function the first line that fits decides.
+-- The choice of a worker's turn: the event it makes, or none. In each function the first matching case decides.
 use Rattle.core_model.specs.Lists.{ready_after}
 use Rattle.core_model.specs.Operations.{Place, leaf_of, place_of, receipt_for}
 use Rattle.core_model.specs.State.{CoreJob, CoreState, Hold, State, put}
@@ -8,7 +8,7 @@ use Rattle.seq_objects.specs.Objects.{value_of}
 use Rattle.seq_objects.specs.Spin.{spin_of}
 use Rattle.std.specs.Prelude.{Bool, List, None, Option, Some, [], false, if◌then◌else◌, nat_lt, not, suc, zero, ℕ, ◌%◌, ◌&&◌, ◌++◌, ◌+◌, ◌-◌, ◌==◌, ◌||◌, ◌∷◌, ◌≡◌, ◌⊎◌}
 
--- some number below the bound is chosen
+-- some number below the bound satisfies `chosen`
 unfoldable pub some_below : (ℕ → Bool) → ℕ → Bool
 some_below chosen zero = false
 some_below chosen (suc bound) = some_below chosen bound || chosen bound
@@ -17,79 +17,79 @@ abbrev pub first_of : Option ℕ → Bool → ℕ → Option ℕ
 first_of (Some least) chosen last = Some least
 first_of None chosen last = if chosen then Some last else None
 
--- the least number below the bound that is chosen
+-- the least number below the bound that satisfies `chosen`
 unfoldable pub least_below : (ℕ → Bool) → ℕ → Option ℕ
 least_below chosen zero = None
 least_below chosen (suc bound) = first_of (least_below chosen bound) (chosen bound) bound
 
--- the hold has taken the call of this worker, and has not answered it
+-- worker `u`'s call is taken and not answered
 abbrev pub is_owed : Hold → ℕ → Bool
 is_owed h u = h.taken u && not (h.answered u)
 
--- the leaf at the node that a task names
+-- the leaf at the node, 0 without a node or for a block
 abbrev pub leaf_named : Nodes → Option ℕ → ℕ
 leaf_named plan None = 0
 leaf_named plan (Some n) = leaf_of (plan.kind n)
 
--- the worker is handed the receipt of the entry at this place
+-- worker `u` is handed the receipt for the entry at this place
 abbrev pub answer_with : ℕ → Option Place → Option Event
 answer_with u None = None
 answer_with u (Some place) = Some (Answer u (receipt_for place))
 
--- the least worker that is taken and not answered is handed the receipt of its leaf's entry; where there is none, the flag is let go
+-- the least worker owed an answer gets the receipt of its leaf's entry; if none is owed, the flag is released
 abbrev pub choice_answer : CoreJob → State → Option ℕ → Option Event
 choice_answer job s None = Some Release
 choice_answer job s (Some u) = answer_with u (place_of s.book (leaf_named job.plan (names (s.task u))))
 
--- the turn of the worker that has the flag: it looks at the workers one after another, then publishes if it has taken
--- some calls, then answers those workers, and then lets the flag go
+-- the turn of the flag's owner: look at each worker in order, publish if some call is taken, answer each taken worker,
+-- then release the flag
 abbrev pub choice_holding : CoreJob → State → Hold → Option Event
 choice_holding job s h =
     if nat_lt h.looks job.workers then Some (Take h.looks)
     else if some_below h.taken job.workers && not h.published then Some Publish
     else choice_answer job s (least_below (is_owed h) job.workers)
 
--- it wins the flag, if that is free
+-- a worker with a pending call wins the flag if it is free
 abbrev pub choice_pending : Option Hold → Option Event
 choice_pending None = Some Win
 choice_pending (Some h) = None
 
--- of a worker whose task is run, by the kind of its node
+-- task `Run`, by the kind of the node: a block opens a side, the right one first if it is parallel
 abbrev pub choice_run : Option Kind → ℕ → Option Event
 choice_run None n = None
 choice_run (Some (LeafNode leaf)) n = Some (Start n)
 choice_run (Some (SeqNode left right)) n = Some (OpenSeqLeft n left right)
 choice_run (Some (ParNode left right)) n = Some (OpenParRight n left right)
 
--- of a worker whose task is half: the right side of its parallel block is open
+-- task `Half`: the right side of block `p` is open, so the left one opens
 abbrev pub choice_half : Option Kind → ℕ → Option Event
 choice_half None p = None
 choice_half (Some (LeafNode leaf)) p = None
 choice_half (Some (SeqNode left right)) p = None
 choice_half (Some (ParNode left right)) p = Some (OpenParLeft p left right)
 
--- with a leaf that does this, which started at this tick: the value of work is there at once, that of a call once it is answered
+-- task `Started`, by the act: work has its value at once, a call once it is answered
 abbrev pub choice_started : Act → CallState → ℕ → ℕ → Option Event
 choice_started (Work steps) call n start = Some (Keep n start (spin_of steps))
 choice_started (Call op) NotCalled n start = Some (Post n start)
 choice_started (Call op) Out n start = None
 choice_started (Call op) (Got receipt) n start = Some (Keep n start (value_of receipt.reply))
 
--- the left side of this series is done
+-- the left side of series `p` is done
 abbrev pub choice_second : Option Kind → ℕ → Option Event
 choice_second None p = None
 choice_second (Some (LeafNode leaf)) p = None
 choice_second (Some (SeqNode left right)) p = Some (OpenSeqRight p left right)
 choice_second (Some (ParNode left right)) p = None
 
--- the right side of this series is done
+-- the right side of series `p` is done
 abbrev pub choice_parent : Option Kind → ℕ → Option Event
 choice_parent None p = None
 choice_parent (Some (LeafNode leaf)) p = None
 choice_parent (Some (SeqNode left right)) p = Some (FinishSeq p left right)
 choice_parent (Some (ParNode left right)) p = None
 
--- the side n of this parallel block is done; the mark is the number of sides that have arrived
+-- side `n` of parallel block `p` is done; `mark` is the number of sides that have arrived
 abbrev pub choice_arrive : Option Kind → ℕ → ℕ → ℕ → Option Event
 choice_arrive None p mark n = None
 choice_arrive (Some (LeafNode leaf)) p mark n = None
@@ -97,36 +97,36 @@ choice_arrive (Some (SeqNode left right)) p mark n = None
 choice_arrive (Some (ParNode left right)) p mark n =
     Some (if mark == 0 then ArriveFirst p left right n else ArriveSecond p left right n)
 
--- of a worker whose task is whole: its node is done; by the move after it
+-- task `Whole`: node `n` is done; the plan's move after it decides
 abbrev pub choice_whole : CoreJob → State → Move → ℕ → Option Event
 choice_whole job s Root n = None
 choice_whole job s (OpenSecond p) n = choice_second (job.plan.kind p) p
 choice_whole job s (FinishParent p) n = choice_parent (job.plan.kind p) p
 choice_whole job s (ArriveAt p) n = choice_arrive (job.plan.kind p) p (s.mark p) n
 
--- of a worker whose task is handed: both sides of its parallel block have arrived
+-- task `Handed`: both sides of parallel block `p` have arrived
 abbrev pub choice_handed : Option Kind → ℕ → Option Event
 choice_handed None p = None
 choice_handed (Some (LeafNode leaf)) p = None
 choice_handed (Some (SeqNode left right)) p = None
 choice_handed (Some (ParNode left right)) p = Some (FinishPar p left right)
 
--- the oldest node of a list, or, if it is empty, the other choice
+-- a claim of the list's oldest node, or `other` if the list is empty
 abbrev pub oldest_or : List ℕ → Option Event → Option Event
 oldest_or [] other = other
 oldest_or (n ∷ ns) other = Some (Claim n)
 
--- the oldest node of the first list that is not empty, among those of `many` workers from one on, modulo the workers
+-- a claim of the oldest node of the first non-empty list of the `many` workers from `from` on, modulo `workers`
 unfoldable pub choice_steal : (ℕ → List ℕ) → ℕ → ℕ → ℕ → Option Event
 choice_steal ready workers from zero = None
 choice_steal ready workers from (suc many) = oldest_or (ready (from % workers)) (choice_steal ready workers (from + 1) many)
 
--- the last number of a list that begins with this one
+-- the last number of the list `n ∷ ns`
 abbrev pub last_of : ℕ → List ℕ → ℕ
 last_of n [] = n
 last_of n (m ∷ ms) = last_of m ms
 
--- of a worker whose task is idle: the newest node of the own list, or, if it is empty, the oldest one of another worker's
+-- task `Idle`: the own list's newest node, else a steal of the oldest node of another list
 abbrev pub choice_idle : CoreJob → (ℕ → List ℕ) → ℕ → List ℕ → Option Event
 choice_idle job ready w [] = choice_steal ready job.workers (w + 1) (job.workers - 1)
 choice_idle job ready w (n ∷ ns) = Some (Claim (last_of n ns))
@@ -142,7 +142,7 @@ choice_free job s w (Ended n start end) = Some (FinishLeaf n start end)
 choice_free job s w (Whole n) = choice_whole job s.state (job.plan.after n) n
 choice_free job s w (Handed p) = choice_handed (job.plan.kind p) p
 
--- the turn of a worker that does not have the flag, by its status
+-- the turn of a worker that does not own the flag, by its status
 abbrev pub choice_by : CoreJob → CoreState → ℕ → Status → Option Event
 choice_by job s w Free = choice_free job s w (s.state.task w)
 choice_by job s w Pending = choice_pending s.state.hold
@@ -153,12 +153,12 @@ abbrev pub choice_under : CoreJob → CoreState → ℕ → Option Hold → Opti
 choice_under job s w None = choice_by job s w (s.state.status w)
 choice_under job s w (Some h) = if h.worker == w then choice_holding job s.state h else choice_by job s w (s.state.status w)
 
--- the event of the turn of worker w
+-- the choice of worker `w`'s turn
 abbrev pub choice : CoreJob → CoreState → ℕ → Option Event
 choice job s w = choice_under job s w s.state.hold
 
--- The node n, as worker w claims it, was the newest of its list; or, where that list is empty, the oldest of some list.
--- The lists stay but for that end of that list.
+-- Node `n`, claimed by worker `w`, is the newest of `w`'s list, or, if that is empty, the oldest of some list. The
+-- claim changes nothing but that end of that list.
 abbrev pub LeavesAnEnd : (ℕ → List ℕ) → ℕ → ℕ → Type 0
 LeavesAnEnd ready w n =
     ((rest : List ℕ) × (ready w ≡ rest ++ n ∷ []) × (ready_after w (Claim n) ready ≡ put ready w rest))

@@ -1,4 +1,4 @@
--- The events: what each needs of the state, and what it does to it.
+-- The events: what each needs of the state, and what it does to it. These are the rules of the model.
 use Rattle.batch_history.specs.Book.{IsBatch, IsLegalFrom}
 use Rattle.core_model.specs.Words.{Entry, Event, Answer, ArriveFirst, ArriveSecond, Claim, End, FinishLeaf, FinishPar, FinishSeq, Keep, Leave, OpenParLeft, OpenParRight, OpenSeqLeft, OpenSeqRight, Post, Publish, Release, Start, Take, Win, Done, Ran, Ready, Taken, CallState, Got, NotCalled, Out, Status, Executing, Free, Pending, Served, Task, Ended, Half, Handed, Idle, Kept, Run, Started, Whole, Act, Call, Work, IsSide, LeafNode, ParNode, SeqNode}
 use Rattle.core_model.specs.Operations.{IsCall, IsLeaf, IsReceipt, leaf_of, op_of, place_of}
@@ -9,7 +9,7 @@ use Rattle.seq_objects.specs.Spin.{spin_of}
 use Rattle.std.specs.List.{AllByRecursion}
 use Rattle.std.specs.Prelude.{Bool, Contains, List, None, Option, Some, [], false, if◌then◌else◌, map, true, ℕ, ◌++◌, ◌+◌, ◌<◌, ◌==◌, ◌∷◌, ◌≡◌, ◌≢◌}
 
--- the fourteen kinds
+-- the fourteen kinds of events
 pub data EventKind : Type 0 where
   a_claim : EventKind
   a_start : EventKind
@@ -48,22 +48,22 @@ kind_of (FinishPar p l r) = a_finish
 kind_of (ArriveFirst p l r n) = an_arrive
 kind_of (ArriveSecond p l r n) = an_arrive
 
--- the value of a leaf, by what it does and by what its worker knows of its call
+-- the value of a leaf with this act, or `None` while its call has no receipt
 abbrev pub value_in : Act → CallState → Option ℕ
 value_in (Work steps) call = Some (spin_of steps)
 value_in (Call op) NotCalled = None
 value_in (Call op) Out = None
 value_in (Call op) (Got receipt) = Some (value_of receipt.reply)
 
--- the worker has the flag, with this hold
+-- worker `w` owns the flag, with hold `h`
 abbrev pub Holds : State → ℕ → Hold → Type 0
 Holds s w h = (s.hold ≡ Some h) × (h.worker ≡ w)
 
--- the worker has started the leaf, which stands at this node
+-- worker `w` has started the leaf at node `n`
 abbrev pub HasStarted : CoreJob → State → ℕ → ℕ → ℕ → Type 0
 HasStarted job s w n leaf = (job.plan.kind n ≡ Some (LeafNode leaf)) × (start : ℕ) × (s.task w ≡ Started n start)
 
--- What an event of worker w needs, row by row.
+-- What each event of worker `w` needs of the state.
 abbrev pub Needs : CoreJob → State → ℕ → Event → Type 0
 Needs job s w (Claim n) = (s.status w ≡ Free) × (s.task w ≡ Idle) × (s.node n ≡ Ready)
 Needs job s w (Start n) = (s.status w ≡ Free) × (s.task w ≡ Run n) × IsLeaf (job.plan.kind n)
@@ -96,7 +96,7 @@ Needs job s w (ArriveSecond p l r n) =
     (s.status w ≡ Free) × (s.task w ≡ Whole n) × (job.plan.kind p ≡ Some (ParNode l r))
     × IsSide job.plan p n × (s.mark p ≡ 1)
 
--- the task of a worker that has finished a node: none for the root
+-- the task after node `n` is done: `Idle` after the root, which is node 0
 abbrev pub task_after : ℕ → Task
 task_after n = if n == 0 then Idle else Whole n
 
@@ -110,7 +110,7 @@ is_pending (Served receipt) = false
 abbrev pub new_hold : ℕ → Hold
 new_hold w = record { worker = w; looks = 0; taken = λ u. false; answered = λ u. false; published = false }
 
--- the hold after a look at worker u, whose call is taken or not
+-- the hold after a look at worker `u`, whose call is taken if `takes`
 abbrev pub looked : Option Hold → Bool → ℕ → Option Hold
 looked None takes u = None
 looked (Some h) takes u = Some (record h { looks = h.looks + 1; taken = if takes then put h.taken u true else h.taken })
@@ -123,7 +123,7 @@ abbrev pub answered : Option Hold → ℕ → Option Hold
 answered None u = None
 answered (Some h) u = Some (record h { answered = put h.answered u true })
 
--- the worker's call was taken by the hold
+-- the hold, if there is one, has taken the worker's call
 abbrev pub has_taken : Option Hold → ℕ → Bool
 has_taken None w = false
 has_taken (Some h) w = h.taken w
@@ -135,14 +135,14 @@ pub record IsTakenCall (job : CoreJob) (s : State) (entry : Entry) : Type 0 wher
   pub started : HasStarted job s entry.worker node entry.leaf
   pub operation : op_of job.act s.book entry.leaf ≡ Some entry.op
 
--- the batch has the calls that are taken, each once, in batch order, with the replies that serving them gives
+-- the batch has the taken calls, each exactly once, in batch order, with the serial replies
 pub record IsBatchOf (job : CoreJob) (s : State) (batch : List Entry) : Type 0 where
   pub is_batch : IsBatch batch
   pub only : AllByRecursion (IsTakenCall job s) batch
   pub each : (w : ℕ) → has_taken s.hold w ≡ true → Contains (map (λ entry. entry.worker) batch) w
   pub replies : IsLegalFrom s.objects batch
 
--- What an event of worker w makes of a state, row by row. What a publish makes depends on its batch, and is said below.
+-- The state after each event of worker `w`, except a publish: its result depends on the batch and is defined by `Does`.
 abbrev pub made : State → ℕ → Event → State
 made s w (Claim n) = record s { node = put s.node n Taken; task = put s.task w (Run n) }
 made s w (Start n) = record s { tick = s.tick + 1; task = put s.task w (Started n s.tick) }
@@ -170,20 +170,20 @@ made s w (FinishPar p l r) = record s { node = put s.node p Done; task = put s.t
 made s w (ArriveFirst p l r n) = record s { mark = put s.mark p 1; task = put s.task w Idle }
 made s w (ArriveSecond p l r n) = record s { mark = put s.mark p 2; task = put s.task w (Handed p) }
 
--- An event makes this state of a state. A publish serves the calls that are taken, as a batch that joins the book.
+-- `new` results from the event. A publish serves the taken calls as one batch, which is appended to the book.
 abbrev pub Does : CoreJob → State → ℕ → Event → State → Type 0
 Does job s w Publish new =
     (batch : List Entry) × IsBatchOf job s batch
     × (new ≡ record s { book = s.book ++ batch ∷ []; objects = served s.objects batch; hold = published s.hold })
 Does job s w event new = new ≡ made s w event
 
--- this event of a worker takes the old state to the new one
+-- an event of `worker`, with its needs met, takes `old` to `new`
 pub record Happens (job : CoreJob) (old : State) (worker : ℕ) (event : Event) (new : State) : Type 0 where
   pub worker_in : worker < job.workers
   pub needs : Needs job old worker event
   pub does : Does job old worker event new
 
--- an event of this kind takes the old state to the new one
+-- some event of this kind takes `old` to `new`
 pub record IsEvent (job : CoreJob) (old : State) (worker : ℕ) (kind : EventKind) (new : State) : Type 0 where
   pub event : Event
   pub is : kind_of event ≡ kind

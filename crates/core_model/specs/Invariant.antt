@@ -1,4 +1,4 @@
--- The invariant: what holds in each state that can be reached.
+-- The invariant of every reachable state.
 use Rattle.core_model.specs.Invariant.Book.{BookInvariant}
 use Rattle.core_model.specs.Invariant.Hold.{HoldInvariant}
 use Rattle.core_model.specs.Invariant.Membership.{MembershipInvariant}
@@ -21,7 +21,7 @@ pub mod Membership
 pub mod Values
 pub mod ReadyLists
 
--- the eight parts, which do not look at the lists of ready nodes
+-- the parts that do not mention the lists of ready nodes
 pub record Parts (job : CoreJob) (s : State) : Type 0 where
   pub nodes : NodesInvariant job.plan s.node
   pub tasks : TasksInvariant job.plan s.node s.mark s.task
@@ -31,10 +31,10 @@ pub record Parts (job : CoreJob) (s : State) : Type 0 where
   pub book : BookInvariant job s
   pub members : MembershipInvariant job s
   pub values : ValuesInvariant job s
-  -- no number past the workers' is that of a worker
+  -- a number that is no worker's has no task, status or call
   pub beyond : (w : ℕ) → job.workers ≤ w → (s.task w ≡ Idle) × (s.status w ≡ Free) × (s.call w ≡ NotCalled)
 
--- and the lists
+-- the whole invariant: the parts and the lists
 pub record Invariant (job : CoreJob) (s : CoreState) : Type 0 where
   pub parts : Parts job s.state
   pub lists : ReadyListsInvariant job.workers s.state.node s.ready

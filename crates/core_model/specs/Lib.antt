@@ -1,5 +1,5 @@
--- The rules of the core, over plain states: its events, its turns, its runs and its report, and the invariant, with what they
--- take from the crates below.
+-- The rules of the core over plain states: events, turns, runs, reports and the invariant, with the specifications they
+-- use of the crates below.
 pub use Rattle.seq_objects.specs.Objects
 pub use Rattle.seq_objects.specs.Spin
 pub use Rattle.sp_order.specs.Precedence

@@ -1,15 +1,15 @@
--- How many events are left at most, in a run by turns.
+-- A measure that bounds the events left in a run by turns.
 use Rattle.core_model.specs.Operations.{op_in}
 use Rattle.core_model.specs.State.{CoreJob, Hold, State}
 use Rattle.core_model.specs.Words.{Progress, Done, Ran, Ready, Taken, Waiting, CallState, Got, NotCalled, Out, Status, Executing, Free, Pending, Served, Task, Ended, Half, Handed, Idle, Kept, Run, Started, Whole, Op, Kind, LeafNode, ParNode, SeqNode}
 use Rattle.std.specs.Prelude.{Bool, None, Option, Some, false, if◌then◌else◌, suc, zero, ℕ, ◌+◌, ◌-◌, ◌==◌}
 
--- the sum of the values at the numbers below n
+-- the sum of `f` over the numbers below `n`
 abbrev pub total : (ℕ → ℕ) → ℕ → ℕ
 total f zero = 0
 total f (suc n) = f n + total f n
 
--- a call's events: post, win, a look at each worker, publish, release, answer, leave
+-- the events of a call: post, win, a look at each worker, publish, release, answer and leave
 abbrev pub call_cost : ℕ → Option Op → ℕ
 call_cost workers None = 0
 call_cost workers (Some op) = workers + 6
@@ -20,14 +20,14 @@ leaf_cost job (Some (SeqNode l r)) = 0
 leaf_cost job (Some (ParNode l r)) = 0
 leaf_cost job None = 0
 
--- before its claim
+-- the events of a node that is not claimed yet, apart from its call
 abbrev pub first_cost : Option Kind → ℕ
 first_cost (Some (LeafNode u)) = 6
 first_cost (Some (SeqNode l r)) = 3
 first_cost (Some (ParNode l r)) = 5
 first_cost None = 0
 
--- taken, without the part of a task that names it
+-- the share of a taken node that no task accounts for
 abbrev pub left_cost : Option Kind → ℕ
 left_cost (Some (LeafNode u)) = 0
 left_cost (Some (SeqNode l r)) = 1
@@ -57,7 +57,7 @@ task_cost job (Ended n t e) = 2
 task_cost job (Whole n) = 1
 task_cost job (Handed p) = 0
 
--- a call that is not posted yet
+-- the events of a call not posted yet
 abbrev pub due_cost : CoreJob → Task → ℕ
 due_cost job (Run n) = leaf_cost job (job.plan.kind n)
 due_cost job (Started n t) = leaf_cost job (job.plan.kind n)
@@ -73,7 +73,7 @@ free_cost job t NotCalled = due_cost job t
 free_cost job t Out = 0
 free_cost job t (Got r) = 0
 
--- the flag's worker has paid for its hold with its own call
+-- a pending owner costs 2 only: the rest of its call's cost is in `hold_cost`
 abbrev pub status_cost : CoreJob → Bool → Task → Status → CallState → ℕ
 status_cost job owns t Free c = free_cost job t c
 status_cost job owns t Pending c = if owns then 2 else job.workers + 5
@@ -104,13 +104,13 @@ abbrev pub one_if : Option Op → ℕ
 one_if None = 0
 one_if (Some op) = 1
 
--- 1 for a node whose leaf calls
+-- 1 for the node of a calling leaf, else 0
 abbrev pub one_if_call : CoreJob → Option Kind → ℕ
 one_if_call job None = 0
 one_if_call job (Some (LeafNode u)) = one_if (op_in (job.act u))
 one_if_call job (Some (SeqNode l r)) = 0
 one_if_call job (Some (ParNode l r)) = 0
 
--- how many leaves call
+-- the number of nodes whose leaf calls
 abbrev pub call_count : CoreJob → ℕ
 call_count job = total (λ n. one_if_call job (job.plan.kind n)) job.plan.count

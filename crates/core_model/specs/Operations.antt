@@ -1,4 +1,4 @@
--- The leaves that call, the operation of each, where its entry stands in the book, and its receipt.
+-- Calling leaves, their operations, the places of their entries, and their receipts.
 use Rattle.batch_history.specs.Operations.{op_in}
 use Rattle.batch_history.specs.Places.{Place}
 use Rattle.core_model.specs.Words.{Receipt, Kind, LeafNode, ParNode, SeqNode}
@@ -8,7 +8,7 @@ pub use Rattle.batch_history.specs.Operations.{op_in, op_of}
 pub use Rattle.batch_history.specs.Places.{Place, place_in, or_else, place_from}
 unfoldable pub use Rattle.batch_history.specs.Places.{place_of}
 
--- the leaf that a node is
+-- the number of the leaf at a node, 0 if it is no leaf
 abbrev pub leaf_of : Option Kind → ℕ
 leaf_of None = 0
 leaf_of (Some (LeafNode leaf)) = leaf
@@ -23,11 +23,11 @@ IsLeaf kind = (leaf : ℕ) × (kind ≡ Some (LeafNode leaf))
 abbrev pub IsCall : CoreJob → ℕ → Type 0
 IsCall job leaf = op_in (job.act leaf) ≢ None
 
--- the receipt for an entry
+-- the receipt for the entry at a place
 abbrev pub receipt_for : Place → Receipt
 receipt_for place = record { batch = place.batch; place = place.place; reply = place.entry.reply }
 
--- the receipt is that of the entry at a place
+-- there is a place, and the receipt is that of its entry
 abbrev pub IsReceipt : Option Place → Receipt → Type 0
 IsReceipt None receipt = ⊥
 IsReceipt (Some place) receipt = receipt ≡ receipt_for place

@@ -1,4 +1,4 @@
--- The numbers that an event speaks of, and those of leaves.
+-- The ranges of the numbers in events and leaves.
 use Rattle.core_model.specs.Words.{Event, Answer, ArriveFirst, ArriveSecond, Claim, End, FinishLeaf, FinishPar, FinishSeq, Keep, Leave, OpenParLeft, OpenParRight, OpenSeqLeft, OpenSeqRight, Post, Publish, Release, Start, Take, Win}
 use Rattle.core_model.specs.Words.{Kind, LeafNode, ParNode, SeqNode}
 use Rattle.std.specs.Prelude.{None, Option, Some, ℕ, ◌<◌}
@@ -7,7 +7,7 @@ use Rattle.std.specs.Prelude.{None, Option, Some, ℕ, ◌<◌}
 abbrev pub AreNodes : ℕ → ℕ → ℕ → ℕ → Type 0
 AreNodes nodes p l r = (p < nodes) × (l < nodes) × (r < nodes)
 
--- the nodes that an event speaks of are below the number of nodes, and the workers below the number of workers
+-- the nodes in an event are below `nodes`, the workers below `workers`
 abbrev pub IsInRange : ℕ → ℕ → Event → Type 0
 IsInRange nodes workers (Claim n) = n < nodes
 IsInRange nodes workers (Start n) = n < nodes
@@ -30,7 +30,7 @@ IsInRange nodes workers (FinishPar p l r) = AreNodes nodes p l r
 IsInRange nodes workers (ArriveFirst p l r n) = AreNodes nodes p l r × (n < nodes)
 IsInRange nodes workers (ArriveSecond p l r n) = AreNodes nodes p l r × (n < nodes)
 
--- a leaf has a number below this one
+-- the leaf at a node, if it has one, has a number below `leaves`
 abbrev pub LeafIn : ℕ → Option Kind → Type 0
 LeafIn leaves None = Unit {0}
 LeafIn leaves (Some (LeafNode u)) = u < leaves

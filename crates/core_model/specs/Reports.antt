@@ -1,4 +1,4 @@
--- The report of a state: a row for each leaf, with what the state has of its node, and the book.
+-- The report of a state: a row for each leaf, and the book.
 use Rattle.batch_history.specs.declared.report.Report.{Report}
 use Rattle.batch_history.specs.declared.row.Row.{Row}
 use Rattle.core_model.specs.Runs.{Drives, ReachesFrom, Step}
@@ -9,31 +9,31 @@ use Rattle.sp_order.specs.Jobs.{JobValue, job_tree}
 use Rattle.std.specs.List.{AllByRecursion, range_with_len}
 use Rattle.std.specs.Prelude.{List, None, Option, Some, [], map, true, ℕ, ◌≡◌}
 
--- a leaf has run that has come so far
+-- the progress is that of a leaf that has run
 abbrev pub HasRun : Progress → Type 0
 HasRun progress = (worker : ℕ) × (start : ℕ) × (end : ℕ) × (progress ≡ Ran worker start end)
 
--- the row tells the worker, the ticks and the value of a leaf that has run
+-- the row has the worker, the ticks and the value of a leaf that has run
 pub record IsRowFor (progress : Progress) (kept : Option ℕ) (row : Row) : Type 0 where
   pub ran : progress ≡ Ran row.worker row.start row.end
   pub value : kept ≡ Some row.value
 
--- the row tells what is known of the node of its leaf
+-- the row fits the progress and the value of its leaf's node
 abbrev pub TellsLeaf : (ℕ → ℕ) → (ℕ → Progress) → (ℕ → Option ℕ) → Row → Type 0
 TellsLeaf node_of node value row = IsRowFor (node (node_of row.leaf)) (value (node_of row.leaf)) row
 
--- the row tells what the state has for the node of its leaf
+-- the row fits the state's node of its leaf
 abbrev pub IsRowOf : CoreJob → State → Row → Type 0
 IsRowOf job s row = TellsLeaf job.plan.node_of s.node s.value row
 
--- the report has the workers of the job, a row for each leaf, in leaf order, and the book of the state
+-- the report has the job's number of workers, a row for each leaf in leaf order, and the state's book
 pub record IsReportOf (job : CoreJob) (leaf_total : ℕ) (s : State) (report : Report) : Type 0 where
   pub workers : report.workers ≡ job.workers
   pub leaves : map (λ row. row.leaf) report.rows ≡ range_with_len 0 leaf_total
   pub rows : AllByRecursion (IsRowOf job s) report.rows
   pub history : report.history ≡ s.book
 
--- the report is that of the state to which the schedule, and then all workers round robin, drive this state
+-- the report is that of the state to which the schedule, and then round robin, drives `first`
 pub record IsDrivenFrom (job : CoreJob) (leaf_total : ℕ) (first : CoreState) (schedule : List ℕ) (report : Report) : Type 0 where
   pub last : CoreState
   pub drives : Drives job first schedule 0 last
@@ -44,12 +44,12 @@ IsDrivenShape None job workers schedule report = report ≡ record { workers = w
 IsDrivenShape (Some tree) job workers schedule report =
     IsDrivenFrom (core_job job workers) (leaves (job_tree job)) opening_core schedule report
 
--- the report of a job that a schedule drives from its opening state. That of a job without leaves has no rows and no batches
+-- the report of a job driven by a schedule from the opening; without leaves, it has no rows and no batches
 abbrev pub IsDrivenReport : JobValue → ℕ → List ℕ → Report → Type 0
 IsDrivenReport job workers schedule report = IsDrivenShape job.shape job workers schedule report
 
--- The report is that of a run of the model from this state: the steps of a trace, each an event of one of the job's workers,
--- lead from it to a state whose root is done, and the report is that of the last state.
+-- The report of a run of the model from `first`: a trace of events of the job's workers leads to a state whose root is
+-- done, and the report is that of this state.
 pub record IsRunFrom (job : CoreJob) (leaf_total : ℕ) (first : CoreState) (report : Report) : Type 0 where
   pub trace : List Step
   pub last : CoreState
@@ -61,6 +61,6 @@ abbrev pub IsRunShape : Option Tree → JobValue → ℕ → Report → Type 0
 IsRunShape None job workers report = report ≡ record { workers = workers; history = []; rows = [] }
 IsRunShape (Some tree) job workers report = IsRunFrom (core_job job workers) (leaves (job_tree job)) opening_core report
 
--- the report is that of a run of the job from its opening state, in whatever order its workers step
+-- the report is that of some run of the job from the opening state, with any interleaving of its workers
 abbrev pub IsRunReport : JobValue → ℕ → Report → Type 0
 IsRunReport job workers report = IsRunShape job.shape job workers report

@@ -1,2 +1,2 @@
--- The shared objects after calls were served.
+-- The shared objects after serving entries.
 pub use Rattle.batch_history.specs.Serving.{served}

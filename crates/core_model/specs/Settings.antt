@@ -1,4 +1,4 @@
--- What contracts see of what a run is made for, and what the nodes and the leaves of its tasks are.
+-- The model's job of a `Setting`, and the nodes and leaves of tasks.
 use Rattle.core_model.specs.Operations.{IsLeaf}
 use Rattle.core_model.specs.State.{CoreJob, core_job}
 use Rattle.core_model.specs.declared.setting.Setting.{Setting}
@@ -9,18 +9,18 @@ use Rattle.sp_order.specs.declared.node.Kind.{Kind}
 use Rattle.sp_order.specs.declared.node.Kind.TheVariants.{LeafNode, ParNode, SeqNode}
 use Rattle.std.specs.Prelude.{None, Option, Some, ℕ, ◌<◌}
 
--- the job, as the rules speak of it
+-- the job of the model
 abbrev pub job_of : Setting → CoreJob
 job_of setting = core_job setting.job setting.workers
 
--- the leaf at a node of this kind
+-- the leaf at a node of this kind, if it is a leaf
 abbrev pub leaf_at : Option Kind → Option ℕ
 leaf_at None = None
 leaf_at (Some (LeafNode leaf)) = Some leaf
 leaf_at (Some (SeqNode left right)) = None
 leaf_at (Some (ParNode left right)) = None
 
--- the node that a task names is below this number
+-- the node that a task names, if it names one, is below `nodes`
 abbrev pub TaskIn : ℕ → Task → Type 0
 TaskIn nodes Idle = Unit {0}
 TaskIn nodes (Run n) = n < nodes

@@ -1,4 +1,4 @@
--- The state of the scheduler's core, as functions of the numbers of nodes and of workers.
+-- The model's state, as functions of node and worker numbers.
 use Rattle.seq_objects.specs.Objects as objects
 use Rattle.core_model.specs.Words.{Entry, Progress, Ready, Waiting, CallState, NotCalled, Status, Free, Task, Idle, Act, Nodes}
 use Rattle.seq_objects.specs.Objects.{Objects}
@@ -7,22 +7,22 @@ use Rattle.sp_order.specs.Jobs.{JobValue, job_tree}
 use Rattle.sp_order.specs.Preorder.{nodes_of}
 use Rattle.std.specs.Prelude.{Bool, List, None, Option, [], if◌then◌else◌, ℕ, ◌==◌, ◌∷◌}
 
--- f with the value x at n
+-- `f` updated to `x` at `n`
 abbrev pub put : {A : Type 0} → (ℕ → A) → ℕ → A → ℕ → A
 put f n x m = if m == n then x else f m
 
--- what is run, and by how many workers: the nodes of a job, and what its leaves do, by their numbers
+-- a job in the model: its plan, the act of each leaf, and the number of workers
 pub record CoreJob : Type 0 where
   pub plan : Nodes
   pub act : ℕ → Act
   pub workers : ℕ
 
--- a job that has leaves, and by how many workers it is run
+-- the model of a job with leaves, for a number of workers
 abbrev pub core_job : JobValue → ℕ → CoreJob
 core_job job workers = record { plan = nodes_of (job_tree job); act = act_of job.acts; workers = workers }
 
--- what the worker that has the flag keeps: how many workers it has looked at, those whose calls it took, those
--- that it has answered, and whether it has published
+-- the flag owner's progress: the number of workers it has looked at, the workers whose calls it took, those it
+-- answered, and whether it has published
 pub record Hold : Type 0 where
   pub worker : ℕ
   pub looks : ℕ
@@ -30,9 +30,9 @@ pub record Hold : Type 0 where
   pub answered : ℕ → Bool
   pub published : Bool
 
--- the state, its lists of ready nodes aside
+-- the state without the lists of ready nodes
 pub record State : Type 0 where
-  -- by node: how far it has come, how many sides have arrived at it, and its value, if it is a leaf that has one
+  -- by node: its progress, the number of sides that have arrived at it, and its value once it is a leaf with one
   pub node : ℕ → Progress
   pub mark : ℕ → ℕ
   pub value : ℕ → Option ℕ
@@ -40,19 +40,19 @@ pub record State : Type 0 where
   pub task : ℕ → Task
   pub status : ℕ → Status
   pub call : ℕ → CallState
-  -- the flag is free where there is no hold; else it names the worker of the hold
+  -- the flag: free without a hold, else owned by the hold's worker
   pub hold : Option Hold
   pub tick : ℕ
   pub book : List (List Entry)
-  -- the shared objects, after all calls of the book
+  -- the shared objects after all operations of the book
   pub objects : objects.Objects
 
--- the state with the list of ready nodes of each worker, the oldest first
+-- the state with each worker's list of ready nodes, oldest first
 pub record CoreState : Type 0 where
   pub state : State
   pub ready : ℕ → List ℕ
 
--- the root is ready, and nothing has happened
+-- the opening: the root is ready, and nothing has happened
 unfoldable pub opening_state : State
 opening_state = record {
   node = put (λ n. Waiting) 0 Ready;
@@ -67,6 +67,6 @@ opening_state = record {
   objects = objects.opening;
 }
 
--- and it stands in the list of worker 0
+-- the opening lists: worker 0 has the root
 unfoldable pub opening_core : CoreState
 opening_core = record { state = opening_state; ready = put (λ w. []) 0 (0 ∷ []) }

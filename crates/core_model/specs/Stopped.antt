@@ -1,16 +1,16 @@
--- Runs in which some workers have stopped for good, each after whatever event: what the live ones do without them.
+-- Runs in which some workers have stopped for good, after any event: what the live workers reach without them.
 use Rattle.core_model.specs.Runs.{IsStep, IsTurn}
 use Rattle.core_model.specs.State.{CoreJob, CoreState}
 use Rattle.core_model.specs.Tasks.{is_done}
 use Rattle.core_model.specs.declared.event.Event.{Event}
 use Rattle.std.specs.Prelude.{Bool, false, true, ℕ, ◌%◌, ◌+◌, ◌≡◌}
 
--- no event of a live worker can happen
+-- no live worker can make an event
 abbrev pub NoLiveEvent : CoreJob → (ℕ → Bool) → CoreState → Type 0
 NoLiveEvent job live s = (w : ℕ) → live w ≡ true → (event : Event) (next : CoreState) → IsStep job s w event next → ⊥
 
--- Turns go round robin among the live workers, from a worker on; who is not live is passed over. The last state is one whose
--- root is done, or one in which no live worker has an event.
+-- Turns go round robin among the live workers, from `robin` on, and pass over stopped ones. A drive ends in a state
+-- whose root is done, or in which no live worker has an event.
 pub data LiveDrive (job : CoreJob) (live : ℕ → Bool) : CoreState → ℕ → CoreState → Type 0 where
   over : {s : CoreState} {robin : ℕ} → is_done (s.state.node 0) ≡ true → LiveDrive job live s robin s
   stuck : {s : CoreState} {robin : ℕ} → is_done (s.state.node 0) ≡ false → NoLiveEvent job live s → LiveDrive job live s robin s

@@ -1,4 +1,4 @@
--- What a worker's task says.
+-- Whether a node is done, and which node a task names.
 use Rattle.core_model.specs.Words.{Progress, Done, Ran, Ready, Taken, Waiting, Task, Ended, Half, Handed, Idle, Kept, Run, Started, Whole}
 use Rattle.std.specs.Prelude.{Bool, None, Option, Some, false, true, ℕ}
 
@@ -9,7 +9,7 @@ is_done Taken = false
 is_done Done = true
 is_done (Ran worker start end) = true
 
--- the node that a task names
+-- the node that a task names, if any
 abbrev pub names : Task → Option ℕ
 names Idle = None
 names (Run n) = Some n

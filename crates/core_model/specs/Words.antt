@@ -1,5 +1,5 @@
--- The words that the rules speak in, handed on from where they are declared: what nodes, tasks, statuses, calls and events
--- are, and what a plan is.
+-- The types in which the rules are written, re-exported from their declarations: nodes, plans, tasks, statuses, calls
+-- and events.
 pub use Rattle.seq_objects.specs.declared.act.Act.{Act}
 pub use Rattle.seq_objects.specs.declared.act.Act.TheVariants.{Work, Call}
 pub use Rattle.seq_objects.specs.declared.op.Op.{Op}

@@ -1,16 +1,16 @@
-//! The events by which a worker changes the core's state.
+//! The events of the model: the atomic steps by which workers change the core's state.
 
 use crate::status::Receipt;
 
-/// One event of a worker. There is a variant for each row of the rules, with the nodes that the row names. In each
-/// block, `left` and `right` are its sides.
+/// One event of a worker. Each variant is one rule of the model and carries the nodes that the rule names; `left` and
+/// `right` are the sides of the block `parent`.
 #[derive(Clone, Copy)]
 pub enum Event {
-    /// The worker takes this ready node off its list.
+    /// The worker claims this ready node, which may be in any worker's list.
     Claim(u32),
-    /// The worker starts this leaf, which draws a tick.
+    /// The worker starts this leaf and draws a tick.
     Start(u32),
-    /// The right side of a parallel block becomes ready.
+    /// The right side of a parallel block becomes ready. This comes first, so the left side becomes the newer one.
     OpenParRight {
         parent: u32,
         left: u32,
@@ -22,62 +22,62 @@ pub enum Event {
         left: u32,
         right: u32,
     },
-    /// The left side of a series becomes ready.
+    /// The left side of a series block becomes ready.
     OpenSeqLeft {
         parent: u32,
         left: u32,
         right: u32,
     },
-    /// The right side of a series becomes ready, since the left one is done.
+    /// The right side of a series block becomes ready, after the left one is done.
     OpenSeqRight {
         parent: u32,
         left: u32,
         right: u32,
     },
-    /// The worker posts the call of this leaf, and is trapped from then on.
+    /// The worker posts the call of this leaf. From then on it is trapped.
     Post {
         node: u32,
         start: u64,
     },
-    /// The worker wins the flag, which is free.
+    /// The worker takes the free flag and becomes the launcher of a batch.
     Win,
-    /// The holder of the flag looks at this worker, and takes its call if that is pending.
+    /// The flag's owner looks at this worker, and takes its call if that is pending.
     Take(u32),
-    /// The calls that were taken are served, and appended to the book as one batch.
+    /// The taken calls are served and appended to the book as one batch.
     Publish,
-    /// This worker gets its receipt from the holder of the flag.
+    /// The flag's owner hands this worker its receipt.
     Answer {
         worker: u32,
         receipt: Receipt,
     },
-    /// The holder releases the flag.
+    /// The owner releases the flag.
     Release,
-    /// The worker leaves its call with this receipt, and is trapped no longer.
+    /// The worker leaves its call with this receipt and is no longer trapped.
     Leave(Receipt),
-    /// The worker keeps the value of this leaf, which has started.
+    /// The worker stores the value of this started leaf.
     Keep {
         node: u32,
         start: u64,
         value: u64,
     },
-    /// The worker ends this leaf, which draws a tick.
+    /// The worker ends this leaf and draws a tick.
     End {
         node: u32,
         start: u64,
     },
-    /// This leaf is done, with the ticks of its start and its end.
+    /// This leaf is done, with its start and end ticks.
     FinishLeaf {
         node: u32,
         start: u64,
         end: u64,
     },
-    /// A series is done, since its right side is.
+    /// A series block is done, because its right side is.
     FinishSeq {
         parent: u32,
         left: u32,
         right: u32,
     },
-    /// A parallel block is done, since both sides have arrived.
+    /// A parallel block is done, because both its sides have arrived.
     FinishPar {
         parent: u32,
         left: u32,
@@ -90,7 +90,7 @@ pub enum Event {
         right: u32,
         side: u32,
     },
-    /// `side` is the second side to arrive at its parallel block, which its worker finishes next.
+    /// `side` is the second side to arrive at its parallel block. The worker finishes the block next.
     ArriveSecond {
         parent: u32,
         left: u32,

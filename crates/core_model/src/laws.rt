@@ -1,4 +1,4 @@
-//! The laws of the core, each as the contract of a function that does nothing.
+//! The laws of the core model. Each is the contract of an empty function.
 
 pub mod book;
 pub mod invariant;

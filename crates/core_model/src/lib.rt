@@ -1,10 +1,10 @@
-//! The model of the scheduler's core: its state, its events, and what holds in each state that can be reached.
+//! The model of the scheduler's core: its state, its events, and the invariant of every reachable state.
 //!
-//! The rules by which workers share the nodes of a job and gather their calls into batches are defined in `specs/` over
-//! plain states, and so is the invariant that they keep. The laws of all runs stand in `laws`. `setting` has
-//! what a run is made for: a job with its plan, and the number of its workers. Nothing else here runs: the crates above have the
-//! state that a core stores, and the table that threads share, and show that each keeps to these rules. The crate stands on
-//! `sp_order`, which has the nodes of a job, on `batch_history`, which has the book, and on `seq_objects`.
+//! `specs/` defines the rules by which workers share the nodes of a job and gather their calls into batches, over plain
+//! mathematical states, together with their invariant. `laws` states the theorems about all runs. `setting` holds a job
+//! with its plan and the number of workers. The crates above implement the stored state of a core and the table that
+//! threads share, and prove that both follow these rules. The nodes of a job come from `sp_order`, the book from
+//! `batch_history`, and acts, operations and replies from `seq_objects`.
 #![tactic(auto)]
 
 pub mod event;

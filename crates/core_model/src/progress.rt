@@ -1,16 +1,16 @@
-//! How far the nodes of a job have come.
+//! The progress of a job's nodes.
 
-/// How far a node has come.
+/// The progress of one node.
 #[derive(Clone, Copy)]
 pub enum Progress {
-    /// A side before it is not done.
+    /// Not opened yet: no event has made it ready.
     Waiting,
-    /// It may be run, and no worker has taken it.
+    /// Open for a claim; no worker has taken it.
     Ready,
-    /// A worker has taken it.
+    /// Claimed by a worker, and not done.
     Taken,
-    /// It is a block, and both its sides are done.
+    /// A block that is done: both its sides are done.
     Done,
-    /// It is a leaf that is done: the worker that ran it, and the ticks at which it started and ended.
+    /// A leaf that is done: its worker, and the ticks of its start and end.
     Ran { worker: u32, start: u64, end: u64 },
 }

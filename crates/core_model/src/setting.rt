@@ -1,4 +1,4 @@
-//! What a run is made for.
+//! What a run is for: a job and its workers.
 ghost use Rattle.std.specs.Prelude.{◌≡◌, ◌<◌, IfOk, IsSome, length};
 ghost use Rattle.core_model.specs.Choice.{leaf_named};
 ghost use Rattle.core_model.specs.Operations.{leaf_of, IsLeaf};
@@ -12,7 +12,7 @@ use sp_order::node::Kind;
 use sp_order::{Job, PlannedJob};
 use std::alloc::{AllocError, Global};
 
-/// What a run is made for: a job that has leaves, with its plan, and how many workers run it.
+/// What a run is for: a job with leaves, its plan, and the number of workers.
 #[derive(Drop)]
 pub struct Setting {
     pub job: PlannedJob,
@@ -20,7 +20,7 @@ pub struct Setting {
 }
 
 impl Setting {
-    /// The job with its plan, for so many workers.
+    /// The setting of a job and `workers` workers.
     pub fn of(alloc: Global, job: &Job, workers: u32) -> Result<Setting, AllocError>
         requires { IsSome job.now.shape }
         ensures { IfOk result (λ s. (s.job ≡ job.now) × (s.workers ≡ workers)) }
@@ -29,7 +29,7 @@ impl Setting {
         Ok(Setting { job, workers })
     }
 
-    /// The number of the leaf at a node, if the node is a leaf.
+    /// The number of the leaf at a node, `None` if the node is a block.
     pub fn leaf_at(&self, node: u32) -> Option<u32>
         requires { node < (job_of self.now).plan.count }
         ensures { result ≡ leaf_of_kind ((job_of self.now).plan.kind node) }
@@ -40,7 +40,7 @@ impl Setting {
         }
     }
 
-    /// What the leaf at a node does. The node is a leaf.
+    /// The act of the leaf at a node, which must be a leaf.
     pub fn act_at(&self, node: u32) -> Act
         requires node_in { node < (job_of self.now).plan.count }
         requires leaf { IsLeaf ((job_of self.now).plan.kind node) }
@@ -53,7 +53,7 @@ impl Setting {
         }
     }
 
-    /// The number of the leaf that a worker with this task has started. It has started one.
+    /// The number of the leaf that a worker with this task has started. The task must be `Started`.
     pub fn started_leaf(&self, task: Task) -> u32
         requires task_in { TaskIn (job_of self.now).plan.count task }
         requires leaf { HasLeaf (job_of self.now).plan task }

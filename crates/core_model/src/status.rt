@@ -1,8 +1,9 @@
-//! How far the workers' calls of the shared objects have come.
+//! The progress of the workers' calls of the shared objects.
 
 use seq_objects::Reply;
 
-/// The receipt of a call: the number of its batch, the place of its entry in that batch, and the reply.
+/// The receipt of a call: the number of its batch, the place of its entry in the batch, and the reply. Both count from
+/// 0.
 #[derive(Clone, Copy)]
 pub struct Receipt {
     pub batch: u32,
@@ -10,25 +11,25 @@ pub struct Receipt {
     pub reply: Reply,
 }
 
-/// How far the call of a worker has come. The worker is trapped where its status is not `Free`.
+/// The status of a worker at the gate. A worker is trapped while its status is not `Free`.
 #[derive(Clone, Copy)]
 pub enum Status {
-    /// The worker has posted no call.
+    /// No call of the worker is outstanding.
     Free,
-    /// The call is posted, and the holder of the flag has not taken it.
+    /// The call is posted, and no owner of the flag has taken it yet.
     Pending,
-    /// The holder of the flag has taken the call.
+    /// The flag's owner has taken the call.
     Executing,
-    /// The call is served, and this is its receipt.
+    /// The call is answered with this receipt, and the worker has not left it yet.
     Served(Receipt),
 }
 
-/// What a worker knows of the call of the leaf that it has started.
+/// What a worker knows of the call of its started leaf.
 #[derive(Clone, Copy)]
 pub enum CallState {
-    /// The worker has not made the call.
+    /// No call is posted for a present leaf.
     NotCalled,
-    /// The worker has posted the call, and has not left it.
+    /// The call is posted, and the worker has not left it.
     Out,
     /// The worker has left the call with this receipt.
     Got(Receipt),

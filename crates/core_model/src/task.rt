@@ -1,22 +1,22 @@
 //! The tasks of the workers.
 
-/// The task of a worker. Each but the first names one node.
+/// The task of a worker. Each task except `Idle` names one node.
 #[derive(Clone, Copy)]
 pub enum Task {
-    /// None: the worker may claim a node.
+    /// No task: the worker may claim a node.
     Idle,
-    /// A node that the worker has claimed.
+    /// A claimed node, not started or opened yet.
     Run(u32),
-    /// A parallel block of which the worker has made the right side ready.
+    /// A parallel block whose right side was made ready; its left side is next.
     Half(u32),
-    /// A leaf that has started, with the tick of its start.
+    /// A started leaf, with its start tick.
     Started { node: u32, start: u64 },
-    /// A leaf that has started and has its value.
+    /// A started leaf whose value is stored.
     Kept { node: u32, start: u64 },
-    /// A leaf that has started and ended, with both ticks.
+    /// A leaf that has ended, with both ticks.
     Ended { node: u32, start: u64, end: u64 },
-    /// A node that is done and is not the root.
+    /// A node that is done and is not the root; its parent is next.
     Whole(u32),
-    /// A parallel block at which both sides have arrived.
+    /// A parallel block at which both sides have arrived; it is finished next.
     Handed(u32),
 }

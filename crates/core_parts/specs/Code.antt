@@ -1,3 +1,3 @@
--- What only the code and its proofs cite, here and in the crates above: what is stored keeps to, and what is looked up.
+-- Definitions that only code and proofs cite, here and in the crates above: stored ready lists and receipts.
 pub mod ReadyLists
 pub mod Receipts

@@ -1,10 +1,10 @@
--- The hold of the rules that a stored one stands for.
+-- The model's hold that a stored `Hold` represents.
 use Rattle.core_parts.specs.Places.{at}
 use Rattle.core_parts.specs.declared.hold.Hold.{Hold as StoredHold}
 use Rattle.core_model.specs.State.{Hold}
 use Rattle.std.specs.Prelude.{false}
 
--- the hold that the parts of one show
+-- `taken` and `answered` become functions of the worker, false beyond the array
 abbrev pub hold_view : StoredHold → Hold
 hold_view h = record {
   worker = h.worker;

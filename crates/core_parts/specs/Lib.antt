@@ -1,4 +1,4 @@
--- What the stored parts of a state stand for, and the work that is due. `Code` is what only the code cites.
+-- What the stored parts of a state represent, and the work that is due. `Code` is cited by code and proofs only.
 pub mod Words
 pub mod Places
 pub mod Holds

@@ -1,4 +1,4 @@
--- The words of the rules that are types of `core_model`, handed on from where they are declared.
+-- The types of `core_model` that the model's rules mention, re-exported from their declarations.
 pub use Rattle.core_model.specs.declared.progress.Progress.{Progress}
 pub use Rattle.core_model.specs.declared.progress.Progress.TheVariants.{Waiting, Ready, Taken, Done, Ran}
 pub use Rattle.core_model.specs.declared.task.Task.{Task}

@@ -1,10 +1,10 @@
--- How many steps of work are due of a worker.
+-- The work that is due for a worker.
 use Rattle.core_model.specs.Words.{Act, Call, Work, Kind, LeafNode, ParNode, SeqNode}
 use Rattle.core_parts.specs.Words.{Task, Ended, Half, Handed, Idle, Kept, Run, Started, Whole}
 use Rattle.core_model.specs.State.{CoreJob}
 use Rattle.std.specs.Prelude.{None, Option, Some, ℕ}
 
--- how many steps of work an act is
+-- the steps of an act of work; a call has none
 abbrev pub steps_of : Act → Option ℕ
 steps_of (Work steps) = Some steps
 steps_of (Call op) = None
@@ -15,7 +15,7 @@ steps_at job (Some (LeafNode u)) = steps_of (job.act u)
 steps_at job (Some (SeqNode l r)) = None
 steps_at job (Some (ParNode l r)) = None
 
--- how many steps of work the leaf has that a worker with this task has started
+-- the steps of the leaf that a worker with this task has started, if that leaf works rather than calls
 abbrev pub work_due : CoreJob → Task → Option ℕ
 work_due job Idle = None
 work_due job (Run n) = None

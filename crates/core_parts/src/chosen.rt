@@ -1,4 +1,4 @@
-//! The event that a worker chooses by its task alone, with what it finds at one node.
+//! The event a worker chooses from its task and the kind and state of one node.
 ghost use Rattle.std.specs.Prelude.{◌≡◌, ℕ, Some, IfSome};
 ghost use Rattle.core_model.specs.Choice.{choice_run, choice_half, choice_started, choice_second, choice_parent, choice_arrive, choice_handed};
 ghost use Rattle.core_parts.specs.WorkDue.{steps_of as act_steps};
@@ -9,7 +9,7 @@ use seq_objects::work::spin;
 use seq_objects::{Act, value};
 use sp_order::node::Kind;
 
-/// The event of a worker that has claimed a node of this kind: a leaf starts, and a block opens its first side.
+/// The next event after a claim: a leaf starts, and a block opens a side, the right one first in a parallel block.
 pub fn of_run(kind: Kind, node: u32) -> Option<Event>
     ensures { result ≡ choice_run (Some kind) node }
 {
@@ -28,7 +28,7 @@ pub fn of_run(kind: Kind, node: u32) -> Option<Event>
     }
 }
 
-/// The event of a worker that has opened the right side of a parallel block: it opens the left one.
+/// The next event after a parallel block's right side was opened: the left side opens.
 pub fn of_half(kind: Kind, node: u32) -> Option<Event>
     ensures { result ≡ choice_half (Some kind) node }
 {
@@ -42,7 +42,7 @@ pub fn of_half(kind: Kind, node: u32) -> Option<Event>
     })
 }
 
-/// The event after the left side of a series: the right side opens.
+/// The event after the left side of a series block: the right side opens.
 pub fn of_second(kind: Kind, parent: u32) -> Option<Event>
     ensures { result ≡ choice_second (Some kind) parent }
 {
@@ -56,7 +56,7 @@ pub fn of_second(kind: Kind, parent: u32) -> Option<Event>
     })
 }
 
-/// The event after the right side of a series: the series is done.
+/// The event after the right side of a series block: the block is done.
 pub fn of_parent(kind: Kind, parent: u32) -> Option<Event>
     ensures { result ≡ choice_parent (Some kind) parent }
 {
@@ -70,8 +70,8 @@ pub fn of_parent(kind: Kind, parent: u32) -> Option<Event>
     })
 }
 
-/// The event after a side of a parallel block, `node`: it arrives. `mark` is the number of sides that have arrived
-/// before it.
+/// The event after `node`, a side of a parallel block: the side arrives at the block. `mark` is the number of sides
+/// that arrived before.
 pub fn of_arrive(kind: Kind, parent: u32, mark: u32, node: u32) -> Option<Event>
     ensures { result ≡ choice_arrive (Some kind) parent mark node }
 {
@@ -95,7 +95,7 @@ pub fn of_arrive(kind: Kind, parent: u32, mark: u32, node: u32) -> Option<Event>
     }
 }
 
-/// The event of a worker that was handed a parallel block, since both sides have arrived: the block is done.
+/// The event of the worker whose side arrived second: the parallel block is done.
 pub fn of_handed(kind: Kind, parent: u32) -> Option<Event>
     ensures { result ≡ choice_handed (Some kind) parent }
 {
@@ -109,7 +109,7 @@ pub fn of_handed(kind: Kind, parent: u32) -> Option<Event>
     })
 }
 
-/// The number of steps of an act that is work.
+/// The steps of an act of work, `None` for a call.
 pub fn steps_of(act: Act) -> Option<u32>
     ensures { result ≡ act_steps act }
 {
@@ -119,7 +119,7 @@ pub fn steps_of(act: Act) -> Option<u32>
     }
 }
 
-/// The value of these steps of work: `work`, where they are done.
+/// The value of `steps` steps of work: `work` if that was computed already, and otherwise computed here.
 fn value_of_work(work: Option<u64>, steps: u32) -> u64
     requires { IfSome work (λ value. value ≡ spin_of steps) }
     ensures { result ≡ spin_of steps }
@@ -130,8 +130,8 @@ fn value_of_work(work: Option<u64>, steps: u32) -> u64
     }
 }
 
-/// The event of a worker that has started a leaf, by what the leaf does and by how far its call has come. `work` is
-/// the value of the leaf's work, where it works and that is done.
+/// The event of a worker with a started leaf. A leaf of work keeps its value. A calling leaf posts its call, waits
+/// while that is out, and keeps the reply's value. `work` is the value of a working leaf if it was computed already.
 pub fn of_started(
     act: Act,
     call: CallState,

@@ -1,4 +1,4 @@
-//! The hold of the worker that has the flag.
+//! The hold: the launcher's progress through its batch while it owns the flag.
 ghost use Rattle.std.specs.Prelude.{◌≡◌, ◌<◌, ◌≤◌, Some, true, false};
 ghost use Rattle.core_model.specs.State.{put};
 ghost use Rattle.core_model.specs.Events.{new_hold, looked as hold_looked, published as hold_published, answered as hold_answered};
@@ -6,23 +6,22 @@ ghost use Rattle.core_model.specs.Choice.{some_below, least_below, is_owed};
 ghost use Rattle.core_parts.specs.Places.{at};
 ghost use Rattle.core_parts.specs.Holds.{hold_view};
 
-/// The hold of the worker that has the flag: how far it has come with its batch. `taken` and `answered` have an item
-/// for each worker.
+/// The progress of the flag's owner through its batch. `taken` and `answered` are indexed by worker.
 #[derive(Clone, Copy)]
 pub struct Hold {
-    /// The worker that has the flag.
+    /// The worker that owns the flag.
     pub worker: u32,
-    /// The number of workers that it has looked at, in the order of their numbers.
+    /// The number of workers it has looked at so far, in ascending order from worker 0.
     pub looks: u32,
-    /// The workers whose calls it has taken.
+    /// The workers whose calls are in the batch.
     pub taken: [bool; 32],
-    /// Those of them that have their receipts.
+    /// The workers of the batch that have their receipts.
     pub answered: [bool; 32],
-    /// Whether the calls that it has taken are served.
+    /// Whether the batch has been served.
     pub published: bool,
 }
 
-/// Puts `true` at a place of a list.
+/// Sets one item to `true`.
 fn mark(list: &mut [bool; 32], place: u32)
     requires { place < 32 }
     ensures { at list.new false ≡ put (at list.old false) place true }
@@ -44,7 +43,7 @@ impl Hold {
         }
     }
 
-    /// Whether it has taken the call of a worker that has no receipt yet.
+    /// Whether a worker's call was taken and is not answered yet.
     fn is_owed(&self, worker: u32) -> bool
         requires { worker < 32 }
         ensures { result ≡ is_owed (hold_view self.now) worker }
@@ -52,7 +51,7 @@ impl Hold {
         self.taken[worker as usize] && !self.answered[worker as usize]
     }
 
-    /// Whether it has taken the call of a worker.
+    /// Whether a worker's call was taken.
     pub fn has_call_of(&self, worker: u32) -> bool
         requires { worker < 32 }
         ensures { result ≡ (hold_view self.now).taken worker }
@@ -60,7 +59,7 @@ impl Hold {
         self.taken[worker as usize]
     }
 
-    /// Whether it has taken a call at all.
+    /// Whether the call of any of the first `workers` workers was taken.
     pub fn has_taken(&self, workers: u32) -> bool
         requires { workers ≤ 32 }
         ensures { result ≡ some_below (hold_view self.now).taken workers }
@@ -73,7 +72,7 @@ impl Hold {
         false
     }
 
-    /// The worker with the least number whose call it has taken and that has no receipt yet.
+    /// The lowest-numbered worker whose call was taken and is not answered yet.
     pub fn least_owed(&self, workers: u32) -> Option<u32>
         requires { workers ≤ 32 }
         ensures { result ≡ least_below (is_owed (hold_view self.now)) workers }
@@ -86,7 +85,7 @@ impl Hold {
         None
     }
 
-    /// It looks at the worker `other`, and takes its call or not.
+    /// Records a look at the worker `other`; `takes` says whether its call joins the batch.
     pub fn look(&mut self, other: u32, takes: bool)
         requires room { self.old.looks < 32 }
         requires other_in { other < 32 }
@@ -98,14 +97,14 @@ impl Hold {
         }
     }
 
-    /// The calls that it has taken are served.
+    /// Records that the batch was served.
     pub fn publish(&mut self)
         ensures { Some (hold_view self.new) ≡ hold_published (Some (hold_view self.old)) }
     {
         self.published = true;
     }
 
-    /// The worker `other` has its receipt.
+    /// Records that the worker `other` got its receipt.
     pub fn answer(&mut self, other: u32)
         requires { other < 32 }
         ensures { Some (hold_view self.new) ≡ hold_answered (Some (hold_view self.old)) other }

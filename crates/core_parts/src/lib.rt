@@ -1,9 +1,9 @@
-//! The parts of a stored state that stand alone: the lists of ready nodes, the hold of the worker that has the flag, and what is
-//! looked up in the job and in the book.
+//! The independent parts of a stored state: the lists of ready nodes, the hold of the flag's owner, and the lookups in
+//! job and book.
 //!
-//! Contracts see the lists as lists, and the hold as that of the rules, which are those of `core_model`. The crate is for
-//! `core_state`, which puts the parts together. It stands on `sp_order`, which has the nodes of a job, on `batch_history`,
-//! which has the book, and on `seq_objects`.
+//! Contracts see the ready lists as lists of lists and the hold as the model's `Hold` from `core_model`. `core_state`
+//! assembles the parts. The nodes of a job come from `sp_order`, the book from `batch_history`, and acts and replies
+//! from `seq_objects`.
 #![tactic(auto)]
 
 pub mod chosen;

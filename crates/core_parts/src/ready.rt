@@ -1,4 +1,4 @@
-//! The workers' lists of ready nodes.
+//! The workers' lists of ready nodes. A list grows at its newest end and is claimed at either end.
 ghost use Rattle.std.specs.Prelude.{◌≡◌, ◌<◌, ◌≤◌, ◌-◌, ℕ, [], ◌∷◌, ◌++◌, length, take, drop, replicate, IfOk, IfErr, OnOk, OnErr, IsTrue, false, ◌↔◌, ◌≢◌};
 ghost use Rattle.core_model.specs.State.{put, opening_core};
 ghost use Rattle.core_model.specs.Lists.{without, times};
@@ -8,12 +8,12 @@ ghost use Rattle.core_parts.specs.Code.ReadyLists.{one_if_non_empty as count_of,
 use std::alloc::{AllocError, Global};
 use std::marker::Model;
 
-/// The ready nodes of one worker, the oldest first. A claim of the oldest is a step of `first`, and a list with no node
-/// left begins anew, so a claim at either end takes the same time however long the list is.
+/// One worker's ready nodes, oldest first. Claiming the oldest only advances `first`, and an exhausted list restarts at
+/// 0, so a claim at either end takes constant time.
 #[derive(Drop)]
 pub struct ReadyList {
     items: Vec<u32>,
-    /// The place of the oldest node.
+    /// The index in `items` of the oldest node.
     first: usize,
 }
 
@@ -27,7 +27,7 @@ impl Model for ReadyList {
     ghost invariant = { λ l. l.first ≤ length l.items.items };
 }
 
-/// Empties a list of which all nodes are claimed, and gives the place of its oldest node.
+/// Clears `items` if all of them are claimed. Returns the index of the oldest node.
 fn begin_anew(items: &mut Vec<u32>, first: usize) -> usize
     requires { first ≤ length items.old.items }
     ensures within { result ≤ length items.new.items }
@@ -41,7 +41,7 @@ fn begin_anew(items: &mut Vec<u32>, first: usize) -> usize
 }
 
 impl ReadyList {
-    /// The list with no nodes.
+    /// An empty list.
     ///
     /// Memory: none.
     fn new(alloc: Global) -> ReadyList
@@ -53,21 +53,21 @@ impl ReadyList {
         }
     }
 
-    /// Its nodes, the oldest first.
+    /// The nodes, oldest first.
     fn as_slice(&self) -> &[u32]
         ensures { result.now ≡ self.now }
     {
         &self.items[self.first..]
     }
 
-    /// 1 where it has a node, and 0 where it has none.
+    /// 1 if the list has a node, else 0.
     fn one_if_non_empty(&self) -> usize
         ensures { result ≡ count_of self.now }
     {
         if self.as_slice().is_empty() { 0 } else { 1 }
     }
 
-    /// Puts a node at the newest end.
+    /// Appends a node as the newest.
     fn push(&mut self, node: u32) -> Result<(), AllocError>
         ensures done { OnOk result (self.new ≡ self.old ++ node ∷ []) }
         ensures unchanged { OnErr result (self.new ≡ self.old) }
@@ -76,7 +76,7 @@ impl ReadyList {
         Ok(())
     }
 
-    /// Whether the node is the newest.
+    /// Whether the list's last node is this one.
     fn is_newest(&self, node: u32) -> bool
         ensures { IsTrue result ↔ IsNewest node self.now }
     {
@@ -86,7 +86,7 @@ impl ReadyList {
         }
     }
 
-    /// Whether the node is the oldest.
+    /// Whether the list's first node is this one.
     fn is_oldest(&self, node: u32) -> bool
         ensures { IsTrue result ↔ IsOldest node self.now }
     {
@@ -96,7 +96,7 @@ impl ReadyList {
         }
     }
 
-    /// Takes the newest node away.
+    /// Removes the newest node.
     fn drop_newest(&mut self)
         requires { 0 < length self.old }
         ensures { self.new ≡ take (length self.old - 1) self.old }
@@ -105,7 +105,7 @@ impl ReadyList {
         self.first = begin_anew(&mut self.items, self.first);
     }
 
-    /// Takes the oldest node away.
+    /// Removes the oldest node.
     fn drop_oldest(&mut self)
         requires { 0 < length self.old }
         ensures { self.new ≡ drop 1 self.old }
@@ -113,7 +113,7 @@ impl ReadyList {
         self.first = begin_anew(&mut self.items, self.first + 1);
     }
 
-    /// Takes away a node that stands once in the list, at one of its ends, or not at all. Answers whether it stood there.
+    /// Removes a node that occurs at most once, and then at an end. Returns whether it was there.
     fn remove(&mut self, node: u32) -> bool
         requires { IsAtEnd node self.old }
         ensures list { self.new ≡ without node self.old }
@@ -132,12 +132,12 @@ impl ReadyList {
     }
 }
 
-/// A list of ready nodes for each worker, and the number of lists that have a node, by which a worker without a task
-/// sees at once that there is nothing to claim. Contracts see the lists.
+/// A list of ready nodes for each worker. The count of non-empty lists tells an idle worker in constant time that
+/// nothing can be claimed. Contracts see the lists.
 #[derive(Drop)]
 pub struct ReadyLists {
     lists: Vec<ReadyList>,
-    /// The number of lists that have a node.
+    /// The number of non-empty lists.
     non_empty: usize,
 }
 
@@ -153,7 +153,7 @@ impl Model for ReadyLists {
 }
 
 impl ReadyLists {
-    /// Lists without nodes, one for each of `workers`.
+    /// `workers` empty lists.
     fn empty(alloc: Global, workers: u32) -> Result<ReadyLists, AllocError>
         ensures { IfOk result (λ lists. lists ≡ replicate workers []) }
     {
@@ -167,7 +167,7 @@ impl ReadyLists {
         })
     }
 
-    /// The lists at the opening: that of worker 0 has the root, and the others are empty.
+    /// The opening lists: worker 0 has the root, node 0, and the others have nothing.
     pub fn opening(alloc: Global, workers: u32) -> Result<ReadyLists, AllocError>
         requires { 0 < workers }
         ensures len { IfOk result (λ lists. length lists ≡ workers) }
@@ -178,7 +178,7 @@ impl ReadyLists {
         Ok(lists)
     }
 
-    /// The nodes of a worker, the oldest first. Beyond the workers there are none.
+    /// A worker's ready nodes, oldest first. A number that is no worker's has none.
     ///
     /// Memory: none.
     pub fn of(&self, worker: u32) -> &[u32]
@@ -190,14 +190,14 @@ impl ReadyLists {
         }
     }
 
-    /// Whether no list has a node.
+    /// Whether all lists are empty.
     pub fn are_empty(&self) -> bool
         ensures { IsTrue result → (worker : ℕ) → at self.now [] worker ≡ [] }
     {
         self.non_empty == 0
     }
 
-    /// Puts a node at the newest end of a worker's list.
+    /// Appends a node to a worker's list as its newest.
     pub fn push(&mut self, worker: u32, node: u32) -> Result<(), AllocError>
         requires { worker < length self.old }
         ensures len { length self.new ≡ length self.old }
@@ -212,7 +212,7 @@ impl ReadyLists {
         Ok(())
     }
 
-    /// Takes a node away from the list of a worker, if it stands there. Answers whether it did.
+    /// Removes a node from one worker's list if it is there. Returns whether it was.
     fn remove_from(&mut self, worker: usize, node: u32) -> bool
         requires worker_in { worker < length self.old }
         requires at_end { IsAtEnd node (at self.old [] worker) }
@@ -230,8 +230,8 @@ impl ReadyLists {
         found
     }
 
-    /// Takes away a node that stands at an end of one list, or in none. The list of `worker` is looked at first, and no
-    /// list behind that in which the node stood.
+    /// Removes a node that is in at most one list, once and at an end. The list of `worker` is tried first, then all
+    /// lists in order until the node is found.
     pub fn remove(&mut self, worker: u32, node: u32)
         requires worker_in { worker < length self.old }
         requires at_end { IsAtOneEnd node (at self.old []) }

@@ -1,4 +1,4 @@
-//! The receipts for the entries of a book.
+//! Looking up the receipt of a leaf in the book.
 ghost use Rattle.std.specs.Prelude.{◌≡◌, ◌<◌, ◌^◌, length, map};
 ghost use Rattle.batch_history.specs.Book.{flat};
 ghost use Rattle.seq_objects.specs.Pairs.{AreDistinct};
@@ -8,8 +8,7 @@ ghost use Rattle.core_parts.specs.Code.Receipts.{receipt_at};
 use batch_history::{Batch, Entry};
 use core_model::Receipt;
 
-/// The receipt of a leaf's entry in the batch with this number, if the batch has one. The entries are compared one
-/// after another.
+/// The receipt of a leaf's first entry in one batch, found by a linear scan. `batch` is the batch's number.
 fn receipt_in(batch: u32, entries: &[Entry], leaf: u32) -> Option<Receipt>
     requires few { length entries.now < 2 ^ 32 }
     ensures { result ≡ receipt_at (place_in batch 0 entries.now leaf) }
@@ -26,8 +25,8 @@ fn receipt_in(batch: u32, entries: &[Entry], leaf: u32) -> Option<Receipt>
     None
 }
 
-/// The receipt of a leaf's entry, if the batches have one. The search goes from the last batch to the first, since
-/// the leaf asked for mostly stands in the last.
+/// The receipt of a leaf's entry in the book, if it has one. The search starts at the last batch, where the entry
+/// usually is.
 pub fn receipt_of(batches: &[Batch], leaf: u32) -> Option<Receipt>
     requires few_batches { length batches.now < 2 ^ 32 }
     requires few_entries { length (flat batches.now) < 2 ^ 32 }

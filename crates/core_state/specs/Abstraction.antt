@@ -1,4 +1,4 @@
--- The state of the rules that the stored parts of a core stand for.
+-- The refinement mapping: the model's state that a stored state represents.
 use Rattle.core_parts.specs.Holds.{hold_view}
 use Rattle.core_parts.specs.Places.{at}
 use Rattle.core_model.specs.State.{CoreState, Hold, State}
@@ -12,17 +12,17 @@ use Rattle.batch_history.specs.Serving.{served_book}
 use Rattle.batch_history.specs.declared.batch.Entry.{Entry}
 use Rattle.std.specs.Prelude.{List, None, Option, Some, [], ℕ}
 
--- the hold that is kept, if there is one
+-- the hold, if the flag is owned
 abbrev pub hold_of : Option StoredHold → Option Hold
 hold_of None = None
 hold_of (Some h) = Some (hold_view h)
 
--- the batches that a shop has served, which is there unless memory has failed
+-- the batches that the shop has served, or none if the shop is gone after an allocation failure
 abbrev pub book_of : Option (List (List Entry)) → List (List Entry)
 book_of None = []
 book_of (Some book) = book
 
--- the state that a table shows: its objects are those after the calls of its book
+-- the represented state; its shared objects are the serial ones after all operations of the book
 unfoldable pub state_of : StoredState → State
 state_of t = record {
   node = at t.nodes.items Waiting;
@@ -37,7 +37,7 @@ state_of t = record {
   objects = served_book (book_of t.shop);
 }
 
--- and the lists of ready nodes that it shows
+-- the represented lists of ready nodes
 unfoldable pub ready_of : StoredState → ℕ → List ℕ
 ready_of t = at t.ready []
 

@@ -1,4 +1,5 @@
--- What only the code and its proofs cite, here and in the core above: what is stored keeps to, and what a turn looks up.
+-- Definitions that only code and proofs cite, here and in the core above: the invariant of a stored state, and what a
+-- turn looks up.
 pub mod Sizes
 pub mod Gate
 pub mod Lookups

@@ -1,4 +1,5 @@
--- Which state of the rules a stored one stands for, and what a worker is doing in it. `Code` is what only the code cites.
+-- The refinement mapping from stored states to the model, and what a worker is doing. `Code` is cited by code and
+-- proofs only.
 pub mod Abstraction
 pub mod Doings
 pub mod Code

@@ -1,4 +1,4 @@
-//! What an event does to the state: one function for each row of the rules, and the dispatch to it.
+//! Applying an event to the stored state: one function for each rule of the model, and the dispatch to it.
 ghost use Rattle.std.specs.Prelude.{◌≡◌, ◌<◌, ℕ, IfOk};
 ghost use Rattle.core_model.specs.Settings.{job_of};
 ghost use Rattle.core_model.specs.Events.{Needs, Does};
@@ -20,7 +20,7 @@ use core_model::{Event, Setting, Task};
 use std::alloc::{AllocError, Global};
 
 impl State {
-    /// Does an event of a call or of the flag. After want of memory the state may be part of the way.
+    /// Applies an event of a call or of the flag. After an `AllocError` the event may be half done.
     #[inline(always)]
     fn apply_to_gate(
         &mut self,
@@ -56,7 +56,7 @@ impl State {
         Ok(())
     }
 
-    /// Does an event of a worker. After want of memory the state may be part of the way.
+    /// Applies an event of a worker. After an `AllocError` the event may be half done.
     #[inline(always)]
     pub fn apply(
         &mut self,

@@ -1,4 +1,4 @@
-//! The choice of a worker's turn: the event that it makes in this state, if it can make one. Nothing is written here.
+//! The choice of a worker's turn: the event it can make in this state, if any. Nothing is written here.
 ghost use Rattle.std.specs.Prelude.{◌≡◌, ◌<◌, length, None, IsTrue};
 ghost use Rattle.core_model.specs.Settings.{job_of};
 ghost use Rattle.core_model.specs.Choice.{choice, choice_by, choice_free};
@@ -13,8 +13,8 @@ use core_model::{Event, Setting, Status, Task};
 use core_parts::chosen::{of_half, of_handed, of_run, of_started};
 
 impl State {
-    /// The event of a worker whose status is free, by its task. `work` is the value of the work that is due, if some
-    /// is due.
+    /// The event, by task, of a worker whose status is `Free`. `work` is the value of the work that is due, if it was
+    /// computed already.
     #[tactic(auto, unfolding(crate::specs::Abstraction::state_of, crate::specs::Abstraction::ready_of))]
     #[inline(always)]
     pub(crate) fn choose_free(
@@ -44,7 +44,7 @@ impl State {
         }
     }
 
-    /// The event of a worker that does not hold the flag, by its status.
+    /// The event, by status, of a worker that does not own the flag.
     #[tactic(auto, unfolding(crate::specs::Abstraction::state_of))]
     #[inline(always)]
     fn choose_by_status(&self, setting: &Setting, worker: u32, work: Option<u64>) -> Option<Event>
@@ -62,8 +62,8 @@ impl State {
         }
     }
 
-    /// Whether it is seen at once that a worker has no event: it has nothing in hand where no list has a node, or its
-    /// call waits for the worker that has the flag. A worker of which this is false may have none either.
+    /// Cheap check: true implies that the worker has no event; false says nothing. True for an idle worker while all
+    /// ready lists are empty, and for a worker whose call waits for the flag's owner.
     ///
     /// Memory: none.
     #[inline(always)]
@@ -90,7 +90,7 @@ impl State {
         }
     }
 
-    /// The event of a worker's turn, or none where the worker can do nothing in this state.
+    /// The event of a worker's turn, or `None` if the worker can do nothing in this state.
     ///
     /// Memory: none.
     #[tactic(auto, unfolding(crate::specs::Abstraction::state_of))]

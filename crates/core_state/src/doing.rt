@@ -1,4 +1,4 @@
-//! What a worker is doing, as far as those who run the workers look at it.
+//! What a worker is doing, to the detail that the code which drives workers needs.
 ghost use Rattle.std.specs.Prelude.{◌≡◌, ◌≢◌, ◌<◌, ℕ};
 ghost use Rattle.core_state.specs.Abstraction.{state_of};
 ghost use Rattle.core_model.specs.Settings.{job_of, HasLeaf, TaskIn};
@@ -11,10 +11,10 @@ ghost use Rattle.core_model.specs.declared.task.Task.TheVariants.{Started};
 use crate::state::State;
 use core_model::{CallState, Setting, Status, Task};
 
-/// What a worker is doing, as far as those who run the workers look at it.
+/// What a worker is doing, to the detail that the code which drives workers needs.
 #[derive(Clone, Copy)]
 pub enum Doing {
-    /// It has started this leaf, and has made no call for it.
+    /// It has started this leaf, and its call state is `NotCalled`.
     Started(u32),
     /// It has posted the call of this leaf, and has not left it.
     Calling(u32),
@@ -22,7 +22,7 @@ pub enum Doing {
     Other,
 }
 
-/// What a worker with this task is doing that is not trapped.
+/// What a worker with this task is doing while its status is `Free`.
 fn of_free(setting: &Setting, call: CallState, task: Task) -> Doing
     requires task_in { TaskIn (job_of setting.now).plan.count task }
     requires at_leaf { (n start : ℕ) → task ≡ Started n start → IsLeaf ((job_of setting.now).plan.kind n) }
@@ -38,7 +38,7 @@ fn of_free(setting: &Setting, call: CallState, task: Task) -> Doing
 }
 
 impl State {
-    /// What a worker is doing.
+    /// What a worker is doing, by its status, call state and task.
     ///
     /// Memory: none.
     #[tactic(auto, unfolding(crate::specs::Abstraction::state_of))]

@@ -1,9 +1,10 @@
 //! The state that a core stores, and what one turn does to it.
 //!
-//! `specs/Abstraction` says which state of the rules it stands for. `choose` picks the event of a worker's turn, exactly as
-//! the rules do, and writes nothing; `apply` does an event, whose needs are met; `doing` tells what a worker is doing. The
-//! crate is for `batcher_core`. It stands on `core_model`, which has the rules, on `core_parts`, on `launch_batch`, which serves
-//! a batch, on `sp_order`, `batch_history` and `seq_objects`.
+//! `specs/Abstraction` is the refinement mapping to the model's state. `choose` picks the event of a worker's turn
+//! exactly as the model does, and writes nothing. `apply` performs an event whose needs are met. `doing` says what a
+//! worker is doing. `batcher_core` builds on this crate. The rules are in `core_model`, the stored parts in
+//! `core_parts`, and `launch_batch` serves a batch; `sp_order`, `batch_history` and `seq_objects` supply jobs, books
+//! and operations.
 #![tactic(auto)]
 
 mod apply;

@@ -1,4 +1,4 @@
-//! The state of the core.
+//! The stored state of a core.
 
 ghost use Rattle.std.specs.Prelude.{◌≡◌, ◌<◌, length, IsSome};
 ghost use Rattle.core_state.specs.Abstraction.{book_of, state_of};
@@ -11,34 +11,34 @@ use core_model::{CallState, Progress, Status, Task};
 use core_parts::{Hold, ReadyLists};
 use launch_batch::Shop;
 
-/// The state of a core. `nodes`, `marks` and `values` have an item for each node, and `tasks`, `statuses`, `calls` and
-/// `ready` one for each worker.
+/// The state of a core. `nodes`, `marks` and `values` are indexed by node; `tasks`, `statuses`, `calls` and `ready` by
+/// worker.
 #[derive(Drop)]
 pub struct State {
-    /// How far each node has come.
+    /// The progress of each node.
     pub nodes: Vec<Progress>,
-    /// The number of sides that have arrived at each parallel block.
+    /// The number of sides that have arrived at each parallel block, 0 to 2.
     pub marks: Vec<u32>,
-    /// The value of each leaf that has one.
+    /// The value of each leaf that has kept one.
     pub values: Vec<Option<u64>>,
     /// The task of each worker.
     pub tasks: Vec<Task>,
-    /// How far each worker's call has come.
+    /// The status of each worker at the gate.
     pub statuses: Vec<Status>,
     /// What each worker knows of the call of the leaf that it has started.
     pub calls: Vec<CallState>,
-    /// The ready nodes of each worker, the oldest first.
+    /// The ready nodes of each worker, oldest first.
     pub ready: ReadyLists,
-    /// The hold of the worker that has the flag. The flag is free where there is none.
+    /// The hold of the flag's owner, `None` while the flag is free.
     pub hold: Option<Hold>,
-    /// The tick that the next start or end of a leaf draws: the number of those that there were.
+    /// The next tick to draw: the number of starts and ends of leaves so far.
     pub tick: u64,
-    /// The shared structures, with the batches that they have served. It is not there once memory has failed in
-    /// a batch.
+    /// The shared structures with the batches they have served. `None` after an allocation failed while a batch was
+    /// served.
     pub shop: Option<Shop>,
 }
 
-/// Whether a node with this progress is done.
+/// Whether the progress is `Done` or `Ran`.
 fn is_done(progress: Progress) -> bool
     ensures { result ≡ node_done progress }
 {
@@ -51,7 +51,7 @@ fn is_done(progress: Progress) -> bool
     }
 }
 
-/// The batches that a shop has served. The shop is there.
+/// The batches that a shop has served. The shop must be present.
 pub fn history_of(shop: Option<Shop>) -> History
     requires { IsSome shop }
     ensures { result ≡ book_of shop }

@@ -1,4 +1,4 @@
--- Entries that are added to a tally, one after another.
+-- Extending a tally entry by entry.
 use Rattle.std.proofs.Common.{◌≡◌, ℕ, ◌+◌, ◌<◌, List, [], ◌∷◌, ◌++◌, length, drop, get_or, refl, ap, sym, ◌∙◌, arith}
 use Rattle.std.proofs.lemmas.List.{drop_more}
 use Rattle.sp_order.specs.Totals.{pushes}
@@ -8,7 +8,7 @@ use Rattle.batch_history.specs.Code.Tallies.{with_entries, Fits}
 use Rattle.batch_history.specs.declared.batch.Entry.{Entry}
 use Rattle.batch_history.specs.declared.tally.Tally.{Tally}
 
--- tallies of the same numbers are one
+-- tallies with equal numbers are equal
 pub same_tally : (a b : Tally) → a.calls ≡ b.calls → a.counter ≡ b.counter → a.pushed ≡ b.pushed → a.popped ≡ b.popped
     → a.keys ≡ b.keys → a.found ≡ b.found → a.inserted ≡ b.inserted → a.taken ≡ b.taken → a ≡ b
 same_tally a b calls counter pushes pops keys found inserted taken =
@@ -20,7 +20,7 @@ same_tally a b calls counter pushes pops keys found inserted taken =
 pub with_none : (tally : Tally) → with_entries tally [] ≡ tally
 with_none tally = same_tally (with_entries tally []) tally (omega arith) refl (omega arith) (omega arith) (omega arith) (omega arith) (omega arith) (omega arith)
 
--- one entry, and then the others
+-- the first entry, then the rest
 pub with_more : (tally : Tally) (entry : Entry) (entries : List Entry)
     → with_entries (with_entries tally (entry ∷ [])) entries ≡ with_entries tally (entry ∷ entries)
 with_more tally entry entries =
@@ -32,14 +32,14 @@ with_both tally [] ys = ap (λ t. with_entries t ys) (with_none tally)
 with_both tally (x ∷ xs) ys =
     ap (λ t. with_entries t ys) (sym (with_more tally x xs)) ∙ with_both (with_entries tally (x ∷ [])) xs ys ∙ with_more tally x (xs ++ ys)
 
--- the batch at a place, and then those behind it
+-- the batch at a place, then those after it
 pub with_batch : (tally : Tally) (book : List (List Entry)) (i : ℕ) (batch : List Entry) → i < length book → batch ≡ get_or book i batch
     → with_entries (with_entries tally batch) (flat (drop (i + 1) book)) ≡ with_entries tally (flat (drop i book))
 with_batch tally book i batch within is =
     let split : drop i book ≡ batch ∷ drop (i + 1) book = drop_more book i batch within ∙ ap (λ b. b ∷ drop (i + 1) book) (sym is) in
     with_both tally batch (flat (drop (i + 1) book)) ∙ ap (λ b. with_entries tally (flat b)) (sym split)
 
--- a tally to which nothing was added
+-- a tally extended by nothing
 abbrev pub nothing : Tally
 nothing = record { calls = 0; counter = 0; pushed = 0; popped = 0; keys = 0; found = 0; inserted = 0; taken = 0 }
 
@@ -47,7 +47,7 @@ pub from_nothing : (entries : List Entry) → with_entries nothing entries ≡ t
 from_nothing entries =
     same_tally (with_entries nothing entries) (tally_of entries) (omega arith) refl (omega arith) (omega arith) (omega arith) (omega arith) (omega arith) (omega arith)
 
--- what fits with more entries fits without them
+-- what fits with more entries fits with fewer
 pub fits_before : (tally : Tally) (entries : List Entry) → Fits (with_entries tally entries) → Fits tally
 fits_before tally entries fits = record {
   calls = omega (arith, fits.calls);

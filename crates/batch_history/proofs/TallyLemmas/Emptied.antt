@@ -1,4 +1,4 @@
--- What legal entries of the counter, the stack and the queue come to.
+-- The totals of legal entries of the counter, the stack and the queue.
 use Rattle.std.proofs.Common.{◌≡◌, ℕ, ◌+◌, ◌-◌, ◌≤◌, List, [], ◌∷◌, length, refl, ap, ◌∙◌, arith, length-append}
 use Rattle.std.specs.List.{AllByRecursion}
 use Rattle.seq_objects.specs.declared.op.Op.{Op}
@@ -15,7 +15,7 @@ use Rattle.batch_history.proofs.TallyLemmas.Items.{sum_of, sum_push, top_sum, to
 not_some : (n : ℕ) → (1 ≤ n → ⊥) → n ≡ 0
 not_some n h = grind arith
 
--- after an entry that the second count counts, no entry is counted by the first
+-- after a `late` entry there is no `early` one
 pub none_later : (early late : Op → ℕ) (op : Op) (entries : List Entry)
     → AllByRecursion (λ (later : Entry). 1 ≤ late op → 1 ≤ early later.op → ⊥) entries → 1 ≤ late op → total early (acts_in entries) ≡ 0
 none_later early late op [] apart counts = refl
@@ -42,7 +42,7 @@ last_is o (e ∷ entries) legal =
     let rest = last_is (after o e.op) entries legal.1 in
     ap (λ r. last_sum (sum_after o.counter e.op r) entries) legal.0 ∙ ap (λ n. last_sum n entries) step.0 ∙ rest ∙ (omega (arith, step.1))
 
--- the stack: what is put in comes out or is left
+-- the stack: what is pushed is popped or left
 pop_step : (o : Objects) (op : Op) → popped op (reply_to o op) + sum_of (after o op).stack ≡ sum_of o.stack + pushed op
 pop_step o (CounterAdd addend) = omega arith
 pop_step o (Push item) = omega (arith, sum_push o.stack item)
@@ -72,7 +72,7 @@ height_step o (TreeNext key) = omega arith
 height_step o (PqInsert item) = omega arith
 height_step o PqTake = omega arith
 
--- what is left after a number grew and shrank, and then grew and shrank: once it shrinks it grows no more
+-- truncated differences add up if the growing all comes before the shrinking
 levels : (len in1 out1 in2 out2 : ℕ) → (1 ≤ out1 → in2 ≡ 0) → len + in1 - out1 + in2 - out2 ≡ len + (in1 + in2) - (out1 + out2)
 levels len in1 out1 in2 out2 h = grind arith
 

@@ -1,4 +1,4 @@
--- What the tree's legal entries tell where no key is removed.
+-- What the tree's legal entries imply if no key is removed.
 use Rattle.std.proofs.Common.{◌≡◌, ℕ, ◌+◌, ◌<◌, ◌≤◌, ◌||◌, Bool, true, false, not, List, [], ◌∷◌, length, refl, sym, ap, subst, ◌∙◌, arith}
 use Rattle.std.specs.Prelude.{nat_lt}
 use Rattle.std.specs.List.{AllByRecursion}
@@ -24,7 +24,7 @@ yes_one : (b : Bool) → yes_of (yes_or_no b) ≡ one_if b
 yes_one true = refl
 yes_one false = refl
 
--- a key that was not there makes a set longer by one
+-- adding a new key makes a set longer by one
 grows : (key : ℕ) (set : List ℕ) → StrictlyAscends set → one_if (not (has key set)) + length set ≡ length (with_key key set)
 grows key [] up = refl
 grows key (k ∷ set) up =
@@ -33,7 +33,7 @@ grows key (k ∷ set) up =
     let gone' : key < k → has key set ≡ false = λ less. has_none key set (all_above key k set less up.0) in
     grind (arith, nat_tests)
 
--- the tree's set, from which nothing is removed
+-- the tree's set, when nothing is removed
 set_step : (o : Objects) (op : Op) → tree_removes op ≡ 0 → (after o op).set ≡ with_key_of (Call op) o.set
 set_step o (CounterAdd addend) kept = refl
 set_step o (Push item) kept = refl
@@ -56,7 +56,7 @@ keys_step o (TreeNext key) up = omega arith
 keys_step o (PqInsert item) up = omega arith
 keys_step o PqTake up = omega arith
 
--- keys that are in a set or are inserted, and then the others
+-- the keys of a set and of inserts, taken one entry at a time
 or_sum : (b : Bool) (m n : ℕ) → ((b || nat_lt 0 m) || nat_lt 0 n) ≡ (b || nat_lt 0 (m + n))
 or_sum true m n = refl
 or_sum false m n = grind (arith, nat_tests)
@@ -81,7 +81,7 @@ set_after o (e ∷ entries) up legal kept =
           ∙ or_sum (has q o.set) (inserts_key q e.op) (total (inserts_key q) (acts_in entries));
     }
 
--- the set that is left has the keys that were inserted
+-- the final set consists of the inserted keys
 pub set_is : (entries : List Entry) → IsLegalFrom opening entries → total tree_removes (acts_in entries) ≡ 0
     → (served opening entries).set ≡ keys_inserted (acts_in entries)
 set_is entries legal kept =
@@ -92,14 +92,14 @@ set_is entries legal kept =
 and_none : (m n : ℕ) → m + 0 ≡ n → m ≡ n
 and_none m n h = omega (arith, h)
 
--- as many inserts say yes as there are keys
+-- the inserts that reply yes number the inserted keys
 pub keys_are : (entries : List Entry) → IsLegalFrom opening entries → total tree_removes (acts_in entries) ≡ 0
     → over_replies new_keys entries ≡ length (keys_inserted (acts_in entries))
 keys_are entries legal kept =
     and_none (over_replies new_keys entries) (length (served opening entries).set) (set_after opening entries tt legal kept).keys
     ∙ ap length (set_is entries legal kept)
 
--- where nothing is inserted later, the set stays
+-- if nothing is inserted later, the set stays
 stays_step : (o : Objects) (op : Op) → tree_inserts op ≡ 0 → tree_removes op ≡ 0 → (after o op).set ≡ o.set
 stays_step o (CounterAdd addend) none kept = refl
 stays_step o (Push item) none kept = refl
@@ -117,7 +117,7 @@ stays o [] none kept = refl
 stays o (e ∷ entries) none kept =
     stays (after o e.op) entries (omega (arith, none)) (omega (arith, kept)) ∙ stays_step o e.op (omega (arith, none)) (omega (arith, kept))
 
--- a find says whether the set that is left has its key
+-- a find replies whether the final set has its key
 finds_left : (o : Objects) (entries : List Entry) → IsLegalFrom o entries → StandsBefore tree_inserts tree_finds entries → total tree_removes (acts_in entries) ≡ 0
     → AllByRecursion (FindsIn (served o entries).set) entries
 finds_left o [] legal apart kept = tt
@@ -133,13 +133,13 @@ finds_left o (e ∷ entries) legal apart kept =
           let kept : (after o e.op).set ≡ o.set = subst (λ op. (after o op).set ≡ o.set) (sym is) refl in
           legal.0 ∙ replies ∙ ap (λ set. yes_or_no (has key set)) (sym (same find ∙ kept))
 
--- a find that comes after all inserts says whether its key was inserted
+-- a find after all inserts replies whether its key was inserted
 pub finds_say : (entries : List Entry) → IsLegalFrom opening entries → total tree_removes (acts_in entries) ≡ 0 → StandsBefore tree_inserts tree_finds entries
     → AllByRecursion (FindsIn (keys_inserted (acts_in entries))) entries
 finds_say entries legal kept apart =
     subst (λ set. AllByRecursion (FindsIn set) entries) (set_is entries legal kept) (finds_left opening entries legal apart kept)
 
--- and so as many say yes as there are finds of such keys
+-- so the yes replies number the finds of inserted keys
 found_step : (set : List ℕ) (op : Op) (e : Entry) → e.op ≡ op → FindsIn set e → keys_found op e.reply ≡ finds_in set op
 found_step set (CounterAdd addend) e is says = refl
 found_step set (Push item) e is says = refl

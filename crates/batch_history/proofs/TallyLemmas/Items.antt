@@ -1,4 +1,4 @@
--- The items of stacks and bags: how many there are, and their sum.
+-- The items of stacks and bags: their number and their sum.
 use Rattle.std.proofs.Common.{◌≡◌, ℕ, ◌+◌, ◌-◌, ◌<◌, Bool, true, false, if◌then◌else◌, List, [], ◌∷◌, ◌++◌, length, take, drop, get_or, refl, sym, ap, ◌∙◌, arith, length-take-le}
 use Rattle.std.specs.Prelude.{nat_le}
 use Rattle.std.proofs.lemmas.List.{take-append-drop, drop_more, drop_all}
@@ -36,7 +36,7 @@ top_sum (x ∷ xs) = some_top (x ∷ xs) (omega arith)
 pub top_length : (xs : List ℕ) → length (without_top xs) ≡ length xs - 1
 top_length xs = length-take-le (length xs - 1) xs (omega arith)
 
--- an item more in a bag
+-- inserting an item into a bag
 either_sum : (b : Bool) (xs ys : List ℕ) (n : ℕ) → sum_of xs ≡ n → sum_of ys ≡ n → sum_of (if b then xs else ys) ≡ n
 either_sum true xs ys n h g = h
 either_sum false xs ys n h g = g
@@ -62,7 +62,7 @@ pub least_length : (bag : List ℕ) → length (without_least bag) ≡ length ba
 least_length [] = refl
 least_length (x ∷ bag) = omega arith
 
--- a list without elements comes to nothing
+-- an empty list sums to 0
 pub none_sum : (xs : List ℕ) → length xs ≡ 0 → sum_of xs ≡ 0
 none_sum [] h = refl
 none_sum (x ∷ xs) h = absurd (omega (arith, h))

@@ -1,4 +1,4 @@
--- What a lawful report comes to, by its job.
+-- The totals of a lawful report, from its job.
 use Rattle.std.proofs.Common.{◌≡◌, ℕ, ◌+◌, ◌*◌, ◌-◌, ◌<◌, ◌≤◌, ◌^◌, List, [], ◌∷◌, length, refl, ap, subst, ◌∙◌, arith}
 use Rattle.std.specs.List.{AllByRecursion}
 use Rattle.seq_objects.specs.declared.op.Op.{Op}
@@ -33,7 +33,7 @@ count_is : (entries : List Entry) → length entries ≡ total (λ op. 1) (acts_
 count_is [] = refl
 count_is (e ∷ entries) = omega (arith, count_is entries)
 
--- the number that an operation puts in is its argument
+-- the item that an operation adds is its argument
 pushed_at_most : (op : Op) → pushed op ≤ argument_of op
 pushed_at_most (CounterAdd addend) = omega arith
 pushed_at_most (Push item) = omega arith

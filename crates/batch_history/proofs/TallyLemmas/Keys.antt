@@ -73,7 +73,7 @@ has_inserted q (act ∷ acts) = step act (has_inserted q acts) where
   step (Work steps) rest = rest ∙ ap (nat_lt 0) (none_and (total (inserts_key q) acts))
   step (Call op) rest = has_step q op (keys_inserted acts) ∙ ap (λ b. b || nat_lt 0 (inserts_key q op)) rest ∙ turned (total (inserts_key q) acts) (inserts_key q op)
 
--- acts that insert each key as often as others do insert the same keys
+-- acts with the same number of inserts of each key have the same inserted keys
 pub same_keys : (acts others : List Act) → ((q : ℕ) → total (inserts_key q) acts ≡ total (inserts_key q) others) → keys_inserted acts ≡ keys_inserted others
 same_keys acts others same = same_set (keys_inserted acts) (keys_inserted others) (inserted_ascend acts) (inserted_ascend others)
     (λ q. has_inserted q acts ∙ ap (nat_lt 0) (same q) ∙ sym (has_inserted q others))

@@ -1,4 +1,4 @@
--- The calls of a book whose leaves are the leaves that call, each once, come to what the acts come to.
+-- If a book has each calling leaf once, its calls have the totals of the acts.
 use Rattle.std.proofs.Common.{◌≡◌, ◌≢◌, ℕ, zero, suc, ◌+◌, ◌*◌, ◌<◌, ◌≤◌, true, false, ◌==◌, if◌then◌else◌, List, [], ◌∷◌, ◌++◌, length, map, take, get_or, Some, None, inl, inr, refl, sym, ap, ◌∙◌, arith}
 use Rattle.std.specs.Prelude.{nat_lt, slice_get}
 use Rattle.std.specs.declared.option.Option.{Option}
@@ -57,7 +57,7 @@ part_more : (g : ℕ → ℕ) (m : ℕ) (xs : List ℕ) → part g (m + 1) xs �
 part_more g m [] = omega arith
 part_more g m (x ∷ xs) = omega (arith, pick_more g m x, part_more g m xs, spread (one_if (m == x)) (copies m xs) (g m))
 
--- how often a number stands in a list
+-- the number of occurrences in a list
 none_of : (m x : ℕ) (xs : List ℕ) → m ≡ x → AllByRecursion (λ y. x ≢ y) xs → copies m xs ≡ 0
 none_of m x [] same all = refl
 none_of m x (y ∷ xs) same all =

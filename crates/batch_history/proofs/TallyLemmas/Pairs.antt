@@ -1,4 +1,4 @@
--- The calls of a lawful report stand in the order of their leaves.
+-- In a lawful report, calls are ordered as their leaves are.
 use Rattle.std.proofs.Common.{◌≡◌, ℕ, zero, suc, ◌+◌, ◌<◌, ◌≤◌, List, [], ◌∷◌, ◌++◌, length, get_or, Some, None, inl, inr, refl, sym, ap, subst, ◌∙◌, arith}
 use Rattle.std.specs.Prelude.{slice_get, Contains, Option, IsSomeAnd}
 use Rattle.std.specs.List.{AllByRecursion, range_with_len}
@@ -60,7 +60,7 @@ in_flat [] n e s = absurd s
 in_flat (batch ∷ book) zero e s = Contains-append_left batch (flat book) e s
 in_flat (batch ∷ book) (suc n) e s = Contains-append_right batch (flat book) e (in_flat book n e s)
 
--- leaves of which one is before the other are leaves of the tree
+-- leaves related by precedence are leaves of the tree
 before_in : (first : ℕ) (tree : Tree) (u v : ℕ) → IsBeforeFrom first tree u v → (u < first + leaves tree) × (v < first + leaves tree)
 before_in first leaf u v h = absurd h
 before_in first (par left right) u v (inl h) = let is = before_in first left u v h in (omega (arith, is.0), omega (arith, is.1))
@@ -89,7 +89,7 @@ module _ (job : JobValue) (workers : ℕ) (report : Report) (lawful : Lawful job
       each_at (λ (e : Entry). slice_get job.acts e.leaf ≡ Some (Call e.op)) (flat report.history) entry (acts_at job.acts report.history (flat report.history) lawful.calls.operations)
       (in_flat report.history n entry stands)
 
-  -- what counts for the first comes before what counts for the second
+  -- calls counted by `early` come before calls counted by `late`
   pub apart : (early late : Op → ℕ) → ComesBefore job early late → StandsBefore early late (flat report.history)
   apart early late before = flat_pairs (λ a b. 1 ≤ late a.op → 1 ≤ early b.op → ⊥) report.history (λ i j a b le sa sb is_late is_early.
       let first = before b.leaf a.leaf b.op a.op (called b j sb) (called a i sa) is_early is_late in

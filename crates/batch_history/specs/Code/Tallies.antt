@@ -1,4 +1,4 @@
--- A tally to which entries are added one after another.
+-- A tally under extension by entries.
 use Rattle.std.specs.Prelude.{◌+◌, ◌<◌, ◌^◌, List, length}
 use Rattle.sp_order.specs.Totals.{pushes, queue_inserts, total}
 use Rattle.batch_history.specs.Serving.{acts_in}
@@ -6,7 +6,7 @@ use Rattle.batch_history.specs.Tally.{popped, queue_taken, new_keys, keys_found,
 use Rattle.batch_history.specs.declared.batch.Entry.{Entry}
 use Rattle.batch_history.specs.declared.tally.Tally.{Tally}
 
--- the tally with these entries behind those that it tells of
+-- the tally of the entries it covers and then of these
 abbrev pub with_entries : Tally → List Entry → Tally
 with_entries tally entries = record {
   calls = tally.calls + length entries;
@@ -19,7 +19,7 @@ with_entries tally entries = record {
   taken = tally.taken + over_replies queue_taken entries;
 }
 
--- each number but the counter's, which is no sum, fits 64 bits
+-- each number fits 64 bits, except the counter's, which is a reply and not a sum
 pub record Fits (tally : Tally) : Type 0 where
   pub calls : tally.calls < 2 ^ 64
   pub pushed : tally.pushed < 2 ^ 64

@@ -1,4 +1,4 @@
--- The opening table of a job has what a core keeps to.
+-- The opening state of a job satisfies the core's invariant.
 use Rattle.std.proofs.Common.{ℕ, ◌≡◌, ◌<◌, ◌≤◌, Some, length, ap, refl, sym, subst, ◌∙◌}
 use Rattle.core_model.proofs.Words.{Tree, leaves, IsPlan, IsPlanOf, core_job}
 use Rattle.sp_order.specs.Jobs.{JobValue, IsJob, job_tree}

@@ -1,4 +1,4 @@
--- A turn keeps what the core keeps to, and makes what it answers.
+-- A turn preserves the core's invariant, and its result states its effect.
 use Rattle.std.proofs.Common.{ℕ, ◌≡◌, ◌<◌, Some, None, List, refl, ◌∙◌}
 use Rattle.sp_order.specs.Jobs.{JobValue, job_tree}
 use Rattle.core_model.proofs.Words.{core_job}
@@ -35,7 +35,7 @@ module _ (job : JobValue) (workers : ℕ) (old new : StoredState) (w : ℕ) (eve
   happens : Happens (core_job job workers) (state_of old) w event (state_of new)
   happens = record { worker_in = below; needs = chosen_needs job workers old w h below event chosen; does = does }
 
-  -- after the chosen event the table fits
+  -- after the chosen event the stored state satisfies its invariant
   pub fits_after : SameSizes old new → RepInvariant job workers new
   fits_after same = record {
     some = h.some;
@@ -53,7 +53,7 @@ module _ (job : JobValue) (workers : ℕ) (old new : StoredState) (w : ℕ) (eve
         (record { happens = happens; lists = lists });
   }
 
-  -- an event was chosen, and has happened
+  -- an event was chosen and has happened
   pub makes_event : IsTurnResult Moved (core_job job workers) (core_state_of old) w (core_state_of new)
   makes_event = (event, chosen, record { happens = happens; lists = lists })
 

@@ -1,4 +1,4 @@
--- Rows that are made one after another.
+-- Rows made one after another.
 use Rattle.std.proofs.Common.{ℕ, zero, suc, ◌≡◌, ◌<◌, ◌+◌, Option, List, [], ◌∷◌, ◌++◌, length, inl, inr, arith, refl, sym, subst, ◌∙◌, ap}
 use Rattle.std.proofs.lemmas.List.{get_or_past}
 use Rattle.std.proofs.lemmas.Bool.{cases_lt}
@@ -8,7 +8,7 @@ use Rattle.core_parts.specs.Places.{at}
 use Rattle.core_model.specs.Reports.{HasRun, IsRowFor, TellsLeaf}
 use Rattle.core_model.proofs.ReportLemmas.RowLists.{AreRowsOf}
 
--- a node that has run is in the list
+-- a node that has run is within the list
 pub run_within : (nodes : List Progress) (n : ℕ) → HasRun (at nodes Waiting n) → n < length nodes
 run_within nodes n run = elim (cases_lt n (length nodes)) [
   | inl less ↦ less
@@ -28,7 +28,7 @@ next_from (r ∷ rows) row first (suc count) of leaf =
 pub next_row : (rows : List Row) (row : Row) (count : ℕ) → AreRowsOf rows 0 count → row.leaf ≡ count → AreRowsOf (rows ++ row ∷ []) 0 (count + 1)
 next_row rows row count of leaf = next_from rows row 0 count of (leaf ∙ omega arith)
 
--- and what it tells
+-- the next row has the contents of its leaf's node
 pub told_next : (node_of : ℕ → ℕ) (node : ℕ → Progress) (value : ℕ → Option ℕ) (row : Row) (leaf n : ℕ) → row.leaf ≡ leaf → n ≡ node_of leaf
     → IsRowFor (node n) (value n) row → TellsLeaf node_of node value row
 told_next node_of node value row leaf n of is told = subst (λ m. IsRowFor (node m) (value m) row) (is ∙ ap node_of (sym of)) told

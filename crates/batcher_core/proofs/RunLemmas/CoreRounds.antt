@@ -1,4 +1,4 @@
--- The turns that are left of a core in its rounds.
+-- The round-robin turns left in a core.
 use Rattle.std.proofs.Common.{ℕ, ◌≡◌, ◌<◌, ◌+◌, ◌%◌, false, arith, sym, subst}
 use Rattle.sp_order.specs.Jobs.{job_tree}
 use Rattle.sp_order.specs.Preorder.{nodes_of}
@@ -10,7 +10,7 @@ use Rattle.core_state.specs.Code.Representation.{RepInvariant}
 use Rattle.core_state.proofs.CodeLemmas.KeptParts.{kept_parts}
 use Rattle.batcher_core.proofs.RunLemmas.Taken.{SameJob, job_same, goes_on}
 
--- each turn lowers the count of those that are left
+-- each turn lowers their number
 pub round_fewer : (first core next : CoreView) (workers robin : ℕ) → SameJob first core → RepInvariant core.job core.workers core.table → IsPlanOf (nodes_of (job_tree core.job)) (job_tree core.job)
     → workers ≡ first.workers → robin < workers → is_over_in core ≡ false → core.spent ≡ false → IsTurn (job_in core) (state_in core) robin (state_in next)
     → turns_left (job_in first) (state_in next) ((robin + 1) % workers) < turns_left (job_in first) (state_in core) robin

@@ -1,4 +1,4 @@
--- Where the workers that have stopped have no task, a run of the live ones is not stuck.
+-- If the stopped workers have no task, a run of the live ones does not get stuck.
 use Rattle.std.proofs.Common.{ℕ, zero, suc, ◌≡◌, ◌<◌, Bool, true, false, List, [], ◌∷◌, length, Contains, get_or, arith, sym, ◌∙◌}
 use Rattle.core_model.proofs.Words.{is_done}
 use Rattle.batcher_core.specs.Cores.{CoreView, state_in, is_over_in}

@@ -21,7 +21,7 @@ use Rattle.batcher_core.proofs.RunLemmas.Taken.{SameJob, job_same, goes_on}
 pub round_end : (workers i : ℕ) → 0 < workers → i ≡ workers → i % workers ≡ 0
 round_end workers i some end = ap (λ (n : ℕ). n % workers) (end ∙ sym (zero-add workers)) ∙ (add-mod_right 0 workers ∙ mod-eq_of_lt some)
 
--- the turn of worker i of the round, and the passing over it
+-- the turn of worker `i` of the round, or its being passed over
 module _ (first core next : CoreView) (live : ℕ → Bool) (same : SameJob first core) (more : is_over_in core ≡ false) (unspent : core.spent ≡ false) (i : ℕ) (below : i < first.workers) where
   at_worker : i % first.workers ≡ i
   at_worker = mod-eq_of_lt below
@@ -63,13 +63,13 @@ module _ (job : CoreJob) (s new : CoreState) (w : ℕ) where
 abbrev pub RestBelow : CoreJob → (ℕ → Bool) → CoreState → ℕ → Type 0
 RestBelow job live s i = (v : ℕ) → v < i → live v ≡ true → choice job s v ≡ None
 
--- so in a round in which all workers rest, no event of a live one can happen
+-- so after a round without an event, no live worker can make one
 pub none_live : (job : CoreJob) (live : ℕ → Bool) (s : CoreState) → IsPlan job.plan → Invariant job s → RestBelow job live s job.workers → NoLiveEvent job live s
 none_live job live s laws h rest w on event next step =
     let among = step.happens.worker_in in
     none_has_no_event job s w laws among (parts_carried job s.state h.parts) h.lists (rest w among on) event step.happens.needs
 
--- the whole round, in which all have rested
+-- the whole round, without an event
 pub round_rests : (first core : CoreView) (live : ℕ → Bool) (i : ℕ) → SameJob first core → RepInvariant core.job core.workers core.table → i ≡ first.workers
     → RestBelow (job_in first) live (state_in core) i → NoLiveEvent (job_in first) live (state_in core)
 round_rests first core live i same fits end rest =
@@ -77,7 +77,7 @@ round_rests first core live i same fits end rest =
     none_live (job_in first) live (state_in core) (subst (λ (j : CoreJob). IsPlan j.plan) job fits.laws) (subst (λ (j : CoreJob). Invariant j (state_in core)) job fits.inv)
     (subst (RestBelow (job_in first) live (state_in core)) end rest)
 
--- a worker more that is passed over
+-- one more stopped worker is passed over
 pub rests_past : (job : CoreJob) (live : ℕ → Bool) (s : CoreState) (i : ℕ) → live i ≡ false → RestBelow job live s i → RestBelow job live s (i + 1)
 rests_past job live s i off rest v below on = elim (cases_eq v i) [
   | inl same ↦ (let e = sym (ap live same ∙ off) ∙ on in absurd cc)
@@ -88,7 +88,7 @@ both_false : (a b : Bool) → (a || b) ≡ false → (a ≡ false) × (b ≡ fal
 both_false true b e = absurd cc
 both_false false b e = (refl, e)
 
--- two stretches of a round, one after the other
+-- two consecutive parts of a round
 lowers_both : (before moved : Bool) (a b c : ℕ) → (b ≤ a) × (before ≡ true → b < a) → (c ≤ b) × (moved ≡ true → c < b) → (c ≤ a) × ((before || moved) ≡ true → c < a)
 lowers_both true moved a b c h g = (let low = h.0 in let then' = g.0 in omega (arith, low, then'), λ _. let less = h.1 refl in let then' = g.0 in omega (arith, less, then'))
 lowers_both false true a b c h g = (let low = h.0 in let then' = g.0 in omega (arith, low, then'), λ _. let low = h.0 in let less = g.1 refl in omega (arith, low, less))
@@ -114,7 +114,7 @@ module _ (first core next : CoreView) (live : ℕ → Bool) (i : ℕ) (same : Sa
         | inr other ↦ rest both.0 v (omega (arith, among, other)) on
       ])
 
--- a run ends where the core is over, or where no event of a live worker can happen
+-- a run ends when the core is over, or when no live worker can make an event
 pub ends_here : (job : CoreJob) (live : ℕ → Bool) (core : CoreView) (robin : ℕ) → core.spent ≡ false → (is_over_in core ≡ false → NoLiveEvent job live (state_in core))
     → LiveDrive job live (state_in core) robin (state_in core)
 ends_here job live core robin unspent none = by_end (is_done ((state_in core).state.node 0)) refl where

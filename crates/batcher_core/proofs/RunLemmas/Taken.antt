@@ -1,4 +1,4 @@
--- What the turns of a run have made.
+-- The effect of the turns of a run.
 use Rattle.std.proofs.Common.{ℕ, ◌≡◌, ◌<◌, ◌+◌, ◌%◌, ◌&&◌, not, Bool, true, false, List, [], sym, ◌∙◌, ap, subst, inl, inr, length, drop, slice_index_or}
 use Rattle.std.proofs.lemmas.List.{drop_more}
 use Rattle.sp_order.specs.Jobs.{JobValue}
@@ -7,7 +7,7 @@ use Rattle.core_model.specs.Runs.{IsTurn, Drives, over, by_schedule, by_robin}
 use Rattle.batcher_core.specs.Cores.{CoreView, job_in, state_in, is_over_in}
 use Rattle.core_model.proofs.RunLemmas.OneRun.{over_or}
 
--- a core shows the same job
+-- the job of a core stays the same
 abbrev pub SameJob : CoreView → CoreView → Type 0
 SameJob old new = (new.job ≡ old.job) × (new.workers ≡ old.workers)
 
@@ -22,7 +22,7 @@ pub goes_on : (spent done : Bool) → (not spent && done) ≡ false → spent �
 goes_on false done h unspent = h
 goes_on true done h unspent = absurd cc
 
--- where the root is done nothing is left of a schedule
+-- once the root is done, the rest of the schedule is ignored
 pub over_before : (job : CoreJob) (s last : CoreState) (schedule rest : List ℕ) (robin : ℕ) → is_done (s.state.node 0) ≡ true → Drives job s rest robin last → Drives job s schedule robin last
 over_before job s last schedule rest robin done drives = elim (over_or job s last rest robin drives) [
   | inl end ↦ subst (λ (n : CoreState). Drives job s schedule robin n) (sym end.1) (over done)

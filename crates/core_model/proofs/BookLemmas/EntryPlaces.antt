@@ -91,7 +91,7 @@ entry_placed bs j batch e distinct is h = let at = placed_from 0 bs j batch e di
 pub entry_there : (bs : List (List Entry)) (e : Entry) → AreDistinct (leaves_of (flat bs)) → Contains (flat bs) e → (j : ℕ) × IsPlaced (place_of bs e.leaf) j e
 entry_there bs e distinct h = let at = in_a_batch bs e h in (at.0, entry_placed bs at.0 at.1 e distinct at.2 at.3)
 
--- an entry is told by its leaf
+-- an entry is determined by its leaf
 pub one_entry : (bs : List (List Entry)) (e f : Entry) → AreDistinct (leaves_of (flat bs)) → Contains (flat bs) e → Contains (flat bs) f → e.leaf ≡ f.leaf → e ≡ f
 one_entry bs e f distinct h g same =
     let a = entry_there bs e distinct h in

@@ -59,7 +59,7 @@ one_or_none w (x ∷ xs) h = elim (cases_eq x.worker w) [
   ]
 ]
 
--- before a publish nobody is answered, so who is taken is taken still
+-- before a publish no worker is answered, so each taken worker is still owed an answer
 taken_still : (workers : ℕ) (s : State) (hd : Hold) (w : ℕ) → s.hold ≡ Some hd → hd.published ≡ false → HoldInvariant workers s.status s.call (Some hd)
     → is_taken_by s.hold w ≡ has_taken s.hold w
 taken_still workers s hd w held unpublished h = rw held (by_answer (hd.taken w) (hd.answered w) (λ e. let f = h.6 w e in cc)) where

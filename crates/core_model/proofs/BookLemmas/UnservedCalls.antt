@@ -20,7 +20,7 @@ use Rattle.core_model.proofs.BookLemmas.EntryLists.{each_append, each_mapped, di
 use Rattle.core_model.proofs.BookLemmas.Room.{distinct_few}
 use Rattle.core_model.proofs.InvariantLemmas.Publish.{no_entry, not_booked}
 
--- of distinct elements, which a function tells apart, the values are distinct
+-- a function that is injective on `P` maps distinct elements to distinct values
 apart_mapped : (f : ℕ → ℕ) (P : ℕ → Type 0) → ((a b : ℕ) → P a → P b → f a ≡ f b → a ≡ b) → (x : ℕ) → P x → (ys : List ℕ) → AllByRecursion P ys
     → AllByRecursion (λ y. x ≢ y) ys → AllByRecursion (λ z. f x ≢ z) (map f ys)
 apart_mapped f P tells x p [] h apart = tt

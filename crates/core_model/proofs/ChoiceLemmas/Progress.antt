@@ -111,7 +111,7 @@ module _ (job : CoreJob) (s : State) (laws : IsPlan job.plan) (h : InductivePart
   all_idle : ((w : ℕ) → w < job.workers → s.task w ≡ Idle) → (v : ℕ) → s.task v ≡ Idle
   all_idle idle v = elim (cases_lt v job.workers) [ inl below ↦ idle v below | inr beyond ↦ h.beyond v beyond ]
 
-  -- where nobody has a task, a node is ready
+  -- where no worker has a task, a node is ready
   some_ready : (tree : Tree) → IsPlanOf job.plan tree → is_done (s.node 0) ≡ false → ((v : ℕ) → s.task v ≡ Idle) → (n : ℕ) × (s.node n ≡ Ready)
   some_ready tree plan going idle =
       let unheld = λ (n : ℕ). unnamed job.plan s.node s.mark s.task h.holder 0 laws h.nodes h.tasks n (λ v e. let f = sym (ap names (idle v)) ∙ e in cc) in
@@ -162,7 +162,7 @@ some_turn job tree s laws plan h lists going =
     let some = some_event job s.state laws h tree s.ready plan lists going s.state.hold refl in
     (some.0, some.1, λ none. none_has_no_event job s some.0 laws some.1 h lists none some.2 some.3)
 
--- where the root is not done, and those workers have no task that do not go on, the turn of one that does makes an event
+-- while the root is not done, no stopped worker has a task and one is live, the turn of some live worker makes an event
 pub some_live_turn : (job : CoreJob) (tree : Tree) (s : CoreState) (live : ℕ → Bool) (one : ℕ) → IsPlan job.plan → IsPlanOf job.plan tree → InductiveParts job s.state → ReadyListsInvariant job.workers s.state.node s.ready
     → is_done (s.state.node 0) ≡ false → one < job.workers → live one ≡ true → ((w : ℕ) → w < job.workers → live w ≡ false → s.state.task w ≡ Idle)
     → (w : ℕ) × (w < job.workers) × (live w ≡ true) × (choice job s w ≢ None)

@@ -11,7 +11,7 @@ use Rattle.core_model.specs.Serving.{served}
 use Rattle.core_model.specs.Invariant.Statuses.{IsAtCall, HasReceipt}
 use Rattle.core_model.proofs.Inductive.Ticks.{Stamp, stamp}
 
--- the status and the call of one worker, with its task, and with whether the hold has taken its call and not answered it
+-- one worker's status, call and task, and whether the hold has taken its call and not answered it
 abbrev pub StatusFits : CoreJob → List (List Entry) → Task → Status → CallState → Bool → Type 0
 StatusFits job book task Free NotCalled taken = taken ≡ false
 StatusFits job book task Free Out taken = ⊥

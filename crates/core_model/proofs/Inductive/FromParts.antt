@@ -1,5 +1,5 @@
--- The parts of the invariant imply what the proofs carry: the holder of a node is the worker that is found to name it,
--- and a tick was drawn for what the parts say.
+-- The parts of the invariant imply the inductive invariant. The holder of a node is the worker found to name it, and
+-- the draw of a tick is the one that the parts give.
 use Rattle.std.proofs.Common.{ℕ, ◌≡◌, ◌≢◌, ◌<◌, ◌≤◌, ◌⊎◌, ◌==◌, Bool, true, false, Option, Some, None, List, arith, refl, inl, inr, subst, sym, ◌∙◌, ap}
 use Rattle.std.proofs.lemmas.Bool.{cases_eq, cases_lt}
 use Rattle.std.proofs.lemmas.Bool.Decides.{nat_tests}
@@ -76,7 +76,7 @@ stamp_parts v w a s d e is =
     let f : stamp v a d ≡ stamp w s e = cc in
     (ap (λ (x : Stamp). x.worker) f, ap (λ (x : Stamp). x.start) f, ap (λ (x : Stamp). x.end) f)
 
--- what the stamp of a task tells
+-- the stamp of a task
 tells_start : (t : Task) (v w n s : ℕ) (e : Option ℕ) → names t ≡ Some n → stamp_in_task v t ≡ Some (stamp w s e)
     → (v ≡ w) × IsStartedAs t n s × ((d : ℕ) → e ≡ Some d → t ≡ Ended n s d)
 tells_start Idle v w n s e name is = cc
@@ -290,7 +290,7 @@ earlier_if None None h = tt
 earlier_if (Some x) None h = tt
 earlier_if p (Some later) h = let at = h later refl in rw at.1 at.2
 
--- who is in the book
+-- which calls are in the book
 worker_same : (p : Option Place) (o : Option ℕ) → ((place : Place) → p ≡ Some place → o ≡ Some place.entry.worker)
     → ((w : ℕ) → o ≡ Some w → (place : Place) × (p ≡ Some place) × (place.entry.worker ≡ w)) → worker_at p ≡ o
 worker_same (Some place) o only each = sym (only place refl)

@@ -1,4 +1,4 @@
--- What is carried of the nodes and the tasks implies what the invariant says of them.
+-- The inductive invariant of the nodes and the tasks implies what the invariant says of them.
 use Rattle.std.proofs.Common.{ℕ, ◌≡◌, ◌≢◌, ◌⊎◌, Bool, true, false, Option, Some, None, arith, refl, inl, inr}
 use Rattle.core_model.specs.Invariant.Nodes.{NodesInvariant}
 use Rattle.core_model.specs.Invariant.Tasks.{IsNamed, IsCount, IsPassed, TasksInvariant}

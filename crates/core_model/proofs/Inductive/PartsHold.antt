@@ -1,4 +1,4 @@
--- What is carried of a state implies the parts of the invariant.
+-- The inductive invariant of a state implies the parts of the invariant.
 use Rattle.std.proofs.Common.{ℕ, ◌≡◌, ◌≢◌, ◌<◌, ◌⊎◌, Bool, true, false, if◌then◌else◌, Option, Some, None, List, arith, refl, inl, inr, subst, sym, ◌∙◌, ap}
 use Rattle.std.specs.Prelude.{Contains}
 use Rattle.std.proofs.lemmas.List.Elements.{recursion_from_All, All-contains_itself}
@@ -169,7 +169,7 @@ has_worker : (p : Option Place) (w : ℕ) → worker_at p ≡ Some w → (place 
 has_worker None w e = cc
 has_worker (Some place) w e = (place, refl, cc)
 
--- who is in the book
+-- which calls are in the book
 pub members_stand : (job : CoreJob) (s : State) → InductiveParts job s → MembershipInvariant job s
 members_stand job s h = record {
   only = λ n leaf kind call place at.

@@ -2,7 +2,7 @@
 use Rattle.std.specs.Prelude.{ℕ, ◌≡◌, ◌<◌, Option, None, Some}
 use Rattle.core_model.proofs.Words.{LeafNode, Nodes, IsBySeries, Progress, Waiting, Ready, Taken, Done, Ran, Task, Idle, Run, Half, Started, Kept, Ended, Whole, Handed}
 
--- what is told of a leaf that has started: its worker, its start, and its end once it has one
+-- the stamp of a started leaf: its worker, its start, and its end once it has one
 pub record Stamp : Type 0 where
   pub worker : ℕ
   pub start : ℕ
@@ -11,7 +11,7 @@ pub record Stamp : Type 0 where
 abbrev pub stamp : ℕ → ℕ → Option ℕ → Stamp
 stamp w s e = record { worker = w; start = s; end = e }
 
--- the stamp that a worker's task tells
+-- the stamp in a worker's task
 abbrev pub stamp_in_task : ℕ → Task → Option Stamp
 stamp_in_task w Idle = None
 stamp_in_task w (Run n) = None

@@ -1,4 +1,4 @@
--- What is carried of the ticks implies what the invariant says of them.
+-- The inductive invariant of the ticks implies what the invariant says of them.
 use Rattle.std.proofs.Common.{ℕ, ◌≡◌, ◌<◌, Option, Some, None, refl, inr, sym, ◌∙◌, ap}
 use Rattle.core_model.specs.Invariant.Ticks.{IsStartedAs, Draw, start_of, end_of, start_by, end_by, IsDrawn, HasStart, HasEnd, TicksInvariant}
 use Rattle.core_model.proofs.Words.{Nodes, Progress, Waiting, Ready, Taken, Done, Ran, Task, Idle, Run, Half, Started, Kept, Ended, Whole, Handed, names}
@@ -41,7 +41,7 @@ module _ (plan : Nodes) (workers : ℕ) (node : ℕ → Progress) (mark : ℕ �
       → (d : Option ℕ) × (stamps node task holder n ≡ Some (stamp w s d)) × ((e : ℕ) → d ≡ Some e → HasEnd node task n w s e)
   has_stamp = stamped plan node mark task holder tasks
 
-  -- what was drawn is told by the tick
+  -- the tick determines its draw
   drawn_is : (a : Draw) (t : ℕ) → IsDrawn node task a t → (a ≡ source node holder (h.draw t)) × (t < tick)
   drawn_is (start_of n) t d =
       let at = h.start_drawn n d.0 t (Some d.1) (rw d.2 refl) in

@@ -1,4 +1,4 @@
--- An arrival keeps all that is carried.
+-- An arrival keeps the inductive invariant.
 use Rattle.std.proofs.Common.{ℕ, ◌≡◌, ◌<◌, Bool, true, Option, Some, None, arith}
 use Rattle.std.proofs.lemmas.Bool.Decides.{nat_tests}
 use Rattle.core_model.proofs.Words.{IsPlan, Progress, Task, Idle, Whole, Handed, Status, CallState, ArriveFirst, ArriveSecond, put, CoreJob, State, is_done}
@@ -12,7 +12,7 @@ use Rattle.core_model.proofs.Inductive.Parts.{InductiveParts}
 use Rattle.core_model.proofs.InvariantLemmas.FinishTasks as leaves
 use Rattle.core_model.proofs.InvariantLemmas.JobSide.{job_keeps}
 
--- a side arrives: the worker lets go of n, which is done
+-- a side arrives: the worker gives up n, which is done
 arrive_same : (node : ℕ → Progress) (task : ℕ → Task) (status : ℕ → Status) (call : ℕ → CallState) (b : Bool) (holder : ℕ → Option ℕ) (w n m : ℕ) → HoldersFit task holder
     → task w ≡ Whole n → is_done (node n) ≡ true
     → (stamps node (put task w Idle) (put holder n None) m ≡ stamps node task holder m)
@@ -20,7 +20,7 @@ arrive_same : (node : ℕ → Progress) (task : ℕ → Task) (status : ℕ → 
     × (valued_by (node m) (put holder n None m) (put task w Idle) ≡ valued_by (node m) (holder m) task)
 arrive_same node task status call b holder w n m h mine done = grind (arith, nat_tests, h.holds w m)
 
--- and so, where it is handed the parent p, which nobody held
+-- and so, where it is handed the parent p, which no worker held
 hand_same : (node : ℕ → Progress) (task : ℕ → Task) (status : ℕ → Status) (call : ℕ → CallState) (b : Bool) (holder : ℕ → Option ℕ) (w n p m : ℕ) → HoldersFit task holder
     → task w ≡ Whole n → is_done (node n) ≡ true → holder p ≡ None
     → (stamps node (put task w (Handed p)) (put (put holder n None) p (Some w)) m ≡ stamps node task holder m)

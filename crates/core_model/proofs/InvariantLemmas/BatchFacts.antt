@@ -1,4 +1,4 @@
--- What a published batch means for statuses, for entries and for who is in the book.
+-- What a published batch means for statuses, for entries and for which calls are in the book.
 use Rattle.std.proofs.Common.{ℕ, ◌≡◌, ◌≢◌, ◌<◌, Bool, true, false, if◌then◌else◌, Option, Some, None, List, [], ◌∷◌, ◌++◌, length, arith, refl, sym, ◌∙◌, ap, length-append}
 use Rattle.core_model.proofs.Words.{Op, LeafNode, Nodes, Entry, Progress, Waiting, Ready, Taken, Done, Ran, Task, Idle, Run, Half, Started, Kept, Ended, Whole, Handed, Status, Executing, CallState, Out, Receipt, CoreJob, Hold, State, names}
 use Rattle.core_model.specs.Operations.{leaf_of, op_of, Place, place_in, or_else, place_of, IsReceipt}
@@ -101,7 +101,7 @@ pub same_worker : (w : ℕ) (y : Place) (task : ℕ → Task) (took : ℕ → Bo
     → (took w ≡ true) × (started_at (task w) ≢ None)
 same_worker w y task took h = grind arith
 
--- who is in the book, once the batch is published
+-- which calls are in the book, once the batch is published
 pub booked_published : (x : Progress) (o : Option ℕ) (p q : Option Place) (task : ℕ → Task) (status : ℕ → Status) (call : ℕ → CallState) (took : ℕ → Bool)
     → worker_at p ≡ booked_by x o task status call false
     → ((w : ℕ) → status w ≡ Executing → took w ≡ true) → ((w : ℕ) → took w ≡ true → status w ≡ Executing)

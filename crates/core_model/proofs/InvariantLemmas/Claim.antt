@@ -1,4 +1,4 @@
--- A claim keeps all that is carried.
+-- A claim keeps the inductive invariant.
 use Rattle.std.proofs.Common.{ℕ, ◌≡◌, ◌<◌, Bool, Option, Some, arith, refl}
 use Rattle.std.proofs.lemmas.Bool.Decides.{nat_tests}
 use Rattle.core_model.proofs.Words.{IsPlan, Progress, Ready, Taken, Task, Idle, Run, Status, CallState, Claim, put, CoreJob, State}
@@ -17,7 +17,7 @@ claim_stamp : (node : ℕ → Progress) (task : ℕ → Task) (holder : ℕ → 
     → stamps (put node n Taken) (put task w (Run n)) (put holder n (Some w)) m ≡ stamps node task holder m
 claim_stamp node task holder w n m h idle ready = grind (arith, nat_tests, h.holds w m)
 
--- nor who is in the book
+-- nor which calls are in the book
 claim_booked : (node : ℕ → Progress) (task : ℕ → Task) (status : ℕ → Status) (call : ℕ → CallState) (b : Bool) (holder : ℕ → Option ℕ) (w n m : ℕ) → HoldersFit task holder → task w ≡ Idle → node n ≡ Ready
     → booked_by (put node n Taken m) (put holder n (Some w) m) (put task w (Run n)) status call b ≡ booked_by (node m) (holder m) task status call b
 claim_booked node task status call b holder w n m h idle ready = grind (arith, nat_tests, h.holds w m)
@@ -27,7 +27,7 @@ claim_valued : (node : ℕ → Progress) (task : ℕ → Task) (holder : ℕ →
     → valued_by (put node n Taken m) (put holder n (Some w) m) (put task w (Run n)) ≡ valued_by (node m) (holder m) task
 claim_valued node task holder w n m h idle ready = grind (arith, nat_tests, h.holds w m)
 
--- all that is carried, after a claim
+-- the inductive invariant, after a claim
 pub claim_keeps : (job : CoreJob) (s : State) (w n : ℕ) → IsPlan job.plan → w < job.workers → InductiveParts job s → Needs job s w (Claim n) → InductiveParts job (record s { node = put s.node n Taken; task = put s.task w (Run n) })
 claim_keeps job s w n laws under h needs =
     job_keeps job s w under (put s.node n Taken) s.mark (Run n) h (put h.holder n (Some w)) needs.0 (rw needs.1 (λ x. x))

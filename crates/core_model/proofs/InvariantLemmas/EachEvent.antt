@@ -1,4 +1,4 @@
--- Each event keeps all that is carried.
+-- Each event keeps the inductive invariant.
 use Rattle.std.proofs.Common.{ℕ, subst, sym}
 use Rattle.core_model.proofs.Words.{IsPlan, Event, Claim, Start, OpenParRight, OpenParLeft, OpenSeqLeft, OpenSeqRight, Post, Win, Take, Publish, Answer, Release, Leave, Keep, End, FinishLeaf, FinishSeq, FinishPar, ArriveFirst, ArriveSecond, CoreJob, State}
 use Rattle.core_model.specs.Events.{Happens}

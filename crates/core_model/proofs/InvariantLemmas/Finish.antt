@@ -1,4 +1,4 @@
--- The three finishes keep all that is carried.
+-- The three finishes keep the inductive invariant.
 use Rattle.std.proofs.Common.{ℕ, ◌≡◌, ◌≢◌, ◌<◌, ◌+◌, ◌⊎◌, Bool, true, Option, Some, None, arith, refl, inl, inr, sym, ◌∙◌, ap, add_comm}
 use Rattle.std.proofs.lemmas.Bool.Decides.{nat_tests}
 use Rattle.std.proofs.lemmas.Bool.{cases_eq}
@@ -16,7 +16,7 @@ use Rattle.core_model.proofs.InvariantLemmas.FinishTasks as leaves
 use Rattle.core_model.proofs.ReportLemmas.RootTasks as roots
 use Rattle.core_model.proofs.InvariantLemmas.JobSide.{still_ran, job_keeps}
 
--- a leaf is done: no stamp changes, nor who is in the book, nor which leaves have their values
+-- a leaf is done: no stamp changes, nor which calls are in the book, nor which leaves have their values
 leaf_same : (node : ℕ → Progress) (task : ℕ → Task) (status : ℕ → Status) (call : ℕ → CallState) (b : Bool) (holder : ℕ → Option ℕ) (w n s e m : ℕ) → HoldersFit task holder
     → task w ≡ Ended n s e → node n ≡ Taken
     → (stamps (put node n (Ran w s e)) (put task w (Whole n)) holder m ≡ stamps node task holder m)
@@ -72,7 +72,7 @@ not_arrive plan k q r p a b e = grind arith
 same_parent : (plan : Nodes) (q p r : ℕ) → IsSide plan q r → IsSide plan p r → q ≡ p
 same_parent plan q p r a b = cc
 
--- nobody holds one of two sides that nobody holds
+-- if neither side has a holder, neither does the one in question
 side_unheld : (holder : ℕ → Option ℕ) (l r m v : ℕ) → (m ≡ l) ⊎ (m ≡ r) → holder l ≡ None → holder r ≡ None → holder m ≢ Some v
 side_unheld holder l r m v which a b e = grind arith
 

@@ -8,7 +8,7 @@ use Rattle.core_model.proofs.InvariantLemmas.Puts.{put_at, put_each}
 use Rattle.core_model.proofs.InvariantLemmas.Holders.{apart, keep_task, drop_task, move_task}
 use Rattle.core_model.proofs.InvariantLemmas.TaskFrames.{finish_task, arrive_task}
 
--- of a side that is counted nobody is the holder
+-- a side that is counted has no holder
 pub passed_free : (a : Bool) (o : Option ℕ) (b : Bool) (q : Option ℕ) → 2 ≡ passed_if a o + passed_if b q → o ≡ None
 passed_free a o b q e = grind arith
 
@@ -26,7 +26,7 @@ whole_left plan node mark p l r seq side done_l done_r t fits name = grind arith
 put_low : (mark : ℕ → ℕ) (p i q : ℕ) → i < 2 → mark q < 2 → put mark p i q < 2
 put_low mark p i q low h = grind (arith, nat_tests)
 
--- a series, when a node that is no side of it is let go
+-- a series, when a node that is no side of it is given up
 arrive_alone_seq : (node : ℕ → Progress) (holder : ℕ → Option ℕ) (n l r : ℕ) → l ≢ n → r ≢ n
     → (node l ≢ Waiting) × (is_done (node l) ≡ true → holder l ≡ None → node r ≢ Waiting) × (is_done (node r) ≡ true → holder r ≢ None)
     → (node l ≢ Waiting) × (is_done (node l) ≡ true → put holder n None l ≡ None → node r ≢ Waiting) × (is_done (node r) ≡ true → put holder n None r ≢ None)
@@ -41,7 +41,7 @@ arrive_alone node mark holder n p i None q low left right h = h
 arrive_alone node mark holder n p i (Some (SeqNode l r)) q low left right h = arrive_alone_seq node holder n l r (left l r refl) (right l r refl) h
 arrive_alone node mark holder n p i (Some (ParNode l r)) q low left right h = (h.0, h.1, put_low mark p i q low h.2)
 
--- a series, when its worker lets go of a node that is no side of it and holds p
+-- a series, when its worker gives up a node that is no side of it and holds p
 hand_alone_seq : (node : ℕ → Progress) (holder : ℕ → Option ℕ) (n p w l r : ℕ) → l ≢ n → r ≢ n
     → (node l ≢ Waiting) × (is_done (node l) ≡ true → holder l ≡ None → node r ≢ Waiting) × (is_done (node r) ≡ true → holder r ≢ None)
     → (node l ≢ Waiting) × (is_done (node l) ≡ true → put (put holder n None) p (Some w) l ≡ None → node r ≢ Waiting) × (is_done (node r) ≡ true → put (put holder n None) p (Some w) r ≢ None)
@@ -105,7 +105,7 @@ module _ (plan : Nodes) (node : ℕ → Progress) (mark : ℕ → ℕ) (task : �
   pub par_side : (p l r m : ℕ) → plan.kind p ≡ Some (ParNode l r) → IsSide plan p m → (m ≡ l) ⊎ (m ≡ r)
   par_side p l r m par side = rw par at (laws.has_side p m side)
 
-  -- nobody is handed a block with no mark
+  -- no worker is handed a block with no mark
   not_full : (t : Task) (p : ℕ) → TaskFits plan node mark t → mark p ≡ 0 → t ≢ Handed p
   not_full t p fits none e = grind arith
 
@@ -151,7 +151,7 @@ module _ (plan : Nodes) (node : ℕ → Progress) (mark : ℕ → ℕ) (task : �
       let after_l : plan.after l ≡ OpenSecond p = laws.left_of_seq p l r seq in
       grind arith
 
-  -- so nobody holds it
+  -- so no worker holds it
   pub seq_free : (p l r : ℕ) → plan.kind p ≡ Some (SeqNode l r) → node p ≡ Taken → is_done (node l) ≡ true → is_done (node r) ≡ true → holder p ≡ None
   seq_free p l r seq taken done_l done_r =
       elim (holder p) as (λ o. holder p ≡ o → holder p ≡ None) [
@@ -238,7 +238,7 @@ module _ (plan : Nodes) (node : ℕ → Progress) (mark : ℕ → ℕ) (task : �
         marks = λ q k m e. grind (arith, nat_tests, h.marks q k m e, laws.left_of_par q k m e, laws.right_of_par q k m e, laws.apart q k m e);
       }
 
-  -- as the second side arrives at a block, the block is taken, both its sides are done, and nobody holds it
+  -- as the second side arrives at a block, the block is taken, both its sides are done, and no worker holds it
   second_finds : (p l r n : ℕ) → task w ≡ Whole n → plan.kind p ≡ Some (ParNode l r) → IsSide plan p n → mark p ≡ 1
       → (node p ≡ Taken) × (is_done (node l) ≡ true) × (is_done (node r) ≡ true) × (holder p ≡ None)
   second_finds p l r n mine par side one =

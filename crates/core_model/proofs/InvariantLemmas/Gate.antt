@@ -1,4 +1,4 @@
--- The events of the gate, but for the publishing one, keep all that is carried.
+-- The events of the gate, but for the publishing one, keep the inductive invariant.
 use Rattle.std.proofs.Common.{ℕ, ◌≡◌, ◌≢◌, ◌<◌, ◌&&◌, not, Bool, true, false, if◌then◌else◌, Option, Some, None, List, arith, refl, inl, inr, subst, sym, ◌∙◌, ap}
 use Rattle.std.proofs.lemmas.Bool.Decides.{nat_tests}
 use Rattle.std.proofs.lemmas.Bool.{cases_eq}
@@ -39,7 +39,7 @@ two_rows job book task status call taken w st c h here v = elim (cases_eq v w) [
   | inr e ↦ rw (put_other status w v st e, put_other call w v c e) (h v)
 ]
 
--- all that is carried, after an event that changes statuses, calls and the hold alone, and not who is in the book
+-- the inductive invariant, after an event that changes only statuses, calls and the hold, and no membership in the book
 gate_keeps : (job : CoreJob) (s : State) (status : ℕ → Status) (call : ℕ → CallState) (hold : Option Hold) → InductiveParts job s
     → ((v : ℕ) → StatusFits job s.book (s.task v) (status v) (call v) (is_taken_by hold v)) → HoldInvariant job.workers status call hold
     → ((x : Progress) (o : Option ℕ) → booked_by x o s.task status call (is_published hold) ≡ booked_by x o s.task s.status s.call (is_published s.hold))
@@ -57,7 +57,7 @@ gate_keeps job s status call hold h rows holds same = record {
   values = h.values;
 }
 
--- a post changes not who is in the book
+-- a post does not change which calls are in the book
 post_booked : (x : Progress) (o : Option ℕ) (task : ℕ → Task) (status : ℕ → Status) (call : ℕ → CallState) (b : Bool) (w : ℕ) → status w ≡ Free → call w ≡ NotCalled
     → booked_by x o task (put status w Pending) (put call w Out) b ≡ booked_by x o task status call b
 post_booked x o task status call b w free called = grind (arith, nat_tests)
@@ -80,7 +80,7 @@ post_keeps job s w n t h needs =
     (post_hold job.workers s.status s.call w s.hold needs.3 h.hold)
     (λ x o. post_booked x o s.task s.status s.call (is_published s.hold) w needs.0 needs.3)
 
--- a new hold changes not who is in the book
+-- a new hold does not change which calls are in the book
 win_booked : (x : Progress) (o : Option ℕ) (task : ℕ → Task) (status : ℕ → Status) (call : ℕ → CallState) (h : Option Hold) (w : ℕ) → h ≡ None
     → booked_by x o task status call false ≡ booked_by x o task status call (is_published h)
 win_booked x o task status call h w e = grind arith
@@ -153,7 +153,7 @@ answer_keeps job s w u r h needs =
     (rw there (answer_hold job.workers s.status s.call hd u r needs.2 needs.3 hold))
     (λ x o. rw there (answer_booked x o s.task s.status s.call hd.published u r ex needs.2))
 
--- a look that takes changes not who is in the book
+-- a look that takes does not change which calls are in the book
 take_booked : (x : Progress) (o : Option ℕ) (job : CoreJob) (book : List (List Entry)) (task : ℕ → Task) (status : ℕ → Status) (call : ℕ → CallState) (u : ℕ) (taken : Bool) → status u ≡ Pending
     → StatusFits job book (task u) (status u) (call u) taken
     → booked_by x o task (put status u Executing) call false ≡ booked_by x o task status call false
@@ -197,7 +197,7 @@ not_told workers status call h u at hf = grind (arith, hf.5 u, hf.2 u)
 told_row : (took told : Bool) → took ≡ true → told ≡ false → true ≡ (took && not told)
 told_row took told e f = grind arith
 
--- the rows, the hold and who is in the book, after a look
+-- the rows, the hold and which calls are in the book, after a look
 pending_row : (job : CoreJob) (s : State) (hd : Hold) (u : ℕ) (b : Bool) → is_pending (s.status u) ≡ b → hd.looks < job.workers → u ≡ hd.looks
     → HoldInvariant job.workers s.status s.call (Some hd)
     → ((v : ℕ) → StatusFits job s.book (s.task v) (s.status v) (s.call v) (is_taken_by (Some hd) v))
@@ -251,7 +251,7 @@ leave_keeps job s w r h needs =
 pub no_more : (job : CoreJob) (book : List (List Entry)) (t : Task) (st : Status) (c : CallState) (took told : Bool) → (took ≡ true → told ≡ true) → StatusFits job book t st c (took && not told) → StatusFits job book t st c false × (st ≢ Executing)
 no_more job book t st c took told same h = grind arith
 
--- a release changes not who is in the book
+-- a release does not change which calls are in the book
 release_booked : (x : Progress) (o : Option ℕ) (task : ℕ → Task) (status : ℕ → Status) (call : ℕ → CallState) (b : Bool) → ((v : ℕ) → status v ≢ Executing)
     → booked_by x o task status call false ≡ booked_by x o task status call b
 release_booked x o task status call b none = grind (arith)

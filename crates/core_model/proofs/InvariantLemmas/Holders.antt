@@ -25,7 +25,7 @@ keep_task task holder w t h same = record {
   holds = λ v m e. grind (arith, nat_tests, h.holds);
 }
 
--- its task lets go of the node
+-- its task gives up the node
 pub drop_task : (task : ℕ → Task) (holder : ℕ → Option ℕ) (w n : ℕ) (t : Task) → HoldersFit task holder
     → names (task w) ≡ Some n → names t ≡ None → HoldersFit (put task w t) (put holder n None)
 drop_task task holder w n t h name idle = record {
@@ -33,7 +33,7 @@ drop_task task holder w n t h name idle = record {
   holds = λ v m e. grind (arith, nat_tests, h.holds);
 }
 
--- its task lets go of one node and takes another
+-- its task gives up one node and takes another
 pub move_task : (task : ℕ → Task) (holder : ℕ → Option ℕ) (w m n : ℕ) (t : Task) → HoldersFit task holder
     → names (task w) ≡ Some m → names t ≡ Some n → holder n ≡ None → HoldersFit (put task w t) (put (put holder m None) n (Some w))
 move_task task holder w m n t h name next free = record {

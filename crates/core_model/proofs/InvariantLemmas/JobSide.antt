@@ -1,4 +1,4 @@
--- What is left of all that is carried, where an event changes nodes, marks and the worker's task.
+-- The rest of the inductive invariant, where an event changes nodes, marks and the worker's task.
 use Rattle.std.proofs.Common.{ℕ, ◌≡◌, ◌<◌, Bool, false, Option, Some, List, arith, refl, inl, inr, subst, sym, ◌∙◌}
 use Rattle.std.proofs.lemmas.Bool.{cases_eq}
 use Rattle.std.proofs.lemmas.Bool.Decides.{nat_tests}
@@ -35,7 +35,7 @@ same_book job s old new same h = subst (InductiveBook job s.book s.objects) (λ 
 pub still_ran : (node : ℕ → Progress) (n : ℕ) (x : Progress) → is_done (node n) ≡ false → (m v a e : ℕ) → node m ≡ Ran v a e → put node n x m ≡ Ran v a e
 still_ran node n x undone m v a e ran = grind (arith, nat_tests)
 
--- all that is carried, after an event that changes nodes, marks and the worker's task, but no stamp and no value
+-- the inductive invariant, after an event that changes nodes, marks and the worker's task, but no stamp and no value
 pub job_keeps : (job : CoreJob) (s : State) (w : ℕ) → w < job.workers → (node : ℕ → Progress) (mark : ℕ → ℕ) (t : Task) (h : InductiveParts job s) (holder : ℕ → Option ℕ) → s.status w ≡ Free → (IsAtCall job (s.task w) → ⊥)
     → InductiveNodes job.plan node → InductiveTasks job.plan node mark (put s.task w t) holder
     → ((m : ℕ) → stamps node (put s.task w t) holder m ≡ stamps s.node s.task h.holder m)

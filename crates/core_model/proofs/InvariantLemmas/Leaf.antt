@@ -1,4 +1,4 @@
--- A start and an end keep all that is carried.
+-- A start and an end keep the inductive invariant.
 use Rattle.std.proofs.Common.{ℕ, ◌≡◌, ◌≢◌, ◌<◌, ◌+◌, Bool, Option, Some, None, List, arith, refl, inl, inr, subst, sym, ◌∙◌, ap}
 use Rattle.std.proofs.lemmas.Bool.Decides.{nat_tests}
 use Rattle.std.proofs.lemmas.Bool.{cases_eq}
@@ -120,7 +120,7 @@ out_of_book job s u entries call = elim (place_of s.book u) as (λ o. place_of s
   | Some p ↦ λ e. call (λ f. let g = (entries p e).0 in cc)
 ] refl
 
--- all that is carried, after a start
+-- the inductive invariant, after a start
 pub start_keeps : (job : CoreJob) (s : State) (w n : ℕ) → IsPlan job.plan → w < job.workers → InductiveParts job s → Needs job s w (Start n) → InductiveParts job (record s { tick = s.tick + 1; task = put s.task w (Started n s.tick) })
 start_keeps job s w n laws below h needs =
     let mine : s.task w ≡ Run n = needs.1 in
@@ -188,7 +188,7 @@ kept_stamp : (node : ℕ → Progress) (task : ℕ → Task) (holder : ℕ → O
     → stamps node task holder n ≡ Some (stamp w t None)
 kept_stamp node task holder w n t h mine taken = grind (arith, h.named w n)
 
--- all that is carried, after an end
+-- the inductive invariant, after an end
 pub end_keeps : (job : CoreJob) (s : State) (w n t : ℕ) → IsPlan job.plan → w < job.workers → InductiveParts job s → Needs job s w (End n t) → InductiveParts job (record s { tick = s.tick + 1; task = put s.task w (Ended n t s.tick) })
 end_keeps job s w n t laws below h needs =
     let mine : s.task w ≡ Kept n t = needs.1 in

@@ -1,4 +1,4 @@
--- The four opens keep all that is carried.
+-- The four opens keep the inductive invariant.
 use Rattle.std.proofs.Common.{ℕ, ◌≡◌, ◌<◌, ◌⊎◌, Bool, true, Option, Some, None, arith, refl, inl, inr, ap}
 use Rattle.std.proofs.lemmas.Bool.Decides.{nat_tests}
 use Rattle.core_model.proofs.Words.{SeqNode, ParNode, Nodes, IsPlan, IsSide, parent_of, Progress, Waiting, Ready, Taken, Task, Idle, Run, Half, Whole, Status, CallState, OpenParRight, OpenParLeft, OpenSeqLeft, OpenSeqRight, put, CoreJob, State, is_done, names}
@@ -13,7 +13,7 @@ use Rattle.core_model.proofs.InvariantLemmas.NodeSteps.{open_nodes}
 use Rattle.core_model.proofs.InvariantLemmas.OpenTasks as opens
 use Rattle.core_model.proofs.InvariantLemmas.JobSide.{still_ran, job_keeps}
 
--- a node opens: nothing changes in stamps and in who is in the book
+-- a node opens: nothing changes in stamps and in which calls are in the book
 open_same : (node : ℕ → Progress) (task : ℕ → Task) (status : ℕ → Status) (call : ℕ → CallState) (b : Bool) (holder holds : ℕ → Option ℕ) (w n k m : ℕ) (t : Task) → HoldersFit task holder
     → node n ≡ Waiting → names (task w) ≡ Some k → (names t ≡ Some k → holds m ≡ holder m) → (names t ≡ None → holds m ≡ put holder k None m) → t ≡ Half k ⊎ t ≡ Idle
     → task w ≡ Run k ⊎ (task w ≡ Half k ⊎ task w ≡ Whole k)

@@ -1,4 +1,4 @@
--- The opening state has all that is carried.
+-- The opening state has the inductive invariant.
 use Rattle.std.proofs.Common.{ℕ, ◌≡◌, ◌≢◌, Bool, false, Option, None, arith, refl, sym, ap}
 use Rattle.std.proofs.lemmas.Bool.Decides.{nat_tests}
 use Rattle.core_model.proofs.Words.{Nodes, IsPlan, parent_of, Progress, Waiting, Ready, Taken, Task, Idle, Status, Free, CallState, NotCalled, put, CoreJob}
@@ -52,7 +52,7 @@ opening_ticks plan workers stamps node none = record {
   one_at_once = λ n m w s t d e i j l. let f = none n in cc;
 }
 
--- nobody is in the book
+-- no worker is in the book
 opening_booked : (n : ℕ) (task : ℕ → Task) (status : ℕ → Status) (call : ℕ → CallState) (b : Bool)
     → booked_by (put (λ n. Waiting) 0 Ready n) None task status call b ≡ None
 opening_booked n task status call b = grind (arith, nat_tests)

@@ -1,4 +1,4 @@
--- Publishing keeps all that is carried.
+-- Publishing keeps the inductive invariant.
 use Rattle.std.proofs.Common.{ℕ, ◌≡◌, ◌≢◌, ◌<◌, Bool, true, false, Option, Some, None, List, [], ◌∷◌, ◌++◌, length, map, arith, refl, inl, inr, subst, sym, ◌∙◌, ap}
 use Rattle.std.proofs.lemmas.List.{map-append}
 use Rattle.std.specs.List.{AllByRecursion}
@@ -76,7 +76,7 @@ batch_fits job s hd holder b laws holders there batch = record {
   each = λ w n took at. has_entry job s holder b w n laws holders batch (rw there took) at;
 }
 
--- where there is no worker, there is no entry
+-- a lookup without a worker found no entry
 pub no_entry : (p : Option Place) → worker_at p ≡ None → p ≡ None
 no_entry None e = refl
 no_entry (Some p) e = cc
@@ -122,7 +122,7 @@ valued_is_booked x o task status call b valued none = grind arith
 pub there_if : (p : Option Place) (o : Option ℕ) → worker_at p ≡ o → o ≢ None → p ≢ None
 there_if p o e there none = grind arith
 
--- all that is carried, after a batch is published
+-- the inductive invariant, after a batch is published
 pub publish_keeps : (job : CoreJob) (s : State) (w : ℕ) (b : List Entry) → IsPlan job.plan → InductiveParts job s → Needs job s w Publish → IsBatchOf job s b
     → InductiveParts job (record s { book = s.book ++ b ∷ []; objects = served s.objects b; hold = published s.hold })
 publish_keeps job s w b laws h needs batch =

@@ -11,7 +11,7 @@ use Rattle.core_model.proofs.InvariantLemmas.Opening.{opening_kept}
 use Rattle.core_model.proofs.Inductive.PartsHold.{parts_stand}
 use Rattle.core_model.proofs.InvariantLemmas.ReadyLists.{opening_lists, lists_after, lists_fit}
 
--- what is carried of a state and of its lists
+-- the inductive invariant of a state and of its lists
 record Carried (job : CoreJob) (s : CoreState) : Type 0 where
   parts : InductiveParts job s.state
   lists : InductiveLists job.workers s.state.node s.ready
@@ -45,7 +45,7 @@ module _ (job : CoreJob) (laws : IsPlan job.plan) (root : job.plan.kind 0 ≢ No
   pub opening_invariant : Invariant job opening_core
   opening_invariant = carried_holds job opening_core (opening_carried job laws root some)
 
-  -- what is carried of its state, without the lists
+  -- the inductive invariant of its state, without the lists
   pub reached_parts : (s : CoreState) → IsReached job s → InductiveParts job s.state
   reached_parts s reached = (reached_carried s reached).parts
 

@@ -137,11 +137,11 @@ is_ready Taken o w h = absurd (h refl)
 is_ready Done o w h = absurd (h refl)
 is_ready (Ran a b c) o w h = absurd (h refl)
 
--- a ready node is to stand at its home alone
+-- a ready node is in one worker's list, its home, and in no other
 at_home : (x : Progress) (w : ℕ) → x ≡ Ready → (stands_in x (Some w) w ≡ 1) × ((v : ℕ) → v ≢ w → stands_in x (Some w) v ≡ 0)
 at_home x w ready = (grind (arith, nat_tests), λ v other. grind (arith, nat_tests))
 
--- what is carried of the lists implies what the invariant says of them
+-- the inductive invariant of the lists implies what the invariant says of them
 pub lists_fit : (workers : ℕ) (node : ℕ → Progress) (ready : ℕ → List ℕ) → InductiveLists workers node ready → ReadyListsInvariant workers node ready
 lists_fit workers node ready h = record {
   each = λ n e. one n e (h.home n) refl;

@@ -34,7 +34,7 @@ pub named_state : (plan : Nodes) (node : ℕ → Progress) (mark : ℕ → ℕ) 
     → (node n ≡ Taken) ⊎ (is_done (node n) ≡ true)
 named_state plan node mark t n h name = grind (arith, nat_tests)
 
--- nobody holds a node that is waiting or ready
+-- no worker holds a node that is waiting or ready
 pub unheld : (plan : Nodes) (node : ℕ → Progress) (mark : ℕ → ℕ) (task : ℕ → Task) (holder : ℕ → Option ℕ) (n : ℕ) → InductiveTasks plan node mark task holder
     → node n ≢ Taken → is_done (node n) ≡ false → holder n ≡ None
 unheld plan node mark task holder n h taken done =

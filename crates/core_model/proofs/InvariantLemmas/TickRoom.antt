@@ -12,7 +12,7 @@ abbrev code : Drawn → ℕ
 code (StartOf n) = 2 * n
 code (EndOf n) = 2 * n + 1
 
--- the codes of the draws of so many ticks
+-- the codes of the draws of the ticks
 abbrev codes : (ℕ → Drawn) → ℕ → List ℕ
 codes draw zero = []
 codes draw (suc k) = code (draw k) ∷ codes draw k

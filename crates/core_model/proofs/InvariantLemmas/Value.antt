@@ -1,4 +1,4 @@
--- That a leaf has its value keeps all that is carried.
+-- That a leaf has its value keeps the inductive invariant.
 use Rattle.std.proofs.Common.{ℕ, ◌≡◌, ◌≢◌, ◌<◌, Bool, Option, Some, None, List, arith, refl, inl, inr, sym, ◌∙◌}
 use Rattle.std.proofs.lemmas.Bool.Decides.{nat_tests}
 use Rattle.std.proofs.lemmas.Bool.{cases_eq}
@@ -36,7 +36,7 @@ got (Call op) NotCalled v e f = cc
 got (Call op) Out v e f = cc
 got (Call op) (Got r) v e f = (r, refl)
 
--- who is in the book
+-- which calls are in the book
 kept_booked : (node : ℕ → Progress) (task : ℕ → Task) (status : ℕ → Status) (call : ℕ → CallState) (b : Bool) (holder : ℕ → Option ℕ) (w n t m : ℕ) → HoldersFit task holder → task w ≡ Started n t
     → (m ≡ n → (r : Receipt) × (call w ≡ Got r))
     → booked_by (node m) (holder m) (put task w (Kept n t)) status (put call w NotCalled) b ≡ booked_by (node m) (holder m) task status call b
@@ -58,7 +58,7 @@ kept_valued : (node : ℕ → Progress) (task : ℕ → Task) (holder : ℕ → 
     → valued_by (node m) (holder m) (put task w (Kept n t)) ≡ valued_by (node m) (holder m) task
 kept_valued node task holder w n t m h mine other = grind (arith, nat_tests, h.holds w m)
 
--- all that is carried, after a value is kept
+-- the inductive invariant, after a value is kept
 pub keep_keeps : (job : CoreJob) (s : State) (w n t v : ℕ) → IsPlan job.plan → w < job.workers → InductiveParts job s → Needs job s w (Keep n t v) → InductiveParts job (record s { value = put s.value n (Some v); call = put s.call w NotCalled; task = put s.task w (Kept n t) })
 keep_keeps job s w n t v laws below h needs =
     let mine : s.task w ≡ Started n t = needs.1 in

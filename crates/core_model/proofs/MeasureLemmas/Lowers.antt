@@ -16,7 +16,7 @@ use Rattle.core_model.proofs.ChoiceLemmas.Choices.{choice_needs}
 use Rattle.core_model.proofs.MeasureLemmas.Jobs.{claim_lowers, start_lowers, open_right_lowers, open_left_lowers, open_first_lowers, open_second_lowers, end_lowers, arrive_first_lowers, arrive_second_lowers, finish_leaf_lowers, finish_seq_lowers, finish_par_lowers}
 use Rattle.core_model.proofs.MeasureLemmas.Gate.{keep_lowers, post_lowers, win_lowers, take_lowers, publish_lowers, answer_lowers, release_lowers, leave_lowers}
 
--- an event lowers the count; a worker that wins the flag is to be pending, since one that is served could do so for ever
+-- an event lowers the measure, if a winner of the flag is pending: a served worker could win again and again
 pub event_lowers : (job : CoreJob) (s : State) (w : ℕ) (event : Event) (new : State) → IsPlan job.plan → w < job.workers → InductiveParts job s → Needs job s w event
     → (event ≡ Win → s.status w ≡ Pending) → Does job s w event new → measure job new < measure job s
 event_lowers job s w (Claim n) new laws below h needs turns does = rw does (claim_lowers job s w below laws h n needs)

@@ -15,7 +15,7 @@ pub same_some : (x y : ℕ) → Some x ≡ Some y → x ≡ y
 same_some x y h = cc
 
 module _ (job : CoreJob) (s : State) where
-  -- a row is told by its leaf
+  -- a row is determined by its leaf
   one_row : (a b : Row) → a.leaf ≡ b.leaf → IsRowOf job s a → IsRowOf job s b → a ≡ b
   one_row a b leaf h g =
       let ran = same_ran a.worker b.worker a.start b.start a.end b.end (sym h.ran ∙ ap (λ l. s.node (job.plan.node_of l)) leaf ∙ g.ran) in

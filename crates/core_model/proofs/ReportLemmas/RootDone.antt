@@ -1,4 +1,4 @@
--- As the root is done, all is done: each node, and nobody has a task, a call or the flag.
+-- Once the root is done, all is done: each node is done, and no worker has a task, a call or the flag.
 use Rattle.std.proofs.Common.{ℕ, zero, suc, ◌≡◌, ◌≢◌, ◌<◌, Option, None, Some, true, arith, refl, sym, ◌∙◌}
 use Rattle.core_model.proofs.Words.{Kind, Move, Root, OpenSecond, FinishParent, Arrive, Nodes, IsPlan, HasSide, IsSide, Progress, Taken, Task, Idle, Run, Half, Started, Kept, Ended, Whole, Handed, Status, Free, Pending, Executing, Served, Out, CoreJob, Hold, State, is_done}
 use Rattle.sp_order.specs.Plans.{itself}
@@ -59,11 +59,11 @@ module _ (job : CoreJob) (s : State) (laws : IsPlan job.plan) (h : Parts job s) 
     no None e = let waits = sym (h.nodes.outside n e) ∙ taken in cc
     no (Some kind) e = let d = each_done n (λ none. let f = sym e ∙ none in cc) in let f = rw taken at d in cc
 
-  -- nobody has a task
+  -- no worker has a task
   pub each_idle : (w : ℕ) → s.task w ≡ Idle
   each_idle w = no_task (s.task w) job.plan s.node s.mark none_taken (h.tasks.says w)
 
-  -- nobody waits for a call
+  -- no worker waits for a call
   none_out : (w : ℕ) → s.call w ≢ Out
   none_out w out = let at : IsAtCall job Idle = rw (each_idle w) at (h.statuses.at_call w (λ e. let f = sym e ∙ out in cc)) in at
 
@@ -71,7 +71,7 @@ module _ (job : CoreJob) (s : State) (laws : IsPlan job.plan) (h : Parts job s) 
   pub each_free : (w : ℕ) → s.status w ≡ Free
   each_free w = is_free (s.status w) (λ trapped. none_out w ((h.statuses.out w).1 trapped))
 
-  -- and nobody has the flag
+  -- and no worker has the flag
   pub no_hold : s.hold ≡ None
   no_hold = none (s.hold) refl where
     none : (hold : Option Hold) → s.hold ≡ hold → s.hold ≡ None

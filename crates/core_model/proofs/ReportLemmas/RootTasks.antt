@@ -19,7 +19,7 @@ root_alone_par : (node : ℕ → Progress) (mark : ℕ → ℕ) (n l r q : ℕ) 
     → (node l ≢ Waiting) × (node r ≢ Waiting) × (mark q < 2) → (put node n x l ≢ Waiting) × (put node n x r ≢ Waiting) × (mark q < 2)
 root_alone_par node mark n l r q x done h = grind (arith, nat_tests)
 
--- what no task names stays so, when the root n is done and its worker lets go of k
+-- what no task names stays so, when the root n is done and its worker gives up k
 root_alone : (node : ℕ → Progress) (mark : ℕ → ℕ) (holder : ℕ → Option ℕ) (n k : ℕ) (x : Progress) (a : Option Kind) (q : ℕ) → is_done x ≡ true
     → ((l r : ℕ) → a ≡ Some (SeqNode l r) → (l ≢ n) × (r ≢ n) × (l ≢ k) × (r ≢ k))
     → LeftAlone a node mark holder q → LeftAlone a (put node n x) mark (put holder k None) q
@@ -34,11 +34,11 @@ module _ (plan : Nodes) (node : ℕ → Progress) (mark : ℕ → ℕ) (task : �
   pub not_top : (n q l : ℕ) → plan.after n ≡ Root → IsSide plan q l → l ≢ n
   not_top n q l top side e = grind arith
 
-  -- the sides of another node are neither the root nor the node that is let go
+  -- the sides of another node are neither the root nor the node that is given up
   away : (n k q l r : ℕ) → plan.after n ≡ Root → ((p : ℕ) → IsSide plan p k → p ≡ n) → q ≢ n → IsSide plan q l → IsSide plan q r → (l ≢ n) × (r ≢ n) × (l ≢ k) × (r ≢ k)
   away n k q l r top under apart a b = (λ e. not_top n q l top a e, λ e. not_top n q r top b e, λ e. apart (under q (rw e at a)), λ e. apart (under q (rw e at b)))
 
-  -- a node that is taken and that nobody holds then was so before
+  -- a node that is taken and that no worker holds then was so before
   root_free : (n k q : ℕ) (x : Progress) → node n ≡ Taken → is_done x ≡ true → (k ≡ n) ⊎ (is_done (node k) ≡ true) → put node n x q ≡ Taken → put holder k None q ≡ None → holder q ≡ None
   root_free n k q x taken done held t nobody = grind (arith, nat_tests)
 

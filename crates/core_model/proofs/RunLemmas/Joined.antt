@@ -1,4 +1,4 @@
--- Runs whose report is told: those that turns drive, and those that go on from a state that was reached.
+-- Reports of runs: those that turns drive, and those that continue from a reached state.
 use Rattle.std.proofs.Common.{ℕ, ◌≡◌, Option, None, Some, List, [], ◌∷◌, ◌++◌, subst}
 use Rattle.batch_history.specs.declared.report.Report.{Report}
 use Rattle.core_model.proofs.Words.{CoreJob, CoreState}

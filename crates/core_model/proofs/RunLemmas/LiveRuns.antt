@@ -114,7 +114,7 @@ one_live_end job live s a b robin (past_stopped going off drives) g = elim (begu
   | inr (inr past) ↦ one_live_end job live s a b ((robin + 1) % job.workers) drives past.1
 ]
 
--- where those that have stopped have no task, the live ones bring the root to its end
+-- if the stopped workers have no task, the live ones complete the root
 module _ (job : CoreJob) (tree : Tree) (laws : IsPlan job.plan) (plan : IsPlanOf job.plan tree) (live : ℕ → Bool) (one : ℕ) (below : one < job.workers) (on : live one ≡ true) where
   abbrev StoppedIdle : CoreState → Type 0
   StoppedIdle s = (w : ℕ) → w < job.workers → live w ≡ false → s.state.task w ≡ Idle

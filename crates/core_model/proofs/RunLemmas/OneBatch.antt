@@ -40,7 +40,7 @@ entry_same a b w l o r = λ i. record { worker = w i; leaf = l i; op = o i; repl
 abbrev IsFirst : Entry → Entry → Type 0
 IsFirst a b = ComesFirst a.op a.worker b.op b.worker
 
--- entries of which the worker tells the leaf and the operation
+-- lists of entries in which the worker determines the leaf and the operation
 module _ (P : Entry → Type 0) (tells : (a b : Entry) → P a → P b → a.worker ≡ b.worker → (a.leaf ≡ b.leaf) × (a.op ≡ b.op)) where
   first_or : (x y : Entry) (ys : List Entry) → P x → AllByRecursion P ys → AllByRecursion (IsFirst y) ys → HasWorker (y ∷ ys) x.worker → (x.worker ≡ y.worker) ⊎ IsFirst y x
   first_or x y ys is all later (inl e) = inl (sym e)
@@ -95,7 +95,7 @@ module _ (P : Entry → Type 0) (tells : (a b : Entry) → P a → P b → a.wor
       let same : xs ≡ ys = one_order (λ w. Q w × (x.worker ≢ w)) (after objects x.op) xs ys (tail Q objects x xs h) more in
       λ i. head i ∷ same i
 
--- the worker of a taken call tells its leaf and its operation
+-- the worker of a taken call determines its leaf and its operation
 taken_tells : (job : CoreJob) (s : State) (a b : Entry) → IsTakenCall job s a → IsTakenCall job s b → a.worker ≡ b.worker → (a.leaf ≡ b.leaf) × (a.op ≡ b.op)
 taken_tells job s a b p q same =
     let task = p.started.2 in

@@ -1,4 +1,4 @@
--- A run by turns keeps what the proofs carry, and has no more events than the opening's count.
+-- A run by turns keeps the inductive invariant, and has no more events than the opening's count.
 use Rattle.std.proofs.Common.{ℕ, ◌≢◌, ◌<◌, ◌≤◌, ◌+◌, ◌*◌, None, List, [], ◌∷◌, length, arith, subst, sym, ap}
 use Rattle.core_model.proofs.Words.{IsPlan, Event, CoreJob, CoreState}
 use Rattle.core_model.specs.State.{opening_state, opening_core}
@@ -11,7 +11,7 @@ use Rattle.core_model.proofs.InvariantLemmas.Opening.{opening_kept}
 use Rattle.core_model.proofs.InvariantLemmas.ReadyLists.{opening_lists, lists_after, lists_fit}
 use Rattle.core_model.proofs.MeasureLemmas.Lowers.{turn_lowers, opening_fuel}
 
--- what is carried of a state and of its lists stays from step to step
+-- the inductive invariant of a state and of its lists stays from step to step
 pub step_parts : (job : CoreJob) (old new : CoreState) (w : ℕ) (event : Event) → IsPlan job.plan → InductiveParts job old.state → IsStep job old w event new → InductiveParts job new.state
 step_parts job old new w event laws h step = event_keeps job old.state new.state w event laws h step.happens
 

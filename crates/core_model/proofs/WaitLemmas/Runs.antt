@@ -8,7 +8,7 @@ use Rattle.core_model.proofs.Inductive.PartsHold.{parts_stand}
 use Rattle.core_model.proofs.WaitLemmas.Places.{receipt_of, receipt_by}
 use Rattle.core_model.proofs.WaitLemmas.Keeps.{waits_from_now, waits_kept}
 
--- what is carried stays
+-- the inductive invariant is preserved
 pub along_kept : (job : CoreJob) (w : ℕ) (first last : State) → IsPlan job.plan → InductiveParts job first → StaysTrapped job w first last → InductiveParts job last
 along_kept job w first last laws h (at_once trapped) = h
 along_kept job w first last laws h (by_event {old = old} {new = new} {worker = worker} {event = event} before happens trapped) =

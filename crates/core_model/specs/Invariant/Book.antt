@@ -1,4 +1,4 @@
--- The book.
+-- The invariant of the book.
 use Rattle.seq_objects.specs.Objects as objects
 use Rattle.batch_history.specs.Book.{IsBatch, IsLegal, flat}
 use Rattle.core_model.specs.Invariant.Ticks.{HasEnd, HasStart}
@@ -10,19 +10,19 @@ use Rattle.sp_order.specs.declared.node.Kind.TheVariants.{LeafNode}
 use Rattle.std.specs.List.{AllByRecursion}
 use Rattle.std.specs.Prelude.{Some, map, ℕ, ◌<◌, ◌≡◌}
 
--- The book.
+-- The entries of the book, and their order.
 pub record BookInvariant (job : CoreJob) (s : State) : Type 0 where
-  -- it is legal, and the objects are those after serving it
+  -- the book is legal, and the objects are those after serving it
   pub legal : IsLegal s.book
   pub objects_after : s.objects ≡ served objects.opening (flat s.book)
-  -- no batch is empty, and each is in batch order and has distinct workers, all of them among those that there are
+  -- each batch is not empty, in batch order and of distinct workers; all workers are workers of the job
   pub batches : AllByRecursion IsBatch s.book
   pub among : AllByRecursion (λ entry. entry.worker < job.workers) (flat s.book)
-  -- its leaves are distinct, each a leaf of the job that calls, with its operation
+  -- the leaves are distinct, and each is a calling leaf with its operation
   pub leaves : AreDistinct (map (λ entry. entry.leaf) (flat s.book))
   pub operations : AllByRecursion (λ entry. op_of job.act s.book entry.leaf ≡ Some entry.op) (flat s.book)
-  -- where a leaf u that calls has an end, and an entry's leaf v has a start above that end, u stands in an earlier
-  -- batch than v
+  -- real-time order: if calling leaf `u` ended before leaf `v` started and `v` has an entry, `u` has one in an earlier
+  -- batch
   pub in_order : (n m u v w x a b d : ℕ) → job.plan.kind n ≡ Some (LeafNode u) → job.plan.kind m ≡ Some (LeafNode v) → IsCall job u
       → HasEnd s.node s.task n w a d → HasStart s.node s.task m x b → d < b
       → (later : Place) → place_of s.book v ≡ Some later

@@ -1,5 +1,5 @@
-//! The laws of the book, each as the contract of a function that does nothing: where entries stand in it, which ones an
-//! event adds, which one a worker's receipt is of, and how many there can be.
+//! The laws of the book: where entries are, which entries an event adds, whose entry a receipt describes, and how many
+//! entries there can be. Each law is the contract of an empty function.
 ghost use Rattle.std.specs.Prelude.{◌≡◌, ◌≢◌, ℕ, ◌<◌, ◌≤◌, ◌+◌, ◌⊎◌, true, false, None, Some, List, [], ◌∷◌, ◌++◌, length, map, Contains};
 ghost use Rattle.std.specs.List.{AllByRecursion};
 ghost use Rattle.seq_objects.specs.Pairs.{AreDistinct};
@@ -26,9 +26,9 @@ ghost use Rattle.core_model.specs.Waits.{task_place};
 
 use sp_order::laws::{leaf_has_one_node, plan_has_sides, plan_stands_for_tree};
 
-/// What is found in a book by a leaf is an entry of this leaf, and stands at the place that is told. In a book that has one
-/// more batch it is found there still; what was not found is found in the new batch, if it is there. Where leaves are
-/// distinct, each entry of the book is what is found by its leaf.
+/// `place_of` finds an entry of its leaf, at the place it states. After one more batch an entry found before is found
+/// again; otherwise the new batch is searched. If the leaves are distinct, the search by its leaf finds each entry of
+/// the book.
 pub fn entries_are_found_at_their_places()
     ensures leaf { (book : List (List Entry)) (leaf : ℕ) (place : Place)
         → place_of book leaf ≡ Some place
@@ -45,8 +45,8 @@ pub fn entries_are_found_at_their_places()
         → (place : Place) × (place_of book entry.leaf ≡ Some place) × (place.entry ≡ entry) }
 {}
 
-/// What an event adds to the entries of a worker: at a publish, where the worker's call is taken, the entry of this call,
-/// in the batch that was published; else nothing. So the entries of a worker are those of its calls, in their order.
+/// Only a publish changes the book. It adds one entry to each worker whose call is taken: that of the call, in the new
+/// batch, where the worker's leaf had no entry before. Workers whose call is not taken gain no entry.
 pub fn publish_adds_the_taken_call()
     ensures other { (job : CoreJob) (old new : State) (worker : ℕ) (event : Event)
         → Happens job old worker event new
@@ -68,8 +68,8 @@ pub fn publish_adds_the_taken_call()
         × (entries_of w (flat new.book) ≡ entries_of w (flat old.book) ++ place.entry ∷ []) }
 {}
 
-/// A worker whose call was served, and one that has left with its receipt, has the receipt of its own call's entry: this has
-/// its leaf, its worker, its operation and the reply of the receipt, and stands in the book where the receipt says.
+/// A worker with a receipt has that of its own call. The entry has the worker's leaf, number and operation and the
+/// receipt's reply, and stands in the book at the receipt's batch and place.
 pub fn receipt_is_of_the_own_entry()
     ensures { (job : CoreJob) (state : State) (worker node leaf : ℕ) (op : Op) (receipt : Receipt)
         → Parts job state
@@ -82,9 +82,9 @@ pub fn receipt_is_of_the_own_entry()
         × StandsAt state.book receipt.batch receipt.place place.entry }
 {}
 
-/// A book has no more batches than entries. Its entries, and the calls of any workers that no batch has yet, are together at
-/// most as many as the leaves that call. In the plan each of these leaves must have a node, as it has in the plan of a tree
-/// that has as many leaves as there are acts; there they are also at most as many as the leaves.
+/// A book has at most as many batches as entries. Its entries, together with the calls of distinct workers that no
+/// batch has served yet, number at most the calling leaves, provided that the plan has a node for each of these. The
+/// plan of a tree with as many leaves as acts does; there they also number at most the leaves.
 pub fn calls_have_room()
     ensures batches { (job : CoreJob) (state : State) → Parts job state
         → length state.book ≤ length (flat state.book) }

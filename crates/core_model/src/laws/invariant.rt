@@ -1,7 +1,7 @@
-//! The laws of the invariant, each as the contract of a function that does nothing: what holds at the opening, what each
-//! event keeps, and what follows from it.
+//! The laws of the invariant: it holds at the opening, each event preserves it, and what follows from it. Each law is
+//! the contract of an empty function.
 //!
-//! The eight parts do not look at the lists of ready nodes.
+//! `Parts` is the invariant without the lists of ready nodes.
 ghost use Rattle.std.specs.Prelude.{◌≡◌, ◌≢◌, ℕ, ◌<◌, ◌≤◌, ◌*◌, None, Some, List};
 ghost use Rattle.sp_order.specs.declared.node.Kind.TheVariants.{SeqNode, ParNode};
 ghost use Rattle.sp_order.specs.declared.node.Move.TheVariants.{OpenSecond, FinishParent, Arrive};
@@ -22,12 +22,12 @@ use sp_order::laws::{
     before_is_by_series, leaf_has_one_node, plan_has_sides, plan_stands_for_tree,
 };
 
-/// The opening state of a job that has a root has the eight parts.
+/// The opening state of a job with a root has the `Parts`.
 pub fn opening_has_parts()
     ensures { (job : CoreJob) → IsPlan job.plan → job.plan.kind 0 ≢ None → Parts job opening_state }
 {}
 
-/// Each event of a worker keeps the eight parts, by whichever worker and in whichever order events happen.
+/// Each event preserves the `Parts`, whichever worker makes it. This needs no assumption on the order of events.
 pub fn event_keeps_parts()
     ensures event { (job : CoreJob) (old new : State) (worker : ℕ) (event : Event) → IsPlan job.plan
         → Parts job old
@@ -46,7 +46,7 @@ pub fn opening_has_invariant()
         → Invariant job opening_core }
 {}
 
-/// Each event of a worker keeps the invariant.
+/// Each event preserves the invariant.
 pub fn event_keeps_invariant()
     ensures { (job : CoreJob) (old new : CoreState) (worker : ℕ) (event : Event) → IsPlan job.plan
         → Invariant job old
@@ -54,7 +54,7 @@ pub fn event_keeps_invariant()
         → Invariant job new }
 {}
 
-/// Each state that events lead to from the opening state has the invariant.
+/// Each state that events reach from the opening state has the invariant.
 pub fn reached_has_invariant()
     ensures { (job : JobValue) (workers : ℕ) (state : CoreState) → 0 < workers
         → IsReached (core_job job workers) state
@@ -64,7 +64,7 @@ pub fn reached_has_invariant()
     plan_has_sides();
 }
 
-/// If leaf u is before leaf v and v has a start, then u is done, and its end is below that start.
+/// If leaf `u` precedes leaf `v` and `v` has started, then `u` is done and its end tick is below `v`'s start tick.
 pub fn leaf_before_has_ended()
     ensures { (job : CoreJob) (tree : Tree) (state : State) → IsPlanOf job.plan tree
         → Parts job state
@@ -77,8 +77,8 @@ pub fn leaf_before_has_ended()
     leaf_has_one_node();
 }
 
-/// The move after a node says which side it is: the left one of a series, the right one of a series, or a side of
-/// a parallel block. So an event that names a block by its sides is the one that the move asks for.
+/// The plan's move after a node says which side it is: the left one of a series, the right one of a series, or a side
+/// of a parallel block. So the block that the move names does have the node as that side.
 pub fn moves_tell_sides()
     ensures second { (plan : Nodes) (n p : ℕ) → IsPlan plan
         → plan.after n ≡ OpenSecond p
@@ -98,7 +98,8 @@ pub fn tick_is_at_most_two_a_node()
         → state.tick ≤ 2 * job.plan.count }
 {}
 
-/// Before a side arrives at its parallel block, the block's mark is below 2: that side is the first or the second.
+/// When a side is about to arrive at its parallel block, the block's mark is below 2: it is the first or the second to
+/// arrive.
 pub fn mark_before_arrival_is_below_two()
     ensures { (job : CoreJob) (state : State) (worker p l r n : ℕ) → IsPlan job.plan
         → Parts job state

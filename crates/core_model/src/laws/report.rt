@@ -1,4 +1,4 @@
-//! The laws of the end of a run, each as the contract of a function that does nothing.
+//! The laws of finished runs and their reports. Each is the contract of an empty function.
 ghost use Rattle.std.specs.Prelude.{◌≡◌, ◌≢◌, ℕ, ◌<◌, true, None, Some, List, length};
 ghost use Rattle.sp_order.specs.Precedence.{Tree, leaves};
 ghost use Rattle.sp_order.specs.PlanOf.{IsPlanOf};
@@ -17,7 +17,7 @@ use sp_order::laws::{
     before_is_by_series, leaf_has_one_node, plan_has_sides, plan_stands_for_tree,
 };
 
-/// Where the root is done, each node is done, each worker is idle with its status free, and nobody has the flag.
+/// Once the root is done, every node is done, every worker is `Idle` and `Free`, and the flag is free.
 pub fn done_root_ends_all()
     ensures { (job : CoreJob) (tree : Tree) (state : State) → IsPlanOf job.plan tree
         → Parts job state
@@ -30,7 +30,7 @@ pub fn done_root_ends_all()
     plan_has_sides();
 }
 
-/// Where the root is done, each leaf has run and has a value.
+/// Once the root is done, each leaf has run and has a value.
 pub fn done_leaves_have_run()
     ensures { (job : CoreJob) (tree : Tree) (state : State) → IsPlanOf job.plan tree
         → Parts job state
@@ -58,7 +58,7 @@ pub fn done_report_is_lawful()
     before_is_by_series();
 }
 
-/// A state has one report at most.
+/// A state has at most one report.
 pub fn report_is_one()
     ensures { (job : CoreJob) (leaf_total : ℕ) (state : State) (a b : Report)
         → IsReportOf job leaf_total state a
@@ -66,7 +66,7 @@ pub fn report_is_one()
         → a ≡ b }
 {}
 
-/// The report that turns make is that of a run of the model.
+/// The report of a run by turns is the report of a run of the model.
 pub fn driven_report_is_of_a_run()
     ensures from { (job : CoreJob) (leaf_total : ℕ) (first : CoreState) (schedule : List ℕ) (report : Report)
         → IsDrivenFrom job leaf_total first schedule report
@@ -76,7 +76,7 @@ pub fn driven_report_is_of_a_run()
         → IsRunReport job workers report }
 {}
 
-/// A run that goes on from a state that was reached is one from the opening state.
+/// A run from a reached state extends to a run from the opening state, with the same report.
 pub fn run_goes_on_from_reached()
     ensures { (job : CoreJob) (leaf_total : ℕ) (state : CoreState) (report : Report) → IsReached job state
         → IsRunFrom job leaf_total state report

@@ -1,5 +1,5 @@
-//! The laws of runs, each as the contract of a function that does nothing: what events lead to from the opening, how long
-//! a run by turns is, and to which state a schedule drives a job.
+//! The laws of runs: what events reach from the opening, how long a run by turns is, and the state to which a schedule
+//! drives a job. Each law is the contract of an empty function.
 ghost use Rattle.std.specs.Prelude.{◌≡◌, ℕ, ◌<◌, ◌≤◌, ◌+◌, ◌*◌, true, List, length};
 ghost use Rattle.std.specs.List.{AllByRecursion};
 ghost use Rattle.sp_order.specs.Precedence.{Tree};
@@ -12,14 +12,14 @@ ghost use Rattle.core_model.specs.Measure.{call_count};
 
 use sp_order::laws::plan_has_sides;
 
-/// An event leads from a state that can be reached to another one that can.
+/// An event leads from a reached state to a reached state.
 pub fn step_leads_to_reached()
     ensures { (job : CoreJob) (old new : CoreState) (worker : ℕ) (event : Event) → IsReached job old
         → IsStep job old worker event new
         → IsReached job new }
 {}
 
-/// Each schedule of the workers drives the job of a tree to a state.
+/// Each schedule of the job's workers drives the job of a tree to some state.
 pub fn schedule_drives_to_a_state()
     ensures { (job : CoreJob) (tree : Tree) (schedule : List ℕ) → IsPlanOf job.plan tree
         → 0 < job.workers
@@ -29,14 +29,14 @@ pub fn schedule_drives_to_a_state()
     plan_has_sides();
 }
 
-/// And it drives the job to one state only, so the state is a function of the job and the schedule.
+/// A schedule drives a job to at most one state, so that state is a function of the job and the schedule.
 pub fn schedule_drives_to_one_state()
     ensures { (job : CoreJob) (schedule : List ℕ) (a b : CoreState) → driven job schedule a
         → driven job schedule b
         → a ≡ b }
 {}
 
-/// A schedule drives the job to a state that can be reached, and whose root is done.
+/// The state to which a schedule drives the job is reached, and its root is done.
 pub fn driven_is_reached()
     ensures reached { (job : CoreJob) (schedule : List ℕ) (state : CoreState)
         → driven job schedule state
@@ -46,8 +46,8 @@ pub fn driven_is_reached()
         → is_done (state.state.node 0) ≡ true }
 {}
 
-/// A run by turns from the opening has at most six events for each node, and for each leaf that calls six more and one
-/// for each worker.
+/// A run by turns from the opening has at most six events a node, and for each calling leaf six more and one for each
+/// worker.
 pub fn runs_by_turns_are_short()
     ensures { (job : CoreJob) (tree : Tree) (steps : List Step) (state : CoreState)
         → IsPlanOf job.plan tree
@@ -58,7 +58,7 @@ pub fn runs_by_turns_are_short()
     plan_has_sides();
 }
 
-/// The events that a schedule drives the job through are those of its workers' turns, and they are no more than that.
+/// The events through which a schedule drives a job are those of its workers' turns, and they obey the same bound.
 pub fn driven_runs_are_short()
     ensures { (job : CoreJob) (tree : Tree) (schedule : List ℕ) (state : CoreState)
         → IsPlanOf job.plan tree

@@ -1,4 +1,4 @@
-//! The laws of runs in which some workers have stopped, each as the contract of a function that does nothing.
+//! The laws of runs in which some workers have stopped. Each is the contract of an empty function.
 ghost use Rattle.std.specs.Prelude.{◌≡◌, ℕ, ◌<◌, Bool, true, false};
 ghost use Rattle.sp_order.specs.Precedence.{Tree};
 ghost use Rattle.sp_order.specs.Plans.{IsPlan};
@@ -11,8 +11,8 @@ ghost use Rattle.core_model.specs.Tasks.{is_done};
 
 use sp_order::laws::plan_has_sides;
 
-/// The turns of the live workers lead to one state only, so this state is a function of the job, of who is live and of the
-/// state from which they start; and they keep the invariant.
+/// The turns of the live workers lead to at most one state, which is thus a function of the job, the live set, the
+/// first state and the first worker. They preserve the invariant.
 pub fn live_turns_lead_to_one_state()
     ensures one { (job : CoreJob) (live : ℕ → Bool) (first a b : CoreState) (robin : ℕ)
         → LiveDrive job live first robin a
@@ -25,8 +25,8 @@ pub fn live_turns_lead_to_one_state()
         → Invariant job last }
 {}
 
-/// A worker that has stopped without a task costs the others nothing: where all that have stopped have none, and one worker is
-/// live, the turns of the live ones lead to a state whose root is done.
+/// Workers that stopped without a task cost the others nothing: if no stopped worker has a task and some worker is
+/// live, a drive of the live workers ends with the root done.
 pub fn idle_stopped_workers_cost_nothing()
     ensures { (job : CoreJob) (tree : Tree) (live : ℕ → Bool) (first last : CoreState)
         (robin one : ℕ)

@@ -1,5 +1,5 @@
-//! The laws of a worker's turn, each as the contract of a function that does nothing: what it chooses, and what events
-//! make of a state.
+//! The laws of a worker's turn: which event it chooses, and what events do to a state. Each law is the contract of an
+//! empty function.
 ghost use Rattle.std.specs.Prelude.{◌≡◌, ℕ, ◌<◌, ◌≤◌, ◌+◌, ◌*◌, Bool, true, false, None, Some};
 ghost use Rattle.sp_order.specs.Precedence.{Tree};
 ghost use Rattle.sp_order.specs.Plans.{IsPlan};
@@ -18,7 +18,7 @@ ghost use Rattle.core_model.specs.Measure.{measure, call_count};
 
 use sp_order::laws::plan_has_sides;
 
-/// The event that a worker's turn chooses has what it needs.
+/// The event that a turn chooses has its needs met.
 pub fn choice_has_its_needs()
     ensures { (job : CoreJob) (state : CoreState) (worker : ℕ) (event : Event) → IsPlan job.plan
         → worker < job.workers
@@ -27,7 +27,7 @@ pub fn choice_has_its_needs()
         → Needs job state.state worker event }
 {}
 
-/// Where a worker's turn chooses none, no event of this worker can happen.
+/// If a worker's turn chooses no event, no event of this worker has its needs met.
 pub fn no_choice_has_no_event()
     ensures { (job : CoreJob) (state : CoreState) (worker : ℕ) → IsPlan job.plan
         → worker < job.workers
@@ -36,7 +36,7 @@ pub fn no_choice_has_no_event()
         → (event : Event) → Needs job state.state worker event → ⊥ }
 {}
 
-/// The nodes that an event names are nodes of the plan, and the workers that it names are workers of the job.
+/// The nodes that an event names are nodes of the plan, and the workers it names are workers of the job.
 pub fn events_are_in_range()
     ensures { (job : CoreJob) (state : State) (worker : ℕ) (event : Event) → IsPlan job.plan
         → Parts job state
@@ -44,8 +44,8 @@ pub fn events_are_in_range()
         → IsInRange job.plan.count job.workers event }
 {}
 
-/// A node that a turn claims was the newest of the worker's own list, or, where that list is empty, the oldest of
-/// another one; and the claim takes it off there.
+/// A node chosen for a claim is the newest of the worker's own list, or, if that is empty, the oldest of some list. The
+/// claim removes just that end.
 pub fn claimed_node_leaves_an_end()
     ensures { (job : CoreJob) (state : CoreState) (worker node : ℕ) → IsPlan job.plan
         → worker < job.workers
@@ -54,14 +54,14 @@ pub fn claimed_node_leaves_an_end()
         → LeavesAnEnd state.ready worker node }
 {}
 
-/// At the opening worker 0 claims the root; of two workers the other one steals it.
+/// At the opening, worker 0's turn chooses to claim the root. With two workers, worker 1's turn chooses to steal it.
 pub fn opening_choices()
     ensures own { (job : CoreJob) → choice job opening_core 0 ≡ Some (Claim 0) }
     ensures stolen { (job : CoreJob)
         → job.workers ≡ 2 → choice job opening_core 1 ≡ Some (Claim 0) }
 {}
 
-/// An event whose needs are met happens: there is a state that it makes.
+/// An event whose needs are met happens: some state results from it.
 pub fn event_with_its_needs_happens()
     ensures { (job : CoreJob) (state : State) (worker : ℕ) (event : Event) → Parts job state
         → worker < job.workers
@@ -69,7 +69,7 @@ pub fn event_with_its_needs_happens()
         → (new : State) × Happens job state worker event new }
 {}
 
-/// An event makes one state only of a state.
+/// An event has at most one result in a given state.
 pub fn event_makes_one_state()
     ensures { (job : CoreJob) (state a b : State) (worker : ℕ) (event : Event)
         → Does job state worker event a
@@ -77,8 +77,7 @@ pub fn event_makes_one_state()
         → a ≡ b }
 {}
 
-/// Where the root is not done, the turn of some worker makes an event: its choice is one, and there is a state that
-/// this event leads to.
+/// Progress: while the root is not done, the turn of some worker chooses an event, and some state results from it.
 pub fn some_turn_makes_an_event()
     ensures { (job : CoreJob) (tree : Tree) (state : CoreState) → IsPlanOf job.plan tree
         → Invariant job state
@@ -90,8 +89,8 @@ pub fn some_turn_makes_an_event()
     plan_has_sides();
 }
 
-/// Where some workers have stopped, each without a task, and the root is not done, the turn of one that goes on makes
-/// an event. One at least must go on.
+/// Progress despite stopped workers: while the root is not done, no stopped worker has a task and some worker is live,
+/// the turn of some live worker chooses an event, and some state results from it.
 pub fn some_live_turn_makes_an_event()
     ensures { (job : CoreJob) (tree : Tree) (state : CoreState) (live : ℕ → Bool) (one : ℕ)
         → IsPlanOf job.plan tree
@@ -106,7 +105,7 @@ pub fn some_live_turn_makes_an_event()
     plan_has_sides();
 }
 
-/// The event of a turn lowers the count of the events that are left.
+/// The event of a turn lowers the measure, which bounds the events left.
 pub fn turns_lower_measure()
     ensures { (job : CoreJob) (state : CoreState) (worker : ℕ) (event : Event) (new : State)
         → IsPlan job.plan
@@ -117,8 +116,7 @@ pub fn turns_lower_measure()
         → measure job new < measure job state.state }
 {}
 
-/// At the opening at most six events are left for each node, and for each leaf that calls six more and one for each
-/// worker.
+/// The measure at the opening is at most six a node, and for each calling leaf six more and one for each worker.
 pub fn opening_measure_is_bounded()
     ensures { (job : CoreJob)
         → measure job opening_state ≤ 6 * job.plan.count + call_count job * (job.workers + 6) }

@@ -1,4 +1,4 @@
-//! The laws of how long a worker waits, each as the contract of a function that does nothing.
+//! The laws that bound how long a worker waits. Each is the contract of an empty function.
 ghost use Rattle.std.specs.Prelude.{◌≡◌, ℕ, ◌<◌, ◌≤◌, ◌+◌, ◌⊎◌, List, length};
 ghost use Rattle.sp_order.specs.Jobs.{JobValue};
 ghost use Rattle.sp_order.specs.Plans.{IsPlan};
@@ -13,14 +13,14 @@ ghost use Rattle.core_model.specs.Waits.{IsTrapped, WaitsSince, StaysTrapped};
 
 use sp_order::laws::{plan_has_sides, plan_stands_for_tree};
 
-/// A trapped worker waits since the batches that there are now.
+/// A trapped worker satisfies `WaitsSince` with the present number of batches.
 pub fn trapped_waits_from_now()
     ensures { (job : CoreJob) (state : State) (worker : ℕ) → Parts job state
         → IsTrapped state worker
         → WaitsSince job state worker (length state.book) }
 {}
 
-/// Each event of a worker keeps what is said of a worker that waits, as long as that one stays trapped.
+/// Each event preserves a waiter's `WaitsSince` while that worker stays trapped.
 pub fn event_keeps_waits()
     ensures { (job : CoreJob) (old new : State) (worker : ℕ) (event : Event) (waiter since : ℕ)
         → IsPlan job.plan
@@ -31,7 +31,7 @@ pub fn event_keeps_waits()
         → WaitsSince job new waiter since }
 {}
 
-/// A worker that stays trapped from a state on waits since then.
+/// A worker that stays trapped from some state on satisfies `WaitsSince` with that state's number of batches.
 pub fn trapped_waits_since_then()
     ensures kept { (job : CoreJob) (worker : ℕ) (first last : State) → IsPlan job.plan
         → Parts job first
@@ -48,8 +48,8 @@ pub fn trapped_waits_since_then()
     plan_has_sides();
 }
 
-/// Where a worker stays trapped until its call is served, the receipt's batch is one of those that there were at the
-/// beginning, or one of the next two.
+/// If a worker stays trapped until its call is served, the receipt's batch was there at the beginning or is one of the
+/// next two.
 pub fn two_batches_at_most()
     ensures { (job : JobValue) (workers worker : ℕ)
         (first : CoreState) (last : State) (receipt : Receipt)
@@ -63,7 +63,7 @@ pub fn two_batches_at_most()
     plan_has_sides();
 }
 
-/// Where the worker's call is pending at the beginning, it is served in one of the next two batches.
+/// If the call is pending at the beginning, it is served in one of the next two batches.
 pub fn pending_call_is_in_next_two()
     ensures { (job : JobValue) (workers worker : ℕ)
         (first : CoreState) (last : State) (receipt : Receipt)

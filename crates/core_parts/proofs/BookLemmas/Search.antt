@@ -22,15 +22,15 @@ module _ (k : ℕ) (entries : List Entry) (u n : ℕ) (d : Entry) (below : n < l
       let e : drop n entries ≡ get_or entries n d ∷ drop (n + 1) entries = rw (add-one, drop-cons entries n d) in
       ap (λ (l : List Entry). place_in k n l u) e
 
-  -- the entry at a place is of the leaf
+  -- the entry at this place is the leaf's: found
   pub found_here : (get_or entries n d).leaf ≡ u → place_in k n (drop n entries) u ≡ Some place
   found_here e = opened ∙ takes (get_or entries n d).leaf u place (place_in k (n + 1) (drop (n + 1) entries) u) e
 
-  -- or it is not
+  -- it is not: the search moves on
   pub passed_here : (get_or entries n d).leaf ≢ u → place_in k n (drop n entries) u ≡ place_in k (n + 1) (drop (n + 1) entries) u
   passed_here e = opened ∙ skips (get_or entries n d).leaf u place (place_in k (n + 1) (drop (n + 1) entries) u) e
 
--- there is nothing past the end
+-- past the end nothing is found
 pub passed_all : (k : ℕ) (entries : List Entry) (u n : ℕ) → length entries ≤ n → place_in k n (drop n entries) u ≡ None
 passed_all k entries u n past = ap (λ (l : List Entry). place_in k n l u) (drop_of_length-le entries past)
 
@@ -40,7 +40,7 @@ batch_short [] n d below = absurd (omega (arith, below))
 batch_short (b ∷ bs) zero d below = omega (arith, length-append b (flat bs))
 batch_short (b ∷ bs) (suc n) d below = let h = batch_short bs n d (omega (arith, below)) in omega (arith, length-append b (flat bs), h)
 
--- the leaf of an entry is none of those after it
+-- if the leaves are distinct, an entry's leaf differs from those of `ys`
 behind : (x : Entry) (xs ys : List Entry) → AllByRecursion (λ l. x.leaf ≢ l) (map (λ (e : Entry). e.leaf) (xs ++ ys))
     → AllByRecursion (λ (e : Entry). x.leaf ≢ e.leaf) ys
 behind x [] [] h = tt
@@ -53,7 +53,7 @@ apart : (xs ys : List Entry) → AreDistinct (map (λ (e : Entry). e.leaf) (xs +
 apart [] ys h = tt
 apart (x ∷ xs) ys h = (behind x xs ys h.0, apart xs ys h.1)
 
--- A leaf that is found in one batch is found in none before it, where no leaf stands twice.
+-- A leaf found in one batch is in no earlier one, since leaves are distinct.
 not_before : (bs : List (List Entry)) (b : List Entry) (u k : ℕ) (p q : Place) → AreDistinct (map (λ (e : Entry). e.leaf) (flat bs ++ b))
     → place_in k 0 b u ≡ Some p → place_of bs u ≡ Some q → ⊥
 not_before bs b u k p q distinct e f =
@@ -61,7 +61,7 @@ not_before bs b u k p q distinct e f =
     let second = found_entry (λ (x : Entry). q.entry.leaf ≢ x.leaf) k 0 b u p first.0 e in
     second.0 (first.1 ∙ sym second.1)
 
--- So the search from the last batch back finds the place that is the first one.
+-- So the entry found from the last batch back is the first one of the leaf.
 place_last : (bs : List (List Entry)) (b : List Entry) (u : ℕ) (o : Option Place) → AreDistinct (map (λ (e : Entry). e.leaf) (flat bs ++ b))
     → place_in (length bs) 0 b u ≡ o → is_some o ≡ true → place_of (bs ++ b ∷ []) u ≡ o
 place_last bs b u None distinct e some = absurd (cc)
@@ -72,16 +72,16 @@ place_last bs b u (Some p) distinct e some =
       | Some q ↦ λ f. absurd (not_before bs b u (length bs) p q distinct e f)
     ] refl
 
--- And where it finds nothing in the last batch it goes on without it.
+-- If the last batch has no entry of the leaf, the search goes on in the batches before it.
 place_not_last : (bs : List (List Entry)) (b : List Entry) (u : ℕ) → place_in (length bs) 0 b u ≡ None → place_of (bs ++ b ∷ []) u ≡ place_of bs u
 place_not_last bs b u e = place_append bs b u ∙ (ap (or_else (place_of bs u)) e ∙ or_else_none (place_of bs u))
 
--- an empty book has no places
+-- an empty book has no entries to find
 pub place_none : (u : ℕ) → place_of [] u ≡ None
 unfolding place_of
 place_none u = refl
 
--- whether a place is there, by its receipt
+-- a receipt exists exactly if a place does
 some_place : (o : Option Place) → is_some (receipt_at o) ≡ true → is_some o ≡ true
 some_place None some = some
 some_place (Some p) some = refl
@@ -90,7 +90,7 @@ none_place : (o : Option Place) → is_some (receipt_at o) ≡ false → o ≡ N
 none_place None none = refl
 none_place (Some p) none = cc
 
--- what was found in the last of the first batches of a book
+-- one step of the backward search, at batch `n` of the book
 module _ (bs : List (List Entry)) (u n : ℕ) (b : List Entry) (below : n < length bs) (at : b ≡ get_or bs n b) where
   one_less : take (n + 1) bs ≡ take n bs ++ b ∷ []
   one_less = take_more bs n b below ∙ ap (λ x. take n bs ++ x ∷ []) (sym at)

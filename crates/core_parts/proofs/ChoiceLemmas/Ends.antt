@@ -1,4 +1,4 @@
--- Taking away a number that stands once in a list, at one of its ends.
+-- Removing a number that occurs once in a list, at one of its ends.
 use Rattle.std.proofs.Common.{ℕ, zero, suc, ◌≡◌, ◌≢◌, ◌<◌, ◌≤◌, ◌+◌, ◌-◌, ◌⊎◌, List, [], ◌∷◌, length, get_or, arith, refl, inl, inr, sym, ◌∙◌, Bool, true, false, take, drop}
 use Rattle.std.proofs.lemmas.Grind.{common_steps}
 use Rattle.std.proofs.lemmas.Bool.{cases_eq, cases_lt}
@@ -50,7 +50,7 @@ pub none_there : (n : ℕ) (xs : List ℕ) → IsAtEnd n xs → (newest oldest :
     → newest ≡ false → oldest ≡ false → times n xs ≡ 0
 none_there n xs h newest oldest is_new is_old e f = not_newest n (times n xs) xs h.end (λ p. let z = is_old p in cc) (λ p. let z = is_new p in cc)
 
--- where the number stands in one of the lists, taking it off there takes it off all
+-- if the number is in one list only, removing it there removes it from all
 pub removed_one : (old : ℕ → List ℕ) (w n : ℕ) → ((v : ℕ) → w ≢ v → times n (old v) ≡ 0) → put old w (without n (old w)) ≡ (λ v. without n (old v))
 removed_one old w n none = λ i v. removed v i
   where
@@ -60,7 +60,7 @@ removed_one old w n none = λ i v. removed v i
       | inr other ↦ put_other old w v (without n (old w)) other ∙ sym (without_none n (old v) (none v (λ same. other (sym same))))
     ]
 
--- where it does not stand in a list, that stays
+-- removing an absent number changes nothing
 pub removed_none : (old : ℕ → List ℕ) (w n : ℕ) → times n (old w) ≡ 0 → put old w (without n (old w)) ≡ old
 removed_none old w n none = λ i v. removed v i
   where
@@ -76,7 +76,7 @@ none_so_far old n w before here v below = elim (cases_eq v w) [
   | inr other ↦ before v (omega (arith, below, other))
 ]
 
--- and where it stands in none, all do
+-- a number in no list: removing it from all changes nothing
 pub removed_all : (xs : List (List ℕ)) (n : ℕ) → ((v : ℕ) → v < length xs → times n (at xs [] v) ≡ 0) → at xs [] ≡ (λ v. without n (at xs [] v))
 removed_all xs n none = λ i v. removed v i
   where

@@ -1,4 +1,4 @@
--- Lists of one item again and again, as functions of places.
+-- A list of equal items, as a function of the index, is constant.
 use Rattle.std.proofs.Common.{ℕ, ◌≡◌, List, replicate, arith}
 use Rattle.std.proofs.lemmas.Grind.{common_steps}
 use Rattle.core_parts.specs.Places.{at}

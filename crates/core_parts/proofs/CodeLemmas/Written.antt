@@ -11,10 +11,10 @@ at_set xs n x d m below = grind (arith, nat_tests, common_steps)
 pub at_written : {A : Type 0} (xs : List A) (n : ℕ) (x d : A) → n < length xs → at (slice_set xs n x) d ≡ put (at xs d) n x
 at_written xs n x d below = λ i m. at_set xs n x d m below i
 
--- an item as the list has it at its place
+-- the item at an index within the list
 pub at_place : {A : Type 0} (xs : List A) (n : ℕ) (old d : A) → n < length xs → old ≡ get_or xs n old → at xs d n ≡ old
 at_place xs n old d below is = grind (arith, common_steps)
 
--- beyond the end
+-- beyond the end the default stands
 pub at_beyond : {A : Type 0} (xs : List A) (n : ℕ) (d : A) → length xs ≤ n → at xs d n ≡ d
 at_beyond xs n d past = grind (arith, common_steps)

@@ -1,4 +1,4 @@
--- The code of a publish: what it asks for is there, and it does what the event says.
+-- The code of a publish: its preconditions hold, and it performs the event.
 use Rattle.std.proofs.Common.{ℕ, ◌≡◌, false, true, Some, None, List, arith, refl, sym, subst, ◌∙◌, ap}
 use Rattle.sp_order.specs.Jobs.{JobValue, job_tree}
 use Rattle.core_model.proofs.Words.{Entry, Hold, core_job}
@@ -51,12 +51,12 @@ module _ (job : JobValue) (workers : ℕ) (t : StoredState) (hold : StoredHold) 
   some_taken = (needs.3.0, ap (λ (x : Hold). x.taken needs.3.0) (sym same) ∙ needs.3.1)
 
   module _ (calls : List Call) (taken : AreTakenCalls (core_job job workers) (state_of t).book (state_of t).task (at hold.taken false) calls) where
-    -- the shop can serve the calls that were taken
+    -- the shop may serve the taken calls
     pub can_serve : MayServe (state_of t).book calls
     can_serve = may_serve (core_job job workers) (state_of t) (hold_view hold) h.laws (kept_parts job workers t h) (held t hold there) unpublished calls taken
         some_taken h.few (λ leaf call. let low = call_within job.acts leaf call in let most = h.few_acts in omega (arith, low, most))
 
-    -- and what it has served is the batch
+    -- and what it serves is a batch of the model
     pub served_batch : (batch : List Entry) → IsServiceOf (state_of t).book calls batch → IsBatchOf (core_job job workers) (state_of t) batch
     served_batch batch is =
         batch_made (core_job job workers) (state_of t) (hold_view hold) (kept_parts job workers t h) (held t hold there) batch some_taken

@@ -1,4 +1,4 @@
--- The calls that are taken, in another order.
+-- The taken calls, in another order.
 use Rattle.std.proofs.Common.{ℕ, ◌≡◌, Bool, true, inl, inr, List, [], ◌∷◌, ◌++◌, map, arith, sym, subst}
 use Rattle.std.specs.Prelude.{Contains}
 use Rattle.std.proofs.lemmas.List.{map-append}
@@ -10,7 +10,7 @@ use Rattle.core_model.proofs.Words.{CoreJob, Entry}
 use Rattle.core_parts.specs.Words.{Task}
 use Rattle.core_model.specs.Batches.{IsCallOf, AreTakenCalls}
 
--- what the elements are mapped to is that of the same elements in another order
+-- mapping a permuted list gives a permutation of the mapped list
 contains_same : {X : Type 0} (f : X → ℕ) (xs others : List X) → AreSame xs others → (n : ℕ) → Contains (map f xs) n → Contains (map f others) n
 contains_same f [] others same n there = absurd (omega (arith, there.1))
 contains_same f (x ∷ xs) others same n there =
@@ -25,7 +25,7 @@ contains_same f (x ∷ xs) others same n there =
       ]
     ]))
 
--- the same calls are taken, whatever their order is
+-- any permutation of the taken calls is the taken calls
 pub taken_too : (job : CoreJob) (book : List (List Entry)) (task : ℕ → Task) (took : ℕ → Bool) (calls others : List Call) → AreSame calls others
     → AreTakenCalls job book task took calls → AreTakenCalls job book task took others
 taken_too job book task took calls others same taken = record {

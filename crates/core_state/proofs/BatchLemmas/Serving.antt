@@ -1,4 +1,4 @@
--- The shop can serve the calls that are taken: no leaf of theirs is in the book.
+-- The shop may serve the taken calls: none of their leaves is in the book yet.
 use Rattle.std.proofs.Common.{ℕ, ◌≡◌, ◌≢◌, ◌<◌, ◌≤◌, ◌+◌, true, false, Some, List, [], ◌∷◌, ◌++◌, length, map, arith, sym, subst, ◌∙◌, ap, length-append}
 use Rattle.std.specs.Prelude.{Contains}
 use Rattle.std.specs.List.{AllByRecursion}
@@ -22,19 +22,19 @@ use Rattle.core_model.proofs.InvariantLemmas.Publish.{leaves_apart}
 use Rattle.core_model.proofs.BatchLemmas.Replied.{replied, replied_are}
 use Rattle.core_model.proofs.BatchLemmas.Made.{taken_below, only_taken}
 
--- of two lists that are distinct together, no number of the first is in the second
+-- if two lists together are distinct, they share no number
 across : (xs ys : List ℕ) → AreDistinct (xs ++ ys) → AllByRecursion (λ x. AllByRecursion (λ y. x ≢ y) ys) xs
 across [] ys h = tt
 across (x ∷ xs) ys h = ((each_front (λ y. x ≢ y) xs ys h.0).1, across xs ys h.1)
 
--- where there is a worker, there is a call
+-- a taken worker has a call
 some_call : (calls : List Call) (w : ℕ) → Contains (map (λ (call : Call). call.worker) calls) w → 0 < length calls
 some_call [] w there = absurd (omega (arith, there.1))
 some_call (call ∷ calls) w there = omega arith
 
 module _ (job : CoreJob) (s : State) (hd : Hold) (laws : IsPlan job.plan) (h : InductiveParts job s) (there : s.hold ≡ Some hd) (unpublished : hd.published ≡ false)
     (calls : List Call) (taken : AreTakenCalls job s.book s.task hd.taken calls) where
-  -- the entries that they would have
+  -- the entries the taken calls would have
   abbrev entries : List Entry
   entries = replied s.objects calls
 
@@ -53,7 +53,7 @@ module _ (job : CoreJob) (s : State) (hd : Hold) (laws : IsPlan job.plan) (h : I
   abbrev book_leaves : List ℕ
   book_leaves = map (λ (e : Entry). e.leaf) (flat s.book)
 
-  -- no leaf of theirs stands twice, nor in the book
+  -- the leaves of the book and of the taken calls are distinct
   distinct : AreDistinct (book_leaves ++ map (λ (e : Entry). e.leaf) entries)
   distinct =
       let apart = leaves_apart job s hd entries h laws there unpublished only (subst AreDistinct (sym workers_are) taken.distinct) in
@@ -65,7 +65,7 @@ module _ (job : CoreJob) (s : State) (hd : Hold) (laws : IsPlan job.plan) (h : I
       each_append (λ (e : Entry). IsCall job e.leaf) (flat s.book) entries (leaves_call job s h)
       (each_so (IsTakenCall job s) (λ (e : Entry). IsCall job e.leaf) (λ e call none. let is = call.operation in cc) entries only)
 
-  -- so there are no more of both than leaves that call
+  -- so the book and the taken calls together number at most the calling leaves
   few : (most : ℕ) → ((leaf : ℕ) → IsCall job leaf → leaf < most) → length (flat s.book) + length calls ≤ most
   few most below =
       let leaf = λ (e : Entry). e.leaf in

@@ -1,4 +1,4 @@
--- What the code of an event looks up is there: the tick and the looks have room, and a node that is claimed stands at an end of its list.
+-- The preconditions of an event's code: the tick and the looks have room, and a claimed node is at an end of its list.
 use Rattle.std.proofs.Common.{ℕ, ◌≡◌, ◌<◌, ◌+◌, ◌^◌, Option, Some, None, IfSome, IsSome, List, arith, refl, sym, ◌∙◌, ap}
 use Rattle.sp_order.specs.Jobs.{JobValue, job_tree}
 use Rattle.core_model.proofs.Words.{Hold, core_job}
@@ -30,7 +30,7 @@ some_held : (o : Option StoredHold) (hd : Hold) → hold_of o ≡ Some hd → Is
 some_held None hd is = cc
 some_held (Some h) hd is = refl
 
--- where the state has a hold, so has what it is kept in
+-- if the model's state has a hold, so has the stored one
 pub held_by_needs : (t : StoredState) (hd : Hold) → (state_of t).hold ≡ Some hd → IsSome t.hold
 held_by_needs t hd is = some_held t.hold hd (sym (held t) ∙ is)
 
@@ -43,11 +43,11 @@ look_room None hd is room = tt
 look_room (Some h) hd is room = let e : h.looks ≡ hd.looks = ap looks_of is in omega (arith, e, room)
 
 module _ (job : JobValue) (workers : ℕ) (t : StoredState) (w : ℕ) (h : RepInvariant job workers t) where
-  -- the tick has room
+  -- the tick stays below 2^64
   pub room : t.tick + 1 < 2 ^ 64
   room = let l = tick_most (core_job job workers) (state_of t) h.laws (kept_parts job workers t h) in let m = h.most in let e = tick_of t in omega (arith, l, m, e)
 
-  -- the look has room
+  -- the looks stay below 32
   pub take_room : (u : ℕ) → Needs (core_job job workers) (state_of t) w (Take u) → IfSome t.hold (λ (h : StoredHold). h.looks < 32)
   take_room u needs =
       let few = h.few in let at = needs.2 in let below = needs.3 in

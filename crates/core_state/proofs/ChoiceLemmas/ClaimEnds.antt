@@ -1,4 +1,4 @@
--- A node that is chosen to be claimed stands at an end of a list, and nowhere else.
+-- A node chosen for a claim is at an end of one list and in no other.
 use Rattle.std.proofs.Common.{ℕ, ◌≡◌, ◌≢◌, ◌-◌, ◌⊎◌, List, [], ◌∷◌, ◌++◌, length, get_or, arith, refl, inl, inr, sym, ◌∙◌, length-append}
 use Rattle.std.proofs.lemmas.Bool.{cases_eq}
 use Rattle.core_model.proofs.Words.{CoreJob, CoreState}

@@ -13,7 +13,7 @@ last_get : (x : ℕ) (xs : List ℕ) → slice_get (x ∷ xs) (length xs) ≡ So
 last_get x [] = refl
 last_get x (y ∷ ys) = last_get y ys
 
--- the last number of the own list is claimed
+-- an own list that is not empty: its last number is claimed
 pub newest_claim : (p : ℕ) (ready : ℕ → List ℕ) (w n : ℕ) (own : List ℕ) → slice_get own (length own - 1) ≡ Some n → Some (Claim n) ≡ claim_choice p ready w own
 newest_claim p ready w n [] e = absurd (cc)
 newest_claim p ready w n (x ∷ xs) e =
@@ -61,7 +61,7 @@ steal_zero q p from = refl
 pub nothing : (q : ℕ → List ℕ) (w p k : ℕ) → q w ≡ [] → choice_steal q p (w + k) (p - k) ≡ choice_steal q p (w + 1) (p - 1) → p ≤ k → None ≡ claim_choice p q w (q w)
 nothing q w p k own so_far past = let e : p - k ≡ 0 = omega arith in rw own (sym (steal_zero q p (w + k)) ∙ (rw e at so_far))
 
--- where no list has a node there is none to claim
+-- if all lists are empty, nothing can be claimed
 none_to_steal : (q : ℕ → List ℕ) (p from many : ℕ) → ((w : ℕ) → q w ≡ []) → choice_steal q p from many ≡ None
 none_to_steal q p from zero h = steal_zero q p from
 none_to_steal q p from (suc many) h = steal_suc q p from many ∙ rw (h (from % p)) (none_to_steal q p (from + 1) many h)

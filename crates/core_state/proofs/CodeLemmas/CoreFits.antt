@@ -1,4 +1,4 @@
--- What the choice of a turn looks up is there, in what a core keeps to.
+-- The invariant of a core implies the preconditions of choosing a turn.
 use Rattle.std.proofs.Common.{ℕ, ◌≡◌, ◌≢◌, ◌<◌, Some, arith, refl, sym, ◌∙◌}
 use Rattle.core_model.proofs.Words.{Nodes, IsPlan, Move, Root, OpenSecond, FinishParent, Arrive, CoreJob, names}
 use Rattle.core_parts.specs.Words.{Progress, Task, Idle, Run, Half, Started, Kept, Ended, Whole, Handed, Free, NotCalled, Out}

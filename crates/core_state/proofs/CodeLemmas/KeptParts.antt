@@ -1,4 +1,4 @@
--- What is carried of a table that fits.
+-- What carries over from one represented state to the next.
 use Rattle.std.proofs.Common.{ℕ, List}
 use Rattle.sp_order.specs.Jobs.{JobValue, job_tree}
 use Rattle.core_model.proofs.Words.{Act, Tree, core_job}

@@ -1,7 +1,7 @@
--- Which events are of the gate: those of calls and of the flag.
+-- The events of the gate: those of calls and of the flag.
 use Rattle.core_parts.specs.Words.{Event, Answer, Leave, Post, Publish, Release, Take, Win}
 
--- the event is of a call or of the flag
+-- the event concerns a call or the flag
 abbrev pub IsOfGate : Event → Type 0
 IsOfGate (Post n start) = Unit {0}
 IsOfGate Win = Unit {0}

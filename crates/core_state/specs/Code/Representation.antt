@@ -1,4 +1,4 @@
--- What the job and the table of a core keep to while memory has not failed.
+-- The invariant of a core's job and stored state while no allocation has failed in a batch.
 use Rattle.core_state.specs.Abstraction.{core_state_of}
 use Rattle.core_model.specs.Ranges.{LeafIn}
 use Rattle.core_state.specs.Code.Sizes.{HasShop, Sizes}
@@ -13,7 +13,7 @@ use Rattle.sp_order.specs.Precedence.{leaves}
 use Rattle.sp_order.specs.Preorder.{nodes_of}
 use Rattle.std.specs.Prelude.{Some, length, ℕ, ◌<◌, ◌≡◌, ◌≤◌}
 
--- what the table of a core keeps to that is not spent
+-- the invariant of a stored state for a job and a number of workers
 pub record RepInvariant (job : JobValue) (workers : ℕ) (t : StoredState) : Type 0 where
   pub some : 0 < workers
   pub few : workers ≤ 32
@@ -22,13 +22,13 @@ pub record RepInvariant (job : JobValue) (workers : ℕ) (t : StoredState) : Typ
   pub most : (nodes_of (job_tree job)).count < 40000
   pub leaves : leaves (job_tree job) ≡ length job.acts
   pub leaves_in : (n : ℕ) → LeafIn (length job.acts) ((nodes_of (job_tree job)).kind n)
-  -- a leaf that calls has a number below the nodes'
+  -- the number of a calling leaf is below the number of nodes
   pub calls_in : (leaf : ℕ) → IsCall (core_job job workers) leaf → leaf < (nodes_of (job_tree job)).count
   pub sizes : Sizes t (nodes_of (job_tree job)).count workers
   pub few_acts : length job.acts ≤ 20000
   pub shop : HasShop t
   pub inv : Invariant (core_job job workers) (core_state_of t)
 
--- and the same of a job as the code has it
+-- the same for a `Setting`
 abbrev pub Represents : Setting → StoredState → Type 0
 Represents setting t = RepInvariant setting.job setting.workers t

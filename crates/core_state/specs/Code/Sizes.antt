@@ -1,8 +1,8 @@
--- How long the lists of a table are, whether its shop is there, and what a step keeps of both.
+-- The lengths of a stored state's lists, the presence of its shop, and what each step preserves.
 use Rattle.core_state.specs.declared.state.State.{State as StoredState}
 use Rattle.std.specs.Prelude.{IsSome, length, ℕ, ◌≡◌}
 
--- how long the lists of a table are
+-- the lengths of the lists
 pub record Sizes (t : StoredState) (nodes workers : ℕ) : Type 0 where
   pub nodes_len : length t.nodes.items ≡ nodes
   pub marks_len : length t.marks.items ≡ nodes
@@ -12,11 +12,11 @@ pub record Sizes (t : StoredState) (nodes workers : ℕ) : Type 0 where
   pub calls_len : length t.calls.items ≡ workers
   pub ready_len : length t.ready ≡ workers
 
--- memory has not failed in a batch, so the shop is there
+-- the shop is present: no allocation has failed in a batch
 abbrev pub HasShop : StoredState → Type 0
 HasShop t = IsSome t.shop
 
--- the lists keep their lengths, and the shop stays there
+-- the lists keep their lengths, and a shop that is present stays
 pub record SameSizes (old new : StoredState) : Type 0 where
   pub nodes_same : length new.nodes.items ≡ length old.nodes.items
   pub marks_same : length new.marks.items ≡ length old.marks.items

@@ -1,4 +1,4 @@
-//! What the events of the gate write: post, win, take, answer, release and leave.
+//! The writes of the gate's events: post, win, take, answer, release and leave.
 ghost use Rattle.std.specs.Prelude.{◌≡◌, ◌<◌, length, None, Some, IfSome, IsSome, if◌then◌else◌};
 ghost use Rattle.core_model.specs.State.{put};
 ghost use Rattle.core_state.specs.Abstraction.{state_of, ready_of};
@@ -11,7 +11,7 @@ use crate::state::State;
 use core_model::{CallState, Receipt, Status};
 use core_parts::Hold;
 
-/// Whether a call with this status is posted, and no worker has taken it.
+/// Whether the status is `Pending`: the call is posted and not taken.
 fn is_pending(status: Status) -> bool
     ensures { result ≡ status_pending status }
 {
@@ -22,7 +22,7 @@ fn is_pending(status: Status) -> bool
 }
 
 impl State {
-    /// The worker posts the call of the leaf that it has started.
+    /// `Post`: the worker's call becomes pending.
     #[tactic(auto, using(core_parts::proofs::CodeLemmas::Written::at_written), unfolding(crate::specs::Abstraction::state_of, crate::specs::Abstraction::ready_of))]
     pub(crate) fn post(&mut self, worker: u32)
         requires status_in { worker < length self.old.statuses.items }
@@ -38,7 +38,7 @@ impl State {
         self.calls[worker as usize] = CallState::Out;
     }
 
-    /// The worker wins the flag.
+    /// `Win`: the worker owns the flag, with a new hold.
     #[tactic(auto, unfolding(crate::specs::Abstraction::state_of, crate::specs::Abstraction::ready_of))]
     pub(crate) fn win(&mut self, worker: u32)
         ensures sizes { SameSizes self.old self.new }
@@ -49,7 +49,7 @@ impl State {
         self.hold = Some(Hold::of(worker));
     }
 
-    /// The holder of the flag looks at the worker `other`, and takes its call if that is pending.
+    /// `Take`: the flag's owner looks at the worker `other` and takes its call if that is pending.
     #[tactic(auto, using(core_parts::proofs::CodeLemmas::Written::at_written), unfolding(crate::specs::Abstraction::state_of, crate::specs::Abstraction::ready_of))]
     pub(crate) fn take(&mut self, other: u32)
         requires status_in { other < length self.old.statuses.items }
@@ -75,7 +75,7 @@ impl State {
         }
     }
 
-    /// The worker `other` gets its receipt.
+    /// `Answer`: the worker `other` gets its receipt.
     #[tactic(auto, using(core_parts::proofs::CodeLemmas::Written::at_written), unfolding(crate::specs::Abstraction::state_of, crate::specs::Abstraction::ready_of))]
     pub(crate) fn answer(&mut self, other: u32, receipt: Receipt)
         requires status_in { other < length self.old.statuses.items }
@@ -95,7 +95,7 @@ impl State {
         hold.answer(other);
     }
 
-    /// The flag is released.
+    /// `Release`: the flag is free again.
     #[tactic(auto, unfolding(crate::specs::Abstraction::state_of, crate::specs::Abstraction::ready_of))]
     pub(crate) fn release(&mut self)
         ensures sizes { SameSizes self.old self.new }
@@ -105,7 +105,7 @@ impl State {
         self.hold = None;
     }
 
-    /// The worker leaves its call with its receipt.
+    /// `Leave`: the worker's status is free again, and its call has the receipt.
     #[tactic(auto, using(core_parts::proofs::CodeLemmas::Written::at_written), unfolding(crate::specs::Abstraction::state_of, crate::specs::Abstraction::ready_of))]
     pub(crate) fn leave(&mut self, worker: u32, receipt: Receipt)
         requires status_in { worker < length self.old.statuses.items }

@@ -1,4 +1,4 @@
-//! What the events of leaves and blocks write: claim, start, open, keep, end, finish and arrive.
+//! The writes of the events of leaves and blocks: claim, start, open, keep, end, finish and arrive.
 ghost use Rattle.std.specs.Prelude.{◌≡◌, ◌<◌, ◌+◌, ◌^◌, length, Some, ◌++◌, ◌∷◌, [], ℕ, IfOk};
 ghost use Rattle.core_model.specs.State.{put};
 ghost use Rattle.core_state.specs.Abstraction.{state_of, ready_of};
@@ -14,7 +14,7 @@ use crate::state::State;
 use core_model::{CallState, Progress, Task};
 use std::alloc::AllocError;
 
-/// The task of a worker that has finished a node: none after the root.
+/// The task after a node is done: `Idle` after the root, which is node 0, else `Whole`.
 fn task_after(node: u32) -> Task
     ensures { result ≡ next_task node }
 {
@@ -26,7 +26,7 @@ fn task_after(node: u32) -> Task
 }
 
 impl State {
-    /// The worker takes a ready node, which stands at an end of a list.
+    /// `Claim`: the worker takes a ready node from an end of some list.
     #[tactic(auto, using(core_parts::proofs::CodeLemmas::Written::at_written), unfolding(crate::specs::Abstraction::state_of, crate::specs::Abstraction::ready_of))]
     pub(crate) fn claim(&mut self, worker: u32, node: u32)
         requires worker_in { worker < length self.old.tasks.items }
@@ -45,7 +45,8 @@ impl State {
         self.tasks[worker as usize] = Task::Run(node);
     }
 
-    /// The worker makes a node ready, and has the task `then` after it.
+    /// The four open events: a side becomes ready at the newest end of the worker's list. `then` is the worker's next
+    /// task.
     #[tactic(auto, using(core_parts::proofs::CodeLemmas::Written::at_written), unfolding(crate::specs::Abstraction::state_of, crate::specs::Abstraction::ready_of))]
     pub(crate) fn open(&mut self, worker: u32, node: u32, then: Task) -> Result<(), AllocError>
         requires worker_in { worker < length self.old.tasks.items }
@@ -65,7 +66,7 @@ impl State {
         Ok(())
     }
 
-    /// The worker starts a leaf.
+    /// `Start`: the worker starts a leaf and draws a tick.
     #[tactic(auto, using(core_parts::proofs::CodeLemmas::Written::at_written), unfolding(crate::specs::Abstraction::state_of, crate::specs::Abstraction::ready_of))]
     pub(crate) fn start(&mut self, worker: u32, node: u32)
         requires worker_in { worker < length self.old.tasks.items }
@@ -84,7 +85,7 @@ impl State {
         self.tick += 1;
     }
 
-    /// The worker keeps the value of the leaf that it has started.
+    /// `Keep`: the leaf's value is stored, and the worker's call state is reset.
     #[tactic(auto, using(core_parts::proofs::CodeLemmas::Written::at_written), unfolding(crate::specs::Abstraction::state_of, crate::specs::Abstraction::ready_of))]
     pub(crate) fn keep(&mut self, worker: u32, node: u32, start: u64, value: u64)
         requires worker_in { worker < length self.old.tasks.items }
@@ -103,7 +104,7 @@ impl State {
         self.tasks[worker as usize] = Task::Kept { node, start };
     }
 
-    /// The worker ends the leaf whose value it has kept.
+    /// `End`: the worker ends its leaf and draws a tick.
     #[tactic(auto, using(core_parts::proofs::CodeLemmas::Written::at_written), unfolding(crate::specs::Abstraction::state_of, crate::specs::Abstraction::ready_of))]
     pub(crate) fn end(&mut self, worker: u32, node: u32, start: u64)
         requires worker_in { worker < length self.old.tasks.items }
@@ -123,7 +124,7 @@ impl State {
         self.tick += 1;
     }
 
-    /// The leaf that the worker has ended is done.
+    /// `FinishLeaf`: the leaf is done, with its worker and its two ticks.
     #[tactic(auto, using(core_parts::proofs::CodeLemmas::Written::at_written), unfolding(crate::specs::Abstraction::state_of, crate::specs::Abstraction::ready_of))]
     pub(crate) fn finish_leaf(&mut self, worker: u32, node: u32, start: u64, end: u64)
         requires worker_in { worker < length self.old.tasks.items }
@@ -139,7 +140,7 @@ impl State {
         self.tasks[worker as usize] = task_after(node);
     }
 
-    /// A block is done.
+    /// `FinishSeq` and `FinishPar`: the block `node` is done.
     #[tactic(auto, using(core_parts::proofs::CodeLemmas::Written::at_written), unfolding(crate::specs::Abstraction::state_of, crate::specs::Abstraction::ready_of))]
     pub(crate) fn finish_block(&mut self, worker: u32, node: u32)
         requires worker_in { worker < length self.old.tasks.items }
@@ -155,8 +156,8 @@ impl State {
         self.tasks[worker as usize] = task_after(node);
     }
 
-    /// A side of a parallel block arrives. `mark` is the number of sides that have arrived then, and `then` the
-    /// worker's next task.
+    /// The two arrive events: a side of the parallel block `node` arrives. `mark` is the number of its sides that have
+    /// arrived, this one included, and `then` the worker's next task.
     #[tactic(auto, using(core_parts::proofs::CodeLemmas::Written::at_written), unfolding(crate::specs::Abstraction::state_of, crate::specs::Abstraction::ready_of))]
     pub(crate) fn arrive(&mut self, worker: u32, node: u32, mark: u32, then: Task)
         requires worker_in { worker < length self.old.tasks.items }

@@ -1,4 +1,4 @@
-//! The choice of a worker that holds the flag or waits for it.
+//! The choice of a worker that owns the flag or waits for it.
 ghost use Rattle.std.specs.Prelude.{◌≡◌, ◌<◌, ◌≤◌, ◌^◌, Some, length, map};
 ghost use Rattle.batch_history.specs.Book.{flat};
 ghost use Rattle.seq_objects.specs.Pairs.{AreDistinct};
@@ -15,7 +15,7 @@ use core_model::{Event, Setting};
 use core_parts::{Hold, receipt_of};
 
 impl State {
-    /// The event of a worker whose call is pending: it wins the flag, if that is free.
+    /// The event of a worker whose call is pending: it wins the flag if that is free.
     #[tactic(auto, unfolding(crate::specs::Abstraction::state_of))]
     pub(crate) fn choose_pending(&self) -> Option<Event>
         ensures { result ≡ choice_pending (state_of self.now).hold }
@@ -26,7 +26,7 @@ impl State {
         }
     }
 
-    /// The event that answers a worker: it gets the receipt of its leaf's entry in the book.
+    /// The event that gives the worker `other` the receipt of its leaf's entry in the book.
     #[tactic(auto, unfolding(crate::specs::Abstraction::state_of))]
     fn choose_answer(&self, setting: &Setting, other: u32) -> Option<Event>
         requires looks { CanChoose setting.now self.now }
@@ -48,8 +48,8 @@ impl State {
         }
     }
 
-    /// The event of the worker that holds the flag: it looks at the workers one after another, publishes if it has
-    /// taken a call, answers the workers whose calls it has taken, and releases the flag.
+    /// The event of the flag's owner. It looks at each worker in turn, publishes unless it took no call, answers the
+    /// workers it took calls from, and then releases the flag.
     #[tactic(auto, unfolding(crate::specs::Abstraction::state_of))]
     pub(crate) fn choose_holding(&self, setting: &Setting, hold: &Hold) -> Option<Event>
         requires looks { CanChoose setting.now self.now }

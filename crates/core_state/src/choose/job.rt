@@ -1,4 +1,4 @@
-//! The choice of a worker whose node is done or that looks for one to claim, and the work that is due.
+//! The choice of a worker that claims a node or has finished one, and the work that is due.
 ghost use Rattle.std.specs.Prelude.{◌≡◌, ◌<◌, ◌≤◌, length, None, IsTrue};
 ghost use Rattle.core_model.specs.Settings.{job_of};
 ghost use Rattle.core_state.specs.Abstraction.{state_of, ready_of};
@@ -11,9 +11,9 @@ use core_parts::chosen::{of_arrive, of_parent, of_second, steps_of};
 use sp_order::node::Move;
 
 impl State {
-    /// The event of a worker without a task: it claims the newest node of its own list or, where that is empty, the
-    /// oldest of the next list that has a node, in the order of the workers' numbers. Where no list has a node it looks
-    /// at none of them; else it looks at each list at most once.
+    /// The event of an idle worker: it claims the newest node of its own list, or else steals the oldest node of the
+    /// first non-empty list after its own, in cyclic order of the workers. If all lists are empty it inspects none of
+    /// them; otherwise it inspects each at most once.
     #[tactic(auto, unfolding(crate::specs::Abstraction::ready_of))]
     pub(crate) fn choose_claim(&self, workers: u32, worker: u32) -> Option<Event>
         requires worker_in { worker < workers }
@@ -36,7 +36,7 @@ impl State {
         None
     }
 
-    /// Whether no list has a node, so that a worker without a task has none to claim.
+    /// Whether all ready lists are empty, so that an idle worker has nothing to claim.
     #[inline(always)]
     pub(crate) fn nothing_to_claim(&self, workers: u32, worker: u32) -> bool
         ensures { IsTrue result
@@ -45,7 +45,7 @@ impl State {
         self.ready.are_empty()
     }
 
-    /// The event of a worker whose node is done, by the move that the plan has after that node.
+    /// The event of a worker whose node is done, by the plan's move after that node.
     #[tactic(auto, unfolding(crate::specs::Abstraction::state_of))]
     pub(crate) fn choose_whole(&self, setting: &Setting, node: u32) -> Option<Event>
         requires node_in { node < (job_of setting.now).plan.count }
@@ -69,7 +69,7 @@ impl State {
         }
     }
 
-    /// The number of steps of the leaf that the worker has started, if it has started one that works.
+    /// The steps of the leaf that the worker has started, if that leaf works rather than calls.
     #[tactic(auto, unfolding(crate::specs::Abstraction::state_of))]
     pub fn work_due(&self, setting: &Setting, worker: u32) -> Option<u32>
         requires looks { CanChoose setting.now self.now }

@@ -1,4 +1,4 @@
-//! The opening state.
+//! The opening state of a run.
 ghost use Rattle.std.specs.Prelude.{◌≡◌, ◌<◌, ℕ, length, IfOk, replicate};
 ghost use Rattle.core_model.specs.State.{opening_state, opening_core};
 ghost use Rattle.core_parts.specs.Places.{at};
@@ -23,7 +23,7 @@ fn copies<T: Copy>(alloc: Global, item: T, count: u32) -> Result<Vec<T>, AllocEr
     Ok(items)
 }
 
-/// The progress of the nodes at the opening: the root is ready.
+/// The opening progress: the root is ready and all other nodes wait.
 fn opening_nodes(alloc: Global, nodes: u32) -> Result<Vec<Progress>, AllocError>
     requires { 0 < nodes }
     ensures len { IfOk result (λ v. length v.items ≡ nodes) }
@@ -35,7 +35,7 @@ fn opening_nodes(alloc: Global, nodes: u32) -> Result<Vec<Progress>, AllocError>
 }
 
 impl State {
-    /// The state in which the root is ready in the list of worker 0, and nothing has happened.
+    /// The opening state: the root is in worker 0's list, and nothing has happened.
     pub fn opening(alloc: Global, nodes: u32, workers: u32) -> Result<State, AllocError>
         requires nodes { 0 < nodes }
         requires workers { 0 < workers }

@@ -4,7 +4,7 @@ use Rattle.core_model.specs.State.{CoreJob, CoreState}
 use Rattle.core_model.specs.Reports.{IsDrivenFrom, IsRunFrom}
 use Rattle.batcher_core.proofs.driver.drive.Goals as goal
 
--- the report that turns make is that of a run
+-- the report of a run by turns is that of a run of the model
 run_of_driven : {E : Type 0} (made : Result Report E) (job : CoreJob) (leaf_total : ℕ) (first : CoreState) (schedule : List ℕ)
     → ((report : Report) → IsDrivenFrom job leaf_total first schedule report → IsRunFrom job leaf_total first report)
     → IfOk made (λ report. IsDrivenFrom job leaf_total first schedule report) → IfOk made (IsRunFrom job leaf_total first)

@@ -1,3 +1,3 @@
--- What only the code and its proofs cite: what the types keep.
+-- Definitions about representations, used only by the code and its proofs.
 pub mod Kept
 pub mod Opened

@@ -1,4 +1,4 @@
--- What shelves and sinks of bytes promise. `Code` is what only the code cites.
+-- What shelves and sinks of bytes promise. `Code` is internal to the crate's code and proofs.
 pub mod Bytes
 pub mod Causes
 pub mod Memory

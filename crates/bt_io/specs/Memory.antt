@@ -1,4 +1,4 @@
--- The shelf and the sink in memory, as contracts see them.
+-- The in-memory shelf and sink, as contracts see them.
 use Rattle.std.specs.Prelude.{ℕ, ◌-◌, List, [], ◌∷◌, ◌++◌, ◌==◌, length, take, drop, map, Option, None, Some, Result, Ok, Err, is_ok, if◌then◌else◌, string_bytes}
 use Rattle.std.specs.Option.{option_map}
 use Rattle.std.specs.Str.{bytes_eq}
@@ -12,17 +12,17 @@ pub record File : Type 0 where
   pub name : List ℕ
   pub bytes : List ℕ
 
--- the bytes of the first file of that name
+-- the bytes of the first file called `name`
 abbrev pub file_named : List File → List ℕ → Option (List ℕ)
 file_named [] name = None
 file_named (file ∷ files) name = if bytes_eq file.name name then Some file.bytes else file_named files name
 
--- the files that code holds as pairs
+-- the files that the code stores as pairs of a name and its bytes
 abbrev pub files_in : List (String Global × Vec ℕ Global) → List File
 files_in pairs = map (λ pair. record { name = string_bytes pair.0; bytes = pair.1.items }) pairs
 
--- A shelf in memory: its files; the most that one read gives; which calls fail, counted from 0, and how many
--- were made; what is left of the chosen file; how many calls have failed.
+-- An in-memory shelf: its `files`; `cut`, the most bytes of one read; `fails`, the numbers of the calls that fail, from
+-- 0; `calls`, the number of calls so far; `left`, the unread bytes of the chosen file; `faults`, the failed calls.
 pub record MemoryShelf : Type 0 where
   pub files : List File
   pub cut : ℕ
@@ -31,13 +31,13 @@ pub record MemoryShelf : Type 0 where
   pub left : Option (List ℕ)
   pub faults : ℕ
 
--- what is left of the chosen file after a read
+-- the unread bytes after a read: a success drops the bytes read, a failure none
 abbrev pub left_after : {E : Type 0} → Option (List ℕ) → Result ℕ E → Option (List ℕ)
 left_after left (Ok count) = option_map (drop count) left
 left_after left (Err e) = left
 
--- A sink in memory: what it took; how much it takes in all, and the most that one write takes; which writes
--- fail, counted from 0, and how many were made; how many have failed.
+-- An in-memory sink: `taken`, the bytes so far; `room`, the most bytes in all; `cut`, the most bytes of one write;
+-- `fails`, the numbers of the writes that fail, from 0; `calls`, the number of writes so far; `faults`, those failed.
 pub record MemorySink : Type 0 where
   pub taken : List ℕ
   pub room : ℕ
@@ -46,15 +46,15 @@ pub record MemorySink : Type 0 where
   pub calls : ℕ
   pub faults : ℕ
 
--- how many bytes a sink takes without a fault: what is left of its room, where no write is told to fail
+-- how many more bytes are sure to be taken: the unused room if no write is planned to fail, otherwise 0
 abbrev pub room_left_of : MemorySink → ℕ
 room_left_of sink = if length sink.fails == 0 then sink.room - length sink.taken else 0
 
--- what a sink has taken after a write
+-- the bytes taken after a write: a success appends the front of the piece, a failure nothing
 abbrev pub taken_after : {E : Type 0} → List ℕ → List ℕ → Result ℕ E → List ℕ
 taken_after taken piece (Ok count) = taken ++ take count piece
 taken_after taken piece (Err e) = taken
 
--- the count of faults after a call
+-- the fault count after a call: a failure raises it, saturating
 abbrev pub faults_after : {T E : Type 0} → ℕ → Result T E → ℕ
 faults_after faults result = if is_ok result then faults else saturating_succ faults

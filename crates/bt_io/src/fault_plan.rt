@@ -1,12 +1,12 @@
-//! The fault plan of an object in memory: which of its calls fail.
+//! The fault plan of an in-memory object: which of its calls fail.
 ghost use Rattle.std.specs.Prelude.{◌≡◌, ℕ, ◌↔◌, IsErr, Contains};
 ghost use Rattle.bt_io.specs.Causes.{saturating_succ};
 ghost use Rattle.bt_io.specs.Memory.{faults_after};
 
 use crate::Failed;
 
-/// The numbers of the calls that fail, where the first call has number 0; the count of calls made; and the count of
-/// calls that failed.
+/// Planned faults: `fails` has the numbers of the calls that fail, counted from 0; `calls` is the number of calls so
+/// far, and `faults` how many of them failed. Both counts saturate.
 #[derive(Drop)]
 pub(crate) struct FaultPlan {
     pub(crate) fails: Vec<u64>,
@@ -15,7 +15,7 @@ pub(crate) struct FaultPlan {
 }
 
 impl FaultPlan {
-    /// Counts a call, and fails where the plan lists its number.
+    /// Counts a call, and fails if `fails` has its number.
     pub(crate) fn call(&mut self) -> Result<(), Failed>
         ensures listed { IsErr result ↔ Contains self.old.fails.items self.old.calls }
         ensures after { self.new ≡ record self.old {
@@ -28,7 +28,7 @@ impl FaultPlan {
         if listed { Err(self.fail()) } else { Ok(()) }
     }
 
-    /// Counts a call that failed.
+    /// Counts a fault, and returns the error to answer.
     pub(crate) fn fail(&mut self) -> Failed
         ensures { self.new ≡ record self.old { faults = saturating_succ self.old.faults } }
     {

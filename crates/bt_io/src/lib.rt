@@ -1,8 +1,8 @@
-//! Bytes in and bytes out: a shelf of named files, a sink, and the points at which a run may be held.
+//! Byte input and output: the traits `Shelf` (named files) and `Sink`, and the `Pause` points of a run.
 //!
-//! Every layer above reads and writes through the two traits of this crate, so its contracts can say which
-//! bytes came and which went. A call fails only where the count of faults of its own object rises. The crate
-//! stands on nothing but std.
+//! Every layer above does its input and output through `Shelf` and `Sink`, so its contracts can state which bytes
+//! were read and written. Each object counts its faults, and a failed call raises that count (unless it is
+//! saturated). The crate depends on std alone.
 #![tactic(auto)]
 
 mod fault_plan;
@@ -22,6 +22,6 @@ pub use sink::{Sink, write_all};
 pub use std_shelf::StdShelf;
 pub use std_sink::StdSink;
 
-/// A choice, a read or a write that failed.
+/// The error of a failed `choose`, `read` or `write`.
 #[derive(Clone, Copy)]
 pub struct Failed;

@@ -1,4 +1,4 @@
-//! A shelf in memory, with a plan of the calls that fail.
+//! An in-memory `Shelf` whose failing calls are planned, for tests.
 ghost use Rattle.std.specs.Prelude.{◌≡◌, ℕ, ◌+◌, ◌^◌, ◌<◌, ◌↔◌, ◌⊎◌, ◌==◌, [], length, min, take, drop, Some, None, IsTrue, IsOk, IsErr, IsSome, IsNone, IfOk, OnOk, Contains, is_ok, is_some, true, unwrap_or, if◌then◌else◌};
 ghost use Rattle.std.specs.Io.{ReadsAtMost};
 ghost use Rattle.std.specs.Io.KnownBytes.{ReadConsumes};
@@ -11,9 +11,9 @@ use crate::fault_plan::FaultPlan;
 use crate::{Failed, Shelf};
 use std::marker::Model;
 
-/// Files in memory, which may be asked for under every name. Contracts see it as a `MemoryShelf`.
+/// Files in memory; any name may be asked for. Contracts see it as a `MemoryShelf`.
 ///
-/// Of two files of one name the first counts. The calls of `choose` and of `read` are counted together, from 0.
+/// If two files have one name, the first is found. `choose` and `read` share one call count, which starts at 0.
 #[derive(Drop)]
 pub struct MemShelf {
     files: Vec<(String, Vec<u8>)>,
@@ -42,7 +42,7 @@ impl Model for MemShelf {
     ghost invariant = { λ s. 0 < s.cut };
 }
 
-/// The index of the first file of that name.
+/// The index of the first file called `name`.
 fn place_of(files: &[(String, Vec<u8>)], name: &str) -> Option<usize>
     ensures place { left_of (files_in files.now) result 0 ≡ file_named (files_in files.now) name.now }
     ensures found { is_some result ≡ is_some (file_named (files_in files.now) name.now) }
@@ -55,7 +55,7 @@ fn place_of(files: &[(String, Vec<u8>)], name: &str) -> Option<usize>
     None
 }
 
-/// The bytes of the file at index `place`, from the byte `at` on.
+/// The bytes of the file at index `place` from offset `at`; empty past its end, or if there is no such file.
 fn rest_of(files: &[(String, Vec<u8>)], place: usize, at: usize) -> &[u8]
     ensures rest { result.now ≡ drop at (bytes_at (files_in files.now) place) }
     ensures fits { at + length result.now < 2 ^ 64 }
@@ -69,7 +69,7 @@ fn rest_of(files: &[(String, Vec<u8>)], place: usize, at: usize) -> &[u8]
     }
 }
 
-/// Puts the front of `rest` into the buffer, at most `cut` bytes of it, and says how many.
+/// Copies the front of `rest` to the front of `buf`, at most `cut` bytes, and returns the number copied.
 fn give(rest: &[u8], cut: usize, buf: &mut [u8]) -> usize
     ensures count { result ≡ min (min cut (length buf.old)) (length rest.now) }
     ensures bytes { take result buf.new ≡ take result rest.now }
@@ -80,7 +80,7 @@ fn give(rest: &[u8], cut: usize, buf: &mut [u8]) -> usize
 }
 
 impl MemShelf {
-    /// A shelf of these files. A read gives at most `cut` bytes; the calls that are listed in `fails` fail.
+    /// A shelf of `files`. A read returns at most `cut` bytes; `fails` lists the numbers of the calls that fail.
     pub fn make(files: Vec<(String, Vec<u8>)>, cut: usize, fails: Vec<u64>) -> MemShelf
         requires { 0 < cut }
         ensures { result ≡ record {
@@ -128,7 +128,7 @@ impl Shelf for MemShelf {
         ensures found { IsTrue (length self.old.fails == 0) →
             IsSome (file_named self.old.files name.now) → IsOk result }
 
-        // When it fails, and the whole shelf after it.
+        // The exact behaviour: when a choice fails, and the shelf's next state.
         ensures fails { IsErr result ↔
             (Contains self.old.fails self.old.calls ⊎ IsNone (file_named self.old.files name.now)) }
         ensures after { self.new ≡ record self.old {
@@ -157,7 +157,7 @@ impl Shelf for MemShelf {
         ensures never_fails { IsTrue (length self.old.fails == 0) → IsTrue (length self.new.fails == 0) }
         ensures succeeds { IsTrue (length self.old.fails == 0) → IsOk result }
 
-        // When it fails, how many bytes it gives else, and the whole shelf after it.
+        // The exact behaviour: when a read fails, how many bytes it gives otherwise, and the shelf's next state.
         ensures fails { IsErr result ↔ Contains self.old.fails self.old.calls }
         ensures count { IfOk result (λ count.
             count ≡ min (min self.old.cut (length buf.old)) (length (unwrap_or self.old.left []))) }

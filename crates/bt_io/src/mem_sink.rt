@@ -1,4 +1,4 @@
-//! A sink in memory, with a plan of the writes that fail.
+//! An in-memory `Sink` whose failing writes are planned, for tests.
 ghost use Rattle.std.specs.Prelude.{◌≡◌, ℕ, ◌+◌, ◌-◌, ◌<◌, ◌≤◌, ◌↔◌, ◌⊎◌, ◌++◌, ◌==◌, [], length, min, take, Some, IsOk, IsErr, IfOk, Contains, if◌then◌else◌};
 ghost use Rattle.std.specs.Io.{WritesAtMost};
 ghost use Rattle.std.specs.Io.KnownBytes.{WriteAppends};
@@ -10,10 +10,10 @@ use crate::{Failed, Sink};
 use std::alloc::{AllocError, Global};
 use std::marker::Model;
 
-/// Takes bytes into memory, `room` of them in all. Contracts see it as a `MemorySink`.
+/// Collects at most `room` bytes in memory. Contracts see it as a `MemorySink`.
 ///
-/// It fails at the writes that it was told to fail, counted from 0, and at a piece that has bytes once its
-/// room is used up.
+/// A write fails if its number, counted from 0, is in the plan, or if a non-empty piece arrives when `room` is
+/// used up.
 #[derive(Drop)]
 pub struct MemSink {
     bytes: Vec<u8>,
@@ -41,8 +41,8 @@ impl Model for MemSink {
 }
 
 impl MemSink {
-    /// An empty sink, which takes at most `room` bytes in all and `cut` a time. It takes the memory for them
-    /// here, and none at a write. The writes that are listed in `fails` fail.
+    /// An empty sink of at most `room` bytes in all and `cut` bytes a write. All memory is allocated here, none in
+    /// `write`. `fails` lists the numbers of the writes that fail.
     pub fn make(
         alloc: Global,
         room: usize,
@@ -71,7 +71,7 @@ impl MemSink {
         })
     }
 
-    /// What it took.
+    /// All bytes written so far.
     pub fn bytes(&self) -> &[u8]
         ensures taken { result.now ≡ self.now.taken }
         ensures within { length result.now ≤ self.now.room }
@@ -95,7 +95,7 @@ impl Sink for MemSink {
         ensures succeeds { 0 < length piece.now → length piece.now ≤ room_left_of self.old → IsOk result }
         ensures room_left { IfOk result (λ count. room_left_of self.old ≤ room_left_of self.new + count) }
 
-        // When it fails, how many bytes it takes else, and the whole sink after it.
+        // The exact behaviour: when a write fails, how many bytes it takes otherwise, and the sink's next state.
         ensures fails { IsErr result ↔ (Contains self.old.fails self.old.calls
             ⊎ ((0 < length piece.now) × (length self.old.taken ≡ self.old.room))) }
         ensures count { IfOk result (λ count.

@@ -1,25 +1,25 @@
-//! The points at which a run may be held, for tests that steer the workers.
+//! Points at which a test can hold a worker, to steer the interleaving of a run.
 
-/// Where a worker stands.
+/// A moment in a worker's turn, just after or just before a step.
 #[derive(Clone, Copy)]
 pub enum Point {
-    /// It has drawn the start of this leaf.
+    /// The worker has started this leaf; its work is still to come.
     LeafStart(u32),
-    /// It has posted the call of this leaf.
+    /// The worker has posted the call of this leaf.
     Posted(u32),
-    /// It has won the batch flag.
+    /// The worker has won the batch flag, so it is the combiner of the next batch.
     Won,
-    /// It is about to run the piece at this place.
+    /// The worker is about to run the batch piece at this place.
     PieceStart(u32),
 }
 
-/// What the workers call at the points of a run, outside every lock.
+/// The hook that workers call at each `Point`, while they hold no lock.
 pub trait Pause {
-    /// Worker `worker` stands at the point. It goes on when this returns.
+    /// Called by worker `worker` at `point`. The worker continues when this returns.
     fn at(&self, point: Point, worker: u32);
 }
 
-/// Holds nobody: it returns at once.
+/// Holds no worker: `at` returns at once.
 #[derive(Clone, Copy)]
 pub struct NoPause;
 

@@ -1,4 +1,4 @@
-//! A shelf: files under names, of which one is chosen and then read.
+//! `Shelf`: named files, of which one at a time is chosen and read.
 ghost use Rattle.std.specs.Prelude.{◌≡◌, ℕ, ◌+◌, ◌^◌, ◌<◌, ◌≤◌, List, Option, Bool, IsTrue, IsSome, IsOk, IfOk, OnOk, IsErrOf, vec_len, is_ok};
 ghost use Rattle.std.specs.Io.{ReadsAtMost};
 ghost use Rattle.std.specs.Io.KnownBytes.{IsAtEnd, ReadConsumes};
@@ -8,30 +8,30 @@ ghost use Rattle.bt_io.specs.Bytes.{IsTold, IsWhole, ConsumesCount, ConsumesAtMo
 use crate::Failed;
 use std::alloc::Global;
 
-/// Files under names, of which one is chosen and then read from its start.
+/// Named files, of which one at a time is chosen and then read from its start.
 ///
-/// What a shelf holds, and what is left of the chosen file, may be told or not: the clauses on bytes hold
-/// where it is told. No call changes which names may be asked for, nor what the shelf holds.
+/// The contents may be known to contracts (`Some`) or unknown (`None`); clauses on bytes say something only where they
+/// are known. No call changes which names may be asked for, or what the shelf holds.
 pub trait Shelf {
-    /// Whether the shelf may be asked for a name.
+    /// Whether `choose` may be called with a name.
     ghost may: { Self → List ℕ → Bool };
 
-    /// The bytes under a name, where they are told.
+    /// The bytes of the file of a name, where known.
     ghost held: { Self → List ℕ → Option (List ℕ) };
 
-    /// Whether the last choice succeeded.
+    /// Whether a file is chosen: the last `choose` succeeded.
     ghost ready: { Self → Bool };
 
-    /// The bytes of the chosen file that were not given yet, where they are told.
+    /// The bytes of the chosen file that are still to be read, where known.
     ghost left: { Self → Option (List ℕ) };
 
-    /// How often a call has failed; it never falls.
+    /// The number of failed calls so far; it never falls.
     ghost faults: { Self → ℕ };
 
-    /// Whether no call will fail, but a choice of a name under which no bytes are told.
+    /// Whether no call fails from now on, except a choice of a name whose `held` is `None`.
     ghost never_fails: { Self → Bool };
 
-    /// Chooses the file of that name, to be read from its start.
+    /// Chooses the file called `name`; `read` begins at its start.
     fn choose(&mut self, name: &str) -> Result<(), Failed>
         requires { IsTrue (may self.old name.now) }
         ensures may { may self.new ≡ may self.old }
@@ -42,8 +42,8 @@ pub trait Shelf {
         ensures never_fails { IsTrue (never_fails self.old) → IsTrue (never_fails self.new) }
         ensures found { IsTrue (never_fails self.old) → IsSome (held self.old name.now) → IsOk result };
 
-    /// Reads the next bytes of the chosen file into the front of `buf`, and says how many. It gives none to a
-    /// buffer that has room only at the end of the file.
+    /// Reads the next bytes of the chosen file into the front of `buf`, and returns their number. For a non-empty
+    /// `buf`, 0 means the end of the file.
     fn read(&mut self, buf: &mut [u8]) -> Result<usize, Failed>
         requires { IsTrue (ready self.old) }
         ensures may { may self.new ≡ may self.old }
@@ -59,18 +59,18 @@ pub trait Shelf {
 /// Why a file was not read to its end.
 #[derive(Clone, Copy)]
 pub enum ReadErr {
-    /// A read failed.
+    /// A call of `read` failed.
     Failed,
-    /// There were more bytes than the limit.
+    /// The file has more bytes than the limit.
     TooLong,
-    /// Memory ran out.
+    /// Out of memory.
     Memory,
 }
 
-/// All that is left of the chosen file, where that is at most `limit` bytes.
+/// Reads the rest of the chosen file, if that is at most `limit` bytes.
 ///
-/// Each turn takes at least one byte or is the last. It is too long exactly where more than `limit` bytes were
-/// given, of which the last is the first byte past the limit. Time and memory: linear in `limit` at most.
+/// On `TooLong` exactly `limit + 1` bytes were consumed, otherwise at most `limit`. Every iteration but the last
+/// reads at least one byte. Time and memory: at most linear in `limit`.
 pub fn read_up_to<S: Shelf>(alloc: Global, shelf: &mut S, limit: usize) -> Result<Vec<u8>, ReadErr>
     requires ready { IsTrue (S.ready shelf.old) }
     requires limit { limit < 2 ^ 32 }
@@ -80,12 +80,12 @@ pub fn read_up_to<S: Shelf>(alloc: Global, shelf: &mut S, limit: usize) -> Resul
     ensures too_long { IsErrOf result ReadErr.TooLong → ConsumesCount (S.left shelf.old) (S.left shelf.new) (limit + 1) }
     ensures within { ¬ IsErrOf result ReadErr.TooLong → ConsumesAtMost (S.left shelf.old) (S.left shelf.new) limit }
 
-    // A failed read is answered only where the shelf's count of faults rose.
+    // `ReadErr::Failed` is returned only if the shelf's fault count rose (or is saturated).
     ensures later { S.faults shelf.old ≤ S.faults shelf.new }
     ensures failed { IsErrOf result ReadErr.Failed → Rose (S.faults shelf.old) (S.faults shelf.new) }
     ensures never_fails { IsTrue (S.never_fails shelf.old) → IsTrue (S.never_fails shelf.new) × (IsErrOf result ReadErr.Failed → ⊥) }
 
-    // The shelf stays the same but for what is left.
+    // The shelf still has a chosen file, and neither its names nor its contents changed.
     ensures chosen { IsTrue (S.ready shelf.new) }
     ensures may { S.may shelf.new ≡ S.may shelf.old }
     ensures held { S.held shelf.new ≡ S.held shelf.old }

@@ -1,4 +1,4 @@
-//! A sink: it takes bytes, piece after piece.
+//! `Sink`: a destination for bytes, written piece after piece.
 ghost use Rattle.std.specs.Prelude.{◌≡◌, ℕ, ◌+◌, ◌<◌, ◌≤◌, List, length, Option, IfOk, IsOk, OnOk};
 ghost use Rattle.std.specs.Io.{WritesAtMost};
 ghost use Rattle.std.specs.Io.KnownBytes.{Appends, WriteAppends};
@@ -7,18 +7,18 @@ ghost use Rattle.bt_io.specs.Bytes.{AppendsFront};
 
 use crate::Failed;
 
-/// What takes bytes, one piece after another.
+/// A destination for bytes, which may take only a part of each piece it is given.
 pub trait Sink {
-    /// The bytes that it took so far, where they are told.
+    /// All bytes taken so far, where known.
     ghost taken: { Self → Option (List ℕ) };
 
-    /// How often a write has failed; it never falls.
+    /// The number of failed writes so far; it never falls.
     ghost faults: { Self → ℕ };
 
-    /// How many more bytes it is sure to take without a fault.
+    /// How many more bytes are guaranteed to be taken without a fault.
     ghost room_left: { Self → ℕ };
 
-    /// Takes a front of the piece, and says how many bytes that is: at least one of a piece that has any.
+    /// Takes a front of the piece, and returns its length, which is positive for a non-empty piece.
     fn write(&mut self, piece: &[u8]) -> Result<usize, Failed>
         ensures bound { WritesAtMost result piece.now }
         ensures progress { 0 < length piece.now → IfOk result (λ count. 0 < count) }
@@ -28,8 +28,8 @@ pub trait Sink {
         ensures room_left { IfOk result (λ count. room_left self.old ≤ room_left self.new + count) };
 }
 
-/// Writes all of the bytes, piece after piece. It fails only where a write of the sink does; the sink has then
-/// taken a front of the bytes. Memory: none.
+/// Writes all of `bytes`, in as many writes as it takes. It fails only if a write of the sink fails; the sink has
+/// then taken a front of `bytes`. Memory: none.
 pub fn write_all<O: Sink>(sink: &mut O, bytes: &[u8]) -> Result<(), Failed>
     ensures ok { OnOk result (Appends (O.taken sink.old) (O.taken sink.new) bytes.now) }
     ensures front { AppendsFront (O.taken sink.old) (O.taken sink.new) bytes.now }

@@ -1,4 +1,4 @@
-//! A shelf over the system's files and standard input.
+//! A `Shelf` over the system's files and standard input.
 ghost use Rattle.std.specs.Prelude.{◌≡◌, true, false, None, is_some};
 ghost use Rattle.std.specs.Option.{option_and_then};
 
@@ -7,15 +7,15 @@ use std::fs;
 use std::io::Read;
 use std::rt::Files;
 
-/// An opened file, or standard input.
+/// The chosen source: an open file, or standard input.
 #[derive(Drop)]
 enum Opened<F, I> {
     File(F),
     Input(I),
 }
 
-/// The system's files under their paths, and standard input under the name `-`. It tells what these tell: of
-/// the system's own, nothing.
+/// The system's files under their paths, and standard input under the name `-`. `held` knows no bytes; `left` knows
+/// what the opened file or reader exposes as `remaining`.
 #[derive(Drop)]
 pub struct StdShelf<'a, R: Files + Input> {
     rt: &'a R,
@@ -24,7 +24,7 @@ pub struct StdShelf<'a, R: Files + Input> {
 }
 
 impl<'a, R: Files + Input> StdShelf<'a, R> {
-    /// A shelf of which nothing is chosen.
+    /// A shelf with no file chosen and no faults counted.
     pub fn make(rt: &'a R) -> StdShelf<'a, R>
         ensures ready { ⟦<StdShelf<'a, R> as Shelf>⟧.ready result ≡ false }
         ensures faults { ⟦<StdShelf<'a, R> as Shelf>⟧.faults result ≡ 0 }

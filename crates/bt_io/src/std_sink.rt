@@ -1,11 +1,11 @@
-//! A sink over a writer of std: standard output or standard error.
+//! A `Sink` over a std writer, such as standard output or standard error.
 ghost use Rattle.std.specs.Prelude.{◌≡◌};
 
 use crate::{Failed, Sink};
 use std::io::Write;
 
-/// A writer of std as a sink. It tells what the writer tells: of standard output, nothing. A write that takes
-/// none of a piece that has some is a fault.
+/// A std writer as a sink. Its bytes are known where the writer's `contents` are; those of the real standard output
+/// are not. A write that takes no byte of a non-empty piece counts as a fault.
 #[derive(Drop)]
 pub struct StdSink<W: Write> {
     inner: W,

@@ -1,4 +1,4 @@
--- The digits that a text begins with, and what stands behind them.
+-- The run of digits at the front of a text, and what follows it.
 use Rattle.std.proofs.Common.{rules, ◌≡◌, ℕ, ◌+◌, ◌<◌, ◌≤◌, ◌^◌, Bool, true, false, List, [], ◌∷◌, ◌++◌, length, take, drop, refl, sym, ap, ◌∙◌, one-add, arith}
 use Rattle.std.specs.Prelude.{cond}
 use Rattle.std.specs.List.{prefix_len, AllByRecursion}
@@ -25,7 +25,7 @@ run_at : (byte : ℕ) (text : List ℕ) (is : Bool) (n : ℕ) → is_ascii_digit
 run_at byte text true n is digits ends = rw one-add ((is, digits), ends)
 run_at byte text false n is digits ends = (tt, is)
 
--- the run is of digits, and ends with the first byte that is none
+-- the run consists of digits, and the text behind it does not begin with one
 pub run_is : (text : List ℕ) → Digits (take (prefix_len is_ascii_digit text) text) × BeginsNoDigit (drop (prefix_len is_ascii_digit text) text)
 run_is [] = (tt, tt)
 run_is (byte ∷ text) =
@@ -35,7 +35,7 @@ run_is (byte ∷ text) =
 pub run_within : (text : List ℕ) → prefix_len is_ascii_digit text ≤ length text
 run_within text = prefix_len-le-length is_ascii_digit text
 
--- digits with none behind them are told apart from what follows in one way
+-- a text splits into digits and a rest that does not begin with a digit in one way only
 pub digits_apart : (xs ys r s : List ℕ) → Digits xs → Digits ys → BeginsNoDigit r → BeginsNoDigit s → xs ++ r ≡ ys ++ s → (xs ≡ ys) × (r ≡ s)
 digits_apart [] [] r s dx dy er es is = (refl, is)
 digits_apart [] (y ∷ ys) [] s dx dy er es is = cc
@@ -55,7 +55,7 @@ one_way most text m n rest rest' small a b =
     let parts = digits_apart (decimal m) (decimal n) rest rest' (decimal_digits m below) (decimal_digits n below') a.ends b.ends (a.written ∙ sym b.written) in
     (decimal_injective m n below below' parts.0, parts.1)
 
--- where the text begins with a decimal, its digits are this decimal
+-- if the text is a decimal and then a rest, its run of digits is this decimal
 pub run_written : (most k : ℕ) (text : List ℕ) (n : ℕ) (rest : List ℕ) → most < 2 ^ 64 → k ≡ prefix_len is_ascii_digit text → IsDecimalThen most text n rest → (take k text ≡ decimal n) × (drop k text ≡ rest)
 run_written most k text n rest small is a =
     let below : n < 2 ^ 64 = omega (arith, a.within) in
@@ -63,7 +63,7 @@ run_written most k text n rest small is a =
     let parts = digits_apart (take k text) (decimal n) (drop k text) rest (rw is run.0) (decimal_digits n below) (rw is run.1) a.ends (take-append-drop k text ∙ sym a.written) in
     parts
 
--- what is read of the run
+-- if the run is the decimal of a number within the bound, the text is this decimal and then the rest
 pub run_read : (most k : ℕ) (text digits rest : List ℕ) (n : ℕ) → k ≡ prefix_len is_ascii_digit text → digits ≡ take k text → rest ≡ drop k text → digits ≡ decimal n → n ≤ most → IsDecimalThen most text n rest
 run_read most k text digits rest n is front back written within = record {
   written = ap (λ d. d ++ rest) (sym written) ∙ ap (λ d. d ++ rest) front ∙ ap (λ r. take k text ++ r) back ∙ take-append-drop k text;

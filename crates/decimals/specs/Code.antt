@@ -1,2 +1,2 @@
--- What only the code and its proofs cite.
+-- Definitions used only by the code and its proofs.
 pub mod Fronts

@@ -1,4 +1,4 @@
--- Numbers in decimal, in words and in texts. `Code` is what only the code cites.
+-- Decimal numbers in words and in texts. `Code` is internal to the crate's code and proofs.
 pub mod Words
 pub mod Texts
 pub mod Code

@@ -1,9 +1,9 @@
-//! Numbers in decimal, as words and texts have them: without a sign, and without leading zeros.
+//! Reads unsigned decimal numbers, without a sign and without leading zeros.
 //!
-//! What is read is the inverse of what is written: a number comes exactly where its decimal stands, and none exactly where
-//! no number's does. `word` reads words that are a decimal as a whole, and `text` a decimal at the front of a text. `laws`
-//! says that there is one way to read it. The decimals are those that `itoa` and `format!` write. The crate stands on
-//! nothing but std.
+//! Reading is the inverse of writing: a reader returns a number exactly if the input is the decimal of a number within
+//! its bounds. `word` reads a word that is a decimal as a whole, and `text` reads a decimal at the front of a text.
+//! `laws` states that a reading is unique. The accepted decimals are exactly those that `itoa` and `format!` write. The
+//! crate depends on std alone.
 #![tactic(auto)]
 
 pub mod laws;

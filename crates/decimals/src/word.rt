@@ -1,4 +1,4 @@
-//! Words that are a number in decimal as a whole.
+//! Reading words that are a decimal number as a whole.
 ghost use Rattle.std.specs.Prelude.{◌≡◌, ◌↔◌, ◌<◌, ◌^◌, ℕ, IsTrue, IfSome, IfNone};
 ghost use Rattle.std.specs.Fmt.{decimal};
 ghost use Rattle.decimals.specs.Words.{number_between};
@@ -6,7 +6,7 @@ ghost use Rattle.decimals.specs.Code.Fronts.{BeginsPlain};
 
 use std::str;
 
-/// Whether a word begins with no plus, and with no zero but that of `0`.
+/// Whether the word has neither a leading `+` nor a leading zero before more bytes: `parse` would accept both.
 fn begins_plain(word: &[u8]) -> bool
     ensures { IsTrue result ↔ BeginsPlain word.now }
 {
@@ -17,7 +17,7 @@ fn begins_plain(word: &[u8]) -> bool
     }
 }
 
-/// The number below 2^64 of which a word is the decimal, if it is one's. Time: linear in the word. Memory: none.
+/// The number below 2^64 whose decimal is `word`, if there is one. Time: linear in the word. Memory: none.
 pub fn decimal_in(word: &[u8]) -> Option<u64>
     ensures some { IfSome result (λ number. word.now ≡ decimal number) }
     ensures none { IfNone result ((number : ℕ) → number < 2 ^ 64 → word.now ≡ decimal number → ⊥) }
@@ -31,8 +31,8 @@ pub fn decimal_in(word: &[u8]) -> Option<u64>
     }
 }
 
-/// The number from `least` to `most` of which a word is the decimal, if it is one's. Time: linear in the word. Memory:
-/// none.
+/// The number from `least` to `most`, both included, whose decimal is `word`, if there is one. Time: linear in the
+/// word. Memory: none.
 pub fn number_between(word: &[u8], least: u64, most: u64) -> Option<u64>
     ensures { result ≡ number_between least most word.now }
 {

@@ -1,4 +1,4 @@
--- What a call's seat holds from step to step, and what its last step leaves.
+-- The seat of a call between its steps, and after its last step.
 use Rattle.std.proofs.Common.{◌≡◌, ℕ, ◌+◌, ◌*◌, ◌<◌, ◌≤◌, List, [], ◌∷◌, get_or, Option, None, Some, IsSomeAnd, sym, refl, ap, ◌∙◌, subst, arith}
 use mathlib.Core.Option.{none}
 use Rattle.atomic_table.specs.Table.{step, rest, Allows}
@@ -12,7 +12,7 @@ use Rattle.piece_board.specs.Rule.{ObeysRule}
 use Rattle.piece_board.specs.Steps.{SeatAt, with_in_hand, then_desk, then_desk_with, Posts, Strays, Finishes, PutsBack}
 use Rattle.piece_board.proofs.RuleLemmas.Steps.{IsOwn, posts, puts_own, puts_claim, finishes}
 
--- the place is one of the board's
+-- a place of a row of the board is a place of its table
 pub within : (rows row place number places : ℕ) → places ≡ 56 * rows → row < rows → place < 56
     → number ≡ number_of row place → number < places
 within rows row place number places all below place_below is = omega (arith, all, below, place_below, is)
@@ -22,7 +22,7 @@ pub own_place : {I : Type 0} (v : View I) (row place number : ℕ) → v.desk.ro
 own_place v row place number first end below is =
     record { number = omega (arith, first, is); below = below; row = omega (arith, first, end) }
 
--- what is there, and what is said of it
+-- the value in the option, and its property
 pub what_is_there : {A : Type 0} (o : Option A) (P : A → Type 0) → IsSomeAnd o P → (x : A) × (o ≡ Some x) × P x
 what_is_there None P h = absurd h
 what_is_there (Some x) P h = (x, refl, h)
@@ -31,26 +31,26 @@ pub it_is_there : {A : Type 0} (o : Option A) (P : A → Type 0) (x : A) → o �
 it_is_there {A} o P x is h = subst (λ (q : Option A). IsSomeAnd q P) (sym is) h
 
 module _ {I O : Type 0} where
-  -- the slot that is in hand has been written
+  -- the seat after a write to the slot in hand
   pub written : (m n p : SeatAt I O) (v : View I) (k : ℕ) (x y : Content I O) → n ≡ (v, (k, x) ∷ m.1) → m.1 ≡ []
       → p ≡ (n.0, (k, y) ∷ rest n.1) → p ≡ (v, (k, y) ∷ [])
   written m n p v k x y taken empty then =
       then ∙ ap (λ (q : SeatAt I O). (q.0, (k, y) ∷ rest q.1)) taken
       ∙ ap (λ (l : List (ℕ × Content I O)). (v, (k, y) ∷ l)) empty
 
-  -- it can be written
+  -- the slot taken is in hand, so it can be written
   pub in_hand : (m n : SeatAt I O) (v : View I) (k : ℕ) (x : Content I O) → n ≡ (v, (k, x) ∷ m.1)
       → n.1 ≡ (k, x) ∷ rest n.1
   in_hand m n v k x taken =
       ap (λ (q : SeatAt I O). q.1) taken ∙ ap (λ (q : SeatAt I O). (k, x) ∷ rest q.1) (sym taken)
 
-  -- what was read of it is what was taken
+  -- the content read from the slot in hand is the content taken
   pub read : (m n : SeatAt I O) (v : View I) (k : ℕ) (x y : Content I O) → n ≡ (v, (k, x) ∷ m.1)
       → n.1 ≡ (k, y) ∷ rest n.1 → x ≡ y
   read m n v k x y taken is =
       ap (λ (l : List (ℕ × Content I O)). (get_or l 0 (k, x)).1) (sym (ap (λ (q : SeatAt I O). q.1) taken) ∙ is)
 
-  -- a seat that holds nothing, and has the row that it had, is a desk's
+  -- a seat with no slot in hand, and with one row, is that of a desk
   pub is_desk : (n : SeatAt I O) (w : View I) (row : ℕ) → n ≡ (w, []) → w.in_hand ≡ 0 → w.desk.row ≡ row
       → w.end_row ≡ row + 1
       → ((n.1 ≡ []) × (n.0.in_hand ≡ 0)) × ((n.0.desk.row ≡ row) × (n.0.end_row ≡ row + 1))
@@ -78,7 +78,7 @@ module _ {I O : Type 0} where
   pub one_output : (content : Content I O) (x y : O) → content ≡ Output x → content ≡ Output y → x ≡ y
   one_output content x y is too = ap (output_or x) (sym is ∙ too)
 
--- What each call leaves of the seat m, through the seats n, p and q of its steps.
+-- The effect of each call on the seat m, through the seats n, p and q after its steps.
 module _ {I O : Type 0} (slots k place : ℕ) (m n p q : SeatAt I O) (empty : m.1 ≡ []) where
   pub post_leaves : (x : I) → IsOwn m.0 k place → n ≡ (with_in_hand (k + 1) m.0, (k, Nothing) ∷ m.1)
       → p ≡ (n.0, (k, Input x) ∷ rest n.1) → Posts (step slots k 1 0 none) p 1 q
@@ -94,7 +94,7 @@ module _ {I O : Type 0} (slots k place : ℕ) (m n p q : SeatAt I O) (empty : m.
       (subst (λ (r : SeatAt I O). Finishes (step slots k 3 0 none) r 3 q)
       (written m n p (with_in_hand (k + 1) m.0) k Nothing (Output y) taken empty then) told) row place below number
 
-  -- a claim, and a collect: what was done to the desk came first
+  -- a claim or a collect, which changes the desk in its first step
   pub take_leaves : (found : ℕ) (f : DeskView I → DeskView I) (x : Content I O)
       → n ≡ (then_desk_with k f m.0, (k, x) ∷ m.1) → p ≡ (n.0, (k, Nothing) ∷ rest n.1)
       → PutsBack (step slots k 0 0 none) p found q → q ≡ (then_desk f m.0, [])
@@ -102,11 +102,11 @@ module _ {I O : Type 0} (slots k place : ℕ) (m n p q : SeatAt I O) (empty : m.
       subst (λ (r : SeatAt I O). PutsBack (step slots k 0 0 none) r found q)
       (written m n p (then_desk_with k f m.0) k x Nothing taken empty then) told
 
--- a step that gave nothing
+-- a step that found nothing to take
 pub nothing_leaves : {I O : Type 0} (m q : SeatAt I O) (w : View I) → m.1 ≡ [] → q ≡ (w, m.1) → q ≡ (w, [])
 nothing_leaves m q w empty is = is ∙ ap (λ (l : List (ℕ × Content _ _)). (w, l)) empty
 
--- a claim of what is no place
+-- a claim outside the board
 pub stray_leaves : {I O : Type 0} (slots rows row place first second found : ℕ) (m q : SeatAt I O) → m.1 ≡ []
     → slots ≡ 56 * rows → first ≡ row → second ≡ place → (row < rows → 56 ≤ place)
     → Strays (step slots 0 (4 + first) second none) m found q → q ≡ (then_desk (after_refusal row place) m.0, [])
@@ -114,7 +114,7 @@ stray_leaves slots rows row place first second found m q empty all row_is place_
     told row place (ap (λ (k : ℕ). 4 + k) row_is) place_is (λ below. outside (omega (arith, all, below)))
     ∙ ap (λ (l : List (ℕ × Content _ _)). (then_desk (after_refusal row place) m.0, l)) empty
 
--- the steps, of a seat that has just this slot in hand
+-- the steps of a seat that has exactly this slot in hand
 module _ {I O : Type 0} (meets : I → O → Type 0) (n seat : ℕ) (m : SeatAt I O) (v : View I) (k : ℕ) (inside : k < n) where
   pub posts_at : (place : ℕ) (x : I) → m ≡ (with_in_hand (k + 1) v, (k, Input x) ∷ []) → IsOwn v k place
       → posted_at place v.desk ≡ None

@@ -1,4 +1,4 @@
--- What the rule of a board means for its places.
+-- The consequences of the rule of a board for its places.
 use Rattle.std.proofs.Common.{◌≡◌, ◌≢◌, ℕ, ◌+◌, ◌<◌, length, get_or, Some, sym, ap, ◌∙◌, arith}
 use Rattle.std.specs.List.{sum_by}
 use mathlib.Core.Option.{some}

@@ -1,4 +1,4 @@
--- The desks at the start, one by one.
+-- The construction of the desks, one by one.
 use Rattle.std.proofs.Common.{◌≡◌, ◌≢◌, ℕ, ◌+◌, ◌<◌, List, [], ◌∷◌, ◌++◌, sym, ap, ◌∙◌, subst, arith}
 use Rattle.std.proofs.lemmas.List.{get_or_append_left, get_or_push, length_push}
 use mathlib.Core.Logic.{dite}
@@ -28,15 +28,15 @@ one_desk_more {W} {I} {O} {g} n b desks d so_far desk fresh = record {
 }
 
 module _ {I O : Type 0} (m n : SeatAt I O) (row rows : ℕ) (before : m ≡ (fresh_view row rows, [])) where
-  -- the seat that has cut off a row
+  -- the seat that is left after the split
   pub left_then : n ≡ (without_first_row m.0, m.1) → n ≡ (fresh_view (row + 1) rows, [])
   left_then is = is ∙ ap (λ (q : SeatAt I O). (without_first_row q.0, q.1)) before
 
-  -- the seat that has the row
+  -- the seat of the row that is split off
   pub own_then : n ≡ (first_row m.0, []) → n ≡ (fresh_view row (row + 1), [])
   own_then is = is ∙ ap (λ (q : SeatAt I O). (first_row q.0, [])) before
 
--- the rule allows the cut
+-- the rule allows the split
 module _ {I O : Type 0} (m : SeatAt I O) (row rows : ℕ) (before : m ≡ (fresh_view row rows, [])) where
   pub can_cut : (meets : I → O → Type 0) (seat : ℕ) → row < rows
       → Splits (ObeysRule meets) seat m.0 (without_first_row m.0) (first_row m.0)

@@ -7,7 +7,7 @@ use Rattle.piece_board.specs.declared.board.Claim.{Claim}
 use Rattle.piece_board.specs.declared.view.DeskView.{DeskView}
 use Rattle.piece_board.specs.Desks.{fresh_desk, claimed_at}
 
--- how many workers have a row
+-- the number of workers, each of which has a row
 abbrev pub workers_of : {W I O : Type 0} → Board W I O → ℕ
 workers_of b = b.rows
 
@@ -15,7 +15,7 @@ workers_of b = b.rows
 abbrev pub spot_of : {W : Type 0} → Claim W → ℕ × ℕ
 spot_of c = (c.row, c.place)
 
--- the claim is at a place of the board
+-- the claim is at a row of the board
 abbrev pub IsClaimOf : {W I O : Type 0} → Board W I O → Claim W → Type 0
 IsClaimOf b c = c.row < b.rows
 
@@ -23,22 +23,22 @@ module _ {W I O : Type 0} {g : Ghosts W I O} where
   abbrev pub desk_view : Desk W I O g → DeskView I
   desk_view d = d.seat.me.0.desk
 
-  -- what a desk claimed by this claim and has not finished
+  -- the input at the claim's place, if the desk claimed it and has not finished it
   abbrev pub claimed_by : Claim W → Desk W I O g → Option I
   claimed_by c d = claimed_at c.row c.place (desk_view d)
 
--- the desk is one that was made with this board
+-- the desk belongs to the board: its seat is at the board's table, and its row is one of the board's
 pub record IsDeskOf {W I O : Type 0} {g : Ghosts W I O} (b : Board W I O) (d : Desk W I O g) : Type 0 where
   pub seated : d.seat.table_id ≡ b.table.shared.table_id
   pub below : d.row < b.rows
 
--- desks of the first so many workers, in their order, which have done nothing
+-- the initial desks of the first `n` workers, in their order
 pub record AreDesksUpTo {W I O : Type 0} {g : Ghosts W I O} (n : ℕ) (b : Board W I O) (desks : List (Desk W I O g))
     : Type 0 where
   pub count : length desks ≡ n
   pub each : (w : ℕ) (d : Desk W I O g) → w < n → d ≡ slice_index_or desks w d
       → IsDeskOf b d × (desk_view d ≡ fresh_desk w)
 
--- a desk for each worker, in their order, which has done nothing
+-- the initial desks of all workers, in their order
 abbrev pub AreDesks : {W I O : Type 0} {g : Ghosts W I O} → Board W I O → List (Desk W I O g) → Type 0
 AreDesks b desks = AreDesksUpTo (workers_of b) b desks

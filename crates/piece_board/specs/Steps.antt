@@ -1,5 +1,5 @@
--- What each step on a board tells the seat that makes it: of the step, what the seat was, the number that it found at
--- the word, and what the seat is.
+-- What each step on a board tells the seat that makes it: a relation of the step, the seat before, the value found in
+-- the word, and the seat after.
 use Rattle.std.specs.Prelude.{ℕ, ◌≡◌, ◌≢◌, ◌+◌, ◌*◌, ◌<◌, ◌≤◌, ◌∷◌, None, Some}
 use Rattle.atomic_table.specs.Table.{Me, Step, rest}
 use Rattle.piece_board.specs.declared.view.Content.{Content}
@@ -14,15 +14,15 @@ SeatAt I O = Me (Content I O) (View I)
 abbrev pub Told : Type 0 → Type 0 → Type 1
 Told I O = Step (Content I O) → SeatAt I O → ℕ → SeatAt I O → Type 0
 
--- with this slot in hand, one more than its number, or none at 0
+-- with this value of `in_hand`: one more than the number of the slot in hand, or 0 for none
 abbrev pub with_in_hand : {I : Type 0} → ℕ → View I → View I
 with_in_hand slot v = record v { in_hand = slot }
 
--- with nothing in hand, after what the step did to the desk
+-- with the effect `f` on the desk, and no slot in hand
 abbrev pub then_desk : {I : Type 0} → (DeskView I → DeskView I) → View I → View I
 then_desk f v = record v { desk = f v.desk; in_hand = 0 }
 
--- with the slot of this place in hand, after what the step did to the desk
+-- with the effect `f` on the desk, and the slot of place `k` in hand
 abbrev pub then_desk_with : {I : Type 0} → ℕ → (DeskView I → DeskView I) → View I → View I
 then_desk_with k f v = record v { desk = f v.desk; in_hand = k + 1 }
 
@@ -33,19 +33,19 @@ module _ {I O : Type 0} where
   abbrev pub PutsBack : Told I O
   PutsBack st m found n = n ≡ (with_in_hand 0 m.0, rest m.1)
 
-  -- what was in hand is posted at this place of the seat's own row
+  -- the input in the slot in hand is posted at its place of the seat's own row, and the slot is put back
   abbrev pub Posts : Told I O
   Posts st m found n = (place : ℕ) (x : I) → st.word ≡ number_of m.0.desk.row place
       → m.1 ≡ (st.word, Input x) ∷ rest m.1 → n ≡ (then_desk (after_post place x) m.0, rest m.1)
 
-  -- the place was open, and what was posted there is in hand; or it was not open
+  -- if the place was open (1), the seat has claimed it and has its slot with the input in hand; otherwise it is refused
   abbrev pub Claims : Told I O
   Claims st m found n = (row place : ℕ) → place < 56 → st.word ≡ number_of row place
       → (found ≡ 1 → (x : I)
       × (n ≡ (then_desk_with st.word (after_claim row place x) m.0, (st.word, Input x) ∷ m.1)))
       × (found ≢ 1 → n ≡ (then_desk (after_refusal row place) m.0, m.1))
 
-  -- the operands name a row and a place; the board, which has so many places, has no such place
+  -- the operands of the step encode a row and a place that the board, which has `slots` places, does not have
   abbrev pub Strays : Told I O
   Strays st m found n = (row place : ℕ) → st.first ≡ 4 + row → st.second ≡ place
       → (56 * row < st.slots → 56 ≤ place) → n ≡ (then_desk (after_refusal row place) m.0, m.1)
@@ -54,8 +54,8 @@ module _ {I O : Type 0} where
   Finishes st m found n = (row place : ℕ) → place < 56 → st.word ≡ number_of row place
       → n ≡ (then_desk (after_finish row place) m.0, rest m.1)
 
-  -- the place of the seat's own row was full, and its result, which meets what was posted there last, is in hand, and
-  -- the place is free; or it was not full
+  -- if the place of the seat's own row was full (3), it is free, and its slot is in hand with a result that meets the
+  -- input posted there last; otherwise the collect found no result
   abbrev pub Collects : (I → O → Type 0) → Told I O
   Collects meets st m found n = (place : ℕ) → st.word ≡ number_of m.0.desk.row place
       → (found ≡ 3 → (x : I) × (y : O) × (posted_at place m.0.desk ≡ Some x) × meets x y

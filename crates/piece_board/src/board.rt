@@ -1,4 +1,4 @@
-//! The board and its desks.
+//! The board, its desks and their claims.
 ghost use Rattle.std.specs.Prelude.{◌≡◌, ◌+◌, ◌*◌, ◌≤◌, []};
 
 mod calls;
@@ -11,7 +11,7 @@ use atomic_table::{Seat, Table};
 use std::alloc::Global;
 use std::marker::PhantomData;
 
-/// A board with a row of 56 places for each worker. All threads share it.
+/// A board with a row of 56 places for each of 1 to 32 workers. All threads share it.
 pub struct Board<W: Work> {
     pub(crate) table: Table<Content<W::In, W::Out>, View<W::In>, u64, BoardRule<W>, Global>,
     pub(crate) rows: u32,
@@ -26,7 +26,7 @@ impl<W: Work> Drop for Board<W> {
     }
 }
 
-/// One worker's seat at the board, with a row of its own. It goes to the worker's own thread.
+/// One worker's seat at the board, with its own row. It is moved to the worker's thread.
 pub struct Desk<W: Work> {
     pub(crate) seat: Seat<Content<W::In, W::Out>, View<W::In>>,
     pub(crate) row: u32,
@@ -41,7 +41,7 @@ impl<W: Work> Drop for Desk<W> {
     }
 }
 
-/// The right to finish the piece of a place. Where it is dropped the place stays claimed.
+/// The right to finish the piece at a place. If it is dropped, the place stays claimed.
 pub struct Claim<W> {
     pub(crate) row: u32,
     pub(crate) place: u32,

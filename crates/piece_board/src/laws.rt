@@ -1,4 +1,4 @@
-//! What the rule of a board means, each law as the contract of a function that does nothing.
+//! The consequences of the rule of a board, each stated as the contract of an empty function.
 ghost use Rattle.std.specs.Prelude.{◌≡◌, ◌≢◌, ◌+◌, ◌<◌, ◌≤◌, ℕ, length, slice_index, Some};
 ghost use Rattle.std.specs.List.{sum_by};
 ghost use mathlib.Core.Option.{some};
@@ -15,14 +15,14 @@ fn can_be_sent<T: Send>() {}
 
 fn can_be_shared<T: Sync>() {}
 
-/// A desk can go to its worker's thread, and all threads can share the board.
+/// `Desk` is `Send` and `Board` is `Sync`: a desk can move to its worker's thread, and all threads share the board.
 pub fn desks_go_to_threads<W: Work>() {
     can_be_sent::<Desk<W>>();
     can_be_shared::<Board<W>>();
 }
 
-/// All desks together have claimed a place as often as it was posted, or once less where it is open: no post is claimed
-/// twice, and none is passed over.
+/// At each place, all seats together made as many claims as posts, or one claim less if the place is open: no post is
+/// claimed twice, and none is skipped.
 #[tactic(auto, using(crate::proofs::LawLemmas::all_claimed, crate::proofs::LawLemmas::all_but_one_claimed))]
 pub fn each_post_is_claimed_once<W: Work>()
     ensures all { (s : State (ContentOf W.In W.Out) (ViewOf W.In)) (k : ℕ) → ObeysRule W.meets s
@@ -33,7 +33,7 @@ pub fn each_post_is_claimed_once<W: Work>()
         → sum_by (claims_at k) s.views + 1 ≡ sum_by (posts_at k) s.views }
 {}
 
-/// A place that a desk has claimed and not finished is claimed by it alone, and is not open.
+/// A place that a seat has claimed and not finished is so claimed by this seat alone, and is not open.
 #[tactic(auto, using(crate::proofs::LawLemmas::claimed_by_one))]
 pub fn a_claim_is_one_desks_alone<W: Work>()
     ensures { (s : State (ContentOf W.In W.Out) (ViewOf W.In)) (seat other k : ℕ) (v w : ViewOf W.In) (x y : W.In)

@@ -1,10 +1,10 @@
-//! A board on which pieces of work are handed out, and their results handed back.
+//! A board that hands out pieces of work to any worker, and hands their results back.
 //!
-//! Each worker has a desk, with a row of 56 places that are its own. It posts a piece at a free place of its row, any
-//! desk claims the piece and finishes it with a result, and its poster collects that result, which meets what it posted.
-//! What holds of a board at every moment is its `rule`; `laws` says what it means: no post is claimed twice. Which kind of
-//! work it is (`work`) is a parameter. The crate stands on `atomic_table`, which keeps the rule while all threads work:
-//! each call is one step on the word of its place, and no call but `make` takes memory or waits.
+//! Each worker has a desk with its own row of 56 places. It posts a piece at a free place of its row; any desk claims
+//! the piece and finishes it with a result; the poster collects this result, which meets the piece that it posted.
+//! `rule` is the invariant of a board, and `laws` states its consequences: no post is claimed twice. The kind of work
+//! (`work`) is a parameter. The crate depends on `atomic_table`, which maintains the invariant while all threads run.
+//! A call changes the word of its place in at most one atomic step. Only `make` allocates, and no call waits.
 #![tactic(auto)]
 
 pub mod board;

@@ -1,4 +1,4 @@
-//! The rule of the board, and what each step on it tells.
+//! The invariant of the board, and what a seat learns from each of its steps.
 ghost use Rattle.piece_board.specs.Rule.{ObeysRule, first_view, without_first_row, first_row};
 ghost use Rattle.piece_board.specs.Steps.{TakesInHand, PutsBack, Posts, Claims, Strays, Finishes, Collects};
 
@@ -7,7 +7,7 @@ use crate::work::Work;
 use atomic_table::{Play, Split, TableRule};
 use std::marker::PhantomData;
 
-/// The rule of the board, which `atomic_table` keeps at every moment. Its key is the number of rows.
+/// The invariant of the board, which `atomic_table` maintains at every moment. Its key is the number of rows.
 pub struct BoardRule<W> {
     work: PhantomData<W>,
 }
@@ -18,7 +18,7 @@ impl<W: Work> TableRule<Content<W::In, W::Out>, View<W::In>, u64> for BoardRule<
     ghost first = { first_view };
 }
 
-/// Cuts off the first row.
+/// Splits a seat's first row off into a seat of its own.
 pub struct RowCut;
 
 impl<I> Split<View<I>> for RowCut {
@@ -27,35 +27,35 @@ impl<I> Split<View<I>> for RowCut {
     ghost right = { first_row };
 }
 
-/// A look at a place, by which its keeper takes the slot in hand.
+/// A load of a place's word by which the seat that may use its slot takes the slot in hand.
 pub struct Taken;
 
 impl<I, O> Play<Content<I, O>, View<I>> for Taken {
     ghost then = { TakesInHand };
 }
 
-/// A look at a place, by which its keeper puts the slot back.
+/// A load of a place's word by which the seat that has its slot in hand puts it back.
 pub struct PutBack;
 
 impl<I, O> Play<Content<I, O>, View<I>> for PutBack {
     ghost then = { PutsBack };
 }
 
-/// A post: the place becomes open.
+/// A post: the own place in hand becomes open.
 pub struct Posted;
 
 impl<I, O> Play<Content<I, O>, View<I>> for Posted {
     ghost then = { Posts };
 }
 
-/// A claim: an open place becomes claimed.
+/// A claim: an open place becomes claimed, or the claim is refused.
 pub struct Claimed;
 
 impl<I, O> Play<Content<I, O>, View<I>> for Claimed {
     ghost then = { Claims };
 }
 
-/// A claim of what is no place of the board.
+/// A refused claim outside the board.
 pub struct Strayed;
 
 impl<I, O> Play<Content<I, O>, View<I>> for Strayed {
@@ -69,7 +69,7 @@ impl<I, O> Play<Content<I, O>, View<I>> for Finished {
     ghost then = { Finishes };
 }
 
-/// A collect: a full place becomes free.
+/// A collect: a full place becomes free, or the collect finds no result.
 pub struct Collected<W> {
     work: PhantomData<W>,
 }

@@ -1,8 +1,8 @@
-//! What a place of the board holds, and what a desk knows.
+//! The content of a place, and the knowledge of a desk.
 
 use std::collections::LinkedList;
 
-/// What lies at a place: nothing, the in of a piece, or its out.
+/// The content of a place's slot: nothing, the input of a piece, or its output.
 #[derive(Drop)]
 pub enum Content<I, O> {
     Nothing,
@@ -10,35 +10,35 @@ pub enum Content<I, O> {
     Output(O),
 }
 
-/// What contracts see of a desk. No value of it is made.
+/// What contracts see of a desk. No value of this type is ever built.
 pub struct DeskView<I> {
-    /// The row that is its own.
+    /// The desk's own row.
     pub row: u64,
-    /// Its own places that are not free, by their numbers in the row, each with what was posted there last.
+    /// The places of its row that are not free, by their numbers in the row, each with the input posted there last.
     pub posted: LinkedList<(u64, I)>,
-    /// The places of the board that it claimed and has not finished, by their numbers, each with what it claimed.
+    /// The places that it claimed and has not finished, by their numbers on the board, each with the input it claimed.
     pub claims: LinkedList<(u64, I)>,
-    /// The places of its row at which it posted, in their order.
+    /// The places of its row at which it posted, one for each post, in the order of the posts.
     pub posts: LinkedList<u64>,
     /// How many pieces it finished.
     pub finishes: u64,
     /// How many results it collected.
     pub collects: u64,
-    /// How many times it found a place not full where it wanted to collect.
+    /// How many of its collects found no result.
     pub empty_collects: u64,
-    /// The rows and places at which it claimed a piece, in their order.
+    /// The row and place of each claim that got a piece, in the order of the claims.
     pub given: LinkedList<(u64, u64)>,
-    /// The rows and places at which it found no piece to claim, in their order.
+    /// The row and place of each refused claim, in the order of the claims.
     pub refused: LinkedList<(u64, u64)>,
 }
 
-/// What a seat at the board knows. No value of it is made.
+/// The knowledge of a seat at the board. No value of this type is ever built.
 pub struct View<I> {
-    /// What contracts see of it.
+    /// What contracts see of the seat as a desk.
     pub desk: DeskView<I>,
-    /// Its rows go from the desk's to below this one. A desk has one row; the seat from which the desks are cut has
-    /// all that are left.
+    /// The seat's rows are those from `desk.row` up to, but not including, this one. A desk has one row; the seat
+    /// from which the desks are split has all remaining rows.
     pub end_row: u64,
-    /// One more than the number of the place whose slot it has in hand, or 0.
+    /// One more than the number of the place whose slot the seat has in hand, or 0 if it has none.
     pub in_hand: u64,
 }

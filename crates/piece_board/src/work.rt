@@ -1,12 +1,12 @@
-//! Work that is handed out in pieces.
+//! The kind of work that a board hands out.
 
-/// A kind of work: what a piece is given, what it answers, and what the answer owes.
+/// A kind of work: the input of a piece, its output, and the specification that relates them.
 pub trait Work {
-    /// What a piece is given. It can be sent to another thread.
+    /// The input of a piece. It can be sent to another thread.
     type In: Drop + Send;
-    /// What a piece answers. It can be sent to another thread.
+    /// The output of a piece. It can be sent to another thread.
     type Out: Drop + Send;
 
-    /// What a piece owes: an out that meets its in.
+    /// The specification of a piece: which outputs are right for an input.
     ghost meets: { Self.In → Self.Out → Type 0 };
 }

@@ -1,11 +1,11 @@
-//! The edge of a program: files that are read whole, lines that are written once, and the line on err that says why a run
-//! ended early.
+//! The shell of a command-line program: it reads whole files, writes the answer once, and reports an early end in one
+//! line.
 //!
-//! `read_file` reads a file to its end, up to a limit, and leaves the shelf as it may be asked for the next one. `tell`
-//! writes the line on err, under the program's name. `words_behind_name` gives the words of the command line. `run_program`
-//! puts them together for whatever reads and decides on one thread's own: a `Program` answers what is to be told of its
-//! files, its lines are written once, and the line on err says how it ended. The crate carries no promise of its own: it says
-//! once what the clauses of programs say of what was printed, why they ended, and what was told. It stands on `bt_io`.
+//! `read_file` reads a file to its end, up to a limit, and leaves the shelf ready for the next `choose`. `tell` writes
+//! the diagnostic line. `words_behind_name` returns the command-line arguments. `run_program` combines these for a
+//! single-threaded `Program`: it computes the answer and its lines, which are written once, and a diagnostic says how
+//! the run ended. The crate promises nothing of its own; it defines once what the contracts of programs say about
+//! output, the cause of the end, and the diagnostic. It depends on `bt_io`.
 #![tactic(auto)]
 
 pub mod input;

@@ -1,4 +1,4 @@
-//! A whole run: it reads and decides, writes the lines of what it decided once, and tells why it ended early.
+//! A whole run: compute the answer, write its lines once, and report an early end.
 ghost use Rattle.std.specs.Prelude.{◌≡◌, ℕ, Bool, List, Option, Err, IfOk, IfErr, IsTrue};
 ghost use Rattle.bt_io.specs.Causes.{Rose};
 ghost use Rattle.program_io.specs.Lines.{told_text, Tells};
@@ -9,60 +9,60 @@ use crate::line::{Line, tell};
 use bt_io::{Failed, Shelf, Sink, write_all};
 use std::alloc::Global;
 
-/// Why a program stops before it writes.
+/// Why a program stops before it writes its answer.
 #[derive(Clone, Copy)]
 pub enum Stop<F: Copy> {
-    /// A file could not be chosen or read to its end.
+    /// A file could not be chosen, or not read to its end.
     ReadFault,
-    /// What the files hold is refused.
+    /// The program refuses the contents of its files.
     Refused(F),
-    /// Memory ran out.
+    /// Out of memory.
     Memory,
 }
 
 /// How a program ends.
 #[derive(Clone, Copy)]
 pub enum End<F: Copy> {
-    /// The lines of its answer were written.
+    /// All lines of the answer were written.
     Done,
-    /// It stopped before it wrote.
+    /// The program stopped before it wrote its answer.
     Stopped(Stop<F>),
-    /// The lines of its answer could not be written whole.
+    /// A write failed before all lines of the answer were written.
     WriteFault,
 }
 
-/// How a program ended, and what it answered: there is an answer exactly where lines were to be written.
+/// How a program ended, and its answer, which is there unless the program stopped before it wrote.
 #[derive(Drop)]
 pub struct Ran<T: Drop, F: Copy> {
     pub end: End<F>,
     pub told: Option<T>,
 }
 
-/// What a program does between its words and its lines: a value of the type is what the words ask for.
+/// What a program computes, from its parsed arguments (the value of this type) to its answer.
 ///
-/// What its files hold is given to each ghost item as the bytes under each name, where they are told.
+/// `are_held`, `answers` and `refuses` take the files' contents as a map from a name to its bytes, where known.
 pub trait Program {
-    /// What it answers.
+    /// The answer.
     type Told: Drop;
-    /// Why it refuses what its files hold.
+    /// The reason for which file contents are refused.
     type Refusal: Copy;
 
-    /// The shelf may be asked for each of its files.
+    /// Each file that the program reads is a name that the shelf may be asked for.
     ghost may_read: { Self → (List ℕ → Bool) → Type 0 };
 
-    /// Each of its files is held.
+    /// The shelf holds each file that the program reads.
     ghost are_held: { Self → (List ℕ → Option (List ℕ)) → Type 0 };
 
-    /// This is right of what its files hold, and these lines tell it.
+    /// The answer is right for the files' contents, and the bytes are the lines that report it.
     ghost answers: { Self → (List ℕ → Option (List ℕ)) → Self.Told → List ℕ → Type 0 };
 
-    /// What its files hold is refused for this.
+    /// The files' contents are refused for this reason.
     ghost refuses: { Self → (List ℕ → Option (List ℕ)) → Self.Refusal → Type 0 };
 
-    /// The line on err.
+    /// The text of the diagnostic for an end; empty if there is none.
     ghost line: { Self → EndOf Self.Refusal → List ℕ };
 
-    /// Reads and decides: the answer, and its lines.
+    /// Reads the files, and computes the answer and the lines that report it.
     fn answer<I: Shelf>(
         &self,
         alloc: Global,
@@ -77,14 +77,14 @@ pub trait Program {
             → result ≡ Err Stop.ReadFault
             → ⊥ };
 
-    /// The line on err, where the end has one.
+    /// The diagnostic for an end, if it has one.
     fn line_of(&self, end: End<Self::Refusal>) -> Option<Line<'static>>
         ensures { told_text result ≡ line self.now end };
 }
 
-/// Runs a program: it reads and decides, its lines are written once, and the line on err says why it ended early.
+/// Runs a program: computes its answer, writes the answer's lines once to `out`, and the end's diagnostic to `err`.
 ///
-/// A write to err that fails changes nothing else. It takes no memory of its own.
+/// A failed write to `err` is ignored. Memory: none besides the program's own.
 pub fn run_program<P: Program, I: Shelf, O: Sink, E: Sink>(
     alloc: Global,
     program: &P,

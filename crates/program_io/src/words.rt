@@ -1,4 +1,4 @@
-//! The words of the command line.
+//! The command-line arguments.
 ghost use Rattle.std.specs.Prelude.{◌≡◌, ◌↔◌, drop, Err, IsErr, IfOk, IfErr};
 ghost use Rattle.std.specs.IoError.{error_kind};
 ghost use Rattle.std.specs.Vec.Iter.{into_iter_items};
@@ -7,23 +7,23 @@ use std::alloc::{AllocError, Global};
 use std::env::Args;
 use std::io::{self, ErrorKind};
 
-/// Why a program has no words.
+/// Why the command-line arguments are not available.
 #[derive(Clone, Copy)]
 pub enum WordsErr {
-    /// A word is no text.
+    /// The arguments could not be taken as text: `args` failed, and not for lack of memory.
     NoText,
-    /// Memory ran out.
+    /// Out of memory.
     Memory,
 }
 
-/// All words but the first.
+/// All arguments but the first, which is the program's name.
 fn behind_first(alloc: Global, words: Args) -> Result<Vec<String>, AllocError>
     ensures { IfOk result (λ behind. behind.items ≡ drop 1 (into_iter_items words)) }
 {
     words.skip(1).collect(alloc)
 }
 
-/// The words behind the program's name, of all words that `std::env::args` gave, or why it gave none.
+/// The arguments behind the program's name, given the result of `std::env::args`.
 pub fn words_behind_name(alloc: Global, words: io::Result<Args>) -> Result<Vec<String>, WordsErr>
     ensures words { IfOk words (λ all. IfOk result (λ behind. behind.items ≡ drop 1 (into_iter_items all))) }
     ensures no_text { IfOk words (λ _. result ≡ Err WordsErr.NoText → ⊥) }

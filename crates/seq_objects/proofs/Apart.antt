@@ -1,4 +1,4 @@
--- The objects are apart: what is done to one leaves the others alone, and does not depend on them.
+-- The objects are independent: an operation on one neither changes the others nor depends on them.
 use Rattle.std.proofs.Common.{◌≡◌, Bool, true, false, cond, List, [], ◌∷◌, length, refl, ap, sym, subst, arith, ◌∙◌}
 use Rattle.seq_objects.specs.declared.op.Op.{Op}
 use Rattle.seq_objects.specs.declared.op.Op.TheVariants.{CounterAdd, Push, Pop, TreeInsert, TreeRemove, TreeFind, TreeNext, PqInsert, PqTake}
@@ -54,7 +54,7 @@ with_twice Stack objects others more = refl
 with_twice Tree objects others more = refl
 with_twice Queue objects others more = refl
 
--- calls of one object reply what they would reply if the others were as at the opening
+-- the replies to calls of one object are those that it gives alone
 pub replies_alone : (object : Object) (objects : Objects) (calls : List Call) → AreOf object calls → replies_to_all objects calls ≡ replies_to_all (alone object objects) calls
 replies_alone object objects [] of = refl
 replies_alone object objects (call ∷ calls) of =
@@ -63,7 +63,7 @@ replies_alone object objects (call ∷ calls) of =
     let next : alone object (after objects call.op) ≡ after (alone object objects) call.op = subst (λ o. alone o (after objects call.op) ≡ after (alone o objects) call.op) of.0 (alone_after call.op objects) in
     rw (reply, rest, next) refl
 
--- and change this object alone
+-- calls of one object change this object alone, as they do without the others
 pub content_alone : (object : Object) (objects : Objects) (calls : List Call) → AreOf object calls → after_all objects calls ≡ with_object object objects (after_all (alone object objects) calls)
 content_alone object objects [] of = with_own object objects
 content_alone object objects (call ∷ calls) of =
@@ -74,7 +74,7 @@ content_alone object objects (call ∷ calls) of =
     rest ∙ ap (λ o. with_object object (after objects call.op) (after_all o calls)) next ∙ ap (λ o. with_object object o last) changed
     ∙ with_twice object objects (after (alone object objects) call.op) last
 
--- what is done to another object leaves this one
+-- replacing another object leaves this one unchanged
 other_kept : (object other : Object) (objects others : Objects) → same_object object other ≡ false → alone object (with_object other objects others) ≡ alone object objects
 other_kept Counter Counter objects others differ = absurd cc
 other_kept Counter Stack objects others differ = refl
@@ -100,7 +100,7 @@ same_self Tree = refl
 same_self Queue = refl
 
 module _ (object : Object) where
-  -- one call, of this object or of another
+  -- a single operation: of this object here, of another one in the next lemma
   own_next : (objects : Objects) (op : Op) → same_object object (object_of op) ≡ true → (alone object (after objects op) ≡ after (alone object objects) op) × (reply_to objects op ≡ reply_to (alone object objects) op)
   own_next objects op own =
       let is = same_is object (object_of op) own in
@@ -109,7 +109,7 @@ module _ (object : Object) where
   other_next : (objects : Objects) (op : Op) → same_object object (object_of op) ≡ false → alone object (after objects op) ≡ alone object objects
   other_next objects op other = ap (alone object) (after_alone op objects) ∙ other_kept object (object_of op) objects (after (alone (object_of op) objects) op) other
 
-  -- among the replies to calls in any order, those to the calls of one object are its own
+  -- of the replies to all calls, those to the calls of one object are the ones that it gives alone
   pub own_replies : (objects : Objects) (calls : List Call) → replies_of object calls (replies_to_all objects calls) ≡ replies_to_all (alone object objects) (calls_of object calls)
   own_replies objects [] = refl
   own_replies objects (call ∷ calls) = step (same_object object (object_of call.op)) refl (own_replies (after objects call.op) calls) where
@@ -121,7 +121,7 @@ module _ (object : Object) where
     step true own is = let next = own_next objects call.op own in rw (is, next.0, next.1) refl
     step false other is = rw (is, other_next objects call.op other) refl
 
-  -- and the object is as after its own calls
+  -- after all calls, the object is as after its own calls alone
   pub own_content : (objects : Objects) (calls : List Call) → alone object (after_all objects calls) ≡ after_all (alone object objects) (calls_of object calls)
   own_content objects [] = refl
   own_content objects (call ∷ calls) = step (same_object object (object_of call.op)) refl (own_content (after objects call.op) calls) where
@@ -134,7 +134,7 @@ pub each_content : (objects : Objects) (calls : List Call) → after_all objects
 each_content objects calls =
     rw (sym (own_content Counter objects calls), sym (own_content Stack objects calls), sym (own_content Tree objects calls), sym (own_content Queue objects calls)) refl
 
--- no other replies have the same replies for each object
+-- two lists of replies that agree for each object are equal
 pub same_replies : (calls : List Call) (replies others : List Reply) → length replies ≡ length calls → length others ≡ length calls
     → ((object : Object) → replies_of object calls replies ≡ replies_of object calls others) → replies ≡ others
 same_replies [] [] [] count count' same = refl

@@ -18,7 +18,7 @@ no_lower class op worker (call ∷ calls) high later =
     let rest = no_lower class op worker calls high later.1 in
     rw (le-ltb (class_of call.op) class above) (rest.0, ap (λ xs. call ∷ xs) rest.1)
 
--- the calls whose class is below the number, and then the others
+-- a list in batch order is its calls of classes below `class`, followed by the others
 pub lower_first : (class : ℕ) (calls : List Call) → AreInBatchOrder calls → calls ≡ filter (is_below class) calls ++ filter (λ call. not (is_below class call)) calls
 lower_first class [] order = refl
 lower_first class (call ∷ calls) order =

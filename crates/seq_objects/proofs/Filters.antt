@@ -1,4 +1,4 @@
--- Some of the calls of a batch, in their order.
+-- Selections of the calls of a batch, in their order.
 use Rattle.std.proofs.Common.{◌≡◌, ◌≢◌, ℕ, ◌<◌, Bool, true, false, cond, List, [], ◌∷◌, length, filter, map, refl}
 use Rattle.std.specs.List.{AllByRecursion}
 use Rattle.seq_objects.specs.declared.call.Call.{Call}
@@ -6,7 +6,7 @@ use Rattle.seq_objects.specs.BatchOrder.{ComesFirst}
 use Rattle.seq_objects.specs.Batches.{Object, Counter, Stack, Tree, Queue, AreOneBatch, AreOf, object_of, same_object, calls_of}
 use Rattle.seq_objects.specs.Pairs.{EachPair}
 
--- what holds of each element holds of each that passes
+-- what holds of all elements holds of all that pass
 pub each_filter : {A : Type 0} (P : A → Type 0) (passes : A → Bool) (xs : List A) → AllByRecursion P xs → AllByRecursion P (filter passes xs)
 each_filter P passes [] each = tt
 each_filter P passes (x ∷ xs) each = step (passes x) (each_filter P passes xs each.1) where
@@ -21,7 +21,7 @@ pairs_filter R passes (x ∷ xs) pairs = step (passes x) (pairs_filter R passes 
   step true rest = (each_filter (R x) passes xs pairs.0, rest)
   step false rest = rest
 
--- the same of what the elements are mapped to
+-- the same for the images of the elements under a function
 each_map_filter : {A B : Type 0} (f : A → B) (P : B → Type 0) (passes : A → Bool) (xs : List A) → AllByRecursion P (map f xs) → AllByRecursion P (map f (filter passes xs))
 each_map_filter f P passes [] each = tt
 each_map_filter f P passes (x ∷ xs) each = step (passes x) (each_map_filter f P passes xs each.1) where
@@ -44,7 +44,7 @@ some_are_a_batch passes calls batch some = record {
   below = each_filter (λ (call : Call). call.worker < 32) passes calls batch.below;
 }
 
--- the objects
+-- `same_object` decides equality of objects
 pub same_is : (a b : Object) → same_object a b ≡ true → b ≡ a
 same_is Counter Counter is = refl
 same_is Counter Stack is = absurd cc

@@ -1,4 +1,4 @@
--- What the library's ordered set does to its keys is what the serial objects say of a set.
+-- The operations of the library's ordered set on its keys agree with those of the serial set.
 use Rattle.std.proofs.Common.{◌≡◌, ℕ, List, [], ◌∷◌, ◌==◌, slice_get, refl, arith}
 use Rattle.std.specs.List.{list_any, filter}
 use Rattle.std.specs.Ordering.{nat_cmp, is_eq}

@@ -1,8 +1,8 @@
--- Pieces that are worked on one after another.
+-- Running pieces one after another.
 use Rattle.std.proofs.Common.{List, [], ◌∷◌, ◌++◌}
 use Rattle.seq_objects.specs.Pieces.{AllMeet}
 
--- one more piece, with its out
+-- `AllMeet` extends by one more input and an output that meets it
 pub meets_more : {In Out : Type 0} (meets : In → Out → Type 0) (ins : List In) (outs : List Out) (input : In) (out : Out) → AllMeet meets ins outs → meets input out → AllMeet meets (ins ++ input ∷ []) (outs ++ out ∷ [])
 meets_more meets [] [] input out all one = (one, tt)
 meets_more meets [] (o ∷ outs) input out all one = absurd all

@@ -1,4 +1,4 @@
--- The lists of the set and of the bag stay in order, and what is in a bag.
+-- The set and the bag stay sorted, and what a bag contains.
 use Rattle.std.proofs.Common.{◌≡◌, ℕ, ◌+◌, ◌<◌, ◌≤◌, List, [], ◌∷◌, Bool, true, false, ◌==◌, Some, refl, arith}
 use Rattle.std.specs.List.{AllByRecursion}
 use Rattle.std.proofs.lemmas.Bool.Decides.{nat_tests}
@@ -9,7 +9,7 @@ use Rattle.seq_objects.specs.Orders.{Ascends, AreInOrder, copies, one_if, IsLeas
 use Rattle.seq_objects.proofs.Bags.{ascends_with as item_ascends, some_here}
 use Rattle.key_sets.proofs.KeyLemmas.Ascending.{ascends_with, ascends_without}
 
--- the lists stay in order
+-- the set and the bag stay sorted
 rest_ascends : (bag : List ℕ) → Ascends bag → Ascends (without_least bag)
 rest_ascends [] up = tt
 rest_ascends (x ∷ bag) up = up.1
@@ -25,7 +25,7 @@ stay_in_order objects (TreeNext key) h = h
 stay_in_order objects (PqInsert item) h = record { set = h.set; bag = item_ascends item objects.bag h.bag }
 stay_in_order objects PqTake h = record { set = h.set; bag = rest_ascends objects.bag h.bag }
 
--- the bag
+-- the copies and the least number of a bag
 pub copies_taken : (item n : ℕ) (bag : List ℕ) → least bag ≡ Some item → copies n bag ≡ one_if (n == item) + copies n (without_least bag)
 copies_taken item n [] is = absurd cc
 copies_taken item n (x ∷ bag) is = let one : x ≡ item = cc in rw one refl

@@ -1,4 +1,4 @@
--- The calls of one batch, and the object that an operation is of.
+-- The calls of one batch, and the object that each operation belongs to.
 use Rattle.std.specs.Prelude.{◌≡◌, ◌<◌, Bool, true, false, List, length, map, filter}
 use Rattle.std.specs.List.{AllByRecursion}
 use Rattle.seq_objects.specs.declared.op.Op.{Op}
@@ -7,11 +7,11 @@ use Rattle.seq_objects.specs.declared.call.Call.{Call}
 use Rattle.seq_objects.specs.BatchOrder.{ComesFirst}
 use Rattle.seq_objects.specs.Pairs.{EachPair, AreDistinct}
 
--- each call is served before each later one
+-- each call precedes each later one in the batch order
 abbrev pub AreInBatchOrder : List Call → Type 0
 AreInBatchOrder calls = EachPair (λ first second. ComesFirst first.op first.worker second.op second.worker) calls
 
--- the calls are those of one batch: at least one, in batch order, of distinct workers below 32
+-- the calls form a batch: there is at least one, they are in batch order, and their workers are distinct and below 32
 pub record AreOneBatch (calls : List Call) : Type 0 where
   pub some : 0 < length calls
   pub order : AreInBatchOrder calls
@@ -25,7 +25,7 @@ pub data Object : Type 0 where
   Tree : Object
   Queue : Object
 
--- the object that an operation is of
+-- the object that an operation belongs to
 abbrev pub object_of : Op → Object
 object_of (CounterAdd addend) = Counter
 object_of (Push item) = Stack
@@ -41,7 +41,7 @@ object_of PqTake = Queue
 abbrev pub AreOf : Object → List Call → Type 0
 AreOf object calls = AllByRecursion (λ call. object_of call.op ≡ object) calls
 
--- whether two objects are one
+-- whether two objects are the same
 abbrev pub same_object : Object → Object → Bool
 same_object Counter Counter = true
 same_object Stack Stack = true

@@ -1,5 +1,5 @@
--- The serial objects, the calls of a batch and their order, work, and the words of a report. `Code` is what only the
--- code cites.
+-- The serial objects, the calls of a batch and their order, the work of a leaf, and the text of operations and replies.
+-- `Code` is internal to the crate's code and proofs.
 pub mod Objects
 pub mod BatchOrder
 pub mod Batches

@@ -1,21 +1,21 @@
--- The serial objects: those that one thread would have, and what each operation does to them and replies.
+-- The serial objects: the sequential semantics of each operation, as its effect on the objects and its reply.
 use Rattle.std.specs.Prelude.{ℕ, ◌+◌, ◌-◌, ◌<◌, ◌^◌, Bool, true, false, not, nat_le, if◌then◌else◌, List, [], ◌∷◌, ◌++◌, length, take, drop, slice_get, Some, None, ⊤}
 use Rattle.std.specs.declared.option.Option.{Option}
 use Rattle.seq_objects.specs.declared.op.Op.{Op}
 use Rattle.seq_objects.specs.declared.op.Op.TheVariants.{CounterAdd, Push, Pop, TreeInsert, TreeRemove, TreeFind, TreeNext, PqInsert, PqTake}
 use Rattle.seq_objects.specs.declared.reply.Reply.{Reply}
 use Rattle.seq_objects.specs.declared.reply.Reply.TheVariants as reply
--- sets of keys: whether a set has the key; a set with the key, and without it; the least key of a set that is greater
+-- sets of keys: membership, insertion, removal, and the least key strictly greater than a number
 pub use Rattle.key_sets.specs.Keys.{has, with_key, without_key, least_above}
 
--- a counter; a stack, whose last item is the top; a strictly ascending set; an ascending bag, with repeats
+-- a counter; a stack, whose last item is the top; a strictly ascending set; an ascending bag, which may have repeats
 pub record Objects : Type 0 where
   pub counter : ℕ
   pub stack : List ℕ
   pub set : List ℕ
   pub bag : List ℕ
 
--- before any operation
+-- the objects before any operation
 abbrev pub opening : Objects
 opening = record { counter = 0; stack = []; set = []; bag = [] }
 
@@ -27,30 +27,30 @@ top stack = slice_get stack (length stack - 1)
 abbrev pub without_top : List ℕ → List ℕ
 without_top stack = take (length stack - 1) stack
 
--- a bag with one more copy of the item, at its place
+-- a bag with the item inserted before the first item that is not smaller
 abbrev pub with_item : ℕ → List ℕ → List ℕ
 with_item item [] = item ∷ []
 with_item item (x ∷ bag) = if nat_le item x then item ∷ x ∷ bag else x ∷ with_item item bag
 
--- the least item of a bag, if there is one: the first of a list that ascends
+-- the least item of an ascending bag, which is its first, if there is one
 abbrev pub least : List ℕ → Option ℕ
 least bag = slice_get bag 0
 
--- a bag without one copy of its least item
+-- an ascending bag without one copy of its least item
 abbrev pub without_least : List ℕ → List ℕ
 without_least bag = drop 1 bag
 
--- the reply whether something is so
+-- `Yes` for true, `No` for false
 abbrev pub yes_or_no : Bool → Reply
 yes_or_no true = reply.Yes
 yes_or_no false = reply.No
 
--- the reply that is a number, if there is one
+-- `Number` of the number, or `Empty` if there is none
 abbrev pub number_or_empty : Option ℕ → Reply
 number_or_empty (Some number) = reply.Number number
 number_or_empty None = reply.Empty
 
--- one line for each operation: the objects afterwards, and the reply
+-- for each operation, the objects after it and its reply
 abbrev pub serve : Objects → Op → Objects × Reply
 serve objects (CounterAdd addend) = (record objects { counter = objects.counter + addend }, reply.Number (objects.counter + addend))
 serve objects (Push item) = (record objects { stack = objects.stack ++ item ∷ [] }, reply.Unit)
@@ -70,19 +70,19 @@ after objects op = (serve objects op).0
 abbrev pub reply_to : Objects → Op → Reply
 reply_to objects op = (serve objects op).1
 
--- the number in the reply to a counter add fits 64 bits; all other operations can be served always
+-- a counter add needs a sum that fits in 64 bits; every other operation can always be served
 abbrev pub CanServe : Objects → Op → Type 0
 CanServe objects (CounterAdd addend) = objects.counter + addend < 2 ^ 64
 CanServe objects _ = ⊤
 
--- the operations that are served without new memory: all but those that put something in
+-- the operation allocates nothing: it inserts nothing into the stack, the set or the bag
 abbrev pub TakesNoMemory : Op → Type 0
 TakesNoMemory (Push item) = ⊥
 TakesNoMemory (TreeInsert key) = ⊥
 TakesNoMemory (PqInsert item) = ⊥
 TakesNoMemory _ = ⊤
 
--- the number that an operation carries; 0 where it carries none
+-- the number that an operation carries, or 0 if it carries none
 abbrev pub argument_of : Op → ℕ
 argument_of (CounterAdd addend) = addend
 argument_of (Push item) = item
@@ -94,7 +94,7 @@ argument_of (TreeNext key) = key
 argument_of (PqInsert item) = item
 argument_of PqTake = 0
 
--- the number that a reply stands for: 1 for yes, and 0 for each other reply without a number
+-- the value of a leaf with this reply: the number, 1 for `Yes`, and 0 for every other reply
 abbrev pub value_of : Reply → ℕ
 value_of (reply.Number number) = number
 value_of reply.Unit = 0

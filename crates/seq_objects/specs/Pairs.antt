@@ -1,17 +1,17 @@
--- What holds of each two elements of a list, and lists without repeats.
+-- Relations between all pairs of elements of a list, and lists without repeats.
 use Rattle.std.specs.Prelude.{◌≢◌, ℕ, List, [], ◌∷◌, Contains}
 use Rattle.std.specs.List.{AllByRecursion}
 
--- the relation holds of each element and each later one
+-- the relation holds between each element and each later one
 abbrev pub EachPair : {X : Type 0} → (X → X → Type 0) → List X → Type 0
 EachPair R [] = Unit {0}
 EachPair R (x ∷ xs) = AllByRecursion (λ y. R x y) xs × EachPair R xs
 
--- no number stands twice
+-- no number occurs twice
 abbrev pub AreDistinct : List ℕ → Type 0
 AreDistinct numbers = EachPair (λ m n. m ≢ n) numbers
 
--- the list has each number that passes, once, and no other
+-- the list contains exactly the numbers that pass, each once
 pub record HasEachOnce (Passes : ℕ → Type 0) (numbers : List ℕ) : Type 0 where
   pub distinct : AreDistinct numbers
   pub only : AllByRecursion Passes numbers

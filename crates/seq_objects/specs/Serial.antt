@@ -1,4 +1,4 @@
--- Calls that are served one after another, and what one object contains beside the others.
+-- Serving calls one after another, and separating the objects from each other.
 use Rattle.std.specs.Prelude.{ℕ, if◌then◌else◌, List, [], ◌∷◌}
 use Rattle.seq_objects.specs.declared.call.Call.{Call}
 use Rattle.seq_objects.specs.declared.reply.Reply.{Reply}
@@ -31,21 +31,21 @@ of_set keys = record opening { set = keys }
 abbrev pub of_bag : List ℕ → Objects
 of_bag items = record opening { bag = items }
 
--- one of the objects alone
+-- one of the objects alone; the others are as at the opening
 abbrev pub alone : Object → Objects → Objects
 alone Counter objects = of_counter objects.counter
 alone Stack objects = of_stack objects.stack
 alone Tree objects = of_set objects.set
 alone Queue objects = of_bag objects.bag
 
--- objects of which one is as it is among others
+-- `objects` with this one object replaced by that of `others`
 abbrev pub with_object : Object → Objects → Objects → Objects
 with_object Counter objects others = record objects { counter = others.counter }
 with_object Stack objects others = record objects { stack = others.stack }
 with_object Tree objects others = record objects { set = others.set }
 with_object Queue objects others = record objects { bag = others.bag }
 
--- of the replies to calls, those to the calls of one object
+-- the replies at the indices of the calls of one object
 abbrev pub replies_of : Object → List Call → List Reply → List Reply
 replies_of object [] replies = []
 replies_of object (call ∷ calls) [] = []
@@ -53,7 +53,7 @@ replies_of object (call ∷ calls) (reply ∷ replies) =
     if same_object object (object_of call.op) then reply ∷ replies_of object calls replies
     else replies_of object calls replies
 
--- the objects where each has served its own calls alone
+-- the objects after each has served its own calls alone
 abbrev pub after_by_object : Objects → List Call → Objects
 after_by_object objects calls = record {
   counter = (after_all (of_counter objects.counter) (calls_of Counter calls)).counter;

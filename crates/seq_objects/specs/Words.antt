@@ -1,4 +1,4 @@
--- How operations and replies are written, in a job's text and in a report's.
+-- The text of operations and replies, as jobs and reports write it.
 use Rattle.std.specs.Prelude.{ℕ, List, ◌++◌, codes}
 use Rattle.std.specs.Fmt.{decimal}
 use Rattle.seq_objects.specs.declared.op.Op.{Op}

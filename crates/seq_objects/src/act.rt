@@ -1,11 +1,11 @@
-//! What a leaf of a job does: work of its own, or a call of a shared object.
+//! The action of a leaf of a job: local work, or a call of a shared object.
 
 use crate::op::Op;
 
-/// What a leaf of a job does.
+/// The action of a leaf of a job.
 #[derive(Clone, Copy, PartialEq, Eq)]
 pub enum Act {
-    /// Work of this number of steps, without a call.
+    /// This number of steps of `spin`, without a call.
     Work(u32),
     /// One call of a shared object.
     Call(Op),

@@ -1,4 +1,4 @@
-//! A bag of numbers, of which the least is taken first.
+//! A min-priority queue of numbers.
 ghost use Rattle.std.specs.Prelude.{◌≡◌, [], OnOk, OnErr};
 ghost use Rattle.seq_objects.specs.Objects.{with_item, least, without_least};
 
@@ -7,7 +7,7 @@ use std::cmp::Reverse;
 use std::collections::BinaryHeap;
 use std::marker::Model;
 
-/// Numbers in a heap, where one number may stand several times. Contracts see them as an ascending list.
+/// Numbers in a binary heap, with repeats. Contracts see them as an ascending list.
 #[derive(Drop)]
 pub(crate) struct Bag {
     heap: BinaryHeap<Reverse<u32>>,

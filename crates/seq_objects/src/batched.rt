@@ -1,4 +1,4 @@
-//! Structures that serve a batch of calls in pieces.
+//! The interface of structures that serve a batch of calls in parallel pieces.
 ghost use Rattle.std.specs.Prelude.{◌≡◌, ℕ, ◌≤◌, List, IfOk, length};
 ghost use Rattle.seq_objects.specs.Objects.{Objects};
 ghost use Rattle.seq_objects.specs.Batches.{AreOneBatch};
@@ -10,41 +10,41 @@ use crate::call::Call;
 use crate::reply::Reply;
 use std::alloc::{AllocError, Global};
 
-/// A structure that serves a whole batch of calls in pieces, which any workers may work on side by side.
+/// A structure that serves a whole batch of calls in pieces, which any workers may run in parallel.
 ///
-/// `begin` takes the structure apart, `piece` works on one piece and knows nothing of the others, and `end`
-/// puts the structure together again. After out of memory in any of them the structure is given up. How many pieces
-/// there are follows from the content and the calls: each structure has a law that says the number of its `cut`.
+/// `begin` takes the structure apart, `piece` runs one piece independently of the others, and `end` reassembles
+/// the structure. If any of the three runs out of memory, the structure is lost. The number of pieces follows from
+/// the content and the calls: each structure has a law that states the number of pieces of its `cut`.
 pub trait Batched: Sized + Drop {
-    /// What a piece is given. It can be sent to another thread, and may carry memory beside what `meets` speaks of.
+    /// The input of a piece. It can be sent to another thread, and may carry memory that `meets` does not mention.
     type In: Drop + Send;
-    /// What a piece answers. It can be sent to another thread, and may carry memory beside what `meets` speaks of.
+    /// The output of a piece. It can be sent to another thread, and may carry memory that `meets` does not mention.
     type Out: Drop + Send;
-    /// What is kept of the structure while its pieces are worked on.
+    /// What the combiner keeps of the structure while its pieces run.
     type Rest: Drop;
 
-    /// How many pieces a batch has at most.
+    /// The most pieces that a batch is cut into.
     const MOST: u32;
 
     /// `MOST`, for contracts.
     ghost MOST: { ℕ };
 
-    /// What the structure contains, as serial objects of which the others are as at the opening.
+    /// The content as serial objects, where the objects of other structures are as at the opening.
     ghost content: { Self → Objects };
 
-    /// Which calls can be served: those of this structure, while what they lead to can be kept.
+    /// The calls that the structure can serve with this content: its own, if the content after them is representable.
     ghost may_serve: { Objects → List CallOf → Type 0 };
 
-    /// Which pieces a batch is cut into, by the content before it and its calls.
+    /// Relates the content before a batch and its calls to the inputs of its pieces.
     ghost cut: { Objects → List CallOf → List Self.In → Type 0 };
 
-    /// What a piece owes: its out as the in determines it.
+    /// The specification of a piece: which outputs are right for an input.
     ghost meets: { Self.In → Self.Out → Type 0 };
 
-    /// What is kept belongs to a batch of this context.
+    /// The kept rest belongs to the batch with this context.
     ghost is_context_of: { Self.Rest → BatchContext Self Self.In → Type 0 };
 
-    /// Cuts a batch into pieces, of which there is at least one.
+    /// Cuts a batch into at least 1 and at most `MOST` pieces.
     fn begin(self, alloc: Global, calls: &[Call]) -> Result<(Self::Rest, Vec<Self::In>), AllocError>
         requires batch { AreOneBatch calls.now }
         requires may { may_serve (content self) calls.now }
@@ -52,14 +52,14 @@ pub trait Batched: Sized + Drop {
         ensures cut { IfOk result (λ p. cut (content self) calls.now p.1.items) }
         ensures remembers { IfOk result (λ p. is_context_of p.0 (record { before = self; calls = calls.now; ins = p.1.items })) };
 
-    /// Works on one piece.
+    /// Runs one piece.
     fn piece(alloc: Global, input: Self::In) -> Result<Self::Out, AllocError>
         ensures { IfOk result (λ out. meets input out) };
 
-    /// Puts the structure together, and gives the replies in the order of the calls that `begin` had.
+    /// Reassembles the structure, and returns the replies in the order of the calls given to `begin`.
     ///
-    /// The clauses are the law of batches: where there is an out for each in, in their order, and each meets
-    /// its in, then the batch was served as if its calls had come one after another.
+    /// The clauses are the law of batches: if `outs` has one output for each input, in the same order, and each
+    /// output meets its input, the batch was served as if its calls had been served one after another.
     fn end(
         alloc: Global,
         rest: Self::Rest,
@@ -70,7 +70,7 @@ pub trait Batched: Sized + Drop {
         ensures content { IfOk result (λ p. (o : BatchContext Self Self.In) → is_context_of rest o → AllMeet meets o.ins outs.items → content p.0 ≡ after_all (content o.before) o.calls) };
 }
 
-/// Serves a batch by its pieces, one piece after another. The structure is given up when memory runs out.
+/// Serves a batch on one thread, piece after piece. The structure is lost if memory runs out.
 pub fn serve_batch<T: Batched>(
     alloc: Global,
     structure: T,

@@ -1,11 +1,11 @@
-//! The operations on the shared objects, and what one thread would get from them.
+//! The operations on the shared objects, and their sequential semantics.
 //!
-//! The meaning of every run rests on this crate: the serial objects say what each operation does and
-//! replies, `Plain` serves them one after another, and the batch order says in which order the calls of one
-//! batch are served. `laws` says that the lists of the serial objects stay in order, and what is in them. The
-//! work of a leaf without a call is here too. `Batched` is what a structure owes that serves a whole batch in
-//! pieces: the replies and the content of serving its calls one after another; `serve_batch` shows that this
-//! is enough. The crate stands on `key_sets`, whose words it uses for the set.
+//! The specification of every run rests on this crate. The serial objects define what each operation does and
+//! replies, `Plain` executes them one at a time, and the batch order fixes the order in which the calls of one
+//! batch take effect. `laws` states that the serial set and bag stay sorted, and what they contain. `spin` is the
+//! work of a leaf without a call. `Batched` is the interface of a structure that serves a whole batch in pieces: its
+//! replies and its content must be those of serving the calls one after another; `serve_batch` shows that the
+//! interface suffices for this. The crate depends on `key_sets`, which defines the serial set.
 #![tactic(auto)]
 
 pub mod act;

@@ -2,26 +2,26 @@
 
 use std::fmt;
 
-/// An operation on one of the shared objects, as a job's text names it.
+/// An operation on one of the shared objects.
 #[derive(Clone, Copy, PartialEq, Eq)]
 pub enum Op {
-    /// Adds a number to the counter, and replies the sum.
+    /// Adds a number to the counter, and replies with the new sum.
     CounterAdd(u32),
-    /// Puts a number on top of the stack.
+    /// Pushes a number on the stack.
     Push(u32),
-    /// Takes the top off the stack, and replies it; empty if there is none.
+    /// Pops the top of the stack, and replies with it, or `Empty` if there is none.
     Pop,
-    /// Puts a key into the tree, and replies whether it was new.
+    /// Inserts a key into the tree, and replies whether it was new.
     TreeInsert(u32),
-    /// Takes a key out of the tree, and replies whether it was there.
+    /// Removes a key from the tree, and replies whether it was there.
     TreeRemove(u32),
     /// Replies whether the tree has a key.
     TreeFind(u32),
-    /// Replies the least key of the tree that is greater than a number; empty if there is none.
+    /// Replies with the least key of the tree that is strictly greater than a number, or `Empty` if there is none.
     TreeNext(u32),
-    /// Puts a number into the queue, which may have several copies of it.
+    /// Inserts a number into the priority queue, which may hold several copies of it.
     PqInsert(u32),
-    /// Takes one copy of the least number out of the queue, and replies it; empty if there is none.
+    /// Removes one copy of the queue's least number, and replies with it, or `Empty` if there is none.
     PqTake,
 }
 

@@ -1,4 +1,4 @@
-//! The shared objects as one thread has them.
+//! The sequential implementation of the shared objects.
 ghost use Rattle.std.specs.Prelude.{◌≡◌, IfOk, OnOk, OnErr, IsOk};
 ghost use Rattle.seq_objects.specs.Objects.{opening, after, reply_to, CanServe, TakesNoMemory, least_above};
 
@@ -10,7 +10,7 @@ use std::collections::BTreeSet;
 use std::marker::Model;
 use std::ops::Bound;
 
-/// The shared objects, served one operation after another. Contracts see them as `Objects`.
+/// All shared objects, which serve one operation at a time. Contracts see them as `Objects`.
 #[derive(Drop)]
 pub struct Plain {
     counter: u64,
@@ -28,7 +28,7 @@ impl Model for Plain {
 }
 
 impl Plain {
-    /// The objects at the opening.
+    /// The objects at the opening: the counter is 0, and the others are empty.
     ///
     /// Memory: none.
     pub fn new(alloc: Global) -> Plain
@@ -44,7 +44,7 @@ impl Plain {
 
     /// Serves one operation.
     ///
-    /// Memory: none for the operations that put nothing in.
+    /// Memory: only `Push`, `TreeInsert` and `PqInsert` allocate.
     #[tactic(auto, using(crate::proofs::Keys::same_has, crate::proofs::Keys::same_with_key, crate::proofs::Keys::same_without_key))]
     pub fn serve(&mut self, op: Op) -> Result<Reply, AllocError>
         requires { CanServe self.old op }
@@ -77,7 +77,7 @@ impl Plain {
     }
 }
 
-/// The least of the keys that are greater than `key`.
+/// The least element of `keys` that is strictly greater than `key`.
 #[tactic(auto, using(crate::proofs::Keys::first_above))]
 fn next_key(keys: &BTreeSet<u32>, key: u32) -> Option<u32>
     ensures { result ≡ least_above key keys.now.keys }

@@ -1,21 +1,21 @@
-//! What the operations reply.
+//! The replies of operations.
 ghost use Rattle.std.specs.Prelude.{◌≡◌};
 ghost use Rattle.seq_objects.specs.Objects.{number_or_empty, yes_or_no, value_of};
 
 use std::fmt;
 
-/// What an operation replies.
+/// The reply of an operation.
 #[derive(Clone, Copy, PartialEq, Eq)]
 pub enum Reply {
-    /// A number: of a counter the sum, else an item or a key.
+    /// A number: the counter's new sum, an item or a key.
     Number(u64),
-    /// The operation is done, and there is nothing to tell.
+    /// The operation is done, and has nothing to return.
     Unit,
-    /// There is no item or key to reply.
+    /// There is no item or key to return.
     Empty,
-    /// The set has changed, or has the key.
+    /// The set has changed (insert, remove), or has the key (find).
     Yes,
-    /// The set has not changed, or lacks the key.
+    /// The set has not changed (insert, remove), or lacks the key (find).
     No,
 }
 
@@ -37,7 +37,7 @@ impl fmt::Display for Reply {
 }
 
 impl Reply {
-    /// The reply that is a number, if there is one.
+    /// `Number` of the number, or `Empty` if there is none.
     pub fn number_or_empty(number: Option<u32>) -> Reply
         ensures { result ≡ number_or_empty number }
     {
@@ -47,7 +47,7 @@ impl Reply {
         }
     }
 
-    /// The reply whether something is so.
+    /// `Yes` for true, `No` for false.
     pub fn yes_or_no(yes: bool) -> Reply
         ensures { result ≡ yes_or_no yes }
     {
@@ -55,7 +55,7 @@ impl Reply {
     }
 }
 
-/// The number that a reply stands for, which becomes the value of its leaf.
+/// The value of a leaf with this reply: the number, 1 for `Yes`, and 0 for every other reply.
 ///
 /// Memory: none.
 pub fn value(reply: Reply) -> u64

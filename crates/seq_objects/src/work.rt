@@ -2,7 +2,7 @@
 ghost use Rattle.std.specs.Prelude.{◌≡◌};
 ghost use Rattle.seq_objects.specs.Spin.{spin_of};
 
-/// The value of `n` steps of work: `x` begins as `n`, and each step makes it `5 * x + 1` modulo 2^32.
+/// The value of `n` steps of work: `x` starts as `n`, and each step replaces it by `5 * x + 1` modulo 2^32.
 ///
 /// Memory: none. Time: `n` steps.
 pub fn spin(n: u32) -> u32

@@ -1,4 +1,4 @@
--- What a worker's ends are after a steal, and how all workers' ends are made.
+-- A worker's ends after a steal, and the construction of all workers' ends.
 pub mod Stealing
 pub mod Making
 pub mod Dealing

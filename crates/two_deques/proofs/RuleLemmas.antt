@@ -1,4 +1,4 @@
--- What each step does to the rule of a deque.
+-- Each step on a deque keeps its rule.
 pub mod Sums
 pub mod Owners
 pub mod Steps

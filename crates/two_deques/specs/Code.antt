@@ -1,2 +1,2 @@
--- The definitions of the code's own: which ends belong to which deques while these are made.
+-- Definitions used only by the code and its proofs: which ends belong to which deques during construction.
 pub mod Opening

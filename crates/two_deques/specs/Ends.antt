@@ -1,4 +1,4 @@
--- What contracts see of a worker's ends of the deques of one kind, and what each call does to it.
+-- What contracts see of a worker's ends of the deques of one kind, and the effect of each operation.
 use Rattle.std.specs.Prelude.{ℕ, ◌+◌, ◌==◌, true, false, List, [], ◌∷◌, ◌++◌, map, replicate}
 use Rattle.std.specs.Prelude.{slice_index_or, slice_set, if◌then◌else◌}
 use Rattle.crossbeam_deque.specs.Handles.{view, worker_view}
@@ -6,10 +6,10 @@ use Rattle.two_deques.specs.declared.ends.Reach.{Reach}
 use Rattle.two_deques.specs.declared.ends.Ends.{Ends}
 use Rattle.two_deques.specs.Rule.{FoundAtMost}
 
--- Of the own deque: the tasks that the worker pushed there and has not popped, the oldest first; how many
--- pushes it made there, and how many of its pops there found nothing. Of each worker's deque, by its
--- number: the tasks that this worker took there, and how many of its steals there found nothing. Of its
--- own it takes none.
+-- For the worker's own deque: `own`, the tasks that it pushed and has not popped, the oldest first (some of them
+-- may be stolen); `pushes`, the number of its pushes; `empty_pops`, the number of its pops that found nothing.
+-- For each worker's deque, indexed by worker: `stolen`, the tasks that this worker stole there, and
+-- `fruitless_steals`, the number of its steals that found nothing. `risen` says how the two counts saturate.
 pub record HeldEnds (T : Type 0) : Type 0 where
   pub own : List T
   pub pushes : ℕ
@@ -29,7 +29,7 @@ held_ends e = record {
   fruitless_steals = map (λ reach. reach.fruitless_steals) e.reaches.items;
 }
 
--- nothing was pushed, and nothing was tried at the deques of so many workers
+-- the initial ends among `workers` workers: all lists are empty and all counts are 0
 abbrev pub fresh_ends : (T : Type 0) → ℕ → HeldEnds T
 fresh_ends T workers = record {
   own = [];
@@ -39,19 +39,19 @@ fresh_ends T workers = record {
   fruitless_steals = replicate workers 0;
 }
 
--- the tasks that were taken from this worker's deque
+-- the tasks that this worker stole from `victim`'s deque
 abbrev pub stolen_from : {T : Type 0} → ℕ → HeldEnds T → List T
 stolen_from victim e = slice_index_or e.stolen victim []
 
--- one more, and at the end of 64 bits the same
+-- one more, saturating at 2^64 - 1
 abbrev pub risen : ℕ → ℕ
 risen n = if n == 18446744073709551615 then n else n + 1
 
--- with one task more at the newest end of the own list
+-- with one more task at the newest end of `own`
 abbrev pub with_newest : {T : Type 0} → T → HeldEnds T → HeldEnds T
 with_newest x e = record e { own = e.own ++ x ∷ [] }
 
--- after a push of this task
+-- after a push of `x`
 abbrev pub after_push : {T : Type 0} → T → HeldEnds T → HeldEnds T
 after_push x e = record e { own = e.own ++ x ∷ []; pushes = e.pushes + 1 }
 
@@ -59,11 +59,11 @@ after_push x e = record e { own = e.own ++ x ∷ []; pushes = e.pushes + 1 }
 abbrev pub after_empty_pop : {T : Type 0} → HeldEnds T → HeldEnds T
 after_empty_pop e = record e { empty_pops = risen e.empty_pops }
 
--- after a steal that took this task from this worker's deque
+-- after a steal of `x` from `victim`'s deque
 abbrev pub after_steal : {T : Type 0} → ℕ → T → HeldEnds T → HeldEnds T
 after_steal victim x e = record e { stolen = slice_set e.stolen victim (stolen_from victim e ++ x ∷ []) }
 
--- after a steal at this worker's deque that found nothing
+-- after a steal from `victim`'s deque that found nothing
 abbrev pub after_fruitless_steal : {T : Type 0} → ℕ → HeldEnds T → HeldEnds T
 after_fruitless_steal victim e =
     record e {
@@ -71,11 +71,11 @@ after_fruitless_steal victim e =
           (risen (slice_index_or e.fruitless_steals victim 0));
     }
 
--- The cause of a pop that found nothing: the own deque was empty, so that all tasks of the own list were
+-- The cause of a pop that found nothing: the rule admits that the own deque was empty, so all tasks of `own` were
 -- stolen.
 abbrev pub WasEmpty : {T : Type 0} → HeldEnds T → Type 0
 WasEmpty e = FoundAtMost 0 true e.own
 
--- The cause of a steal that found nothing: the victim's deque had at most one task.
+-- The cause of a steal that found nothing: the rule admits that the victim's deque had at most one task.
 abbrev pub HadAtMostOne : {T : Type 0} → ℕ → HeldEnds T → Type 0
 HadAtMostOne victim e = FoundAtMost 1 false (stolen_from victim e)

@@ -1,5 +1,5 @@
--- The rules of the deques: what holds of a deque at every moment, what contracts see of a worker's hand and of
--- the deques, and whom a worker tries to steal from. `Code` is what only the code cites.
+-- The specification of the deques: their invariant, what contracts see of hands and deques, and the choice of
+-- victims. `Code` is internal to the crate's code and proofs.
 pub mod Rule
 pub mod Reaches
 pub mod Ends

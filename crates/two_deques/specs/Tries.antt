@@ -1,11 +1,11 @@
--- Whom a worker tries to steal from, in turn.
+-- The round-robin choice of steal victims.
 use Rattle.std.specs.Prelude.{ℕ, ◌+◌, ◌-◌, ◌*◌, ◌/◌, ◌%◌, ◌==◌, if◌then◌else◌}
 use Rattle.two_deques.specs.declared.tries.Deck.{Deck}
 use Rattle.two_deques.specs.declared.tries.Deck.TheVariants.{CoreDeck, BatchDeck}
 use Rattle.two_deques.specs.declared.tries.Try.{Try}
 
--- What contracts see of a worker's tries: whose they are, among how many workers, and the number of the next one.
--- There are two for each other worker; after the last comes the first again.
+-- What contracts see of `Tries`: its worker, the number of workers, and the number of the next try.
+-- A cycle has two tries for each other worker.
 pub record TriesView : Type 0 where
   pub worker : ℕ
   pub workers : ℕ
@@ -14,7 +14,7 @@ pub record TriesView : Type 0 where
 abbrev pub first_tries : ℕ → ℕ → TriesView
 first_tries worker workers = record { worker = worker; workers = workers; next = 0 }
 
--- an even number is that of a deque of nodes, an odd one that of a deque of pieces
+-- even tries go to deques of nodes, odd ones to deques of pieces
 abbrev pub deck_of : ℕ → Deck
 deck_of number = if number % 2 == 0 then CoreDeck else BatchDeck
 

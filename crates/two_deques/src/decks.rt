@@ -1,4 +1,4 @@
-//! The deques, as all workers share them, and the calls on them.
+//! The deques as all workers share them, and the operations on them.
 ghost use Rattle.std.specs.Prelude.{◌≡◌, ◌≢◌, ◌<◌, ◌≤◌, IfOk, IfErr, IfNone, IfSome, OnOk};
 ghost use Rattle.two_deques.specs.Ends.{after_push, with_newest, after_empty_pop, after_steal};
 ghost use Rattle.two_deques.specs.Ends.{after_fruitless_steal, WasEmpty, HadAtMostOne};
@@ -16,8 +16,8 @@ use opening::hands_of;
 use std::alloc::{AllocError, Global};
 use std::sync::Wait;
 
-/// The deques of all workers: one of ready nodes and one of pieces each. They keep the allocator, so that no
-/// call but `make` takes it.
+/// The deques of all workers, one of ready nodes and one of pieces each. They store the allocator, so only `make`
+/// takes it as an argument.
 #[derive(Drop)]
 pub struct Decks {
     pub(crate) core: Vec<Stealer<u32, Global, Part<u32>, DequeRule>>,
@@ -27,7 +27,7 @@ pub struct Decks {
 }
 
 impl Decks {
-    /// Empty deques for so many workers, and the hand of each worker. The rooms are numbers of tasks.
+    /// Empty deques for `workers` workers, and their hands. A room counts pushes over a deque's life, not tasks in it.
     pub fn make(
         alloc: Global,
         workers: u32,
@@ -54,7 +54,7 @@ impl Decks {
         Ok((decks, hands))
     }
 
-    /// Pushes a node on the own deque. The node comes back where the deque is full and cannot grow.
+    /// Pushes a node on the worker's own deque. A deque that is full and cannot grow returns the node.
     pub fn push_core(&self, hand: &mut Hand, node: u32) -> Result<(), u32>
         requires hand { IsHandOf self.now hand.old }
         ensures hand { IsHandOf self.now hand.new }
@@ -66,11 +66,11 @@ impl Decks {
         hand.core.push(node)
     }
 
-    /// Pops the newest node of the own deque.
+    /// Pops the newest node of the worker's own deque.
     ///
-    /// `cause` hands on what `crossbeam_deque` promises of its pop: that it finds nothing only where the
-    /// deque was empty at a moment of the call. No clause can name the state between two steps of a call,
-    /// so this one says that the deque's rule allows such a state, with this hand's list.
+    /// `cause` passes on the promise of `crossbeam_deque` that a pop finds nothing only if the deque was empty at
+    /// some moment of the call. A clause cannot name a state within a call, so `cause` states that the rule admits
+    /// an empty deque whose owner has this hand's list.
     ///
     /// Memory: none.
     pub fn pop_core(&self, hand: &mut Hand) -> Option<u32>
@@ -85,12 +85,12 @@ impl Decks {
         hand.core.pop()
     }
 
-    /// Takes the oldest node of another worker's deque. It tries again where the deque asks for that, so
-    /// it may wait for other thieves.
+    /// Steals the oldest node of another worker's deque. It retries as long as the deque asks for it, so it may
+    /// wait for other thieves.
     ///
-    /// `cause` hands on what `crossbeam_deque` promises of its steal: that it finds nothing only where
-    /// the deque had at most one task at a moment of the call, which its owner may be about to pop. It is
-    /// said as at `pop_core`.
+    /// `cause` passes on the promise of `crossbeam_deque` that a steal finds nothing only if the deque had at most
+    /// one task at some moment of the call; its owner may be about to pop that task. Its form is explained at
+    /// `pop_core`.
     ///
     /// Memory: none.
     pub fn steal_core<R: Wait>(&self, rt: &R, hand: &mut Hand, victim: u32) -> Option<u32>
@@ -107,10 +107,10 @@ impl Decks {
         hand.core.steal(rt, &self.core, victim)
     }
 
-    /// Pushes the spot of a piece on the own deque of pieces. The spot comes back where the deque is full and
-    /// cannot grow.
+    /// Pushes the spot of a piece on the worker's own deque of pieces. A deque that is full and cannot grow returns
+    /// the spot.
     ///
-    /// Memory: the deque's own, with the allocator that it keeps.
+    /// Memory: the deque may grow, by the allocator that it stores.
     pub fn push_piece(&self, hand: &mut Hand, spot: Spot) -> Result<(), Spot>
         requires hand { IsHandOf self.now hand.old }
         ensures hand { IsHandOf self.now hand.new }
@@ -122,7 +122,7 @@ impl Decks {
         hand.batch.push(spot)
     }
 
-    /// Pops the newest spot of the own deque of pieces. `cause` is said as at `pop_core`.
+    /// Pops the newest spot of the worker's own deque of pieces. For `cause` see `pop_core`.
     ///
     /// Memory: none.
     pub fn pop_piece(&self, hand: &mut Hand) -> Option<Spot>
@@ -137,8 +137,8 @@ impl Decks {
         hand.batch.pop()
     }
 
-    /// Takes the oldest spot of another worker's deque of pieces. It tries again where the deque asks for
-    /// that, so it may wait for other thieves. `cause` is said as at `steal_core`.
+    /// Steals the oldest spot of another worker's deque of pieces. It retries as long as the deque asks for it, so
+    /// it may wait for other thieves. For `cause` see `steal_core`.
     ///
     /// Memory: none.
     pub fn steal_piece<R: Wait>(&self, rt: &R, hand: &mut Hand, victim: u32) -> Option<Spot>

@@ -1,4 +1,4 @@
-//! What a worker has of the deques of one kind.
+//! A worker's access to the deques of one kind of task.
 ghost use Rattle.std.specs.Prelude.{◌≡◌, ◌<◌, ◌≤◌, true, false};
 ghost use Rattle.crossbeam_deque.specs.Handles.{view, worker_view, worker_flavor, worker_index};
 
@@ -9,7 +9,7 @@ use crate::rule::{DequeRule, Part};
 use crossbeam_deque::{Pass, Worker};
 use std::alloc::Global;
 
-/// What one worker has of one deque: its pass, and how many of its steals there found nothing.
+/// A thief's access to one deque: its pass, and how many of its steals there found nothing (saturating).
 #[derive(Drop)]
 pub struct Reach<T> {
     pub(crate) pass: Pass<T, Part<T>>,
@@ -17,9 +17,9 @@ pub struct Reach<T> {
     ghost thief: { (view pass).owns ≡ false },
 }
 
-/// One worker's ends of all deques of one kind: that of its own deque, and a reach into each. It has a
-/// reach into its own too, which it does not use, so that each reach stands at the number of the worker
-/// whose deque it is.
+/// One worker's ends of all deques of one kind: the owner's end of its own deque, and a `Reach` into every
+/// deque. The reach into its own deque is never used; with it, the index of a reach is the number of the worker
+/// that owns the deque.
 #[derive(Drop)]
 pub struct Ends<T> {
     pub(crate) own: Worker<T, Global, Part<T>, DequeRule>,

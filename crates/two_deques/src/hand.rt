@@ -1,12 +1,12 @@
-//! A worker's hand.
+//! A worker's hand: its private access to all deques.
 ghost use Rattle.std.specs.Prelude.{◌≡◌};
 ghost use Rattle.two_deques.specs.Hands.{held};
 
 use crate::ends::Ends;
 use crate::spot::Spot;
 
-/// One worker's ends of all deques: of those of nodes that are ready, and of those of pieces. It goes to the
-/// worker's own thread.
+/// One worker's ends of all deques, those of ready nodes (`core`) and those of pieces (`batch`). It is moved to the
+/// worker's thread.
 #[derive(Drop)]
 pub struct Hand {
     pub(crate) worker: u32,
@@ -15,7 +15,7 @@ pub struct Hand {
 }
 
 impl Hand {
-    /// Whose hand it is.
+    /// The number of the hand's worker.
     ///
     /// Memory: none.
     pub fn worker(&self) -> u32

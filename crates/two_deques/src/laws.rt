@@ -1,4 +1,4 @@
-//! What the rule of a deque means, each law as the contract of a function that does nothing.
+//! The consequences of the rule of a deque, each stated as the contract of an empty function.
 ghost use Rattle.std.specs.Prelude.{◌≡◌, ◌+◌, ℕ, List, [], ◌∷◌, ◌++◌, true, false, slice_set};
 ghost use Rattle.std.specs.List.{sum_by};
 ghost use mathlib.Core.Option.{some};
@@ -13,13 +13,13 @@ fn can_be_sent<T: Send>() {}
 
 fn can_be_shared<T: Sync>() {}
 
-/// A hand can go to its worker's thread, and all threads can share the deques.
+/// `Hand` is `Send` and `Decks` is `Sync`: a hand can move to its worker's thread, and all threads share the deques.
 pub fn hands_go_to_threads() {
     can_be_sent::<Hand>();
     can_be_shared::<Decks>();
 }
 
-/// The rule holds of a new deque, and goes on where a thief comes who has taken nothing.
+/// The rule holds for a new deque, and still holds when a thief that has stolen nothing joins.
 #[tactic(auto, using(crate::proofs::RuleLemmas::Steps::begins, crate::proofs::RuleLemmas::Steps::admits))]
 pub fn a_deque_begins_with_the_rule<T>()
     ensures new { ObeysRule {T = T} [] (owner_part 0 [] ∷ []) }
@@ -27,7 +27,7 @@ pub fn a_deque_begins_with_the_rule<T>()
         → ObeysRule items (parts ++ thief_part [] ∷ []) }
 {}
 
-/// Where a task joins the owner's list and the deque, each at its newest end, the rule goes on.
+/// Appending a task to the newest end of both the deque and its owner's list keeps the rule.
 #[tactic(auto, using(crate::proofs::RuleLemmas::Steps::push_kept))]
 pub fn a_push_keeps_the_rule<T>()
     ensures { (items : List T) (parts : List (PartOf T)) (port : ℕ) (mine : PartOf T) (task : T)
@@ -36,7 +36,7 @@ pub fn a_push_keeps_the_rule<T>()
         (record mine { pushes = mine.pushes + 1; tasks = mine.tasks ++ task ∷ [] })) }
 {}
 
-/// The newest task of a deque is the last of its owner's list; where it leaves both, the rule goes on.
+/// The newest task of a deque is the last of its owner's list; removing it from both keeps the rule.
 #[tactic(auto, using(crate::proofs::RuleLemmas::Steps::pop_kept))]
 pub fn a_pop_takes_the_newest<T>()
     ensures { (items : List T) (parts : List (PartOf T)) (port : ℕ) (mine : PartOf T) (task : T)
@@ -45,7 +45,7 @@ pub fn a_pop_takes_the_newest<T>()
         × ObeysRule items (slice_set parts port (record mine { tasks = rest })) }
 {}
 
-/// Where the oldest task leaves a deque and joins a thief's list, the rule goes on.
+/// Moving the oldest task of a deque to the end of a thief's list keeps the rule.
 #[tactic(auto, using(crate::proofs::RuleLemmas::Steps::steal_kept))]
 pub fn a_steal_takes_the_oldest<T>()
     ensures { (items : List T) (parts : List (PartOf T)) (port : ℕ) (thief : PartOf T) (task : T)
@@ -53,8 +53,8 @@ pub fn a_steal_takes_the_oldest<T>()
         → ObeysRule items (slice_set parts port (record thief { tasks = thief.tasks ++ task ∷ [] })) }
 {}
 
-/// Each task stands in the owner's list as often as in the deque and in the lists of all thieves
-/// together.
+/// Each task occurs in the owner's list as often as in the deque and all thieves' lists together: for any `weight`,
+/// the sums agree.
 #[tactic(auto, using(crate::proofs::LawLemmas::each_is_somewhere))]
 pub fn no_task_is_lost_or_doubled<T>()
     ensures { (items : List T) (parts : List (PartOf T)) (port : ℕ) (mine : PartOf T) (weight : T → ℕ)
@@ -63,7 +63,7 @@ pub fn no_task_is_lost_or_doubled<T>()
         ≡ sum_by (λ part. sum_by weight (stolen_by part)) parts + sum_by weight items }
 {}
 
-/// Where a deque is empty, all tasks of its owner's list are stolen.
+/// If a deque was empty while its owner had this list, all tasks of the list were stolen.
 #[tactic(auto, using(crate::proofs::LawLemmas::all_are_stolen))]
 pub fn all_tasks_of_an_empty_deque_are_stolen<T>()
     ensures { (own : List T) → FoundAtMost 0 true own → (parts : List (PartOf T)) × AreStolen own parts }

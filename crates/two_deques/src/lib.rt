@@ -1,13 +1,13 @@
-//! The deques of the workers: each has two of its own, one for nodes that are ready and one for pieces of batches.
+//! The work-stealing deques: each worker owns two, one of ready nodes and one of pieces of batches.
 //!
-//! A worker pushes and pops at the newest end of its own deques, and takes the oldest task of another's.
-//! What holds of a deque at every moment is its `rule`: the owner's own list is the list of the stolen
-//! tasks, followed by the tasks in the deque. `laws` says what that means for a push, a pop and a steal:
-//! none of them loses a task, or doubles one, or changes their order. `tries` says whom a worker tries to steal
-//! from. The crate stands on `crossbeam_deque`, which keeps the rule while all threads work.
+//! A worker pushes and pops at the newest end of its own deques, and steals the oldest task of another worker's.
+//! `rule` is the invariant of a deque: the owner's list of tasks is the list of all stolen tasks, followed by
+//! the tasks in the deque. `laws` states its consequences for a push, a pop and a steal: none of them loses,
+//! duplicates or reorders tasks. `tries` chooses the victims of steals. The crate depends on `crossbeam_deque`,
+//! which maintains the invariant while all threads run.
 //!
-//! The rule, and what a worker has of the deques of one kind (`ends`), are generic in the kind of task. So nodes
-//! and pieces have one rule and one set of proofs, and each kind is a field of `Hand` and of `Decks`.
+//! The rule and a worker's access to the deques of one kind (`ends`) are generic in the type of task, so nodes and
+//! pieces share one rule and one set of proofs. `Hand` and `Decks` have one field for each kind.
 #![tactic(auto)]
 
 pub mod decks;

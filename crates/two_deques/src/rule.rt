@@ -1,19 +1,19 @@
-//! The rule of a deque, and what each of its three steps tells.
+//! The invariant of a deque, and what its caller learns from each of the three operations.
 ghost use Rattle.std.specs.Prelude.{◌≡◌, ◌+◌, ◌++◌, true, false};
 ghost use Rattle.two_deques.specs.Rule.{owner_part, thief_part, ObeysRule, FoundAtMost};
 
 use crossbeam_deque::protocol::{Outcome, Protocol};
 use std::collections::LinkedList;
 
-/// What one worker knows of a deque. The owner knows its own list, and how many pushes it made; a thief
-/// knows which tasks it took. No value of it is made.
+/// One worker's knowledge of a deque, for contracts only. The owner knows how many pushes it made and the tasks
+/// that it pushed and has not popped; a thief knows the tasks that it stole.
 pub struct Part<T> {
     pub owns: bool,
     pub pushes: u64,
     pub tasks: LinkedList<T>,
 }
 
-/// The rule of a deque, which `crossbeam_deque` keeps at every moment.
+/// The invariant of a deque, which `crossbeam_deque` maintains at every moment.
 pub struct DequeRule;
 
 impl<T> Protocol<T, Part<T>> for DequeRule {
@@ -27,14 +27,14 @@ impl<T> Protocol<T, Part<T>> for DequeRule {
     ghost guest = { thief_part [] };
 }
 
-/// A push: the task joins the end of the own list.
+/// A push appends the task to the owner's list, and counts one push.
 pub struct Pushed;
 
 impl<T> Outcome<T, Part<T>> for Pushed {
     ghost then = { λ v xs w. w ≡ record v { pushes = v.pushes + 1; tasks = v.tasks ++ xs } };
 }
 
-/// A pop: the last task of the own list leaves it.
+/// A pop removes the last task of the owner's list.
 pub struct Popped;
 
 impl<T> Outcome<T, Part<T>> for Popped {
@@ -43,7 +43,7 @@ impl<T> Outcome<T, Part<T>> for Popped {
     ghost empty = { λ v. FoundAtMost 0 true v.tasks };
 }
 
-/// A steal: the task joins the end of the thief's list.
+/// A steal appends the task to the thief's list.
 pub struct Stolen;
 
 impl<T> Outcome<T, Part<T>> for Stolen {

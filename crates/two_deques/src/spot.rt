@@ -1,7 +1,7 @@
-//! Where a piece of a batch is found.
+//! The location of a piece of a batch.
 
-/// A piece of a batch: the worker that launches the batch, whose row of the board it stands in, and its place
-/// there.
+/// The location of a piece on the board: `row` is the worker that launched its batch (the combiner), and `place` its
+/// place in this row.
 #[derive(Clone, Copy)]
 pub struct Spot {
     pub row: u32,

@@ -1,25 +1,25 @@
-//! Whom a worker tries to steal from, in turn.
+//! The round-robin choice of steal victims.
 ghost use Rattle.std.specs.Prelude.{◌≡◌, ◌≢◌, ◌<◌, ◌≤◌, ◌↔◌, IfSome, IfNone, IsNone};
 ghost use Rattle.two_deques.specs.Tries.{first_tries, try_of, after_try};
 
 use std::marker::Model;
 
-/// Which of a worker's two deques.
+/// One of a worker's two deques: that of ready nodes (`CoreDeck`) or that of pieces of batches (`BatchDeck`).
 #[derive(Clone, Copy)]
 pub enum Deck {
     CoreDeck,
     BatchDeck,
 }
 
-/// A steal to try: at which deque of which worker.
+/// A steal to attempt: the victim, and which of its deques.
 #[derive(Clone, Copy)]
 pub struct Try {
     pub deck: Deck,
     pub victim: u32,
 }
 
-/// The tries of a worker, which go round the others, from the one after it on: at each first the deque of nodes,
-/// then that of pieces. Contracts see whose tries they are, among how many, and the number of the next.
+/// A worker's cycle through the other workers, from its successor on: at each, first the deque of nodes and then
+/// that of pieces. Contracts see it as a `TriesView`.
 #[derive(Drop)]
 pub struct Tries {
     worker: u32,
@@ -40,7 +40,7 @@ impl Model for Tries {
 }
 
 impl Tries {
-    /// The tries of worker `me` among so many.
+    /// The tries of worker `me` among `workers` workers.
     ///
     /// Memory: none.
     pub fn new(me: u32, workers: u32) -> Tries
@@ -55,7 +55,7 @@ impl Tries {
         }
     }
 
-    /// The next try. There is none where there is no other worker.
+    /// The next try, or `None` if there is no other worker.
     ///
     /// Memory: none.
     pub fn next_try(&mut self) -> Option<Try>

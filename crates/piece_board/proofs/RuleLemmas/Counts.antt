@@ -1,4 +1,4 @@
--- How many claims and posts all seats made at a place, where one seat has become another.
+-- The counts of all seats' claims and posts at a place, after one seat's view is replaced.
 use Rattle.std.proofs.Common.{◌≡◌, ◌≢◌, ℕ, zero, suc, ◌+◌, List, [], ◌∷◌, set, if◌then◌else◌, eq-eqb, ne_eqb, sym, ap, arith}
 use Rattle.std.specs.List.{sum_by}
 use Rattle.std.proofs.lemmas.List.Sums.{sum_by-cons, sum_by-append}

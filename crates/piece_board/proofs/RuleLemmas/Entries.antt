@@ -1,4 +1,4 @@
--- Entries that join a list, and leave it.
+-- Adding entries to association lists, and removing them.
 use Rattle.std.proofs.Common.{◌≡◌, ◌≢◌, ℕ, ◌++◌, List, [], ◌∷◌, Option, None, Some, if◌then◌else◌, eq-eqb, ne_eqb, sym, refl, ap, ◌∙◌, subst}
 use mathlib.Core.Logic.{dite}
 use native.Mathlib.Decide.{ℕ_discrete}

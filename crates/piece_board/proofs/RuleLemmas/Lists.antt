@@ -1,10 +1,10 @@
--- Lists that are read by places, and functions that change at one number.
+-- Lists as functions of an index, and functions changed at one number.
 use Rattle.std.proofs.Common.{◌≡◌, ◌≢◌, ◌⊎◌, ℕ, zero, suc, ◌<◌, List, [], ◌∷◌, ◌++◌, length, map, replicate, eqb, cond, eq-eqb, ne_eqb, sym, refl, ap, inl, inr, ⊎_elim, arith}
 use mathlib.Core.Option.{some, some-ne-none, some-injective}
 use lib.ListN.{get_elem?}
 
 module _ {A : Type 0} where
-  -- the function with another value at this number
+  -- `f` with the value `a` at `k`
   abbrev pub changed : (ℕ → A) → ℕ → A → ℕ → A
   changed f k a j = cond (eqb j k) a (f j)
 
@@ -19,7 +19,7 @@ module _ {A : Type 0} where
   inside (x ∷ xs) zero a e = omega arith
   inside (x ∷ xs) (suc i) a e = omega (arith, inside xs i a e)
 
-  -- an element of a longer list is an old one, or the one at its end
+  -- an element of a list with one more at its end is an old one or the new one
   pub old_or_last : (l : List A) (a b : A) (j : ℕ) → get_elem? (l ++ a ∷ []) j ≡ some b
       → (get_elem? l j ≡ some b) ⊎ ((a ≡ b) × (j ≡ length l))
   old_or_last [] a b zero e = inr (some-injective a b e, refl)

@@ -1,4 +1,4 @@
--- What a step has to show: the rule holds after a change at one place, or of one seat's counts alone.
+-- The obligation of a step: the rule holds after a change at one place, or of one seat's counts alone.
 use Rattle.std.specs.List.{sum_by}
 use Rattle.std.proofs.Common.{◌≡◌, ◌≢◌, ℕ, ◌+◌, ◌-◌, ◌*◌, ◌<◌, ◌≤◌, List, length, get_or, set, Option, Some, length-set, get_or-set_other, get_or-set_same, sym, ap, ◌∙◌, subst, ⊎_elim, arith}
 use mathlib.Core.Logic.{dite}
@@ -21,7 +21,7 @@ pub record SameRows {I : Type 0} (v w : View I) : Type 0 where
   pub first : w.desk.row ≡ v.desk.row
   pub end : w.end_row ≡ v.end_row
 
--- all that the rule speaks of is the same
+-- all that the rule mentions is the same
 pub record SameDesks {I : Type 0} (v w : View I) : Type 0 where
   pub rows : SameRows v w
   pub hand : w.in_hand ≡ v.in_hand
@@ -30,8 +30,8 @@ pub record SameDesks {I : Type 0} (v w : View I) : Type 0 where
   pub given : w.desk.given ≡ v.desk.given
   pub posts : w.desk.posts ≡ v.desk.posts
 
--- What a step of a seat at a place has to show: that it changes what the seat knows at this place alone, and how the
--- place stands afterwards.
+-- The obligation of a seat's step at a place: it changes the seat's knowledge of this place alone, and the place is in
+-- a right state afterwards.
 pub record Moves {I O : Type 0} (meets : I → O → Type 0) (s : BoardState I O) (o : ObeysRule meets s) (k seat : ℕ)
     (v w : View I) (n : ℕ) (h : Home (Content I O)) (last : Option I) (claimer : ℕ) : Type 0 where
   pub there : k < length s.homes
@@ -52,7 +52,7 @@ pub record Moves {I O : Type 0} (meets : I → O → Type 0) (s : BoardState I O
   pub counts_here : claims_at k w + one_at 1 n + posts_at k v ≡ claims_at k v + one_at 1 (get_or s.words k 0) + posts_at k w
 
 module _ {I O : Type 0} (meets : I → O → Type 0) where
-  -- the seat's rows, read of what it was
+  -- a place in the seat's rows after the step was in its rows before
   pub rows_before : (v w u : View I) (k : ℕ) → SameRows v w → w ≡ u → 56 * u.desk.row ≤ k → k < 56 * u.end_row
       → (56 * v.desk.row ≤ k) × (k < 56 * v.end_row)
   rows_before v w u k rows is low high =
@@ -94,7 +94,7 @@ module _ {I O : Type 0} (meets : I → O → Type 0) where
         (stands_still meets s k seat v w n h j (o.last j) (o.owner j) (o.claimer j) ne m.me (m.hand j ne)
         (o.places j (subst (λ (l : ℕ). j < l) (length-set s.homes k h) lt))))
 
-    -- what a seat knew of another place
+    -- a seat's knowledge of another place before the step
     owned_before : (i : ℕ) (u : View I) (j : ℕ) → j ≢ k → get_elem? (set s.views seat w) i ≡ some u
         → 56 * u.desk.row ≤ j → j < 56 * u.end_row
         → (o.owner j ≡ i) × IsKnown (get_or s.words j 0) (o.last j) (entry_at (j - 56 * u.desk.row) u.desk.posted)
@@ -109,7 +109,7 @@ module _ {I O : Type 0} (meets : I → O → Type 0) where
         ))
         (λ t. o.owned i u j t.1 low high) (at_set s.views seat i w u at)
 
-    -- whose the step's own place is stays
+    -- the owner of the step's own place stays the same
     owner_still : (i : ℕ) (u : View I) → get_elem? (set s.views seat w) i ≡ some u
         → 56 * u.desk.row ≤ k → k < 56 * u.end_row → o.owner k ≡ i
     owner_still i u at low high = ⊎_elim
@@ -184,7 +184,7 @@ module _ {I O : Type 0} (meets : I → O → Type 0) where
     }
 
   module _ (s : BoardState I O) (o : ObeysRule meets s) (k seat : ℕ) (v w : View I) (me : get_elem? s.views seat ≡ some v) where
-    -- the owner of the place knows of it what it knew
+    -- the owner's knowledge of the place is unchanged
     pub owned_still : SameRows v w → w.desk.posted ≡ v.desk.posted → (i : ℕ) (u : View I)
         → get_elem? (set s.views seat w) i ≡ some u → 56 * u.desk.row ≤ k → k < 56 * u.end_row
         → IsKnown (get_or s.words k 0) (o.last k) (entry_at (k - 56 * u.desk.row) u.desk.posted)
@@ -196,7 +196,7 @@ module _ {I O : Type 0} (meets : I → O → Type 0) where
         ∙ ap (λ (z : View I). entry_at (k - 56 * z.desk.row) z.desk.posted) t.1) (o.owned seat v k me before.0 before.1).1)
         (λ t. (o.owned i u k t.1 low high).1) (at_set s.views seat i w u at)
 
-    -- the claims at the place are what they were
+    -- the claims at the place are unchanged
     pub claims_still : w.desk.claims ≡ v.desk.claims → (i : ℕ) (u : View I) (x : I)
         → get_elem? (set s.views seat w) i ≡ some u → entry_at k u.desk.claims ≡ Some x
         → (o.claimer k ≡ i) × (get_or s.words k 0 ≡ 2) × (o.last k ≡ Some x)
@@ -205,7 +205,7 @@ module _ {I O : Type 0} (meets : I → O → Type 0) where
         ∙ ap (λ (z : View I). entry_at k z.desk.claims) t.1 ∙ found) in (was.0 ∙ sym t.0, was.1, was.2))
         (λ t. o.claims i u k x t.1 found) (at_set s.views seat i w u at)
 
-    -- where no other seat has a claim at the place, one that is there is this seat's
+    -- if no other seat has a claim at the place, a claim there is this seat's
     pub claims_mine : ((i : ℕ) (u : View I) (x : I) → get_elem? s.views i ≡ some u → i ≢ seat
         → entry_at k u.desk.claims ≡ Some x → ⊥) → (i : ℕ) (u : View I) (x : I) → get_elem? (set s.views seat w) i ≡ some u
         → entry_at k u.desk.claims ≡ Some x → (seat ≡ i) × (entry_at k w.desk.claims ≡ Some x)
@@ -213,14 +213,14 @@ module _ {I O : Type 0} (meets : I → O → Type 0) where
         (λ t. (sym t.0, ap (λ (z : View I). entry_at k z.desk.claims) t.1 ∙ found))
         (λ t. absurd (others i u x t.1 t.0 found)) (at_set s.views seat i w u at)
 
-    -- where the place is this seat's, who owns it afterwards is this seat
+    -- if the place is in this seat's rows, its owner after the step is this seat
     pub owner_is_me : SameRows v w → 56 * v.desk.row ≤ k → k < 56 * v.end_row → (i : ℕ) (u : View I)
         → get_elem? (set s.views seat w) i ≡ some u → 56 * u.desk.row ≤ k → k < 56 * u.end_row → w ≡ u
     owner_is_me rows low high i u at low' high' = ⊎_elim (λ t. t.1)
         (λ t. absurd (t.0 (sym (o.owned i u k t.1 low' high').0 ∙ (o.owned seat v k me low high).0)))
         (at_set s.views seat i w u at)
 
-  -- a seat's counts have changed, and nothing else
+  -- a seat's counts change, and nothing else
   counts_alone : (s : BoardState I O) (o : ObeysRule meets s) (seat : ℕ) (v w : View I) → get_elem? s.views seat ≡ some v
       → SameDesks v w → ObeysRule meets record { words = s.words; homes = s.homes; views = set s.views seat w }
   counts_alone s o seat v w me same =
@@ -264,7 +264,7 @@ module _ {I O : Type 0} (meets : I → O → Type 0) where
             omega (arith, o.once k lt, claims, posts, claims_same, posts_same);
       }
 
-  -- the same, of a step that leaves its word as it found it
+  -- the same for a step that stores in its word the value that it found there
   pub word_stays : (s : BoardState I O) (o : ObeysRule meets s) (k seat : ℕ) (v w : View I) → get_elem? s.views seat ≡ some v
       → SameDesks v w → ObeysRule meets record { words = set s.words k (get_or s.words k 0); homes = s.homes; views = set s.views seat w }
   word_stays s o k seat v w me same =

@@ -1,4 +1,4 @@
--- How a place stands after a step, at the step's own place and elsewhere.
+-- The state of each place after a step, at the step's own place and elsewhere.
 use Rattle.std.proofs.Common.{◌≡◌, ◌≢◌, ℕ, ◌+◌, ◌<◌, get_or, set, Option, None, Some, get_or-set_other, sym, ap, ◌∙◌, subst, ⊎_elim, arith}
 use mathlib.Core.Option.{Option as Home, some, some-injective}
 use lib.ListN.{get_elem?}
@@ -13,7 +13,7 @@ abbrev pub BoardState : Type 0 → Type 0 → Type 0
 BoardState I O = State (Content I O) (View I)
 
 module _ {I O : Type 0} where
-  -- the word and the slot of a place have changed, and the view of the seat that made the step
+  -- the board with a new word and slot at place `k`, and a new view of the seat that made the step
   abbrev pub after_step : BoardState I O → ℕ → ℕ → ℕ → View I → Home (Content I O) → BoardState I O
   after_step s k n seat w h = record { words = set s.words k n; homes = set s.homes k h; views = set s.views seat w }
 
@@ -26,7 +26,7 @@ module _ {I O : Type 0} (meets : I → O → Type 0) where
       ∙ ⊎_elim (λ t. old v (ap (λ (i : ℕ). get_elem? s.views i) t.0 ∙ me) other) (λ t. old u t.1 away)
       (at_set s.views seat keeper w u at)
 
-  -- another place stands as it stood
+  -- the state of another place is unchanged
   pub stands_still : (s : BoardState I O) (k seat : ℕ) (v w : View I) (n : ℕ) (h : Home (Content I O)) (j : ℕ)
       (last : Option I) (owner claimer : ℕ) → j ≢ k → get_elem? s.views seat ≡ some v → v.in_hand ≢ j + 1
       → PlaceStands meets s j last owner claimer → PlaceStands meets (after_step s k n seat w h) j last owner claimer
@@ -78,19 +78,19 @@ module _ {I O : Type 0} (meets : I → O → Type 0) where
       full = λ _. (x, y, is, home, fits);
     }
 
--- the slot is in this seat's hand
+-- a slot in this seat's hand satisfies `IsKeptEmpty`
 pub kept_in_hand : {I O : Type 0} (s : BoardState I O) (k seat : ℕ) (w : View I) → get_elem? s.views seat ≡ some w
     → w.in_hand ≡ k + 1 → IsKeptEmpty s k seat
 kept_in_hand s k seat w me hand u at away =
     absurd (away (ap (λ (z : View _). z.in_hand) (some-injective u w (sym at ∙ me)) ∙ hand))
 
--- a place that was not free, and is not, is known to its owner as before
+-- if a place was not free and still is not, its owner's knowledge stays right
 pub known_still : {I : Type 0} (entry : Option I) (n m : ℕ) (last : Option I) → n ≢ 0 → m ≢ 0 → IsKnown n last entry
     → IsKnown m last entry
 known_still None n m last a b known = absurd (a known)
 known_still (Some x) n m last a b known = (b, known.1)
 
--- what its owner knows of a place that is not free is what was posted there last
+-- the owner's entry for a place that is not free is its last post
 pub known_last : {I : Type 0} (entry : Option I) (n : ℕ) (last : Option I) (x : I) → n ≢ 0 → IsKnown n last entry
     → last ≡ Some x → entry ≡ Some x
 known_last None n last x ne known e = absurd (ne known)

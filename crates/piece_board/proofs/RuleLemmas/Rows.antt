@@ -1,4 +1,4 @@
--- The rule holds of a new board, and where a row is cut off.
+-- The rule holds for a new board, and after a row is split off.
 use Rattle.std.proofs.Common.{◌≡◌, ◌≢◌, ◌⊎◌, ℕ, zero, suc, ◌+◌, ◌-◌, ◌*◌, ◌<◌, ◌≤◌, [], ◌∷◌, ◌++◌, length, replicate, get_or, set, cond, eqb, ltb, None, eq-eqb, ne_eqb, lt-ltb, le-ltb, length-append, length-set, sym, refl, ap, ◌∙◌, subst, inl, inr, ⊎_elim, arith}
 use Rattle.std.proofs.lemmas.List.{length-map, length-replicate, get_or-replicate}
 use Rattle.std.proofs.lemmas.List.Sums.{sum_by-append}
@@ -27,7 +27,7 @@ zeros (suc n) zero = refl
 zeros (suc n) (suc k) = zeros n k
 
 module _ {I O : Type 0} (meets : I → O → Type 0) where
-  -- a new board, with so many places and rows
+  -- a new board with `n` places and `rows` rows
   pub starts : (n rows : ℕ) → ObeysRule meets (opening (replicate n 0) (replicate n Nothing) (first_view rows))
   starts n rows =
       let s : BoardState I O = opening (replicate n 0) (replicate n Nothing) (first_view rows) in
@@ -55,7 +55,7 @@ module _ {I O : Type 0} (meets : I → O → Type 0) where
             omega (arith, word);
       }
 
-  -- the seat that has the rows from this one to below the end cuts off the first
+  -- an initial seat splits off its first row
   pub cuts : (seat row end_row : ℕ) → row < end_row → Splits (ObeysRule meets) seat (fresh_view row end_row)
       (without_first_row (fresh_view row end_row)) (first_row (fresh_view row end_row))
   cuts seat row end_row some_left s o me =

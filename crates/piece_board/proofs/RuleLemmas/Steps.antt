@@ -1,5 +1,5 @@
--- The steps of a post, a claim, a finish and a collect keep the rule, and the looks by which a seat takes a slot in hand
--- and puts it back.
+-- The steps of a post, a claim, a finish and a collect keep the rule, and so do the loads by which a seat takes a slot
+-- in hand and puts it back.
 use Rattle.std.proofs.Common.{◌≡◌, ◌≢◌, ℕ, ◌+◌, ◌-◌, ◌*◌, ◌<◌, ◌≤◌, List, ◌∷◌, length, get_or, set, eqb, Option, None, Some, get_or-set_same, sym, refl, ap, ◌∙◌, subst, arith}
 use mathlib.Core.Option.{Option as Home, some, none}
 use lib.ListN.{get_elem?}
@@ -19,7 +19,7 @@ use Rattle.piece_board.proofs.RuleLemmas.Places.{BoardState, after_step, stands_
 use Rattle.piece_board.proofs.RuleLemmas.Counts.{one_here, none_else, posts_more, claims_more}
 use Rattle.piece_board.proofs.RuleLemmas.Moves.{SameRows, SameDesks, Moves, rule_kept, owned_still, claims_still, claims_mine, owner_is_me, word_stays}
 
--- the place of this number is the one at this place of the seat's own row
+-- place `k` of the board is place `place` of the seat's own row
 pub record IsOwn {I : Type 0} (v : View I) (k place : ℕ) : Type 0 where
   pub number : k ≡ number_of v.desk.row place
   pub below : place < 56
@@ -78,7 +78,7 @@ module _ {I O : Type 0} (meets : I → O → Type 0) where
     me_now : (w : View I) → get_elem? (set s.views seat w) seat ≡ some w
     me_now w = set_here s.views seat w (inside s.views seat v me)
 
-    -- the slot is in the hand of this seat, which is its keeper
+    -- the slot is in the hand of this seat, which may use it
     in_my_hand : (n keeper b : ℕ) (w : View I) (h : Home (Content I O)) → keeper ≡ seat → w.in_hand ≡ k + 1
         → IsKeptEmpty (after_step s k n seat w h) k keeper
     in_my_hand n keeper b w h mine hand =
@@ -316,7 +316,7 @@ module _ {I O : Type 0} (meets : I → O → Type 0) where
             ),
       ))
 
-  -- a claim of what is no place finds a word below 4, and changes none
+  -- a claim outside the board finds a word below 4, and changes none
   pub strays : (n seat : ℕ) (v : View I) (xs : List (ℕ × Content I O)) (row place : ℕ) → 0 < n → v.in_hand ≡ 0
       → Allows (ObeysRule meets) n seat (v, xs) 0 (λ y. either (eqb y (4 + row)) place y)
       (Strays (step n 0 (4 + row) place none) (v, xs))

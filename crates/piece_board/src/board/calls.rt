@@ -1,4 +1,4 @@
-//! The four calls on a board.
+//! The four operations on a board: post, claim, finish and collect.
 ghost use Rattle.std.specs.Prelude.{◌≡◌, ◌<◌, ◌≤◌, None, Some};
 ghost use Rattle.std.specs.Prelude.{IfNone, IfSome, IsSomeAnd, MatchBool};
 ghost use Rattle.piece_board.specs.Desks.{number_of, posted_at, after_post, after_claim};
@@ -13,10 +13,10 @@ use crate::view::Content;
 use crate::work::Work;
 use std::marker::PhantomData;
 
-/// How many places a row has.
+/// The number of places of a row.
 const PLACES: u32 = 56;
 
-/// The number of a place of the board.
+/// The index of a place among the words and slots of the table.
 fn number_of(row: u32, place: u32) -> usize
     requires row { row < 32 }
     requires place { place < 56 }
@@ -26,7 +26,7 @@ fn number_of(row: u32, place: u32) -> usize
 }
 
 impl<W: Work> Desk<W> {
-    /// The worker whose desk it is, which is the number of its row.
+    /// The desk's worker, which is also the number of its row.
     ///
     /// Memory: none.
     pub fn row(&self) -> u32
@@ -37,7 +37,7 @@ impl<W: Work> Desk<W> {
 }
 
 impl<W: Work> Board<W> {
-    /// Whether the board has this place.
+    /// Whether the board has place `place` of row `row`.
     fn has(&self, row: u32, place: u32) -> bool
         ensures { MatchBool result ((row < workers_of self.now) × (place < 56))
             (row < workers_of self.now → 56 ≤ place) }
@@ -45,7 +45,7 @@ impl<W: Work> Board<W> {
         row < self.rows && place < PLACES
     }
 
-    /// Refuses a claim of what is no place of the board, by a step that no word allows: each is below 4.
+    /// Records a refused claim outside the board, by a compare-exchange that always fails: all words are below 4.
     fn refuse(&self, desk: &mut Desk<W>, row: u32, place: u32)
         requires desk { IsDeskOf self.now desk.old }
         requires outside { row < workers_of self.now → 56 ≤ place }
@@ -58,7 +58,7 @@ impl<W: Work> Board<W> {
             .compare_exchange::<Strayed>(&mut desk.seat, 0, 4 + row, place);
     }
 
-    /// Opens a piece at a free place of the desk's own row.
+    /// Posts a piece at a free place of the desk's own row, which becomes open.
     ///
     /// Memory: none.
     pub fn post(&self, desk: &mut Desk<W>, i: u32, input: W::In)
@@ -76,7 +76,7 @@ impl<W: Work> Board<W> {
         shared.store::<Posted>(&mut desk.seat, number, 1);
     }
 
-    /// Claims the piece at a place of any row, if it is open. What is no place of the board is not open.
+    /// Claims the piece at a place of any row, if it is open. A claim outside the board is refused.
     ///
     /// Memory: none.
     pub fn claim(&self, desk: &mut Desk<W>, row: u32, i: u32) -> Option<(Claim<W>, W::In)>
@@ -111,7 +111,7 @@ impl<W: Work> Board<W> {
         Some((claim, input))
     }
 
-    /// Hands in the result of a claimed piece, whose place becomes full.
+    /// Stores the result of a claimed piece at its place, which becomes full.
     ///
     /// Memory: none.
     pub fn finish(&self, desk: &mut Desk<W>, claim: Claim<W>, out: W::Out)
@@ -129,8 +129,8 @@ impl<W: Work> Board<W> {
         shared.store::<Finished>(&mut desk.seat, number, 3);
     }
 
-    /// The result at a place of the desk's own row, if it is there. It meets what this desk posted there last, and the
-    /// place is free.
+    /// Takes the result at a place of the desk's own row, if the place is full. The result meets what this desk posted
+    /// there last, and the place becomes free.
     ///
     /// Memory: none.
     pub fn collect(&self, desk: &mut Desk<W>, i: u32) -> Option<W::Out>

@@ -1,4 +1,4 @@
-//! The board and its desks at the start.
+//! The construction of a board and its desks.
 ghost use Rattle.std.specs.Prelude.{◌≡◌, ◌≤◌, [], IfOk, replicate};
 ghost use Rattle.piece_board.specs.Rule.{first_view};
 ghost use Rattle.piece_board.specs.Boards.{workers_of, AreDesks};
@@ -10,7 +10,7 @@ use crate::work::Work;
 use atomic_table::{Refused, Seat, Table};
 use std::alloc::{AllocError, Global};
 
-/// So many places with nothing in them.
+/// The initial slots of `count` places.
 fn empty_places<I: Drop, O: Drop>(
     alloc: Global,
     count: usize,
@@ -24,7 +24,7 @@ fn empty_places<I: Drop, O: Drop>(
     Ok(places)
 }
 
-/// A desk for each worker, whose row is cut off from the first seat, which has them all.
+/// A desk for each worker: its row is split off from the first seat, which starts with all rows.
 fn desks_of<W: Work>(
     alloc: Global,
     board: &Board<W>,
@@ -44,7 +44,7 @@ fn desks_of<W: Work>(
 }
 
 impl<W: Work> Board<W> {
-    /// A board with a row for each worker, on which all places are free, and the desk of each worker.
+    /// A board with a row of free places for each worker, and each worker's desk.
     pub fn make(alloc: Global, workers: u32) -> Result<(Board<W>, Vec<Desk<W>>), AllocError>
         requires workers { (1 ≤ workers) × (workers ≤ 32) }
         ensures workers { IfOk result (λ made. workers_of made.0 ≡ workers) }

@@ -1,4 +1,4 @@
--- What the items of a heap are as a bag: the numbers in ascending order.
+-- The view of a heap as a bag: its numbers in ascending order.
 use Rattle.std.specs.Prelude.{ℕ, List, [], ◌∷◌}
 use Rattle.std.specs.declared.cmp.Reverse.{Reverse}
 use Rattle.seq_objects.specs.Objects.{with_item}

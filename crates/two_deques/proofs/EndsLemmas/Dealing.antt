@@ -1,4 +1,4 @@
--- A hand is made of the ends of one worker.
+-- The construction of a hand from the ends of one worker.
 use Rattle.std.proofs.Common.{◌≡◌, ◌≢◌, ℕ, ◌+◌, ◌<◌, List, [], ◌∷◌, ◌++◌, length, get_or, drop, take, sym, ap, ◌∙◌, subst, arith}
 use Rattle.std.proofs.lemmas.List.{get_or_append_left, get_or_push, length_push, get_or-drop, drop-drop}
 use mathlib.Core.Logic.{dite}
@@ -42,13 +42,13 @@ one_hand_more w workers d hands h so_far hand fresh = record {
       so_far.each v g less (at ∙ get_or_append_left hands (h ∷ []) g v (omega (arith, so_far.count, less))));
 }
 
--- the first of the ends that are left is that of the worker whose turn it is
+-- the first of the remaining elements is the one at index `w` of the whole list
 pub next_of : {X : Type 0} (xs left : List X) (w : ℕ) (x : X) → left ≡ drop w xs → w < length xs → x ≡ get_or left 0 x
     → x ≡ get_or xs w x
 next_of xs left w x is lt at =
     at ∙ ap (λ l. get_or l 0 x) is ∙ get_or-drop w xs 0 x ∙ ap (λ (k : ℕ). get_or xs k x) (omega arith)
 
--- where it is taken off, the ends of the later workers are left
+-- when the first is removed, the elements from index `w + 1` on remain
 pub left_then : {X : Type 0} (xs left rest : List X) (w : ℕ) → left ≡ drop w xs → rest ≡ take 0 left ++ drop (0 + 1) left
     → rest ≡ drop (w + 1) xs
 left_then xs left rest w is taken =

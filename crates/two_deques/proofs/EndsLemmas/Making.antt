@@ -1,4 +1,4 @@
--- The own ends of all workers are made one by one, and then their reaches.
+-- The construction of all workers' ends: first their own ends one by one, then their reaches.
 use Rattle.std.proofs.Common.{◌≡◌, ◌≢◌, ℕ, ◌+◌, ◌<◌, ◌≤◌, List, [], ◌∷◌, ◌++◌, length, set, get_or, replicate, sym, ap, ◌∙◌, subst, arith}
 use Rattle.std.proofs.lemmas.List.{get_or-set_same, get_or-set_other, length-set, get_or_append_left, get_or_push, length_push}
 use mathlib.Core.Logic.{dite}
@@ -51,7 +51,7 @@ module _ {T : Type 0} where
         ap (λ (g : HeldEnds T). g.empty_pops) fresh,
       ))
 
-  -- the next worker has got its reaches, and its own end is as it was
+  -- the next worker has its reaches, and its own end is unchanged
   next_reached : (k n room : ℕ) (thieves : List (Thief T)) (all : List (Ends T)) (e v : Ends T) → AreMade k n room thieves all
       → k < n → e ≡ get_or all k e → v.own ≡ e.own → v.empty_pops ≡ e.empty_pops → HasReaches n thieves v
       → AreMade (k + 1) n room thieves (set all k v)

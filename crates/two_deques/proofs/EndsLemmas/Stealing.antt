@@ -1,4 +1,4 @@
--- A steal changes what one reach knows.
+-- A steal changes the knowledge of one reach alone.
 use Rattle.std.proofs.Common.{◌≡◌, ◌≢◌, ℕ, ◌<◌, false, Option, None, Some, IfSome, IfNone, List, [], ◌∷◌, ◌++◌, length, map, set, get_or, sym, ap, ◌∙◌, subst, arith}
 use Rattle.std.proofs.lemmas.List.{map-set, get_or-set_same, get_or-set_other, get_or-map, length-set, get_or_default}
 use Rattle.std.proofs.Math.Seq.{map-set_same}
@@ -26,7 +26,7 @@ module _ {T : Type 0} where
         (λ (ne : j ≢ i). h.each j s u lt here (there ∙ get_or-set_other rs i j w u ne));
   }
 
-  -- what these reaches know, beside what the worker has of its own deque
+  -- the view of ends with these reaches and this knowledge of the own deque
   abbrev pub with_reaches : List T → ℕ → ℕ → List (Reach T) → HeldEnds T
   with_reaches own pushes empty_pops rs = record {
     own = own;

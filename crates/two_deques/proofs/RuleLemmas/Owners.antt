@@ -6,7 +6,7 @@ use Rattle.crossbeam_deque.proofs.Lists.{at_set, at_snoc, set_here}
 use Rattle.two_deques.specs.declared.rule.Part.{Part}
 use Rattle.two_deques.specs.Rule.{ObeysRule}
 
--- no other part than this one is an owner's
+-- no part other than this one is an owner's
 abbrev pub IsAlone : {T : Type 0} → ℕ → List (Part T) → Type 0
 IsAlone {T} owner parts = (port : ℕ) (p : Part T) → get_elem? parts port ≡ some p → p.owns ≡ true → port ≡ owner
 
@@ -18,7 +18,7 @@ inside (y ∷ xs) (suc i) x at = omega (arith, inside xs i x at)
 pub there_now : {X : Type 0} (xs : List X) (i : ℕ) (x y : X) → get_elem? xs i ≡ some x → get_elem? (set xs i y) i ≡ some y
 there_now xs i x y at = set_here xs i y (inside xs i x at)
 
--- an owner's part is the owner's
+-- a part that owns is the owner's
 pub owner_is : {T : Type 0} (items : List T) (parts : List (Part T)) (port : ℕ) (v : Part T)
     (rule : ObeysRule items parts) → get_elem? parts port ≡ some v → v.owns ≡ true
     → (port ≡ rule.owner) × (rule.mine ≡ v)
@@ -28,7 +28,7 @@ owner_is items parts port v rule at is =
       some-injective rule.mine v (sym rule.there ∙ ap (λ (k : ℕ). get_elem? parts k) (sym same) ∙ at),
     )
 
--- a thief's part is another
+-- a part that does not own is not the owner's
 pub thief_is : {T : Type 0} (items : List T) (parts : List (Part T)) (port : ℕ) (v : Part T)
     (rule : ObeysRule items parts) → get_elem? parts port ≡ some v → v.owns ≡ false → rule.owner ≢ port
 thief_is items parts port v rule at is same =

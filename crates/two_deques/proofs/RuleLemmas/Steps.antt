@@ -85,7 +85,7 @@ steal_kept {T} xs items parts port v rule at thief =
       shared = more_stolen rule.stolen xs parts port v w at thief thief refl rule.shared;
     }
 
--- what the deque's calls ask for
+-- the obligations of the operations of `crossbeam_deque`
 
 pub pushes : {T : Type 0} (port : ℕ) (v : Part T) (x : T) → v.owns ≡ true
     → Pushes ObeysRule port v (x ∷ []) (λ w. w ≡ record v { pushes = v.pushes + 1; tasks = v.tasks ++ x ∷ [] })

@@ -1,4 +1,4 @@
--- What was stolen, where one part has become another.
+-- What is stolen after one part is replaced by another.
 use Rattle.std.proofs.Common.{◌≡◌, ℕ, zero, suc, ◌+◌, true, false, List, [], ◌∷◌, ◌++◌, set, refl, ap, ◌∙◌, sym, arith}
 use Rattle.std.specs.List.{sum_by}
 use Rattle.std.proofs.lemmas.List.Sums.{sum_by-cons, sum_by-append}
@@ -16,7 +16,7 @@ sum_set f (z ∷ xs) zero x y at =
 sum_set f (z ∷ xs) (suc i) x y at =
     omega (arith, sum_by-cons f z xs, sum_by-cons f z (set xs i y), sum_set f xs i x y at)
 
--- how much weight a part has among the stolen tasks
+-- the weight of the tasks that a part stole
 abbrev share : {T : Type 0} → (T → ℕ) → Part T → ℕ
 share weight p = sum_by weight (stolen_by p)
 
@@ -26,14 +26,14 @@ owner_share weight p is = rw is refl
 thief_share : {T : Type 0} (weight : T → ℕ) (p : Part T) → p.owns ≡ false → share weight p ≡ sum_by weight p.tasks
 thief_share weight p is = rw is refl
 
--- an owner's part has become another owner's part
+-- replacing an owner's part by another owner's part
 pub still_stolen : {T : Type 0} (stolen : List T) (parts : List (Part T)) (port : ℕ) (v w : Part T)
     → get_elem? parts port ≡ some v → v.owns ≡ true → w.owns ≡ true → AreStolen stolen parts
     → AreStolen stolen (set parts port w)
 still_stolen stolen parts port v w at old new shared weight =
     omega (arith, shared weight, sum_set (share weight) parts port v w at, owner_share weight v old, owner_share weight w new)
 
--- a thief has taken more
+-- a thief steals more tasks
 pub more_stolen : {T : Type 0} (stolen xs : List T) (parts : List (Part T)) (port : ℕ) (v w : Part T)
     → get_elem? parts port ≡ some v → v.owns ≡ false → w.owns ≡ false → w.tasks ≡ v.tasks ++ xs
     → AreStolen stolen parts → AreStolen (stolen ++ xs) (set parts port w)
@@ -50,7 +50,7 @@ more_stolen stolen xs parts port v w at old new more shared weight =
       grown,
     )
 
--- a thief without tasks has come
+-- a thief without tasks joins
 pub stolen_with_guest : {T : Type 0} (stolen : List T) (parts : List (Part T)) (p : Part T) → p.owns ≡ false
     → p.tasks ≡ [] → AreStolen stolen parts → AreStolen stolen (parts ++ p ∷ [])
 stolen_with_guest {T} stolen parts p thief none shared weight =

@@ -1,4 +1,4 @@
-//! The hands at the start.
+//! The initial hands.
 ghost use Rattle.std.specs.Prelude.{◌≤◌, IfOk};
 ghost use Rattle.two_deques.specs.Hands.{workers_of, core_room_of, batch_room_of, AreHands};
 ghost use Rattle.two_deques.specs.Code.Opening.{AreMade};
@@ -9,7 +9,7 @@ use crate::hand::Hand;
 use crate::spot::Spot;
 use std::alloc::{AllocError, Global};
 
-/// A hand for each worker, of its ends.
+/// Pairs each worker's ends of both kinds into its hand.
 pub(crate) fn hands_of(
     alloc: Global,
     decks: &Decks,

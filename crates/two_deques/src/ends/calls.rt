@@ -1,4 +1,4 @@
-//! The pushes, pops and steals of one worker at deques of one kind.
+//! One worker's push, pop and steal on the deques of one kind.
 ghost use Rattle.std.specs.Prelude.{◌≡◌, ◌<◌, ◌≤◌, false, [], ◌∷◌, ◌++◌, length};
 ghost use Rattle.std.specs.Prelude.{IfErr, IfNone, IfSome, OnOk};
 ghost use Rattle.crossbeam_deque.specs.Handles.{view, IsPassOf, stealer_deque};
@@ -14,7 +14,7 @@ use crossbeam_deque::{Steal, Stealer};
 use std::alloc::Global;
 use std::sync::Wait;
 
-/// One more, and at the end of its type the same.
+/// One more, saturating.
 fn rise(count: u64) -> u64
     ensures { result ≡ risen count }
 {
@@ -22,7 +22,7 @@ fn rise(count: u64) -> u64
 }
 
 impl<T: Drop> Reach<T> {
-    /// Takes the oldest task of the deque that is reached. It tries again where the deque asks for that.
+    /// Steals the oldest task of the deque, or finds none. It retries as long as `steal_as` returns `Retry`.
     #[tactic(auto, using(crate::proofs::RuleLemmas::Steps::steals))]
     fn steal<R: Wait>(
         &mut self,
@@ -53,7 +53,7 @@ impl<T: Drop> Reach<T> {
 }
 
 impl<T: Drop> Ends<T> {
-    /// Pushes a task on the own deque.
+    /// Pushes a task on the worker's own deque.
     #[tactic(auto, using(crate::proofs::RuleLemmas::Steps::pushes))]
     pub(crate) fn push(&mut self, task: T) -> Result<(), T>
         ensures ok { OnOk result (held_ends self.new ≡ after_push task (held_ends self.old)) }
@@ -64,7 +64,7 @@ impl<T: Drop> Ends<T> {
         self.own.push_as::<Pushed>(task)
     }
 
-    /// Pops the newest task of the own deque.
+    /// Pops the newest task of the worker's own deque.
     #[tactic(auto, using(crate::proofs::RuleLemmas::Steps::pops))]
     pub(crate) fn pop(&mut self) -> Option<T>
         ensures some { IfSome result (λ x. held_ends self.old ≡ with_newest x (held_ends self.new)) }
@@ -79,7 +79,7 @@ impl<T: Drop> Ends<T> {
         popped
     }
 
-    /// Takes the oldest task of this worker's deque.
+    /// Steals the oldest task of `victim`'s deque.
     pub(crate) fn steal<R: Wait>(
         &mut self,
         rt: &R,

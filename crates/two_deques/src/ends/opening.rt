@@ -1,4 +1,4 @@
-//! The deques of one kind at the start, and all workers' ends of them.
+//! The construction of the deques of one kind, and of all workers' ends of them.
 ghost use Rattle.std.specs.Prelude.{◌≡◌, ◌<◌, ◌≤◌, [], length, map, replicate, IfOk};
 ghost use Rattle.crossbeam_deque.specs.Handles.{worker_capacity};
 ghost use Rattle.two_deques.specs.Reaches.{ReachEach};
@@ -14,7 +14,7 @@ type Own<T> = Worker<T, Global, Part<T>, DequeRule>;
 
 type Thief<T> = Stealer<T, Global, Part<T>, DequeRule>;
 
-/// The ends of a worker with a new deque, without reaches.
+/// A new deque's owner's end, with no reaches yet. `room` is the deque's least capacity.
 #[tactic(auto, using(crate::proofs::RuleLemmas::Steps::begins))]
 fn own_ends<T: Drop>(alloc: Global, room: usize) -> Result<Ends<T>, AllocError>
     ensures room { IfOk result (λ e. room ≤ worker_capacity e.own) }
@@ -27,7 +27,7 @@ fn own_ends<T: Drop>(alloc: Global, room: usize) -> Result<Ends<T>, AllocError>
     })
 }
 
-/// A reach into each of these deques.
+/// A new reach into each of these deques, in their order.
 #[tactic(auto, using(crate::proofs::RuleLemmas::Steps::admits))]
 fn reaches_into<T: Drop>(alloc: Global, thieves: &[Thief<T>]) -> Result<Vec<Reach<T>>, AllocError>
     ensures each { IfOk result (λ v. ReachEach thieves.now v.items) }
@@ -45,7 +45,7 @@ fn reaches_into<T: Drop>(alloc: Global, thieves: &[Thief<T>]) -> Result<Vec<Reac
     Ok(reaches)
 }
 
-/// A deque for each worker, with the ends of all workers, which have no reaches yet.
+/// A new deque for each worker: its stealer, and its owner's ends, which have no reaches yet.
 fn own_deques<T: Drop>(
     alloc: Global,
     workers: usize,
@@ -63,7 +63,7 @@ fn own_deques<T: Drop>(
     Ok((thieves, all))
 }
 
-/// A deque for each worker, with the ends of all workers.
+/// A new deque for each worker: its stealer, and its owner's complete ends.
 pub(crate) fn deques<T: Drop>(
     alloc: Global,
     workers: usize,

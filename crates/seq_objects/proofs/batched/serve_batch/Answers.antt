@@ -11,7 +11,7 @@ loop-input-preserved g c =
       all = grind (arith, common_steps, c.in-Some.ensures.steps, c.loop-input.invariant.all);
     }
 
--- the batch was opened with this structure, these calls and these pieces
+-- the context of the batch is the structure, the calls and the pieces that `begin` had
 pub end-requires : goal.end-requires
 end-requires g c =
     let yielded : c.loop-input.yielded ≡ c.in_ok-rest.ins.items = grind (arith, common_steps, c.in-None.ensures.steps, c.loop-input.invariant.all, c.into_iter-input-iterator.ensures.into_iter_gives) in

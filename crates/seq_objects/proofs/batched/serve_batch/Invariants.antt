@@ -2,7 +2,7 @@ use Rattle.std.proofs.Common.{◌≡◌, ◌++◌}
 use Rattle.seq_objects.specs.Pieces.{AllMeet}
 use Rattle.seq_objects.proofs.batched.serve_batch.Given as goal
 
--- the outs so far meet the ins that were taken
+-- the outputs so far meet the inputs that were run
 abbrev pub invariant-loop-input : goal.invariant-loop-input
 invariant-loop-input g l = record {
   met : AllMeet g.T.Batched.meets l.yielded l.outs.items;

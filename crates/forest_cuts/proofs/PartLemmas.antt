@@ -1,4 +1,4 @@
--- One more part is cut off, or put behind the others.
+-- Cutting off one more part, and appending one more part.
 use Rattle.std.proofs.Common.{◌≡◌, ℕ, ◌+◌, ◌<◌, List, [], ◌∷◌, ◌++◌, length, drop, get_or, ap, sym, ◌∙◌, append_assoc}
 use Rattle.std.proofs.lemmas.List.{drop_more}
 use Rattle.key_sets.specs.Keys.{StrictlyAscends, AllBelow}
@@ -20,7 +20,7 @@ one_more starts i set low high before all less cut told =
     let told' = rw (here, sides.0, sides.1) at told in
     append_assoc before (low ∷ []) (ranges_in (drop (i + 1) starts) high) ∙ told'
 
--- of keys that ascend, each of the first is below each of the next
+-- in an ascending list, the keys of a part are below those of the next
 pub below_next : (first next others : List ℕ) → StrictlyAscends (first ++ (next ++ others)) → AllBelow first next
 below_next [] next others up = tt
 below_next (k ∷ first) next others up =

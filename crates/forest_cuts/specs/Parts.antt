@@ -1,4 +1,4 @@
--- The keys of forests side by side.
+-- The keys of a list of forests.
 use Rattle.std.specs.Prelude.{ℕ, List, map}
 use Rattle.tree_forest.specs.Views.{ForestView}
 

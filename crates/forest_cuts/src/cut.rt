@@ -1,4 +1,4 @@
-//! A forest cut at many keys.
+//! Cutting a forest at many keys.
 ghost use Rattle.std.specs.Prelude.{◌≡◌, IfOk};
 ghost use Rattle.keyed_pieces.specs.Ranges.{ranges};
 ghost use Rattle.forest_cuts.specs.Parts.{keys_of_each};
@@ -6,8 +6,8 @@ ghost use Rattle.forest_cuts.specs.Parts.{keys_of_each};
 use std::alloc::{AllocError, Global};
 use tree_forest::{Forest, ForestPool, Remaining};
 
-/// Cuts a forest into one for each range of keys, where the ranges but the first begin with `starts`. The subtrees beside
-/// the paths to the starts move whole. Without memory all keys are lost.
+/// Cuts a forest into one for each range of keys, where `starts` are the first keys of all ranges but the first.
+/// Subtrees beside the paths to the starts move whole. On `Err`, all keys are lost.
 pub fn cut_below_each(
     alloc: Global,
     forest: Forest,

@@ -1,4 +1,4 @@
-//! Forests put together.
+//! Joining forests.
 ghost use Rattle.std.specs.Prelude.{◌≡◌, IfOk};
 ghost use Rattle.key_sets.specs.Keys.{StrictlyAscends};
 ghost use Rattle.keyed_pieces.specs.Ranges.{side_by_side};
@@ -7,7 +7,7 @@ ghost use Rattle.forest_cuts.specs.Parts.{keys_of_each};
 use std::alloc::{AllocError, Global};
 use tree_forest::{Forest, ForestPool};
 
-/// Makes one forest of forests whose keys, one after another, strictly ascend. Without memory all keys are lost.
+/// Joins forests whose keys, concatenated, strictly ascend. On `Err`, all keys are lost.
 pub fn join_forests(
     alloc: Global,
     parts: Vec<Forest>,

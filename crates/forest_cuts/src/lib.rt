@@ -1,9 +1,9 @@
-//! A forest cut at many keys into forests, and forests put together again.
+//! A forest cut at many keys into forests, and forests joined again.
 //!
-//! A structure that serves a batch by ranges of keys gives each range its own forest: `cut_below_each` cuts one forest
-//! into those of the ranges, and `join_forests` makes one of them when the ranges were served. Both go from the least keys to
-//! the greatest, so subtrees move whole. What is in a range is said by `keyed_pieces`; one cut and one join are those of
-//! `tree_forest`.
+//! A structure that serves a batch by ranges of keys gives each range its own forest. `cut_below_each` cuts one forest
+//! into those of the ranges, and `join_forests` joins them when the ranges are served. Both proceed from the least keys
+//! to the greatest and move whole subtrees. `keyed_pieces` defines the ranges; `tree_forest` has the single cut and the
+//! single join.
 #![tactic(auto)]
 
 mod cut;

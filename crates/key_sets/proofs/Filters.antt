@@ -1,4 +1,4 @@
--- What filters keep, and what holds of each element of a list.
+-- What filters keep, and properties of all elements of a list.
 use Rattle.std.proofs.Common.{◌≡◌, ℕ, Bool, true, false, cond, ◌&&◌, if◌then◌else◌, List, [], ◌∷◌, filter, slice_get, Some, refl, ap}
 use Rattle.std.specs.List.{AllByRecursion, find}
 
@@ -46,7 +46,7 @@ all_filter {X} P test (x ∷ xs) each = step (test x) (all_filter P test xs each
   step true rest = (each.0, rest)
   step false rest = rest
 
--- what passes a test meets what the test says
+-- if a test implies a property, all elements that pass the test have it
 pub all_passed : {X : Type 0} (P : X → Type 0) (test : X → Bool) → ((x : X) → test x ≡ true → P x)
     → (xs : List X) → AllByRecursion P (filter test xs)
 all_passed P test says [] = tt

@@ -2,7 +2,7 @@
 use Rattle.std.specs.Prelude.{◌≡◌, ℕ, ◌<◌, ◌≤◌, not, nat_lt, List, ◌++◌, filter}
 use Rattle.std.specs.List.{AllByRecursion}
 
--- the keys below the key, and the others
+-- `whole` is `low`, whose keys are below `key`, followed by `high`, whose keys are not
 pub record IsSplit (key : ℕ) (whole low high : List ℕ) : Type 0 where
   pub is : whole ≡ low ++ high
   pub below : AllByRecursion (λ k. k < key) low

@@ -1,9 +1,9 @@
-//! Sets of keys, as lists that strictly ascend, and the groups into which a batch cuts its keys.
+//! Sets of keys as strictly ascending lists, and the groups into which a batch divides its keys.
 //!
-//! What a set has, what it is with a key and without one, which key comes next, and what a cut at a key leaves on each
-//! side: the words in which the serial objects and the trees speak of sets, with the lemmas on them that the crates above
-//! share. `groups` sorts keys, cuts them into at most 16 groups of consecutive keys, and finds the group of a key; `laws`
-//! says where the keys of the groups lie. The crate stands on nothing but std.
+//! The specs define membership, insertion, removal, the next greater key, and the cut of a set at a key. The serial
+//! objects and the trees state their contracts in these terms, and the crates above share the lemmas on them. `groups`
+//! sorts keys, divides them into at most 16 groups of consecutive keys, and finds the group of a key. `laws` says where
+//! the keys of the groups lie. The crate depends on std alone.
 #![tactic(auto)]
 
 pub mod groups;

@@ -1,4 +1,4 @@
--- What each group replies to its own operations, and the replies of the groups merged.
+-- The replies of each group to its own operations, and their merge.
 use Rattle.std.proofs.Common.{◌≡◌, ℕ, zero, suc, ◌+◌, ◌<◌, ◌≤◌, inl, inr, true, false, ◌==◌, nat_lt, List, [], ◌∷◌, ◌++◌, length, map, drop, get_or, set, refl, ap, sym, subst, ◌∙◌, arith, length-set}
 use Rattle.std.specs.List.{AllByRecursion}
 use Rattle.std.proofs.lemmas.Bool.Decides.{nat_tests}
@@ -11,7 +11,7 @@ use Rattle.keyed_pieces.specs.Ranges.{below, from, ranges, replies_by_range, mer
 use Rattle.keyed_pieces.proofs.DealLemmas.{same_or_other, is_same, are_apart, have_replies}
 use Rattle.keyed_pieces.proofs.Sides.{all_below, all_from, both_sides, ascends_from, same_next}
 
--- each group has as many of one list as of another
+-- a group has equally many items of two lists of equal length
 same_count : {X Y : Type 0} (g : ℕ) (groups : List ℕ) (xs : List X) (ys : List Y) → length groups ≡ length xs → length groups ≡ length ys
     → length (of_group g groups xs) ≡ length (of_group g groups ys)
 same_count g [] xs ys same same' = refl
@@ -56,7 +56,7 @@ have_dealt groups replies lists same within each =
     let count : length (of_group g groups groups) ≡ length (get_or lists g []) = same_count g groups groups replies refl same ∙ ap length (sym (each g less)) in
     omega (arith, count))
 
--- the ranges below a key and from it on, where a batch is served on all entries
+-- the replies of the ranges on either side of a key, where a batch is served on all entries
 low_replies : {E O R : Type 0} (at : E → ℕ) (key : O → ℕ) (after : List E → O → List E) (reply : List E → O → R) → AreKeyed at key after reply
     → (b : ℕ) (starts : List ℕ) (ops : List O) (low high : List E) → AreBelow at b low → AreFrom at b high
     → replies_to_each after reply low (below key b ops) ≡ of_group 0 (map (λ op. group_of (key op) (b ∷ starts)) ops) (replies_to_each after reply (low ++ high) ops)

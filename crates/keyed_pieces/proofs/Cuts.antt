@@ -1,11 +1,11 @@
--- Entries that are cut at a key among others.
+-- Successive cuts of entries at keys.
 use Rattle.std.proofs.Common.{◌≡◌, ℕ, ◌<◌, ◌≤◌, inl, inr, Bool, true, false, not, nat_lt, if◌then◌else◌, List, [], ◌∷◌, ◌++◌, refl, ap, ap₂, sym, ◌∙◌, arith}
 use Rattle.std.specs.List.{AllByRecursion}
 use Rattle.std.proofs.lemmas.Bool.Decides.{nat_tests}
 use Rattle.key_sets.proofs.KeyLemmas.Sides.{less_or_not}
 use Rattle.keyed_pieces.specs.Ranges.{below, from, ranges}
 
--- of two cuts at keys, those that one leaves are cut by the other
+-- cutting at two keys, one after the other
 below_twice : {E : Type 0} (at : E → ℕ) (a b : ℕ) (entries : List E) → a < b → below at a (below at b entries) ≡ below at a entries
 below_twice at a b [] less = refl
 below_twice at a b (e ∷ entries) less = elim (less_or_not (at e) b) [
@@ -40,7 +40,7 @@ between {E} at a b (e ∷ entries) = step (nat_lt (at e) b) refl (nat_lt (at e) 
   step false is true is' rest = rest
   step false is false is' rest = rw is rest
 
--- the ranges of all are those below a start, and then those from it on
+-- the ranges of all entries are the ranges below a start, followed by those from it on
 pub ranges_apart : {E : Type 0} (at : E → ℕ) (lows : List ℕ) (b : ℕ) (highs : List ℕ) (entries : List E) → AllByRecursion (λ a. a < b) lows
     → ranges at (lows ++ b ∷ highs) entries ≡ ranges at lows (below at b entries) ++ ranges at highs (from at b entries)
 ranges_apart at [] b highs entries less = refl

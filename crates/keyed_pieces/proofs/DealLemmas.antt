@@ -1,4 +1,4 @@
--- Items that are dealt to groups one by one, and replies that are merged one by one.
+-- Dealing items to groups one by one, and merging replies one by one.
 use Rattle.std.proofs.Common.{◌≡◌, ℕ, zero, suc, ◌+◌, ◌-◌, ◌<◌, ◌≤◌, inl, inr, ◌⊎◌, true, false, cond, ◌==◌, List, [], ◌∷◌, ◌++◌, length, map, filter, drop, get_or, set, replicate, refl, ap, sym, subst, ◌∙◌, append_assoc, append-nil, arith, length-set, length-drop}
 use Rattle.std.specs.List.{AllByRecursion}
 use Rattle.std.proofs.lemmas.Bool.{cases_order}
@@ -10,7 +10,7 @@ use Rattle.keyed_pieces.specs.Ranges.{ranges}
 use Rattle.keyed_pieces.specs.Dealing.{of_group, dealt, HaveReplies}
 use Rattle.keyed_pieces.proofs.Sides.{range_count, range_is}
 
--- lists to which items are added one by one
+-- lists after items are dealt to them one by one
 abbrev pub with_dealt : {X : Type 0} → List (List X) → List ℕ → List X → List (List X)
 with_dealt lists [] items = lists
 with_dealt lists (g ∷ groups) [] = lists
@@ -70,7 +70,7 @@ all_dealt {X} count groups items below same =
     fill_by_all (λ j. of_group j groups items) (with_dealt (replicate count []) groups items) count [] (dealt_length (replicate count []) groups items ∙ long)
     (λ j less. dealt_get (replicate count []) groups items j (rw long below) same ∙ ap (λ xs. xs ++ of_group j groups items) (empty_get {X = X} count j))
 
--- a group's items are those that a filter finds
+-- the items of a group, found by a filter
 group_is : {O : Type 0} (key : O → ℕ) (starts : List ℕ) (ops : List O) (group : ℕ)
     → filter (λ op. group_of (key op) starts == group) ops ≡ of_group group (map (λ op. group_of (key op) starts) ops) ops
 group_is key starts [] group = refl
@@ -82,7 +82,7 @@ dealt_is key starts ops =
     sym (fill_by_all (λ group. of_group group (map (λ op. group_of (key op) starts) ops) ops) (ranges key starts ops) (length starts + 1) [] (range_count key starts ops)
     (λ group less. range_is key starts ops group ∙ group_is key starts ops group))
 
--- where each group has as many replies as items, there are replies to merge
+-- if each group has at least as many replies as items, each item finds a reply
 pub have_replies : {R : Type 0} (groups : List ℕ) (replies : List (List R)) → AllByRecursion (λ group. group < length replies) groups
     → ((group : ℕ) → group < length replies → length (of_group group groups groups) ≤ length (get_or replies group []))
     → HaveReplies groups replies

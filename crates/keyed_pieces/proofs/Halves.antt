@@ -1,4 +1,4 @@
--- Operations with keys are served on the two sides of a key apart from one another.
+-- Serving operations with keys independently on the two sides of a key.
 use Rattle.std.proofs.Common.{◌≡◌, ℕ, inl, inr, true, false, nat_lt, if◌then◌else◌, List, [], ◌∷◌, ◌++◌, get_or, drop, refl, ap, arith}
 use Rattle.std.proofs.lemmas.Bool.Decides.{nat_tests}
 use Rattle.key_sets.proofs.KeyLemmas.Sides.{less_or_not}

@@ -1,4 +1,4 @@
--- Operations with keys are served range by range.
+-- Serving operations with keys range by range.
 use Rattle.std.proofs.Common.{◌≡◌, ℕ, inl, inr, true, false, nat_lt, List, [], ◌∷◌, ◌++◌, map, get_or, set, drop, refl, ap, sym, ◌∙◌, append-nil, arith}
 use Rattle.std.proofs.lemmas.Bool.Decides.{nat_tests}
 use Rattle.key_sets.specs.Groups.{group_of}
@@ -8,7 +8,7 @@ use Rattle.keyed_pieces.specs.Ranges.{below, from, ranges, side_by_side, after_b
 use Rattle.keyed_pieces.proofs.Sides.{all_below, all_from, both_sides, ascends_from}
 use Rattle.keyed_pieces.proofs.Halves.{shared, halves_after, halves_replies}
 
--- the first range has the operations below the first start, and the others have the others
+-- merging splits at the first start: the operations below it get the first range's replies
 merged_split : {O R : Type 0} (none : R) (key : O → ℕ) (b : ℕ) (starts : List ℕ) (ops : List O) (q : List R) (qs : List (List R))
     → merged none (map (λ op. group_of (key op) (b ∷ starts)) ops) (q ∷ qs) ≡ shared none key b ops q (merged none (map (λ op. group_of (key op) starts) (from key b ops)) qs)
 merged_split none key b starts [] q qs = refl
@@ -49,7 +49,7 @@ ranges_replies at key after reply laws none (b ∷ starts) entries ops up =
     ∙ ap (λ highs. shared none key b ops (replies_to_each after reply low (below key b ops)) highs) rest
     ∙ sym law ∙ ap (λ all. replies_to_each after reply all ops) (sym (both_sides at b entries up))
 
--- questions leave no entries, and are answered by themselves
+-- questions as operations that change nothing
 abbrev unchanged : {O : Type 0} → List ℕ → O → List ℕ
 unchanged entries op = entries
 

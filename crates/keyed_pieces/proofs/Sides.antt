@@ -1,4 +1,4 @@
--- Entries are those below a key, and then the others.
+-- Ascending entries are those below a key, followed by the others.
 use Rattle.std.proofs.Common.{◌≡◌, ℕ, zero, suc, ◌+◌, ◌<◌, ◌≤◌, inl, inr, Bool, true, false, not, cond, ◌==◌, nat_lt, if◌then◌else◌, List, [], ◌∷◌, ◌++◌, length, filter, get_or, refl, ap, sym, ◌∙◌, append-nil, arith}
 use Rattle.std.proofs.lemmas.Bool.{cases_order}
 use Rattle.std.proofs.lemmas.Bool.Decides.{nat_tests}
@@ -40,7 +40,7 @@ ascends_from {E} at b (e ∷ entries) up = step (not (nat_lt (at e) b)) (ascends
   step true rest = (all_filter (λ x. at e < at x) (λ x. not (nat_lt (at x) b)) entries up.0, rest)
   step false rest = rest
 
--- the ranges
+-- the number of ranges, and their concatenation
 pub range_count : {E : Type 0} (at : E → ℕ) (starts : List ℕ) (entries : List E) → length (ranges at starts entries) ≡ length starts + 1
 range_count at [] entries = refl
 range_count at (b ∷ starts) entries =
@@ -52,7 +52,7 @@ ranges_joined at [] entries up = append-nil entries
 ranges_joined at (b ∷ starts) entries up =
     ap (λ high. below at b entries ++ high) (ranges_joined at starts (from at b entries) (ascends_from at b entries up)) ∙ sym (both_sides at b entries up)
 
--- of a list from a key on, the entries of a group are those of the next group of all
+-- group 0 has the entries below the first start; the entries of group n + 1 are those of group n among the rest
 first_group : {E : Type 0} (at : E → ℕ) (b : ℕ) (starts : List ℕ) (entries : List E)
     → below at b entries ≡ filter (λ e. group_of (at e) (b ∷ starts) == 0) entries
 first_group at b starts [] = refl

@@ -1,4 +1,4 @@
--- Items dealt to groups, and what merging the replies of the groups asks for.
+-- Items dealt to groups, and what a merge of the groups' replies requires.
 use Rattle.std.specs.Prelude.{ℕ, ◌<◌, ◌==◌, if◌then◌else◌, List, [], ◌∷◌, length, map, drop, slice_index_or, slice_set, ⊤}
 use Rattle.std.specs.List.{range_with_len}
 use Rattle.std.specs.declared.vec.Vec.{Vec}
@@ -13,18 +13,18 @@ lists vectors = map (λ vector. vector.items) vectors
 abbrev pub queued : {X : Type 0} → List (VecDeque X Global) → List (List X)
 queued queues = map (λ queue. queue.items) queues
 
--- the items of a group, where the group of each item is known
+-- the items of one group, in their order; `groups` has the group of each item
 abbrev pub of_group : {X : Type 0} → ℕ → List ℕ → List X → List X
 of_group group [] items = []
 of_group group (g ∷ groups) [] = []
 of_group group (g ∷ groups) (item ∷ items) =
     if g == group then item ∷ of_group group groups items else of_group group groups items
 
--- the items of each of `count` groups
+-- the items of each of the groups 0 to `count` - 1
 abbrev pub dealt : {X : Type 0} → ℕ → List ℕ → List X → List (List X)
 dealt count groups items = map (λ group. of_group group groups items) (range_with_len 0 count)
 
--- each group has a reply for each of its items
+-- each item in turn finds a reply left in its group; `groups` has the group of each item
 abbrev pub HaveReplies : {R : Type 0} → List ℕ → List (List R) → Type 0
 HaveReplies [] replies = ⊤
 HaveReplies (group ∷ groups) replies =

@@ -7,10 +7,10 @@ ghost use Rattle.keyed_pieces.specs.Dealing.{dealt, lists, queued, HaveReplies};
 use std::alloc::{AllocError, Global};
 use std::collections::VecDeque;
 
-/// A group of a batch has mostly no more items.
+/// The initial capacity of a group's vector: most groups have no more items.
 const FEW: usize = 4;
 
-/// As many empty vectors, each with room for a few items.
+/// `count` empty vectors, each with room for `FEW` items.
 fn empty_vectors<T: Drop>(alloc: Global, count: usize) -> Result<Vec<Vec<T>>, AllocError>
     ensures { IfOk result (λ v. lists v.items ≡ replicate count []) }
 {
@@ -21,7 +21,7 @@ fn empty_vectors<T: Drop>(alloc: Global, count: usize) -> Result<Vec<Vec<T>>, Al
     Ok(vectors)
 }
 
-/// Deals items to `count` groups: each group has its items, in their order.
+/// Deals items to `count` groups, each of which keeps the order of its items. `groups` has the group of each item.
 pub fn deal<T: Copy>(
     alloc: Global,
     items: &[T],
@@ -39,7 +39,8 @@ pub fn deal<T: Copy>(
     Ok(all)
 }
 
-/// Merges the replies of groups: the first item of each group has the first reply of its group, and so on.
+/// Merges the replies of groups into the order of the items: each item gets the next reply of its group. `groups` has
+/// the group of each item.
 pub fn merge<R: Drop>(
     alloc: Global,
     groups: &[usize],

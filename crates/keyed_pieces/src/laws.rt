@@ -1,4 +1,4 @@
-//! The laws of operations with keys that are served by ranges.
+//! Laws of operations with keys that are served by ranges; each is the contract of an empty function.
 ghost use Rattle.std.specs.Prelude.{◌≡◌, ◌==◌, ◌+◌, ◌<◌, ◌≤◌, ℕ, List, ◌++◌, ◌∷◌, filter, length, map, slice_index_or, []};
 ghost use Rattle.std.specs.List.{AllByRecursion};
 ghost use Rattle.key_sets.specs.Groups.{group_of};
@@ -6,8 +6,9 @@ ghost use Rattle.keyed_pieces.specs.Dealing.{dealt, of_group, HaveReplies};
 ghost use Rattle.keyed_pieces.specs.Keyed.{AreKeyed, AscendsBy, after_each, replies_to_each};
 ghost use Rattle.keyed_pieces.specs.Ranges.{below, from, ranges, side_by_side, after_by_range, replies_by_range, merged};
 
-/// Each range has the entries of its group, in their order; side by side the ranges are all entries. The ranges below a
-/// start and those from it on may be cut apart from one another.
+/// There is one range more than there are starts. Each range has the entries of its group, in their order, and the
+/// ranges of ascending entries concatenate to these. If the starts `lows` are below `start`, the ranges before `start`
+/// and those from it on can be cut separately.
 pub fn ranges_are_the_groups<E>()
     ensures count { (at : E → ℕ) (starts : List ℕ) (entries : List E)
         → length (ranges at starts entries) ≡ length starts + 1 }
@@ -20,9 +21,9 @@ pub fn ranges_are_the_groups<E>()
         → ranges at (lows ++ start ∷ highs) entries ≡ ranges at lows (below at start entries) ++ ranges at highs (from at start entries) }
 {}
 
-/// Operations that touch what stands at their own key alone may be served range by range, whatever their order is: what
-/// the ranges leave, side by side, is what one operation after another leaves, and the replies of the ranges, merged,
-/// are its replies.
+/// Operations that touch only what is at their own key may be served range by range, whatever order they come in: the
+/// entries of the ranges concatenate to what one operation after another leaves, and the merged replies are its
+/// replies.
 pub fn operations_may_be_served_by_range<E, O, R>()
     ensures after { (at : E → ℕ) (key : O → ℕ) (after : List E → O → List E) (reply : List E → O → R)
         → AreKeyed at key after reply
@@ -36,16 +37,16 @@ pub fn operations_may_be_served_by_range<E, O, R>()
         ≡ replies_to_each after reply entries operations }
 {}
 
-/// Questions, which change nothing, may be answered range by range: the answers of the ranges, merged, are those to all
-/// questions in their order.
+/// Questions, which change nothing, may be answered range by range: the merged answers of the ranges are the answers to
+/// all questions in their order.
 pub fn questions_may_be_answered_by_range<O, R>()
     ensures { (key : O → ℕ) (answer : O → R) (none : R) (starts : List ℕ) (questions : List O)
         → merged none (map (λ op. group_of (key op) starts) questions) (map (map answer) (ranges key starts questions))
         ≡ map answer questions }
 {}
 
-/// Where operations are dealt to the groups of their keys, each group has those of its range; and where each group
-/// replies to its operations, there are replies to merge.
+/// Operations dealt to the groups of their keys are the operations of the ranges. If each group has at least as many
+/// replies as items, then each item finds a reply.
 pub fn dealing_is_by_range<O, R>()
     ensures dealt { (key : O → ℕ) (starts : List ℕ) (operations : List O)
         → dealt (length starts + 1) (map (λ op. group_of (key op) starts) operations) operations ≡ ranges key starts operations }
@@ -54,8 +55,8 @@ pub fn dealing_is_by_range<O, R>()
         → HaveReplies groups replies }
 {}
 
-/// Replies that each group has as they were dealt to it, merged, are the replies as they were, and there is one for each
-/// item.
+/// If each group has the replies that dealing gives it, then merging these gives all replies in their order, and each
+/// item finds a reply.
 pub fn merging_undoes_dealing<R>()
     ensures merged { (none : R) (groups : List ℕ) (replies : List R) (lists : List (List R)) → length groups ≡ length replies
         → AllByRecursion (λ group. group < length lists) groups
@@ -67,7 +68,7 @@ pub fn merging_undoes_dealing<R>()
         → HaveReplies groups lists }
 {}
 
-/// Each range replies to its operations what they get where all operations are served on all entries.
+/// The replies of a range to its own operations are those that they get where all operations are served on all entries.
 pub fn each_range_replies_as_all_do<E, O, R>()
     ensures { (at : E → ℕ) (key : O → ℕ) (after : List E → O → List E) (reply : List E → O → R)
         → AreKeyed at key after reply
@@ -77,7 +78,8 @@ pub fn each_range_replies_as_all_do<E, O, R>()
         ≡ of_group group (map (λ op. group_of (key op) starts) operations) (replies_to_each after reply entries operations) }
 {}
 
-/// Where the group of each question answers it as it is to be answered, each group has the answers of its questions.
+/// If the group of each question answers it as `answer` does, then the answers of each group to its own questions are
+/// those of `answer`.
 pub fn each_group_answers_its_questions<O, R>()
     ensures { (group : O → ℕ) (answer : O → R) (own : ℕ → O → R) (questions : List O)
         → AllByRecursion (λ op. own (group op) op ≡ answer op) questions

@@ -1,4 +1,4 @@
--- The definitions of the code's own: what insertions and removals have done so far.
+-- Internal definitions of contracts: results and intermediate states of insertions, removals and cuts.
 pub mod Insertions
 pub mod Removals
 pub mod Splits

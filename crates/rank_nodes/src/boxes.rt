@@ -1,10 +1,10 @@
-//! Boxes for nodes that are still to be made.
+//! Spare boxes for nodes.
 ghost use Rattle.std.specs.Prelude.{◌≤◌, length, OnOk};
 
 use crate::node::{Node, empty_node};
 use std::alloc::{AllocError, Global};
 
-/// Boxes that are not in use. The entries of no tree depend on them.
+/// Unused node boxes. Their contents do not affect the entries of any tree.
 #[derive(Drop)]
 pub struct Boxes {
     pub nodes: Vec<Box<Node>>,
@@ -12,7 +12,7 @@ pub struct Boxes {
 }
 
 impl Boxes {
-    /// No boxes.
+    /// A store without boxes.
     ///
     /// Memory: none.
     #[inline]
@@ -23,13 +23,13 @@ impl Boxes {
         }
     }
 
-    /// Keeps the box of a node, unless there is no memory for its place here.
+    /// Keeps a node's box for reuse. The box is freed if the store cannot grow.
     #[inline]
     pub fn give(&mut self, node: Box<Node>) {
         if let Err(_) = self.nodes.push(node) {}
     }
 
-    /// Makes boxes, until there are `count` here.
+    /// Allocates boxes until the store has at least `count`.
     #[inline]
     pub fn hold(&mut self, count: u64) -> Result<(), AllocError>
         ensures { OnOk result (count ≤ length self.new.nodes.items) }

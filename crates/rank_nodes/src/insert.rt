@@ -1,6 +1,6 @@
-//! An entry put into a tree, in place of the one with its key if there is one: one descent, which takes no memory for
-//! nodes where the key is there or its leaf has room. Where that is full, boxes for the nodes that may be split are made
-//! first, and the descent is made again.
+//! In-place insertion of an entry, which replaces the one with its key if there is one. The first descent allocates no
+//! node. If it ends at a full leaf without the key, boxes for every node that may be split are allocated, and a second
+//! descent inserts the entry.
 ghost use Rattle.std.specs.Prelude.{◌≡◌, length, ◌+◌, ◌<◌, ◌≤◌, ◌^◌, IfOk, OnErr};
 ghost use Rattle.rank_nodes.specs.declared.node.Tree.TheVariants.{Empty};
 ghost use Rattle.rank_nodes.specs.Maps.{Ascends};
@@ -15,20 +15,20 @@ use crate::node::{Node, Rooted, Split, Tree};
 use crate::split_node::{grow_first, grow_root, grow_second, grow_third};
 use std::alloc::{AllocError, Global};
 
-/// What an insertion came to.
+/// The outcome of one descent.
 #[derive(Drop)]
 pub(crate) enum Outcome {
-    /// The key was there, with this value.
+    /// The key was present with this value, which was replaced.
     Replaced(u32),
     Added,
-    /// Nothing was changed: the leaf where the key belongs has no room, and there are too few boxes to split it.
+    /// Nothing changed: the key's leaf is full, and there are too few boxes for the splits.
     Full,
-    /// Nothing was changed.
+    /// Nothing changed: an allocation failed.
     OutOfMemory,
 }
 
 impl Outcome {
-    /// The value that the key had.
+    /// The value that the key had, if any. `Full` and `OutOfMemory` both become `AllocError`.
     #[inline]
     fn answer(self) -> Result<Option<u32>, AllocError>
         ensures { IsAnswer self result }
@@ -40,7 +40,7 @@ impl Outcome {
         }
     }
 
-    /// How many entries are new.
+    /// The number of new entries: 0 or 1.
     #[inline]
     fn added(&self) -> u64
         ensures { result ≡ added_by self.now }
@@ -52,7 +52,7 @@ impl Outcome {
     }
 }
 
-/// Puts an entry into a whole tree, and answers the value that its key had.
+/// Puts an entry into a whole tree, and returns the value that its key had, if any.
 pub fn put_at_root(
     alloc: Global,
     root: &mut Rooted,
@@ -77,7 +77,7 @@ pub fn put_at_root(
     }
 }
 
-/// The same with these boxes.
+/// One descent from the root with the given boxes. If the root splits, the tree grows by a level.
 #[inline]
 #[tactic(auto, using(crate::proofs::TreeLemmas::Inserting::growing))]
 fn put_with(alloc: Global, root: &mut Rooted, entry: Entry, boxes: &mut Vec<Box<Node>>) -> Outcome
@@ -94,8 +94,8 @@ fn put_with(alloc: Global, root: &mut Rooted, entry: Entry, boxes: &mut Vec<Box<
     outcome
 }
 
-/// The insertion into a tree, of which a part may be split off. `above` is how many nodes are above it: one more box
-/// must be there for each of these, where a part is.
+/// Inserts into a subtree, from which a part may be split off. `above` is the number of nodes on the path above it.
+/// When a part is split off, more than `above` boxes are left: one for each of those nodes, and one for a new root.
 #[tactic(auto, using(crate::proofs::TreeLemmas::Inserting::growing))]
 pub(crate) fn insert_in(
     alloc: Global,
@@ -146,7 +146,7 @@ pub(crate) fn insert_in(
     }
 }
 
-/// Puts an entry in place of another.
+/// Overwrites an entry, and reports the value that it had.
 #[inline]
 fn replace(old: &mut Entry, entry: Entry) -> Outcome
     ensures entry { old.new ≡ entry }
@@ -157,7 +157,8 @@ fn replace(old: &mut Entry, entry: Entry) -> Outcome
     Outcome::Replaced(was)
 }
 
-/// The insertion into a tree without nodes, which is split only where there are boxes enough.
+/// Inserts into a tree that is empty or a single leaf. A full leaf is split only if the boxes suffice for every node
+/// above it and a new root.
 fn insert_in_leaf(
     alloc: Global,
     tree: &mut Tree,
@@ -195,7 +196,7 @@ fn insert_in_leaf(
     }
 }
 
-/// Makes a leaf of one entry of a tree that has none.
+/// Turns an empty tree into a leaf with the one entry.
 fn insert_first(alloc: Global, tree: &mut Tree, entry: Entry) -> Outcome
     requires empty { tree.old ≡ Empty }
     ensures outcome { IsOutcome entry.key entry.val (entries tree.old) (entries tree.new) result }

@@ -1,4 +1,4 @@
-//! The entries at the bottom of a tree, which stand in leaves.
+//! Leaves: vectors of entries with ascending keys, at the bottom of a tree.
 ghost use Rattle.std.specs.Prelude.{◌≡◌, ◌+◌, ◌<◌, ◌≤◌, ◌++◌, ◌∷◌, [], take, drop, length, IfOk, OnOk, OnErr};
 ghost use Rattle.std.specs.List.{insert};
 ghost use Rattle.rank_nodes.specs.Maps.{Ascends, value_at};
@@ -8,12 +8,12 @@ ghost use Rattle.rank_nodes.specs.Code.Splits.{IsSplit};
 use crate::entry::Entry;
 use std::alloc::{AllocError, Global};
 
-/// How many entries a leaf has at most.
+/// The most entries of a leaf.
 pub const ROOM: usize = 64;
 
 const HALF: usize = ROOM / 2;
 
-/// How many keys of a leaf are below the key, by binary search.
+/// The number of keys in the leaf below `key`, by binary search.
 #[inline]
 pub fn place(leaf: &[Entry], key: u32) -> usize
     requires ascends { Ascends leaf.now }
@@ -33,7 +33,7 @@ pub fn place(leaf: &[Entry], key: u32) -> usize
     low
 }
 
-/// The value of a key in a leaf, where `at` is the number of its keys below.
+/// The value of `key` in the leaf, if present, where `at` is the number of keys below `key`.
 #[inline]
 pub fn value_in_leaf(leaf: &[Entry], at: usize, key: u32) -> Option<u32>
     requires ascends { Ascends leaf.now }
@@ -47,7 +47,7 @@ pub fn value_in_leaf(leaf: &[Entry], at: usize, key: u32) -> Option<u32>
     }
 }
 
-/// A leaf without entries, in which there is memory for one too many.
+/// An empty leaf with memory for `ROOM + 1` entries: a full leaf takes one entry more before it is split.
 #[inline]
 pub(crate) fn empty_leaf(alloc: Global) -> Result<Box<Vec<Entry>>, AllocError>
     ensures empty { IfOk result (λ b. b.value.items ≡ []) }
@@ -67,8 +67,8 @@ pub(crate) fn leaf_of(alloc: Global, entry: Entry) -> Result<Box<Vec<Entry>>, Al
     Ok(leaf)
 }
 
-/// Puts an entry into a full leaf at its place, and splits the entry in the middle and a leaf of those after it off.
-/// Nothing is changed where there is no memory.
+/// Inserts an entry into a full leaf at index `at`, and splits it: the leaf keeps the lower half, and the middle entry
+/// and a new leaf of those after it are returned. On `Err`, the leaf is unchanged.
 pub(crate) fn insert_in_halves(
     alloc: Global,
     leaf: &mut Vec<Entry>,
@@ -91,7 +91,7 @@ pub(crate) fn insert_in_halves(
     Ok((middle, after))
 }
 
-/// Takes the entries whose keys are not below the key off a leaf, into a new one.
+/// Moves the leaf's entries whose keys are not below `key` into a new leaf, which is returned.
 pub fn cut_leaf(
     alloc: Global,
     leaf: &mut Vec<Entry>,

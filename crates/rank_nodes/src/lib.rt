@@ -1,10 +1,11 @@
-//! The nodes of a 2-3 tree of entries, each of which knows how many entries its subtree has: each node has two or three
-//! sides of one depth, and below the lowest nodes stand leaves of entries.
+//! The nodes of a 2-3 tree of entries with subtree sizes. Each inner node has two or three children (`side` in names)
+//! of equal depth with an entry between neighbours, and stores the number of entries in its subtree. The bottom level
+//! consists of leaves of up to 64 entries.
 //!
-//! A key is given a value and taken out in place, and each node on the path counts what came or went. The functions speak
-//! of a whole tree and of the list of its entries; `RankTree`, in the crate above, hides the nodes. `specs/Maps.antt` has the
-//! words for maps as lists of entries, with the lemmas that the crates above share; `laws` says which maps can be put side by
-//! side. The crate stands on `keyed_pieces`, which has the words for entries in the order of their keys.
+//! Insertion and removal work in place, and update the size of each node on the path. Contracts describe a tree as the
+//! list of its entries. `RankTree`, in the crate above, hides the nodes. `specs/Maps.antt` defines maps as lists of
+//! entries; the crates above share its lemmas. `laws` says which maps can be concatenated. `keyed_pieces` supplies the
+//! vocabulary for entries in the order of their keys.
 #![tactic(auto)]
 
 pub mod boxes;

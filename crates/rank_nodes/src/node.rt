@@ -1,4 +1,4 @@
-//! The nodes of a 2-3 tree, and how they are made of their sides.
+//! The nodes of a 2-3 tree, and how they are built from their children.
 ghost use Rattle.std.specs.Prelude.{◌≡◌, ◌+◌, ◌<◌, ◌^◌, ◌++◌, ◌∷◌};
 ghost use Rattle.rank_nodes.specs.Nodes.{entries, depth, count, IsTree, IsRooted, IsLoose, IsNarrow};
 ghost use Rattle.rank_nodes.specs.declared.node.Tree.TheVariants.{Empty};
@@ -6,24 +6,24 @@ ghost use Rattle.rank_nodes.specs.declared.node.Tree.TheVariants.{Empty};
 use crate::entry::Entry;
 use std::mem;
 
-/// A tree of nodes. What lies below the lowest nodes are leaves of entries.
+/// A 2-3 tree: a leaf of entries, or a node over subtrees.
 #[cycle(tree)]
 #[derive(Drop)]
 pub enum Tree {
-    /// A leaf without entries, which has no memory.
+    /// An empty leaf that owns no memory.
     Empty,
-    /// The entries of a leaf, whose keys strictly ascend.
+    /// A leaf, possibly without entries. `IsTree` bounds its length; that the keys ascend is a separate condition.
     Leaf(Box<Vec<Entry>>),
-    /// The first side alone, and no entry: only between a removal and its repair.
+    /// One child, in `first`, and no entry: only between a removal and its repair.
     Underfull(Box<Node>),
-    /// The first and the second side, around the low entry.
+    /// Two children around `low`.
     Two(Box<Node>),
-    /// Three sides, around both entries.
+    /// Three children around `low` and `high`.
     Three(Box<Node>),
 }
 
-/// How many entries there are in all, and the sides and the entries of a node, of which the tree's variant tells how many
-/// are in use. So a node stays where it is while a side comes or goes.
+/// The number of entries in the subtree, and the children and entries of a node. The `Tree` variant tells how many of
+/// these are in use; all variants share this type, so that a node keeps its box when a child comes or goes.
 #[cycle(tree)]
 #[derive(Drop)]
 pub struct Node {
@@ -35,24 +35,24 @@ pub struct Node {
     pub third: Tree,
 }
 
-/// A tree, and how many levels of nodes it has.
+/// A tree and its height: the number of node levels above the leaves, 0 for a leaf.
 #[derive(Drop)]
 pub struct Rooted {
     pub tree: Tree,
     pub height: u64,
 }
 
-/// What was split off a tree that other entries were put into in place.
+/// What is split off the right end of a tree, if anything.
 #[derive(Drop)]
 pub enum Split {
-    /// Nothing.
+    /// Nothing is split off.
     Fits,
-    /// An entry, and a tree of the same depth after it.
+    /// The entry after the tree, and a tree of the same depth after that entry.
     Splits(Entry, Tree),
 }
 
 impl Tree {
-    /// How many entries there are: the root knows it.
+    /// The number of entries, as the root stores it.
     #[inline]
     pub fn size(&self) -> u64
         requires tree { IsTree self.now }
@@ -68,7 +68,7 @@ impl Tree {
 }
 
 impl Rooted {
-    /// A tree without entries.
+    /// An empty tree, of height 0.
     ///
     /// Memory: none.
     #[inline]
@@ -84,7 +84,7 @@ impl Rooted {
 }
 
 impl Node {
-    /// Takes the first side out.
+    /// Takes out the first child, and clears the node.
     #[inline]
     pub(crate) fn take_first(&mut self) -> Tree
         ensures { result ≡ self.old.first }
@@ -93,7 +93,7 @@ impl Node {
         first
     }
 
-    /// Takes the first two sides and the entry between them out.
+    /// Takes out the first two children and the entry between them, and clears the node.
     #[inline]
     pub fn take_two(&mut self) -> (Tree, Entry, Tree)
         ensures { result ≡ (self.old.first, self.old.low, self.old.second) }
@@ -107,7 +107,7 @@ impl Node {
         (first, low, second)
     }
 
-    /// Takes the three sides and the entries between them out.
+    /// Takes out the three children and the entries between them, and clears the node.
     #[inline]
     pub fn take_three(&mut self) -> (Tree, Entry, Tree, Entry, Tree)
         ensures { result ≡ (self.old.first, self.old.low, self.old.second, self.old.high, self.old.third) }
@@ -124,7 +124,7 @@ impl Node {
     }
 }
 
-/// A node with nothing in it.
+/// A cleared node: its children are empty, and its size, keys and values are 0.
 #[inline]
 pub(crate) fn empty_node() -> Node {
     let nothing = Entry { key: 0, val: 0 };
@@ -138,7 +138,7 @@ pub(crate) fn empty_node() -> Node {
     }
 }
 
-/// One side alone, in a node that is there. Its size is not kept.
+/// Puts one child into the given box, as an `Underfull` tree, whose `size` is not maintained.
 pub(crate) fn underfull(mut node: Box<Node>, a: Tree) -> Tree
     requires a { IsTree a }
     ensures entries { entries result ≡ entries a }
@@ -154,7 +154,7 @@ pub(crate) fn underfull(mut node: Box<Node>, a: Tree) -> Tree
     Tree::Underfull(node)
 }
 
-/// Two sides around an entry, in a node that is there.
+/// Puts two trees of equal depth around an entry into the given box.
 #[inline]
 pub fn two(mut node: Box<Node>, a: Tree, k: Entry, b: Tree) -> Tree
     requires a { IsTree a }
@@ -179,7 +179,7 @@ pub fn two(mut node: Box<Node>, a: Tree, k: Entry, b: Tree) -> Tree
     Tree::Two(node)
 }
 
-/// Three sides around two entries, in a node that is there.
+/// Puts three trees of equal depth around two entries into the given box.
 #[inline]
 pub fn three(mut node: Box<Node>, a: Tree, k: Entry, b: Tree, m: Entry, c: Tree) -> Tree
     requires a { IsTree a }

@@ -1,4 +1,4 @@
-//! Nodes from one of whose sides an entry was taken: that side may be left with one side of its own.
+//! Repair after a removal: a child of a node may be left `Underfull`, with a single child of its own.
 ghost use Rattle.std.specs.Prelude.{◌≡◌, ◌+◌, ◌<◌, ◌^◌, ◌∷◌, ◌++◌, false};
 ghost use Rattle.rank_nodes.specs.Nodes.{entries, depth, count, IsTree, IsLoose, with_split, split_count, IsTreeWithSplit};
 ghost use Rattle.rank_nodes.specs.Code.Removals.{has_one_side, IsPair, IsShort};
@@ -7,7 +7,8 @@ use crate::entry::Entry;
 use crate::node::{Split, Tree, three, two, underfull};
 use std::mem;
 
-/// Two sides around an entry, of which one may have one side of its own: it gets a side of the other, or goes to it.
+/// Repairs two siblings around an entry, one of which may be `Underfull`. The underfull one takes a child from a
+/// sibling with three, or is merged with a sibling that has two.
 fn share(a: Tree, k: Entry, b: Tree) -> (Tree, Split)
     requires pair { IsPair a b }
     requires level { depth b ≡ depth a }
@@ -43,7 +44,7 @@ fn share(a: Tree, k: Entry, b: Tree) -> (Tree, Split)
     }
 }
 
-/// Whether a root has one side alone.
+/// Whether a root is `Underfull`.
 #[inline]
 fn has_one_side(tree: &Tree) -> bool
     ensures { result ≡ has_one_side tree.now }
@@ -51,7 +52,7 @@ fn has_one_side(tree: &Tree) -> bool
     matches!(tree, Tree::Underfull(_))
 }
 
-/// Whether one of the sides may have one side alone.
+/// Whether one of the fields holds an `Underfull` tree. If not, the node needs no repair.
 #[inline]
 #[tactic(auto, using(crate::proofs::TreeLemmas::Sides::whole))]
 fn is_short(tree: &Tree) -> bool
@@ -66,7 +67,8 @@ fn is_short(tree: &Tree) -> bool
     }
 }
 
-/// Rebalances a node one side of which lost an entry, and which counts without it.
+/// Restores the balance of a node after a removal from one of its children, where `size` is updated already. The node
+/// itself may be left `Underfull`.
 #[inline]
 pub(crate) fn rebalance(tree: &mut Tree)
     requires short { IsShort tree.old }
@@ -81,7 +83,8 @@ pub(crate) fn rebalance(tree: &mut Tree)
     }
 }
 
-/// Gives the sides of a node back what one of them lacks.
+/// Repairs an `Underfull` child with `share`, which gets the last two children if the third is `Underfull`, and the
+/// first two otherwise.
 #[tactic(auto, using(crate::proofs::TreeLemmas::Sides::whole))]
 fn repair(tree: &mut Tree)
     requires short { IsShort tree.old }

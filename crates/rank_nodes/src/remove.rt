@@ -1,4 +1,4 @@
-//! Entries taken out of a tree, in place.
+//! In-place removal of entries.
 //!
 //! Memory: none.
 ghost use Rattle.std.specs.Prelude.{◌≡◌, ◌+◌, ◌<◌, ◌^◌, [], ◌∷◌, length};
@@ -12,7 +12,7 @@ use crate::node::{Rooted, Tree, two, underfull};
 use crate::rebalance::rebalance;
 use std::mem;
 
-/// Takes the first side, which has no entries, and the entry after it off a node.
+/// Removes the first child, which has no entries, and the low entry, which is returned.
 fn drop_first(tree: &mut Tree) -> Entry
     requires tree { IsTree tree.old }
     requires some { 0 < depth tree.old }
@@ -39,7 +39,7 @@ fn drop_first(tree: &mut Tree) -> Entry
     }
 }
 
-/// Takes the entry after the first side off a node, and the second side, which has no entries.
+/// Removes the low entry and the second child, which has no entries.
 fn drop_low(tree: &mut Tree)
     requires tree { IsTree tree.old }
     requires some { 0 < depth tree.old }
@@ -64,7 +64,7 @@ fn drop_low(tree: &mut Tree)
     };
 }
 
-/// Takes the first entry out, if there is one.
+/// Removes and returns the first entry, if there is one. The root may be left `Underfull`.
 #[tactic(auto, using(crate::proofs::TreeLemmas::Sides::short))]
 pub fn pop_first(tree: &mut Tree) -> Option<Entry>
     requires tree { IsTree tree.old }
@@ -102,7 +102,7 @@ pub fn pop_first(tree: &mut Tree) -> Option<Entry>
     }
 }
 
-/// Replaces a root that has one side by that side.
+/// Replaces an `Underfull` root by its only child.
 pub fn shrink_root(rooted: &mut Rooted)
     requires loose { IsLoose rooted.old.tree }
     requires height { rooted.old.height ≡ depth rooted.old.tree }
@@ -115,7 +115,8 @@ pub fn shrink_root(rooted: &mut Rooted)
     }
 }
 
-/// Takes the low entry out of a node.
+/// Removes the low entry of a node. The first entry of the second child takes its place; if there is none, that child
+/// is dropped.
 #[tactic(auto, using(crate::proofs::TreeLemmas::Sides::short))]
 fn remove_low(tree: &mut Tree)
     requires tree { IsTree tree.old }
@@ -147,7 +148,8 @@ fn remove_low(tree: &mut Tree)
     }
 }
 
-/// Takes the high entry out of a node with three sides.
+/// Removes the high entry of a node with three children. The first entry of the third child takes its place; if there
+/// is none, that child is dropped.
 #[tactic(auto, using(crate::proofs::TreeLemmas::Sides::short))]
 fn remove_high(tree: &mut Tree)
     requires tree { IsTree tree.old }
@@ -177,7 +179,7 @@ fn remove_high(tree: &mut Tree)
     }
 }
 
-/// Takes the key out of a leaf, and answers its value if it was there.
+/// Removes the key from a leaf, and returns its value if it was present.
 #[inline]
 fn remove_in_leaf(leaf: &mut Vec<Entry>, key: u32) -> Option<u32>
     requires ascends { Ascends leaf.old.items }
@@ -190,7 +192,7 @@ fn remove_in_leaf(leaf: &mut Vec<Entry>, key: u32) -> Option<u32>
     Some(was)
 }
 
-/// How many entries a removal took.
+/// The number of entries that a removal took: 0 or 1.
 #[inline]
 fn taken(was: Option<u32>) -> u64
     ensures { result ≡ taken_by was }
@@ -201,7 +203,7 @@ fn taken(was: Option<u32>) -> u64
     }
 }
 
-/// Takes the key out, and answers its value if it was there. The root may be left with one side.
+/// Removes the key, and returns its value if it was present. The root may be left `Underfull`.
 #[tactic(auto, using(crate::proofs::TreeLemmas::Removing::sides_ascend, crate::proofs::TreeLemmas::Sides::short))]
 pub fn remove_in(tree: &mut Tree, key: u32) -> Option<u32>
     requires tree { IsTree tree.old }

@@ -1,4 +1,5 @@
-//! Nodes one of whose sides grew and may have been split into two, and a new root over a tree that was.
+//! Absorbing growth: a node takes in what was split off one of its children, or splits in turn, and its size is
+//! updated. A tree whose root splits gets a new root.
 ghost use Rattle.std.specs.Prelude.{◌≡◌, ◌+◌, ◌<◌, ◌≤◌, ◌^◌, length};
 ghost use Rattle.rank_nodes.specs.Nodes.{entries, depth, count, IsTree, IsRooted, with_split, split_count, IsTreeWithSplit};
 ghost use Rattle.rank_nodes.specs.Code.Insertions.{OnSplits, kept_size, HasGrown, HasSplitFirst, HasSplitSecond, HasSplitThird, with_first_split, with_second_split, with_third_split, IsSpent};
@@ -6,7 +7,7 @@ ghost use Rattle.rank_nodes.specs.Code.Insertions.{OnSplits, kept_size, HasGrown
 use crate::node::{Node, Rooted, Split, Tree, three, two};
 use std::mem;
 
-/// Adds to the size of a node one side of which grew.
+/// Adds `added` to the size of a node one of whose children grew by as many entries without a split.
 #[inline]
 fn enlarge(tree: &mut Tree, added: u64)
     requires grown { HasGrown added tree.old }
@@ -23,8 +24,8 @@ fn enlarge(tree: &mut Tree, added: u64)
     }
 }
 
-/// Puts what was split off the first side after it, where that side grew by so many entries. A node with three sides
-/// takes a box for the last two of the four.
+/// Inserts what was split off the first child after that child, where the two have `added` entries more than the child
+/// had. A node with three children splits, and a box from `boxes` takes the last two of the four.
 #[inline]
 pub fn grow_first(tree: &mut Tree, added: u64, split: Split, boxes: &mut Vec<Box<Node>>) -> Split
     requires tree { HasSplitFirst added split tree.old }
@@ -57,7 +58,7 @@ pub fn grow_first(tree: &mut Tree, added: u64, split: Split, boxes: &mut Vec<Box
     }
 }
 
-/// Puts what was split off the second side after it, where that side grew by so many entries.
+/// Inserts what was split off the second child after that child, as in `grow_first`.
 #[inline]
 pub fn grow_second(tree: &mut Tree, added: u64, split: Split, boxes: &mut Vec<Box<Node>>) -> Split
     requires tree { HasSplitSecond added split tree.old }
@@ -90,7 +91,7 @@ pub fn grow_second(tree: &mut Tree, added: u64, split: Split, boxes: &mut Vec<Bo
     }
 }
 
-/// Puts what was split off the third side after it, where that side grew by so many entries.
+/// Inserts what was split off the third child after that child, as in `grow_first`.
 #[inline]
 pub fn grow_third(tree: &mut Tree, added: u64, split: Split, boxes: &mut Vec<Box<Node>>) -> Split
     requires tree { HasSplitThird added split tree.old }
@@ -118,7 +119,7 @@ pub fn grow_third(tree: &mut Tree, added: u64, split: Split, boxes: &mut Vec<Box
     }
 }
 
-/// Puts a tree and what was split off it under one root.
+/// Puts a tree and the part split off it under a new root, in a box from `boxes`. Without a split, nothing changes.
 #[inline]
 pub fn grow_root(rooted: &mut Rooted, split: Split, boxes: &mut Vec<Box<Node>>)
     requires split { IsTreeWithSplit rooted.old.height rooted.old.tree split }

@@ -1,4 +1,4 @@
--- A node cut at a key: one side is cut, and the others move whole.
+-- Cutting a node at a key: one child is cut, and the others move whole.
 use Rattle.std.proofs.Common.{◌≡◌, ℕ, ◌+◌, ◌<◌, ◌≤◌, List, ◌∷◌, ◌++◌, ap, ◌∙◌, sym, append_assoc, arith}
 use Rattle.key_sets.proofs.KeyLemmas.Ascending.{all_map}
 use Rattle.rank_nodes.specs.declared.entry.Entry.{Entry}
@@ -10,7 +10,7 @@ use Rattle.rank_nodes.specs.Code.Splits.{IsSplit}
 use Rattle.rank_tree.specs.Cuts.{IsCut}
 use Rattle.rank_nodes.proofs.EntryLemmas.Ascending.{all_append, ascends_front, ascends_after, below_entry, above_entry}
 
--- the cut is before an entry
+-- the cut is in the entries before `k`
 pub split_before : (key : ℕ) (k : Entry) (a b low high : List Entry) → Ascends (a ++ k ∷ b) → key ≤ k.key → IsSplit key a low high → IsSplit key (a ++ k ∷ b) low (high ++ k ∷ b)
 split_before key k a b low high up le cut = record {
   is = ap (λ z. z ++ k ∷ b) cut.is ∙ append_assoc low high (k ∷ b);
@@ -18,7 +18,7 @@ split_before key k a b low high up le cut = record {
   above = all_append (λ e. key ≤ e.key) high (k ∷ b) cut.above (le, all_map (λ (e : Entry). k.key < e.key) (λ (e : Entry). key ≤ e.key) (λ (e : Entry) more. omega (arith, le, more)) b (above_entry a k b up));
 }
 
--- and after one
+-- the cut is in the entries after `k`
 pub split_after : (key : ℕ) (k : Entry) (a b low high : List Entry) → Ascends (a ++ k ∷ b) → k.key < key → IsSplit key b low high → IsSplit key (a ++ k ∷ b) (a ++ k ∷ low) high
 split_after key k a b low high up less cut = record {
   is = ap (λ z. a ++ k ∷ z) cut.is ∙ sym (append_assoc a (k ∷ low) high);
@@ -26,7 +26,7 @@ split_after key k a b low high up less cut = record {
   above = cut.above;
 }
 
--- a tree, and the part of it before an entry that was cut: what came after the cut was joined to the rest
+-- the child before an entry was cut, and its high part joined to the rest
 pub cut_before : (key : ℕ) (whole a : Tree) (k : Entry) (rest : List Entry) (n : ℕ) (low above joined : Rooted)
     → entries whole ≡ entries a ++ k ∷ rest → count whole ≡ count a + 1 + n → Ascends (entries whole) → key ≤ k.key → IsCut key a low above
     → IsRooted joined → entries joined.tree ≡ entries above.tree ++ k ∷ rest → count joined.tree ≡ count above.tree + 1 + n → IsCut key whole low joined
@@ -37,7 +37,7 @@ cut_before key whole a k rest n low above joined is size up le cut rooted joined
   total = omega (arith, size, joined_size, cut.total);
 }
 
--- and the part after one
+-- the child after an entry was cut, and its low part joined to the rest
 pub cut_after : (key : ℕ) (whole b : Tree) (k : Entry) (rest : List Entry) (n : ℕ) (below high joined : Rooted)
     → entries whole ≡ rest ++ k ∷ entries b → count whole ≡ n + 1 + count b → Ascends (entries whole) → k.key < key → IsCut key b below high
     → IsRooted joined → entries joined.tree ≡ rest ++ k ∷ entries below.tree → count joined.tree ≡ n + 1 + count below.tree → IsCut key whole joined high
@@ -48,7 +48,7 @@ cut_after key whole b k rest n below high joined is size up less cut rooted join
   total = omega (arith, size, joined_size, cut.total);
 }
 
--- and the part between two
+-- the child between two entries was cut, and both its parts joined to the rest
 pub cut_between : (key : ℕ) (whole a b c : Tree) (k m : Entry) (below above low high : Rooted)
     → entries whole ≡ entries a ++ k ∷ (entries b ++ m ∷ entries c) → count whole ≡ count a + 1 + count b + 1 + count c → Ascends (entries whole)
     → k.key < key → key ≤ m.key → IsCut key b below above

@@ -1,4 +1,4 @@
--- Ranks and indices in a node, by how many entries its sides have.
+-- Ranks and indices in a node, from the sizes of its children.
 use Rattle.std.proofs.Common.{◌≡◌, ℕ, ◌+◌, ◌-◌, ◌<◌, List, [], ◌∷◌, ◌++◌, Some, ◌∙◌, arith}
 use Rattle.rank_nodes.specs.declared.entry.Entry.{Entry}
 use Rattle.rank_nodes.specs.declared.node.Tree.{Tree}

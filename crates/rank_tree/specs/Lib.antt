@@ -1,2 +1,2 @@
--- A tree that is cut at a key.
+-- Cuts of a tree at a key.
 pub mod Cuts

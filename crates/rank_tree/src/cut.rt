@@ -1,5 +1,5 @@
-//! A tree cut at a key. Its subtrees move whole to either side: only the nodes on the path to the key are opened, and
-//! each side is joined again as the path is left.
+//! Cutting a tree at a key. Only the nodes on the path to the key are opened and all other subtrees move whole. Each
+//! side is joined again on the way back up.
 ghost use Rattle.std.specs.Prelude.{◌≡◌, ◌<◌, ◌^◌, IfOk};
 ghost use Rattle.rank_nodes.specs.Maps.{Ascends};
 ghost use Rattle.rank_nodes.specs.Nodes.{entries, depth, count, IsTree};
@@ -11,7 +11,7 @@ use rank_nodes::leaf::cut_leaf;
 use rank_nodes::node::{Rooted, Tree, two};
 use std::alloc::AllocError;
 
-/// A tree that has so many levels of nodes.
+/// Pairs a tree with its height.
 #[inline]
 fn rooted(tree: Tree, height: u64) -> Rooted
     ensures { result ≡ record { tree = tree; height = height } }
@@ -19,7 +19,7 @@ fn rooted(tree: Tree, height: u64) -> Rooted
     Rooted { tree, height }
 }
 
-/// Cuts a leaf.
+/// Cuts a leaf or an empty tree.
 fn cut_bottom(tree: Tree, key: u32, boxes: &Boxes) -> Result<(Rooted, Rooted), AllocError>
     requires tree { IsTree tree }
     requires bottom { depth tree ≡ 0 }
@@ -36,7 +36,7 @@ fn cut_bottom(tree: Tree, key: u32, boxes: &Boxes) -> Result<(Rooted, Rooted), A
     }
 }
 
-/// The entries whose keys are below `key`, and the others.
+/// Cuts a tree into the entries whose keys are below `key` and the others, each as a tree.
 #[tactic(auto, using(crate::proofs::Cutting::parts))]
 pub fn cut_at(
     tree: Tree,

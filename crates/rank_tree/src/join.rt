@@ -1,4 +1,5 @@
-//! Trees joined around an entry: the lower one moves whole to the edge of the other, at its own height (2-3 tree join).
+//! 2-3 tree join around an entry: the shallower tree moves whole to the edge of the deeper one, at the level where the
+//! depths match.
 ghost use Rattle.std.specs.Prelude.{◌≡◌, ◌+◌, ◌<◌, ◌^◌, ◌++◌, ◌∷◌, IfOk};
 ghost use Rattle.rank_nodes.specs.Nodes.{entries, depth, count, IsTree, IsRooted, with_split, split_count, IsTreeWithSplit};
 
@@ -9,7 +10,7 @@ use rank_nodes::{Boxes, Entry};
 use std::alloc::AllocError;
 use std::mem;
 
-/// Puts an entry and a tree after one of the same depth. Two leaves become one where one has room for both and the entry.
+/// Appends an entry and a tree of the same depth. If `low` is a leaf with room for all of it, nothing is split off.
 fn join_equal(low: &mut Tree, entry: Entry, high: Tree) -> Result<Split, AllocError>
     requires low { IsTree low.old }
     requires high { IsTree high }
@@ -32,7 +33,7 @@ fn join_equal(low: &mut Tree, entry: Entry, high: Tree) -> Result<Split, AllocEr
     }
 }
 
-/// Puts an entry and `high` after a tree at its right edge, `levels` below its root.
+/// Appends an entry and `high` at the right edge of `low`, `levels` levels below its root.
 fn join_right(
     low: &mut Tree,
     levels: u64,
@@ -67,7 +68,7 @@ fn join_right(
     }
 }
 
-/// Puts `low` and an entry before a tree at its left edge, `levels` below its root.
+/// Prepends `low` and an entry at the left edge of `high`, `levels` levels below its root.
 fn join_left(
     low: Tree,
     entry: Entry,
@@ -103,7 +104,7 @@ fn join_left(
     }
 }
 
-/// A tree, an entry after it, and a tree of any depth after that.
+/// Joins two trees of any depths around an entry.
 #[tactic(auto, using(rank_nodes::proofs::TreeLemmas::Depths::depth_within))]
 pub fn join(
     mut low: Rooted,

@@ -1,4 +1,4 @@
-//! Search in a tree, on one path: the value of a key, its rank, and the key at an index.
+//! Search by one descent: for the value of a key, for its rank, and for the key at an index.
 ghost use Rattle.std.specs.Prelude.{◌≡◌, ◌<◌, ◌≤◌, ◌^◌};
 ghost use Rattle.rank_nodes.specs.Maps.{Ascends, value_at, rank_of, key_at};
 ghost use Rattle.rank_nodes.specs.Nodes.{entries, count, IsTree};
@@ -6,7 +6,7 @@ ghost use Rattle.rank_nodes.specs.Nodes.{entries, count, IsTree};
 use rank_nodes::leaf::{place, value_in_leaf};
 use rank_nodes::node::Tree;
 
-/// The value of the key, if the key is there.
+/// The value of the key, if present.
 #[tactic(auto, using(rank_nodes::proofs::EntryLemmas::Beside::looking))]
 pub fn get_in(tree: &Tree, key: u32) -> Option<u32>
     requires tree { IsTree tree.now }
@@ -42,7 +42,7 @@ pub fn get_in(tree: &Tree, key: u32) -> Option<u32>
     }
 }
 
-/// How many keys are below the key.
+/// The number of keys below `key`.
 #[tactic(auto, using(crate::proofs::Searching::ranks))]
 pub fn rank_in(tree: &Tree, key: u32) -> u64
     requires tree { IsTree tree.now }
@@ -74,7 +74,7 @@ pub fn rank_in(tree: &Tree, key: u32) -> u64
     }
 }
 
-/// The key with `i` keys below it, if there are more than `i`.
+/// The key at index `i`, from 0, if there are more than `i` entries.
 #[tactic(auto, using(crate::proofs::Searching::indices))]
 pub fn nth_in(tree: &Tree, i: u64) -> Option<u32>
     requires tree { IsTree tree.now }

@@ -1,4 +1,4 @@
-//! The tree, seen as the list of its entries.
+//! `RankTree`, modelled as the list of its entries.
 ghost use Rattle.std.specs.Prelude.{◌≡◌, ◌+◌, ◌*◌, ◌<◌, ◌≤◌, ◌^◌, [], ◌++◌, length, IfOk, OnOk, OnErr};
 ghost use Rattle.std.specs.List.{AllByRecursion};
 ghost use Rattle.keyed_pieces.specs.Ranges.{below, from};
@@ -14,8 +14,8 @@ use rank_nodes::{Boxes, Entry};
 use std::alloc::{AllocError, Global};
 use std::marker::Model;
 
-/// A map of numbers to numbers, as a balanced tree. Contracts see it as the list of its entries, whose keys strictly
-/// ascend.
+/// A map from 32-bit keys to 32-bit values, as a balanced tree. Its model is the list of its entries, whose keys
+/// strictly ascend.
 #[derive(Drop)]
 pub struct RankTree {
     pub(crate) root: Rooted,
@@ -48,7 +48,7 @@ impl RankTree {
         }
     }
 
-    /// The keys of each tree are in order, without repeats, and have 32 bits. For proofs; does nothing.
+    /// A lemma for proofs, which does nothing: the keys strictly ascend and have 32 bits.
     pub fn keys_ascend(&self)
         ensures ascends { Ascends self.now }
         ensures small { AllByRecursion (λ e. e.key < 2 ^ 32) self.now }
@@ -56,7 +56,7 @@ impl RankTree {
         let _root = &self.root.tree;
     }
 
-    /// How many keys there are.
+    /// The number of keys.
     ///
     /// Time: constant.
     pub fn len(&self) -> u64
@@ -66,8 +66,7 @@ impl RankTree {
         self.root.tree.size()
     }
 
-    /// How many levels of nodes there are. Below them stand leaves of up to 64 entries, so a tree with few keys may have
-    /// none.
+    /// The number of node levels above the leaves. A leaf has up to 64 entries, so a small map may have depth 0.
     pub fn depth(&self) -> u32
         ensures least { 2 ^ result ≤ length self.now + 1 }
         ensures most { length self.now < 65 * 3 ^ result }
@@ -75,14 +74,14 @@ impl RankTree {
         self.root.height as u32
     }
 
-    /// The value of the key, if the key is there.
+    /// The value of the key, if present.
     pub fn get(&self, key: u32) -> Option<u32>
         ensures { result ≡ value_at key self.now }
     {
         get_in(&self.root.tree, key)
     }
 
-    /// How many keys are below the key, which need not be there.
+    /// The number of keys below `key`, which need not be present.
     #[tactic(auto, using(rank_nodes::proofs::TreeLemmas::Trees::map_count, rank_nodes::proofs::TreeLemmas::Depths::count_is))]
     pub fn rank(&self, key: u32) -> u64
         ensures rank { result ≡ rank_of key self.now }
@@ -98,7 +97,7 @@ impl RankTree {
         nth_in(&self.root.tree, i)
     }
 
-    /// Gives the key the value, and answers the value that it had.
+    /// Sets the value of the key, and returns the value that it had, if any.
     #[tactic(auto, using(rank_nodes::proofs::TreeLemmas::Inserting::map_put, rank_nodes::proofs::TreeLemmas::Trees::map_count, rank_nodes::proofs::TreeLemmas::Trees::map_depth))]
     pub fn put(&mut self, key: u32, val: u32) -> Result<Option<u32>, AllocError>
         ensures answer { IfOk result (λ was. was ≡ value_at key self.old) }
@@ -109,7 +108,7 @@ impl RankTree {
         Ok(was)
     }
 
-    /// Takes the key out, and answers the value that it had.
+    /// Removes the key, and returns the value that it had, if any.
     ///
     /// Memory: none.
     #[tactic(auto, using(rank_nodes::proofs::TreeLemmas::Removing::map_taken, rank_nodes::proofs::TreeLemmas::Trees::map_count))]
@@ -122,7 +121,8 @@ impl RankTree {
         was
     }
 
-    /// The entries whose keys are below `key`, and the others. The subtrees beside the path to the key move whole.
+    /// Splits the map into the entries whose keys are below `key` and the others. Subtrees beside the path to `key`
+    /// move whole.
     pub fn split_below(self, key: u32) -> Result<(RankTree, RankTree), AllocError>
         ensures low { IfOk result (λ p. p.0 ≡ below key_of key self) }
         ensures high { IfOk result (λ p. p.1 ≡ from key_of key self) }
@@ -135,8 +135,9 @@ impl RankTree {
         Ok((low, RankTree { root: high, alloc }))
     }
 
-    /// The entries of both. The less deep tree moves whole to the edge of the other, and one beside an empty tree stays as
-    /// it is.
+    /// The union of two maps, where all keys of `low` are below those of `high`. The first entry of `high` becomes the
+    /// separator, and the shallower tree moves whole to the edge of the deeper one. If one map is empty, the other is
+    /// returned as it is.
     pub fn concat(low: RankTree, high: RankTree) -> Result<RankTree, AllocError>
         requires { AllBelow low high }
         ensures { IfOk result (λ tree. tree ≡ low ++ high) }

@@ -1,2 +1,2 @@
--- The definitions of the code's own: what a cut has done so far.
+-- Internal definitions of contracts: the states of a cut.
 pub mod Cuts

@@ -1,3 +1,3 @@
--- Trees side by side. `Code` is what only the code cites, here and in the forest above.
+-- Rows of trees. `Code` holds internal definitions of contracts, for this crate and the forest above.
 pub mod Code
 pub mod SideBySide

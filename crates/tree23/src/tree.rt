@@ -1,4 +1,4 @@
-//! The tree, seen as the list of its keys.
+//! `Tree23`, modelled as the list of its keys.
 ghost use Rattle.std.specs.Prelude.{◌≡◌, ◌+◌, ◌*◌, ◌<◌, ◌≤◌, ◌^◌, [], ◌++◌, length, not, IfOk, OnOk, OnErr};
 ghost use Rattle.std.specs.List.{AllByRecursion};
 ghost use Rattle.key_sets.specs.Keys.{StrictlyAscends, AllBelow, with_key, has, without_key, least_above};
@@ -19,7 +19,7 @@ use tree_nodes::node::Rooted;
 use tree_nodes::remove::{pop_first, remove_in, shrink_root};
 use tree_nodes::search::{find_in, next_in};
 
-/// A set of numbers, as a balanced tree. Contracts see it as the list of its keys, which strictly ascends.
+/// A set of 32-bit numbers, as a balanced tree. Its model is the strictly ascending list of its keys.
 #[derive(Drop)]
 pub struct Tree23 {
     pub(crate) root: Rooted,
@@ -51,7 +51,7 @@ impl Tree23 {
         }
     }
 
-    /// The keys of each tree are in order, without repeats, and have 32 bits. For proofs; does nothing.
+    /// A lemma for proofs, which does nothing: the keys strictly ascend and have 32 bits.
     pub fn keys_ascend(&self)
         ensures ascends { StrictlyAscends self.now }
         ensures small { AllByRecursion (λ k. k < 2 ^ 32) self.now }
@@ -59,7 +59,7 @@ impl Tree23 {
         let _root = &self.root.tree;
     }
 
-    /// How many keys there are. They are counted.
+    /// The number of keys, counted at each call.
     ///
     /// Time: linear in the number of leaves.
     pub fn len(&self) -> u64
@@ -69,8 +69,7 @@ impl Tree23 {
         self.root.tree.size()
     }
 
-    /// How many levels of nodes there are. Below them stand leaves of up to 256 keys, so a tree with few keys
-    /// may have none.
+    /// The number of node levels above the leaves. A leaf has up to 256 keys, so a small set may have depth 0.
     pub fn depth(&self) -> u32
         ensures least { 2 ^ result ≤ length self.now + 1 }
         ensures most { length self.now < 257 * 3 ^ result }
@@ -78,21 +77,21 @@ impl Tree23 {
         self.root.height as u32
     }
 
-    /// Whether the key is there.
+    /// Whether the set has the key.
     pub fn find(&self, key: u32) -> bool
         ensures { result ≡ has key self.now }
     {
         find_in(&self.root.tree, key)
     }
 
-    /// The least key that is greater, if there is one.
+    /// The least key greater than `key`, if there is one.
     pub fn next(&self, key: u32) -> Option<u32>
         ensures { result ≡ least_above key self.now }
     {
         next_in(&self.root.tree, key)
     }
 
-    /// Puts the key in, and says whether it is new.
+    /// Inserts the key, and returns whether it is new.
     #[tactic(auto, using(tree_nodes::proofs::TreeLemmas::Inserting::set_inserted, tree_nodes::proofs::TreeLemmas::Inserting::inserted_keys, tree_nodes::proofs::TreeLemmas::Inserting::inserted_answer))]
     pub fn insert(&mut self, key: u32) -> Result<bool, AllocError>
         ensures answer { IfOk result (λ added. added ≡ not (has key self.old)) }
@@ -103,7 +102,7 @@ impl Tree23 {
         Ok(added)
     }
 
-    /// Takes the key out, and says whether it was there.
+    /// Removes the key, and returns whether it was present.
     ///
     /// Memory: none.
     #[tactic(auto, using(tree_nodes::proofs::TreeLemmas::Trees::set_without, tree_nodes::proofs::TreeLemmas::Removing::removed_keys, tree_nodes::proofs::TreeLemmas::Removing::removed_found))]
@@ -116,7 +115,7 @@ impl Tree23 {
         found
     }
 
-    /// The keys below `key`, and the others. The subtrees beside the path to the key move whole.
+    /// Splits the set into the keys below `key` and the others. Subtrees beside the path to `key` move whole.
     pub fn split_below(self, key: u32) -> Result<(Tree23, Tree23), AllocError>
         ensures { IfOk result (λ p. IsSplit key self p.0 p.1) }
     {
@@ -138,7 +137,8 @@ impl Tree23 {
         Ok((low, Tree23 { root, alloc }))
     }
 
-    /// The keys of both. The less deep tree moves whole to the edge of the other.
+    /// The union of two sets, where all keys of `low` are below those of `high`. The first key of `high` becomes the
+    /// separator, and the shallower tree moves whole to the edge of the deeper one.
     pub fn concat(low: Tree23, high: Tree23) -> Result<Tree23, AllocError>
         requires { AllBelow low high }
         ensures { IfOk result (λ tree. tree ≡ low ++ high) }

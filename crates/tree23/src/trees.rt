@@ -1,4 +1,4 @@
-//! Trees side by side, with a key between each two: what a tree is cut into, and what a forest is made of.
+//! A row of trees with a key between neighbours: a cut divides a tree into two such rows, and a forest is one.
 ghost use Rattle.std.specs.Prelude.{◌≡◌, ◌+◌, ◌++◌, ◌∷◌, [], length, reverse, OnOk};
 ghost use Rattle.std.specs.Option.{option_to_list};
 ghost use Rattle.tree_nodes.specs.declared.node.Tree.TheVariants.{Empty};
@@ -12,14 +12,14 @@ pub mod join;
 use std::alloc::{AllocError, Global};
 use tree_nodes::node::{Rooted, Tree};
 
-/// A key, and the tree after it.
+/// A tree, with the key before it.
 #[derive(Drop)]
 pub struct KeyedTree {
     pub key: u32,
     pub rooted: Rooted,
 }
 
-/// A tree in front, and further trees after keys.
+/// A row of trees: the first, and the others, each with the key before it.
 #[derive(Drop)]
 pub struct Trees {
     pub front: Rooted,
@@ -27,7 +27,7 @@ pub struct Trees {
 }
 
 impl Trees {
-    /// One tree without keys.
+    /// A row of one empty tree.
     ///
     /// Memory: none.
     #[inline]
@@ -42,7 +42,7 @@ impl Trees {
         }
     }
 
-    /// Puts a key after all, and a tree after that.
+    /// Appends a key, and after it a tree of the given height.
     #[inline]
     pub fn push(&mut self, key: u32, tree: Tree, height: u64) -> Result<(), AllocError>
         requires trees { AreTrees self.old }
@@ -60,7 +60,7 @@ impl Trees {
         Ok(())
     }
 
-    /// Puts a tree after all, after a key unless nothing is there yet.
+    /// Appends a tree after the key `before`. Without one, the tree becomes the only tree of a row that has no keys.
     #[inline]
     pub fn put(&mut self, before: Option<u32>, tree: Tree, height: u64) -> Result<(), AllocError>
         requires trees { AreTrees self.old }

@@ -1,3 +1,3 @@
--- The definitions of the code's own: merged trees, and the places of keys among trees.
+-- Internal definitions of contracts: merges of trees, and the place of a key in a row.
 pub mod Merges
 pub mod Places

@@ -1,4 +1,4 @@
--- What contracts see of a forest, and its trees. `Code` is what only the code cites.
+-- The model of a forest, and its trees. `Code` holds internal definitions of contracts.
 pub mod Code
 pub mod Forests
 pub mod Views

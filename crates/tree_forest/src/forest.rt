@@ -1,4 +1,4 @@
-//! The forest, seen as the list of its keys and the number of its trees.
+//! `Forest`, modelled as the list of its keys and the number of its trees.
 ghost use Rattle.std.specs.Prelude.{◌≡◌, ◌+◌, ◌<◌, ◌≤◌, ◌^◌, [], ◌++◌, not, IfOk, OnOk, OnErr};
 ghost use Rattle.std.specs.List.{AllByRecursion};
 ghost use Rattle.key_sets.specs.Keys.{StrictlyAscends, AllBelow, with_key, has, without_key, least_above};
@@ -18,7 +18,7 @@ use std::marker::Model;
 use std::mem;
 use tree23::trees::Trees;
 
-/// A set of numbers, as balanced trees side by side. Contracts see the list of its keys, which strictly ascends, and the
+/// A set of 32-bit numbers, as a row of balanced trees. Its model is the strictly ascending list of its keys, with the
 /// number of its trees.
 #[derive(Drop)]
 pub struct Forest {
@@ -40,7 +40,7 @@ impl Model for Forest {
 }
 
 impl Forest {
-    /// The empty set.
+    /// The empty set, as one empty tree.
     ///
     /// Memory: none.
     pub fn new(alloc: Global) -> Forest
@@ -62,7 +62,7 @@ impl Forest {
         Forest { trees, alloc }
     }
 
-    /// The keys of each forest are in order, without repeats, and have 32 bits. For proofs; does nothing.
+    /// A lemma for proofs, which does nothing: the keys strictly ascend and have 32 bits.
     pub fn keys_ascend(&self)
         ensures ascends { StrictlyAscends self.now.keys }
         ensures small { AllByRecursion (λ k. k < 2 ^ 32) self.now.keys }
@@ -70,21 +70,21 @@ impl Forest {
         let _front = &self.trees.front;
     }
 
-    /// Whether the key is there.
+    /// Whether the set has the key.
     pub fn find(&self, key: u32) -> bool
         ensures { result ≡ has key self.now.keys }
     {
         find_in_trees(&self.trees, key)
     }
 
-    /// The least key that is greater, if there is one.
+    /// The least key greater than `key`, if there is one.
     pub fn next(&self, key: u32) -> Option<u32>
         ensures { result ≡ least_above key self.now.keys }
     {
         next_in_trees(&self.trees, key)
     }
 
-    /// Puts the key in, and says whether it is new.
+    /// Inserts the key, and returns whether it is new.
     #[tactic(auto, using(crate::proofs::ForestLemmas::KeySets::key_set_length, crate::proofs::ForestLemmas::KeySets::key_set_inserted, tree_nodes::proofs::TreeLemmas::Inserting::inserted_keys, tree_nodes::proofs::TreeLemmas::Inserting::inserted_answer))]
     pub fn insert(&mut self, key: u32) -> Result<bool, AllocError>
         ensures answer { IfOk result (λ added. added ≡ not (has key self.old.keys)) }
@@ -96,7 +96,7 @@ impl Forest {
         Ok(added)
     }
 
-    /// Takes the key out, and says whether it was there.
+    /// Removes the key, and returns whether it was present.
     ///
     /// Memory: none.
     pub fn remove(&mut self, key: u32) -> bool
@@ -107,7 +107,8 @@ impl Forest {
         remove_in_trees(&mut self.trees, key)
     }
 
-    /// Puts the keys of another forest after these. Low trees become one on the way. Without memory all keys are lost.
+    /// Appends a forest whose keys are all above those of this one. Where a higher tree comes after lower ones, these
+    /// are merged. On `Err`, all keys are lost.
     #[tactic(auto, using(crate::proofs::ForestLemmas::KeySets::key_set_length))]
     pub fn append(&mut self, high: Forest, pool: &mut ForestPool) -> Result<(), AllocError>
         requires { AllBelow self.old.keys high.keys }
@@ -122,7 +123,7 @@ impl Forest {
         Ok(())
     }
 
-    /// Leaves at most 65 trees. Without memory all keys are lost.
+    /// Merges trees if there are more than 65, so that at most 65 are left. On `Err`, all keys are lost.
     #[tactic(auto, using(crate::proofs::ForestLemmas::KeySets::key_set_length))]
     pub fn compact(&mut self, pool: &mut ForestPool) -> Result<(), AllocError>
         ensures keys { OnOk result (self.new.keys ≡ self.old.keys) }

@@ -1,18 +1,18 @@
-//! Memory of forests that is reused.
+//! A pool of memory for forests, for reuse.
 ghost use Rattle.std.specs.Prelude.{◌≡◌, [], IfOk};
 
 use std::alloc::{AllocError, Global};
 use tree_nodes::Pool;
 use tree23::trees::KeyedTree;
 
-/// How many vectors of entries are kept at most.
+/// `give_entries` keeps at most this many vectors.
 const MOST: usize = 256;
 
-/// How many entries a new vector has room for.
+/// The initial capacity of a new vector of entries.
 const FIRST_ROOM: usize = 12;
 
-/// Boxes of nodes, leaves, and vectors of entries that are no longer in use, for the next that are made. Nothing that
-/// contracts say of forests depends on them.
+/// Unused node boxes, leaves and vectors of entries, which are taken before new ones are allocated. No contract on a
+/// forest depends on their contents.
 #[derive(Drop)]
 pub struct ForestPool {
     pub(crate) trees: Pool,
@@ -33,7 +33,7 @@ impl ForestPool {
         }
     }
 
-    /// Keeps a vector of entries, unless there are many, or there is no memory for its place here.
+    /// Keeps a vector of entries for reuse. The vector is freed if the pool has `MOST` of them or cannot grow.
     #[inline]
     pub(crate) fn give_entries(&mut self, entries: Vec<KeyedTree>) {
         if self.entries.len() < MOST {
@@ -41,7 +41,7 @@ impl ForestPool {
         }
     }
 
-    /// An empty vector for entries: one of the pool, or a new one.
+    /// An empty vector for entries: from the pool if it has one, or newly allocated.
     #[inline]
     pub(crate) fn take_entries(&mut self) -> Result<Vec<KeyedTree>, AllocError>
         ensures { IfOk result (λ entries. entries.items ≡ []) }

@@ -1,3 +1,3 @@
--- The definitions of the code's own: what insertions and removals have done so far.
+-- Internal definitions of contracts: results and intermediate states of insertions and removals.
 pub mod Insertions
 pub mod Removals

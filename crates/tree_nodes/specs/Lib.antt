@@ -1,3 +1,3 @@
--- The nodes of a tree, and its keys. `Code` is what only the code cites.
+-- The keys and the shape of 2-3 trees. `Code` holds internal definitions of contracts.
 pub mod Code
 pub mod Nodes

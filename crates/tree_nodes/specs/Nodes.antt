@@ -1,4 +1,4 @@
--- What a tree of nodes holds, and when it is balanced.
+-- The keys of a 2-3 tree, and its shape.
 use Rattle.std.specs.Prelude.{◌≡◌, ℕ, ◌+◌, ◌<◌, ◌≤◌, ◌^◌, List, [], ◌∷◌, ◌++◌, length, ⊤}
 use Rattle.std.specs.List.{AllByRecursion}
 use Rattle.tree_nodes.specs.declared.node.Tree.{Tree}
@@ -12,7 +12,7 @@ use Rattle.key_sets.specs.Keys.{StrictlyAscends}
 abbrev pub room : ℕ
 room = 256
 
--- the keys in order
+-- the keys from left to right
 abbrev pub keys : Tree → List ℕ
 keys Empty = []
 keys (Leaf b) = b.value.items
@@ -20,7 +20,7 @@ keys (Underfull' p a k b m c) = keys a
 keys (Two' p a k b m c) = keys a ++ k ∷ keys b
 keys (Three' p a k b m c) = keys a ++ k ∷ (keys b ++ m ∷ keys c)
 
--- the levels of nodes above the leaves, along the left edge
+-- the number of node levels above the leaves, along the left edge
 abbrev pub depth : Tree → ℕ
 depth Empty = 0
 depth (Leaf b) = 0
@@ -28,7 +28,7 @@ depth (Underfull' p a k b m c) = depth a + 1
 depth (Two' p a k b m c) = depth a + 1
 depth (Three' p a k b m c) = depth a + 1
 
--- each node has two or three sides of one depth, and no leaf is too long
+-- balanced: each node has two or three children, which are trees of equal depth, and each leaf has at most `room` keys
 abbrev pub IsTree : Tree → Type 0
 IsTree Empty = ⊤
 IsTree (Leaf b) = length b.value.items ≤ room
@@ -36,33 +36,33 @@ IsTree (Underfull' p a k b m c) = ⊥
 IsTree (Two' p a k b m c) = IsTree a × IsTree b × (depth b ≡ depth a)
 IsTree (Three' p a k b m c) = IsTree a × IsTree b × IsTree c × (depth b ≡ depth a) × (depth c ≡ depth a)
 
--- the tree's root, and its keys
+-- a balanced tree whose keys strictly ascend and are below 2 ^ 32
 pub record IsSet (root : Tree) : Type 0 where
   pub tree : IsTree root
   pub ascends : StrictlyAscends (keys root)
   pub small : AllByRecursion (λ k. k < 2 ^ 32) (keys root)
 
--- a tree's root, and how many levels it has
+-- `IsSet`, and the stored height is the tree's depth
 pub record IsRootedSet (root : Rooted) : Type 0 where
   pub set : IsSet root.tree
   pub height_is : root.height ≡ depth root.tree
 
--- a tree, and how many levels it has
+-- a balanced tree, and the stored height is its depth
 pub record IsRooted (rooted : Rooted) : Type 0 where
   pub tree_is : IsTree rooted.tree
   pub height_is : rooted.height ≡ depth rooted.tree
 
--- the keys of a tree and of what came off it
+-- the keys of a tree, and after them those of the part split off it
 abbrev pub keys_with_split : Tree → Split → List ℕ
 keys_with_split tree Fits = keys tree
 keys_with_split tree (Splits k right) = keys tree ++ k ∷ keys right
 
--- a tree of this depth, and what came off it is one too
+-- a balanced tree of depth `d`, and so is the part split off it, if any
 abbrev pub IsTreeWithSplit : ℕ → Tree → Split → Type 0
 IsTreeWithSplit d tree Fits = IsTree tree × (depth tree ≡ d)
 IsTreeWithSplit d tree (Splits k right) = IsTree tree × IsTree right × (depth tree ≡ d) × (depth right ≡ d)
 
--- a tree, but the root may have one side
+-- a balanced tree, except that the root may be underfull, with a single child
 abbrev pub IsLoose : Tree → Type 0
 IsLoose Empty = ⊤
 IsLoose (Leaf b) = IsTree (Leaf b)
@@ -70,7 +70,7 @@ IsLoose (Underfull' p a k b m c) = IsTree a
 IsLoose (Two' p a k b m c) = IsTree (Two' p a k b m c)
 IsLoose (Three' p a k b m c) = IsTree (Three' p a k b m c)
 
--- the root has one side or two
+-- the root has one or two children
 abbrev pub IsNarrow : Tree → Type 0
 IsNarrow Empty = ⊥
 IsNarrow (Leaf b) = ⊥
@@ -78,7 +78,7 @@ IsNarrow (Underfull' p a k b m c) = ⊤
 IsNarrow (Two' p a k b m c) = ⊤
 IsNarrow (Three' p a k b m c) = ⊥
 
--- the root has three sides
+-- the root has three children
 abbrev pub IsWide : Tree → Type 0
 IsWide Empty = ⊥
 IsWide (Leaf b) = ⊥
@@ -86,7 +86,7 @@ IsWide (Underfull' p a k b m c) = ⊥
 IsWide (Two' p a k b m c) = ⊥
 IsWide (Three' p a k b m c) = ⊤
 
--- the tree is a leaf alone
+-- the tree is empty or a single leaf
 abbrev pub IsLeaf : Tree → Type 0
 IsLeaf Empty = ⊤
 IsLeaf (Leaf b) = ⊤

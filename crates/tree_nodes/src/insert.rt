@@ -1,5 +1,5 @@
-//! A key put into a tree, in place: one descent, which takes no memory for nodes where the key's leaf has room. Where
-//! that is full, boxes for the nodes that may be split are made first, and the descent is made again.
+//! In-place insertion of a key. The first descent allocates no node. If it ends at a full leaf without the key, boxes
+//! for every node that may be split are allocated, and a second descent inserts the key.
 ghost use Rattle.std.specs.Prelude.{◌≡◌, length, ◌+◌, ◌<◌, ◌≤◌, ◌^◌, IfOk, OnErr};
 ghost use Rattle.tree_nodes.specs.declared.node.Tree.TheVariants.{Empty};
 ghost use Rattle.key_sets.specs.Keys.{StrictlyAscends};
@@ -12,20 +12,20 @@ use crate::pool::Pool;
 use crate::split_node::{grow_first, grow_root, grow_second, grow_third};
 use std::alloc::{AllocError, Global};
 
-/// What an insertion came to.
+/// The outcome of one descent.
 #[derive(Drop)]
 pub(crate) enum Outcome {
-    /// The key was there.
+    /// The key was already present.
     Found,
     Added,
-    /// Nothing was changed: the leaf where the key belongs has no room, and there are too few boxes to split it.
+    /// Nothing changed: the key's leaf is full, and there are too few boxes for the splits.
     Full,
-    /// Nothing was changed.
+    /// Nothing changed: an allocation failed.
     OutOfMemory,
 }
 
 impl Outcome {
-    /// Whether the key is new.
+    /// Whether the key is new. `Full` and `OutOfMemory` both become `AllocError`.
     #[inline]
     fn answer(self) -> Result<bool, AllocError>
         ensures { IsAnswer self result }
@@ -38,7 +38,7 @@ impl Outcome {
     }
 }
 
-/// Puts the key into a whole tree, and says whether it is new.
+/// Inserts the key into a whole tree, and returns whether it is new.
 pub fn insert_at_root(alloc: Global, root: &mut Rooted, key: u32) -> Result<bool, AllocError>
     requires rooted { IsRooted root.old }
     requires ascends { StrictlyAscends (keys root.old.tree) }
@@ -58,7 +58,7 @@ pub fn insert_at_root(alloc: Global, root: &mut Rooted, key: u32) -> Result<bool
     }
 }
 
-/// The insertion into a whole tree with these boxes.
+/// One descent from the root with the given boxes. If the root splits, the tree grows by a level.
 #[inline]
 #[tactic(auto, using(crate::proofs::TreeLemmas::Inserting::growing))]
 fn insert_with(alloc: Global, root: &mut Rooted, key: u32, boxes: &mut Vec<Box<Node>>) -> Outcome
@@ -74,8 +74,8 @@ fn insert_with(alloc: Global, root: &mut Rooted, key: u32, boxes: &mut Vec<Box<N
     outcome
 }
 
-/// The insertion into a tree, of which a part may be split off. `above` is how many nodes are above it: one more box
-/// must be there for each of these, where a part is.
+/// Inserts into a subtree, from which a part may be split off. `above` is the number of nodes on the path above it.
+/// When a part is split off, more than `above` boxes are left: one for each of those nodes, and one for a new root.
 #[tactic(auto, using(crate::proofs::TreeLemmas::Inserting::growing))]
 pub(crate) fn insert_in(
     alloc: Global,
@@ -122,7 +122,8 @@ pub(crate) fn insert_in(
     }
 }
 
-/// The insertion into a tree without nodes, which is split only where there are boxes enough.
+/// Inserts into a tree that is empty or a single leaf. A full leaf is split only if the boxes suffice for every node
+/// above it and a new root.
 fn insert_in_leaf(
     alloc: Global,
     tree: &mut Tree,
@@ -158,7 +159,7 @@ fn insert_in_leaf(
     }
 }
 
-/// Makes a leaf of one key of a tree that has none.
+/// Turns an empty tree into a leaf with the one key.
 fn insert_first(alloc: Global, tree: &mut Tree, key: u32) -> Outcome
     requires empty { tree.old ≡ Empty }
     ensures outcome { IsOutcome key (keys tree.old) (keys tree.new) result }

@@ -1,4 +1,4 @@
-//! The keys at the bottom of a tree, which stand in leaves.
+//! Leaves: ascending vectors of keys at the bottom of a tree.
 ghost use Rattle.std.specs.Prelude.{◌≡◌, ◌<◌, ◌≤◌, ◌++◌, ◌∷◌, [], take, drop, length, IfOk, OnOk, OnErr, false};
 ghost use Rattle.key_sets.specs.Keys.{StrictlyAscends, has, with_key};
 ghost use Rattle.tree_nodes.specs.Nodes.{room};
@@ -6,12 +6,12 @@ ghost use Rattle.key_sets.specs.Splits.{IsSplit};
 
 use std::alloc::{AllocError, Global};
 
-/// How many keys a leaf has at most.
+/// The most keys of a leaf.
 pub const ROOM: usize = 256;
 
 const HALF: usize = ROOM / 2;
 
-/// How many keys of a leaf are below the key, by binary search.
+/// The number of keys in the leaf below `key`, by binary search.
 #[inline]
 pub fn place(leaf: &[u32], key: u32) -> usize
     requires ascends { StrictlyAscends leaf.now }
@@ -31,7 +31,7 @@ pub fn place(leaf: &[u32], key: u32) -> usize
     low
 }
 
-/// Whether a leaf has the key, where `at` is the number of its keys below.
+/// Whether the leaf has `key`, where `at` is the number of its keys below `key`.
 #[inline]
 pub(crate) fn is_at(leaf: &[u32], at: usize, key: u32) -> bool
     requires ascends { StrictlyAscends leaf.now }
@@ -41,7 +41,7 @@ pub(crate) fn is_at(leaf: &[u32], at: usize, key: u32) -> bool
     at < leaf.len() && leaf[at] == key
 }
 
-/// A leaf without keys, in which there is memory for one key too many.
+/// An empty leaf with memory for `ROOM + 1` keys: a full leaf takes one key more before it is split.
 #[inline]
 pub(crate) fn empty_leaf(alloc: Global) -> Result<Box<Vec<u32>>, AllocError>
     ensures empty { IfOk result (λ b. b.value.items ≡ []) }
@@ -61,8 +61,8 @@ pub(crate) fn leaf_of(alloc: Global, key: u32) -> Result<Box<Vec<u32>>, AllocErr
     Ok(leaf)
 }
 
-/// Puts a key that is not there into a full leaf, and splits the key in the middle and a leaf of the keys after it off.
-/// Nothing is changed where there is no memory.
+/// Inserts an absent key into a full leaf, and splits it: the leaf keeps the lower half, and the middle key and a new
+/// leaf of the keys after it are returned. On `Err`, the leaf is unchanged.
 pub(crate) fn insert_in_halves(
     alloc: Global,
     leaf: &mut Vec<u32>,
@@ -87,7 +87,7 @@ pub(crate) fn insert_in_halves(
     Ok((middle, after))
 }
 
-/// Takes the keys that are not below the key off a leaf, into one that is empty.
+/// Moves the leaf's keys that are not below `key` into `empty`, and returns that leaf.
 pub fn cut_leaf(
     leaf: &mut Vec<u32>,
     key: u32,

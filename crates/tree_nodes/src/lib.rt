@@ -1,7 +1,8 @@
-//! The nodes of a 2-3 tree: each has two or three sides of one depth, and below the lowest nodes stand leaves of keys.
+//! The nodes of a 2-3 tree: each inner node has two or three children (`side` in names) of equal depth with a key
+//! between neighbours, and the bottom level consists of leaves of up to 256 keys.
 //!
-//! A key is looked for, put in and taken out in place. The functions speak of a whole tree and of the list of its keys;
-//! `Tree23`, in the crate above, hides the nodes. The crate stands on `key_sets`, which has the words for sets of keys.
+//! Search, insertion and removal work in place. Contracts describe a tree as the list of its keys. `Tree23`, in the
+//! crate above, hides the nodes. `key_sets` supplies the vocabulary for sets of keys.
 #![tactic(auto)]
 
 pub mod insert;

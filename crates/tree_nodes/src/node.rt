@@ -1,28 +1,28 @@
-//! The nodes of a 2-3 tree, and how they are made of their sides.
+//! The nodes of a 2-3 tree, and how they are built from their children.
 ghost use Rattle.std.specs.Prelude.{◌≡◌, ◌+◌, ◌<◌, ◌^◌, ◌++◌, ◌∷◌, length};
 ghost use Rattle.tree_nodes.specs.Nodes.{keys, depth, IsTree, IsRooted, IsLoose, IsNarrow};
 ghost use Rattle.tree_nodes.specs.declared.node.Tree.TheVariants.{Empty};
 
 use std::mem;
 
-/// A tree of nodes. What lies below the lowest nodes are leaves of keys.
+/// A 2-3 tree: a leaf of keys, or a node over subtrees.
 #[cycle(tree)]
 #[derive(Drop)]
 pub enum Tree {
-    /// A leaf without keys, which has no memory.
+    /// An empty leaf that owns no memory.
     Empty,
-    /// The keys of a leaf, which strictly ascend.
+    /// A leaf, possibly without keys. `IsTree` bounds its length; that the keys ascend is a separate condition.
     Leaf(Box<Vec<u32>>),
-    /// The first side alone, and no key: only between a removal and its repair.
+    /// One child, in `first`, and no key: only between a removal and its repair.
     Underfull(Box<Node>),
-    /// The first and the second side, around the low key.
+    /// Two children around `low`.
     Two(Box<Node>),
-    /// Three sides, around both keys.
+    /// Three children around `low` and `high`.
     Three(Box<Node>),
 }
 
-/// The sides and the keys of a node, of which the tree's variant tells how many are in use. So a node stays
-/// where it is while a side comes or goes.
+/// The children and keys of a node. The `Tree` variant tells how many are in use; all variants share this type, so that
+/// a node keeps its box when a child comes or goes.
 #[cycle(tree)]
 #[derive(Drop)]
 pub struct Node {
@@ -33,24 +33,24 @@ pub struct Node {
     pub third: Tree,
 }
 
-/// A tree, and how many levels of nodes it has.
+/// A tree and its height: the number of node levels above the leaves, 0 for a leaf.
 #[derive(Drop)]
 pub struct Rooted {
     pub tree: Tree,
     pub height: u64,
 }
 
-/// What was split off a tree that other keys were put into in place.
+/// What is split off the right end of a tree, if anything.
 #[derive(Drop)]
 pub enum Split {
-    /// Nothing.
+    /// Nothing is split off.
     Fits,
-    /// A key, and a tree of the same depth after it.
+    /// The key after the tree, and a tree of the same depth after that key.
     Splits(u32, Tree),
 }
 
 impl Tree {
-    /// How many keys there are. They are counted, leaf by leaf.
+    /// The number of keys, counted by a walk over all nodes and leaves.
     pub fn size(&self) -> u64
         requires tree { IsTree self.now }
         requires fits { length (keys self.now) < 2 ^ 64 }
@@ -69,7 +69,7 @@ impl Tree {
 }
 
 impl Rooted {
-    /// A tree without keys.
+    /// An empty tree, of height 0.
     ///
     /// Memory: none.
     #[inline]
@@ -85,7 +85,7 @@ impl Rooted {
 }
 
 impl Node {
-    /// Takes the first side out.
+    /// Takes out the first child, and clears the node.
     #[inline]
     pub(crate) fn take_first(&mut self) -> Tree
         ensures { result ≡ self.old.first }
@@ -94,7 +94,7 @@ impl Node {
         first
     }
 
-    /// Takes the first two sides and the key between them out.
+    /// Takes out the first two children and the key between them, and clears the node.
     #[inline]
     pub fn take_two(&mut self) -> (Tree, u32, Tree)
         ensures { result ≡ (self.old.first, self.old.low, self.old.second) }
@@ -108,7 +108,7 @@ impl Node {
         (first, low, second)
     }
 
-    /// Takes the three sides and the keys between them out.
+    /// Takes out the three children and the keys between them, and clears the node.
     #[inline]
     pub fn take_three(&mut self) -> (Tree, u32, Tree, u32, Tree)
         ensures { result ≡ (self.old.first, self.old.low, self.old.second, self.old.high, self.old.third) }
@@ -125,7 +125,7 @@ impl Node {
     }
 }
 
-/// A node with nothing in it.
+/// A cleared node: its children are empty, and its keys are 0.
 #[inline]
 pub(crate) fn empty_node() -> Node {
     Node {
@@ -137,7 +137,7 @@ pub(crate) fn empty_node() -> Node {
     }
 }
 
-/// One side alone, in a node that is there.
+/// Puts one child into the given box, as an `Underfull` tree.
 pub(crate) fn underfull(mut node: Box<Node>, a: Tree) -> Tree
     requires a { IsTree a }
     ensures keys { keys result ≡ keys a }
@@ -152,7 +152,7 @@ pub(crate) fn underfull(mut node: Box<Node>, a: Tree) -> Tree
     Tree::Underfull(node)
 }
 
-/// Two sides around a key, in a node that is there.
+/// Puts two trees of equal depth around a key into the given box.
 #[inline]
 pub fn two(mut node: Box<Node>, a: Tree, k: u32, b: Tree) -> Tree
     requires a { IsTree a }
@@ -174,7 +174,7 @@ pub fn two(mut node: Box<Node>, a: Tree, k: u32, b: Tree) -> Tree
     Tree::Two(node)
 }
 
-/// Three sides around two keys, in a node that is there.
+/// Puts three trees of equal depth around two keys into the given box.
 #[inline]
 pub fn three(mut node: Box<Node>, a: Tree, k: u32, b: Tree, m: u32, c: Tree) -> Tree
     requires a { IsTree a }

@@ -1,4 +1,4 @@
-//! Memory of nodes and leaves that is reused.
+//! A pool of node boxes and leaves for reuse.
 ghost use Rattle.std.specs.Prelude.{◌≡◌, ◌≤◌, [], length, IfOk, OnOk};
 ghost use Rattle.tree_nodes.specs.Nodes.{IsLeaf};
 
@@ -6,10 +6,11 @@ use crate::leaf::empty_leaf;
 use crate::node::{Node, Tree, empty_node};
 use std::alloc::{AllocError, Global};
 
-/// How many boxes of nodes and how many leaves are kept at most.
+/// `give` keeps at most this many boxes, and `give_leaf` this many leaves.
 const MOST: usize = 256;
 
-/// Boxes of nodes and leaves that are not in use, for the next that are made. The keys of no tree depend on them.
+/// Unused node boxes and leaves, which are taken before new ones are allocated. Their contents do not affect the keys
+/// of any tree.
 #[derive(Drop)]
 pub struct Pool {
     pub nodes: Vec<Box<Node>>,
@@ -30,7 +31,7 @@ impl Pool {
         }
     }
 
-    /// Keeps a node, unless there are many, or there is no memory for its place here.
+    /// Keeps a node's box for reuse. The box is freed if the pool has `MOST` of them or cannot grow.
     #[inline]
     pub fn give(&mut self, node: Box<Node>) {
         if self.nodes.len() < MOST {
@@ -38,7 +39,7 @@ impl Pool {
         }
     }
 
-    /// A box for a node: one of the pool, or a new one.
+    /// A box for a node: from the pool if it has one, or newly allocated.
     #[inline]
     pub fn take(&mut self) -> Result<Box<Node>, AllocError> {
         match self.nodes.pop() {
@@ -50,7 +51,7 @@ impl Pool {
         }
     }
 
-    /// Makes boxes for nodes, until there are `count` here.
+    /// Allocates node boxes until the pool has at least `count`.
     #[inline]
     pub fn hold(&mut self, count: u64) -> Result<(), AllocError>
         ensures { OnOk result (count ≤ length self.new.nodes.items) }
@@ -62,7 +63,7 @@ impl Pool {
         Ok(())
     }
 
-    /// Keeps the memory of a leaf, unless there are many, or there is no memory for its place here.
+    /// Keeps a leaf for reuse. The leaf is freed if the pool has `MOST` of them or cannot grow.
     pub fn give_leaf(&mut self, tree: Tree)
         requires bottom { IsLeaf tree }
     {
@@ -77,7 +78,7 @@ impl Pool {
         }
     }
 
-    /// A leaf without keys: one of the pool, or a new one.
+    /// An empty leaf: from the pool if it has one, or newly allocated.
     #[inline]
     pub fn take_leaf(&mut self) -> Result<Box<Vec<u32>>, AllocError>
         ensures { IfOk result (λ leaf. leaf.value.items ≡ []) }

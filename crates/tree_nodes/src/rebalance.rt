@@ -1,4 +1,4 @@
-//! Nodes from one of whose sides a key was taken: that side may be left with one side of its own.
+//! Repair after a removal: a child of a node may be left `Underfull`, with a single child of its own.
 ghost use Rattle.std.specs.Prelude.{◌≡◌, ◌∷◌, ◌++◌, false};
 ghost use Rattle.tree_nodes.specs.Nodes.{keys, depth, IsTree, IsLoose, keys_with_split, IsTreeWithSplit};
 ghost use Rattle.tree_nodes.specs.Code.Removals.{has_one_side, IsPair, IsShort};
@@ -6,7 +6,8 @@ ghost use Rattle.tree_nodes.specs.Code.Removals.{has_one_side, IsPair, IsShort};
 use crate::node::{Split, Tree, three, two, underfull};
 use std::mem;
 
-/// Two sides around a key, of which one may have one side of its own: it gets a side of the other, or goes to it.
+/// Repairs two siblings around a key, one of which may be `Underfull`. The underfull one takes a child from a sibling
+/// with three, or is merged with a sibling that has two.
 fn share(a: Tree, k: u32, b: Tree) -> (Tree, Split)
     requires pair { IsPair a b }
     requires level { depth b ≡ depth a }
@@ -40,7 +41,7 @@ fn share(a: Tree, k: u32, b: Tree) -> (Tree, Split)
     }
 }
 
-/// Whether a root has one side alone.
+/// Whether a root is `Underfull`.
 #[inline]
 fn has_one_side(tree: &Tree) -> bool
     ensures { result ≡ has_one_side tree.now }
@@ -48,7 +49,7 @@ fn has_one_side(tree: &Tree) -> bool
     matches!(tree, Tree::Underfull(_))
 }
 
-/// Whether one of the sides may have one side alone.
+/// Whether one of the fields holds an `Underfull` tree. If not, the node needs no repair.
 #[inline]
 #[tactic(auto, using(crate::proofs::TreeLemmas::Sides::whole))]
 fn is_short(tree: &Tree) -> bool
@@ -63,7 +64,7 @@ fn is_short(tree: &Tree) -> bool
     }
 }
 
-/// Rebalances a node one side of which lost a key.
+/// Restores the balance of a node after a removal from one of its children. The node itself may be left `Underfull`.
 #[inline]
 pub(crate) fn rebalance(tree: &mut Tree)
     requires { IsShort tree.old }
@@ -76,7 +77,8 @@ pub(crate) fn rebalance(tree: &mut Tree)
     }
 }
 
-/// Gives the sides of a node back what one of them lacks.
+/// Repairs an `Underfull` child with `share`, which gets the last two children if the third is `Underfull`, and the
+/// first two otherwise.
 #[tactic(auto, using(crate::proofs::TreeLemmas::Sides::whole))]
 fn repair(tree: &mut Tree)
     requires { IsShort tree.old }

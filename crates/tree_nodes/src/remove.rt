@@ -1,4 +1,4 @@
-//! Keys taken out of a tree, in place.
+//! In-place removal of a key.
 //!
 //! Memory: none.
 ghost use Rattle.std.specs.Prelude.{◌≡◌, ◌<◌, [], ◌∷◌};
@@ -11,7 +11,7 @@ use crate::node::{Rooted, Tree, two, underfull};
 use crate::rebalance::rebalance;
 use std::mem;
 
-/// Takes the first side, which has no keys, and the key after it off a node.
+/// Removes the first child, which has no keys, and the low key, which is returned.
 fn drop_first(tree: &mut Tree) -> u32
     requires tree { IsTree tree.old }
     requires some { 0 < depth tree.old }
@@ -35,7 +35,7 @@ fn drop_first(tree: &mut Tree) -> u32
     }
 }
 
-/// Takes the key after the first side off a node, and the second side, which has no keys.
+/// Removes the low key and the second child, which has no keys.
 fn drop_low(tree: &mut Tree)
     requires tree { IsTree tree.old }
     requires some { 0 < depth tree.old }
@@ -57,7 +57,7 @@ fn drop_low(tree: &mut Tree)
     };
 }
 
-/// Takes the first key out, if there is one.
+/// Removes and returns the first key, if there is one. The root may be left `Underfull`.
 #[tactic(auto, using(crate::proofs::TreeLemmas::Sides::short))]
 pub fn pop_first(tree: &mut Tree) -> Option<u32>
     requires tree { IsTree tree.old }
@@ -92,7 +92,7 @@ pub fn pop_first(tree: &mut Tree) -> Option<u32>
     }
 }
 
-/// Replaces a root that has one side by that side.
+/// Replaces an `Underfull` root by its only child.
 pub fn shrink_root(rooted: &mut Rooted)
     requires loose { IsLoose rooted.old.tree }
     requires height { rooted.old.height ≡ depth rooted.old.tree }
@@ -105,7 +105,8 @@ pub fn shrink_root(rooted: &mut Rooted)
     }
 }
 
-/// Takes the low key out of a node.
+/// Removes the low key of a node. The first key of the second child takes its place; if there is none, that child is
+/// dropped.
 #[tactic(auto, using(crate::proofs::TreeLemmas::Sides::short))]
 fn remove_low(tree: &mut Tree)
     requires tree { IsTree tree.old }
@@ -133,7 +134,8 @@ fn remove_low(tree: &mut Tree)
     }
 }
 
-/// Takes the high key out of a node with three sides.
+/// Removes the high key of a node with three children. The first key of the third child takes its place; if there is
+/// none, that child is dropped.
 #[tactic(auto, using(crate::proofs::TreeLemmas::Sides::short))]
 fn remove_high(tree: &mut Tree)
     requires tree { IsTree tree.old }
@@ -160,7 +162,7 @@ fn remove_high(tree: &mut Tree)
     }
 }
 
-/// Takes the key out of a leaf, and says whether it was there.
+/// Removes the key from a leaf, and returns whether it was present.
 #[inline]
 #[tactic(auto, using(crate::proofs::TreeLemmas::Removing::removing_at))]
 fn remove_in_leaf(leaf: &mut Vec<u32>, key: u32) -> bool
@@ -176,7 +178,7 @@ fn remove_in_leaf(leaf: &mut Vec<u32>, key: u32) -> bool
     found
 }
 
-/// Takes the key out, and says whether it was there. The root may be left with one side.
+/// Removes the key, and returns whether it was present. The root may be left `Underfull`.
 #[tactic(auto, using(crate::proofs::TreeLemmas::Removing::sides_ascend, crate::proofs::TreeLemmas::Sides::short))]
 pub fn remove_in(tree: &mut Tree, key: u32) -> bool
     requires tree { IsTree tree.old }

@@ -1,4 +1,4 @@
-//! Search in a tree: a key, the next key, and the first.
+//! Search by one descent: for a key, for the next greater key, and for the first key.
 ghost use Rattle.std.specs.Prelude.{◌≡◌, slice_get};
 ghost use Rattle.key_sets.specs.Keys.{StrictlyAscends, has, least_above};
 ghost use Rattle.tree_nodes.specs.Nodes.{keys, IsTree};
@@ -6,7 +6,7 @@ ghost use Rattle.tree_nodes.specs.Nodes.{keys, IsTree};
 use crate::leaf::{is_at, place};
 use crate::node::Tree;
 
-/// Whether the key is there.
+/// Whether the tree has the key.
 #[tactic(auto, using(key_sets::proofs::KeyLemmas::Beside::looking))]
 pub fn find_in(tree: &Tree, key: u32) -> bool
     requires tree { IsTree tree.now }
@@ -40,7 +40,7 @@ pub fn find_in(tree: &Tree, key: u32) -> bool
     }
 }
 
-/// The least key of a leaf that is greater.
+/// The least key of a leaf that is greater than `key`, if there is one.
 #[inline]
 fn next_in_leaf(leaf: &[u32], key: u32) -> Option<u32>
     requires ascends { StrictlyAscends leaf.now }
@@ -55,7 +55,7 @@ fn next_in_leaf(leaf: &[u32], key: u32) -> Option<u32>
     }
 }
 
-/// The least key that is greater.
+/// The least key greater than `key`, if there is one.
 #[tactic(auto, using(key_sets::proofs::KeyLemmas::Beside::nexts))]
 pub fn next_in(tree: &Tree, key: u32) -> Option<u32>
     requires tree { IsTree tree.now }
@@ -94,7 +94,7 @@ pub fn next_in(tree: &Tree, key: u32) -> Option<u32>
     }
 }
 
-/// The least key.
+/// The first key, if there is one: the least, where the keys ascend.
 pub fn first_in(tree: &Tree) -> Option<u32>
     requires tree { IsTree tree.now }
     ensures { result ≡ slice_get (keys tree.now) 0 }

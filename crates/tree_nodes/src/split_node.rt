@@ -1,4 +1,5 @@
-//! Nodes of which one side was split into two, and a new root over a tree that was.
+//! Absorbing a split: a node takes in what was split off one of its children, or splits in turn. A tree whose root
+//! splits gets a new root.
 ghost use Rattle.std.specs.Prelude.{◌≡◌, ◌+◌, ◌<◌, ◌≤◌, ◌^◌, length};
 ghost use Rattle.tree_nodes.specs.Nodes.{keys, depth, IsRooted, keys_with_split, IsTreeWithSplit};
 ghost use Rattle.tree_nodes.specs.Code.Insertions.{OnSplits, HasSplitFirst, HasSplitSecond, HasSplitThird, with_first_split, with_second_split, with_third_split, IsSpent, IsSplitWhereFull};
@@ -6,7 +7,8 @@ ghost use Rattle.tree_nodes.specs.Code.Insertions.{OnSplits, HasSplitFirst, HasS
 use crate::node::{Node, Rooted, Split, Tree, three, two};
 use std::mem;
 
-/// Puts what was split off the first side after it. A node with three sides takes a box for the last two of the four.
+/// Inserts what was split off the first child after that child. A node with three children splits, and a box from
+/// `boxes` takes the last two of the four.
 #[inline]
 pub fn grow_first(tree: &mut Tree, split: Split, boxes: &mut Vec<Box<Node>>) -> Split
     requires tree { HasSplitFirst split tree.old }
@@ -37,7 +39,7 @@ pub fn grow_first(tree: &mut Tree, split: Split, boxes: &mut Vec<Box<Node>>) -> 
     }
 }
 
-/// Puts what was split off the second side after it.
+/// Inserts what was split off the second child after that child, with a split as in `grow_first`.
 #[inline]
 pub fn grow_second(tree: &mut Tree, split: Split, boxes: &mut Vec<Box<Node>>) -> Split
     requires tree { HasSplitSecond split tree.old }
@@ -68,7 +70,7 @@ pub fn grow_second(tree: &mut Tree, split: Split, boxes: &mut Vec<Box<Node>>) ->
     }
 }
 
-/// Puts what was split off the third side after it.
+/// Inserts what was split off the third child after that child, with a split as in `grow_first`.
 #[inline]
 pub fn grow_third(tree: &mut Tree, split: Split, boxes: &mut Vec<Box<Node>>) -> Split
     requires tree { HasSplitThird split tree.old }
@@ -94,7 +96,7 @@ pub fn grow_third(tree: &mut Tree, split: Split, boxes: &mut Vec<Box<Node>>) -> 
     }
 }
 
-/// Puts a tree and what was split off it under one root.
+/// Puts a tree and the part split off it under a new root, in a box from `boxes`. Without a split, nothing changes.
 #[inline]
 pub fn grow_root(rooted: &mut Rooted, split: Split, boxes: &mut Vec<Box<Node>>)
     requires split { IsTreeWithSplit rooted.old.height rooted.old.tree split }

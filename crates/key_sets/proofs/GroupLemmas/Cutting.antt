@@ -1,4 +1,4 @@
--- Keys that ascend, cut into groups of consecutive keys.
+-- Ascending keys, divided into groups of consecutive keys.
 use Rattle.std.proofs.Common.{◌≡◌, ℕ, zero, suc, ◌<◌, ◌≤◌, false, List, [], ◌∷◌, ◌++◌, length, map, get_or, take, drop, slice_get, Some, refl, sym, ap, ◌∙◌, subst, append-nil, arith}
 use Rattle.std.specs.List.{AllByRecursion}
 use Rattle.std.proofs.lemmas.Grind.{common_steps}
@@ -7,7 +7,7 @@ use Rattle.key_sets.specs.Groups.{AreGroups, AreStarts, least_of, starts_of}
 use Rattle.key_sets.proofs.KeyLemmas.Sides.{above_too}
 use Rattle.key_sets.proofs.KeyLemmas.Beside.{has_high}
 
--- what holds of each key
+-- a property of all keys, for the key at an index
 pub all_get : (P : ℕ → Type 0) (xs : List ℕ) (i x : ℕ) → AllByRecursion P xs → slice_get xs i ≡ Some x
     → P x
 all_get P [] i x each is = absurd (cc)
@@ -18,7 +18,7 @@ pub absent_above : (key b : ℕ) (low : List ℕ) → b ≤ key → AllByRecursi
     → has key low ≡ false
 absent_above key b low le down = let whole = has_high key b low [] le down in rw append-nil at whole
 
--- keys that ascend, cut at a place
+-- ascending keys, cut before the key `b`
 pub record AreApart (b : ℕ) (low high : List ℕ) : Type 0 where
   pub down : AllByRecursion (λ k. k < b) low
   pub up : AllByRecursion (λ k. b ≤ k) high
@@ -62,7 +62,7 @@ pub first_index : (b : ℕ) (keys : List ℕ) → slice_get keys 0 ≡ Some b �
 first_index b [] is = absurd (cc)
 first_index b (k ∷ keys) is = cc
 
--- the groups of which the starts are the least keys
+-- the groups that begin at the given starts, `size` keys each but the last
 abbrev pub groups_by : ℕ → List ℕ → List ℕ → List (List ℕ)
 groups_by size keys [] = keys ∷ []
 groups_by size keys (start ∷ starts) = take size keys ∷ groups_by size (drop size keys) starts
@@ -83,7 +83,7 @@ pub least_is : (size b : ℕ) (keys starts : List ℕ) → 0 < size → slice_ge
 least_is size b keys [] some is = is
 least_is size b keys (start ∷ starts) some is = get_take size keys some ∙ is
 
--- what begins the groups ascends, as the keys do
+-- the starts of groups ascend as the keys do
 all_drop : (P : ℕ → Type 0) (size : ℕ) (keys : List ℕ) → AllByRecursion P keys
     → AllByRecursion P (drop size keys)
 all_drop P zero keys each = each

@@ -1,4 +1,4 @@
--- How many groups keys have, and in which of them each key is.
+-- The number of groups, and the group of each key.
 use Rattle.std.proofs.Common.{◌≡◌, ℕ, suc, ◌+◌, ◌-◌, ◌*◌, ◌<◌, ◌≤◌, inl, inr, true, false, nat_lt, nat_le, List, [], ◌∷◌, ◌++◌, length, get_or, take, drop, Some, refl, sym, ap, ◌∙◌, append-nil, arith}
 use Rattle.std.specs.List.{AllByRecursion}
 use Rattle.std.proofs.Math.Nat.{div-eq_of_lt-le, mul-le-mul_right}
@@ -11,7 +11,7 @@ use Rattle.key_sets.proofs.KeyLemmas.Beside.{has_low, has_high}
 use Rattle.key_sets.proofs.KeyLemmas.Sides.{less_or_not}
 use Rattle.key_sets.proofs.GroupLemmas.Cutting.{apart, take_drop, all_take, next_start}
 
--- the last group has all keys that are left
+-- the last group has all keys that remain
 pub last_whole : (size : ℕ) (keys group : List ℕ) → group ≡ take size keys → drop size keys ≡ [] → group ≡ keys
 last_whole size keys group is none = is ∙ sym (append-nil (take size keys)) ∙ ap (λ rest. take size keys ++ rest) (sym none) ∙ take_drop size keys
 
@@ -70,7 +70,7 @@ key_in_group size keys (group ∷ next ∷ groups) key some up are there =
           rw test (key_in_group size (drop size keys) (next ∷ groups) key some cut.ascends are.2 own)
     ]
 
--- the keys of a group are in its range
+-- the keys of a group lie in its range
 both_ends : (start end : ℕ) (keys : List ℕ) → AllByRecursion (λ k. start ≤ k) keys → AllByRecursion (λ k. k < end) keys
     → AllByRecursion (λ k. is_in start (Some end) k ≡ true) keys
 both_ends start end [] up down = tt

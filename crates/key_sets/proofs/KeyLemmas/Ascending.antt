@@ -1,4 +1,4 @@
--- What holds of each key of a list, and which lists ascend.
+-- Properties of all keys of a list, and ascending lists.
 use Rattle.std.proofs.Common.{◌≡◌, ℕ, ◌+◌, ◌<◌, ◌≤◌, Bool, true, false, ◌==◌, nat_lt, if◌then◌else◌, List, [], ◌∷◌, ◌++◌, length, refl, arith}
 use Rattle.std.specs.List.{AllByRecursion}
 use Rattle.std.proofs.lemmas.Bool.Decides.{nat_tests}
@@ -41,7 +41,7 @@ all_without P key (x ∷ xs) each = insertion (key == x) (all_without P key xs e
 pub all_above : (m n : ℕ) (xs : List ℕ) → m < n → AllByRecursion (λ y. n < y) xs → AllByRecursion (λ y. m < y) xs
 all_above m n xs less each = all_map (λ y. n < y) (λ y. m < y) (λ y above. omega (arith, above)) xs each
 
--- parts of a list that ascends
+-- the parts of an ascending list
 pub ascends_front : (xs ys : List ℕ) → StrictlyAscends (xs ++ ys) → StrictlyAscends xs
 ascends_front [] ys up = tt
 ascends_front (x ∷ xs) ys up = (all_front (λ y. x < y) xs ys up.0, ascends_front xs ys up.1)
@@ -60,7 +60,7 @@ all_below_key (x ∷ xs) k ys up = (all_at (λ y. x < y) xs k ys up.0, all_below
 pub all_above_key : (xs : List ℕ) (k : ℕ) (ys : List ℕ) → StrictlyAscends (xs ++ k ∷ ys) → AllByRecursion (λ y. k < y) ys
 all_above_key xs k ys up = (ascends_back xs (k ∷ ys) up).0
 
--- lists that ascend, made of others
+-- ascending lists built from others
 pub ascends_both : (low high : List ℕ) → StrictlyAscends low → StrictlyAscends high → AllBelow low high → StrictlyAscends (low ++ high)
 ascends_both [] high up up' below = up'
 ascends_both (x ∷ low) high up up' below = (all_append (λ y. x < y) low high up.0 below.0, ascends_both low high up.1 up' below.1)
@@ -81,7 +81,7 @@ ascends_without key (x ∷ xs) up = insertion (key == x) (ascends_without key xs
   insertion true rest = up.1
   insertion false rest = (all_without (λ y. x < y) key xs up.0, rest)
 
--- a list that ascends is no longer than the range of its keys
+-- an ascending list is no longer than the range of its keys
 pub length_in_range : (limit least : ℕ) (xs : List ℕ) → StrictlyAscends xs → AllByRecursion (λ k. least ≤ k) xs → AllByRecursion (λ k. k < limit) xs → least ≤ limit → least + length xs ≤ limit
 length_in_range limit least [] up above below le = omega arith
 length_in_range limit least (x ∷ xs) up above below le =

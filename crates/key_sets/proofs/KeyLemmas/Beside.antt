@@ -1,4 +1,4 @@
--- What is said of a key in a set is said of the part that lies on the key's side of another key.
+-- Operations with a key on a set act on the part that is on the key's side of another key.
 use Rattle.std.proofs.Common.{◌≡◌, ℕ, ◌<◌, ◌≤◌, Bool, true, false, ◌==◌, ◌||◌, nat_lt, if◌then◌else◌, List, [], ◌∷◌, ◌++◌, Some, None, refl, sym, ap, ◌∙◌, append_assoc, append-nil, arith}
 use Rattle.std.specs.List.{AllByRecursion}
 use Rattle.std.proofs.lemmas.Bool.Decides.{nat_tests}
@@ -8,11 +8,11 @@ use Rattle.key_sets.proofs.KeyLemmas.Ascending.{all_map, all_at, all_above, all_
 pub append_around : (xs : List ℕ) (j : ℕ) (ys : List ℕ) (k : ℕ) (zs : List ℕ) → (xs ++ j ∷ ys) ++ k ∷ zs ≡ xs ++ j ∷ (ys ++ k ∷ zs)
 append_around xs j ys k zs = append_assoc xs (j ∷ ys) (k ∷ zs)
 
--- more keys after both sides
+-- the same keys appended to both sides
 pub around : (x y low a b : List ℕ) (m key j : ℕ) → x ++ m ∷ y ≡ low ++ key ∷ a → x ++ m ∷ (y ++ j ∷ b) ≡ low ++ key ∷ (a ++ j ∷ b)
 around x y low a b m key j e = sym (append_assoc x (m ∷ y) (j ∷ b)) ∙ ap (λ z. z ++ j ∷ b) e ∙ append_assoc low (key ∷ a) (j ∷ b)
 
--- a key that is below all keys of a list
+-- a key below all keys of a list
 pub has_none : (key : ℕ) (xs : List ℕ) → AllByRecursion (λ x. key < x) xs → has key xs ≡ false
 has_none key [] below = refl
 has_none key (x ∷ xs) below = insertion (key == x) refl (has_none key xs below.1) where
@@ -27,11 +27,11 @@ without_none key (x ∷ xs) below = insertion (key == x) refl (without_none key 
   insertion true is rest = absurd (grind (arith, nat_tests, below.0))
   insertion false is rest = ap (λ zs. x ∷ zs) rest
 
--- and one that is below a bound of them
+-- a key below a lower bound of a list
 pub absent : (key b : ℕ) (high : List ℕ) → key < b → AllByRecursion (λ k. b ≤ k) high → has key high ≡ false
 absent key b high less up = has_none key high (all_map (λ k. b ≤ k) (λ k. key < k) (λ k le. omega (arith, less, le)) high up)
 
--- a key that is above the first of a list
+-- a key above the first of a list
 pub has_past : (key x : ℕ) (xs : List ℕ) → x < key → has key (x ∷ xs) ≡ has key xs
 has_past key x xs less = insertion (key == x) refl where
   insertion : (same : Bool) → (key == x) ≡ same → (same || has key xs) ≡ has key xs
@@ -52,11 +52,11 @@ without_past key x xs less = insertion (key == x) refl where
   insertion true is = absurd (grind (arith, nat_tests, less))
   insertion false is = refl
 
--- the keys from one on, where they ascend
+-- no key from `k` on is below `k`, where keys ascend
 from_key : (xs : List ℕ) (k : ℕ) (ys : List ℕ) → StrictlyAscends (xs ++ k ∷ ys) → AllByRecursion (λ j. k ≤ j) (k ∷ ys)
 from_key xs k ys up = (omega arith, all_map (λ j. k < j) (λ j. k ≤ j) (λ j less. omega (arith, less)) ys (all_above_key xs k ys up))
 
--- whether a set has a key
+-- membership on either side
 pub has_low : (key b : ℕ) (low high : List ℕ) → key < b → AllByRecursion (λ k. b ≤ k) high
     → has key (low ++ high) ≡ has key low
 has_low key b [] high less up = absent key b high less up
@@ -83,7 +83,7 @@ has_here key k (x ∷ xs) ys is = insertion (key == x) (has_here key k xs ys is)
   insertion true rest = refl
   insertion false rest = rest
 
--- a set with a key
+-- insertion on either side
 pub with_left : (key k : ℕ) (xs ys : List ℕ) → key < k → with_key key (xs ++ k ∷ ys) ≡ with_key key xs ++ k ∷ ys
 with_left key k [] ys less = insertion (nat_lt key k) (grind (arith, nat_tests)) where
   insertion : (first : Bool) → first ≡ true → (if first then key ∷ k ∷ ys else (if key == k then k ∷ ys else k ∷ with_key key ys)) ≡ key ∷ k ∷ ys
@@ -124,7 +124,7 @@ with_present key (x ∷ xs) up there = insertion (nat_lt key x) (key == x) refl 
   insertion false true is is' there rest = refl
   insertion false false is is' there rest = ap (λ zs. x ∷ zs) (rest there)
 
--- a set without a key
+-- removal on either side
 pub without_low : (key b : ℕ) (low high : List ℕ) → key < b → AllByRecursion (λ k. b ≤ k) high
     → without_key key (low ++ high) ≡ without_key key low ++ high
 without_low key b [] high less up = without_none key high (all_map (λ k. b ≤ k) (λ k. key < k) (λ k le. omega (arith, less, le)) high up)
@@ -155,7 +155,7 @@ without_here key k (x ∷ xs) ys is up =
     let before : x < k = all_at (λ y. x < y) xs k ys up.0 in
     without_past key x (xs ++ k ∷ ys) (omega arith) ∙ ap (λ zs. x ∷ zs) (without_here key k xs ys is up.1)
 
--- the least key above a key
+-- the least greater key on either side
 pub least_left : (key k : ℕ) (xs ys : List ℕ) (found : ℕ) → least_above key xs ≡ Some found → least_above key (xs ++ k ∷ ys) ≡ Some found
 least_left key k [] ys found is = absurd (cc)
 least_left key k (x ∷ xs) ys found is = insertion (nat_lt key x) is (least_left key k xs ys found) where

@@ -1,4 +1,5 @@
--- What a set has after a key was put in or taken out, and which key comes next. Sets that have the same keys are the same.
+-- Membership after an insertion or a removal, and the least greater key. Ascending sets with the same members are
+-- equal.
 use Rattle.std.proofs.Common.{◌≡◌, ℕ, ◌<◌, ◌≤◌, List, [], ◌∷◌, Bool, true, false, not, ◌&&◌, ◌||◌, ◌⊎◌, inl, inr, ◌==◌, nat_lt, if◌then◌else◌, length, Some, None, refl, sym, ap, ◌∙◌, arith}
 use Rattle.std.specs.List.{AllByRecursion, find}
 use Rattle.std.specs.declared.option.Option.{Option}
@@ -47,7 +48,7 @@ has_first k set = step (k == k) (grind (arith, nat_tests)) where
   step true is = refl
   step false is = cc
 
--- what holds of each key of a set holds of one that it has
+-- a property of all keys, for a member
 pub holds : (P : ℕ → Type 0) (q : ℕ) (set : List ℕ) → AllByRecursion P set → has q set ≡ true → P q
 holds P q [] each there = absurd cc
 holds P q (k ∷ set) each there = step (q == k) refl there (holds P q set each.1) where
@@ -87,7 +88,7 @@ next_is_least n (x ∷ set) up = step (nat_lt n x) refl (next_is_least n set up.
   step true is rest = (has_first x set, grind (arith, nat_tests), λ key there above. at_least key there)
   step false is rest = later (find (λ k. nat_lt n k) set) (grind (arith, nat_tests)) rest
 
--- a set with a key is not empty
+-- a set is not empty after an insertion
 pub some_with_key : (key : ℕ) (set : List ℕ) → 0 < length (with_key key set)
 some_with_key key [] = omega arith
 some_with_key key (x ∷ set) = step (nat_lt key x) (key == x) where
@@ -97,7 +98,7 @@ some_with_key key (x ∷ set) = step (nat_lt key x) (key == x) where
   step false true = omega arith
   step false false = omega arith
 
--- sets in order that have the same keys are the same
+-- ascending sets with the same members are equal
 same_rest : (q x : ℕ) (xs ys : List ℕ) → AllByRecursion (λ k. x < k) xs
     → AllByRecursion (λ k. x < k) ys → has q (x ∷ xs) ≡ has q (x ∷ ys) → has q xs ≡ has q ys
 same_rest q x xs ys above above' same = step (q == x) refl same where

@@ -1,4 +1,4 @@
--- A list of keys that ascends, cut at the place of a key.
+-- Ascending lists of keys, cut at the place of a key.
 use Rattle.std.proofs.Common.{◌≡◌, ℕ, ◌+◌, ◌<◌, ◌≤◌, Bool, true, false, ◌==◌, ◌||◌, nat_lt, if◌then◌else◌, List, [], ◌∷◌, ◌++◌, length, take, drop, get_or, Some, None, refl, sym, ap, ◌∙◌, subst, inl, inr, add-one, arith}
 use Rattle.std.specs.List.{AllByRecursion, insert, remove}
 use Rattle.std.proofs.lemmas.Bool.{cases_order}
@@ -16,7 +16,7 @@ around_place at xs l = sym (take-append-drop at xs) ∙ ap (λ z. take at xs ++ 
 pub ascends_around : (at : ℕ) (xs : List ℕ) → StrictlyAscends xs → at < length xs → StrictlyAscends (take at xs ++ get_or xs at 0 ∷ drop (at + 1) xs)
 ascends_around at xs up l = subst StrictlyAscends (around_place at xs l) up
 
--- the keys up to one that is below a key, and from one that is not
+-- the keys up to one below a key, and from one that is not
 pub below_up_to : (key at : ℕ) (xs : List ℕ) → StrictlyAscends xs → at < length xs → get_or xs at 0 < key → AllByRecursion (λ k. k < key) (take (at + 1) xs)
 below_up_to key at xs up l less =
     let s = ascends_around at xs up l in
@@ -29,7 +29,7 @@ above_from key at xs up l le =
     let s = ascends_around at xs up l in
     rw (drop_more xs at 0 l) (le, all_map (λ k. get_or xs at 0 < k) (λ k. key ≤ k) (λ k h. omega arith) (drop (at + 1) xs) (all_above_key (take at xs) (get_or xs at 0) (drop (at + 1) xs) s))
 
--- whether a key is there
+-- membership of a key whose place is known
 has_after : (key : ℕ) (low high : List ℕ) → AllByRecursion (λ k. k < key) low → has key (low ++ high) ≡ has key high
 has_after key low high below = has_high key key low high (omega arith) below
 
@@ -51,7 +51,7 @@ has_at key at xs up cut l =
     ap (has key) cut.is ∙ has_after key (take at xs) (drop at xs) cut.below ∙ ap (has key) (drop_more xs at 0 l)
     ∙ has_first key (get_or xs at 0) (drop (at + 1) xs) (ascends_back (take at xs) _ s) above.0
 
--- a key put in at its place
+-- inserting a key at its place
 with_first : (key x : ℕ) (xs : List ℕ) → key ≤ x → has key (x ∷ xs) ≡ false → with_key key (x ∷ xs) ≡ key ∷ x ∷ xs
 with_first key x xs le none = insertion (nat_lt key x) (key == x) refl refl none where
   insertion : (first same : Bool) → nat_lt key x ≡ first → (key == x) ≡ same → (same || has key xs) ≡ false
@@ -70,13 +70,13 @@ pub with_at : (key at : ℕ) (xs : List ℕ) → IsSplit key xs (take at xs) (dr
 with_at key at xs cut none =
     ap (with_key key) cut.is ∙ with_between key (take at xs) (drop at xs) cut.below cut.above (ap (has key) (sym cut.is) ∙ none)
 
--- a key taken out at its place
+-- removing a key at its place
 pub without_at : (key at : ℕ) (xs : List ℕ) → StrictlyAscends xs → at < length xs → key ≡ get_or xs at 0 → without_key key xs ≡ remove xs at
 without_at key at xs up l is =
     ap (without_key key) (around_place at xs l) ∙ without_here key (get_or xs at 0) (take at xs) (drop (at + 1) xs) is (ascends_around at xs up l)
     ∙ ap (λ n. take at xs ++ drop n xs) (add-one at)
 
--- the place after all keys that are not above a key
+-- the place after all keys that are not above `key`
 pub record IsAfter (key : ℕ) (xs : List ℕ) (at : ℕ) : Type 0 where
   pub up_to : AllByRecursion (λ k. k ≤ key) (take at xs)
   pub above : AllByRecursion (λ k. key < k) (drop at xs)

@@ -1,4 +1,4 @@
--- A set is what is below a key, and then the others.
+-- An ascending set is the keys below a key, followed by the others.
 use Rattle.std.proofs.Common.{◌≡◌, ℕ, ◌<◌, ◌≤◌, ◌⊎◌, inl, inr, Bool, true, false, not, cond, nat_lt, List, [], ◌∷◌, ◌++◌, refl, ap, arith}
 use Rattle.std.specs.List.{AllByRecursion}
 use Rattle.std.proofs.lemmas.Bool.{cases_order}
@@ -8,7 +8,7 @@ use Rattle.key_sets.specs.Splits.{IsSplit, below, from}
 use Rattle.key_sets.proofs.Filters.{all_filter, all_passed}
 use Rattle.key_sets.proofs.KeyLemmas.Ascending.{all_map}
 
--- tests of a key
+-- comparisons, and what they decide
 pub less_or_not : (m n : ℕ) → (m < n) ⊎ (n ≤ m)
 less_or_not m n = elim (cases_order m n) [
   | inl same ↦ inr (omega arith)
@@ -31,7 +31,7 @@ all_below b set = all_passed (λ k. k < b) (λ k. nat_lt k b) (λ k is. is_less 
 pub all_from : (b : ℕ) (set : List ℕ) → AllByRecursion (λ k. b ≤ k) (from b set)
 all_from b set = all_passed (λ k. b ≤ k) (λ k. not (nat_lt k b)) (λ k is. is_not_less k b is) set
 
--- a set is what is below a key, and then the others
+-- an ascending set is the keys below a key, followed by the others
 pub none_below : (b : ℕ) (set : List ℕ) → AllByRecursion (λ k. b ≤ k) set
     → (below b set ≡ []) × (from b set ≡ set)
 none_below b [] up = (refl, refl)
@@ -61,7 +61,7 @@ ascends_from b (x ∷ set) up = step (not (nat_lt x b)) (ascends_from b set up.1
   step true rest = (all_filter (λ k. x < k) (λ k. not (nat_lt k b)) set up.0, rest)
   step false rest = rest
 
--- a cut at a key gives both sides
+-- the two sides of a cut at a key are the keys below it and the others
 sides_of : (key : ℕ) (low high : List ℕ) → AllByRecursion (λ k. k < key) low
     → AllByRecursion (λ k. key ≤ k) high
     → (below key (low ++ high) ≡ low) × (from key (low ++ high) ≡ high)
@@ -75,7 +75,7 @@ pub split_sides : (key : ℕ) (whole low high : List ℕ) → IsSplit key whole 
     → (below key whole ≡ low) × (from key whole ≡ high)
 split_sides key whole low high cut = rw cut.is (sides_of key low high cut.below cut.above)
 
--- the keys on both sides of a cut
+-- the keys of the low side are below those of the high side
 below_all : (n key : ℕ) (high : List ℕ) → n < key → AllByRecursion (λ k. key ≤ k) high → AllByRecursion (λ k. n < k) high
 below_all n key high less above = all_map (λ k. key ≤ k) (λ k. n < k) (λ k le. omega (arith, less, le)) high above
 

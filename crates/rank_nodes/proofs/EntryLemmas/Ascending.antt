@@ -1,4 +1,4 @@
--- What holds of each entry of a list, and which lists ascend.
+-- Properties of all entries of a list, and lists whose keys ascend.
 use Rattle.std.proofs.Common.{◌≡◌, ℕ, ◌+◌, ◌<◌, ◌≤◌, Bool, true, false, ◌==◌, nat_lt, if◌then◌else◌, List, [], ◌∷◌, ◌++◌, length, refl, arith}
 use Rattle.std.specs.List.{AllByRecursion}
 use Rattle.std.proofs.lemmas.Bool.Decides.{nat_tests}
@@ -21,7 +21,7 @@ all_back P (x ∷ xs) ys each = all_back P xs ys each.1
 pub all_at : (P : Entry → Type 0) (xs : List Entry) (k : Entry) (ys : List Entry) → AllByRecursion P (xs ++ k ∷ ys) → P k
 all_at P xs k ys each = (all_back P xs (k ∷ ys) each).0
 
--- what holds of a key holds of the keys that are there afterwards
+-- a property of all keys is preserved by insertion and removal
 pub all_with : (P : ℕ → Type 0) (key val : ℕ) (entries : List Entry) → P key → AllByRecursion (λ e. P e.key) entries → AllByRecursion (λ e. P e.key) (with_entry key val entries)
 all_with P key val [] here each = (here, tt)
 all_with P key val (e ∷ entries) here each = step (nat_lt key e.key) (key == e.key) (all_with P key val entries here each.1) where
@@ -41,7 +41,7 @@ all_without P key (e ∷ entries) each = step (key == e.key) (all_without P key 
 all_above : (m n : ℕ) (xs : List Entry) → m < n → AllByRecursion (λ (y : Entry). n < y.key) xs → AllByRecursion (λ (y : Entry). m < y.key) xs
 all_above m n xs less each = all_map (λ (y : Entry). n < y.key) (λ (y : Entry). m < y.key) (λ (y : Entry) above. omega (arith, above)) xs each
 
--- parts of a list that ascends
+-- the parts of an ascending list
 pub ascends_front : (xs ys : List Entry) → Ascends (xs ++ ys) → Ascends xs
 ascends_front [] ys up = tt
 ascends_front (x ∷ xs) ys up = (all_front (λ y. x.key < y.key) xs ys up.0, ascends_front xs ys up.1)
@@ -60,11 +60,11 @@ below_entry (x ∷ xs) k ys up = (all_at (λ y. x.key < y.key) xs k ys up.0, bel
 pub above_entry : (xs : List Entry) (k : Entry) (ys : List Entry) → Ascends (xs ++ k ∷ ys) → AllByRecursion (λ (y : Entry). k.key < y.key) ys
 above_entry xs k ys up = (ascends_back xs (k ∷ ys) up).0
 
--- the entries from one on
+-- no key from an entry on is below that of the entry
 pub from_entry : (xs : List Entry) (k : Entry) (ys : List Entry) → Ascends (xs ++ k ∷ ys) → AllByRecursion (λ (y : Entry). k.key ≤ y.key) (k ∷ ys)
 from_entry xs k ys up = (omega arith, all_map (λ (y : Entry). k.key < y.key) (λ (y : Entry). k.key ≤ y.key) (λ (y : Entry) less. omega (arith, less)) ys (above_entry xs k ys up))
 
--- lists that ascend, made of others
+-- ascending lists built from others
 pub ascends_both : (low high : List Entry) → Ascends low → Ascends high → AllBelow low high → Ascends (low ++ high)
 ascends_both [] high up up' below = up'
 ascends_both (x ∷ low) high up up' below = (all_append (λ y. x.key < y.key) low high up.0 below.0, ascends_both low high up.1 up' below.1)
@@ -85,7 +85,7 @@ ascends_without key (e ∷ entries) up = step (key == e.key) (ascends_without ke
   step true rest = up.1
   step false rest = (all_without (λ k. e.key < k) key entries up.0, rest)
 
--- a list that ascends is no longer than the range of its keys
+-- an ascending list is no longer than the range of its keys
 pub length_in_range : (limit least : ℕ) (xs : List Entry) → Ascends xs → AllByRecursion (λ (e : Entry). least ≤ e.key) xs → AllByRecursion (λ (e : Entry). e.key < limit) xs → least ≤ limit → least + length xs ≤ limit
 length_in_range limit least [] up above below le = omega arith
 length_in_range limit least (x ∷ xs) up above below le =

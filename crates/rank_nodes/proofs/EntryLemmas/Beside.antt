@@ -1,4 +1,4 @@
--- What is said of a key in a map is said of the part that lies on the key's side of another key.
+-- Operations with a key on a map act on the part that is on the key's side of another key.
 use Rattle.std.proofs.Common.{◌≡◌, ℕ, ◌<◌, ◌≤◌, Bool, true, false, ◌==◌, nat_lt, if◌then◌else◌, List, [], ◌∷◌, ◌++◌, Some, None, refl, sym, ap, ◌∙◌, append_assoc, arith}
 use Rattle.std.proofs.lemmas.Bool.Decides.{nat_tests}
 use Rattle.keyed_pieces.specs.Keyed.{AreBelow, AreFrom}
@@ -6,11 +6,11 @@ use Rattle.rank_nodes.specs.declared.entry.Entry.{Entry}
 use Rattle.rank_nodes.specs.Maps.{key_of, Ascends, value_at, with_entry, without_entry}
 use Rattle.rank_nodes.proofs.EntryLemmas.Ascending.{all_at, ascends_front, ascends_after, below_entry, from_entry}
 
--- more entries after both sides
+-- the same entries appended to both sides
 pub around : (x y low a b : List Entry) (m key j : Entry) → x ++ m ∷ y ≡ low ++ key ∷ a → x ++ m ∷ (y ++ j ∷ b) ≡ low ++ key ∷ (a ++ j ∷ b)
 around x y low a b m key j e = sym (append_assoc x (m ∷ y) (j ∷ b)) ∙ ap (λ z. z ++ j ∷ b) e ∙ append_assoc low (key ∷ a) (j ∷ b)
 
--- a key that is below all keys of a list
+-- a key below all keys of a list
 value_none : (key b : ℕ) (entries : List Entry) → key < b → AreFrom key_of b entries → value_at key entries ≡ None
 value_none key b [] less up = refl
 value_none key b (e ∷ entries) less up =
@@ -29,7 +29,7 @@ with_first key val b (e ∷ entries) less up =
     let test : nat_lt key e.key ≡ true = grind (arith, nat_tests, up.0) in
     rw test refl
 
--- a key that is above the first of a list
+-- a key above the first of a list
 pub value_past : (key : ℕ) (e : Entry) (entries : List Entry) → e.key < key → value_at key (e ∷ entries) ≡ value_at key entries
 value_past key e entries less =
     let test : (key == e.key) ≡ false = grind (arith, nat_tests, less) in
@@ -46,7 +46,7 @@ without_past key e entries less =
     let test : (key == e.key) ≡ false = grind (arith, nat_tests, less) in
     rw test refl
 
--- the value of a key
+-- the value of a key on either side
 pub value_low : (key b : ℕ) (low high : List Entry) → key < b → AreFrom key_of b high → value_at key (low ++ high) ≡ value_at key low
 value_low key b [] high less up = value_none key b high less up
 value_low key b (e ∷ low) high less up = ap (λ rest. if key == e.key then Some e.val else rest) (value_low key b low high less up)
@@ -66,7 +66,7 @@ value_here key k xs ys is up =
     let test : (key == k.key) ≡ true = grind (arith, nat_tests, is) in
     value_high key k.key xs (k ∷ ys) (omega (arith, is)) (below_entry xs k ys up) ∙ (rw test refl)
 
--- a map with an entry
+-- insertion on either side
 pub with_low : (key val b : ℕ) (low high : List Entry) → key < b → AreFrom key_of b high → with_entry key val (low ++ high) ≡ with_entry key val low ++ high
 with_low key val b [] high less up = with_first key val b high less up
 with_low key val b (e ∷ low) high less up = step (nat_lt key e.key) (key == e.key) (with_low key val b low high less up) where
@@ -94,7 +94,7 @@ with_here key val k xs ys is up =
     let test' : (key == k.key) ≡ true = grind (arith, nat_tests, is) in
     with_high key val k.key xs (k ∷ ys) (omega (arith, is)) (below_entry xs k ys up) ∙ (rw (test, test') refl)
 
--- a map without a key
+-- removal on either side
 pub without_low : (key b : ℕ) (low high : List Entry) → key < b → AreFrom key_of b high → without_entry key (low ++ high) ≡ without_entry key low ++ high
 without_low key b [] high less up = without_none key b high less up
 without_low key b (e ∷ low) high less up = step (key == e.key) (without_low key b low high less up) where

@@ -1,4 +1,4 @@
--- A list of entries that ascends, cut at the place of a key.
+-- Ascending lists of entries, cut at the place of a key.
 use Rattle.std.proofs.Common.{◌≡◌, ℕ, ◌+◌, ◌<◌, ◌≤◌, Bool, true, false, ◌==◌, nat_lt, if◌then◌else◌, List, [], ◌∷◌, ◌++◌, length, take, drop, get_or, set, Some, None, refl, sym, ap, ◌∙◌, subst, inl, inr, add-one, arith}
 use Rattle.std.specs.List.{AllByRecursion, insert, remove}
 use Rattle.std.proofs.lemmas.Bool.{cases_order}
@@ -19,7 +19,7 @@ around_place at xs d l = sym (take-append-drop at xs) ∙ ap (λ z. take at xs +
 ascends_around : (at : ℕ) (xs : List Entry) (d : Entry) → Ascends xs → at < length xs → Ascends (take at xs ++ get_or xs at d ∷ drop (at + 1) xs)
 ascends_around at xs d up l = subst Ascends (around_place at xs d l) up
 
--- the entries up to one whose key is below a key, and from one whose key is not
+-- the entries up to one below a key, and from one that is not
 pub below_up_to : (key at : ℕ) (xs : List Entry) (d : Entry) → Ascends xs → at < length xs → (get_or xs at d).key < key → AreBelow key_of key (take (at + 1) xs)
 below_up_to key at xs d up l less =
     let s = ascends_around at xs d up l in
@@ -32,7 +32,7 @@ above_from key at xs d up l le =
     let s = ascends_around at xs d up l in
     rw (drop_more xs at d l) (le, all_map (λ (e : Entry). (get_or xs at d).key < e.key) (λ (e : Entry). key ≤ e.key) (λ (e : Entry) h. omega (arith, h, le)) (drop (at + 1) xs) (above_entry (take at xs) (get_or xs at d) (drop (at + 1) xs) s))
 
--- the value of a key, where its place is known
+-- the value of a key whose place is known
 pub value_nowhere : (key at : ℕ) (xs : List Entry) → IsSplit key xs (take at xs) (drop at xs) → length xs ≤ at → value_at key xs ≡ None
 value_nowhere key at xs cut l =
     let all = ap (value_at key) cut.is ∙ value_high key key (take at xs) (drop at xs) (omega arith) cut.below in
@@ -56,7 +56,7 @@ value_missed key at xs d up cut l other =
     let rest : AllByRecursion (λ (e : Entry). key < e.key) (drop (at + 1) xs) = all_map (λ (e : Entry). k.key < e.key) (λ (e : Entry). key < e.key) (λ (e : Entry) h. omega (arith, h, more)) (drop (at + 1) xs) (above_entry (take at xs) k (drop (at + 1) xs) (ascends_around at xs d up l)) in
     ap (value_at key) cut.is ∙ value_high key key (take at xs) (drop at xs) (omega arith) cut.below ∙ ap (value_at key) (drop_more xs at d l) ∙ none_above key (k ∷ drop (at + 1) xs) (more, rest)
 
--- an entry put in at its place
+-- inserting an entry at the place of its key
 with_between : (key val : ℕ) (high : List Entry) → AreFrom key_of key high → value_at key high ≡ None → with_entry key val high ≡ record { key = key; val = val } ∷ high
 with_between key val [] above none = refl
 with_between key val (e ∷ high) above none = step (nat_lt key e.key) (key == e.key) refl refl none where
@@ -72,7 +72,7 @@ with_at key val at xs cut none =
     ap (with_entry key val) cut.is ∙ with_high key val key (take at xs) (drop at xs) (omega arith) cut.below
     ∙ ap (λ z. take at xs ++ z) (with_between key val (drop at xs) cut.above none')
 
--- where the key is there, its entry stands at its place
+-- the entry of a present key is at the key's place
 pub within_present : (key at v : ℕ) (xs : List Entry) → IsSplit key xs (take at xs) (drop at xs) → value_at key xs ≡ Some v → at < length xs
 within_present key at v xs cut there =
     elim (cases_order at (length xs)) [
@@ -101,7 +101,7 @@ with_set key val at v xs up cut there =
     ap (with_entry key val) (around_place at xs d l) ∙ with_here key val (get_or xs at d) (take at xs) (drop (at + 1) xs) (key_present key at v xs d up cut there) (ascends_around at xs d up l)
     ∙ set_parts at xs (record { key = key; val = val }) l
 
--- and is taken out there
+-- and removal takes it out there
 pub without_at : (key at v : ℕ) (xs : List Entry) → Ascends xs → IsSplit key xs (take at xs) (drop at xs) → value_at key xs ≡ Some v → without_entry key xs ≡ remove xs at
 without_at key at v xs up cut there =
     let d : Entry = record { key = key; val = v } in

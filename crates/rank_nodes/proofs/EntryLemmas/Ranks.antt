@@ -24,7 +24,7 @@ rank_all key b (e ∷ entries) le down =
     let test : nat_lt e.key key ≡ true = grind (arith, nat_tests, down.0) in
     rw test (ap suc (rank_all key b entries le down.1))
 
--- a key on either side of a cut
+-- the rank of a key on either side of a cut
 pub rank_low : (key b : ℕ) (low high : List Entry) → key ≤ b → AreFrom key_of b high → rank_of key (low ++ high) ≡ rank_of key low
 rank_low key b low high le up = omega (arith, rank_append key low high, rank_none key b high le up)
 
@@ -40,7 +40,7 @@ rank_right key k xs ys less up =
     let here : rank_of key (k ∷ ys) ≡ suc (rank_of key ys) = rw test refl in
     omega (arith, rank_high key k.key xs (k ∷ ys) (omega (arith, less)) (below_entry xs k ys up), here)
 
--- the rank of a key is how many entries stand below its cut
+-- the rank of a key is the number of entries below a cut at the key
 pub rank_of_split : (key : ℕ) (whole low high : List Entry) → IsSplit key whole low high → rank_of key whole ≡ length low
 rank_of_split key whole low high cut =
     ap (rank_of key) cut.is ∙ rank_low key key low high (omega arith) cut.above ∙ rank_all key key low (omega arith) cut.below

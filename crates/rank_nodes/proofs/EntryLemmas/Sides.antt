@@ -23,7 +23,7 @@ none_below key (e ∷ high) up =
     let rest = none_below key high up.1 in
     rw test (rest.0, ap (λ zs. e ∷ zs) rest.1)
 
--- a cut at a key gives both sides
+-- the two sides of a cut at a key are the entries below it and the others
 sides_of : (key : ℕ) (low high : List Entry) → AreBelow key_of key low → AreFrom key_of key high
     → (below key_of key (low ++ high) ≡ low) × (from key_of key (low ++ high) ≡ high)
 sides_of key [] high down up = none_below key high up

@@ -1,4 +1,4 @@
--- How many entries a tree of a depth holds.
+-- Bounds on the number of entries in a tree of a given depth.
 use Rattle.std.proofs.Common.{◌≡◌, ◌+◌, ◌*◌, ◌<◌, ◌≤◌, ◌^◌, ◌∷◌, ◌++◌, length, refl, arith, length-append}
 use Rattle.std.proofs.lemmas.Grind.{pow_more}
 use Rattle.rank_nodes.specs.declared.node.Tree.{Tree}
@@ -54,7 +54,7 @@ count_at_most (Three' p size a k b m c) t =
     let z = rw level' at (count_at_most c t.2) in
     rw pow_more (omega (arith, x, y, z))
 
--- the same of the list of the entries
+-- the same for the list of the entries
 pub entries_at_least : (tree : Tree) → IsTree tree → 2 ^ depth tree ≤ length (entries tree) + 1
 entries_at_least tree t = omega (arith, count_at_least tree t, count_is tree)
 

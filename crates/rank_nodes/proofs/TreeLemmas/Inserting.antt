@@ -1,4 +1,4 @@
--- What an insertion says of the entries and of the answer.
+-- The entries and the answer of an insertion.
 use Rattle.std.proofs.Common.{◌≡◌, ℕ, ◌+◌, ◌<◌, ◌≤◌, ◌^◌, List, ◌∷◌, ◌++◌, take, drop, set, Some, None, refl, ap, sym, ◌∙◌, arith}
 use Rattle.std.specs.List.{insert}
 use Rattle.std.specs.declared.option.Option.{Option}
@@ -17,7 +17,7 @@ use Rattle.rank_nodes.proofs.EntryLemmas.Beside.{value_left, value_right, value_
 use Rattle.rank_nodes.proofs.EntryLemmas.Places.{with_at, with_set}
 use Rattle.rank_nodes.proofs.TreeLemmas.Trees.{map_with}
 
--- a key given a value on one side of an entry
+-- setting a value on one side of an entry
 put_left : (key val : ℕ) (k : Entry) (a b a' : List Entry) (answer : Option ℕ) → Ascends (a ++ k ∷ b) → key < k.key → IsPut key val a a' answer → IsPut key val (a ++ k ∷ b) (a' ++ k ∷ b) answer
 put_left key val k a b a' answer up less i = record {
   is = ap (λ z. z ++ k ∷ b) i.is ∙ sym (with_left key val k a b less up);
@@ -30,7 +30,7 @@ put_right key val k a b b' answer up more i = record {
   answer_is = i.answer_is ∙ sym (value_right key k a b more up);
 }
 
--- and at the entry
+-- setting the value of the entry itself
 pub put_here : (key val : ℕ) (k : Entry) (a b new : List Entry) → Ascends (a ++ k ∷ b) → key ≡ k.key → new ≡ a ++ record { key = key; val = val } ∷ b → IsPut key val (a ++ k ∷ b) new (Some k.val)
 put_here key val k a b new up is new_is = record {
   is = new_is ∙ sym (with_here key val k a b is up);
@@ -42,14 +42,14 @@ put_high key val k m a b c new up more is new_is =
     rw new_is (put_right key val k a (b ++ m ∷ c) (b ++ record { key = key; val = val } ∷ c) (Some m.val) up more
     (put_here key val m b c (b ++ record { key = key; val = val } ∷ c) (ascends_after a k (b ++ m ∷ c) up) is refl))
 
--- and in a leaf at its place
+-- setting a value in a leaf, at the key's place
 pub put_set : (key val at was : ℕ) (xs new : List Entry) → Ascends xs → IsSplit key xs (take at xs) (drop at xs) → value_at key xs ≡ Some was → new ≡ set xs at (record { key = key; val = val }) → IsPut key val xs new (Some was)
 put_set key val at was xs new up cut there new_is = record { is = new_is ∙ sym (with_set key val at was xs up cut there); answer_is = sym there }
 
 pub put_insert : (key val at : ℕ) (xs new : List Entry) → IsSplit key xs (take at xs) (drop at xs) → value_at key xs ≡ None → new ≡ insert xs at (record { key = key; val = val }) → IsPut key val xs new None
 put_insert key val at xs new cut none new_is = record { is = new_is ∙ sym (with_at key val at xs cut none); answer_is = sym none }
 
--- what an insertion comes to on one side of an entry
+-- the outcome of an insertion on one side of an entry is the outcome on the whole list
 pub outcome_left : (key val : ℕ) (k : Entry) (a b a' new : List Entry) (outcome : Outcome) → Ascends (a ++ k ∷ b) → key < k.key → IsOutcome key val a a' outcome → new ≡ a' ++ k ∷ b → IsOutcome key val (a ++ k ∷ b) new outcome
 outcome_left key val k a b a' new (Replaced was) up less i is = rw is (put_left key val k a b a' (Some was) up less i)
 outcome_left key val k a b a' new Added up less i is = rw is (put_left key val k a b a' None up less i)
@@ -70,14 +70,14 @@ pub outcome_last : (key val : ℕ) (k m : Entry) (a b c c' new : List Entry) (ou
 outcome_last key val k m a b c c' new outcome up more more' i is =
     outcome_right key val k a (b ++ m ∷ c) (b ++ m ∷ c') new outcome up more (outcome_right key val m b c c' (b ++ m ∷ c') outcome (ascends_after a k (b ++ m ∷ c) up) more' i refl) is
 
--- one entry at most is added
+-- at most one entry is added
 pub added_few : (outcome : Outcome) → added_by outcome ≤ 1
 added_few (Replaced was) = omega arith
 added_few Added = omega arith
 added_few Full = omega arith
 added_few OutOfMemory = omega arith
 
--- boxes for the nodes above
+-- enough boxes for the nodes above a split
 pub boxes_below : (split : Split) (above count : ℕ) → OnSplits split (above + 1 < count) → OnSplits split (0 < count)
 boxes_below Fits above count enough = tt
 boxes_below (Splits k right) above count enough = omega (arith, enough)
@@ -87,13 +87,13 @@ boxes_left split Fits above old new enough spent = tt
 boxes_left Fits (Splits k right) above old new enough spent = absurd spent
 boxes_left (Splits j part) (Splits k right) above old new enough spent = omega (arith, enough, spent)
 
--- trees of one depth
+-- the depth of a tree, whether or not a part was split off
 pub depth_with_split : (d : ℕ) (tree : Tree) (split : Split) → IsTreeWithSplit d tree split → depth tree ≡ d
 depth_with_split d tree Fits t = t.1
 depth_with_split d tree (Splits k right) t = t.2
 
 pub ruleset growing = (boxes_below, boxes_left, depth_with_split, ascends_front, ascends_after, added_few)
 
--- a map after an insertion
+-- a map stays one after an insertion
 pub map_put : (key val : ℕ) (old new : Tree) (answer : Option ℕ) → IsMap old → IsTree new → IsPut key val (entries old) (entries new) answer → key < 2 ^ 32 → IsMap new
 map_put key val old new answer s tree i small = map_with key val old new s tree i.is small

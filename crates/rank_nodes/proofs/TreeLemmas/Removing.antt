@@ -1,4 +1,4 @@
--- An entry taken out beside another.
+-- Removal on one side of an entry in a list, and at a place.
 use Rattle.std.proofs.Common.{◌≡◌, ℕ, ◌<◌, List, [], ◌∷◌, ◌++◌, take, drop, ◌==◌, Bool, true, false, if◌then◌else◌, Some, None, refl, sym, ap, ◌∙◌}
 use Rattle.std.specs.List.{remove}
 use Rattle.std.specs.declared.option.Option.{Option}
@@ -44,7 +44,7 @@ without_absent key (x ∷ xs) none = step (key == x.key) none (without_absent ke
   step true none rest = absurd (cc)
   step false none rest = ap (λ zs. x ∷ zs) (rest none)
 
--- a key taken out of a leaf at its place
+-- removing a key from a leaf at its place
 pub taken_at : (key at was : ℕ) (xs new : List Entry) → Ascends xs → IsSplit key xs (take at xs) (drop at xs) → value_at key xs ≡ Some was → new ≡ remove xs at → IsTaken key xs new (Some was)
 taken_at key at was xs new up cut there is = record { is = is ∙ sym (without_at key at was xs up cut there); answer_is = sym there }
 
@@ -53,6 +53,6 @@ taken_none key xs new none is = record { is = is ∙ sym (without_absent key xs 
 
 pub ruleset sides_ascend = (ascends_front, ascends_after)
 
--- a map after a removal
+-- a map stays one after a removal
 pub map_taken : (key : ℕ) (old new : Tree) (was : Option ℕ) → IsMap old → IsTree new → IsTaken key (entries old) (entries new) was → IsMap new
 map_taken key old new was s tree i = map_without key old new s tree i.is

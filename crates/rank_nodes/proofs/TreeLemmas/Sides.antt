@@ -1,4 +1,4 @@
--- Trees of which one has one side alone.
+-- Siblings, one of which may be underfull.
 use Rattle.std.proofs.Common.{◌≡◌, true, false}
 use Rattle.rank_nodes.specs.declared.node.Tree.{Tree}
 use Rattle.rank_nodes.specs.declared.node.Tree.TheVariants.{Empty, Leaf, Underfull', Two', Three'}
@@ -54,7 +54,7 @@ triple_of_third a b (Underfull' p size x k y m z) t t' l = (t, t', l)
 triple_of_third a b (Two' p size x k y m z) t t' l = (pair_of_second a b t (loose_of_tree b t'), l)
 triple_of_third a b (Three' p size x k y m z) t t' l = (pair_of_second a b t (loose_of_tree b t'), l)
 
--- sides that have more than one are trees
+-- siblings that are not underfull are trees
 pub trees_of_pair : (a b : Tree) → IsPair a b → has_one_side a ≡ false → has_one_side b ≡ false → IsTree a × IsTree b
 trees_of_pair Empty b p whole whole' = (tt, tree_of_loose b p whole')
 trees_of_pair (Leaf a) b p whole whole' = (p.0, tree_of_loose b p.1 whole')

@@ -1,4 +1,4 @@
--- A tree's root stays balanced, in order, and over keys of 32 bits.
+-- Balanced trees whose keys strictly ascend and have 32 bits: bounds, and what preserves them.
 use Rattle.std.proofs.Common.{◌≡◌, ℕ, ◌+◌, ◌<◌, ◌≤◌, ◌^◌, List, [], ◌∷◌, ◌++◌, length, subst, arith, inl, inr}
 use Rattle.std.specs.List.{AllByRecursion}
 use Rattle.std.proofs.lemmas.Bool.{cases_order}

@@ -1,4 +1,4 @@
--- What an insertion into a tree comes to.
+-- Results and intermediate states of an insertion into a tree.
 use Rattle.std.specs.Prelude.{◌≡◌, ℕ, ◌+◌, ◌≤◌, List, [], ◌∷◌, ◌++◌, Result, Ok, Err, Some, None, ⊤}
 use Rattle.std.specs.declared.option.Option.{Option}
 use Rattle.rank_nodes.specs.declared.entry.Entry.{Entry}
@@ -11,26 +11,26 @@ use Rattle.rank_nodes.specs.declared.insert.Outcome.TheVariants.{Replaced, Added
 use Rattle.rank_nodes.specs.Maps.{value_at, with_entry}
 use Rattle.rank_nodes.specs.Nodes.{entries, depth, count, IsTree, with_split, split_count, IsTreeWithSplit}
 
--- a key was given a value, and the answer is the one it had
+-- the key was given the value, and the answer is the value it had, if any
 pub record IsPut (key val : ℕ) (old new : List Entry) (answer : Option ℕ) : Type 0 where
   pub is : new ≡ with_entry key val old
   pub answer_is : answer ≡ value_at key old
 
--- what an insertion comes to
+-- the entries after each outcome; `Full` and `OutOfMemory` change nothing
 abbrev pub IsOutcome : ℕ → ℕ → List Entry → List Entry → Outcome → Type 0
 IsOutcome key val old new (Replaced was) = IsPut key val old new (Some was)
 IsOutcome key val old new Added = IsPut key val old new None
 IsOutcome key val old new Full = new ≡ old
 IsOutcome key val old new OutOfMemory = new ≡ old
 
--- how many entries are new
+-- the number of new entries
 abbrev pub added_by : Outcome → ℕ
 added_by (Replaced was) = 0
 added_by Added = 1
 added_by Full = 0
 added_by OutOfMemory = 0
 
--- what is answered of it
+-- the result for each outcome: `Ok` with the replaced value, if any, or `Err` for `Full` and `OutOfMemory`
 abbrev pub IsAnswer : {E : Type 0} → Outcome → Result (Option ℕ) E → Type 0
 IsAnswer (Replaced was) (Ok answer) = answer ≡ Some was
 IsAnswer Added (Ok answer) = answer ≡ None
@@ -41,18 +41,19 @@ IsAnswer Added (Err e) = ⊥
 IsAnswer Full (Err e) = ⊤
 IsAnswer OutOfMemory (Err e) = ⊤
 
--- what holds where a part was split off
+-- `P` holds if a part was split off; otherwise this says nothing
 abbrev pub OnSplits : Split → Type 0 → Type 0
 OnSplits Fits P = ⊤
 OnSplits (Splits k right) P = P
 
--- one box at most is taken, and none where nothing was split off below
+-- from the split of a child, the resulting split of the node, and the number of boxes before and after: if the child
+-- was split, at most one box is taken; if not, the node is not split, and nothing is said of the boxes
 abbrev pub IsSpent : Split → Split → ℕ → ℕ → Type 0
 IsSpent Fits Fits old new = ⊤
 IsSpent Fits (Splits k right) old new = ⊥
 IsSpent (Splits j part) split old new = old ≤ new + 1
 
--- the size that a node keeps
+-- the size stored in the root; 0 for a leaf
 abbrev pub kept_size : Tree → ℕ
 kept_size Empty = 0
 kept_size (Leaf b) = 0
@@ -60,7 +61,7 @@ kept_size (Underfull' p size a k b m c) = size
 kept_size (Two' p size a k b m c) = size
 kept_size (Three' p size a k b m c) = size
 
--- a node, one side of which grew by so many entries
+-- a node that is a tree except for its stored size, which is too small by `added`
 abbrev pub HasGrown : ℕ → Tree → Type 0
 HasGrown added Empty = ⊥
 HasGrown added (Leaf b) = ⊥
@@ -71,7 +72,8 @@ HasGrown added (Three' p size a k b m c) =
     IsTree a × IsTree b × IsTree c × (depth b ≡ depth a) × (depth c ≡ depth a)
     × (size + added ≡ count a + 1 + count b + 1 + count c)
 
--- a node, one side of which grew by so many entries, and of which a part may have been split off
+-- a node whose children are trees of equal depth, where `split` was split off its first child and the stored size is
+-- too small by `added`; the next two definitions say the same of the second and of the third child
 abbrev pub HasSplitFirst : ℕ → Split → Tree → Type 0
 HasSplitFirst added split Empty = ⊥
 HasSplitFirst added split (Leaf b) = ⊥
@@ -101,7 +103,8 @@ HasSplitThird added split (Three' p size a k b m c) =
     IsTree a × IsTree b × (depth b ≡ depth a) × IsTreeWithSplit (depth a) c split
     × (size + added ≡ count a + 1 + count b + 1 + split_count c split)
 
--- the entries of a node, with that part
+-- the entries of a node with those of `split` after its first child; the next two do the same for the second and the
+-- third
 abbrev pub with_first_split : Split → Tree → List Entry
 with_first_split split Empty = []
 with_first_split split (Leaf b) = []

@@ -1,4 +1,4 @@
--- A node from one of whose sides an entry was taken.
+-- Nodes after a removal from one of their children, which may be left underfull.
 use Rattle.std.specs.Prelude.{◌≡◌, ℕ, ◌+◌, List, [], ◌∷◌, ◌++◌, Some, None, Bool, true, false}
 use Rattle.std.specs.declared.option.Option.{Option}
 use Rattle.rank_nodes.specs.declared.entry.Entry.{Entry}
@@ -7,7 +7,7 @@ use Rattle.rank_nodes.specs.declared.node.Tree.TheVariants.{Empty, Leaf, Underfu
 use Rattle.rank_nodes.specs.Maps.{value_at, without_entry}
 use Rattle.rank_nodes.specs.Nodes.{entries, depth, count, IsTree, IsLoose}
 
--- whether a root has one side alone
+-- whether the root is underfull: it has a single child
 abbrev pub has_one_side : Tree → Bool
 has_one_side Empty = false
 has_one_side (Leaf b) = false
@@ -15,7 +15,7 @@ has_one_side (Underfull' p size a k b m c) = true
 has_one_side (Two' p size a k b m c) = false
 has_one_side (Three' p size a k b m c) = false
 
--- two trees, of which one may have one side alone
+-- two trees, at most one of which has an underfull root
 abbrev pub IsPair : Tree → Tree → Type 0
 IsPair Empty b = IsLoose b
 IsPair (Leaf a) b = IsTree (Leaf a) × IsLoose b
@@ -23,7 +23,7 @@ IsPair (Underfull' p size x k y m z) b = IsTree x × IsTree b
 IsPair (Two' p size x k y m z) b = IsTree (Two' p size x k y m z) × IsLoose b
 IsPair (Three' p size x k y m z) b = IsTree (Three' p size x k y m z) × IsLoose b
 
--- three trees, of which one may
+-- three trees, at most one of which has an underfull root
 abbrev pub IsTriple : Tree → Tree → Tree → Type 0
 IsTriple a b Empty = IsPair a b
 IsTriple a b (Leaf c) = IsPair a b × IsTree (Leaf c)
@@ -31,7 +31,8 @@ IsTriple a b (Underfull' p size x k y m z) = IsTree a × IsTree b × IsTree x
 IsTriple a b (Two' p size x k y m z) = IsPair a b × IsTree (Two' p size x k y m z)
 IsTriple a b (Three' p size x k y m z) = IsPair a b × IsTree (Three' p size x k y m z)
 
--- a node that knows its size, and of which one side may have one side of its own
+-- a node with two or three children of equal depth, at most one of which has an underfull root; the stored size is
+-- right
 abbrev pub IsShort : Tree → Type 0
 IsShort Empty = ⊥
 IsShort (Leaf b) = ⊥
@@ -40,7 +41,7 @@ IsShort (Two' p size a k b m c) = IsPair a b × (depth b ≡ depth a) × (size �
 IsShort (Three' p size a k b m c) =
     IsTriple a b c × (depth b ≡ depth a) × (depth c ≡ depth a) × (size ≡ count a + 1 + count b + 1 + count c)
 
--- sides of a node
+-- the first and the second child of a node; `Empty` if there is none
 abbrev pub first_side : Tree → Tree
 first_side Empty = Empty
 first_side (Leaf b) = Empty
@@ -55,7 +56,8 @@ second_side (Underfull' p size a k b m c) = Empty
 second_side (Two' p size a k b m c) = b
 second_side (Three' p size a k b m c) = b
 
--- the entries of a tree without one of the root's own
+-- the entries of a node without its low entry, then without its high entry, which only a node with three children has;
+-- a leaf has neither, and gives `[]`
 abbrev pub entries_but_low : Tree → List Entry
 entries_but_low Empty = []
 entries_but_low (Leaf b) = []
@@ -70,17 +72,17 @@ entries_but_high (Underfull' p size a k b m c) = entries a
 entries_but_high (Two' p size a k b m c) = entries a ++ k ∷ entries b
 entries_but_high (Three' p size a k b m c) = entries a ++ k ∷ (entries b ++ entries c)
 
--- how many entries were taken
+-- the number of entries that a removal with this answer took
 abbrev pub taken_by : {X : Type 0} → Option X → ℕ
 taken_by None = 0
 taken_by (Some x) = 1
 
--- the first entry of a tree was taken out, unless there was none
+-- `Some`: the first entry was removed and returned; `None`: the tree has no entries and is unchanged
 abbrev pub IsPopped : Tree → Tree → Option Entry → Type 0
 IsPopped old new None = (entries old ≡ []) × (count old ≡ 0) × (new ≡ old)
 IsPopped old new (Some k) = (entries old ≡ k ∷ entries new) × (count old ≡ count new + 1)
 
--- a list without a key, and the value of the key
+-- `new` is `old` without the key, and the answer is the value that the key had, if any
 pub record IsTaken (key : ℕ) (old new : List Entry) (answer : Option ℕ) : Type 0 where
   pub is : new ≡ without_entry key old
   pub answer_is : answer ≡ value_at key old

@@ -4,7 +4,7 @@ use Rattle.keyed_pieces.specs.Keyed.{AreBelow, AreFrom}
 use Rattle.rank_nodes.specs.declared.entry.Entry.{Entry}
 use Rattle.rank_nodes.specs.Maps.{key_of}
 
--- the entries whose keys are below the key, and the others
+-- `whole` is `low`, whose keys are below `key`, followed by `high`, whose keys are not
 pub record IsSplit (key : ℕ) (whole low high : List Entry) : Type 0 where
   pub is : whole ≡ low ++ high
   pub below : AreBelow key_of key low

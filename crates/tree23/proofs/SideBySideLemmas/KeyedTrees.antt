@@ -1,4 +1,4 @@
--- The keys of trees that stand after keys, and how many there are.
+-- The keys of entries, and their number.
 use Rattle.std.proofs.Common.{◌≡◌, ◌+◌, ◌≤◌, List, [], ◌∷◌, ◌++◌, length, refl, sym, ap, ◌∙◌, subst, append_assoc, append-nil, arith, length-append}
 use Rattle.tree23.specs.declared.trees.KeyedTree.{KeyedTree}
 use Rattle.tree_nodes.specs.declared.node.Rooted.{Rooted}
@@ -10,11 +10,11 @@ pub entry_keys_append : (xs ys : List KeyedTree) → entry_keys (xs ++ ys) ≡ e
 entry_keys_append [] ys = refl
 entry_keys_append (e ∷ xs) ys = ap (λ z. e.key ∷ (keys e.rooted.tree ++ z)) (entry_keys_append xs ys) ∙ sym (append_assoc (e.key ∷ keys e.rooted.tree) (entry_keys xs) (entry_keys ys))
 
--- the keys after an entry more
+-- the keys after an entry is pushed
 pub entry_keys_push : (xs : List KeyedTree) (e : KeyedTree) → entry_keys (xs ++ e ∷ []) ≡ entry_keys xs ++ e.key ∷ keys e.rooted.tree
 entry_keys_push xs e = entry_keys_append xs (e ∷ []) ∙ ap (λ z. entry_keys xs ++ e.key ∷ z) (append-nil (keys e.rooted.tree))
 
--- entries in two parts
+-- concatenated entries
 pub entries_append : (xs ys : List KeyedTree) → AreKeyedTrees xs → AreKeyedTrees ys → AreKeyedTrees (xs ++ ys)
 entries_append [] ys each each' = each'
 entries_append (e ∷ xs) ys each each' = (each.0, entries_append xs ys each.1 each')
@@ -27,7 +27,7 @@ pub entries_back : (xs ys : List KeyedTree) → AreKeyedTrees (xs ++ ys) → Are
 entries_back [] ys each = each
 entries_back (e ∷ xs) ys each = entries_back xs ys each.1
 
--- the last of entries
+-- the last entry
 pub entries_push : (xs : List KeyedTree) (e : KeyedTree) → AreKeyedTrees xs → IsRooted e.rooted → AreKeyedTrees (xs ++ e ∷ [])
 entries_push xs e each rooted = entries_append xs (e ∷ []) each (rooted, tt)
 
@@ -38,11 +38,11 @@ entries_last xs e each = (entries_back xs (e ∷ []) each).0
 pub height_within : (rooted : Rooted) → IsRooted rooted → rooted.height ≤ length (keys rooted.tree)
 height_within rooted is = omega (arith, is.height_is, depth_within rooted.tree is.tree_is)
 
--- how many keys stand after an entry more
+-- the number of keys after an entry is pushed
 pub length_push : (xs : List KeyedTree) (e : KeyedTree) → length (entry_keys (xs ++ e ∷ [])) ≡ length (entry_keys xs) + 1 + length (keys e.rooted.tree)
 length_push xs e = ap length (entry_keys_push xs e) ∙ omega (arith, length-append (entry_keys xs) (e.key ∷ keys e.rooted.tree))
 
--- what is so where the last entry was taken off
+-- the consequences of taking off the last entry
 pub record Taken (old new : List KeyedTree) (e : KeyedTree) : Type 0 where
   pub rooted : IsRooted e.rooted
   pub others : AreKeyedTrees new

@@ -1,4 +1,5 @@
-//! Trees joined around a key: the lower one moves whole to the edge of the other, at its own height (2-3 tree join).
+//! 2-3 tree join around a key: the shallower tree moves whole to the edge of the deeper one, at the level where the
+//! depths match.
 ghost use Rattle.std.specs.Prelude.{◌≡◌, ◌+◌, ◌<◌, ◌^◌, ◌++◌, ◌∷◌, length, IfOk, OnOk};
 ghost use Rattle.tree_nodes.specs.Nodes.{keys, depth, IsTree, IsRooted, keys_with_split, IsTreeWithSplit};
 
@@ -9,7 +10,8 @@ use tree_nodes::leaf::ROOM;
 use tree_nodes::node::{Rooted, Split, Tree};
 use tree_nodes::split_node::{grow_first, grow_root, grow_second, grow_third};
 
-/// Puts a key and a tree after one of the same depth. Two leaves become one where one has room for both and the key.
+/// Appends a key and a tree of the same depth. If `low` is a leaf (or empty) and has room for all of it, nothing is
+/// split off.
 fn join_equal(low: &mut Tree, key: u32, high: Tree, pool: &mut Pool) -> Result<Split, AllocError>
     requires low { IsTree low.old }
     requires high { IsTree high }
@@ -34,7 +36,7 @@ fn join_equal(low: &mut Tree, key: u32, high: Tree, pool: &mut Pool) -> Result<S
     }
 }
 
-/// Puts a key and `high` after a tree at its right edge, `levels` below its root.
+/// Appends a key and `high` at the right edge of `low`, `levels` levels below its root.
 fn join_right(
     low: &mut Tree,
     levels: u64,
@@ -66,7 +68,7 @@ fn join_right(
     }
 }
 
-/// Puts `low` and a key before a tree at its left edge, `levels` below its root.
+/// Prepends `low` and a key at the left edge of `high`, `levels` levels below its root.
 fn join_left(
     low: Tree,
     key: u32,
@@ -99,7 +101,7 @@ fn join_left(
     }
 }
 
-/// Puts a key and a tree of any depth after another.
+/// Appends a key and `high`, a tree of any depth, to `low`.
 #[tactic(auto, using(tree_nodes::proofs::TreeLemmas::Depths::depth_within))]
 pub fn put_after(
     low: &mut Rooted,

@@ -1,4 +1,5 @@
-//! A tree cut at a key. Its subtrees move whole to either side: only the nodes on the path to the key are opened.
+//! Cutting a tree at a key. Only the nodes on the path to the key are opened; all other subtrees move whole to one
+//! side.
 ghost use Rattle.std.specs.Prelude.{◌≡◌, ◌+◌, ◌++◌, ◌∷◌, [], Some, IfOk, OnOk};
 ghost use Rattle.key_sets.specs.Keys.{StrictlyAscends};
 ghost use Rattle.tree_nodes.specs.Nodes.{keys, depth, IsTree, IsRooted};
@@ -11,8 +12,8 @@ use tree_nodes::Pool;
 use tree_nodes::leaf::cut_leaf;
 use tree_nodes::node::{Rooted, Tree};
 
-/// The sides of a cut, and the key before the tree that is being cut, if there is one. On the high side the
-/// entries stand from the last to the first.
+/// The two sides of a cut in progress. `before` is the key just before the tree that is being cut, if there is one. The
+/// entries of `high` are in reverse order.
 #[derive(Drop)]
 pub struct Cut {
     pub low: Trees,
@@ -21,7 +22,7 @@ pub struct Cut {
 }
 
 impl Cut {
-    /// Puts a tree after the low side, and a key after that.
+    /// Appends a tree to the low side. `key`, which comes after that tree, becomes `before`.
     #[inline]
     pub fn put_low(&mut self, tree: Tree, height: u64, key: u32) -> Result<(), AllocError>
         requires trees { AreTrees self.old.low }
@@ -39,7 +40,7 @@ impl Cut {
     }
 }
 
-/// Puts the keys of a tree below `key` after those of the low side, and the others before those of the high side.
+/// Cuts a tree at `key`: its keys below `key` go to the end of the low side, the others to the front of the high side.
 pub fn cut_at(rooted: Rooted, key: u32, sides: &mut Cut, pool: &mut Pool) -> Result<(), AllocError>
     requires rooted { IsRooted rooted }
     requires ascends { StrictlyAscends (keys rooted.tree) }
@@ -55,7 +56,8 @@ pub fn cut_at(rooted: Rooted, key: u32, sides: &mut Cut, pool: &mut Pool) -> Res
     cut_bottom(tree, key, sides, pool)
 }
 
-/// Opens a root whose sides have this height, and gives the side in which the cut lies.
+/// Opens a root whose children have the given height. Returns the child in which the cut lies; the other children go to
+/// the sides.
 #[inline]
 fn open_root(
     tree: Tree,
@@ -105,7 +107,7 @@ fn open_root(
     }
 }
 
-/// Cuts the leaf in which a cut lies.
+/// Cuts a leaf, which ends a cut. An empty tree goes to the low side.
 #[inline]
 fn cut_bottom(tree: Tree, key: u32, sides: &mut Cut, pool: &mut Pool) -> Result<(), AllocError>
     requires tree { IsTree tree }

@@ -1,4 +1,4 @@
-//! Trees side by side joined, until there are few of them, or one.
+//! Joining the trees of a row into few trees, or one.
 ghost use Rattle.std.specs.Prelude.{◌≡◌, ◌+◌, ◌<◌, ◌≤◌, ◌^◌, length, IfOk, OnOk};
 ghost use Rattle.tree_nodes.specs.Nodes.{keys, IsRooted};
 ghost use Rattle.tree23.specs.SideBySide.{in_order, in_reverse, AreTrees};
@@ -9,7 +9,7 @@ use std::alloc::AllocError;
 use tree_nodes::Pool;
 use tree_nodes::node::Rooted;
 
-/// Makes one of the last two trees.
+/// Joins the last two trees.
 fn join_last(trees: &mut Trees, pool: &mut Pool) -> Result<(), AllocError>
     requires some { 0 < length trees.old.entries.items }
     requires trees { AreTrees trees.old }
@@ -30,7 +30,7 @@ fn join_last(trees: &mut Trees, pool: &mut Pool) -> Result<(), AllocError>
     Ok(())
 }
 
-/// Joins the last trees, until there are at most so many beside the first.
+/// Joins trees from the end until at most `most` are left beside the first.
 pub fn join_many(trees: &mut Trees, most: usize, pool: &mut Pool) -> Result<(), AllocError>
     requires trees { AreTrees trees.old }
     requires fits { length (in_order trees.old) < 2 ^ 62 }
@@ -44,7 +44,7 @@ pub fn join_many(trees: &mut Trees, most: usize, pool: &mut Pool) -> Result<(), 
     Ok(())
 }
 
-/// Makes one tree of trees whose entries stand from the last to the first.
+/// Joins a row whose entries are in reverse order into one tree.
 pub fn join_reversed(mut trees: Trees, pool: &mut Pool) -> Result<Rooted, AllocError>
     requires trees { AreTrees trees }
     requires fits { length (in_reverse trees) < 2 ^ 62 }

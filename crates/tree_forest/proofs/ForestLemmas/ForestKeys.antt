@@ -1,4 +1,4 @@
--- A key's place in a forest of trees: what is said of a key in the forest is said of the one tree in whose range it is.
+-- The place of a key in a row of trees: an operation on the row is one on the tree whose range has the key.
 use Rattle.std.proofs.Common.{◌≡◌, ℕ, ◌+◌, ◌-◌, ◌<◌, ◌≤◌, Bool, true, false, List, [], ◌∷◌, ◌++◌, length, take, drop, get_or, set, Option, Some, None, sym, ap, ◌∙◌, subst, append_assoc, append-nil, length-append, add-one, arith}
 use Rattle.std.specs.List.{AllByRecursion}
 use Rattle.std.proofs.lemmas.List.{take-append-drop, take_more, drop_more, set_split, take-set, drop-set-lt}
@@ -13,7 +13,7 @@ use Rattle.key_sets.proofs.KeyLemmas.Ascending.{ascends_after}
 use Rattle.key_sets.proofs.KeyLemmas.Beside.{has_left, has_right, has_here, without_left, without_right, without_here, least_left, least_here, least_right}
 use Rattle.tree23.proofs.SideBySideLemmas.KeyedTrees.{entry_keys_append, entries_back, height_within}
 
--- a key below the first of the entries after some keys
+-- operations with a key below the first entry act on the keys `xs` before the entries alone
 pub has_in_front : (key : ℕ) (xs : List ℕ) (es : List KeyedTree) → IsBelowFirst key es → StrictlyAscends (xs ++ entry_keys es) → has key (xs ++ entry_keys es) ≡ has key xs
 has_in_front key xs [] below up = ap (has key) (append-nil xs)
 has_in_front key xs (e ∷ es) below up = has_left key e.key xs (keys e.rooted.tree ++ entry_keys es) below up
@@ -34,7 +34,7 @@ least_in_front key None xs [] below is = rw (append-nil xs) is
 least_in_front key (Some found) xs (e ∷ es) below is = sym (least_left key e.key xs (keys e.rooted.tree ++ entry_keys es) found (sym is))
 least_in_front key None xs (e ∷ es) below is = sym (least_here key e.key xs (keys e.rooted.tree ++ entry_keys es) below (sym is))
 
--- a forest around the entry in whose tree a key belongs, or which has the key itself
+-- the keys of a row around the entry `e`, whose key or tree is the place of `key`
 pub record IsInEntry (key : ℕ) (forest low : List ℕ) (e : KeyedTree) (high : List KeyedTree) : Type 0 where
   pub is : forest ≡ low ++ e.key ∷ (keys e.rooted.tree ++ entry_keys high)
   pub ascends : StrictlyAscends (low ++ e.key ∷ (keys e.rooted.tree ++ entry_keys high))
@@ -45,7 +45,7 @@ each_back : (P : KeyedTree → Type 0) (xs ys : List KeyedTree) → AllByRecursi
 each_back P [] ys each = each
 each_back P (x ∷ xs) ys each = each_back P xs ys each.1
 
--- the entries around one of them
+-- entries around one of them
 entries_around : (es : List KeyedTree) (i : ℕ) (e : KeyedTree) → i < length es → e ≡ get_or es i e → es ≡ take i es ++ e ∷ drop (i + 1) es
 entries_around es i e l is = sym (take-append-drop i es) ∙ ap (λ z. take i es ++ z) (drop_more es i e l) ∙ ap (λ z. take i es ++ z ∷ drop (i + 1) es) (sym is)
 
@@ -56,7 +56,7 @@ row_around xs es low high e is =
 pub part_at : (es : List KeyedTree) (i : ℕ) (e : KeyedTree) → AreKeyedTrees es → i < length es → e ≡ get_or es i e → IsRooted e.rooted
 part_at es i e each l is = (entries_back (take i es) (e ∷ drop (i + 1) es) (subst AreKeyedTrees (entries_around es i e l is) each)).0
 
--- the number before one that is not 0
+-- subtracting 1 from a positive number, and adding it again
 before : (at : ℕ) → (at ≡ 0 → ⊥) → (at - 1) + 1 ≡ at
 before at some = omega (arith, some)
 
@@ -105,7 +105,7 @@ without_in_entry {key} {forest} {low} {e} {high} p less =
 pub without_entry : {key : ℕ} {forest low : List ℕ} {e : KeyedTree} {high : List KeyedTree} → IsInEntry key forest low e high → e.key ≡ key → without_key key forest ≡ low ++ (keys e.rooted.tree ++ entry_keys high)
 without_entry {key} {forest} {low} {e} {high} p same = ap (without_key key) p.is ∙ without_here key e.key low (keys e.rooted.tree ++ entry_keys high) (sym same) p.ascends
 
--- a forest of which one entry has changed
+-- the keys of a row after one entry is replaced
 pub trees_set : {key at : ℕ} (xs : List ℕ) (es : List KeyedTree) (new : KeyedTree) → IsPlace key es at → (at ≡ 0 → ⊥)
     → xs ++ entry_keys (set es (at - 1) new) ≡ (xs ++ entry_keys (take (at - 1) es)) ++ new.key ∷ (keys new.rooted.tree ++ entry_keys (drop at es))
 trees_set {key} {at} xs es new place some =
@@ -113,14 +113,14 @@ trees_set {key} {at} xs es new place some =
     let set_is = rw (sym (add-one (at - 1)) ∙ before at some) at (set_split es (at - 1) new l) in
     row_around xs (set es (at - 1) new) (take (at - 1) es) (drop at es) new set_is
 
--- and of which it was taken out then
+-- the keys of a row after that entry is removed
 pub trees_but : (at : ℕ) (xs : List ℕ) (es left : List KeyedTree) (new : KeyedTree) → (at ≡ 0 → ⊥) → left ≡ take (at - 1) (set es (at - 1) new) ++ drop (at - 1 + 1) (set es (at - 1) new)
     → xs ++ entry_keys left ≡ (xs ++ entry_keys (take (at - 1) es)) ++ entry_keys (drop at es)
 trees_but at xs es left new some is =
     let others = rw (before at some) at (rw (take-set es (at - 1) new, drop-set-lt (at - 1 + 1) es (at - 1) new (omega arith)) at is) in
     ap (λ z. xs ++ entry_keys z) others ∙ ap (λ z. xs ++ z) (entry_keys_append (take (at - 1) es) (drop at es)) ∙ sym (append_assoc xs (entry_keys (take (at - 1) es)) (entry_keys (drop at es)))
 
--- the tree of an entry is no deeper than the forest has keys
+-- the height of an entry's tree is at most the number of keys in the row
 pub entry_fits : {key : ℕ} {forest low : List ℕ} {e : KeyedTree} {high : List KeyedTree} → IsInEntry key forest low e high → IsRooted e.rooted → e.rooted.height ≤ length forest
 entry_fits {key} {forest} {low} {e} {high} p rooted =
     omega (arith, height_within e.rooted rooted, ap length p.is, length-append low (e.key ∷ (keys e.rooted.tree ++ entry_keys high)), length-append (keys e.rooted.tree) (entry_keys high))

@@ -1,4 +1,4 @@
--- Trees that stand before a key pass to the low side of a cut.
+-- Moving the trees below a key to the low side of a cut.
 use Rattle.std.proofs.Common.{◌≡◌, ℕ, ◌<◌, ◌≤◌, List, [], ◌∷◌, ◌++◌, reverse, Some, None, refl, sym, ap, ◌∙◌, subst, append_assoc, arith}
 use Rattle.std.specs.List.{AllByRecursion}
 use Rattle.std.proofs.lemmas.List.{reverse-append, reverse-reverse}
@@ -14,7 +14,7 @@ use Rattle.tree23.specs.Code.Cuts.{low_keys, whole_keys, CanStand, IsOpenCut}
 use Rattle.key_sets.proofs.KeyLemmas.Ascending.{all_map, all_append, all_below_key, ascends_back}
 use Rattle.tree23.proofs.SideBySideLemmas.KeyedTrees.{entries_front, entries_last}
 
--- some trees have passed, and one is in hand
+-- some trees are moved, and `rooted` is the one taken out last
 pub record IsPassing (key : ℕ) (whole : List ℕ) (rooted : Rooted) (c : Cut) : Type 0 where
   pub part_is : IsRooted rooted
   pub low_trees : AreTrees c.low
@@ -24,7 +24,7 @@ pub record IsPassing (key : ℕ) (whole : List ℕ) (rooted : Rooted) (c : Cut) 
   pub below : AllByRecursion (λ k. k < key) (low_keys c)
   pub is : whole_keys (keys rooted.tree) c ≡ whole
 
--- no tree has passed yet
+-- no tree is moved yet
 pub pass_none : (key : ℕ) (whole : Trees) (rooted : Rooted) (low high : Trees) → AreTrees whole → rooted ≡ whole.front
     → IsRooted low.front → low.front.tree ≡ Empty → low.entries.items ≡ [] → IsRooted high.front → high.front.tree ≡ Empty → high.entries.items ≡ whole.entries.items
     → IsPassing key (in_reverse whole) rooted (record { low = low; before = None; high = high })
@@ -41,7 +41,7 @@ pass_none key whole rooted low high trees front low_part low_leaf low_items high
       is = ap (λ z. z ++ (keys rooted.tree ++ in_reverse high)) none ∙ ap (λ p. keys p.tree ++ in_reverse high) front ∙ ap (λ z. keys whole.front.tree ++ z) stack;
     }
 
--- the stack with an entry taken off
+-- the keys of the high side around its next entry
 stack_less : (high left : Trees) (e : KeyedTree) → keys high.front.tree ≡ [] → keys left.front.tree ≡ [] → high.entries.items ≡ left.entries.items ++ e ∷ []
     → in_reverse high ≡ e.key ∷ (keys e.rooted.tree ++ in_reverse left)
 stack_less high left e empty empty' is =
@@ -50,7 +50,7 @@ stack_less high left e empty empty' is =
     ∙ ap entry_keys (reverse-append left.entries.items (e ∷ []))
     ∙ ap (λ z. e.key ∷ (keys e.rooted.tree ++ (z ++ entry_keys (reverse left.entries.items)))) (sym empty')
 
--- one more tree passes
+-- one more tree is moved
 pub pass_one : (key : ℕ) (whole : List ℕ) (rooted : Rooted) (c new : Cut) (e : KeyedTree) (high : Trees) → StrictlyAscends whole → IsPassing key whole rooted c
     → high.front ≡ c.high.front → c.high.entries.items ≡ high.entries.items ++ e ∷ [] → e.key < key
     → AreTrees new.low → low_keys new ≡ low_keys c ++ (keys rooted.tree ++ e.key ∷ []) → new.before ≡ Some e.key → new.high ≡ high
@@ -79,7 +79,7 @@ pass_one key whole rooted c new e high up i front taken less trees lows before h
           ∙ sym all;
     }
 
--- a stack whose next key is not below a key
+-- if the next key of the high side is not below `key`, no key there is
 above_stack : (key : ℕ) (items : List KeyedTree) → StrictlyAscends (entry_keys (reverse items)) → ((e : KeyedTree) (others : List KeyedTree) → items ≡ others ++ e ∷ [] → key ≤ e.key)
     → AllByRecursion (λ k. key ≤ k) (entry_keys (reverse items))
 above_stack key items up stays = step (reverse items) refl up where
@@ -89,7 +89,7 @@ above_stack key items up stays = step (reverse items) refl up where
       let le : key ≤ e.key = stays e (reverse r) (sym (reverse-reverse items) ∙ ap reverse is ∙ reverse-append (e ∷ []) r) in
       (le, all_map (λ k. e.key < k) (λ k. key ≤ k) (λ k h. omega arith) (keys e.rooted.tree ++ entry_keys r) ascends.0)
 
--- no further tree passes
+-- no further tree is moved
 same_stack : (high left : Trees) → left.front ≡ high.front → left.entries.items ≡ high.entries.items → in_reverse left ≡ in_reverse high
 same_stack high left front same = ap (λ f. keys f.tree ++ entry_keys (reverse left.entries.items)) front ∙ ap (λ z. keys high.front.tree ++ entry_keys (reverse z)) same
 

@@ -1,4 +1,4 @@
--- Entries that stand from the last to the first, and the first of them.
+-- Reversed entries, and the first of their keys.
 use Rattle.std.proofs.Common.{◌≡◌, ℕ, ◌-◌, List, [], ◌∷◌, ◌++◌, length, reverse, Some, None, Option, refl, sym, ap, ◌∙◌, subst, arith, length-append}
 use Rattle.std.specs.Prelude.{slice_get}
 use Rattle.std.proofs.lemmas.List.{reverse-append, reverse-reverse}
@@ -6,12 +6,12 @@ use Rattle.tree23.specs.declared.trees.KeyedTree.{KeyedTree}
 use Rattle.tree23.specs.SideBySide.{entry_keys, AreKeyedTrees}
 use Rattle.tree23.proofs.SideBySideLemmas.KeyedTrees.{entries_push}
 
--- entries turned around
+-- reversed entries are still keyed trees
 pub entries_turned : (entries : List KeyedTree) → AreKeyedTrees entries → AreKeyedTrees (reverse entries)
 entries_turned [] each = tt
 entries_turned (e ∷ entries) each = subst AreKeyedTrees (sym (reverse-append (e ∷ []) entries)) (entries_push (reverse entries) e (entries_turned entries each.1) each.0)
 
--- the first key of a list in two parts
+-- the first element of a concatenation
 pub first_here : (k : ℕ) (xs ys : List ℕ) → Some k ≡ slice_get xs 0 → Some k ≡ slice_get (xs ++ ys) 0
 first_here k [] ys is = absurd (cc)
 first_here k (x ∷ xs) ys is = is
@@ -20,7 +20,7 @@ pub first_past : (first : Option ℕ) (xs ys : List ℕ) → None ≡ slice_get 
 first_past first [] ys none is = is
 first_past first (x ∷ xs) ys none is = absurd (cc)
 
--- the key of the last entry is the first of those after the entries from the last to the first
+-- the key of the last entry is the first key of the reversed entries
 get_last : (xs : List KeyedTree) (e : KeyedTree) → slice_get (xs ++ e ∷ []) (length xs) ≡ Some e
 get_last [] e = refl
 get_last (x ∷ xs) e = get_last xs e

@@ -1,4 +1,4 @@
-//! Keys looked up in, put into and taken out of trees side by side: each in the one tree in whose range it is.
+//! Search, insertion and removal in a row of trees: each call goes to the one tree whose range has the key.
 ghost use Rattle.std.specs.Prelude.{◌≡◌, ◌<◌, ◌≤◌, ◌^◌, drop, length, IfOk, OnErr};
 ghost use Rattle.key_sets.specs.Keys.{StrictlyAscends, has, without_key, least_above};
 ghost use Rattle.tree23.specs.SideBySide.{in_order, AreTrees};
@@ -12,8 +12,8 @@ use tree_nodes::remove::{pop_first, remove_in, shrink_root};
 use tree_nodes::search::{find_in, next_in};
 use tree23::trees::Trees;
 
-/// How many of the keys between the trees, which ascend, are not above a key. Time: linear, since a forest that is
-/// compacted has few.
+/// The number of entries before the first one whose key is above `key`. The scan is linear, since a compacted forest
+/// has at most 65 trees.
 #[inline]
 fn place(trees: &Trees, key: u32) -> usize
     ensures { IsPlace key trees.now.entries.items result }
@@ -25,7 +25,7 @@ fn place(trees: &Trees, key: u32) -> usize
     at
 }
 
-/// Whether the key is there.
+/// Whether the key is in a tree or between two trees.
 pub(crate) fn find_in_trees(trees: &Trees, key: u32) -> bool
     requires trees { AreTrees trees.now }
     requires ascends { StrictlyAscends (in_order trees.now) }
@@ -39,7 +39,7 @@ pub(crate) fn find_in_trees(trees: &Trees, key: u32) -> bool
     entry.key == key || find_in(&entry.rooted.tree, key)
 }
 
-/// An answer of the tree before a place, or else the key of the entry there.
+/// `answer`, if there is one, or else the key of the entry at `at`, if there is one.
 #[inline]
 fn or_key_at(answer: Option<u32>, trees: &Trees, at: usize) -> Option<u32>
     ensures { result ≡ or_first_key answer (drop at trees.now.entries.items) }
@@ -51,7 +51,7 @@ fn or_key_at(answer: Option<u32>, trees: &Trees, at: usize) -> Option<u32>
     }
 }
 
-/// The least key above.
+/// The least key greater than `key`, if there is one.
 pub(crate) fn next_in_trees(trees: &Trees, key: u32) -> Option<u32>
     requires trees { AreTrees trees.now }
     requires ascends { StrictlyAscends (in_order trees.now) }
@@ -65,7 +65,7 @@ pub(crate) fn next_in_trees(trees: &Trees, key: u32) -> Option<u32>
     or_key_at(next_in(&entry.rooted.tree, key), trees, at)
 }
 
-/// Puts the key in, and says whether it is new.
+/// Inserts the key, and returns whether it is new.
 pub(crate) fn insert_in_trees(
     alloc: Global,
     trees: &mut Trees,
@@ -90,7 +90,8 @@ pub(crate) fn insert_in_trees(
     insert_at_root(alloc, &mut entry.rooted, key)
 }
 
-/// Takes the key out, and says whether it was there.
+/// Removes the key, and returns whether it was present. The key of an entry is replaced by the first key of its tree;
+/// if the tree has none, the entry is dropped.
 pub(crate) fn remove_in_trees(trees: &mut Trees, key: u32) -> bool
     requires trees { AreTrees trees.old }
     requires ascends { StrictlyAscends (in_order trees.old) }

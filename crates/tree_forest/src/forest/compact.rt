@@ -1,6 +1,6 @@
-//! Forests put together: where a higher tree comes after lower ones, these become one, or part of it. A forest with too
-//! many trees is compacted: where a tree comes after three of its height, these become one, and what is still too many
-//! after that is joined from the end.
+//! Appending and compacting. Where a higher tree comes after lower ones, these are merged with one another or into it.
+//! Compacting also merges three trees before another of their height into one, and then joins trees from the end while
+//! there are too many.
 ghost use Rattle.std.specs.Prelude.{◌≡◌, ◌+◌, ◌<◌, ◌^◌, ◌≤◌, ◌++◌, ◌∷◌, true, length, IfOk, IfSome, OnOk};
 ghost use Rattle.tree_nodes.specs.Nodes.{keys, depth, IsTree, IsLeaf, IsRooted};
 ghost use Rattle.tree23.specs.SideBySide.{entry_keys, in_order, AreTrees, AreKeyedTrees};
@@ -17,10 +17,10 @@ use tree23::tree::join::put_after;
 use tree23::trees::join::join_many;
 use tree23::trees::{KeyedTree, Trees};
 
-/// How many trees a forest has beside the first when it is compacted, at most.
+/// The most trees that a compacted forest has beside the first.
 pub(crate) const MANY: usize = 64;
 
-/// Takes the last entry off, if its tree is lower.
+/// Takes the last entry off, if its tree is lower than `height`.
 #[inline]
 fn pop_lower(entries: &mut Vec<KeyedTree>, height: u64) -> Option<KeyedTree>
     ensures taken { IsTakenOff entries.old.items entries.new.items result }
@@ -32,7 +32,7 @@ fn pop_lower(entries: &mut Vec<KeyedTree>, height: u64) -> Option<KeyedTree>
     }
 }
 
-/// Takes the last entry off, if its tree has this height.
+/// Takes the last entry off, if its tree has the height `height`.
 #[inline]
 fn pop_equal(entries: &mut Vec<KeyedTree>, height: u64) -> Option<KeyedTree>
     ensures taken { IsTakenOff entries.old.items entries.new.items result }
@@ -44,7 +44,8 @@ fn pop_equal(entries: &mut Vec<KeyedTree>, height: u64) -> Option<KeyedTree>
     }
 }
 
-/// Makes one entry of two whose trees are as high, and of the one before them if that is as high too, and puts it back.
+/// Merges two entries of equal height under one node, with the entry before them if that has the same height, and
+/// pushes the result.
 #[tactic(auto, using(tree23::proofs::SideBySideLemmas::KeyedTrees::entries))]
 fn merge_equal(
     entries: &mut Vec<KeyedTree>,
@@ -82,7 +83,7 @@ fn merge_equal(
     Ok(())
 }
 
-/// Whether the trees of the last three entries have this height.
+/// Whether there are three entries at least, and the trees of the last three have the given height.
 #[inline]
 fn has_three_of(entries: &[KeyedTree], height: u64) -> bool {
     let count = entries.len();
@@ -92,7 +93,8 @@ fn has_three_of(entries: &[KeyedTree], height: u64) -> bool {
         && entries[count - 3].rooted.height == height
 }
 
-/// Takes trees off the end that are lower than a tree that comes after them. They become trees as high, or part of it.
+/// Merges the trees at the end of a row that are lower than the tree of `entry`. Two or three of equal height become
+/// one higher tree of the row; a single one is joined with the entry. Returns the entry, which is not appended.
 #[inline]
 fn merge_lower(
     trees: &mut Trees,
@@ -126,7 +128,7 @@ fn merge_lower(
     Ok(merged)
 }
 
-/// Whether the last entry's tree is lower.
+/// Whether the tree of the last entry is lower than `height`.
 #[inline]
 fn ends_lower(entries: &[KeyedTree], height: u64) -> bool {
     match entries.last() {
@@ -135,7 +137,7 @@ fn ends_lower(entries: &[KeyedTree], height: u64) -> bool {
     }
 }
 
-/// Puts a key and a tree after all.
+/// Appends an entry, after a merge of the lower trees before it.
 #[inline]
 fn add(trees: &mut Trees, entry: KeyedTree, pool: &mut ForestPool) -> Result<(), AllocError>
     requires trees { AreTrees trees.old }
@@ -153,7 +155,7 @@ fn add(trees: &mut Trees, entry: KeyedTree, pool: &mut ForestPool) -> Result<(),
     trees.push(key, rooted.tree, rooted.height)
 }
 
-/// Makes one of the last three entries, if the tree of each has this height.
+/// Merges the last three entries into one, if the tree of each has the given height.
 #[tactic(auto, using(tree23::proofs::SideBySideLemmas::KeyedTrees::entries))]
 fn merge_three(
     entries: &mut Vec<KeyedTree>,
@@ -176,7 +178,7 @@ fn merge_three(
     Ok(())
 }
 
-/// Puts the keys of one leaf after those of another, if that has room for them.
+/// Appends the keys of the leaf `high` to the leaf `low`, if it has room for them. Returns whether it did.
 fn merge_leaves(low: &mut Tree, high: &Tree) -> Result<bool, AllocError>
     requires low { IsTree low.old }
     requires high { IsTree high.now }
@@ -197,7 +199,7 @@ fn merge_leaves(low: &mut Tree, high: &Tree) -> Result<bool, AllocError>
     }
 }
 
-/// Puts a leaf after the last tree, if that is a leaf with room for it.
+/// Appends a leaf to the last tree, if that is a leaf with room for it. Returns whether it did.
 fn merge_into_last(trees: &mut Trees, tree: &Tree) -> Result<bool, AllocError>
     requires trees { AreTrees trees.old }
     requires tree { IsTree tree.now }
@@ -216,7 +218,8 @@ fn merge_into_last(trees: &mut Trees, tree: &Tree) -> Result<bool, AllocError>
     }
 }
 
-/// Puts a tree after all, with no key before it.
+/// Appends a tree that has no key before it. It replaces the tree of an empty row or is merged into a last leaf;
+/// otherwise its first key becomes the separator.
 fn add_front(trees: &mut Trees, front: Rooted, pool: &mut ForestPool) -> Result<(), AllocError>
     requires trees { AreTrees trees.old }
     requires front { IsRooted front }
@@ -245,7 +248,8 @@ fn add_front(trees: &mut Trees, front: Rooted, pool: &mut ForestPool) -> Result<
     }
 }
 
-/// Puts trees after others. Time: linear in the trees that come after, and in the heights that are passed.
+/// Appends the trees of `high` to those of `low`. Time: linear in the trees of `high` and in the heights that merges
+/// pass.
 pub(crate) fn append(low: &mut Trees, high: Trees, pool: &mut ForestPool) -> Result<(), AllocError>
     requires low { AreTrees low.old }
     requires high { AreTrees high }
@@ -264,8 +268,8 @@ pub(crate) fn append(low: &mut Trees, high: Trees, pool: &mut ForestPool) -> Res
     Ok(())
 }
 
-/// Makes few trees of many: lower trees before a higher one become part of it, or trees as high; three before another of
-/// their height become one; and the last become one while there are too many.
+/// Reduces a row to `MANY + 1` trees at most: lower trees before a higher one are merged, three trees before another of
+/// their height become one, and then the last trees are joined while there are too many.
 pub(crate) fn compact(trees: Trees, pool: &mut ForestPool) -> Result<Trees, AllocError>
     requires trees { AreTrees trees }
     requires fits { length (in_order trees) < 2 ^ 61 }

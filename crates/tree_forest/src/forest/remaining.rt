@@ -1,4 +1,4 @@
-//! What is left of a forest while its keys are taken off from the least on.
+//! What is left of a forest while its keys are taken off, the least ones first.
 ghost use Rattle.std.specs.Prelude.{◌≡◌, ◌<◌, ◌≤◌, List, [], ◌∷◌, ◌++◌, slice_get, None, IfOk, IfSome, OnOk, OnErr};
 ghost use Rattle.tree23.specs.declared.trees.KeyedTree.{KeyedTree as KeyedTreeOf};
 ghost use Rattle.key_sets.specs.Keys.{StrictlyAscends};
@@ -19,8 +19,8 @@ use tree_nodes::search::first_in;
 use tree23::trees::cut::{Cut, cut_at};
 use tree23::trees::{KeyedTree, Trees};
 
-/// A set of numbers from which forests are taken off. Contracts see it as the list of its keys, which strictly ascends:
-/// those of the high side. The low side is in use only while a forest is taken off.
+/// A set of 32-bit numbers from which forests are taken off. Its model is the strictly ascending list of the keys on
+/// the high side of `sides`. The low side is used only while a forest is taken off.
 #[derive(Drop)]
 pub struct Remaining {
     sides: Cut,
@@ -41,7 +41,7 @@ impl Model for Remaining {
 }
 
 impl Remaining {
-    /// The keys of a forest.
+    /// Starts with the keys of a forest.
     ///
     /// Memory: none.
     pub fn new(forest: Forest) -> Remaining
@@ -73,8 +73,8 @@ impl Remaining {
         }
     }
 
-    /// Takes off the keys below `key`. The subtrees beside the path to the key move whole. Without memory all keys are
-    /// lost.
+    /// Takes the keys below `key` off, as a forest. Subtrees beside the path to `key` move whole. On `Err`, all keys
+    /// are lost.
     pub fn split_off_below(&mut self, key: u32, pool: &mut ForestPool) -> Result<Forest, AllocError>
         ensures split { IfOk result (λ forest. IsSplit key self.old forest.keys self.new) }
         ensures err { OnErr result (self.new ≡ []) }
@@ -87,7 +87,7 @@ impl Remaining {
         Ok(Forest::of(low, alloc))
     }
 
-    /// All that is left, as a forest.
+    /// The keys that are left, as a forest.
     ///
     /// Memory: none.
     pub fn into_forest(self) -> Forest
@@ -100,7 +100,7 @@ impl Remaining {
     }
 }
 
-/// Takes off the keys of the high side that are below `key`.
+/// Takes the keys below `key` off the high side.
 #[inline]
 fn take_below(
     alloc: Global,
@@ -120,8 +120,8 @@ fn take_below(
     Ok(mem::replace(&mut sides.low, Trees::empty(alloc)))
 }
 
-/// Passes the trees of the high side that stand before a key to a new low side, up to the tree in which the cut at the
-/// key lies, which is taken out.
+/// Moves the trees of the high side that lie below `key` to a new low side, up to the tree in which the cut lies. That
+/// tree is taken out and returned.
 #[inline]
 fn pass_below(sides: &mut Cut, key: u32, pool: &mut ForestPool) -> Result<Rooted, AllocError>
     requires trees { AreTrees sides.old.high }
@@ -144,7 +144,7 @@ fn pass_below(sides: &mut Cut, key: u32, pool: &mut ForestPool) -> Result<Rooted
     Ok(rooted)
 }
 
-/// Takes the last entry off, if its key is below.
+/// Takes the last entry off, if its key is below `key`.
 fn pop_below(entries: &mut Vec<KeyedTree>, key: u32) -> Option<KeyedTree>
     ensures taken { IsTakenOff entries.old.items entries.new.items result }
     ensures below { IfSome result (λ e. e.key < key) }

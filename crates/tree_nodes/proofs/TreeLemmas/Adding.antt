@@ -1,4 +1,4 @@
--- A key put beside another.
+-- Insertion on one side of a key in a list, and at a place.
 use Rattle.std.proofs.Common.{◌≡◌, ℕ, ◌<◌, List, ◌∷◌, ◌++◌, take, drop, false, sym, ap, ◌∙◌}
 use Rattle.std.specs.List.{insert}
 use Rattle.key_sets.specs.Keys.{StrictlyAscends, has}
@@ -31,6 +31,6 @@ found_right key k a b b' s lt i = record {
   present = has_right key k a b lt s ∙ i.present;
 }
 
--- a key put in at its place
+-- inserting an absent key at its place adds it
 pub added_at : (key at : ℕ) (xs new : List ℕ) → IsSplit key xs (take at xs) (drop at xs) → has key xs ≡ false → new ≡ insert xs at key → IsAdded key xs new
 added_at key at xs new cut none is = record { is = is ∙ sym (with_at key at xs cut none); absent = none }

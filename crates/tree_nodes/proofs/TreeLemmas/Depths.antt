@@ -1,4 +1,4 @@
--- How many keys a tree of a depth holds.
+-- Bounds on the number of keys in a tree of a given depth.
 use Rattle.std.proofs.Common.{◌+◌, ◌*◌, ◌<◌, ◌≤◌, ◌^◌, ◌∷◌, ◌++◌, length, arith, length-append}
 use Rattle.std.proofs.lemmas.Grind.{pow_more}
 use Rattle.tree_nodes.specs.declared.node.Tree.{Tree}

@@ -1,4 +1,4 @@
--- What an insertion says of the keys and of the answer.
+-- The keys and the answer of an insertion.
 use Rattle.std.proofs.Common.{◌≡◌, ℕ, ◌+◌, ◌<◌, ◌^◌, List, ◌∷◌, ◌++◌, Bool, true, false, not, refl, ap, sym, ◌∙◌, arith}
 use Rattle.tree_nodes.specs.declared.node.Tree.{Tree}
 use Rattle.key_sets.specs.Keys.{StrictlyAscends, has, with_key}
@@ -24,7 +24,7 @@ inserted_answer key old new false i = sym (ap not i.present)
 pub set_inserted : (key : ℕ) (old new : Tree) (added : Bool) → IsSet old → IsTree new → IsInserted key (keys old) (keys new) added → key < 2 ^ 32 → IsSet new
 set_inserted key old new added s tree i small = set_with key old new s tree (inserted_keys key (keys old) (keys new) added s.ascends i) small
 
--- what an insertion comes to on one side of a key
+-- the outcome of an insertion on one side of a key is the outcome on the whole list
 pub outcome_left : (key k : ℕ) (a b a' new : List ℕ) (outcome : Outcome) → StrictlyAscends (a ++ k ∷ b) → key < k → IsOutcome key a a' outcome → new ≡ a' ++ k ∷ b → IsOutcome key (a ++ k ∷ b) new outcome
 outcome_left key k a b a' new Found s lt i is = rw is (found_left key k a b a' s lt i)
 outcome_left key k a b a' new Added s lt i is = rw is (added_left key k a b a' s lt i)
@@ -45,7 +45,7 @@ pub outcome_last : (key k m : ℕ) (a b c c' new : List ℕ) (outcome : Outcome)
 outcome_last key k m a b c c' new outcome s gt gt' i is =
     outcome_right key k a (b ++ m ∷ c) (b ++ m ∷ c') new outcome s gt (outcome_right key m b c c' (b ++ m ∷ c') outcome (ascends_after a k (b ++ m ∷ c) s) gt' i refl) is
 
--- boxes for the nodes above
+-- enough boxes for the nodes above a split
 pub boxes_below : (split : Split) (above count : ℕ) → OnSplits split (above + 1 < count) → OnSplits split (0 < count)
 boxes_below Fits above count enough = tt
 boxes_below (Splits k right) above count enough = omega (arith, enough)
@@ -55,7 +55,7 @@ boxes_left split Fits above old new enough spent = tt
 boxes_left Fits (Splits k right) above old new enough spent = absurd spent
 boxes_left (Splits j part) (Splits k right) above old new enough spent = omega (arith, enough, spent)
 
--- trees of one depth
+-- the depth of a tree, whether or not a part was split off
 pub depth_with_split : (d : ℕ) (tree : Tree) (split : Split) → IsTreeWithSplit d tree split → depth tree ≡ d
 depth_with_split d tree Fits t = t.1
 depth_with_split d tree (Splits k right) t = t.2

@@ -1,4 +1,4 @@
--- A key taken out beside another.
+-- Removal on one side of a key in a list, and at a place.
 use Rattle.std.proofs.Common.{◌≡◌, ℕ, ◌<◌, ◌≤◌, List, [], ◌∷◌, ◌++◌, length, take, drop, Bool, true, false, ◌||◌, ◌==◌, if◌then◌else◌, refl, sym, ap, ◌∙◌, arith}
 use Rattle.std.specs.List.{remove}
 use Rattle.tree_nodes.specs.declared.node.Tree.{Tree}
@@ -41,7 +41,7 @@ without_absent key (x ∷ xs) none = insertion (key == x) none (without_absent k
   insertion true none rest = absurd (cc)
   insertion false none rest = ap (λ zs. x ∷ zs) (rest none)
 
--- a key taken out of a leaf at its place
+-- removing a leaf's key at its place
 pub taken_at : (key at : ℕ) (xs : List ℕ) → StrictlyAscends xs → IsSplit key xs (take at xs) (drop at xs) → has key xs ≡ true → remove xs at ≡ without_key key xs
 taken_at key at xs up cut there = sym (without_at key at xs up (within_present key at xs cut there) (key_present key at xs up cut there))
 
@@ -55,7 +55,7 @@ length_without key (x ∷ xs) = insertion (key == x) (length_without key xs) whe
 pub fits_without : (key limit : ℕ) (old new : List ℕ) → new ≡ without_key key old → length old ≤ limit → length new ≤ limit
 fits_without key limit old new is fits = rw is (omega (arith, fits, length_without key old))
 
--- what a removal says of the keys and of the key
+-- the keys and the answer of a removal from a tree
 pub removed_keys : (key : ℕ) (old new : Tree) (found : Bool) → IsRemoved key old new found → keys new ≡ without_key key (keys old)
 removed_keys key old new found removed = removed.is
 

@@ -1,4 +1,4 @@
--- What an insertion into a tree comes to.
+-- Results and intermediate states of an insertion into a tree.
 use Rattle.std.specs.Prelude.{◌≡◌, ℕ, ◌+◌, ◌≤◌, Bool, true, false, List, [], ◌∷◌, ◌++◌, Result, Ok, Err, ⊤}
 use Rattle.tree_nodes.specs.declared.node.Tree.{Tree}
 use Rattle.tree_nodes.specs.declared.node.Tree.TheVariants.{Empty, Leaf, Underfull', Two', Three'}
@@ -9,29 +9,29 @@ use Rattle.tree_nodes.specs.declared.insert.Outcome.TheVariants.{Found, Added, F
 use Rattle.key_sets.specs.Keys.{with_key, has}
 use Rattle.tree_nodes.specs.Nodes.{keys, depth, IsTree, keys_with_split, IsTreeWithSplit}
 
--- the key was not there, and now it is
+-- the key was absent, and `new` is `old` with it
 pub record IsAdded (key : ℕ) (old new : List ℕ) : Type 0 where
   pub is : new ≡ with_key key old
   pub absent : has key old ≡ false
 
--- the key was there, and nothing was changed
+-- the key was present, and nothing changed
 pub record IsFound (key : ℕ) (old new : List ℕ) : Type 0 where
   pub same : new ≡ old
   pub present : has key old ≡ true
 
--- whether a key is new
+-- `true`: the key was added; `false`: it was found
 abbrev pub IsInserted : ℕ → List ℕ → List ℕ → Bool → Type 0
 IsInserted key old new true = IsAdded key old new
 IsInserted key old new false = IsFound key old new
 
--- what an insertion comes to
+-- the keys after each outcome; `Full` and `OutOfMemory` change nothing
 abbrev pub IsOutcome : ℕ → List ℕ → List ℕ → Outcome → Type 0
 IsOutcome key old new Found = IsFound key old new
 IsOutcome key old new Added = IsAdded key old new
 IsOutcome key old new Full = new ≡ old
 IsOutcome key old new OutOfMemory = new ≡ old
 
--- what is answered of it
+-- the result for each outcome: `Ok` with whether the key is new, or `Err` for `Full` and `OutOfMemory`
 abbrev pub IsAnswer : {E : Type 0} → Outcome → Result Bool E → Type 0
 IsAnswer Found (Ok added) = added ≡ false
 IsAnswer Added (Ok added) = added ≡ true
@@ -42,12 +42,13 @@ IsAnswer Added (Err e) = ⊥
 IsAnswer Full (Err e) = ⊤
 IsAnswer OutOfMemory (Err e) = ⊤
 
--- what holds where a part was split off
+-- `P` holds if a part was split off; otherwise this says nothing
 abbrev pub OnSplits : Split → Type 0 → Type 0
 OnSplits Fits P = ⊤
 OnSplits (Splits k right) P = P
 
--- one box at most is taken, and none where nothing was split off below
+-- from the split of a child, the resulting split of the node, and the number of boxes before and after: if the child
+-- was split, at most one box is taken; if not, the node is not split, and nothing is said of the boxes
 abbrev pub IsSpent : Split → Split → ℕ → ℕ → Type 0
 IsSpent Fits Fits old new = ⊤
 IsSpent Fits (Splits k right) old new = ⊥
@@ -58,7 +59,7 @@ abbrev pub is_split : Split → Bool
 is_split Fits = false
 is_split (Splits k right) = true
 
--- whether a node has three sides, and so no room for a fourth
+-- whether the root has three children, and so no room for a fourth
 abbrev pub has_three_sides : Tree → Bool
 has_three_sides Empty = false
 has_three_sides (Leaf b) = false
@@ -66,12 +67,13 @@ has_three_sides (Underfull' p a k b m c) = false
 has_three_sides (Two' p a k b m c) = false
 has_three_sides (Three' p a k b m c) = true
 
--- a part is split off exactly where one was split off below and came to a node of three sides
+-- a node is split exactly if its child was and the node has three children already
 abbrev pub IsSplitWhereFull : Split → Tree → Split → Type 0
 IsSplitWhereFull Fits tree result = result ≡ Fits
 IsSplitWhereFull (Splits k right) tree result = is_split result ≡ has_three_sides tree
 
--- a node, of one of whose sides a part may have been split off
+-- a node whose children are trees of equal depth, where `split` was split off its first child; the next two definitions
+-- say the same of the second and of the third child
 abbrev pub HasSplitFirst : Split → Tree → Type 0
 HasSplitFirst split Empty = ⊥
 HasSplitFirst split (Leaf b) = ⊥
@@ -96,7 +98,7 @@ HasSplitThird split (Two' p a k b m c) = ⊥
 HasSplitThird split (Three' p a k b m c) =
     IsTree a × IsTree b × (depth b ≡ depth a) × IsTreeWithSplit (depth a) c split
 
--- the keys of a node, with that part
+-- the keys of a node with those of `split` after its first child; the next two do the same for the second and the third
 abbrev pub with_first_split : Split → Tree → List ℕ
 with_first_split split Empty = []
 with_first_split split (Leaf b) = []

@@ -1,11 +1,11 @@
--- A node from one of whose sides a key was taken.
+-- Nodes after a removal from one of their children, which may be left underfull.
 use Rattle.std.specs.Prelude.{◌≡◌, ℕ, List, [], ◌∷◌, ◌++◌, Option, Some, None, Bool, true, false}
 use Rattle.tree_nodes.specs.declared.node.Tree.{Tree}
 use Rattle.tree_nodes.specs.declared.node.Tree.TheVariants.{Empty, Leaf, Underfull', Two', Three'}
 use Rattle.key_sets.specs.Keys.{has, without_key}
 use Rattle.tree_nodes.specs.Nodes.{keys, depth, IsTree, IsLoose}
 
--- whether a root has one side alone
+-- whether the root is underfull: it has a single child
 abbrev pub has_one_side : Tree → Bool
 has_one_side Empty = false
 has_one_side (Leaf b) = false
@@ -13,7 +13,7 @@ has_one_side (Underfull' p a k b m c) = true
 has_one_side (Two' p a k b m c) = false
 has_one_side (Three' p a k b m c) = false
 
--- two trees, of which one may have one side alone
+-- two trees, at most one of which has an underfull root
 abbrev pub IsPair : Tree → Tree → Type 0
 IsPair Empty b = IsLoose b
 IsPair (Leaf a) b = IsTree (Leaf a) × IsLoose b
@@ -21,7 +21,7 @@ IsPair (Underfull' p x k y m z) b = IsTree x × IsTree b
 IsPair (Two' p x k y m z) b = IsTree (Two' p x k y m z) × IsLoose b
 IsPair (Three' p x k y m z) b = IsTree (Three' p x k y m z) × IsLoose b
 
--- three trees, of which one may
+-- three trees, at most one of which has an underfull root
 abbrev pub IsTriple : Tree → Tree → Tree → Type 0
 IsTriple a b Empty = IsPair a b
 IsTriple a b (Leaf c) = IsPair a b × IsTree (Leaf c)
@@ -29,7 +29,7 @@ IsTriple a b (Underfull' p x k y m z) = IsTree a × IsTree b × IsTree x
 IsTriple a b (Two' p x k y m z) = IsPair a b × IsTree (Two' p x k y m z)
 IsTriple a b (Three' p x k y m z) = IsPair a b × IsTree (Three' p x k y m z)
 
--- a node of which one side may have one side of its own
+-- a node with two or three children of equal depth, at most one of which has an underfull root
 abbrev pub IsShort : Tree → Type 0
 IsShort Empty = ⊥
 IsShort (Leaf b) = ⊥
@@ -37,7 +37,7 @@ IsShort (Underfull' p a k b m c) = ⊥
 IsShort (Two' p a k b m c) = IsPair a b × (depth b ≡ depth a)
 IsShort (Three' p a k b m c) = IsTriple a b c × (depth b ≡ depth a) × (depth c ≡ depth a)
 
--- sides of a node
+-- the first and the second child of a node; `Empty` if there is none
 abbrev pub first_side : Tree → Tree
 first_side Empty = Empty
 first_side (Leaf b) = Empty
@@ -52,7 +52,8 @@ second_side (Underfull' p a k b m c) = Empty
 second_side (Two' p a k b m c) = b
 second_side (Three' p a k b m c) = b
 
--- the keys of a tree without one of the root's own
+-- the keys of a node without its low key, then without its high key, which only a node with three children has; a leaf
+-- has neither, and gives `[]`
 abbrev pub keys_but_low : Tree → List ℕ
 keys_but_low Empty = []
 keys_but_low (Leaf b) = []
@@ -67,16 +68,16 @@ keys_but_high (Underfull' p a k b m c) = keys a
 keys_but_high (Two' p a k b m c) = keys a ++ k ∷ keys b
 keys_but_high (Three' p a k b m c) = keys a ++ k ∷ (keys b ++ keys c)
 
--- the first key of a tree was taken out, unless there was none
+-- `Some`: the first key was removed and returned; `None`: the tree has no keys and is unchanged
 abbrev pub IsPopped : Tree → Tree → Option ℕ → Type 0
 IsPopped old new None = (keys old ≡ []) × (new ≡ old)
 IsPopped old new (Some k) = keys old ≡ k ∷ keys new
 
--- a list without a key, and whether the key was there
+-- `new` is `old` without the key, and `found` says whether `old` has the key
 pub record IsTaken (key : ℕ) (old new : List ℕ) (found : Bool) : Type 0 where
   pub is : new ≡ without_key key old
   pub answer : found ≡ has key old
 
--- the same of trees
+-- `IsTaken`, of the keys of trees
 abbrev pub IsRemoved : ℕ → Tree → Tree → Bool → Type 0
 IsRemoved key old new found = IsTaken key (keys old) (keys new) found

@@ -1,16 +1,10 @@
-//! Runs of the whole program over memory: what they are given, and what they did.
+//! Runs of the whole program over memory: what they are given, and what they did. They show what no run of the built
+//! program can; `rows/` has its rows.
 ghost use Rattle.std.specs.Prelude.{◌<◌};
 
-mod bad_input;
 mod failing_streams;
-mod faults;
-mod generated;
-mod jobs;
-mod language;
-mod operations;
-mod schedules;
+mod room;
 mod threads;
-mod words;
 
 use crate::outcome::Outcome;
 use crate::program::batchrun;
@@ -100,9 +94,6 @@ pub(crate) fn run_held<R: Threads + Wait + Sync, G: Pause + Sync>(
 
 /// The words of a run by one worker.
 pub(crate) const STEP: [&str; 3] = ["step", "-", "1"];
-
-/// The words of a run by one thread.
-pub(crate) const RUN: [&str; 3] = ["run", "-", "1"];
 
 /// The report of `counter add 5` by one worker.
 pub(crate) const ONE_ADD: &[u8] = b"workers 1 leaves 1 calls 1 batches 1\n\

@@ -1,6 +1,5 @@
 //! Runs with a thread for each worker.
-use crate::tests::language::BUILD_ASK_DRAIN;
-use crate::tests::{run, run_held, unhindered};
+use crate::tests::{run_held, unhindered};
 use batch_history::Report;
 use std::test::Fail;
 use test_gates::{AtCalls, AtPosts, AtStarts, Meeting};
@@ -71,26 +70,5 @@ fn two_workers_run_pieces_of_one_batch(rt: HostRuntime) -> Result<(), Fail> {
         return Ok(assert!(rt; false));
     };
     assert_eq!(rt; first_size(report), 2);
-    Ok(())
-}
-
-#[test]
-fn an_empty_job_has_a_head_line_alone(rt: HostRuntime) -> Result<(), Fail> {
-    let ran = run(&rt, rt.alloc(), &unhindered(&["run", "-", "2"], b"par {}"))?;
-    assert_eq!(rt; ran.outcome.status.number(), 0);
-    assert_eq!(rt;
-        ran.out.bytes(),
-        b"workers 2 leaves 0 calls 0 batches 0\n".as_slice()
-    );
-    Ok(())
-}
-
-#[test]
-fn eight_threads_run_each_leaf_once(rt: HostRuntime) -> Result<(), Fail> {
-    let given = unhindered(&["run", "-", "8"], BUILD_ASK_DRAIN);
-    let ran = run(&rt, rt.alloc(), &given)?;
-    assert_eq!(rt; ran.outcome.status.number(), 0);
-    let head = b"workers 8 leaves 3012 calls 3012 batches ";
-    assert!(rt; ran.out.bytes().starts_with(head));
     Ok(())
 }

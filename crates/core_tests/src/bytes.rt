@@ -3,12 +3,13 @@ use bt_io::{
     Failed, MemShelf, MemSink, NoPause, Pause, Point, ReadErr, Shelf, Sink, StdShelf, StdSink,
     read_up_to, write_all,
 };
+use std::alloc::{AllocError, Global};
 use std::io::{self, Write};
 use std::test::Fail;
 
 /// The call of a shelf that fails, where call 0 chooses the file `abc` and each other gives one byte; the limit of the
 /// first reading; and what a second reading, of which no call fails, gives behind it.
-const READINGS: [(u64, usize, &[u8]); 6] = [
+const READINGS: [(u64, u32, &[u8]); 6] = [
     (1, 3, b"abc"),
     (2, 3, b"bc"),
     (4, 3, b""),
@@ -17,24 +18,40 @@ const READINGS: [(u64, usize, &[u8]); 6] = [
     (9, 3, b""),
 ];
 
+/// Whether a first reading with a limit ends as the failing call and the limit say, and a second one gives the rest.
+fn is_read_so(alloc: Global, fails: u64, limit: u32, rest: &[u8]) -> Result<bool, AllocError> {
+    let mut files = Vec::new(alloc);
+    files.push(("a".to_string(alloc)?, b"abc".to_vec(alloc)?))?;
+    let mut shelf = MemShelf::make(files, 1, vec![in alloc; fails]?);
+    if shelf.choose("a").is_err() {
+        return Ok(false);
+    }
+    let first = match read_up_to(alloc, &mut shelf, limit as usize) {
+        Ok(bytes) => bytes.as_slice() == b"abc".as_slice(),
+        Err(ReadErr::Failed) => fails < 9,
+        Err(ReadErr::TooLong) => limit < 3,
+        Err(ReadErr::Memory) => false,
+    };
+    match read_up_to(alloc, &mut shelf, 9) {
+        Ok(bytes) => Ok(first && bytes.as_slice() == rest),
+        Err(_) => Ok(false),
+    }
+}
+
+/// The place of the first of these readings that goes otherwise, if there is one.
+fn first_misread(alloc: Global) -> Result<Option<usize>, AllocError> {
+    for (place, row) in READINGS.iter().enumerate() {
+        let (fails, limit, rest) = *row;
+        if !is_read_so(alloc, fails, limit, rest)? {
+            return Ok(Some(place));
+        }
+    }
+    Ok(None)
+}
+
 #[test]
 fn a_reading_takes_at_most_a_byte_past_its_limit(rt: HostRuntime) -> Result<(), Fail> {
-    for (fails, limit, rest) in READINGS {
-        let mut files = Vec::new(rt.alloc());
-        files.push(("a".to_string(rt.alloc())?, b"abc".to_vec(rt.alloc())?))?;
-        let mut shelf = MemShelf::make(files, 1, vec![in rt.alloc(); fails]?);
-        assert!(rt; shelf.choose("a").is_ok());
-        match read_up_to(rt.alloc(), &mut shelf, limit) {
-            Ok(bytes) => assert_eq!(rt; bytes.as_slice(), b"abc".as_slice()),
-            Err(ReadErr::Failed) => assert!(rt; fails < 9, "limit {limit}"),
-            Err(ReadErr::TooLong) => assert!(rt; limit < 3, "limit {limit}"),
-            Err(ReadErr::Memory) => assert!(rt; false, "limit {limit}"),
-        }
-        let Ok(bytes) = read_up_to(rt.alloc(), &mut shelf, 9) else {
-            return Ok(assert!(rt; false, "limit {limit}"));
-        };
-        assert_eq!(rt; bytes.as_slice(), rest, "limit {limit}");
-    }
+    assert_eq!(rt; first_misread(rt.alloc())?, None);
     Ok(())
 }
 
@@ -47,18 +64,27 @@ const WRITINGS: [(usize, u64, &[u8]); 5] = [
     (5, 1, b"he"),
 ];
 
+/// Whether such a sink takes this, and says so where it is all.
+fn is_written_so(alloc: Global, room: usize, fails: u64, taken: &[u8]) -> Result<bool, AllocError> {
+    let mut sink = MemSink::make(alloc, room, 2, vec![in alloc; fails]?)?;
+    let whole = write_all(&mut sink, b"hello").is_ok();
+    Ok(whole == (taken.len() == 5) && sink.bytes() == taken)
+}
+
+/// The place of the first of these writings that goes otherwise, if there is one.
+fn first_miswritten(alloc: Global) -> Result<Option<usize>, AllocError> {
+    for (place, row) in WRITINGS.iter().enumerate() {
+        let (room, fails, taken) = *row;
+        if !is_written_so(alloc, room, fails, taken)? {
+            return Ok(Some(place));
+        }
+    }
+    Ok(None)
+}
+
 #[test]
 fn a_writing_takes_the_front_that_fits(rt: HostRuntime) -> Result<(), Fail> {
-    for (room, fails, taken) in WRITINGS {
-        let mut sink = MemSink::make(rt.alloc(), room, 2, vec![in rt.alloc(); fails]?)?;
-        let whole = taken.len() == 5;
-        assert_eq!(rt;
-            write_all(&mut sink, b"hello").is_ok(),
-            whole,
-            "room {room}"
-        );
-        assert_eq!(rt; sink.bytes(), taken, "room {room}");
-    }
+    assert_eq!(rt; first_miswritten(rt.alloc())?, None);
     Ok(())
 }
 
@@ -81,16 +107,19 @@ impl Write for Narrow {
 #[test]
 fn a_writer_that_is_full_is_a_fault(rt: HostRuntime) {
     let mut sink = StdSink::make(Narrow(2));
-    assert!(rt; write_all(&mut sink, b"hi").is_ok());
-    assert!(rt; sink.write(b"").is_ok());
-    assert!(rt; matches!(sink.write(b"!"), Err(Failed)));
+    let written = (
+        write_all(&mut sink, b"hi").is_ok(),
+        sink.write(b"").is_ok(),
+        matches!(sink.write(b"!"), Err(Failed)),
+    );
+    assert_eq!(rt; written, (true, true, true));
 }
 
 #[test]
 fn standard_input_is_chosen_and_no_file_that_is_not_there(rt: HostRuntime) {
     let mut shelf = StdShelf::make(&rt);
-    assert!(rt; shelf.choose("no file of this name").is_err());
-    assert!(rt; shelf.choose("-").is_ok());
+    let missing = shelf.choose("no file of this name").is_err();
+    assert_eq!(rt; (missing, shelf.choose("-").is_ok()), (true, true));
 }
 
 /// Calls the pause as a worker that shares it does.

@@ -1,7 +1,8 @@
 //! The history of a run, made by hand: one batch, served by the serial objects.
-use batch_history::{Batch, Entry, History, Report, Row, Rows, text};
-use job_lang::read_job;
-use seq_objects::{Op, Plain, Reply};
+use crate::jobs::{job_of, text_of};
+use batch_history::{Batch, Entry, History, Report, Row, Rows};
+use seq_objects::{Op, Plain};
+use std::alloc::{AllocError, Global};
 use std::test::Fail;
 
 /// The report of the history.
@@ -11,13 +12,11 @@ batch 0 place 1 worker 1 leaf 1 tree insert 7 -> yes\n\
 leaf 0 worker 0 start 0 end 2 value 0\n\
 leaf 1 worker 1 start 1 end 3 value 1\n";
 
-#[test]
-fn a_batch_of_two_updates_replies_no_and_yes(rt: HostRuntime) -> Result<(), Fail> {
-    let alloc = rt.alloc();
+/// A batch of two updates, with the replies of the serial objects.
+fn by_hand(alloc: Global) -> Result<History, AllocError> {
     let mut objects = Plain::new(alloc);
     let removed = objects.serve(Op::TreeRemove(7))?;
     let inserted = objects.serve(Op::TreeInsert(7))?;
-    assert!(rt; matches!((removed, inserted), (Reply::No, Reply::Yes)));
     let mut history = History::new(alloc);
     history.append(Batch::of(vec![in alloc;
         Entry {
@@ -33,7 +32,12 @@ fn a_batch_of_two_updates_replies_no_and_yes(rt: HostRuntime) -> Result<(), Fail
             reply: inserted
         },
     ]?))?;
-    let rows = Rows::of(vec![in alloc;
+    Ok(history)
+}
+
+/// The rows of two leaves that run side by side.
+fn two_rows(alloc: Global) -> Result<Rows, AllocError> {
+    let rows = vec![in alloc;
         Row {
             leaf: 0,
             worker: 0,
@@ -48,20 +52,21 @@ fn a_batch_of_two_updates_replies_no_and_yes(rt: HostRuntime) -> Result<(), Fail
             end: 3,
             value: 1
         },
-    ]?);
-    assert_eq!(rt; rows.list().len(), 2);
-    assert_eq!(rt; history.batches().len(), 1);
-    let Ok(job) = read_job(alloc, b"par { tree remove 7 tree insert 7 }") else {
-        return Ok(assert!(rt; false));
-    };
-    assert_eq!(rt; job.acts().len(), 2);
+    ]?;
+    Ok(Rows::of(rows))
+}
+
+#[test]
+fn a_batch_of_two_updates_replies_no_and_yes(rt: HostRuntime) -> Result<(), Fail> {
+    let alloc = rt.alloc();
+    let job = job_of(alloc, b"par { tree remove 7 tree insert 7 }").expect(&rt, "a job");
     let report = Report {
         workers: 2,
-        history,
-        rows,
+        history: by_hand(alloc)?,
+        rows: two_rows(alloc)?,
     };
     assert_eq!(rt;
-        text(alloc, &job, &report)?.as_slice(),
+        text_of(alloc, &job, &report)?.as_slice(),
         REMOVED_AND_INSERTED
     );
     Ok(())

@@ -1,13 +1,15 @@
 //! Tests of the core by turns, of the history and its text, and of shelves and sinks, through their public calls alone.
 //!
-//! Where a run ends in which a worker has stopped is proved of every state; the tables here show which case a turn makes,
-//! and what each turn of a small job does.
+//! How a run ends in which a worker has stopped is proved for every state. The tables here show which of the two ends a
+//! small job comes to after each of its turns, and what each turn does.
 #![tactic(auto)]
 
 #[cfg(test)]
 mod bytes;
 #[cfg(test)]
 mod history;
+#[cfg(test)]
+mod jobs;
 #[cfg(test)]
 mod stopped;
 #[cfg(test)]

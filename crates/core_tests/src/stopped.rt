@@ -1,9 +1,9 @@
 //! Runs of the core in which a worker has stopped for good.
 ghost use Rattle.std.specs.Prelude.{◌≡◌, ◌<◌, ◌≤◌, ◌+◌, ◌^◌, length, IsSome};
 
-use batch_history::{Entry, text};
+use crate::jobs::{job_of, text_of};
+use batch_history::Entry;
 use batcher_core::{Core, Ended, Spun, Turn, drive_some};
-use job_lang::read_job;
 use seq_objects::{Op, Plain, Reply, value};
 use sp_order::Job;
 use std::alloc::{AllocError, Global};
@@ -101,18 +101,20 @@ fn go_on(alloc: Global, core: Core, stopped: u32) -> Result<Ended, AllocError>
     }
 }
 
-/// How the run ends where a worker stops after so many turns and the other one goes on: `o` where it is over, `s` where
-/// it is stuck and both then end what is left, and `?` where a book did not replay, or both are stuck.
-fn end_after(alloc: Global, job: &Job, turns: u32, stopped: u32) -> Result<char, AllocError>
+/// How the run ends where a worker stops after so many turns and the other one goes on, if the book replayed before
+/// each of these turns.
+fn ended(alloc: Global, job: &Job, turns: u32, stopped: u32) -> Result<Option<Ended>, AllocError>
     requires { IsSome job.now.shape }
 {
     let mut core = Core::start(alloc, job, 2)?;
     if !take_turns(alloc, &mut core, turns)? || core.workers() != 2 {
-        return Ok('?');
+        return Ok(None);
     }
-    let Ended::Stuck(core) = go_on(alloc, core, stopped)? else {
-        return Ok('o');
-    };
+    Ok(Some(go_on(alloc, core, stopped)?))
+}
+
+/// The mark of a stuck core: `s` where its book replays and both workers end what is left, and `?` elsewhere.
+fn mark_of_stuck(alloc: Global, core: Core) -> Result<char, AllocError> {
     if !replays(alloc, &core)? || core.workers() != 2 {
         return Ok('?');
     }
@@ -122,60 +124,58 @@ fn end_after(alloc: Global, job: &Job, turns: u32, stopped: u32) -> Result<char,
     }
 }
 
-/// How the run ends where this worker stops after so many turns, from 0 to all of them.
+/// How the run ends where a worker stops after so many turns, from 0 to all of them, and the other one goes on: `o`
+/// where it is over, `s` where it is stuck and both then end what is left, and `?` where a book did not replay, or both
+/// are stuck.
 fn ends(alloc: Global, job: &Job, stopped: u32) -> Result<String, AllocError>
     requires { IsSome job.now.shape }
 {
     let mut marks = String::new(alloc);
     for turns in 0..=TURNS {
-        marks.push(end_after(alloc, job, turns, stopped)?)?;
+        let mark = match ended(alloc, job, turns, stopped)? {
+            None => '?',
+            Some(Ended::Over(_report)) => 'o',
+            Some(Ended::Stuck(core)) => mark_of_stuck(alloc, core)?,
+        };
+        marks.push(mark)?;
     }
     Ok(marks)
+}
+
+/// How many entries a core has that is not spent.
+fn count_entries(alloc: Global, core: &Core) -> Result<Option<usize>, AllocError> {
+    if core.history().is_none() {
+        return Ok(None);
+    }
+    Ok(Some(entries_of(alloc, core)?.len()))
+}
+
+/// The text of the report, or how many entries the stuck core has, where worker 0 stops after so many turns.
+fn told(alloc: Global, job: &Job, turns: u32) -> Result<(Vec<u8>, Option<usize>), AllocError>
+    requires { IsSome job.now.shape }
+{
+    match ended(alloc, job, turns, 0)? {
+        None => Ok((Vec::new(alloc), None)),
+        Some(Ended::Over(report)) => Ok((text_of(alloc, job, &report)?, None)),
+        Some(Ended::Stuck(core)) => Ok((Vec::new(alloc), count_entries(alloc, &core)?)),
+    }
 }
 
 #[test]
 fn a_worker_that_stops_without_a_task_costs_nothing(rt: HostRuntime) -> Result<(), Fail> {
     let alloc = rt.alloc();
-    let Ok(job) = read_job(alloc, TWO_ADDS) else {
-        return Ok(assert!(rt; false));
-    };
-    if job.shape().is_none() {
-        return Ok(assert!(rt; false));
-    }
-    let core = Core::start(alloc, &job, 2)?;
-    let Ended::Over(report) = go_on(alloc, core, 0)? else {
-        return Ok(assert!(rt; false));
-    };
-    assert_eq!(rt; report.rows.list().len(), 2);
-    assert_eq!(rt; job.acts().len(), 2);
-    assert_eq!(rt; text(alloc, &job, &report)?.as_slice(), BY_WORKER_1);
-    let mut core = Core::start(alloc, &job, 2)?;
-    if !take_turns(alloc, &mut core, 1)? || core.workers() != 2 {
-        return Ok(assert!(rt; false));
-    }
-    let Ended::Stuck(core) = go_on(alloc, core, 0)? else {
-        return Ok(assert!(rt; false));
-    };
-    assert!(rt; core.history().is_some());
-    assert_eq!(rt; entries_of(alloc, &core)?.len(), 0);
+    let job = job_of(alloc, TWO_ADDS).expect(&rt, "a job");
+    let (text, _) = told(alloc, &job, 0)?;
+    let (_, entries) = told(alloc, &job, 1)?;
+    assert_eq!(rt; (text.as_slice(), entries), (BY_WORKER_1, Some(0)));
     Ok(())
 }
 
 #[test]
 fn after_each_turn_a_worker_may_stop(rt: HostRuntime) -> Result<(), Fail> {
     let alloc = rt.alloc();
-    let Ok(job) = read_job(alloc, TWO_ADDS) else {
-        return Ok(assert!(rt; false));
-    };
-    if job.shape().is_none() {
-        return Ok(assert!(rt; false));
-    }
-    for stopped in 0..2u32 {
-        assert_eq!(rt;
-            ends(alloc, &job, stopped)?.as_str(),
-            ENDS[stopped as usize],
-            "{stopped}"
-        );
-    }
+    let job = job_of(alloc, TWO_ADDS).expect(&rt, "a job");
+    let found = [ends(alloc, &job, 0)?, ends(alloc, &job, 1)?];
+    assert_eq!(rt; (found[0].as_str(), found[1].as_str()), (ENDS[0], ENDS[1]));
     Ok(())
 }

@@ -1,14 +1,14 @@
 //! A core, turn by turn.
 ghost use Rattle.std.specs.Prelude.{◌≡◌, ◌<◌, IfOk};
 
+use crate::jobs::job_of;
 use batcher_core::{Core, Doing, Spun, Turn};
-use job_lang::read_job;
 use std::alloc::{AllocError, Global};
 use std::test::Fail;
 
-/// The text of a job, the count of workers, and what each turn does until the job is done: `-` where no event happens,
-/// and else what its worker is doing then: `s` where it has started a leaf and made no call, `c` where it calls, and `+`
-/// for anything else; worker by worker and round by round.
+/// The text of a job, the number of workers, and a mark for each turn until the job is done, worker by worker and round
+/// by round. A turn without an event has the mark `-`. Any other turn has the mark of what its worker then does: `s`
+/// once it has started a leaf and made no call, `c` while it calls, and `+` for anything else.
 const TURNS: [(&[u8], u32, &str); 2] = [
     // Worker 0 waits while worker 1 serves both calls, and has no event once it has arrived.
     (
@@ -54,23 +54,32 @@ fn trace(alloc: Global, core: &mut Core) -> Result<String, AllocError> {
     Ok(marks)
 }
 
+/// Whether the root is ready before these events and nothing after them, and the core is over then.
+fn does(alloc: Global, core: &mut Core, marks: &str) -> Result<bool, AllocError> {
+    let opened = core.ready(0) == [0].as_slice();
+    let traced = trace(alloc, core)?.as_str() == marks;
+    Ok(opened && traced && core.ready(0).is_empty() && core.is_over())
+}
+
+/// Whether a job's turns do these events, and its report has the workers.
+fn is_run_so(alloc: Global, text: &[u8], workers: u32, marks: &str) -> Result<bool, AllocError> {
+    let Some(job) = job_of(alloc, text) else {
+        return Ok(false);
+    };
+    if workers == 0 || 32 < workers {
+        return Ok(false);
+    }
+    let mut core = Core::start(alloc, &job, workers)?;
+    if !does(alloc, &mut core, marks)? || !core.is_over() {
+        return Ok(false);
+    }
+    Ok(core.report(alloc)?.workers == workers)
+}
+
 #[test]
 fn turns_do_these_events(rt: HostRuntime) -> Result<(), Fail> {
-    let alloc = rt.alloc();
     for (text, workers, marks) in TURNS {
-        let Ok(job) = read_job(alloc, text) else {
-            return Ok(assert!(rt; false, "{text:?}"));
-        };
-        if job.shape().is_none() || workers == 0 || 32 < workers {
-            return Ok(assert!(rt; false, "{text:?}"));
-        }
-        let mut core = Core::start(alloc, &job, workers)?;
-        assert_eq!(rt; core.ready(0), [0].as_slice());
-        assert_eq!(rt; trace(alloc, &mut core)?.as_str(), marks);
-        assert_eq!(rt; core.ready(0).len(), 0);
-        if core.is_over() {
-            assert_eq!(rt; core.report(alloc)?.workers, workers);
-        }
+        assert!(rt; is_run_so(rt.alloc(), text, workers, marks)?);
     }
     Ok(())
 }

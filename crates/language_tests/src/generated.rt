@@ -1,4 +1,4 @@
-//! Generated jobs: their canonical texts, worked out by hand from the rules, and the numbers of a job of the most calls.
+//! Generated jobs: their canonical texts, worked out by hand from the rules, and the size of the largest job.
 use job_lang::{generate, read_job, write_job};
 use std::alloc::{AllocError, Global};
 use std::test::Fail;
@@ -47,15 +47,20 @@ fn text(alloc: Global, seed: u64, size: u32) -> Result<Vec<u8>, AllocError> {
     write_job(alloc, &job)
 }
 
+/// The place of the first seed that gives another job, if there is one.
+fn first_other(alloc: Global) -> Result<Option<usize>, AllocError> {
+    for (place, row) in JOBS.iter().enumerate() {
+        let (seed, size, wanted) = *row;
+        if text(alloc, seed, size)?.as_slice() != wanted.as_bytes() {
+            return Ok(Some(place));
+        }
+    }
+    Ok(None)
+}
+
 #[test]
 fn seeds_give_these_jobs(rt: HostRuntime) -> Result<(), Fail> {
-    for (seed, size, expected) in JOBS {
-        assert_eq!(rt;
-            text(rt.alloc(), seed, size)?.as_slice(),
-            expected.as_bytes(),
-            "{seed} {size}"
-        );
-    }
+    assert_eq!(rt; first_other(rt.alloc())?, None);
     Ok(())
 }
 

@@ -1,6 +1,8 @@
-//! Tests of the job language, of plans and of the edge of a program, from outside: which job or which fault some texts have,
-//! as `job_lang` reads and writes them, the jobs that some seeds give, the plan of a small job, written out by hand from the
-//! rules of `sp_order`, and a program over two files that `program_io` runs.
+//! Tests of the job language, of plans and of the edge of a program, through their public calls alone.
+//!
+//! The tables have texts with the job or the fault that `job_lang` finds in them, seeds with the jobs that they give,
+//! the plan of a small job, written out by hand from the rules of `sp_order`, and the runs of a program over two files
+//! by `program_io`.
 #![tactic(auto)]
 
 #[cfg(test)]

@@ -7,7 +7,7 @@ ghost use Rattle.program_io.specs.Lines.{told_text};
 use bt_io::{MemShelf, MemSink, ReadErr, Shelf};
 use decimals::decimal_in;
 use program_io::{End, Line, Program, Stop, read_file, run_program};
-use std::alloc::Global;
+use std::alloc::{AllocError, Global};
 use std::test::Fail;
 
 /// Why a file gives no number.
@@ -109,6 +109,14 @@ fn number_of(end: End<Refusal>) -> u8 {
     }
 }
 
+/// The shelf of the files `a`, which holds 7, and `b`, where one call fails.
+fn shelf_of(alloc: Global, second: &[u8], fails: u64) -> Result<MemShelf, AllocError> {
+    let mut files = Vec::new(alloc);
+    files.push(("a".to_string(alloc)?, b"7".to_vec(alloc)?))?;
+    files.push(("b".to_string(alloc)?, second.to_vec(alloc)?))?;
+    Ok(MemShelf::make(files, 9, vec![in alloc; fails]?))
+}
+
 #[test]
 fn a_program_over_two_files_ends_so(rt: HostRuntime) -> Result<(), Fail> {
     let program = Greater {
@@ -116,10 +124,7 @@ fn a_program_over_two_files_ends_so(rt: HostRuntime) -> Result<(), Fail> {
         second: "b",
     };
     for (second, fails, room, number, taken) in RUNS {
-        let mut files = Vec::new(rt.alloc());
-        files.push(("a".to_string(rt.alloc())?, b"7".to_vec(rt.alloc())?))?;
-        files.push(("b".to_string(rt.alloc())?, second.to_vec(rt.alloc())?))?;
-        let mut shelf = MemShelf::make(files, 9, vec![in rt.alloc(); fails]?);
+        let mut shelf = shelf_of(rt.alloc(), second, fails)?;
         let mut out = MemSink::make(rt.alloc(), room, 1, Vec::new(rt.alloc()))?;
         let mut err = MemSink::make(rt.alloc(), 99, 99, Vec::new(rt.alloc()))?;
         let ran = run_program(rt.alloc(), &program, &mut shelf, &mut out, &mut err);

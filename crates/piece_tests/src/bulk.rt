@@ -1,5 +1,6 @@
 //! The set whose calls carry many keys, in one thread and in several.
 
+use crate::script::{Script, Served, first_wrong};
 use bulk_calls::{BulkCall, BulkKind, BulkOp, BulkSet, Replies, in_batch_order};
 use std::alloc::{AllocError, Global};
 use std::collections::BTreeSet;
@@ -79,28 +80,11 @@ const WIDE: [Row; 3] = [
     (&[(FIND, &[170, 20, 90, 175])], "yes yes no yes"),
 ];
 
-/// An operation with the first 64 of these keys.
-fn operation_of(kind: BulkKind, keys: &[u32]) -> BulkOp {
-    let mut operation = BulkOp::new(kind);
-    for key in keys {
-        if operation.keys().len() < 64 {
-            operation.push(*key);
-        }
+/// Appends the answers of one reply in words, behind those of another where there is one.
+fn push_answers(words: &mut String, first: bool, answers: &[bool]) -> Result<(), AllocError> {
+    if !first {
+        words.push_str("; ")?;
     }
-    operation
-}
-
-/// The operations of a row.
-fn operations_of(alloc: Global, calls: &[(BulkKind, &[u32])]) -> Result<Vec<BulkOp>, AllocError> {
-    let mut operations = Vec::new(alloc);
-    for (kind, keys) in calls {
-        operations.push(operation_of(*kind, keys))?;
-    }
-    Ok(operations)
-}
-
-/// Appends answers in words.
-fn push_answers(words: &mut String, answers: &[bool]) -> Result<(), AllocError> {
     for (place, answer) in answers.iter().enumerate() {
         if place > 0 {
             words.push(' ')?;
@@ -110,69 +94,71 @@ fn push_answers(words: &mut String, answers: &[bool]) -> Result<(), AllocError> 
     Ok(())
 }
 
-/// Replies in words.
-fn words_of(alloc: Global, replies: &[Replies]) -> Result<String, AllocError> {
-    let mut words = String::new(alloc);
+/// Appends replies in words.
+fn push_replies(words: &mut String, replies: &[Replies]) -> Result<(), AllocError> {
     for (place, reply) in replies.iter().enumerate() {
-        if place > 0 {
-            words.push_str("; ")?;
-        }
-        push_answers(&mut words, reply.answers())?;
+        push_answers(words, place == 0, reply.answers())?;
     }
-    Ok(words)
+    Ok(())
 }
 
-/// A batch served in at most `threads` threads, or in as many as the set chooses where that is 0.
-fn served<R: Threads + Sync>(
-    rt: &R,
-    alloc: Global,
-    threads: usize,
-    set: BulkSet,
-    operations: &[BulkOp],
-) -> Result<(BulkSet, String), AllocError> {
-    if operations.len() > 32 {
-        return Ok((set, String::new(alloc)));
+impl Served for BulkSet {
+    type Operation = BulkOp;
+
+    fn empty(alloc: Global) -> Result<BulkSet, AllocError> {
+        BulkSet::new(alloc)
     }
-    let calls = in_batch_order(alloc, operations)?;
-    let (next, replies) = if threads == 0 {
-        set.batch(rt, alloc, &calls)?
-    } else {
-        set.batch_in_threads(rt, alloc, &calls, threads)?
-    };
-    Ok((next, words_of(alloc, &replies)?))
+
+    fn serve<R: Threads + Sync>(
+        self,
+        rt: &R,
+        alloc: Global,
+        threads: usize,
+        operations: &[BulkOp],
+        words: &mut String,
+    ) -> Result<BulkSet, AllocError> {
+        if operations.len() > 32 {
+            return Ok(self);
+        }
+        let calls = in_batch_order(alloc, operations)?;
+        let (next, replies) = if threads == 0 {
+            self.batch(rt, alloc, &calls)?
+        } else {
+            self.batch_in_threads(rt, alloc, &calls, threads)?
+        };
+        push_replies(words, &replies)?;
+        Ok(next)
+    }
 }
 
-/// The place of the first row whose replies differ, if there is one, where an empty set serves the rows one after
-/// another.
-fn first_wrong<R: Threads + Sync>(
-    rt: &R,
-    alloc: Global,
-    threads: usize,
-    rows: &[Row],
-) -> Result<Option<usize>, AllocError> {
-    let mut set = BulkSet::new(alloc)?;
-    for (place, row) in rows.iter().enumerate() {
-        let (calls, wanted) = *row;
-        let operations = operations_of(alloc, calls)?;
-        let (next, words) = served(rt, alloc, threads, set, &operations)?;
-        set = next;
-        if words.as_str() != wanted {
-            return Ok(Some(place));
-        }
+/// Adds a key to an operation that has fewer than 64.
+fn push_key(operation: &mut BulkOp, key: u32) {
+    if operation.keys().len() < 64 {
+        operation.push(key);
     }
-    Ok(None)
+}
+
+/// The operations of a row.
+fn operations_of(alloc: Global, calls: &[(BulkKind, &[u32])]) -> Result<Vec<BulkOp>, AllocError> {
+    let mut operations = Vec::new(alloc);
+    for (kind, keys) in calls {
+        let mut operation = BulkOp::new(*kind);
+        for key in keys.iter() {
+            push_key(&mut operation, *key);
+        }
+        operations.push(operation)?;
+    }
+    Ok(operations)
 }
 
 #[test]
 fn threads_make_no_difference(rt: HostRuntime) -> Result<(), Fail> {
-    for threads in [0, 1, 2, 3, 16, 100] {
-        for rows in [FEW.as_slice(), WIDE.as_slice()] {
-            assert_eq!(rt;
-                first_wrong(&rt, rt.alloc(), threads, rows)?,
-                None,
-                "{threads}"
-            );
+    for rows in [FEW.as_slice(), WIDE.as_slice()] {
+        let mut script = Script::new(rt.alloc());
+        for (calls, replies) in rows {
+            script.add(operations_of(rt.alloc(), calls)?, replies)?;
         }
+        assert_eq!(rt; first_wrong::<BulkSet, _>(&rt, rt.alloc(), &script)?, None);
     }
     Ok(())
 }
@@ -193,9 +179,7 @@ fn random_operation(state: &mut u64) -> BulkOp {
         _ => INSERT,
     });
     for _ in 0..next_number(state) % 64 + 1 {
-        if operation.keys().len() < 64 {
-            operation.push(next_number(state) % 3000);
-        }
+        push_key(&mut operation, next_number(state) % 3000);
     }
     operation
 }
@@ -209,52 +193,60 @@ fn random_operations(alloc: Global, state: &mut u64) -> Result<Vec<BulkOp>, Allo
     Ok(operations)
 }
 
-/// Appends what a sorted set of std answers to the finds, or to the other operations, by worker.
-fn push_expected(
-    words: &mut String,
+/// What a sorted set of std answers to an operation.
+fn answers_sorted(
+    alloc: Global,
+    keys: &mut BTreeSet<u32>,
+    operation: &BulkOp,
+) -> Result<Vec<bool>, AllocError> {
+    let mut answers = Vec::new(alloc);
+    for key in operation.keys() {
+        let answer = match operation.kind() {
+            BulkKind::Insert => keys.insert(*key)?,
+            BulkKind::Remove => keys.remove(key),
+            BulkKind::Find => keys.contains(key),
+        };
+        answers.push(answer)?;
+    }
+    Ok(answers)
+}
+
+/// What it answers to a batch, in words: to the finds by worker, and then to the other operations.
+fn words_sorted(
+    alloc: Global,
     keys: &mut BTreeSet<u32>,
     operations: &[BulkOp],
-    find: bool,
-) -> Result<(), AllocError> {
-    for operation in operations {
-        if matches!(operation.kind(), BulkKind::Find) == find {
-            if !words.is_empty() {
-                words.push_str("; ")?;
-            }
-            for (place, key) in operation.keys().iter().enumerate() {
-                if place > 0 {
-                    words.push(' ')?;
-                }
-                let answer = match operation.kind() {
-                    BulkKind::Insert => keys.insert(*key)?,
-                    BulkKind::Remove => keys.remove(key),
-                    BulkKind::Find => keys.contains(key),
-                };
-                words.push_str(if answer { "yes" } else { "no" })?;
+) -> Result<String, AllocError> {
+    let mut words = String::new(alloc);
+    for find in [true, false] {
+        for operation in operations {
+            if matches!(operation.kind(), BulkKind::Find) == find {
+                let answers = answers_sorted(alloc, keys, operation)?;
+                let first = words.is_empty();
+                push_answers(&mut words, first, &answers)?;
             }
         }
     }
-    Ok(())
+    Ok(words)
+}
+
+/// 24 batches that look random, with the answers of the sorted set.
+fn all_random(alloc: Global) -> Result<Script<BulkOp>, AllocError> {
+    let mut script = Script::new(alloc);
+    let mut keys = BTreeSet::new(alloc);
+    let mut state = 20;
+    for _ in 0..24u32 {
+        let operations = random_operations(alloc, &mut state)?;
+        let words = words_sorted(alloc, &mut keys, &operations)?;
+        script.add(operations, words.as_str())?;
+    }
+    Ok(script)
 }
 
 #[test]
 fn random_batches_are_served_as_a_sorted_set_serves_them(rt: HostRuntime) -> Result<(), Fail> {
-    let mut state = 20;
-    let mut alone = BulkSet::new(rt.alloc())?;
-    let mut spread = BulkSet::new(rt.alloc())?;
-    let mut keys = BTreeSet::new(rt.alloc());
-    for batch in 0..24u32 {
-        let operations = random_operations(rt.alloc(), &mut state)?;
-        let mut wanted = String::new(rt.alloc());
-        push_expected(&mut wanted, &mut keys, &operations, true)?;
-        push_expected(&mut wanted, &mut keys, &operations, false)?;
-        let (next, words) = served(&rt, rt.alloc(), 1, alone, &operations)?;
-        alone = next;
-        assert_eq!(rt; words, wanted, "{batch}");
-        let (next, words) = served(&rt, rt.alloc(), 16, spread, &operations)?;
-        spread = next;
-        assert_eq!(rt; words, wanted, "{batch}");
-    }
+    let script = all_random(rt.alloc())?;
+    assert_eq!(rt; first_wrong::<BulkSet, _>(&rt, rt.alloc(), &script)?, None);
     Ok(())
 }
 
@@ -264,34 +256,40 @@ fn all_keys(alloc: Global, kind: BulkKind) -> Result<Vec<BulkOp>, AllocError> {
     for worker in 0..32u32 {
         let mut operation = BulkOp::new(kind);
         for place in 0..64u32 {
-            if operation.keys().len() < 64 {
-                operation.push(64 * worker + place);
-            }
+            push_key(&mut operation, 64 * worker + place);
         }
         operations.push(operation)?;
     }
     Ok(operations)
 }
 
+/// 2,048 equal answers in words.
+fn all_answers(alloc: Global, answer: bool) -> Result<String, AllocError> {
+    let mut words = String::new(alloc);
+    for worker in 0..32u32 {
+        push_answers(&mut words, worker == 0, &[answer; 64])?;
+    }
+    Ok(words)
+}
+
+/// The kind of each batch of 2,048 keys, and what every key is answered.
+const FULL: [(BulkKind, bool); 6] = [
+    (FIND, false),
+    (INSERT, true),
+    (INSERT, false),
+    (FIND, true),
+    (REMOVE, true),
+    (FIND, false),
+];
+
 #[test]
 fn a_batch_has_room_for_2048_keys(rt: HostRuntime) -> Result<(), Fail> {
-    let mut set = BulkSet::new(rt.alloc())?;
-    for (kind, answer) in [
-        (FIND, "no"),
-        (INSERT, "yes"),
-        (INSERT, "no"),
-        (FIND, "yes"),
-        (REMOVE, "yes"),
-        (FIND, "no"),
-    ] {
-        let operations = all_keys(rt.alloc(), kind)?;
-        let (next, words) = served(&rt, rt.alloc(), 0, set, &operations)?;
-        set = next;
-        assert_eq!(rt; words.split(' ').count(), 2048);
-        for word in words.split(' ') {
-            assert!(rt; word.starts_with(answer));
-        }
+    let mut script = Script::new(rt.alloc());
+    for (kind, answer) in FULL {
+        let words = all_answers(rt.alloc(), answer)?;
+        script.add(all_keys(rt.alloc(), kind)?, words.as_str())?;
     }
+    assert_eq!(rt; first_wrong::<BulkSet, _>(&rt, rt.alloc(), &script)?, None);
     Ok(())
 }
 
@@ -302,14 +300,14 @@ fn a_literal_call_has_its_keys_in_front(rt: HostRuntime) -> Result<(), Fail> {
         keys: [8; 64],
         count: 2,
     };
-    let calls = vec![in rt.alloc();
-        BulkCall {
-            worker: 40,
-            what: &what
-        },
-    ]?;
+    let calls = [BulkCall {
+        worker: 40,
+        what: &what,
+    }];
     let set = BulkSet::new(rt.alloc())?;
     let (_set, replies) = set.batch(&rt, rt.alloc(), &calls)?;
-    assert_eq!(rt; words_of(rt.alloc(), &replies)?.as_str(), "yes no");
+    let mut words = String::new(rt.alloc());
+    push_replies(&mut words, &replies)?;
+    assert_eq!(rt; words.as_str(), "yes no");
     Ok(())
 }

@@ -17,4 +17,6 @@ mod queue;
 #[cfg(test)]
 mod ranks;
 #[cfg(test)]
+mod script;
+#[cfg(test)]
 mod words;

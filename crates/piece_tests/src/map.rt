@@ -1,12 +1,42 @@
 //! The map, in one thread and in several, and beside a sorted list.
 ghost use Rattle.std.specs.Prelude.{◌≤◌, length};
 
-use crate::words::words_of;
-use batched_map::{MapCall, MapOp, RankBook, in_batch_order};
+use crate::script::{Script, Served, first_wrong};
+use crate::words::push_words;
+use batched_map::{MapOp, RankBook, in_batch_order};
 use seq_objects::Reply;
 use std::alloc::{AllocError, Global};
 use std::test::Fail;
 use std::thread::Threads;
+
+impl Served for RankBook {
+    type Operation = MapOp;
+
+    fn empty(alloc: Global) -> Result<RankBook, AllocError> {
+        RankBook::new(alloc)
+    }
+
+    fn serve<R: Threads + Sync>(
+        self,
+        rt: &R,
+        alloc: Global,
+        threads: usize,
+        operations: &[MapOp],
+        words: &mut String,
+    ) -> Result<RankBook, AllocError> {
+        if operations.len() > 32 {
+            return Ok(self);
+        }
+        let calls = in_batch_order(alloc, operations)?;
+        let (next, replies) = if threads == 0 {
+            self.batch(rt, alloc, &calls)?
+        } else {
+            self.batch_in_threads(rt, alloc, &calls, threads)?
+        };
+        push_words(words, &replies)?;
+        Ok(next)
+    }
+}
 
 /// The operations of a batch by worker, and the replies in batch order.
 type Row = (&'static [MapOp], &'static str);
@@ -155,64 +185,17 @@ empty empty empty empty empty empty empty empty empty empty",
     ),
 ];
 
-/// The map after the calls, and their replies: in at most `threads` threads, or in as many as the map chooses where
-/// that is 0.
-fn served<R: Threads + Sync>(
-    rt: &R,
-    alloc: Global,
-    threads: usize,
-    book: RankBook,
-    operations: &[MapOp],
-) -> Result<(RankBook, Vec<Reply>), AllocError>
-    requires { length operations.now ≤ 32 }
-{
-    let calls = in_batch_order(alloc, operations)?;
-    if threads == 0 {
-        book.batch(rt, alloc, &calls)
-    } else {
-        book.batch_in_threads(rt, alloc, &calls, threads)
-    }
-}
-
-/// The place of the first row whose replies differ, if there is one, where an empty map serves the rows one after
-/// another.
-fn first_wrong<R: Threads + Sync>(
-    rt: &R,
-    alloc: Global,
-    threads: usize,
-    rows: &[Row],
-) -> Result<Option<usize>, AllocError> {
-    let mut book = RankBook::new(alloc)?;
-    for (place, row) in rows.iter().enumerate() {
-        let (operations, wanted) = *row;
-        if operations.len() > 32 {
-            return Ok(Some(place));
-        }
-        let (next, replies) = served(rt, alloc, threads, book, operations)?;
-        book = next;
-        if words_of(alloc, &replies)?.as_str() != wanted {
-            return Ok(Some(place));
-        }
-    }
-    Ok(None)
-}
-
 #[test]
 fn threads_make_no_difference(rt: HostRuntime) -> Result<(), Fail> {
-    for threads in [0, 1, 2, 3, 16, 100] {
-        for rows in [
-            FEW.as_slice(),
-            KEYLESS.as_slice(),
-            ORDERED.as_slice(),
-            EDGES.as_slice(),
-            RANGES.as_slice(),
-        ] {
-            assert_eq!(rt;
-                first_wrong(&rt, rt.alloc(), threads, rows)?,
-                None,
-                "{threads}"
-            );
-        }
+    for rows in [
+        FEW.as_slice(),
+        KEYLESS.as_slice(),
+        ORDERED.as_slice(),
+        EDGES.as_slice(),
+        RANGES.as_slice(),
+    ] {
+        let script = Script::of(rt.alloc(), rows)?;
+        assert_eq!(rt; first_wrong::<RankBook, _>(&rt, rt.alloc(), &script)?, None);
     }
     Ok(())
 }
@@ -247,7 +230,10 @@ fn serve_sorted(pairs: &mut Vec<(u32, u32)>, operation: MapOp) -> Result<Reply, 
         }
         MapOp::Rank(_) => return Ok(Reply::Number(place as u64)),
         MapOp::Nth(index) => {
-            return Ok(Reply::number_or_empty(pairs.get(index as usize).map(|pair| pair.0)));
+            return Ok(match pairs.get(index as usize) {
+                Some(pair) => Reply::Number(u64::from(pair.0)),
+                None => Reply::Empty,
+            });
         }
         MapOp::Del(_) | MapOp::Get(_) => {}
     }
@@ -278,41 +264,50 @@ fn operation_of(random: u64) -> MapOp {
     }
 }
 
-/// The replies of the sorted list to calls, one after another.
-fn replies_sorted(
+/// The operations of 32 workers.
+fn random_operations(alloc: Global, state: &mut u64) -> Result<Vec<MapOp>, AllocError> {
+    let mut operations = Vec::new(alloc);
+    for _ in 0..32u32 {
+        *state = next_random(*state);
+        operations.push(operation_of(*state))?;
+    }
+    Ok(operations)
+}
+
+/// The words of the sorted list's replies to a batch.
+fn words_sorted(
     alloc: Global,
     pairs: &mut Vec<(u32, u32)>,
-    calls: &[MapCall],
-) -> Result<Vec<Reply>, AllocError> {
+    operations: &[MapOp],
+) -> Result<String, AllocError> {
+    let mut words = String::new(alloc);
+    if operations.len() > 32 {
+        return Ok(words);
+    }
     let mut replies = Vec::new(alloc);
-    for call in calls {
+    for call in &in_batch_order(alloc, operations)? {
         replies.push(serve_sorted(pairs, call.what)?)?;
     }
-    Ok(replies)
+    push_words(&mut words, &replies)?;
+    Ok(words)
+}
+
+/// A hundred batches that look random, with the replies of the sorted list.
+fn all_random(alloc: Global) -> Result<Script<MapOp>, AllocError> {
+    let mut script = Script::new(alloc);
+    let mut pairs = Vec::new(alloc);
+    let mut state = 46;
+    for _ in 0..100u32 {
+        let operations = random_operations(alloc, &mut state)?;
+        let words = words_sorted(alloc, &mut pairs, &operations)?;
+        script.add(operations, words.as_str())?;
+    }
+    Ok(script)
 }
 
 #[test]
 fn random_batches_are_those_of_a_sorted_list(rt: HostRuntime) -> Result<(), Fail> {
-    for threads in [1, 16] {
-        let mut book = RankBook::new(rt.alloc())?;
-        let mut pairs = Vec::new(rt.alloc());
-        let mut state = 46;
-        for batch in 0..100u32 {
-            let mut operations = [MapOp::Nth(0); 32];
-            for operation in operations.iter_mut() {
-                state = next_random(state);
-                *operation = operation_of(state);
-            }
-            let calls = in_batch_order(rt.alloc(), &operations)?;
-            let wanted = replies_sorted(rt.alloc(), &mut pairs, &calls)?;
-            let (next, replies) = served(&rt, rt.alloc(), threads, book, &operations)?;
-            book = next;
-            assert_eq!(rt;
-                words_of(rt.alloc(), &replies)?,
-                words_of(rt.alloc(), &wanted)?,
-                "batch {batch}"
-            );
-        }
-    }
+    let script = all_random(rt.alloc())?;
+    assert_eq!(rt; first_wrong::<RankBook, _>(&rt, rt.alloc(), &script)?, None);
     Ok(())
 }

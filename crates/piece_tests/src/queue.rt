@@ -1,11 +1,41 @@
 //! The queue, in one thread and in several.
 
-use crate::words::words_of;
+use crate::script::{Script, Served, first_wrong};
+use crate::words::{push_words, words_of};
 use batched_queue::{FifoQueue, in_batch_order};
 use seq_objects::Reply;
 use std::alloc::{AllocError, Global};
 use std::test::Fail;
 use std::thread::Threads;
+
+impl Served for FifoQueue {
+    type Operation = Option<u32>;
+
+    fn empty(alloc: Global) -> Result<FifoQueue, AllocError> {
+        FifoQueue::new(alloc)
+    }
+
+    fn serve<R: Threads + Sync>(
+        self,
+        rt: &R,
+        alloc: Global,
+        threads: usize,
+        operations: &[Option<u32>],
+        words: &mut String,
+    ) -> Result<FifoQueue, AllocError> {
+        if operations.len() > 32 {
+            return Ok(self);
+        }
+        let calls = in_batch_order(alloc, operations)?;
+        let (next, replies) = if threads == 0 {
+            self.batch(rt, alloc, &calls)?
+        } else {
+            self.batch_in_threads(rt, alloc, &calls, threads)?
+        };
+        push_words(words, &replies)?;
+        Ok(next)
+    }
+}
 
 /// The operations of a batch by worker, a put or a get, and the replies in batch order.
 type Row = (&'static [Option<u32>], &'static str);
@@ -99,74 +129,49 @@ const FULL: [Row; 2] = [
     (&[GET, GET, GET], "16 17 empty"),
 ];
 
-/// The place of the first row whose replies differ, if there is one, where an empty queue serves the rows one after
-/// another: in at most `threads` threads, or in as many as the queue chooses where that is 0.
-fn first_wrong<R: Threads + Sync>(
-    rt: &R,
-    alloc: Global,
-    threads: usize,
-    rows: &[Row],
-) -> Result<Option<usize>, AllocError> {
-    let mut queue = FifoQueue::new(alloc)?;
-    for (place, row) in rows.iter().enumerate() {
-        let (operations, wanted) = *row;
-        if operations.len() > 32 {
-            return Ok(Some(place));
-        }
-        let calls = in_batch_order(alloc, operations)?;
-        let (next, replies) = if threads == 0 {
-            queue.batch(rt, alloc, &calls)?
-        } else {
-            queue.batch_in_threads(rt, alloc, &calls, threads)?
-        };
-        queue = next;
-        if words_of(alloc, &replies)?.as_str() != wanted {
-            return Ok(Some(place));
-        }
-    }
-    Ok(None)
-}
-
 #[test]
 fn threads_make_no_difference(rt: HostRuntime) -> Result<(), Fail> {
-    for threads in [0, 1, 2, 3, 16, 100] {
-        for rows in [FEW.as_slice(), ROUND.as_slice(), FULL.as_slice()] {
-            assert_eq!(rt;
-                first_wrong(&rt, rt.alloc(), threads, rows)?,
-                None,
-                "{threads}"
-            );
-        }
+    for rows in [FEW.as_slice(), ROUND.as_slice(), FULL.as_slice()] {
+        let script = Script::of(rt.alloc(), rows)?;
+        assert_eq!(rt;
+            first_wrong::<FifoQueue, _>(&rt, rt.alloc(), &script)?,
+            None
+        );
     }
     Ok(())
 }
 
-/// The queue after a batch that makes one operation 32 times, and the replies.
-fn after<R: Threads + Sync>(
-    rt: &R,
+/// Appends a batch that makes one operation 32 times, each with the same reply.
+fn add_same(
     alloc: Global,
-    queue: FifoQueue,
+    script: &mut Script<Option<u32>>,
     operation: Option<u32>,
-) -> Result<(FifoQueue, String), AllocError> {
-    let calls = in_batch_order(alloc, &[operation; 32])?;
-    let (next, replies) = queue.batch(rt, alloc, &calls)?;
-    Ok((next, words_of(alloc, &replies)?))
+    reply: Reply,
+) -> Result<(), AllocError> {
+    let operations = [operation; 32].to_vec(alloc)?;
+    let words = words_of(alloc, &[reply; 32])?;
+    script.add(operations, words.as_str())
+}
+
+/// A hundred batches of puts, a hundred of gets, and one that finds the queue empty.
+fn all_round(alloc: Global) -> Result<Script<Option<u32>>, AllocError> {
+    let mut script = Script::new(alloc);
+    for number in 0..100 {
+        add_same(alloc, &mut script, Some(number), Reply::Unit)?;
+    }
+    for number in 0..100u32 {
+        add_same(alloc, &mut script, GET, Reply::Number(u64::from(number)))?;
+    }
+    add_same(alloc, &mut script, GET, Reply::Empty)?;
+    Ok(script)
 }
 
 #[test]
 fn a_queue_grows_and_gives_its_memory_back(rt: HostRuntime) -> Result<(), Fail> {
-    let mut queue = FifoQueue::new(rt.alloc())?;
-    for number in 0..100u32 {
-        let (next, _oks) = after(&rt, rt.alloc(), queue, Some(number))?;
-        queue = next;
-    }
-    for number in 0..100u32 {
-        let (next, numbers) = after(&rt, rt.alloc(), queue, GET)?;
-        queue = next;
-        let wanted = words_of(rt.alloc(), &[Reply::Number(u64::from(number)); 32])?;
-        assert_eq!(rt; numbers, wanted, "{number}");
-    }
-    let (_queue, empties) = after(&rt, rt.alloc(), queue, GET)?;
-    assert!(rt; empties.starts_with("empty empty"));
+    let script = all_round(rt.alloc())?;
+    assert_eq!(rt;
+        first_wrong::<FifoQueue, _>(&rt, rt.alloc(), &script)?,
+        None
+    );
     Ok(())
 }

@@ -3,19 +3,58 @@ ghost use Rattle.std.specs.Prelude.{◌<◌, IfOk};
 ghost use Rattle.rank_nodes.specs.Maps.{AllBelow};
 
 use rank_tree::RankTree;
+use seq_objects::Reply;
 use std::alloc::{AllocError, Global};
 use std::collections::BTreeMap;
+use std::fmt::Write;
 use std::test::Fail;
 
-/// The keys of a tree by their indices.
-fn keys_of(alloc: Global, tree: &RankTree) -> Result<Vec<u32>, AllocError> {
-    let mut keys = Vec::new(alloc);
-    for i in 0..tree.len() {
-        if let Some(key) = tree.nth(i) {
-            keys.push(key)?;
+/// A call of a map.
+enum Step {
+    Put(u32, u32),
+    Del(u32),
+    Get(u32),
+    Rank(u32),
+    Nth(u64),
+}
+
+/// What a map answers to a call.
+fn reply_to(map: &mut RankTree, step: &Step) -> Result<Reply, AllocError> {
+    Ok(match step {
+        Step::Put(key, val) => Reply::number_or_empty(map.put(*key, *val)?),
+        Step::Del(key) => Reply::number_or_empty(map.del(*key)),
+        Step::Get(key) => Reply::number_or_empty(map.get(*key)),
+        Step::Rank(key) => Reply::Number(map.rank(*key)),
+        Step::Nth(i) => Reply::number_or_empty(map.nth(*i)),
+    })
+}
+
+/// Makes the calls, and appends the answers, how many keys there then are, and how deep the map is.
+fn push_answers(words: &mut String, map: &mut RankTree, steps: &[Step]) -> Result<(), AllocError> {
+    for step in steps {
+        let reply = reply_to(map, step)?;
+        write!(words, "{reply} ")?;
+    }
+    write!(words, "len {} depth {};", map.len(), map.depth())?;
+    Ok(())
+}
+
+/// Appends the keys of a map by their indices.
+fn push_keys(words: &mut String, map: &RankTree) -> Result<(), AllocError> {
+    for i in 0..map.len() {
+        if let Some(key) = map.nth(i) {
+            write!(words, " {key}")?;
         }
     }
-    Ok(keys)
+    Ok(())
+}
+
+/// Appends the keys of both sides of a cut.
+fn push_sides(words: &mut String, low: &RankTree, high: &RankTree) -> Result<(), AllocError> {
+    push_keys(words, low)?;
+    words.push_str(" |")?;
+    push_keys(words, high)?;
+    words.push('\n')
 }
 
 /// The two sides of a cut, which can be joined again.
@@ -26,73 +65,134 @@ fn cut(map: RankTree, key: u32) -> Result<(RankTree, RankTree), AllocError>
     Ok(sides)
 }
 
+/// Cuts a map, appends the keys of both sides, and joins them again.
+fn rejoined(words: &mut String, map: RankTree, key: u32) -> Result<RankTree, AllocError> {
+    let (low, high) = cut(map, key)?;
+    push_sides(words, &low, &high)?;
+    RankTree::concat(low, high)
+}
+
+/// The answers of a map that was empty, where it is cut at a key after each row of calls.
+fn words_of(alloc: Global, rows: &[(&[Step], u32)]) -> Result<String, AllocError> {
+    let mut words = String::new(alloc);
+    let mut map = RankTree::new(alloc);
+    for (steps, key) in rows {
+        push_answers(&mut words, &mut map, steps)?;
+        map = rejoined(&mut words, map, *key)?;
+    }
+    Ok(words)
+}
+
+/// A map of four keys, which is asked for keys that are there and not there.
+const FOUR: [(&[Step], u32); 3] = [
+    (&[], 20),
+    (
+        &[
+            Step::Put(30, 3),
+            Step::Put(10, 1),
+            Step::Put(20, 2),
+            Step::Put(40, 4),
+            Step::Put(20, 9),
+            Step::Get(20),
+            Step::Get(25),
+            Step::Rank(20),
+            Step::Rank(25),
+            Step::Nth(1),
+            Step::Nth(4),
+        ],
+        20,
+    ),
+    (&[Step::Del(20), Step::Del(20)], 0),
+];
+
 #[test]
 fn a_map_is_cut_and_joined(rt: HostRuntime) -> Result<(), Fail> {
-    let mut map = RankTree::new(rt.alloc());
-    assert_eq!(rt; (map.len(), map.depth()), (0, 0));
-    for (key, val) in [(30, 3), (10, 1), (20, 2), (40, 4)] {
-        assert_eq!(rt; map.put(key, val)?, None, "at {key}");
-    }
-    assert_eq!(rt; (map.put(20, 9)?, map.len()), (Some(2), 4));
-    assert_eq!(rt; (map.get(20), map.get(25)), (Some(9), None));
-    assert_eq!(rt; (map.rank(20), map.rank(25)), (1, 2));
-    assert_eq!(rt; (map.nth(1), map.nth(4)), (Some(20), None));
-    let (low, high) = cut(map, 20)?;
-    assert_eq!(rt; keys_of(rt.alloc(), &low)?.as_slice(), [10].as_slice());
     assert_eq!(rt;
-        keys_of(rt.alloc(), &high)?.as_slice(),
-        [20, 30, 40].as_slice()
-    );
-    let mut map = RankTree::concat(low, high)?;
-    assert_eq!(rt; (map.del(20), map.del(20)), (Some(9), None));
-    assert_eq!(rt;
-        keys_of(rt.alloc(), &map)?.as_slice(),
-        [10, 30, 40].as_slice()
+        words_of(rt.alloc(), &FOUR)?.as_str(),
+        "len 0 depth 0; |
+empty empty empty empty 2 9 empty 1 2 20 empty len 4 depth 0; 10 | 20 30 40
+9 empty len 3 depth 0; | 10 30 40
+"
     );
     Ok(())
 }
 
+/// A map of the least key and the greatest.
+const EDGES: [(&[Step], u32); 3] = [
+    (
+        &[
+            Step::Rank(4294967295),
+            Step::Nth(0),
+            Step::Put(4294967295, 0),
+            Step::Put(0, 4294967295),
+            Step::Rank(0),
+            Step::Rank(4294967295),
+            Step::Nth(0),
+            Step::Nth(1),
+            Step::Nth(2),
+            Step::Nth(18446744073709551615),
+            Step::Get(0),
+            Step::Get(4294967295),
+        ],
+        0,
+    ),
+    (&[], 4294967295),
+    (&[Step::Del(4294967295), Step::Del(0)], 0),
+];
+
 #[test]
 fn the_least_key_and_the_greatest(rt: HostRuntime) -> Result<(), Fail> {
-    let mut map = RankTree::new(rt.alloc());
-    assert_eq!(rt; (map.rank(4294967295), map.nth(0)), (0, None));
-    assert_eq!(rt; map.put(4294967295, 0)?, None);
-    assert_eq!(rt; map.put(0, 4294967295)?, None);
-    assert_eq!(rt; (map.rank(0), map.rank(4294967295)), (0, 1));
-    assert_eq!(rt; (map.nth(0), map.nth(1)), (Some(0), Some(4294967295)));
-    assert_eq!(rt; (map.nth(2), map.nth(18446744073709551615)), (None, None));
     assert_eq!(rt;
-        (map.get(0), map.get(4294967295)),
-        (Some(4294967295), Some(0))
+        words_of(rt.alloc(), &EDGES)?.as_str(),
+        "0 empty empty empty 0 1 0 4294967295 empty empty 4294967295 0 len 2 depth 0; | 0 4294967295
+len 2 depth 0; 0 | 4294967295
+0 4294967295 len 0 depth 0; |
+"
     );
-    let (low, high) = cut(map, 0)?;
-    assert_eq!(rt; (low.len(), high.len()), (0, 2));
-    let (low, high) = cut(RankTree::concat(low, high)?, 4294967295)?;
-    assert_eq!(rt; (low.nth(0), high.nth(0)), (Some(0), Some(4294967295)));
-    let mut map = RankTree::concat(low, high)?;
-    assert_eq!(rt;
-        (map.del(4294967295), map.del(0)),
-        (Some(0), Some(4294967295))
-    );
-    assert_eq!(rt; (map.len(), map.depth()), (0, 0));
     Ok(())
+}
+
+/// Puts the keys 0, 5, .. 99,995. The first that was there, if there is one.
+fn put_all(map: &mut RankTree) -> Result<Option<u32>, AllocError> {
+    for key in 0..20000u32 {
+        if map.put(key * 5, key)?.is_some() {
+            return Ok(Some(key));
+        }
+    }
+    Ok(None)
+}
+
+/// The first of these keys that has another rank or index, if there is one.
+fn misplaced(map: &RankTree) -> Option<u32> {
+    for key in 0..20000u32 {
+        let i = u64::from(key);
+        if map.rank(key * 5) != i || map.nth(i) != Some(key * 5) {
+            return Some(key);
+        }
+    }
+    None
+}
+
+/// Removes these keys. The first that had another value, if there is one.
+fn remove_all(map: &mut RankTree) -> Option<u32> {
+    for key in 0..20000u32 {
+        if map.del(key * 5) != Some(key) {
+            return Some(key);
+        }
+    }
+    None
 }
 
 #[test]
 fn a_map_of_many_keys_is_not_deep(rt: HostRuntime) -> Result<(), Fail> {
     let mut map = RankTree::new(rt.alloc());
-    for key in 0..20000u32 {
-        assert_eq!(rt; map.put(key * 5, key)?, None, "at {key}");
-    }
-    assert!(rt; 5 <= map.depth() && map.depth() <= 14);
-    for key in 0..20000u32 {
-        let i = u64::from(key);
-        assert_eq!(rt; (map.rank(key * 5), map.nth(i)), (i, Some(key * 5)));
-    }
-    for key in 0..20000u32 {
-        assert_eq!(rt; map.del(key * 5), Some(key), "at {key}");
-    }
-    assert_eq!(rt; (map.len(), map.depth()), (0, 0));
+    let there = put_all(&mut map)?;
+    let depth = map.depth();
+    let wrong = (there, misplaced(&map), remove_all(&mut map));
+    assert_eq!(rt;
+        (wrong, 5 <= depth && depth <= 14, map.len(), map.depth()),
+        ((None, None, None), true, 0, 0)
+    );
     Ok(())
 }
 
@@ -116,26 +216,63 @@ fn is_same(tree: &RankTree, map: &BTreeMap<u32, u32>) -> bool {
     tree.len() == i && tree.nth(i).is_none()
 }
 
-/// Pseudorandom calls, beside the ordered map of std: many more puts than removals, and then more removals.
-#[test]
-fn a_map_is_that_of_std(rt: HostRuntime) -> Result<(), Fail> {
-    let mut tree = RankTree::new(rt.alloc());
-    let mut map = BTreeMap::new(rt.alloc());
-    let mut state = 1;
-    for turn in 0..9000u32 {
-        let key = next_number(&mut state);
-        if next_number(&mut state) < (if turn < 5000 { 1500 } else { 500 }) {
-            assert_eq!(rt; tree.put(key, turn)?, map.insert(key, turn)?, "at {turn}");
-        } else {
-            assert_eq!(rt; tree.del(key), map.remove(&key), "at {turn}");
-        }
-        if turn % 100 == 0 {
-            let (low, high) = cut(tree, key)?;
-            assert_eq!(rt; (low.get(key), high.rank(key)), (None, 0), "at {turn}");
-            tree = RankTree::concat(low, high)?;
-            assert!(rt; is_same(&tree, &map), "at {turn}");
+/// Whether a pseudorandom call, a put where a number is below `puts` and else a removal, is answered alike.
+fn is_alike(
+    tree: &mut RankTree,
+    map: &mut BTreeMap<u32, u32>,
+    state: &mut u32,
+    puts: u32,
+) -> Result<bool, AllocError> {
+    let key = next_number(state);
+    if next_number(state) < puts {
+        Ok(tree.put(key, *state)? == map.insert(key, *state)?)
+    } else {
+        Ok(tree.del(key) == map.remove(&key))
+    }
+}
+
+/// Whether a hundred calls are answered alike.
+fn are_alike(
+    tree: &mut RankTree,
+    map: &mut BTreeMap<u32, u32>,
+    state: &mut u32,
+    puts: u32,
+) -> Result<bool, AllocError> {
+    for _ in 0..100u32 {
+        if !is_alike(tree, map, state, puts)? {
+            return Ok(false);
         }
     }
-    assert!(rt; is_same(&tree, &map));
+    Ok(true)
+}
+
+/// The tree after a cut and a join, and whether each side had its keys alone.
+fn cut_apart(tree: RankTree, key: u32) -> Result<(RankTree, bool), AllocError> {
+    let (low, high) = cut(tree, key)?;
+    let apart = low.get(key).is_none() && high.rank(key) == 0;
+    Ok((RankTree::concat(low, high)?, apart))
+}
+
+/// The first hundred calls that the ordered map of std answers otherwise, or after which a cut or a key is wrong, if
+/// there are any: many more puts than removals, and then more removals.
+fn first_unlike(alloc: Global) -> Result<Option<u32>, AllocError> {
+    let mut tree = RankTree::new(alloc);
+    let mut map = BTreeMap::new(alloc);
+    let mut state = 1;
+    for hundred in 0..90u32 {
+        let puts = if hundred < 50 { 1500 } else { 500 };
+        let alike = are_alike(&mut tree, &mut map, &mut state, puts)?;
+        let (next, apart) = cut_apart(tree, next_number(&mut state))?;
+        tree = next;
+        if !alike || !apart || !is_same(&tree, &map) {
+            return Ok(Some(hundred));
+        }
+    }
+    Ok(None)
+}
+
+#[test]
+fn a_map_is_that_of_std(rt: HostRuntime) -> Result<(), Fail> {
+    assert_eq!(rt; first_unlike(rt.alloc())?, None);
     Ok(())
 }

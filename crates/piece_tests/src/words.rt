@@ -4,14 +4,20 @@ use seq_objects::Reply;
 use std::alloc::{AllocError, Global};
 use std::fmt::Write;
 
-/// The words of replies, separated by spaces.
-pub(crate) fn words_of(alloc: Global, replies: &[Reply]) -> Result<String, AllocError> {
-    let mut words = String::new(alloc);
-    for reply in replies {
-        if !words.is_empty() {
+/// Appends the words of replies, separated by spaces.
+pub(crate) fn push_words(words: &mut String, replies: &[Reply]) -> Result<(), AllocError> {
+    for (place, reply) in replies.iter().enumerate() {
+        if place > 0 {
             words.push(' ')?;
         }
         write!(words, "{reply}")?;
     }
+    Ok(())
+}
+
+/// The words of replies, separated by spaces.
+pub(crate) fn words_of(alloc: Global, replies: &[Reply]) -> Result<String, AllocError> {
+    let mut words = String::new(alloc);
+    push_words(&mut words, replies)?;
     Ok(words)
 }

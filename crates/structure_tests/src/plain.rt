@@ -3,6 +3,7 @@ ghost use Rattle.std.specs.Prelude.{◌<◌, ◌≤◌, ◌+◌, ◌^◌, length
 
 use seq_objects::{Call, Op, Plain, Reply, comes_first, spin, value};
 use std::alloc::{AllocError, Global};
+use std::fmt::Write;
 use std::test::Fail;
 
 /// One row an operation, with its reply after the rows before it.
@@ -53,36 +54,57 @@ fn objects_reply_as_one_thread_has_them(rt: HostRuntime) -> Result<(), Fail> {
     Ok(())
 }
 
-const OPS: [(Op, &str); 9] = [
-    (Op::CounterAdd(4294967295), "counter add 4294967295"),
-    (Op::Push(9), "stack push 9"),
-    (Op::Pop, "stack pop"),
-    (Op::TreeInsert(0), "tree insert 0"),
-    (Op::TreeRemove(7), "tree remove 7"),
-    (Op::TreeFind(10), "tree find 10"),
-    (Op::TreeNext(6993), "tree next 6993"),
-    (Op::PqInsert(4), "queue insert 4"),
-    (Op::PqTake, "queue take"),
+const OPS: [Op; 9] = [
+    Op::CounterAdd(4294967295),
+    Op::Push(9),
+    Op::Pop,
+    Op::TreeInsert(0),
+    Op::TreeRemove(7),
+    Op::TreeFind(10),
+    Op::TreeNext(6993),
+    Op::PqInsert(4),
+    Op::PqTake,
 ];
 
-const REPLIES: [(Reply, &str, u64); 5] = [
-    (Reply::Number(4294967296), "4294967296", 4294967296),
-    (Reply::Unit, "ok", 0),
-    (Reply::Empty, "empty", 0),
-    (Reply::Yes, "yes", 1),
-    (Reply::No, "no", 0),
+const REPLIES: [Reply; 5] = [
+    Reply::Number(4294967296),
+    Reply::Unit,
+    Reply::Empty,
+    Reply::Yes,
+    Reply::No,
 ];
+
+/// A line for each of the operations, and one for each of the replies with its value.
+fn lines(alloc: Global) -> Result<String, AllocError> {
+    let mut lines = String::new(alloc);
+    for op in OPS {
+        writeln!(lines, "{op}")?;
+    }
+    for reply in REPLIES {
+        writeln!(lines, "{reply}: {}", value(reply))?;
+    }
+    Ok(lines)
+}
+
+const LINES: &str = "counter add 4294967295
+stack push 9
+stack pop
+tree insert 0
+tree remove 7
+tree find 10
+tree next 6993
+queue insert 4
+queue take
+4294967296: 4294967296
+ok: 0
+empty: 0
+yes: 1
+no: 0
+";
 
 #[test]
 fn operations_and_replies_are_written_in_words(rt: HostRuntime) -> Result<(), Fail> {
-    for (op, words) in OPS {
-        let text = format!(in rt.alloc(); "{op}")?;
-        assert_eq!(rt; text.as_str(), words);
-    }
-    for (reply, words, number) in REPLIES {
-        let text = format!(in rt.alloc(); "{reply}")?;
-        assert_eq!(rt; (text.as_str(), value(reply)), (words, number));
-    }
+    assert_eq!(rt; lines(rt.alloc())?.as_str(), LINES);
     Ok(())
 }
 
@@ -112,24 +134,28 @@ fn call_of((worker, op): (u32, Op)) -> Call {
     }
 }
 
-#[test]
-fn calls_of_one_batch_have_an_order(rt: HostRuntime) {
+/// The first two places whose calls are not in the order of the places, if there are any.
+fn first_misplaced() -> Option<(usize, usize)> {
     for first in 0..14 {
+        let a = call_of(IN_ORDER[first]);
         for second in 0..14 {
-            let a = call_of(IN_ORDER[first]);
-            let b = call_of(IN_ORDER[second]);
-            assert_eq!(rt;
-                comes_first(&a, &b),
-                first < second,
-                "at {first} and {second}"
-            );
+            if comes_first(&a, &call_of(IN_ORDER[second])) != (first < second) {
+                return Some((first, second));
+            }
         }
     }
+    None
+}
+
+#[test]
+fn calls_of_one_batch_have_an_order(rt: HostRuntime) {
+    assert_eq!(rt; first_misplaced(), None);
 }
 
 #[test]
 fn work_has_a_value(rt: HostRuntime) {
-    for (steps, end) in [(0, 0), (1, 6), (3, 406), (20, 1395749216)] {
-        assert_eq!(rt; spin(steps), end, "{steps} steps");
-    }
+    assert_eq!(rt;
+        (spin(0), spin(1), spin(3), spin(20)),
+        (0, 6, 406, 1395749216)
+    );
 }

@@ -1,5 +1,4 @@
 //! The stack and its rooms.
-ghost use Rattle.std.specs.Prelude.{◌<◌, ◌≤◌};
 
 use crate::batch::{Row, are_of, calls_of, first_wrong};
 use batched_stack::Stack;
@@ -28,49 +27,47 @@ fn pushes_come_before_pops(rt: HostRuntime) -> Result<(), Fail> {
     Ok(())
 }
 
-/// The stack after a batch of equal operations.
-fn after(alloc: Global, stack: Stack, op: Op, times: usize) -> Result<Stack, AllocError>
-    requires some { 0 < times }
-    requires few { times ≤ 32 }
-{
-    let mut ops = Vec::with_capacity(alloc, 32)?;
-    for _ in 0..times {
-        ops.push(op)?;
+/// The stack after some batches of up to 32 equal operations.
+fn after(alloc: Global, stack: Stack, batches: u32, ops: &[Op]) -> Result<Stack, AllocError> {
+    let mut stack = stack;
+    for _ in 0..batches {
+        if ops.is_empty() || ops.len() > 32 {
+            return Ok(stack);
+        }
+        let calls = calls_of(alloc, ops)?;
+        if !are_of(&calls, Op::Pop) {
+            return Ok(stack);
+        }
+        let (next, _replies) = serve_batch(alloc, stack, &calls)?;
+        stack = next;
     }
-    if ops.is_empty() || ops.len() > 32 {
-        return Ok(stack);
-    }
-    let calls = calls_of(alloc, &ops)?;
-    if !are_of(&calls, Op::Pop) {
-        return Ok(stack);
-    }
-    let (next, _replies) = serve_batch(alloc, stack, &calls)?;
-    Ok(next)
+    Ok(stack)
 }
 
-/// How many batches of how many operations come before the first stripe has a room.
-const ROOMS: [(u32, Op, usize, u64); 5] = [
-    (8, Op::Push(1), 32, 16),
-    (1, Op::Push(1), 1, 64),
-    (4, Op::Pop, 32, 64),
-    (1, Op::Pop, 1, 64),
-    (1, Op::Pop, 16, 16),
+/// How many batches of which operations come before the first stripe has a room.
+const ROOMS: [(u32, &[Op], u64); 5] = [
+    (8, &[Op::Push(1); 32], 16),
+    (1, &[Op::Push(1)], 64),
+    (4, &[Op::Pop; 32], 64),
+    (1, &[Op::Pop], 64),
+    (1, &[Op::Pop; 16], 16),
 ];
+
+/// The place of the first row after which the first stripe has another room, if there is one.
+fn first_other_room(alloc: Global) -> Result<Option<usize>, AllocError> {
+    let mut stack = Stack::new(alloc)?;
+    for (place, row) in ROOMS.iter().enumerate() {
+        let (batches, ops, room) = *row;
+        stack = after(alloc, stack, batches, ops)?;
+        if stack.rooms().first() != Some(&room) {
+            return Ok(Some(place));
+        }
+    }
+    Ok(None)
+}
 
 #[test]
 fn a_room_grows_and_shrinks_by_the_rule(rt: HostRuntime) -> Result<(), Fail> {
-    let mut stack = Stack::new(rt.alloc())?;
-    for (batches, op, times, room) in ROOMS {
-        for _ in 0..batches {
-            if 0 < times && times <= 32 {
-                stack = after(rt.alloc(), stack, op, times)?;
-            }
-        }
-        assert_eq!(rt;
-            stack.rooms().first(),
-            Some(&room),
-            "{batches} times {times}"
-        );
-    }
+    assert_eq!(rt; first_other_room(rt.alloc())?, None);
     Ok(())
 }

@@ -61,22 +61,19 @@ fn alone(alloc: Global, table: CoreTable, pass: Pass) -> bool
 
 #[test]
 fn one_of_two_passes_claims_the_root(rt: HostRuntime) -> Result<(), Fail> {
-    let alloc = rt.alloc();
-    let job = one_leaf(alloc).expect(&rt, "a job");
-    let (table, mut passes) = CoreTable::make(alloc, &job, 2).expect(&rt, "a table");
+    let job = one_leaf(rt.alloc())?;
+    let (table, mut passes) = CoreTable::make(rt.alloc(), &job, 2)?;
     let two = last_pass(&table, &mut passes).expect(&rt, "a second pass");
     let one = last_pass(&table, &mut passes).expect(&rt, "a first pass");
-    assert!(rt; tries(&table, one));
-    assert!(rt; !tries(&table, two));
+    assert_eq!(rt; (tries(&table, one), tries(&table, two)), (true, false));
     Ok(())
 }
 
 #[test]
 fn one_worker_runs_a_leaf(rt: HostRuntime) -> Result<(), Fail> {
-    let alloc = rt.alloc();
-    let job = one_leaf(alloc).expect(&rt, "a job");
-    let (table, mut passes) = CoreTable::make(alloc, &job, 2).expect(&rt, "a table");
+    let job = one_leaf(rt.alloc())?;
+    let (table, mut passes) = CoreTable::make(rt.alloc(), &job, 2)?;
     let pass = last_pass(&table, &mut passes).expect(&rt, "a pass");
-    assert!(rt; alone(alloc, table, pass));
+    assert!(rt; alone(rt.alloc(), table, pass));
     Ok(())
 }

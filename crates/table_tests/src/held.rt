@@ -17,7 +17,8 @@ fn called_at(leaf: u64, made: &[Made]) -> Option<Called> {
     None
 }
 
-/// The second leaf's call is posted while the launcher of the first leaf's is held, so it is told that there is no batch yet.
+/// The second leaf's call is posted while the launcher of the first leaf's call is held, so it is told that there is no
+/// batch yet.
 #[test]
 fn a_call_beside_a_launch_is_at_most_one_batch_later_than_told(
     rt: HostRuntime,
@@ -29,14 +30,15 @@ fn a_call_beside_a_launch_is_at_most_one_batch_later_than_told(
     let gate = AtWin::new();
     let ran = run_both(&rt, alloc, &job, usize::MAX, &gate)?;
     let (_, zero, one) = ran.expect(&rt, "a report");
-    assert!(rt; gate.wins.count() > 0 && gate.wins.missed() == 0);
-    assert!(rt; gate.posts.was_kept());
-    assert_eq!(rt; (zero.len(), one.len()), (1, 1));
+    let wins = (gate.wins.count() > 0, gate.wins.missed());
+    assert_eq!(rt;
+        (wins, gate.posts.was_kept(), zero.len(), one.len()),
+        ((true, 0), true, 1, 1)
+    );
     let leaf = gate.second_leaf();
     let called = called_at(leaf, zero.as_slice())
         .or(called_at(leaf, one.as_slice()))
         .expect(&rt, "the call of the second leaf");
-    assert_eq!(rt; called.since, 0);
-    assert!(rt; u64::from(called.receipt.batch) <= called.since + 1);
+    assert_eq!(rt; (called.since, called.receipt.batch <= 1), (0, true));
     Ok(())
 }

@@ -1,7 +1,7 @@
 //! Tests of the running table, and of the turns over it, through their public calls alone.
 //!
-//! What each call makes is proved for every table that meets the rule; the rows here show that the calls can be made one
-//! after another as their conditions ask, and that a table is made and closed with ample memory.
+//! What each call does is proved for every table that meets the rule. The tests show that calls can follow one another
+//! as their conditions ask, and that a table is made and closed with ample memory.
 #![tactic(auto)]
 
 #[cfg(test)]

@@ -85,7 +85,8 @@ fn launch_both(
     Ok(true)
 }
 
-/// Whether both workers leave with places 0 and 1 of batch 0, and end their leaves, worker 0 first; the root is done then.
+/// Whether both workers leave with places 0 and 1 of batch 0 and end their leaves, worker 0 first, and the root is then
+/// done.
 fn both_end(table: &CoreTable, zero: &mut Pass, one: &mut Pass) -> bool
     requires two { IsTwoAdds table.now }
     requires zero { HasStarted table.now 1 Out zero.old }
@@ -205,24 +206,31 @@ fn in_two_batches(
     Ok(report.history.batches().len() == 2 && has_rows(&report, [(0, 0, 2, 1), (1, 1, 3, 3)]))
 }
 
-#[test]
-fn two_calls_are_one_batch(rt: HostRuntime) -> Result<(), Fail> {
-    let alloc = rt.alloc();
+/// Whether the two calls are one batch, or two where the second is late.
+fn are_served(alloc: Global, late: bool) -> Result<bool, AllocError> {
     let job = two_adds(alloc)?;
     let (table, mut passes) = CoreTable::make(alloc, &job, 2)?;
-    let one = last_pass(&table, &mut passes).expect(&rt, "a second pass");
-    let zero = last_pass(&table, &mut passes).expect(&rt, "a first pass");
-    assert!(rt; in_one_batch(alloc, table, zero, one)?);
+    let Some(one) = last_pass(&table, &mut passes) else {
+        return Ok(false);
+    };
+    let Some(zero) = last_pass(&table, &mut passes) else {
+        return Ok(false);
+    };
+    if late {
+        in_two_batches(alloc, table, zero, one)
+    } else {
+        in_one_batch(alloc, table, zero, one)
+    }
+}
+
+#[test]
+fn two_calls_are_one_batch(rt: HostRuntime) -> Result<(), Fail> {
+    assert!(rt; are_served(rt.alloc(), false)?);
     Ok(())
 }
 
 #[test]
 fn a_late_call_comes_in_the_next_batch(rt: HostRuntime) -> Result<(), Fail> {
-    let alloc = rt.alloc();
-    let job = two_adds(alloc)?;
-    let (table, mut passes) = CoreTable::make(alloc, &job, 2)?;
-    let one = last_pass(&table, &mut passes).expect(&rt, "a second pass");
-    let zero = last_pass(&table, &mut passes).expect(&rt, "a first pass");
-    assert!(rt; in_two_batches(alloc, table, zero, one)?);
+    assert!(rt; are_served(rt.alloc(), true)?);
     Ok(())
 }

@@ -167,8 +167,10 @@ fn a_run_in_two_threads_is_replayed(rt: HostRuntime) -> Result<(), Fail> {
     let job = read_job(alloc, EIGHT).ok().expect(&rt, "a job");
     let ran = run_both(&rt, alloc, &job, usize::MAX, &NoPause)?;
     let (report, _, _) = ran.expect(&rt, "a report");
-    assert_eq!(rt; report.rows.list().len(), 200);
-    assert_eq!(rt; replay(alloc, &report)?, Some(175));
+    assert_eq!(rt;
+        (report.rows.list().len(), replay(alloc, &report)?),
+        (200, Some(175))
+    );
     Ok(())
 }
 
@@ -180,9 +182,10 @@ fn two_threads_make_a_hundred_calls_each(rt: HostRuntime) -> Result<(), Fail> {
         .expect(&rt, "a job");
     let ran = run_both(&rt, alloc, &job, 100, &NoPause)?;
     let (report, first, second) = ran.expect(&rt, "a report");
-    assert_eq!(rt; (first.len(), second.len()), (100, 100));
-    assert!(rt; are_of(&report, 0, first.as_slice()));
-    assert!(rt; are_of(&report, 1, second.as_slice()));
-    assert_eq!(rt; replay(alloc, &report)?, Some(200));
+    let receipts = (are_of(&report, 0, &first), are_of(&report, 1, &second));
+    assert_eq!(rt;
+        (first.len(), second.len(), receipts, replay(alloc, &report)?),
+        (100, 100, (true, true), Some(200))
+    );
     Ok(())
 }

@@ -32,8 +32,8 @@ impl Pause for AtPosts {
     }
 }
 
-/// The workers meet where each has posted its first call, and again where each is about to run its first piece. It notes
-/// the places of the first batch's pieces.
+/// The workers meet where each has posted its first call, and again where each is about to run its first piece. The
+/// gate records the places of the first batch's pieces.
 #[derive(Drop)]
 pub struct AtCalls {
     pub posts: Meeting,
@@ -55,9 +55,9 @@ impl AtCalls {
         }
     }
 
-    /// At how many places the first batch had a piece: counted are the places to which a worker came while the flag had been
-    /// won just once. Where the posts were kept, that win had both calls to take; and a batch's pieces have all run before its
-    /// launcher lets go of the flag.
+    /// At how many places the first batch had a piece. The count is of the places to which a worker came while the flag
+    /// had been won once. Where the posts were kept, that win had both calls to take. All pieces of a batch have run
+    /// before its launcher lets go of the flag.
     pub fn first_batch_places(&self) -> u32 {
         self.places.load(Ordering::SeqCst).count_ones()
     }
@@ -82,8 +82,8 @@ impl Pause for AtCalls {
     }
 }
 
-/// The second to start a leaf is held until the first has posted a call and won the flag; and the winner until the second
-/// has posted too. So that call is posted while a launcher is at work, and no batch is published yet.
+/// The second worker to start a leaf is held until the first has posted a call and won the flag, and the winner is held
+/// until the second has posted too. So that call is posted while a launcher is at work and no batch is published.
 #[derive(Drop)]
 pub struct AtWin {
     /// How many leaves have started, and which was the second.

@@ -1,7 +1,7 @@
 //! Gates for tests: they hold two workers of a run until both stand where the test wants them at one time.
 //!
-//! Each gate is a `Pause` of `bt_io`. A worker that waits in vain is let go after a great many looks, and the gate then tells
-//! that the meeting was not kept; so a test ends whatever the workers do.
+//! Each gate is a `Pause` of `bt_io`. A worker that waits in vain is let go after a bounded number of looks, and the
+//! gate then says that the meeting was not kept. So a test ends whatever the workers do.
 #![tactic(auto)]
 
 mod gates;

@@ -4,7 +4,7 @@ use Rattle.seq_objects.specs.declared.op.Op.TheVariants.{TreeInsert, TreeRemove}
 use Rattle.seq_objects.specs.declared.reply.Reply.{Reply}
 use Rattle.batch_history.specs.Book.{IsHistory}
 use Rattle.batch_history.specs.declared.batch.Entry.{Entry}
-use Rattle.core_tests.proofs.history.a_batch_of_two_updates_replies_no_and_yes.Goals as goal
+use Rattle.core_tests.proofs.history.by_hand.Goals as goal
 
 -- the batch of the two updates, with these replies
 abbrev worked : Reply → Reply → List Entry
@@ -22,7 +22,7 @@ worked_history removed inserted first second = record {
 }
 
 pub append-requires : goal.append-requires
-append-requires g c =
+append-requires c =
     let removed = c.in_ok-removed.removed in
     let inserted = c.in_ok-inserted.inserted in
     let first : removed ≡ reply_to opening (TreeRemove 7) = search rules in

@@ -19,6 +19,8 @@ mod passes;
 #[cfg(test)]
 mod runs;
 #[cfg(test)]
+mod stops;
+#[cfg(test)]
 mod threads;
 #[cfg(test)]
 mod workers;

@@ -1,5 +1,5 @@
--- The rules of a crew: what contracts see of a pass and of a worker, what each step on the table needs and does, and how
--- the workers stand when a run begins.
+-- The specification of a crew: the views of a pass and of a worker in contracts, the precondition and effect of each
+-- step on the table, and the workers' initial states.
 pub mod Words
 pub mod Holds
 pub mod Passes

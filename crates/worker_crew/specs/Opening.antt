@@ -1,4 +1,4 @@
--- How the workers stand when a run begins.
+-- The workers' initial states.
 use Rattle.std.specs.Prelude.{ℕ, ◌≡◌, ◌<◌, ◌==◌, Bool, true, false, List, length, slice_index_or, if◌then◌else◌}
 use Rattle.seq_objects.specs.declared.act.Act.{Act}
 use Rattle.seq_objects.specs.declared.act.Act.TheVariants.{Work, Call}
@@ -20,25 +20,25 @@ use Rattle.worker_crew.specs.Words.{Idle}
 use Rattle.worker_crew.specs.Passes.{PassSeen, IsFree}
 use Rattle.worker_crew.specs.Workers.{IsReady}
 
--- whether a leaf with this act calls
+-- whether the act is a call
 abbrev pub is_call : Act → Bool
 is_call (Work steps) = false
 is_call (Call op) = true
 
--- the hand has pushed node 0, the root
+-- the hand after a push of node 0, the root, on its own deque of nodes
 abbrev pub with_root : Held → Held
 with_root h = record h { core = after_push 0 h.core }
 
--- the hand of this worker, among so many: node 0 stands on the deque of worker 0, and the others are empty
+-- the initial hand of `worker` among `workers` workers: worker 0 has pushed the root, all other hands are fresh
 abbrev pub opening_hand : ℕ → ℕ → Held
 opening_hand worker workers =
     if worker == 0 then with_root (fresh_hand worker workers) else fresh_hand worker workers
 
--- what the turns see of a pass of the running table
+-- the view of a `CoreTable` pass, as the turns see it
 abbrev pub seat_seen : Seat → PassSeen
 seat_seen pass = pass_seen (view pass)
 
--- the pass is that of this worker, which has nothing in hand
+-- the pass is that of this worker, which has no call out, no flag and no task
 pub record IsFreshPass (worker : ℕ) (pass : PassSeen) : Type 0 where
   pub worker_is : pass.worker ≡ worker
   pub free : IsFree pass
@@ -46,14 +46,14 @@ pub record IsFreshPass (worker : ℕ) (pass : PassSeen) : Type 0 where
 
 module _ {Pass : Type 0} (gave : Pass → Type 0) (seen : Pass → PassSeen) (decks : Decks)
     (board : Board BatchPieces PieceIn PieceOut) (workers : ℕ) where
-  -- it is this worker, among so many, and has done nothing
+  -- `me` is this worker, ready for its first turn: its hand is the initial one, its desk and its tries are unused
   pub record IsAtStart (worker : ℕ) (me : Me Pass) : Type 0 where
     pub ready : IsReady gave seen decks board me
     pub hand : held me.hand ≡ opening_hand worker workers
     pub desk : desk_view me.desk ≡ fresh_desk worker
     pub tries : me.tries ≡ first_tries worker workers
 
-  -- the first so many workers, in their order, as they are at the start
+  -- `mes` is a list of n workers, indexed by worker, each in its initial state
   pub record AreAtStart (n : ℕ) (mes : List (Me Pass)) : Type 0 where
     pub count : length mes ≡ n
     pub each : (w : ℕ) (me : Me Pass) → w < n → me ≡ slice_index_or mes w me → IsAtStart w me

@@ -1,4 +1,4 @@
--- What the turns see of a pass of the running table, and what is known of it between two of its calls.
+-- The view of a `CoreTable` pass as the turns see it, and the invariant of such a pass between two operations.
 use Rattle.std.specs.Prelude.{ℕ, ◌≢◌, ◌≤◌, Option, None, Some, List, [], ◌∷◌, ◌++◌, map, option_map}
 use Rattle.sp_order.specs.Plans.{Nodes}
 use Rattle.core_model.specs.Operations.{IsLeaf}
@@ -17,18 +17,19 @@ use Rattle.worker_crew.specs.Words.{Task, Idle, Run, NotCalled}
 use Rattle.worker_crew.specs.Holds.{HoldSeen}
 use Rattle.worker_crew.specs.Passes.{PassSeen}
 
--- the other way round: a view has some of its lists with the latest first
+-- the list reversed: a `View` has some of its lists latest first
 abbrev pub oldest_first : {X : Type 0} → List X → List X
 oldest_first [] = []
 oldest_first (x ∷ xs) = oldest_first xs ++ x ∷ []
 
--- a call that was taken, with its worker
+-- a taken call as a `Call`
 abbrev pub taken_call : TakenCall → Call
 taken_call taken = record { worker = taken.worker; leaf = taken.call.leaf; op = taken.call.op }
 
 abbrev pub hold_seen : HoldView → HoldSeen
 hold_seen h = record {
   looks = h.looks;
+  found = oldest_first h.found;
   taken = oldest_first (map taken_call h.taken);
   answered = oldest_first h.answered;
   published = h.published;
@@ -48,6 +49,7 @@ pass_seen v = record {
   wins = v.wins;
   refused_wins = v.refused_wins;
   refused_leaves = v.refused_leaves;
+  stop_looks = v.stop_looks;
   stops_found = v.stops_found;
   stops = v.stops;
   posted = option_map posted_call v.posted;
@@ -61,9 +63,10 @@ pass_seen v = record {
   claimed = oldest_first v.claimed;
   refused_nodes = oldest_first v.refused_nodes;
   opened = oldest_first v.opened;
+  events = oldest_first v.events;
 }
 
--- what is seen of the pass of worker w before its first step
+-- the view of worker w's pass before its first step
 abbrev pub unused : ℕ → PassSeen
 unused w = record {
   worker = w;
@@ -74,6 +77,7 @@ unused w = record {
   wins = 0;
   refused_wins = 0;
   refused_leaves = 0;
+  stop_looks = 0;
   stops_found = 0;
   stops = 0;
   posted = None;
@@ -87,9 +91,10 @@ unused w = record {
   claimed = [];
   refused_nodes = [];
   opened = [];
+  events = [];
 }
 
--- A task is started at a leaf. And what is whole is not the root: where that is done, nothing is left to do.
+-- `Started` is at a leaf. `Whole` is not at the root, after which nothing is left to do.
 abbrev pub TaskFits : Nodes → Task → Type 0
 TaskFits plan Idle = Unit {0}
 TaskFits plan (Run n) = Unit {0}
@@ -100,12 +105,12 @@ TaskFits plan (Ended n start end) = Unit {0}
 TaskFits plan (Whole n) = n ≢ 0
 TaskFits plan (Handed p) = Unit {0}
 
--- a hold has looked at no more workers than there are
+-- the hold, if there is one, has looked at no more workers than there are
 abbrev pub LooksFit : ℕ → Option HoldView → Type 0
 LooksFit workers None = Unit {0}
 LooksFit workers (Some h) = h.looks ≤ workers
 
--- the pass is one of this table, and its task and its hold fit the table
+-- the pass belongs to this table, and its task and its hold fit the table's job
 pub record IsSeat (table : CoreTable) (pass : Pass) : Type 0 where
   pub pass_of : IsPassOf table pass
   pub task : TaskFits (job_in table).plan (view pass).task

@@ -1,4 +1,4 @@
--- What contracts see of one worker, and which workers belong to which table, deques and board.
+-- The view of one worker in contracts, and when a worker belongs to a table, deques and a board.
 use Rattle.std.specs.Prelude.{ℕ, ◌≡◌, []}
 use Rattle.two_deques.specs.declared.spot.Spot.{Spot}
 use Rattle.two_deques.specs.declared.decks.Decks.{Decks}
@@ -15,7 +15,8 @@ use Rattle.worker_crew.specs.declared.crew.Me.{Me}
 use Rattle.worker_crew.specs.Words.{Idle}
 use Rattle.worker_crew.specs.Passes.{PassSeen, IsFree}
 
--- its pass, its ends of the deques of nodes and of those of pieces, its desk, and its tries
+-- The view of a worker: its pass, its ends of the deques of nodes (`core`) and of the deques of pieces (`batch`), its
+-- desk, and its tries.
 pub record MeSeen : Type 0 where
   pub pass : PassSeen
   pub core : HeldEnds ℕ
@@ -33,8 +34,8 @@ module _ {Pass : Type 0} where
     tries = me.tries;
   }
 
-  -- All that the worker has is its own, of this table, these deques and this board. Each of the workers has a pass, a
-  -- hand and a desk.
+  -- The pass belongs to the table, the hand to these deques and the desk to this board. All of them, and the tries, are
+  -- of one and the same worker number, and the tries and the deques agree on the number of workers.
   pub record IsMeOf (gave : Pass → Type 0) (seen : Pass → PassSeen) (decks : Decks)
       (board : Board BatchPieces PieceIn PieceOut) (me : Me Pass) : Type 0 where
     pub pass : gave me.pass
@@ -45,8 +46,8 @@ module _ {Pass : Type 0} where
     pub tries : me.tries.worker ≡ (held me.hand).worker
     pub workers : me.tries.workers ≡ workers_of decks
 
-  -- It may take the turn of a free worker: no call of its is out, it has no node in hand, and all places of its row are
-  -- free.
+  -- The worker may take the turn of a free worker: it has no call out, no flag and no task, and all places of its row
+  -- on the board are free.
   pub record IsReady (gave : Pass → Type 0) (seen : Pass → PassSeen) (decks : Decks)
       (board : Board BatchPieces PieceIn PieceOut) (me : Me Pass) : Type 0 where
     pub own : IsMeOf gave seen decks board me

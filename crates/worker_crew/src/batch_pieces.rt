@@ -1,11 +1,11 @@
-//! The pieces of a batch, as work for the board.
+//! The pieces of a batch as the work items of `piece_board`.
 ghost use Rattle.launch_batch.specs.Pieces.{Meets};
 
 use launch_batch::{PieceIn, PieceOut};
 use piece_board::Work;
 
-/// The pieces of the shop's batches, whose launcher may hand them out on a board: whoever claims one works on it by
-/// `run_piece`, which answers an out that meets it.
+/// The kind of work on the crew's board: pieces of the shop's batches. The worker that claims a piece runs it with
+/// `launch_batch::run_piece`, whose output satisfies `Meets`.
 pub struct BatchPieces;
 
 impl Work for BatchPieces {

@@ -1,4 +1,4 @@
-//! One worker, and what all workers share.
+//! The state of one worker (`Me`) and the state that all workers share (`Crew`).
 ghost use Rattle.std.specs.Prelude.{◌≡◌};
 ghost use Rattle.worker_crew.specs.declared.crew.Stop.TheVariants.{Memory};
 
@@ -9,7 +9,7 @@ use piece_board::{Board, Desk};
 use std::alloc::{AllocError, AllocFailed};
 use two_deques::{Decks, Hand, Tries};
 
-/// What all workers share: the table, the deques, the board, how many they are, and the gate.
+/// What all workers share: the table, the deques, the board, the number of workers, and the gate (`bt_io::Pause`).
 #[derive(Drop)]
 pub struct Crew<'a, T, G> {
     pub table: T,
@@ -19,7 +19,8 @@ pub struct Crew<'a, T, G> {
     pub pause: &'a G,
 }
 
-/// What one worker has: its pass, its hand, its desk, and whom it tries to steal from.
+/// What one worker owns: its pass to the table, its hand of deque ends, its desk at the board, and its choice of steal
+/// victims.
 #[derive(Drop)]
 pub struct Me<P> {
     pub pass: P,
@@ -28,12 +29,12 @@ pub struct Me<P> {
     pub tries: Tries,
 }
 
-/// Why a turn ends without an answer. The run ends then.
+/// Why a turn ends without an answer. The worker then takes no further turn.
 #[derive(Clone, Copy)]
 pub enum Stop {
     /// Memory ran out, or a deque refused a push.
     Memory,
-    /// The stop word was set.
+    /// The worker found the stop word set.
     Stopped,
 }
 

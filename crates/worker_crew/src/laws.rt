@@ -1,3 +1,3 @@
-//! What holds of a crew at its start, each law as the contract of a function that does nothing.
+//! Laws of a crew at its start. Each is the contract of a function with an empty body.
 
 pub mod seats;

@@ -1,11 +1,11 @@
-//! The crew of a run: what each worker has, what all share, and the table that they share.
+//! The crew of a run: what each worker owns, what all workers share, and the interface of the table that they share.
 //!
-//! A worker has its pass, its hand, its desk and its tries, and all share the table, the deques and the board (`crew`).
-//! The table is a parameter: `table` says what the turns of a worker need of it, step by step, and `step` what a task asks
-//! for next. The running table keeps these contracts (`running`); over it `crew` makes the workers of a job, `sending` lets
-//! them go to threads, and `laws` says how its passes begin. `batch_pieces` says how the pieces of a batch are work for the
-//! board. The turns stand on this crate, in `worker_turns`. It stands on `two_deques`, `piece_board`, `launch_batch` and
-//! `core_table`.
+//! A worker owns its pass, its hand, its desk and its tries; all workers share the table, the deques and the board
+//! (`crew`). The table is a parameter: the trait in `table` states what a worker's turns need of it, step by step, and
+//! `step` names what a task does next. `running` implements the trait for `CoreTable`. Over that table, `crew` makes
+//! the workers of a job, `sending` shows that they can move to threads, and `laws` states how the passes begin.
+//! `batch_pieces` makes the pieces of a batch the board's work. The crate builds on `two_deques`, `piece_board`,
+//! `launch_batch` and `core_table`; `worker_turns` builds on it.
 #![tactic(auto)]
 
 pub mod batch_pieces;

@@ -1,4 +1,4 @@
-//! The running table as a table of the turns.
+//! `CoreTable` implements the `Table` trait.
 ghost use Rattle.std.specs.Prelude.{◌≡◌, true, Some};
 ghost use Rattle.core_model.specs.Operations.{leaf_of};
 ghost use Rattle.core_table.specs.Passes.{job_in, view, TaskHere};
@@ -15,7 +15,7 @@ use seq_objects::{Act, Call, Op};
 use sp_order::laws::plan_stands_for_tree;
 use sp_order::node::{Kind, Move};
 
-/// The leaf of a node of this kind, or 0.
+/// The leaf number of a node of this kind, or 0 if it is no leaf.
 fn leaf_at(kind: Kind) -> u32
     ensures { result ≡ leaf_of (Some kind) }
 {
@@ -25,7 +25,7 @@ fn leaf_at(kind: Kind) -> u32
     }
 }
 
-/// The next step of a node that runs, of this kind.
+/// The next step of task `Run` at a node of this kind.
 fn step_run(kind: Kind) -> Step
     ensures { Some result ≡ step_run (Some kind) }
 {
@@ -36,7 +36,7 @@ fn step_run(kind: Kind) -> Step
     }
 }
 
-/// The next step of a leaf that has started and does this.
+/// The next step of task `Started` at this leaf, given its act and the state of its call. `None`: the call is out.
 fn step_started(act: Act, leaf: u32, call: CallState) -> Option<Step>
     ensures { result ≡ step_started act leaf call }
 {
@@ -50,7 +50,7 @@ fn step_started(act: Act, leaf: u32, call: CallState) -> Option<Step>
     }
 }
 
-/// The next step of a node that is whole, by the move after it.
+/// The next step of task `Whole`, given the plan's move after its node. `None`: the node is the root.
 fn step_whole(after: Move) -> Option<Step>
     ensures { result ≡ step_whole after }
 {
@@ -62,7 +62,7 @@ fn step_whole(after: Move) -> Option<Step>
     }
 }
 
-/// The next step of a task whose call has come so far.
+/// The next step of a task, given the state of its call.
 fn next_step(table: &CoreTable, task: Task, call: CallState) -> Option<Step>
     requires { TaskHere (job_in table.now) task }
     ensures { result ≡ next_step (job_in table.now) task call }
@@ -95,6 +95,8 @@ impl Table for CoreTable {
     ghost gave = { λ table pass. IsSeat table pass };
 
     ghost workers = { λ table. (job_in table).workers };
+
+    ghost plan = { λ table. (job_in table).plan };
 
     ghost next_of = { λ table task call. next_step (job_in table) task call };
 

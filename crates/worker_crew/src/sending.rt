@@ -1,6 +1,6 @@
-//! That threads can share what a crew has, and that its workers can go to them.
+//! A crew over `CoreTable` can be shared between threads (`Sync`), and its workers can be sent to them (`Send`).
 //!
-//! A prover's search that goes through all parts of a crew at once comes to its limit. So it is led from part to part.
+//! The proof search on the whole crew at once exceeds its budget, so each part is shown first.
 ghost use denote.Ref.{NamedLft};
 ghost use denote.Param.Send.{IsSend, IsSync};
 ghost use Rattle.launch_batch.specs.contracts.piece.PieceIn.{the_row as in_row};
@@ -22,17 +22,17 @@ use launch_batch::{PieceIn, PieceOut};
 use piece_board::{Board, Desk};
 use two_deques::{Decks, Hand};
 
-/// It can be sent. It is for proofs, and does nothing.
+/// Proof only: turns the bound `T: Send` into a fact about the type's row.
 fn is_sent<T: Send>()
     ensures { IsSend T.row }
 {}
 
-/// It can be shared. It is for proofs, and does nothing.
+/// Proof only: turns the bound `T: Sync` into a fact about the type's row.
 fn is_shared<T: Sync>()
     ensures { IsSync T.row }
 {}
 
-/// The board can be shared, and a desk sent. It is for proofs, and does nothing.
+/// Proof only: the board can be shared, and a desk can be sent.
 fn boards_go_to_threads()
     ensures shared { IsSync (board_row pieces_row in_row out_row ghosts) }
     ensures sent { IsSend (desk_row pieces_row in_row out_row ghosts) }
@@ -43,7 +43,7 @@ fn boards_go_to_threads()
     is_sent::<Desk<BatchPieces>>();
 }
 
-/// And so can the deques, and a hand.
+/// Proof only: the deques can be shared, and a hand can be sent.
 fn decks_go_to_threads()
     ensures shared { IsSync decks_row }
     ensures sent { IsSend hand_row }
@@ -52,7 +52,7 @@ fn decks_go_to_threads()
     is_sent::<Hand>();
 }
 
-/// A worker of the running table can go to a thread, and its pass can come back.
+/// A worker over `CoreTable` can be sent to a thread, and its pass can be sent back.
 pub fn workers_go_to_threads()
     ensures worker { IsSend (me_row pass_row) }
     ensures pass { IsSend pass_row }
@@ -62,7 +62,7 @@ pub fn workers_go_to_threads()
     decks_go_to_threads();
 }
 
-/// All threads can share a crew over the running table.
+/// A crew over `CoreTable` can be shared between threads if its gate can.
 pub fn crews_go_to_threads<G: Sync>()
     ensures { (l : NamedLft) → IsSync (crew_row l table_row G.row) }
 {

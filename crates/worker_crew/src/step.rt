@@ -1,24 +1,24 @@
-//! What a worker's task asks for next.
+//! The next action of a worker's task.
 
 use seq_objects::{Op, Reply};
 
-/// The next step of a task that is not idle, and whose call is not out.
+/// The next action of a task. An idle task has none, nor has one that waits for its call.
 #[derive(Clone, Copy)]
 pub enum Step {
-    /// The start of this leaf is to be ticked.
+    /// Draw the start tick of this leaf.
     Start(u32),
-    /// The end of a leaf is to be ticked.
+    /// Draw the end tick of the task's leaf.
     End,
-    /// The next side of a block is to be opened.
+    /// Open the next side of a series or parallel block.
     Open,
-    /// So much work is to be done, and its value kept.
+    /// Do this amount of work (the argument of `spin`) and keep its value.
     Spin(u32),
-    /// The call of this leaf is to be made.
+    /// Make the call of this leaf.
     Call { leaf: u32, op: Op },
-    /// The value of this reply is to be kept.
+    /// Keep the value of this reply to the leaf's call.
     Got(Reply),
-    /// A node is to be finished.
+    /// Mark a node as done: the ended leaf, or a block whose sides are done.
     Finish,
-    /// One side of a parallel block has come to its end.
+    /// Arrive at the join of a parallel block: one of its sides is done.
     Arrive,
 }

@@ -1,4 +1,4 @@
-//! What the turns need of the table that the workers share.
+//! The interface of the shared table: what a worker's turns need of it.
 ghost use Rattle.std.specs.Prelude.{◌≡◌, ◌≢◌, ◌<◌, ℕ, true, false, Some, Option};
 ghost use Rattle.std.specs.Prelude.{IfSome, IfNone, IfOk, IfErr, IsNone};
 ghost use Rattle.worker_crew.specs.Words.{Task as TaskOf, CallState as CallOf, Idle};
@@ -7,10 +7,12 @@ ghost use Rattle.worker_crew.specs.declared.step.Step.TheVariants as Steps;
 ghost use Rattle.worker_crew.specs.Holds.{IsLooking, IsPublishDue, IsAnswerDue, IsReleaseDue};
 ghost use Rattle.worker_crew.specs.Holds.{StayFit};
 ghost use Rattle.worker_crew.specs.Passes.{PassSeen, IsFree, IsTrapped, IsHeld, IsTick, IsValue};
-ghost use Rattle.worker_crew.specs.Passes.{claiming, refusing, with_task, opening, keeping};
-ghost use Rattle.worker_crew.specs.Passes.{posting, hearing, winning, losing, taking, passing};
-ghost use Rattle.worker_crew.specs.Passes.{publishing, answering, releasing, stopping};
-ghost use Rattle.worker_crew.specs.Passes.{IsLeft, IsDue, IsFront, staying, finding_stop};
+ghost use Rattle.worker_crew.specs.Passes.{claiming, refusing, stopping, finding_stop, finding_none};
+ghost use Rattle.worker_crew.specs.Passes.{HasTicked, HasOpened, HasKept, HasFinished, HasArrived, HasPosted};
+ghost use Rattle.worker_crew.specs.Passes.{hearing, staying, winning, losing, taking, passing};
+ghost use Rattle.worker_crew.specs.Passes.{publishing, answering, releasing};
+ghost use Rattle.worker_crew.specs.Passes.{IsLeft, IsDue, IsFront};
+ghost use Rattle.sp_order.specs.Plans.{Nodes};
 
 use crate::step::Step;
 use batch_history::Batch;
@@ -18,37 +20,41 @@ use core_model::Receipt;
 use launch_batch::Shop;
 use seq_objects::{Call, Op};
 
-/// A table that workers share by their passes: one for each, which shows what its worker did and knows.
+/// A table that workers share. Each worker acts through its own pass, whose ghost view (`seen`) records what the worker
+/// did and knows.
 pub trait Table {
-    /// One worker's seat at the table.
+    /// One worker's access to the table.
     type Pass;
 
-    /// What contracts see of a pass.
+    /// The view of a pass in contracts.
     ghost seen: { Self.Pass → PassSeen };
 
-    /// The pass is one of this table.
+    /// The pass belongs to this table.
     ghost gave: { Self → Self.Pass → Type 0 };
 
-    /// How many workers the table has.
+    /// The number of workers.
     ghost workers: { Self → ℕ };
 
-    /// The next step of a task whose call has come so far.
+    /// The job's plan. With the task before a step it determines the step's event.
+    ghost plan: { Self → Nodes };
+
+    /// The next step of a task, given the state of its call.
     ghost next_of: { Self → TaskOf → CallOf → Option StepOf };
 
-    /// The pass has made no step since its latest post.
+    /// The latest step of the pass was a post.
     ghost just_posted: { Self.Pass → Type 0 };
 
-    /// A look of the pass has seen the root done.
+    /// Some `root_done` of the pass has returned true.
     ghost saw_done: { Self.Pass → Type 0 };
 
-    /// What the task asks for. None exactly where it is idle.
+    /// The next step of a free worker's task. `None` implies that the task is idle.
     fn next(&self, pass: &Self::Pass) -> Option<Step>
         requires pass { gave self.now pass.now }
         requires free { IsFree (seen pass.now) }
         ensures next { result ≡ next_of self.now (seen pass.now).task (seen pass.now).call }
         ensures idle { IsNone result → (seen pass.now).task ≡ Idle };
 
-    /// Claims a node.
+    /// Tries to claim a node for an idle worker. True: the node is the worker's task.
     fn claim(&self, pass: &mut Self::Pass, node: u32) -> bool
         requires pass { gave self.now pass.old }
         requires free { IsFree (seen pass.old) }
@@ -57,55 +63,56 @@ pub trait Table {
         ensures claimed { result ≡ true → seen pass.new ≡ claiming node (seen pass.old) }
         ensures refused { result ≡ false → seen pass.new ≡ refusing node (seen pass.old) };
 
-    /// Draws the tick of a start or an end.
+    /// Draws the start tick or the end tick of a leaf.
     fn tick(&self, pass: &mut Self::Pass)
         requires pass { gave self.now pass.old }
         requires free { IsFree (seen pass.old) }
         requires due { IsTick (next_of self.now (seen pass.old).task (seen pass.old).call) }
         ensures pass { gave self.now pass.new }
-        ensures ticked { seen pass.new ≡ with_task (seen pass.new).task (seen pass.old) };
+        ensures ticked { HasTicked (seen pass.old) (seen pass.new) };
 
-    /// Opens the next side of a block. The answer is the node that is made ready.
+    /// Opens the next side of a block. Returns the node that this makes ready.
     fn open_node(&self, pass: &mut Self::Pass) -> u32
         requires pass { gave self.now pass.old }
         requires free { IsFree (seen pass.old) }
         requires due { next_of self.now (seen pass.old).task (seen pass.old).call
             ≡ Some Steps.Open }
         ensures pass { gave self.now pass.new }
-        ensures opened { seen pass.new ≡ opening result (seen pass.new).task (seen pass.old) };
+        ensures opened { HasOpened (plan self.now) result (seen pass.old) (seen pass.new) };
 
-    /// Keeps the value of a leaf.
+    /// Keeps the value of a leaf: that of its work, or that of its call's reply.
     fn keep(&self, pass: &mut Self::Pass, value: u64)
         requires pass { gave self.now pass.old }
         requires free { IsFree (seen pass.old) }
         requires due { IsValue (next_of self.now (seen pass.old).task (seen pass.old).call) value }
         ensures pass { gave self.now pass.new }
-        ensures kept { seen pass.new ≡ keeping (seen pass.new).task (seen pass.old) };
+        ensures kept { HasKept value (seen pass.old) (seen pass.new) };
 
-    /// Finishes a node.
+    /// Marks a node as done.
     fn finish(&self, pass: &mut Self::Pass)
         requires pass { gave self.now pass.old }
         requires free { IsFree (seen pass.old) }
         requires due { next_of self.now (seen pass.old).task (seen pass.old).call
             ≡ Some Steps.Finish }
         ensures pass { gave self.now pass.new }
-        ensures finished { seen pass.new ≡ with_task (seen pass.new).task (seen pass.old) };
+        ensures finished { HasFinished (plan self.now) (seen pass.old) (seen pass.new) };
 
-    /// Arrives at the end of one side of a parallel block. The task tells whether it is the second one.
+    /// Arrives at the join of a parallel block. The first arrival leaves the task idle; the second continues with the
+    /// block.
     fn arrive(&self, pass: &mut Self::Pass)
         requires pass { gave self.now pass.old }
         requires free { IsFree (seen pass.old) }
         requires due { next_of self.now (seen pass.old).task (seen pass.old).call
             ≡ Some Steps.Arrive }
         ensures pass { gave self.now pass.new }
-        ensures arrived { seen pass.new ≡ with_task (seen pass.new).task (seen pass.old) };
+        ensures arrived { HasArrived (plan self.now) (seen pass.old) (seen pass.new) };
 
-    /// Whether the stop word is set at this look.
+    /// Looks at the stop word. True: it is set.
     fn stopped(&self, pass: &mut Self::Pass) -> bool
         requires pass { gave self.now pass.old }
         ensures pass { gave self.now pass.new }
         ensures set { result ≡ true → seen pass.new ≡ finding_stop (seen pass.old) }
-        ensures unset { result ≡ false → seen pass.new ≡ seen pass.old };
+        ensures unset { result ≡ false → seen pass.new ≡ finding_none (seen pass.old) };
 
     /// Sets the stop word.
     fn stop(&self, pass: &mut Self::Pass)
@@ -113,31 +120,31 @@ pub trait Table {
         ensures pass { gave self.now pass.new }
         ensures stopped { seen pass.new ≡ stopping (seen pass.old) };
 
-    /// Whether the root is done at this look.
+    /// Looks at the root. True: it is done; false says nothing.
     fn root_done(&self, pass: &mut Self::Pass) -> bool
         requires pass { gave self.now pass.old }
         ensures pass { gave self.now pass.new }
         ensures looked { seen pass.new ≡ seen pass.old }
         ensures done { result ≡ true → saw_done pass.new };
 
-    /// Posts the call of the leaf that has started. The pass is trapped then.
+    /// Posts the call of the started leaf. From here to its receipt the worker is trapped.
     fn post(&self, pass: &mut Self::Pass, leaf: u32, op: Op)
         requires pass { gave self.now pass.old }
         requires free { IsFree (seen pass.old) }
         requires due { next_of self.now (seen pass.old).task (seen pass.old).call
             ≡ Some (Steps.Call leaf op) }
         ensures pass { gave self.now pass.new }
-        ensures posted { seen pass.new ≡ posting leaf op (seen pass.old) }
+        ensures posted { HasPosted leaf op (seen pass.old) (seen pass.new) }
         ensures just_posted { just_posted pass.new };
 
-    /// How many batches are published at this look.
+    /// The number of batches published at this look.
     fn since(&self, pass: &mut Self::Pass) -> u64
         requires pass { gave self.now pass.old }
         ensures pass { gave self.now pass.new }
         ensures told { seen pass.new ≡ hearing result (seen pass.new).first_since (seen pass.old) }
         ensures first { just_posted pass.old → (seen pass.new).first_since ≡ Some result };
 
-    /// Tries to leave with the receipt of the call that is out.
+    /// Tries to leave with the receipt of the outstanding call. `Err` gives the call's status, which is never 3.
     fn leave(&self, pass: &mut Self::Pass) -> Result<Receipt, u64>
         requires pass { gave self.now pass.old }
         requires trapped { IsTrapped (seen pass.old) }
@@ -147,7 +154,8 @@ pub trait Table {
         ensures stays { IfErr result (λ status. (status ≢ 3)
             × (seen pass.new ≡ staying (seen pass.old))) };
 
-    /// Tries for the flag.
+    /// Tries to win the flag, which makes the worker the combiner. `Some` gives the shop, whose book extends the one
+    /// seen.
     fn win(&self, pass: &mut Self::Pass) -> Option<Shop>
         requires pass { gave self.now pass.old }
         requires trapped { IsTrapped (seen pass.old) }
@@ -156,8 +164,8 @@ pub trait Table {
             × IsFront (seen pass.old).book_seen shop) }
         ensures lost { IfNone result (seen pass.new ≡ losing (seen pass.old)) };
 
-    /// Looks at worker u, and takes its call if that is pending. A call that is taken can be served with
-    /// those that were taken before.
+    /// Looks at worker `u`, and takes its call if that is pending (status 1). `Err` gives the status that was found.
+    /// Calls that could be served as one batch before the look can still be so after it.
     fn take(&self, pass: &mut Self::Pass, u: u32) -> Result<Call, u64>
         requires pass { gave self.now pass.old }
         requires held { IsHeld (seen pass.old) (IsLooking u) }
@@ -166,24 +174,24 @@ pub trait Table {
         ensures took { IfOk result (λ call. (call.worker ≡ u)
             × (seen pass.new ≡ taking call (seen pass.old))) }
         ensures passed { IfErr result (λ status. (status ≢ 1)
-            × (seen pass.new ≡ passing (seen pass.old))) }
+            × (seen pass.new ≡ passing u status (seen pass.old))) }
         ensures fit { StayFit (seen pass.old).hold (seen pass.new).hold };
 
-    /// The batch joins the book.
+    /// Appends the batch to the book.
     fn publish(&self, pass: &mut Self::Pass, batch: Batch)
         requires pass { gave self.now pass.old }
         requires held { IsHeld (seen pass.old) (IsPublishDue (workers self.now) batch) }
         ensures pass { gave self.now pass.new }
         ensures published { seen pass.new ≡ publishing batch (seen pass.old) };
 
-    /// Hands worker u its receipt. The workers are answered in the order of the batch.
+    /// Hands worker `u` its receipt. Receipts go out in the order of the batch.
     fn answer(&self, pass: &mut Self::Pass, u: u32, receipt: Receipt)
         requires pass { gave self.now pass.old }
         requires held { IsHeld (seen pass.old) (IsAnswerDue u receipt) }
         ensures pass { gave self.now pass.new }
-        ensures answered { seen pass.new ≡ answering u (seen pass.old) };
+        ensures answered { seen pass.new ≡ answering u receipt (seen pass.old) };
 
-    /// Lets go of the flag.
+    /// Releases the flag, and puts the shop back.
     fn release(&self, pass: &mut Self::Pass, shop: Shop)
         requires pass { gave self.now pass.old }
         requires held { IsHeld (seen pass.old) (IsReleaseDue (workers self.now) shop) }

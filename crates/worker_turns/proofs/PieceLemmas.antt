@@ -1,5 +1,6 @@
 pub mod Posting
 pub mod Working
+pub mod Looks
 pub mod Collecting
 pub mod Met
 pub mod Served

@@ -1,12 +1,15 @@
--- The call that a task asks for, and where its entry stands.
-use Rattle.std.specs.Prelude.{ℕ, ◌≡◌, Option, None, Some, List}
+-- The call that a task's next step makes, its entry in the book, and its events.
+use Rattle.std.specs.Prelude.{ℕ, ◌≡◌, Option, None, Some, List, [], ◌∷◌, ◌++◌}
 use Rattle.core_model.specs.Entries.{StandsAt}
 use Rattle.worker_crew.specs.declared.step.Step.{Step}
 use Rattle.worker_crew.specs.declared.step.Step.TheVariants as steps
 use Rattle.core_model.specs.Words.{Op, Entry}
-use Rattle.worker_crew.specs.Words.{Receipt}
+use Rattle.core_model.specs.declared.event.Event.TheVariants.{Post, Leave}
+use Rattle.core_model.specs.declared.task.Task.TheVariants.{Started}
+use Rattle.worker_crew.specs.Words.{Event, Receipt}
+use Rattle.worker_crew.specs.Passes.{PassSeen}
 
--- the call of this leaf is to be made, with whatever operation
+-- the step is the call of this leaf, with any operation
 abbrev pub IsCallDue : ℕ → Option Step → Type 0
 IsCallDue leaf None = ⊥
 IsCallDue leaf (Some (steps.Start n)) = ⊥
@@ -18,9 +21,16 @@ IsCallDue leaf (Some (steps.Got reply)) = ⊥
 IsCallDue leaf (Some steps.Finish) = ⊥
 IsCallDue leaf (Some steps.Arrive) = ⊥
 
--- The call of this leaf was due, with an operation, and in the book an entry with this leaf, this worker and that operation
--- stands where the receipt says, with the receipt's reply.
+-- The call of this leaf was due, with some operation. At the receipt's batch and place, the book has the entry with
+-- this leaf, this worker, that operation and the receipt's reply.
 abbrev pub IsServedAs : Option Step → ℕ → ℕ → Receipt → List (List Entry) → Type 0
 IsServedAs due leaf worker receipt book =
     (op : Op) × (due ≡ Some (steps.Call leaf op))
     × StandsAt book receipt.batch receipt.place (record { leaf = leaf; worker = worker; op = op; reply = receipt.reply })
+
+-- The call's first event is the post of the started leaf, and its last is the leave with the receipt. The definition
+-- leaves open the events between them.
+abbrev pub HasCalled : Receipt → PassSeen → PassSeen → Type 0
+HasCalled receipt old new =
+    (node : ℕ) × (start : ℕ) × (between : List Event) × (old.task ≡ Started node start)
+    × (new.events ≡ old.events ++ Post node start ∷ (between ++ Leave receipt ∷ []))

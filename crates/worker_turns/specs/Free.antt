@@ -1,5 +1,6 @@
--- What each answer of a free worker's turn says: the path that it took. A task that is refused ends the turn.
-use Rattle.std.specs.Prelude.{ℕ, ◌≡◌, ◌⊎◌, ◌+◌, Option, None, Some, List, ◌++◌, length}
+-- The path of a free worker's turn, for each answer: its steps from the worker's old view to the new one. A refused
+-- claim ends the turn.
+use Rattle.std.specs.Prelude.{ℕ, ◌≡◌, ◌≤◌, ◌⊎◌, ◌+◌, Option, None, Some, List, ◌++◌, length}
 use Rattle.two_deques.specs.declared.spot.Spot.{Spot}
 use Rattle.two_deques.specs.declared.tries.Deck.TheVariants.{CoreDeck, BatchDeck}
 use Rattle.two_deques.specs.Tries.{try_of, after_try}
@@ -12,6 +13,7 @@ use Rattle.worker_turns.specs.declared.free.Did.{Did}
 use Rattle.worker_turns.specs.declared.free.Did.TheVariants as did
 use Rattle.worker_crew.specs.Passes.{PassSeen, IsFront, claiming, refusing}
 use Rattle.worker_crew.specs.Workers.{MeSeen}
+use Rattle.worker_turns.specs.Stops.{unstopped}
 use Rattle.worker_turns.specs.Pieces.{Desk, IsPop, IsSteal, spot_of, desk_after, NotRan, IsOwnPiece}
 
 abbrev pub node_of : Found → Option ℕ
@@ -19,7 +21,7 @@ node_of (Claimed n) = Some n
 node_of (Refused n) = Some n
 node_of NoNode = None
 
--- the pass after its claim, if it made one
+-- the pass after the claim of this outcome, if there was one
 abbrev pub pass_after : Found → PassSeen → PassSeen
 pass_after (Claimed n) p = claiming n p
 pass_after (Refused n) p = refusing n p
@@ -30,12 +32,13 @@ NotClaimed (Claimed n) = ⊥
 NotClaimed (Refused n) = Unit {0}
 NotClaimed NoNode = Unit {0}
 
--- the own deque of nodes gave this
+-- a pop of the own deque of nodes, and the claim of what it gave, had this outcome; nothing else changed
 pub record IsOwnNode (t : Found) (old new : MeSeen) : Type 0 where
   pub pop : IsPop (node_of t) old.core new.core
   pub same : new ≡ record old { pass = pass_after t old.pass; core = new.core }
 
--- The one steal of the turn gave this: it went to the deque that is the next to try. With one worker none is made.
+-- The turn's one steal, at the deque that `Tries` names next, and the claim of what it gave, had this outcome. A sole
+-- worker makes none.
 abbrev pub IsOther : Other → MeSeen → MeSeen → Type 0
 IsOther Alone old new = (old.tries.workers ≡ 1) × (new ≡ old)
 IsOther (Node t) old new =
@@ -50,14 +53,15 @@ GaveNothing Alone = Unit {0}
 GaveNothing (Node t) = NotClaimed t
 GaveNothing (Piece t) = NotRan t
 
--- the pieces that were claimed were finished
+-- as many pieces were finished as were claimed
 pub record Helps (old new : Desk) : Type 0 where
   pub given : List (ℕ × ℕ)
   pub gave : new.given ≡ old.given ++ given
   pub finishes : new.finishes ≡ old.finishes + length given
 
--- A claimed node was carried on: the nodes that were opened stand behind the own list, in their order, and nothing else
--- of the deques of nodes was touched; no node was claimed.
+-- The effect of carrying on a claimed node. The nodes opened are pushed on the own deque in order, and the worker's
+-- ends of the deques of nodes are otherwise unchanged. No node is claimed or refused. The book seen and the events only
+-- grow, and each look at the stop word finds it unset.
 pub record Carried (old new : MeSeen) : Type 0 where
   pub nodes : List ℕ
   pub opened : new.pass.opened ≡ old.pass.opened ++ nodes
@@ -69,19 +73,22 @@ pub record Carried (old new : MeSeen) : Type 0 where
   pub longer : IsFront old.pass.book_seen new.pass.book_seen
   pub found : new.pass.stops_found ≡ old.pass.stops_found
   pub stops : new.pass.stops ≡ old.pass.stops
+  pub looks : old.pass.stop_looks ≤ new.pass.stop_looks
+  pub events : IsFront old.pass.events new.pass.events
   pub desk : Helps old.desk new.desk
 
--- First it tried its own deque of nodes, then its own deque of pieces, and last one steal.
+-- The path by answer: a look that finds the stop word unset, a pop of the own deque of nodes, a pop of the own deque of
+-- pieces, one steal. The path ends at the first of these that finds something; a claimed node is then carried on.
 abbrev pub IsFreeTurn : Did → MeSeen → MeSeen → Type 0
 IsFreeTurn did.Ran old new =
-    ((n : ℕ) × (a : MeSeen) × IsOwnNode (Claimed n) old a × Carried a new)
-    ⊎ ((n : ℕ) × (a b d : MeSeen) × IsOwnNode NoNode old a × IsOwnPiece Dry a b
+    ((n : ℕ) × (a : MeSeen) × IsOwnNode (Claimed n) (unstopped old) a × Carried a new)
+    ⊎ ((n : ℕ) × (a b d : MeSeen) × IsOwnNode NoNode (unstopped old) a × IsOwnPiece Dry a b
     × IsOther (Node (Claimed n)) b d × Carried d new)
 IsFreeTurn did.Piece old new =
-    ((spot : Spot) × (a : MeSeen) × IsOwnNode NoNode old a × IsOwnPiece (Ran spot) a new)
-    ⊎ ((spot : Spot) × (a b : MeSeen) × IsOwnNode NoNode old a × IsOwnPiece Dry a b × IsOther (Piece (Ran spot)) b new)
+    ((spot : Spot) × (a : MeSeen) × IsOwnNode NoNode (unstopped old) a × IsOwnPiece (Ran spot) a new)
+    ⊎ ((spot : Spot) × (a b : MeSeen) × IsOwnNode NoNode (unstopped old) a × IsOwnPiece Dry a b × IsOther (Piece (Ran spot)) b new)
 IsFreeTurn did.Nothing old new =
-    ((n : ℕ) × IsOwnNode (Refused n) old new)
-    ⊎ (((spot : Spot) × (a : MeSeen) × IsOwnNode NoNode old a × IsOwnPiece (Dropped spot) a new)
-    ⊎ ((other : Other) × (a b : MeSeen) × GaveNothing other × IsOwnNode NoNode old a × IsOwnPiece Dry a b
+    ((n : ℕ) × IsOwnNode (Refused n) (unstopped old) new)
+    ⊎ (((spot : Spot) × (a : MeSeen) × IsOwnNode NoNode (unstopped old) a × IsOwnPiece (Dropped spot) a new)
+    ⊎ ((other : Other) × (a b : MeSeen) × GaveNothing other × IsOwnNode NoNode (unstopped old) a × IsOwnPiece Dry a b
     × IsOther other b new))

@@ -1,19 +1,19 @@
--- What a launch does.
-use Rattle.std.specs.Prelude.{ℕ, ◌≡◌, ◌≤◌, ◌+◌, ◌⊎◌, None, Some, List, [], ◌++◌, length}
+-- The effect of a launch.
+use Rattle.std.specs.Prelude.{ℕ, zero, suc, ◌≡◌, ◌≤◌, ◌==◌, ◌+◌, ◌⊎◌, if◌then◌else◌, None, Some, List, [], ◌∷◌, ◌++◌, length, map}
 use Rattle.seq_objects.specs.declared.call.Call.{Call}
 use Rattle.seq_objects.specs.Batches.{AreInBatchOrder}
 use Rattle.core_model.specs.Words.{Entry}
+use Rattle.core_model.specs.declared.event.Event.TheVariants.{Take, Publish, Answer, Release}
 use Rattle.launch_batch.specs.Calls.{AreSame}
 use Rattle.launch_batch.specs.Places.{places}
-use Rattle.worker_crew.specs.declared.crew.Stop.{Stop}
-use Rattle.worker_crew.specs.declared.crew.Stop.TheVariants.{Memory, Stopped}
+use Rattle.worker_crew.specs.Words.{Event}
 use Rattle.worker_crew.specs.Holds.{HoldSeen, TookNone, ServedAll}
 use Rattle.worker_crew.specs.Passes.{PassSeen}
-use Rattle.worker_turns.specs.Pieces.{Desk}
 use Rattle.worker_crew.specs.Workers.{MeSeen}
+use Rattle.worker_turns.specs.Pieces.{Desk}
 
--- The pieces at these places of the own row were each posted once and collected once, and the row is free. Between,
--- each piece that was claimed was finished.
+-- Pieces were posted at exactly these places of the own row, in this order, as many results were collected, and the row
+-- is free. Meanwhile, the worker finished as many pieces as it claimed.
 pub record Serves (posted : List ℕ) (old new : Desk) : Type 0 where
   pub posts : new.posts ≡ old.posts ++ posted
   pub collects : new.collects ≡ old.collects + length posted
@@ -23,32 +23,65 @@ pub record Serves (posted : List ℕ) (old new : Desk) : Type 0 where
   pub finishes : new.finishes ≡ old.finishes + length given
   pub row : new.row ≡ old.row
 
--- these are the places of the pieces of a batch of the calls, after the book
+-- `posted` is the list of places of the pieces of a batch of these calls, put in batch order, after the book.
 abbrev pub ArePlaces : List (List Entry) → List Call → List ℕ → Type 0
 ArePlaces book calls posted =
     (ordered : List Call) × AreSame calls ordered × AreInBatchOrder ordered × (posted ≡ places book ordered)
 
--- All workers were looked at. Where no call was taken nothing was published, and no piece posted; else exactly the calls
--- that were taken are one batch after the book, which was published, and all were answered.
-pub record Gathers (workers : ℕ) (book : List (List Entry)) (posted : List ℕ) (done : HoldSeen) : Type 0 where
-  pub looked : done.looks ≡ workers
-  pub batch : (TookNone done × (done.book ≡ book) × (posted ≡ []))
-      ⊎ ((batch : List Entry) × ServedAll book batch done × ArePlaces book done.taken posted)
+-- `found` has the statuses of workers `first`, `first + 1` and so on. The result is the workers with status 1, pending.
+abbrev pub pending_in : ℕ → List ℕ → List ℕ
+pending_in first [] = []
+pending_in first (status ∷ found) =
+    if status == 1 then first ∷ pending_in (first + 1) found else pending_in (first + 1) found
 
--- A launch after this book: the flag was released, the hold was so, and its book is the one that the pass has seen.
+-- There is one status for each worker, and the calls are those of exactly the workers found pending, in worker order.
+pub record AreFound (workers : ℕ) (found : List ℕ) (calls : List Call) : Type 0 where
+  pub each : length found ≡ workers
+  pub pending : map (λ call. call.worker) calls ≡ pending_in 0 found
+
+-- The events of a launch: a `Take` for each worker, in order; if there is a batch, its `Publish` and one `Answer` for
+-- each of its entries, in batch order; and the `Release`. `number` is the batch's number, and `place` that of the first
+-- entry.
+abbrev pub look_events : ℕ → List Event
+look_events zero = []
+look_events (suc u) = look_events u ++ Take u ∷ []
+
+abbrev pub answer_events : ℕ → ℕ → List Entry → List Event
+answer_events number place [] = []
+answer_events number place (entry ∷ entries) =
+    Answer entry.worker (record { batch = number; place = place; reply = entry.reply }) ∷ answer_events number (place + 1) entries
+
+abbrev pub serve_events : ℕ → List Entry → List Event
+serve_events number batch = Publish ∷ answer_events number 0 batch
+
+abbrev pub launch_events : ℕ → List Event → List Event
+launch_events workers served = look_events workers ++ (served ++ Release ∷ [])
+
+-- Hold `done` has looked at each worker once, and has taken exactly the calls found pending. If there was none, nothing
+-- was published, no piece was posted, and `served` is empty. Otherwise the calls were served as one batch after the
+-- book, which was published, and all were answered; `posted` has the places of its pieces, and `served` those events.
+pub record Gathers (workers : ℕ) (book : List (List Entry)) (posted : List ℕ) (served : List Event) (done : HoldSeen) : Type 0 where
+  pub looked : done.looks ≡ workers
+  pub found : AreFound workers done.found done.taken
+  pub batch : (TookNone done × (done.book ≡ book) × (posted ≡ []) × (served ≡ []))
+      ⊎ ((batch : List Entry) × ServedAll book batch done × ArePlaces book done.taken posted
+      × (served ≡ serve_events (length book) batch))
+
+-- A launch by a worker whose win found `book`. At the release the hold was `done`, and its book is the one that the
+-- pass has seen. While the worker waited for results, it may have looked at the stop word, and found it unset. The ends
+-- of the deques of nodes are unchanged.
 pub record Launches (workers : ℕ) (book : List (List Entry)) (old new : MeSeen) : Type 0 where
   pub done : HoldSeen
   pub posted : List ℕ
-  pub gathers : Gathers workers book posted done
-  pub released : new.pass ≡ record old.pass { hold = None; last = Some done; book_seen = done.book }
+  pub served : List Event
+  pub gathers : Gathers workers book posted served done
+  pub released : new.pass ≡ record old.pass {
+    hold = None;
+    last = Some done;
+    book_seen = done.book;
+    stop_looks = new.pass.stop_looks;
+    events = old.pass.events ++ launch_events workers served;
+  }
+  pub looks : old.pass.stop_looks ≤ new.pass.stop_looks
   pub desk : Serves posted old.desk new.desk
   pub core : new.core ≡ old.core
-
--- it has set the stop word, or found it set
-abbrev pub KnowsStop : PassSeen → Type 0
-KnowsStop p = (1 ≤ p.stops) ⊎ (1 ≤ p.stops_found)
-
--- Why a call or a turn stopped: a look of this call found the stop word set, and the pass did not set it.
-abbrev pub IsStop : Stop → PassSeen → PassSeen → Type 0
-IsStop Memory old new = Unit {0}
-IsStop Stopped old new = (new.stops_found ≡ old.stops_found + 1) × (new.stops ≡ old.stops)

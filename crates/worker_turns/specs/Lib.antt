@@ -1,6 +1,7 @@
--- The rules of the turns: what each step of a turn does, and what each answer says. `Meanings` is what the answers mean, as
--- the laws have it, and `Code` is what only the code cites.
+-- The specification of the turns: the effect of each step, and the path for each answer. `Meanings` defines what the
+-- laws conclude from an answer, and `Code` has what only contracts of private functions use.
 pub mod Pieces
+pub mod Stops
 pub mod Launches
 pub mod Callings
 pub mod Trapped

@@ -3,3 +3,4 @@ pub mod Trapped
 pub mod Free
 pub mod Launches
 pub mod Stays
+pub mod Events

@@ -1,4 +1,4 @@
--- What a worker gets of the deques of pieces, and what comes of it.
+-- The outcome of a worker's pops and steals at deques, of the claims of pieces, and of posting and collecting pieces.
 use Rattle.std.specs.Prelude.{ℕ, ◌≡◌, ◌+◌, ◌⊎◌, Option, None, Some, List, [], ◌∷◌, ◌++◌, length, map, drop}
 use Rattle.two_deques.specs.declared.spot.Spot.{Spot}
 use Rattle.two_deques.specs.declared.tries.Deck.{Deck}
@@ -18,12 +18,12 @@ abbrev pub Desk : Type 0
 Desk = DeskView PieceIn
 
 module _ {T : Type 0} where
-  -- a pop of the own deque gave this
+  -- a pop of the own deque gave this task, or nothing
   abbrev pub IsPop : Option T → HeldEnds T → HeldEnds T → Type 0
   IsPop None old new = new ≡ after_empty_pop old
   IsPop (Some x) old new = old ≡ with_newest x new
 
-  -- a steal at this worker's deque gave this
+  -- a steal at the victim's deque gave this task, or nothing
   abbrev pub IsSteal : ℕ → Option T → HeldEnds T → HeldEnds T → Type 0
   IsSteal victim None old new = new ≡ after_fruitless_steal victim old
   IsSteal victim (Some x) old new = new ≡ after_steal victim x old
@@ -33,7 +33,7 @@ spot_of (Ran s) = Some s
 spot_of (Dropped s) = Some s
 spot_of Dry = None
 
--- the desk after a piece was claimed and run
+-- the desk after the piece at this spot was claimed and finished
 abbrev pub after_run : Spot → Desk → Desk
 after_run s d = record d { given = d.given ++ (s.row, s.place) ∷ []; finishes = d.finishes + 1 }
 
@@ -47,33 +47,35 @@ NotRan (Ran s) = ⊥
 NotRan (Dropped s) = Unit {0}
 NotRan Dry = Unit {0}
 
--- The next try that names a deque of pieces: the tries between are skipped.
+-- x for the deque of nodes, y for that of pieces
 abbrev pub by_deck : {A : Type 0} → Deck → A → A → A
 by_deck CoreDeck x y = x
 by_deck BatchDeck x y = y
 
+-- the next try at a deque of pieces, and the tries after it: a try at a deque of nodes is skipped
 abbrev pub piece_try : TriesView → Try
 piece_try t = by_deck (try_of t).deck (try_of (after_try t)) (try_of t)
 
 abbrev pub after_piece_try : TriesView → TriesView
 after_piece_try t = by_deck (try_of t).deck (after_try (after_try t)) (after_try t)
 
--- the own deque of pieces gave this
+-- a pop of the own deque of pieces, and the claim of what it gave, had this outcome; nothing else changed
 pub record IsOwnPiece (t : Tried) (old new : MeSeen) : Type 0 where
   pub pop : IsPop (spot_of t) old.batch new.batch
   pub same : new ≡ record old { batch = new.batch; desk = desk_after t old.desk }
 
--- The deque of pieces that is the next to try gave this. With one worker none is tried, and that gives nothing.
+-- a steal at the next deque of pieces, and the claim of what it gave, had this outcome; nothing else changed
 pub record IsStolenPiece (t : Tried) (old new : MeSeen) : Type 0 where
   pub steal : IsSteal (piece_try old.tries).victim (spot_of t) old.batch new.batch
   pub same : new ≡ record old { batch = new.batch; desk = desk_after t old.desk; tries = after_piece_try old.tries }
 
+-- the same, or there is no other worker, nothing was tried, and the outcome is `Dry`
 abbrev pub IsOtherPiece : Tried → MeSeen → MeSeen → Type 0
 IsOtherPiece t old new =
     ((old.tries.workers ≡ 1) × (t ≡ Dry) × (new ≡ old)) ⊎ IsStolenPiece t old new
 
--- after results at the first so many places of the row that are not free were collected, these pieces were claimed and
--- finished, and these claims refused
+-- The desk after `collected` results were collected, at the first places of the row that are not free, while the pieces
+-- `given` were claimed and finished and the claims `refused` were refused. `empty` is the new count of empty collects.
 abbrev pub after_works : ℕ → List (ℕ × ℕ) → List (ℕ × ℕ) → ℕ → Desk → Desk
 after_works collected given refused empty d = record d {
   posted = drop collected d.posted;
@@ -84,14 +86,14 @@ after_works collected given refused empty d = record d {
   empty_collects = empty;
 }
 
--- The results at the first so many places of the row that are not free were collected, while pieces were run. Nothing was
--- posted.
+-- `collected` results were collected, at the first places of the row that are not free, while any number of pieces were
+-- run and any number of claims refused. Nothing was posted.
 pub record Works (collected : ℕ) (old new : Desk) : Type 0 where
   pub given : List (ℕ × ℕ)
   pub refused : List (ℕ × ℕ)
   pub is : new ≡ after_works collected given refused new.empty_collects old
 
--- these pieces were posted
+-- a piece with its place, and the desk after these pieces were posted on a free row
 abbrev pub with_place : PieceIn → ℕ × PieceIn
 with_place input = (place_of input, input)
 

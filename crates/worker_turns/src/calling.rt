@@ -1,13 +1,13 @@
-//! A call, from its post to its receipt.
-ghost use Rattle.std.specs.Prelude.{◌≡◌, ◌≤◌, ◌+◌, Some, [], ◌∷◌, ◌++◌, IfOk, IfErr};
+//! A call of a shared object, from its post to its receipt.
+ghost use Rattle.std.specs.Prelude.{◌≡◌, ◌≤◌, ◌<◌, ◌+◌, Some, [], ◌∷◌, ◌++◌, IfOk, IfErr};
 ghost use Rattle.worker_crew.specs.Words.{Got};
 ghost use Rattle.piece_board.specs.Boards.{desk_view};
 ghost use Rattle.two_deques.specs.Hands.{held};
 ghost use Rattle.worker_crew.specs.declared.step.Step.TheVariants as Steps;
 ghost use Rattle.worker_crew.specs.Passes.{IsFree, IsFront};
-ghost use Rattle.worker_turns.specs.Callings.{IsCallDue, IsServedAs};
+ghost use Rattle.worker_turns.specs.Callings.{IsCallDue, IsServedAs, HasCalled};
 ghost use Rattle.worker_crew.specs.Workers.{IsMeOf};
-ghost use Rattle.worker_turns.specs.Launches.{IsStop};
+ghost use Rattle.worker_turns.specs.Stops.{IsStop};
 ghost use Rattle.worker_turns.specs.Trapped.{IsJobSame};
 ghost use Rattle.worker_turns.specs.Free.{Helps};
 
@@ -21,14 +21,14 @@ use std::alloc::Global;
 use std::sync::Wait;
 use worker_crew::{Crew, Me, Step, Stop, Table};
 
-/// The receipt of a call, and how many batches there were when it had just been posted.
+/// The receipt of a call, and the number of batches published at a look just after the post.
 #[derive(Clone, Copy)]
 pub struct Called {
     pub since: u64,
     pub receipt: Receipt,
 }
 
-/// The operation of the call that is due.
+/// The operation of the due call.
 fn op_due<T: Table>(table: &T, pass: &T::Pass, leaf: u32) -> Op
     requires pass { T.gave table.now pass.now }
     requires free { IsFree (T.seen pass.now) }
@@ -43,8 +43,8 @@ fn op_due<T: Table>(table: &T, pass: &T::Pass, leaf: u32) -> Op
     }
 }
 
-/// Makes the call of a leaf, with the operation that the table tells: posts it, and takes trapped turns until the worker
-/// has left with its receipt.
+/// Makes the call of a leaf, with the operation that the table names: posts it, and takes trapped turns until the
+/// worker leaves with its receipt.
 #[tactic(auto, using(crate::proofs::CarryLemmas::Steps::front_none, crate::proofs::CarryLemmas::Steps::front_then))]
 pub fn call<T: Table, G: Pause, R: Wait>(
     rt: &R,
@@ -71,6 +71,10 @@ pub fn call<T: Table, G: Pause, R: Wait>(
     ensures left { IfOk result (λ called.
         ((T.seen me.new.pass).left ≡ (T.seen me.old.pass).left ++ called.receipt ∷ [])
         × ((T.seen me.new.pass).call ≡ Got called.receipt)) }
+    ensures events { IfOk result (λ called.
+        HasCalled called.receipt (T.seen me.old.pass) (T.seen me.new.pass)) }
+    ensures looked { IfOk result (λ _.
+        (T.seen me.old.pass).stop_looks < (T.seen me.new.pass).stop_looks) }
     ensures free_pass { IfOk result (λ _. IsFree (T.seen me.new.pass)) }
     ensures longer { IfOk result (λ _.
         IsFront (T.seen me.old.pass).book_seen (T.seen me.new.pass).book_seen) }

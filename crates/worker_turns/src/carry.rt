@@ -1,10 +1,10 @@
-//! How a claimed node is carried on.
+//! The execution of a claimed node.
 ghost use Rattle.std.specs.Prelude.{◌≡◌, Some, [], IfOk, IfErr};
 ghost use Rattle.worker_crew.specs.Words.{Idle};
 ghost use Rattle.piece_board.specs.Boards.{desk_view};
 ghost use Rattle.worker_crew.specs.Passes.{IsFree};
 ghost use Rattle.worker_crew.specs.Workers.{me_seen, IsMeOf};
-ghost use Rattle.worker_turns.specs.Launches.{IsStop};
+ghost use Rattle.worker_turns.specs.Stops.{IsStop};
 ghost use Rattle.worker_turns.specs.Free.{Carried};
 
 use crate::calling::call;
@@ -15,7 +15,7 @@ use std::alloc::Global;
 use std::sync::Wait;
 use worker_crew::{Crew, Me, Step, Stop, Table};
 
-/// Makes one step of the task.
+/// Makes the task's next step. A `Call` step takes as long as the call.
 fn make_step<T: Table, G: Pause, R: Wait>(
     rt: &R,
     alloc: Global,
@@ -60,7 +60,7 @@ fn make_step<T: Table, G: Pause, R: Wait>(
     Ok(())
 }
 
-/// Carries the claimed node on until the task is idle.
+/// Makes the task's steps until it is idle. A second arrival or the last side of a series continues with the block.
 pub(crate) fn carry_on<T: Table, G: Pause, R: Wait>(
     rt: &R,
     alloc: Global,

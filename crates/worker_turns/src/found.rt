@@ -1,36 +1,36 @@
-//! What a worker got of a deque, and what came of it.
+//! The outcome of one pop or steal, with that of the claim that follows.
 
 use two_deques::Spot;
 
-/// What a pop or a steal of a piece gave, and what the board said.
+/// The outcome of a pop or steal at a deque of pieces, and of the claim on the board.
 #[derive(Clone, Copy)]
 pub enum Tried {
-    /// A spot, whose piece was run.
+    /// The deque gave this spot, and its piece was claimed and run.
     Ran(Spot),
-    /// A spot, whose claim was refused.
+    /// The deque gave this spot, and the board refused its claim.
     Dropped(Spot),
-    /// Nothing.
+    /// The deque gave nothing, or none was tried.
     Dry,
 }
 
-/// What a pop or a steal of a node gave, and what the table said.
+/// The outcome of a pop or steal at a deque of nodes, and of the claim on the table.
 #[derive(Clone, Copy)]
 pub enum Found {
-    /// A node, which was claimed.
+    /// The deque gave this node, and it was claimed.
     Claimed(u32),
-    /// A node, whose claim was refused.
+    /// The deque gave this node, and the table refused its claim.
     Refused(u32),
-    /// Nothing.
+    /// The deque gave nothing.
     NoNode,
 }
 
-/// What the one steal of a free worker's turn gave.
+/// The outcome of the one steal of a free worker's turn.
 #[derive(Clone, Copy)]
 pub enum Other {
-    /// There is no other worker.
+    /// There is no other worker, and so no steal.
     Alone,
-    /// It was tried at a deque of nodes.
+    /// The steal was at a deque of nodes.
     Node(Found),
-    /// It was tried at a deque of pieces.
+    /// The steal was at a deque of pieces.
     Piece(Tried),
 }

@@ -1,11 +1,11 @@
 //! The turn of a free worker.
-ghost use Rattle.std.specs.Prelude.{◌≡◌, [], IfOk, IfErr};
+ghost use Rattle.std.specs.Prelude.{◌≡◌, ◌<◌, [], IfOk, IfErr};
 ghost use Rattle.worker_crew.specs.Words.{Idle};
 ghost use Rattle.piece_board.specs.Boards.{desk_view};
 ghost use Rattle.worker_crew.specs.declared.crew.Stop.TheVariants.{Memory};
 ghost use Rattle.worker_crew.specs.Passes.{IsFree};
 ghost use Rattle.worker_crew.specs.Workers.{me_seen, IsMeOf};
-ghost use Rattle.worker_turns.specs.Launches.{IsStop};
+ghost use Rattle.worker_turns.specs.Stops.{IsStop};
 ghost use Rattle.worker_turns.specs.Free.{node_of, pass_after, IsOwnNode, IsOther, IsFreeTurn};
 
 use crate::carry::carry_on;
@@ -17,18 +17,18 @@ use std::sync::Wait;
 use two_deques::Deck;
 use worker_crew::{Crew, Me, Stop, Table};
 
-/// What a free worker's turn did.
+/// The outcome of a free worker's turn.
 #[derive(Clone, Copy)]
 pub enum Did {
-    /// It claimed a node, and carried it on.
+    /// The worker claimed a node, and carried it on until its task was idle.
     Ran,
-    /// It ran a piece.
+    /// The worker ran a piece.
     Piece,
-    /// Nothing: there was nothing to do, or a task that it found was refused.
+    /// All tries found nothing, or the claim of what one found was refused.
     Nothing,
 }
 
-/// Claims a node, if there is one.
+/// Tries to claim the node, if there is one.
 fn claim_found<T: Table>(table: &T, pass: &mut T::Pass, found: Option<u32>) -> Found
     requires pass { T.gave table.now pass.old }
     requires free { IsFree (T.seen pass.old) }
@@ -47,7 +47,7 @@ fn claim_found<T: Table>(table: &T, pass: &mut T::Pass, found: Option<u32>) -> F
     }
 }
 
-/// Pops the own deque of nodes once, and claims what it gave.
+/// Pops the worker's own deque of nodes once, and tries to claim what it gives.
 fn own_node<T: Table, G: Pause>(crew: &Crew<T, G>, me: &mut Me<T::Pass>) -> Found
     requires me { IsMeOf (T.gave crew.now.table) T.seen crew.now.decks crew.now.board me.old }
     requires free { IsFree (T.seen me.old.pass) }
@@ -59,7 +59,8 @@ fn own_node<T: Table, G: Pause>(crew: &Crew<T, G>, me: &mut Me<T::Pass>) -> Foun
     claim_found(&crew.table, &mut me.pass, found)
 }
 
-/// Makes the one steal of the turn, at the deque that is the next to try, and claims what it gave.
+/// Makes the turn's one steal, at the deque that `Tries` names next. A node is claimed and not yet carried on; a piece
+/// is claimed and run.
 fn other<T: Table, G: Pause, R: Wait>(
     rt: &R,
     alloc: Global,
@@ -91,9 +92,9 @@ fn other<T: Table, G: Pause, R: Wait>(
     }
 }
 
-/// One turn of a free worker. It tries three things, in this order: a node of its own deque; a piece of its own deque;
-/// and one steal. A claimed node is carried on until the task is idle again, and a task that was found and is refused
-/// ends the turn.
+/// One turn of a free worker. It looks at the stop word, and then tries in this order: a node of its own deque, a piece
+/// of its own deque, and one steal. A claimed node is carried on until the task is idle again. A refused claim ends the
+/// turn.
 pub fn free_turn<T: Table, G: Pause, R: Wait>(
     rt: &R,
     alloc: Global,
@@ -110,6 +111,8 @@ pub fn free_turn<T: Table, G: Pause, R: Wait>(
         IsMeOf (T.gave crew.now.table) T.seen crew.now.decks crew.now.board me.new) }
     ensures path { IfOk result (λ did. IsFreeTurn did
         (me_seen T.seen me.old) (me_seen T.seen me.new)) }
+    ensures looked { IfOk result (λ _.
+        (T.seen me.old.pass).stop_looks < (T.seen me.new.pass).stop_looks) }
     ensures free_pass { IfOk result (λ _. IsFree (T.seen me.new.pass)) }
     ensures idle { IfOk result (λ _. (T.seen me.new.pass).task ≡ Idle) }
     ensures free { IfOk result (λ _. (desk_view me.new.desk).posted ≡ []) }

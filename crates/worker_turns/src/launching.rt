@@ -1,13 +1,14 @@
-//! A launch: all calls that are pending become one batch.
+//! A launch: the combiner serves the pending calls as one batch.
 ghost use Rattle.std.specs.Prelude.{◌≡◌, ◌≢◌, true, [], Some, IfOk, IfErr};
 ghost use Rattle.launch_batch.specs.Calls.{MayServe};
 ghost use Rattle.piece_board.specs.Boards.{desk_view};
 ghost use Rattle.worker_crew.specs.declared.crew.Stop.TheVariants.{Memory};
-ghost use Rattle.worker_crew.specs.Holds.{new_hold, AreFit, workers_in};
+ghost use Rattle.worker_crew.specs.Holds.{new_hold, AreFit};
 ghost use Rattle.worker_crew.specs.Passes.{is_trapped, Holds, IsHeld};
 ghost use Rattle.worker_crew.specs.Workers.{me_seen, IsMeOf};
-ghost use Rattle.worker_turns.specs.Launches.{Launches, IsStop};
-ghost use Rattle.worker_turns.specs.Code.Serving.{looked, taken_hold, answered_all, IsNewHold, IsAnswerable, ServesBatch};
+ghost use Rattle.worker_turns.specs.Launches.{Launches};
+ghost use Rattle.worker_turns.specs.Stops.{IsStop};
+ghost use Rattle.worker_turns.specs.Code.Serving.{HasLooked, HasTaken, answered_all, IsNewHold, IsAnswerable, ServesBatch};
 
 use crate::pieces::serve_pieces;
 use batch_history::Entry;
@@ -19,7 +20,7 @@ use std::alloc::Global;
 use std::sync::Wait;
 use worker_crew::{Crew, Me, Stop, Table};
 
-/// Looks at each worker once, and takes the calls that are pending.
+/// Looks at each worker once, in order from 0, and takes each call that is pending at its look.
 fn take_all<T: Table>(
     alloc: Global,
     table: &T,
@@ -31,7 +32,7 @@ fn take_all<T: Table>(
     requires workers { workers ≡ T.workers table.now }
     ensures pass { T.gave table.now pass.new }
     ensures looked { IfOk result (λ calls.
-        T.seen pass.new ≡ looked workers calls.items (T.seen pass.old)) }
+        HasLooked workers calls.items (T.seen pass.old) (T.seen pass.new)) }
     ensures fit { IfOk result (λ _. Holds AreFit (T.seen pass.new).hold) }
     ensures failed { IfErr result (λ stop. stop ≡ Memory) }
 {
@@ -44,12 +45,12 @@ fn take_all<T: Table>(
     Ok(calls)
 }
 
-/// Answers the calls of the batch, in its order.
+/// Answers the calls of the batch in batch order. `number` is the batch's number.
 fn answer_all<T: Table>(table: &T, pass: &mut T::Pass, batch: &[Entry], number: u32)
     requires pass { T.gave table.now pass.old }
     requires published { IsHeld (T.seen pass.old) (IsAnswerable number batch.now) }
     ensures pass { T.gave table.now pass.new }
-    ensures answered { T.seen pass.new ≡ answered_all (workers_in batch.now) (T.seen pass.old) }
+    ensures answered { T.seen pass.new ≡ answered_all number batch.now (T.seen pass.old) }
 {
     for place in 0..batch.len() {
         let entry = batch[place];
@@ -62,7 +63,8 @@ fn answer_all<T: Table>(table: &T, pass: &mut T::Pass, batch: &[Entry], number: 
     }
 }
 
-/// Serves the calls as one batch, publishes it, and answers them.
+/// Serves the calls as one batch, whose pieces all workers may run, publishes it, and answers the calls. Returns the
+/// shop.
 fn serve_batch<T: Table, G: Pause, R: Wait>(
     rt: &R,
     alloc: Global,
@@ -74,14 +76,14 @@ fn serve_batch<T: Table, G: Pause, R: Wait>(
     requires me { IsMeOf (T.gave crew.now.table) T.seen crew.now.decks crew.now.board me.old }
     requires free { (desk_view me.old.desk).posted ≡ [] }
     requires trapped { is_trapped (T.seen me.old.pass).call ≡ true }
-    requires hold { (T.seen me.old.pass).hold
-        ≡ Some (taken_hold (T.workers crew.now.table) calls.items shop) }
+    requires hold { HasTaken (T.workers crew.now.table) calls.items shop
+        (T.seen me.old.pass).hold }
     requires may { MayServe shop calls.items }
     ensures pass { T.gave crew.now.table me.new.pass }
     ensures me { IfOk result (λ _.
         IsMeOf (T.gave crew.now.table) T.seen crew.now.decks crew.now.board me.new) }
-    ensures batch { IfOk result (λ after. ServesBatch (T.workers crew.now.table)
-        shop calls.items after (me_seen T.seen me.old) (me_seen T.seen me.new)) }
+    ensures batch { IfOk result (λ after. ServesBatch shop calls.items after
+        (me_seen T.seen me.old) (me_seen T.seen me.new)) }
     ensures stopped { IfErr result (λ stop. IsStop stop (T.seen me.old.pass) (T.seen me.new.pass)) }
 {
     let number = shop.history().batches().len();
@@ -94,7 +96,8 @@ fn serve_batch<T: Table, G: Pause, R: Wait>(
     Ok(shop)
 }
 
-/// Takes all calls that are pending, serves them as one batch, answers them, and lets go of the flag.
+/// The combiner's work after it won the flag: takes the calls that it finds pending, serves them as one batch, answers
+/// them, and releases the flag. If it finds none, it only releases the flag.
 pub fn launch<T: Table, G: Pause, R: Wait>(
     rt: &R,
     alloc: Global,

@@ -1,17 +1,18 @@
-//! What the answers of the turns mean, each law as the contract of a function that does nothing. The clauses of the turns
-//! say each answer as a path, from what was seen of the worker before to what is seen after; the laws read the counts and
-//! lists that rose, and what stayed as it was, off these paths.
+//! The meaning of each answer of a turn. Each law is the contract of a function with an empty body. The contract of a
+//! turn describes its answer as a path, step by step from the worker's old view to its new one; the laws derive from
+//! this path which counts and lists grew, and what is unchanged.
 ghost use Rattle.worker_crew.specs.Workers.{me_seen, IsMeOf};
 ghost use Rattle.worker_turns.specs.Meanings.Gains.{HasAllEnds};
 
 use worker_crew::{Crew, Me, Table};
 
+pub mod events;
 pub mod free;
 pub mod launches;
 pub mod stays;
 pub mod trapped;
 
-/// A worker has its ends of the deques of all workers, as the laws of the turns ask for.
+/// A worker of a crew meets `HasAllEnds`, a premise of laws of the turns: it has its ends of all workers' deques.
 #[tactic(auto, using(crate::proofs::MeaningLemmas::Gains::has_all_ends))]
 pub fn a_worker_has_its_ends_of_all_deques<T: Table, G>(crew: &Crew<T, G>, me: &Me<T::Pass>)
     requires me { IsMeOf (T.gave crew.now.table) T.seen crew.now.decks crew.now.board me.now }

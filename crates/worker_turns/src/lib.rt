@@ -1,13 +1,13 @@
-//! The turns of one worker: how it steals, how its calls become batches, and how it helps while it waits.
+//! The turns of one worker: work stealing, calls that are served in implicit batches, and helping while a call waits.
 //!
-//! A free worker takes a node of its own, a piece of its own, or steals (`free`), and carries a claimed node on until
-//! its task is idle again (`carry`). A call is posted, and then its worker is trapped until a batch has answered it
-//! (`calling`): it helps with pieces, tries to leave, and tries to launch a batch itself (`trapped`). A launch takes all
-//! calls that are pending, serves them as one batch whose pieces anyone may run (`launching`, `pieces`), and answers them.
-//! What each answer of a turn says is a path from what was seen of the worker before to what is seen after, and `laws`
-//! reads off it which counts and lists rose. A worker takes its turns until the root is done (`worker`), and rests after
-//! those that did nothing (`rest`). The crate stands on `worker_crew`, which has the worker, what all share, and the table,
-//! as a parameter; and on `two_deques`, `piece_board` and `launch_batch`.
+//! A free worker runs a node or a piece of its own deques, or steals one (`free`), and carries a claimed node on until
+//! its task is idle again (`carry`). A worker that posts a call is trapped until a batch has answered it (`calling`):
+//! it helps with pieces, tries to leave, and tries to launch a batch itself (`trapped`). A launch takes the pending
+//! calls, serves them as one batch whose pieces any worker may run (`launching`, `pieces`), and answers them. A turn's
+//! contract describes its answer as a path from the worker's old view to its new one; `laws` derives from it which
+//! counts and lists grew. A worker takes turns until the root is done or the run is stopped (`worker`), and backs off
+//! after turns that did nothing (`rest`). The crate builds on `worker_crew`, which has the worker, the shared state and
+//! the interface of the table, a parameter here; and on `two_deques`, `piece_board` and `launch_batch`.
 #![tactic(auto)]
 
 pub mod calling;

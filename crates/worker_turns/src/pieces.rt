@@ -1,4 +1,4 @@
-//! How a worker gets a piece, and runs it.
+//! How a worker finds a piece, claims it and runs it.
 ghost use Rattle.std.specs.Prelude.{◌≡◌, ◌≢◌, ◌<◌, IfOk, IfErr, IfSome, IfNone};
 ghost use Rattle.piece_board.specs.Boards.{desk_view, IsDeskOf};
 ghost use Rattle.two_deques.specs.Hands.{held, workers_of, IsHandOf};
@@ -18,7 +18,7 @@ mod serving;
 
 pub(crate) use serving::serve_pieces;
 
-/// Claims the piece of a spot, if there is one, and runs it. A spot whose claim is refused is dropped.
+/// Claims the piece of the spot, if a spot was found, and runs it. A spot whose claim is refused is dropped.
 pub(crate) fn run_found<T: Table, G: Pause>(
     alloc: Global,
     crew: &Crew<T, G>,
@@ -47,7 +47,7 @@ pub(crate) fn run_found<T: Table, G: Pause>(
     Ok(Tried::Ran(spot))
 }
 
-/// Pops the own deque of pieces once, and runs what it gave.
+/// Pops the worker's own deque of pieces once, and claims and runs what it gives.
 pub(crate) fn own_piece<T: Table, G: Pause>(
     alloc: Global,
     crew: &Crew<T, G>,
@@ -65,7 +65,7 @@ pub(crate) fn own_piece<T: Table, G: Pause>(
     run_found(alloc, crew, me, found)
 }
 
-/// The worker whose deque of pieces is tried next. There is none where there is no other worker.
+/// The next victim of a steal of pieces; tries at deques of nodes are skipped. `None`: there is no other worker.
 fn next_victim(tries: &mut Tries) -> Option<u32>
     ensures victim { IfSome result (λ victim. (victim ≡ (piece_try tries.old).victim)
         × (tries.new ≡ after_piece_try tries.old)) }
@@ -83,7 +83,7 @@ fn next_victim(tries: &mut Tries) -> Option<u32>
     }
 }
 
-/// Tries to steal one piece, if there is another worker, and runs what that gave.
+/// Tries to steal one piece, if there is another worker, and claims and runs what the steal gives.
 pub(crate) fn other_piece<T: Table, G: Pause, R: Wait>(
     rt: &R,
     alloc: Global,

@@ -1,9 +1,9 @@
-//! How a worker rests between its turns.
+//! Backoff between two turns or looks.
 
 use crossbeam_utils::Backoff;
 
-/// A worker rests after a turn that did nothing, longer from one such turn to the next, until it gives its processor
-/// away. After a turn that did something its next rest is a short one.
+/// Snoozes after a turn that did nothing: each such turn in a row makes the snooze longer, until it yields the
+/// processor. A turn that did something resets the backoff.
 pub(crate) fn rest_after(backoff: &Backoff, nothing: bool) {
     if nothing {
         backoff.snooze();

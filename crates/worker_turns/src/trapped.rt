@@ -1,10 +1,10 @@
 //! The turn of a trapped worker.
-ghost use Rattle.std.specs.Prelude.{◌≡◌, [], IfOk, IfErr};
+ghost use Rattle.std.specs.Prelude.{◌≡◌, ◌<◌, [], IfOk, IfErr};
 ghost use Rattle.piece_board.specs.Boards.{desk_view};
 ghost use Rattle.two_deques.specs.Hands.{held};
 ghost use Rattle.worker_crew.specs.Passes.{IsTrapped};
 ghost use Rattle.worker_crew.specs.Workers.{me_seen, IsMeOf};
-ghost use Rattle.worker_turns.specs.Launches.{IsStop};
+ghost use Rattle.worker_turns.specs.Stops.{IsStop};
 ghost use Rattle.worker_turns.specs.Trapped.{IsTrappedTurn, StaysTrapped};
 ghost use Rattle.worker_turns.specs.Free.{Helps};
 
@@ -17,21 +17,21 @@ use std::alloc::Global;
 use std::sync::Wait;
 use worker_crew::{Crew, Me, Stop, Table};
 
-/// What a trapped worker's turn did.
+/// The outcome of a trapped worker's turn.
 #[derive(Clone, Copy)]
 pub enum Trapped {
-    /// It left, with this receipt.
+    /// The worker left with this receipt, and is free again.
     Left(Receipt),
-    /// It ran a piece.
+    /// The worker ran a piece.
     Piece,
-    /// It launched.
+    /// The worker won the flag and launched.
     Launched,
-    /// Nothing: there was nothing to do.
+    /// All four tries failed.
     Nothing,
 }
 
-/// One turn of a trapped worker. It tries four things, in this order: a piece of its own deque; to leave; to win the
-/// flag, and launch; and to steal one piece.
+/// One turn of a trapped worker. It looks at the stop word, and then tries in this order: to run a piece of its own
+/// deque; to leave; to win the flag and launch; and to steal one piece. The first that succeeds ends the turn.
 #[tactic(auto, using(crate::proofs::CarryLemmas::Steps::front_none))]
 pub fn trapped_turn<T: Table, G: Pause, R: Wait>(
     rt: &R,
@@ -50,6 +50,8 @@ pub fn trapped_turn<T: Table, G: Pause, R: Wait>(
         (me_seen T.seen me.old) (me_seen T.seen me.new)) }
     ensures stays { IfOk result (λ turn. StaysTrapped turn
         (T.seen me.old.pass) (T.seen me.new.pass)) }
+    ensures looked { IfOk result (λ _.
+        (T.seen me.old.pass).stop_looks < (T.seen me.new.pass).stop_looks) }
     ensures free { IfOk result (λ _. (desk_view me.new.desk).posted ≡ []) }
     ensures core { IfOk result (λ _. (held me.new.hand).core ≡ (held me.old.hand).core) }
     ensures helps { IfOk result (λ _. Helps (desk_view me.old.desk) (desk_view me.new.desk)) }

@@ -1,7 +1,7 @@
 //! The loop of one worker.
 ghost use Rattle.std.specs.Prelude.{◌≡◌, ◌⊎◌, true, false};
 ghost use Rattle.worker_crew.specs.Workers.{IsReady};
-ghost use Rattle.worker_turns.specs.Launches.{KnowsStop};
+ghost use Rattle.worker_turns.specs.Stops.{KnowsStop};
 
 use crate::free::{Did, free_turn};
 use crate::rest::rest_after;
@@ -11,8 +11,8 @@ use std::alloc::Global;
 use std::sync::Wait;
 use worker_crew::{Crew, Me, Stop, Table};
 
-/// One turn of a worker, and its rest. The answer is whether it goes on. Where memory ran out in the turn it sets the
-/// stop word, for the others.
+/// One free turn of a worker, unless the root is done, and the backoff after it. Returns whether the worker goes on. If
+/// memory runs out in the turn, the worker sets the stop word to stop the others.
 fn turn<T: Table, G: Pause, R: Wait>(
     rt: &R,
     alloc: Global,
@@ -44,8 +44,8 @@ fn turn<T: Table, G: Pause, R: Wait>(
     }
 }
 
-/// Lets a worker take its turns, until it has seen the root done, or has set the stop word, or found it set. It gives
-/// its pass back.
+/// A worker's main loop: takes turns until the worker sees the root done, sets the stop word or finds it set. Returns
+/// its pass.
 pub fn work<T: Table, G: Pause, R: Wait>(
     rt: &R,
     alloc: Global,

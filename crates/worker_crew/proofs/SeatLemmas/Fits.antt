@@ -81,8 +81,8 @@ module _ (h : HoldView) (u room : ℕ) (call : OpRecord) where
             (apart_from new old.workers) (new_leaf h.book call.leaf new.unbooked) (omega (arith, all, fits, few));
       }
 
-fit_passed : (h : HoldView) → AreFit (hold_seen h) → AreFit (hold_seen (passed_view h))
-fit_passed h fit = record {
+fit_passed : (h : HoldView) (status : ℕ) → AreFit (hold_seen h) → AreFit (hold_seen (passed_view h status))
+fit_passed h status fit = record {
   below = each_so (λ (c : Call). c.worker < h.looks) (λ (c : Call). c.worker < h.looks + 1) (λ c below. omega (arith, below)) (calls_taken h.taken) fit.below;
   serve = fit.serve;
 }
@@ -102,5 +102,5 @@ pub take_fits : (h : HoldView) (u room : ℕ) (call : OpRecord) (old new : Optio
     → StayFit (option_map hold_seen old) (option_map hold_seen new)
 take_fits h u room call old new was now is_new few is low = stay_by h (taken_view h u call) old new was now (fit_taken h u room call is_new few is low)
 
-pub pass_fits : (h : HoldView) (old new : Option HoldView) → old ≡ Some h → new ≡ Some (passed_view h) → StayFit (option_map hold_seen old) (option_map hold_seen new)
-pass_fits h old new was now = stay_by h (passed_view h) old new was now (fit_passed h)
+pub pass_fits : (h : HoldView) (status : ℕ) (old new : Option HoldView) → old ≡ Some h → new ≡ Some (passed_view h status) → StayFit (option_map hold_seen old) (option_map hold_seen new)
+pass_fits h status old new was now = stay_by h (passed_view h status) old new was now (fit_passed h status)

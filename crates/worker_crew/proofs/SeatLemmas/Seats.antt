@@ -1,5 +1,5 @@
 -- A pass stays one of its table, and what is seen of it after each step follows from what its view says.
-use Rattle.std.proofs.Common.{ℕ, ◌≡◌, ◌≤◌, ◌+◌, Bool, true, false, List, [], ◌∷◌, refl, sym, ap, ◌∙◌, subst}
+use Rattle.std.proofs.Common.{ℕ, ◌≡◌, ◌≤◌, ◌+◌, Bool, true, false, List, [], ◌∷◌, ◌++◌, refl, sym, ap, ◌∙◌, subst}
 use Rattle.std.specs.Prelude.{Option, None, Some, option_map, IfSome, IfNone, IfOk, IfErr, IsTrue, IsFalse, Result, Ok, Err}
 use Rattle.core_model.specs.Entries.{StandsAt}
 use Rattle.core_table.specs.declared.slot.OpRecord.{OpRecord}
@@ -91,14 +91,11 @@ released_seen v = λ i. record (passes.releasing (pass_seen v)) { book_seen = bo
 
 module _ (new old : View) where
   -- how its task was changed
-  pub task_seen : (task : Task) (event : Event) → new ≡ views.with_event (views.with_task old task) event → pass_seen new ≡ passes.with_task new.task (pass_seen old)
-  task_seen task event is = subst (λ (v : View). pass_seen v ≡ passes.with_task v.task (pass_seen old)) (sym is) refl
+  pub task_seen : (task : Task) (event : Event) → new ≡ views.with_event (views.with_task old task) event → pass_seen new ≡ passes.with_task event new.task (pass_seen old)
+  task_seen task event is = subst (λ (v : View). pass_seen v ≡ passes.with_task event v.task (pass_seen old)) (sym is) refl
 
-  pub opened_seen : (node : ℕ) (task : Task) (event : Event) → new ≡ views.with_event (views.opening old node task) event → pass_seen new ≡ passes.opening node new.task (pass_seen old)
-  opened_seen node task event is = subst (λ (v : View). pass_seen v ≡ passes.opening node v.task (pass_seen old)) (sym is) refl
-
-  pub kept_seen : (n start : ℕ) (event : Event) → new ≡ views.with_event (views.keeping old n start) event → pass_seen new ≡ passes.keeping new.task (pass_seen old)
-  kept_seen n start event is = subst (λ (v : View). pass_seen v ≡ passes.keeping v.task (pass_seen old)) (sym is) refl
+  pub opened_seen : (node : ℕ) (task : Task) (event : Event) → new ≡ views.with_event (views.opening old node task) event → pass_seen new ≡ passes.opening node event new.task (pass_seen old)
+  opened_seen node task event is = subst (λ (v : View). pass_seen v ≡ passes.opening node event v.task (pass_seen old)) (sym is) refl
 
   -- what it was told
   least_same : (o : Option ℕ) (n : ℕ) → views.least_told o n ≡ Some (passes.least_told n o)
@@ -113,11 +110,12 @@ module _ (new old : View) where
   first_seen n is just = ap (λ (v : View). v.first_since) is ∙ ap (λ b. views.told_first b old.first_since n) just
 
   -- how its hold was changed
-  pub hold_step : (h k : HoldView) (f : HoldSeen → HoldSeen) (v : View) → old.hold ≡ Some h → hold_seen k ≡ f (hold_seen h) → new ≡ v → pass_seen v ≡ record (pass_seen old) { hold = Some (hold_seen k) }
-      → pass_seen new ≡ record (pass_seen old) { hold = passes.in_hold f (pass_seen old).hold }
-  hold_step h k f v holds same is seen =
-      ap pass_seen is ∙ seen ∙ (λ i. record (pass_seen old) { hold = Some (same i) })
-      ∙ ap (λ (o : Option HoldView). record (pass_seen old) { hold = passes.in_hold f (option_map hold_seen o) }) (sym holds)
+  pub hold_step : (h k : HoldView) (event : Event) (f : HoldSeen → HoldSeen) (v : View) → old.hold ≡ Some h → hold_seen k ≡ f (hold_seen h) → new ≡ v
+      → pass_seen v ≡ record (pass_seen old) { hold = Some (hold_seen k); events = (pass_seen old).events ++ event ∷ [] }
+      → pass_seen new ≡ passes.with_hold event f (pass_seen old)
+  hold_step h k event f v holds same is seen =
+      ap pass_seen is ∙ seen ∙ (λ i. record (pass_seen old) { hold = Some (same i); events = (pass_seen old).events ++ event ∷ [] })
+      ∙ ap (λ (o : Option HoldView). record (pass_seen old) { hold = passes.in_hold f (option_map hold_seen o); events = (pass_seen old).events ++ event ∷ [] }) (sym holds)
 
   -- how it left
   due_by : (after : Option ℕ) (batch : ℕ) → ((since : ℕ) → after ≡ Some since → batch ≤ since + 1) → IfSome after (λ since. batch ≤ since + 1)

@@ -1,4 +1,4 @@
-//! The workers at the start of a run over the running table.
+//! Construction of a crew over `CoreTable`, and of its workers, at the start of a run.
 ghost use Rattle.std.specs.Prelude.{◌≡◌, ◌*◌, ◌<◌, ◌≤◌, ℕ, length, slice_index_or, Some, IsSome, IfOk};
 ghost use Rattle.std.specs.List.{count_by};
 ghost use Rattle.sp_order.specs.Preorder.{nodes_of};
@@ -21,7 +21,7 @@ use sp_order::Job;
 use std::alloc::{AllocError, Global};
 use two_deques::{Decks, Hand, Tries};
 
-/// How many of the leaves call.
+/// The number of leaves whose act is a call.
 fn count_calls(acts: &[Act]) -> u32
     requires most { length acts.now ≤ 20000 }
     ensures { result ≡ count_by is_call acts.now }
@@ -35,7 +35,7 @@ fn count_calls(acts: &[Act]) -> u32
     count
 }
 
-/// The hand with which a worker begins: worker 0 pushes the root.
+/// The hand with which a worker begins. Worker 0 first pushes node 0, the root.
 fn opening(decks: &Decks, hand: Hand) -> Result<Hand, AllocError>
     requires hand { IsHandOf decks.now hand }
     requires fresh { held hand ≡ fresh_hand (held hand).worker (workers_of decks.now) }
@@ -50,7 +50,7 @@ fn opening(decks: &Decks, hand: Hand) -> Result<Hand, AllocError>
     Ok(hand)
 }
 
-/// What each worker has at the start, in the order of the workers.
+/// The workers' initial states, indexed by worker.
 fn mes_of<T: Table, G: Pause>(
     alloc: Global,
     crew: &Crew<T, G>,
@@ -87,8 +87,9 @@ where
 }
 
 impl<'a, G: Pause> Crew<'a, CoreTable, G> {
-    /// The crew of a job that has leaves, over the running table, and its workers, in their order. Node 0 stands on the
-    /// deque of worker 0. The deques of nodes are sure to take each node once, and those of pieces eight of each call.
+    /// The crew of a non-empty job over `CoreTable`, and its workers, indexed by worker. Node 0 is on the deque of
+    /// worker 0. Over its lifetime, each deque of nodes is sure to take one push for each node of the job, and each
+    /// deque of pieces eight for each leaf that calls.
     pub fn make(
         alloc: Global,
         job: &Job,

@@ -1,13 +1,16 @@
 -- One step after another of a task that is carried on.
-use Rattle.std.proofs.Common.{◌≡◌, ℕ, ◌+◌, List, [], ◌++◌, length, sym, refl, ap, ◌∙◌, arith, append_assoc, append-nil, length-append}
-use Rattle.two_deques.specs.Ends.{HeldEnds}
-use Rattle.worker_crew.specs.Words.{Task, CallState, Receipt}
-use Rattle.worker_crew.specs.Passes.{PassSeen, IsFront}
+use Rattle.std.proofs.Common.{◌≡◌, ◌<◌, ◌⊎◌, ℕ, ◌+◌, List, [], ◌∷◌, ◌++◌, length, inl, inr, sym, refl, ap, ◌∙◌, arith, append_assoc, append-nil, length-append}
+use Rattle.core_model.specs.declared.event.Event.TheVariants.{Post, Leave}
+use Rattle.core_model.specs.declared.task.Task.TheVariants.{Started}
+use Rattle.two_deques.specs.Ends.{HeldEnds, after_push}
+use Rattle.worker_crew.specs.Words.{Event, Task, CallState, Receipt}
+use Rattle.worker_crew.specs.Passes.{PassSeen, IsFront, opening, with_task}
 use Rattle.worker_crew.specs.Workers.{MeSeen}
 use Rattle.worker_turns.specs.Pieces.{Desk, Works}
 use Rattle.worker_turns.specs.declared.trapped.Trapped.{Trapped}
 use Rattle.worker_turns.specs.declared.trapped.Trapped.TheVariants.{Left, Piece, Launched, Nothing}
 use Rattle.worker_turns.specs.Trapped.{IsJobSame, IsCallSame, StaysTrapped}
+use Rattle.worker_turns.specs.Callings.{HasCalled}
 use Rattle.worker_turns.specs.Free.{Helps, Carried}
 
 pub helps_none : (d : Desk) → Helps d d
@@ -55,8 +58,9 @@ core_none a b is =
     is ∙ (λ i. record a { own = sym (append-nil a.own) i; pushes = none i })
 
 -- a step that opens nothing
-pub carried_call : (old new : MeSeen) → IsJobSame old.pass new.pass → IsFront old.pass.book_seen new.pass.book_seen → new.core ≡ old.core → Helps old.desk new.desk → Carried old new
-carried_call old new job longer core desk = record {
+pub carried_call : (old new : MeSeen) → IsJobSame old.pass new.pass → IsFront old.pass.book_seen new.pass.book_seen → old.pass.stop_looks < new.pass.stop_looks → IsFront old.pass.events new.pass.events
+    → new.core ≡ old.core → Helps old.desk new.desk → Carried old new
+carried_call old new job longer looked events core desk = record {
   nodes = [];
   opened = job.opened ∙ sym (append-nil _);
   core = core_none old.core new.core core;
@@ -67,11 +71,13 @@ carried_call old new job longer core desk = record {
   longer = longer;
   found = job.found;
   stops = job.stops;
+  looks = omega (arith, looked);
+  events = events;
   desk = desk;
 }
 
-pub carried_step : (old new : MeSeen) (task : Task) (call : CallState) → new.pass ≡ record old.pass { task = task; call = call } → new.core ≡ old.core → new.desk ≡ old.desk → Carried old new
-carried_step old new task call is core desk = record {
+pub carried_step : (old new : MeSeen) (task : Task) (call : CallState) (events : List Event) → new.pass ≡ record old.pass { task = task; call = call; events = old.pass.events ++ events } → new.core ≡ old.core → new.desk ≡ old.desk → Carried old new
+carried_step old new task call events is core desk = record {
   nodes = [];
   opened = ap (λ (p : PassSeen). p.opened) is ∙ sym (append-nil _);
   core = core_none old.core new.core core;
@@ -82,11 +88,53 @@ carried_step old new task call is core desk = record {
   longer = front_none _ _ (ap (λ (p : PassSeen). p.book_seen) is);
   found = ap (λ (p : PassSeen). p.stops_found) is;
   stops = ap (λ (p : PassSeen). p.stops) is;
+  looks = (let l = ap (λ (p : PassSeen). p.stop_looks) is in omega (arith, l));
+  events = (events, ap (λ (p : PassSeen). p.events) is);
   desk = record { given = []; gave = ap (λ (d : Desk). d.given) desk ∙ sym (append-nil _); finishes = (let f = ap (λ (d : Desk). d.finishes) desk in omega (arith, f)) };
 }
 
+-- a step that opens a node, which is pushed on the own deque
+pub carried_open : (old new : MeSeen) (node : ℕ) (event : Event) (task : Task) → new.pass ≡ opening node event task old.pass → new.core ≡ after_push node old.core → new.desk ≡ old.desk → Carried old new
+carried_open old new node event task is core desk = record {
+  nodes = node ∷ [];
+  opened = ap (λ (p : PassSeen). p.opened) is;
+  core = core;
+  worker = ap (λ (p : PassSeen). p.worker) is;
+  claims = ap (λ (p : PassSeen). p.claims) is;
+  claimed = ap (λ (p : PassSeen). p.claimed) is;
+  refused = ap (λ (p : PassSeen). p.refused_nodes) is;
+  longer = front_none _ _ (ap (λ (p : PassSeen). p.book_seen) is);
+  found = ap (λ (p : PassSeen). p.stops_found) is;
+  stops = ap (λ (p : PassSeen). p.stops) is;
+  looks = (let l = ap (λ (p : PassSeen). p.stop_looks) is in omega (arith, l));
+  events = (event ∷ [], ap (λ (p : PassSeen). p.events) is);
+  desk = record { given = []; gave = ap (λ (d : Desk). d.given) desk ∙ sym (append-nil _); finishes = (let f = ap (λ (d : Desk). d.finishes) desk in omega (arith, f)) };
+}
+
+-- an arrival, as the first side or as the second
+pub carried_arrival : (old new : MeSeen) (first second : Event) (s t : Task) → (new.pass ≡ with_task first s old.pass) ⊎ (new.pass ≡ with_task second t old.pass)
+    → new.core ≡ old.core → new.desk ≡ old.desk → Carried old new
+carried_arrival old new first second s t (inl is) core desk = carried_step old new s old.pass.call (first ∷ []) is core desk
+carried_arrival old new first second s t (inr is) core desk = carried_step old new t old.pass.call (second ∷ []) is core desk
+
+-- a call's events follow those before it
+pub front_called : (receipt : Receipt) (old new : PassSeen) → HasCalled receipt old new → IsFront old.events new.events
+front_called receipt old new (node, start, between, task, is) = (_, is)
+
+-- a call from its post to its leave
+pub called : (receipt : Receipt) (old mid new : PassSeen) (node start : ℕ) → old.task ≡ Started node start → IsFront (old.events ++ Post node start ∷ []) mid.events
+    → new.events ≡ mid.events ++ Leave receipt ∷ [] → HasCalled receipt old new
+called receipt old mid new node start task (between, is) last = (
+  node,
+  start,
+  between,
+  task,
+  last ∙ ap (λ l. l ++ Leave receipt ∷ []) is ∙ append_assoc (old.events ++ Post node start ∷ []) between (Leave receipt ∷ [])
+  ∙ append_assoc old.events (Post node start ∷ []) (between ++ Leave receipt ∷ []),
+)
+
 pub carried_none : (old : MeSeen) → Carried old old
-carried_none old = carried_step old old old.pass.task old.pass.call refl refl refl
+carried_none old = carried_step old old old.pass.task old.pass.call [] (λ i. record old.pass { events = sym (append-nil old.pass.events) i }) refl refl
 
 -- steps after steps
 pub carried_then : (a b c : MeSeen) → Carried a b → Carried b c → Carried a c
@@ -107,5 +155,7 @@ carried_then a b c v w = record {
   longer = front_then a.pass.book_seen b.pass.book_seen c.pass.book_seen v.longer w.longer;
   found = w.found ∙ v.found;
   stops = w.stops ∙ v.stops;
+  looks = (let p = v.looks in let q = w.looks in omega (arith, p, q));
+  events = front_then a.pass.events b.pass.events c.pass.events v.events w.events;
   desk = helps_then a.desk b.desk c.desk v.desk w.desk;
 }

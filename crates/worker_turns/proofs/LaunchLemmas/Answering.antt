@@ -1,11 +1,13 @@
 -- The answers of a launch.
-use Rattle.std.proofs.Common.{◌≡◌, ℕ, zero, suc, ◌+◌, ◌<◌, Option, None, Some, List, [], ◌∷◌, ◌++◌, length, take, get_or, sym, refl, ap, ◌∙◌, subst, arith}
+use Rattle.std.proofs.Common.{◌≡◌, ℕ, zero, suc, ◌+◌, ◌<◌, ◌≤◌, Option, None, Some, List, [], ◌∷◌, ◌++◌, length, take, get_or, sym, refl, ap, ◌∙◌, subst, arith, append_assoc, append-nil}
 use Rattle.std.specs.Prelude.{slice_get}
-use Rattle.std.proofs.lemmas.List.{take_more, length-map}
+use Rattle.std.proofs.lemmas.List.{take_more, map-append}
 use Rattle.core_model.specs.Words.{Entry}
 use Rattle.worker_crew.specs.Words.{Receipt}
 use Rattle.worker_crew.specs.Holds.{HoldSeen, workers_in, IsAnswerDue, after_answer}
 use Rattle.worker_crew.specs.Passes.{PassSeen, Holds, IsHeld, in_hold, answering}
+use Rattle.core_model.specs.declared.event.Event.TheVariants.{Answer}
+use Rattle.worker_turns.specs.Launches.{answer_events}
 use Rattle.worker_turns.specs.Code.Serving.{after_answers, answered_all, IsAnswerable}
 use Rattle.worker_turns.proofs.PieceLemmas.Collecting.{map_at}
 
@@ -13,8 +15,13 @@ none_in : (number : ℕ) (batch : List Entry) (h : Option HoldSeen) → Holds (I
 none_in number batch None due = absurd due
 none_in number batch (Some h) due = ap (λ (ws : List ℕ). Some (after_answers ws h)) due.none
 
-pub none_answered : (p : PassSeen) (number : ℕ) (batch : List Entry) → IsHeld p (IsAnswerable number batch) → p ≡ answered_all [] p
-none_answered p number batch held = λ i. record p { hold = none_in number batch p.hold held.1 i }
+pub none_answered : (p : PassSeen) (number : ℕ) (batch : List Entry) → IsHeld p (IsAnswerable number batch) → p ≡ answered_all number [] p
+none_answered p number batch held = λ i. record p { hold = none_in number batch p.hold held.1 i; events = sym (append-nil p.events) i }
+
+taken_workers : (k : ℕ) (batch : List Entry) → take k (workers_in batch) ≡ workers_in (take k batch)
+taken_workers zero batch = refl
+taken_workers (suc k) [] = refl
+taken_workers (suc k) (e ∷ batch) = ap (λ l. e.worker ∷ l) (taken_workers k batch)
 
 due_in : (number k : ℕ) (batch : List Entry) (e : Entry) (receipt : Receipt) (h : Option HoldSeen) → slice_get batch k ≡ Some e
     → receipt ≡ record { batch = number; place = k; reply = e.reply } → Holds (IsAnswerable number batch) h
@@ -34,22 +41,44 @@ due_in number k batch e receipt (Some h) at is due = record {
 
 pub answer_due : (p q : PassSeen) (number k : ℕ) (batch : List Entry) (e : Entry) (receipt : Receipt) → slice_get batch k ≡ Some e
     → receipt ≡ record { batch = number; place = k; reply = e.reply } → IsHeld p (IsAnswerable number batch)
-    → q ≡ answered_all (take k (workers_in batch)) p → IsHeld q (IsAnswerDue e.worker receipt)
+    → q ≡ answered_all number (take k batch) p → IsHeld q (IsAnswerDue e.worker receipt)
 answer_due p q number k batch e receipt at is held now =
-    subst (λ (r : PassSeen). IsHeld r (IsAnswerDue e.worker receipt)) (sym now) (held.0, due_in number k batch e receipt p.hold at is held.1)
+    subst (λ (r : PassSeen). IsHeld r (IsAnswerDue e.worker receipt)) (sym now) (
+      held.0,
+      subst (λ (ws : List ℕ). Holds (IsAnswerDue e.worker receipt) (in_hold (after_answers ws) p.hold)) (taken_workers k batch) (due_in number k batch e receipt p.hold at is held.1),
+    )
 
 twice : (ws : List ℕ) (u : ℕ) (h : Option HoldSeen) → in_hold (after_answer u) (in_hold (after_answers ws) h) ≡ in_hold (after_answers (ws ++ u ∷ [])) h
 twice ws u None = refl
 twice ws u (Some h) = refl
 
-pub answered_more : (p q r : PassSeen) (k : ℕ) (batch : List Entry) (e : Entry) → k < length batch → get_or batch k e ≡ e
-    → q ≡ answered_all (take k (workers_in batch)) p → r ≡ answering e.worker q → r ≡ answered_all (take (k + 1) (workers_in batch)) p
-answered_more p q r k batch e inside at was now =
-    let ws : List ℕ = workers_in batch in
-    let within : k < length ws = rw length-map inside in
-    let here : get_or ws k e.worker ≡ e.worker = map_at (λ (x : Entry). x.worker) batch k e.worker e inside at in
-    let more : take k ws ++ e.worker ∷ [] ≡ take (k + 1) ws = sym (take_more ws k e.worker within ∙ ap (λ x. take k ws ++ x ∷ []) here) in
-    now ∙ ap (answering e.worker) was ∙ (λ i. record p { hold = twice (take k ws) e.worker p.hold i }) ∙ ap (λ xs. answered_all xs p) more
+length_taken : (batch : List Entry) (k : ℕ) → k ≤ length batch → length (take k batch) ≡ k
+length_taken batch zero inside = refl
+length_taken [] (suc k) inside = absurd (omega (arith, inside))
+length_taken (e ∷ batch) (suc k) inside = let more = length_taken batch k (omega (arith, inside)) in omega (arith, more)
+
+answer_more : (number first : ℕ) (entries : List Entry) (e : Entry) (receipt : Receipt) → receipt ≡ record { batch = number; place = first + length entries; reply = e.reply }
+    → answer_events number first (entries ++ e ∷ []) ≡ answer_events number first entries ++ Answer e.worker receipt ∷ []
+answer_more number first [] e receipt is =
+    let here : first ≡ first + 0 = omega arith in
+    ap (λ (r : Receipt). Answer e.worker r ∷ []) ((λ i. record { batch = number; place = here i; reply = e.reply }) ∙ sym is)
+answer_more number first (x ∷ entries) e receipt is =
+    let here : first + suc (length entries) ≡ first + 1 + length entries = omega arith in
+    ap (λ l. Answer x.worker (record { batch = number; place = first; reply = x.reply }) ∷ l)
+    (answer_more number (first + 1) entries e receipt (is ∙ (λ i. record { batch = number; place = here i; reply = e.reply })))
+
+pub answered_more : (p q r : PassSeen) (number k : ℕ) (batch : List Entry) (e : Entry) (receipt : Receipt) → k < length batch → get_or batch k e ≡ e
+    → receipt ≡ record { batch = number; place = k; reply = e.reply }
+    → q ≡ answered_all number (take k batch) p → r ≡ answering e.worker receipt q → r ≡ answered_all number (take (k + 1) batch) p
+answered_more p q r number k batch e receipt inside at is was now =
+    let front : List Entry = take k batch in
+    let more : front ++ e ∷ [] ≡ take (k + 1) batch = sym (take_more batch k e inside ∙ ap (λ x. front ++ x ∷ []) at) in
+    let long = length_taken batch k (omega (arith, inside)) in
+    let place : k ≡ 0 + length front = omega (arith, long) in
+    let given : receipt ≡ record { batch = number; place = 0 + length front; reply = e.reply } = is ∙ (λ i. record { batch = number; place = place i; reply = e.reply }) in
+    let events = append_assoc p.events (answer_events number 0 front) (Answer e.worker receipt ∷ []) ∙ ap (λ l. p.events ++ l) (sym (answer_more number 0 front e receipt given)) in
+    let workers = twice (workers_in front) e.worker p.hold ∙ ap (λ (ws : List ℕ). in_hold (after_answers ws) p.hold) (sym (map-append (λ (x : Entry). x.worker) front (e ∷ []))) in
+    now ∙ ap (answering e.worker receipt) was ∙ (λ i. record p { hold = workers i; events = events i }) ∙ ap (λ (l : List Entry). answered_all number l p) more
 
 -- inside the list the default is not used
 any_default : (batch : List Entry) (k : ℕ) (d e : Entry) → k < length batch → get_or batch k d ≡ get_or batch k e

@@ -1,5 +1,5 @@
 -- The batch of a launch: how many entries and batches there are, and what is known of it.
-use Rattle.std.proofs.Common.{◌≡◌, ℕ, ◌≤◌, true, Option, None, Some, List, [], ◌∷◌, ◌++◌, length, get_or, sym, refl, ap, ◌∙◌, subst, arith, length-append}
+use Rattle.std.proofs.Common.{◌≡◌, ℕ, ◌≤◌, true, Option, None, Some, List, [], ◌∷◌, ◌++◌, length, get_or, sym, refl, ap, ◌∙◌, subst, arith, append_assoc, length-append}
 use Rattle.std.proofs.lemmas.List.{length-map}
 use Rattle.std.specs.List.{AllByRecursion}
 use Rattle.batch_history.specs.Book.{flat, IsBatch, IsHistory}
@@ -9,7 +9,10 @@ use Rattle.seq_objects.specs.declared.call.Call.{Call}
 use Rattle.core_model.specs.Words.{Entry}
 use Rattle.worker_crew.specs.Holds.{HoldSeen, workers_in, after_publish}
 use Rattle.worker_crew.specs.Passes.{PassSeen, Holds, IsHeld, is_trapped, in_hold, publishing}
-use Rattle.worker_turns.specs.Code.Serving.{IsAnswerable, taken_hold, served_hold, after_answers, answered_all}
+use Rattle.core_model.specs.declared.event.Event.TheVariants.{Publish}
+use Rattle.worker_turns.specs.Stops.{HasOnlyLooked}
+use Rattle.worker_turns.specs.Launches.{answer_events, serve_events}
+use Rattle.worker_turns.specs.Code.Serving.{IsAnswerable, HasTaken, after_service, after_answers, answered_all}
 
 same_length : {X : Type 0} (xs ys : List X) → AreSame xs ys → length ys ≡ length xs
 same_length [] ys same = ap (λ l. length l) same
@@ -33,9 +36,9 @@ few_answers p number batch held = few_in number batch p.hold held.1
 
 -- the batch that was published can be answered
 pub answerable : (p q r : PassSeen) (workers number : ℕ) (calls : List Call) (book : List (List Entry)) (batch entries : List Entry) → is_trapped p.call ≡ true
-    → p.hold ≡ Some (taken_hold workers calls book) → MayServe book calls → IsServiceOf book calls batch → q ≡ p → r ≡ publishing batch q
+    → HasTaken workers calls book p.hold → MayServe book calls → IsServiceOf book calls batch → HasOnlyLooked p q → r ≡ publishing batch q
     → number ≡ length book → entries ≡ batch → IsHeld r (IsAnswerable number entries)
-answerable p q r workers number calls book batch entries trapped hold may service same now is all = (
+answerable p q r workers number calls book batch entries trapped (found, hold) may service looks now is all = let same = looks.same in (
   ap (λ (s : PassSeen). is_trapped s.call) now ∙ ap (λ (s : PassSeen). is_trapped s.call) same ∙ trapped,
   subst (λ (es : List Entry). Holds (IsAnswerable number es) r.hold) (sym all)
       (subst (Holds (IsAnswerable number batch)) (sym (ap (λ (s : PassSeen). s.hold) now ∙ ap (λ (s : PassSeen). (publishing batch s).hold) same ∙ ap (in_hold _) hold))
@@ -59,9 +62,33 @@ last_at [] x d = refl
 last_at (y ∷ xs) x d = last_at xs x d
 
 -- the hold once the batch is answered
-pub pass_served : (p q r s : PassSeen) (workers : ℕ) (calls : List Call) (book : List (List Entry)) (batch entries : List Entry) → p.hold ≡ Some (taken_hold workers calls book)
-    → q ≡ p → r ≡ publishing batch q → s ≡ answered_all (workers_in entries) r → entries ≡ batch
-    → s ≡ record p { hold = Some (served_hold workers calls batch book) }
-pass_served p q r s workers calls book batch entries hold same now answered all =
-    answered ∙ ap (λ (es : List Entry). answered_all (workers_in es) r) all ∙ ap (answered_all (workers_in batch)) (now ∙ ap (publishing batch) same)
-    ∙ (λ i. record p { hold = in_hold (after_answers (workers_in batch)) (in_hold (after_publish batch) (hold i)) })
+served : (batch : List Entry) (h : Option HoldSeen) → in_hold (after_answers (workers_in batch)) (in_hold (after_publish batch) h) ≡ in_hold (after_service batch) h
+served batch None = refl
+served batch (Some h) = refl
+
+module _ (p q r s : PassSeen) (number : ℕ) (book : List (List Entry)) (batch entries : List Entry) where
+  pass_after : HasOnlyLooked p q → r ≡ publishing batch q → s ≡ answered_all number entries r → number ≡ length book → entries ≡ batch
+      → s ≡ record p { hold = in_hold (after_service batch) p.hold; stop_looks = q.stop_looks; events = p.events ++ serve_events (length book) batch }
+  pass_after looks now answered is all =
+      answered ∙ (λ i. answered_all (is i) (all i) r) ∙ ap (answered_all (length book) batch) (now ∙ ap (publishing batch) looks.same)
+      ∙ (λ i. record p {
+        hold = served batch p.hold i;
+        stop_looks = q.stop_looks;
+        events = append_assoc p.events (Publish ∷ []) (answer_events (length book) 0 batch) i;
+      })
+
+  pub pass_looks : HasOnlyLooked p q → r ≡ publishing batch q → s ≡ answered_all number entries r → s.stop_looks ≡ q.stop_looks
+  pass_looks looks now answered = ap (λ (z : PassSeen). z.stop_looks) answered ∙ ap (λ (z : PassSeen). z.stop_looks) now
+
+  pub pass_served : HasOnlyLooked p q → r ≡ publishing batch q → s ≡ answered_all number entries r → number ≡ length book → entries ≡ batch
+      → s ≡ record p { hold = in_hold (after_service batch) p.hold; stop_looks = s.stop_looks; events = p.events ++ serve_events (length book) batch }
+  pass_served looks now answered is all =
+      pass_after looks now answered is all
+      ∙ (λ i. record p {
+        hold = in_hold (after_service batch) p.hold;
+        stop_looks = sym (pass_looks looks now answered) i;
+        events = p.events ++ serve_events (length book) batch;
+      })
+
+  pub served_looks : HasOnlyLooked p q → r ≡ publishing batch q → s ≡ answered_all number entries r → p.stop_looks ≤ s.stop_looks
+  served_looks looks now answered = let same = pass_looks looks now answered in let more = looks.looks in omega (arith, same, more)

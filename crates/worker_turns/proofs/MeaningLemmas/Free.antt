@@ -8,25 +8,26 @@ use Rattle.worker_turns.specs.declared.found.Found.TheVariants.{Claimed, Refused
 use Rattle.worker_turns.specs.declared.found.Other.{Other}
 use Rattle.worker_turns.specs.declared.found.Other.TheVariants.{Alone, Node, Piece}
 use Rattle.worker_turns.specs.declared.free.Did.TheVariants as did
-use Rattle.worker_crew.specs.Passes.{PassSeen}
+use Rattle.worker_crew.specs.Passes.{PassSeen, finding_none}
 use Rattle.worker_crew.specs.Workers.{MeSeen}
+use Rattle.worker_turns.specs.Stops.{unstopped}
 use Rattle.worker_turns.specs.Pieces.{IsOwnPiece, IsSteal}
 use Rattle.worker_turns.specs.Free.{IsOwnNode, IsOther, GaveNothing, Carried, IsFreeTurn}
 use Rattle.worker_turns.specs.Meanings.Gains.{Took, Gained, HasAllEnds}
 use Rattle.worker_turns.specs.Meanings.Free.{next_worker, TryWasFruitless, CameBy, DidRun, DidRunPiece, DidFindNothing}
 use Rattle.worker_turns.proofs.MeaningLemmas.Gains.{popped, took_none, took_from, stole, fruitless_rose, try_below}
 
--- the worker after its own deque of nodes gave nothing, and after that of pieces did too
+-- the worker after its look at the stop word, and after its own deque of nodes gave nothing, and after that of pieces did too
 abbrev pub no_node : MeSeen → MeSeen
-no_node m = record m { core = after_empty_pop m.core }
+no_node m = record m { pass = finding_none m.pass; core = after_empty_pop m.core }
 
 abbrev pub none_own : MeSeen → MeSeen
-none_own m = record m { core = after_empty_pop m.core; batch = after_empty_pop m.batch }
+none_own m = record m { pass = finding_none m.pass; core = after_empty_pop m.core; batch = after_empty_pop m.batch }
 
-pub is_no_node : (old a : MeSeen) → IsOwnNode NoNode old a → a ≡ no_node old
-is_no_node old a p = p.same ∙ ap (λ (e : HeldEnds ℕ). record old { core = e }) p.pop
+pub is_no_node : (old a : MeSeen) → IsOwnNode NoNode (unstopped old) a → a ≡ no_node old
+is_no_node old a p = p.same ∙ ap (λ (e : HeldEnds ℕ). record (unstopped old) { core = e }) p.pop
 
-pub is_none_own : (old a b : MeSeen) → IsOwnNode NoNode old a → IsOwnPiece Dry a b → b ≡ none_own old
+pub is_none_own : (old a b : MeSeen) → IsOwnNode NoNode (unstopped old) a → IsOwnPiece Dry a b → b ≡ none_own old
 is_none_own old a b p q =
     q.same ∙ ap (λ (e : HeldEnds Spot). record a { batch = e }) q.pop
     ∙ ap (λ (m : MeSeen). record m { batch = after_empty_pop m.batch }) (is_no_node old a p)
@@ -132,7 +133,7 @@ piece_means old new ends (inr (spot, a, b, p, q, o)) =
     ran_other_piece spot old new ends (subst (λ (m : MeSeen). IsOther (Piece (Ran spot)) m new) (is_none_own old a b p q) o)
 
 -- one task was found, and refused
-refused_node : (node : ℕ) (old new : MeSeen) → IsOwnNode (Refused node) old new → DidFindNothing old new
+refused_node : (node : ℕ) (old new : MeSeen) → IsOwnNode (Refused node) (unstopped old) new → DidFindNothing old new
 refused_node node old new p = record {
   none = record { claims = ap (λ (m : MeSeen). m.pass.claims) p.same; claimed = ap (λ (m : MeSeen). m.pass.claimed) p.same };
   found = inr (inl (record {

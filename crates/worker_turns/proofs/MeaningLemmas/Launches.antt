@@ -8,7 +8,8 @@ use Rattle.worker_crew.specs.Passes.{PassSeen}
 use Rattle.worker_crew.specs.Holds.{HoldSeen, TookNone, ServedAll}
 use Rattle.worker_crew.specs.Workers.{MeSeen}
 use Rattle.worker_turns.specs.Pieces.{Desk, spot_of}
-use Rattle.worker_turns.specs.Launches.{Serves, ArePlaces, Launches}
+use Rattle.worker_crew.specs.Words.{Event}
+use Rattle.worker_turns.specs.Launches.{Serves, ArePlaces, Gathers, Launches}
 use Rattle.worker_turns.specs.Trapped.{IsTrappedTurn, won_after}
 use Rattle.worker_turns.specs.Meanings.Launches.{FoundNone, Served, Passed, PassedNone, HasLaunched, DidLaunch}
 use Rattle.worker_turns.proofs.MeaningLemmas.Gains.{listed}
@@ -38,26 +39,27 @@ found_from book done old mid new posts collects (inr (batch, places, served, are
   record { posts = p.posts ∙ ap (λ l. l ++ places) posts; collects = p.collects ∙ ap (λ n. n + length places) collects; free = p.free },
 )
 
-found_of : (book : List (List Entry)) (posted : List ℕ) (done : HoldSeen) (old new : Desk) → Serves posted old new
-    → ((TookNone done × (done.book ≡ book) × (posted ≡ [])) ⊎ ((batch : List Entry) × ServedAll book batch done × ArePlaces book done.taken posted))
+found_of : (workers : ℕ) (book : List (List Entry)) (posted : List ℕ) (served : List Event) (done : HoldSeen) (old new : Desk) → Serves posted old new → Gathers workers book posted served done
     → Found book done old new
-found_of book posted done old new s (inl (none, same, empty)) = inl (
-  record { none = none.none; unpublished = none.early; unchanged = same },
-  passed_none old new (subst (λ (l : List ℕ). Serves l old new) empty s),
-)
-found_of book posted done old new s (inr (batch, all, are)) = inr (
-  batch,
-  posted,
-  record {
-    published = all.published.published;
-    behind = all.published.book;
-    exactly = all.published.service.same;
-    service = all.published.service;
-    answered = all.answered;
-  },
-  are,
-  passed posted old new s,
-)
+found_of workers book posted served done old new s g = elim g.batch [
+  | inl (none, same, empty, quiet) ↦ inl (
+    record { none = none.none; unpublished = none.early; unchanged = same },
+    passed_none old new (subst (λ (l : List ℕ). Serves l old new) empty s),
+  )
+  | inr (batch, all, are, made) ↦ inr (
+    batch,
+    posted,
+    record {
+      published = all.published.published;
+      behind = all.published.book;
+      exactly = all.published.service.same;
+      service = all.published.service;
+      answered = all.answered;
+    },
+    are,
+    passed posted old new s,
+  )
+]
 
 pub launch_means : (workers : ℕ) (book : List (List Entry)) (old new : MeSeen) → Launches workers book old new → HasLaunched workers book old new
 launch_means workers book old new l = record {
@@ -65,8 +67,9 @@ launch_means workers book old new l = record {
   last = ap (λ (p : PassSeen). p.last) l.released;
   released = ap (λ (p : PassSeen). p.hold) l.released;
   looks = l.gathers.looked;
+  pending = l.gathers.found;
   seen = ap (λ (p : PassSeen). p.book_seen) l.released;
-  found = found_of book l.posted l.done old.desk new.desk l.desk l.gathers.batch;
+  found = found_of workers book l.posted l.served l.done old.desk new.desk l.desk l.gathers;
 }
 
 did_launch : (workers : ℕ) (book : List (List Entry)) (lost : List Spot) (batch : HeldEnds Spot) (old new : MeSeen) → Launches workers book (won_after book (after_own lost batch old)) new → DidLaunch workers old new
@@ -82,6 +85,7 @@ did_launch workers book lost batch old new l =
         last = h.last;
         released = h.released;
         looks = h.looks;
+        pending = h.pending;
         seen = h.seen;
         found = found_from book h.done old.desk mid.desk new.desk refl refl h.found;
       };

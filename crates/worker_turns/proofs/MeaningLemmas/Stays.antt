@@ -1,7 +1,8 @@
 -- What is read off the paths of what a turn, or a launch, leaves as it was.
-use Rattle.std.proofs.Common.{◌≡◌, ℕ, ◌+◌, true, Option, None, Some, List, [], ◌∷◌, ◌++◌, sym, refl, ap, ◌∙◌, subst, inl, inr, append_assoc}
+use Rattle.std.proofs.Common.{◌≡◌, ◌≤◌, ℕ, ◌+◌, true, Option, None, Some, List, [], ◌∷◌, ◌++◌, sym, refl, ap, ◌∙◌, subst, inl, inr, append_assoc, append-nil, arith}
 use Rattle.core_model.specs.Words.{Entry}
-use Rattle.worker_crew.specs.Words.{Receipt, CallState, Got}
+use Rattle.core_model.specs.declared.event.Event.TheVariants as made
+use Rattle.worker_crew.specs.Words.{Event, Receipt, CallState, Got}
 use Rattle.worker_turns.specs.declared.found.Tried.{Tried}
 use Rattle.worker_turns.specs.declared.found.Tried.TheVariants.{Ran, Dropped, Dry}
 use Rattle.worker_turns.specs.declared.found.Other.{Other}
@@ -13,10 +14,11 @@ use Rattle.worker_turns.specs.declared.trapped.Trapped.TheVariants.{Left, Piece,
 use Rattle.worker_turns.specs.declared.free.Did.{Did}
 use Rattle.worker_turns.specs.declared.free.Did.TheVariants as did
 use Rattle.worker_crew.specs.Holds.{HoldSeen}
-use Rattle.worker_crew.specs.Passes.{PassSeen, is_trapped, IsFront, IsTrapped, leaving, losing, staying, winning}
+use Rattle.worker_crew.specs.Passes.{PassSeen, is_trapped, IsFront, IsTrapped, finding_none, leaving, losing, staying, winning}
 use Rattle.worker_crew.specs.Workers.{MeSeen}
+use Rattle.worker_turns.specs.Stops.{unstopped}
 use Rattle.worker_turns.specs.Pieces.{Desk, desk_after, NotRan, IsOwnPiece, IsOtherPiece}
-use Rattle.worker_turns.specs.Launches.{Serves, Gathers, Launches}
+use Rattle.worker_turns.specs.Launches.{Serves, Gathers, Launches, launch_events}
 use Rattle.worker_turns.specs.Trapped.{IsTrappedTurn, IsJobSame, refused_both}
 use Rattle.worker_turns.specs.Free.{IsOther, IsOwnNode, GaveNothing, IsFreeTurn, Helps}
 use Rattle.worker_turns.specs.Meanings.Stays.{IsStillTrapped, IsAnswered, CallAfter, KeepsNodes, HelpsNone}
@@ -24,18 +26,31 @@ use Rattle.worker_turns.proofs.PieceLemmas.Working.{works_tried}
 use Rattle.worker_turns.proofs.CarryLemmas.Steps.{front_none, helps_none, helps_then, helps_works}
 use Rattle.worker_turns.proofs.MeaningLemmas.Trapped.{not_ran_desk}
 
--- a pass that has only come on with its tries to leave and to win, with its holds, and with what it has seen of the book
-abbrev come_on : ℕ → ℕ → ℕ → Option HoldSeen → List (List Entry) → PassSeen → PassSeen
-come_on leaves wins refused last book p = record p { hold = None; last = last; wins = wins; refused_wins = refused; refused_leaves = leaves; book_seen = book }
+-- a pass that has only come on with its tries to leave and to win, with its holds, its looks at the stop word and its events, and
+-- with what it has seen of the book
+abbrev come_on : ℕ → ℕ → ℕ → ℕ → Option HoldSeen → List (List Entry) → List Event → PassSeen → PassSeen
+come_on leaves wins refused looks last book events p = record p {
+  hold = None;
+  last = last;
+  wins = wins;
+  refused_wins = refused;
+  refused_leaves = leaves;
+  stop_looks = looks;
+  book_seen = book;
+  events = events;
+}
 
-came_on : (old new : PassSeen) (leaves wins refused : ℕ) (last : Option HoldSeen) (book : List (List Entry)) → is_trapped old.call ≡ true → IsFront old.book_seen book → new ≡ come_on leaves wins refused last book old
+came_on : (old new : PassSeen) (leaves wins refused looks : ℕ) (last : Option HoldSeen) (book : List (List Entry)) (events : List Event)
+    → is_trapped old.call ≡ true → old.stop_looks ≤ looks → IsFront old.book_seen book → IsFront old.events events → new ≡ come_on leaves wins refused looks last book events old
     → IsStillTrapped old new
-came_on old new leaves wins refused last book trapped front is = subst (λ (p : PassSeen). IsStillTrapped old p) (sym is) (record {
+came_on old new leaves wins refused looks last book events trapped more front grown is = subst (λ (p : PassSeen). IsStillTrapped old p) (sym is) (record {
   trapped = (trapped, refl);
   same = record {
     job = record { worker = refl; task = refl; claims = refl; claimed = refl; refused = refl; opened = refl; found = refl; stops = refl };
     call = refl;
     hold = refl;
+    looks = more;
+    events = grown;
     posted = refl;
     left = refl;
     book = front;
@@ -50,10 +65,10 @@ came_on old new leaves wins refused last book trapped front is = subst (λ (p : 
 unheld : (p : PassSeen) → p.hold ≡ None → p ≡ record p { hold = None }
 unheld p none = λ i. record p { hold = none i }
 
-own_pass : (t : Tried) (old a : MeSeen) → IsOwnPiece t old a → a.pass ≡ old.pass
+pub own_pass : (t : Tried) (old a : MeSeen) → IsOwnPiece t (unstopped old) a → a.pass ≡ finding_none old.pass
 own_pass t old a p = ap (λ (m : MeSeen). m.pass) p.same
 
-other_pass : (t : Tried) (old new : MeSeen) → IsOtherPiece t old new → new.pass ≡ old.pass
+pub other_pass : (t : Tried) (old new : MeSeen) → IsOtherPiece t old new → new.pass ≡ old.pass
 other_pass t old new (inl alone) = ap (λ (m : MeSeen). m.pass) alone.2
 other_pass t old new (inr s) = ap (λ (m : MeSeen). m.pass) s.same
 
@@ -66,27 +81,39 @@ other_desk t old new (inl alone) = ap (λ (m : MeSeen). m.desk) alone.2 ∙ ap (
 other_desk t old new (inr s) = ap (λ (m : MeSeen). m.desk) s.same
 
 -- what becomes of the call
-refused_twice : (old mid new : PassSeen) → IsTrapped old → mid ≡ old → new ≡ losing (staying mid) → IsStillTrapped old new
+refused_twice : (old mid new : PassSeen) → IsTrapped old → mid ≡ finding_none old → new ≡ losing (staying mid) → IsStillTrapped old new
 refused_twice old mid new trapped same is =
-    came_on old new (old.refused_leaves + 1) old.wins (old.refused_wins + 1) old.last old.book_seen trapped.0 (front_none old.book_seen old.book_seen refl)
-    (is ∙ ap (λ (p : PassSeen). losing (staying p)) (same ∙ unheld old trapped.1))
+    came_on old new (old.refused_leaves + 1) old.wins (old.refused_wins + 1) (old.stop_looks + 1) old.last old.book_seen old.events trapped.0 (omega arith)
+    (front_none old.book_seen old.book_seen refl) (front_none old.events old.events refl)
+    (is ∙ ap (λ (p : PassSeen). losing (staying p)) (same ∙ ap finding_none (unheld old trapped.1)))
 
 -- the book of a hold that was launched begins with the book at its win
-launched_front : (workers : ℕ) (seen book : List (List Entry)) (posted : List ℕ) (done : HoldSeen) → IsFront seen book → Gathers workers book posted done → IsFront seen done.book
-launched_front workers seen book posted done front g = elim g.batch [
+launched_front : (workers : ℕ) (seen book : List (List Entry)) (posted : List ℕ) (served : List Event) (done : HoldSeen) → IsFront seen book → Gathers workers book posted served done → IsFront seen done.book
+launched_front workers seen book posted served done front g = elim g.batch [
   | inl none ↦ subst (λ l. IsFront seen l) (sym none.1) front
   | inr some ↦ (front.0 ++ some.0 ∷ [], some.1.published.book ∙ (ap (λ l. l ++ some.0 ∷ []) front.1 ∙ append_assoc seen front.0 (some.0 ∷ [])))
 ]
 
-launched_pass : (old mid new : PassSeen) (book : List (List Entry)) (done : HoldSeen) → is_trapped old.call ≡ true → IsFront mid.book_seen done.book → mid ≡ old
-    → new ≡ record (winning book (staying mid)) { hold = None; last = Some done; book_seen = done.book } → IsStillTrapped old new
-launched_pass old mid new book done trapped front same is =
-    came_on old new (old.refused_leaves + 1) (old.wins + 1) old.refused_wins (Some done) done.book trapped (subst (λ (p : PassSeen). IsFront p.book_seen done.book) same front)
-    (is ∙ ap (λ (p : PassSeen). record (winning book (staying p)) { hold = None; last = Some done; book_seen = done.book }) same)
+-- a pass that won and launched, after this look at the stop word
+abbrev launched_from : List (List Entry) → HoldSeen → ℕ → List Event → PassSeen → PassSeen
+launched_from book done looks served p = record (winning book (staying p)) {
+  hold = None;
+  last = Some done;
+  book_seen = done.book;
+  stop_looks = looks;
+  events = (winning book (staying p)).events ++ served;
+}
 
-answered : (receipt : Receipt) (old mid new : PassSeen) → IsTrapped old → mid ≡ old → new ≡ leaving receipt new.book_seen mid → IsAnswered receipt old new
+launched_pass : (old mid new : PassSeen) (book : List (List Entry)) (done : HoldSeen) (looks : ℕ) (served : List Event) → is_trapped old.call ≡ true → IsFront mid.book_seen done.book → mid ≡ finding_none old
+    → mid.stop_looks ≤ looks → new ≡ launched_from book done looks served mid → IsStillTrapped old new
+launched_pass old mid new book done looks served trapped front same more is =
+    came_on old new (old.refused_leaves + 1) (old.wins + 1) old.refused_wins looks (Some done) done.book ((old.events ++ made.Win ∷ []) ++ served) trapped
+    (let was = ap (λ (p : PassSeen). p.stop_looks) same in omega (arith, more, was)) (subst (λ (p : PassSeen). IsFront p.book_seen done.book) same front)
+    (made.Win ∷ served, append_assoc old.events (made.Win ∷ []) served) (is ∙ ap (launched_from book done looks served) same)
+
+answered : (receipt : Receipt) (old mid new : PassSeen) → IsTrapped old → mid ≡ finding_none old → new ≡ leaving receipt new.book_seen mid → IsAnswered receipt old new
 answered receipt old mid new trapped same is =
-    let now : new ≡ leaving receipt new.book_seen old = is ∙ ap (leaving receipt new.book_seen) same in
+    let now : new ≡ leaving receipt new.book_seen (finding_none old) = is ∙ ap (leaving receipt new.book_seen) same in
     record {
       free = (ap (λ (p : PassSeen). is_trapped p.call) now, ap (λ (p : PassSeen). p.hold) now ∙ trapped.1);
       task = ap (λ (p : PassSeen). p.task) now;
@@ -103,51 +130,56 @@ pub call_after : (workers : ℕ) (answer : Trapped) (old new : MeSeen) → IsTra
 call_after workers (Left receipt) old new trapped (own, a, unrun, p, left, same) =
     answered receipt old.pass a.pass new.pass trapped (own_pass own old a p) left.left
 call_after workers Piece old new trapped (inl (spot, p)) =
-    came_on old.pass new.pass old.pass.refused_leaves old.pass.wins old.pass.refused_wins old.pass.last old.pass.book_seen trapped.0 (front_none old.pass.book_seen old.pass.book_seen refl) (own_pass (Ran spot) old new p ∙ unheld old.pass trapped.1)
+    came_on old.pass new.pass old.pass.refused_leaves old.pass.wins old.pass.refused_wins (old.pass.stop_looks + 1) old.pass.last old.pass.book_seen old.pass.events trapped.0 (omega arith)
+    (front_none old.pass.book_seen old.pass.book_seen refl) (front_none old.pass.events old.pass.events refl) (own_pass (Ran spot) old new p ∙ ap finding_none (unheld old.pass trapped.1))
 call_after workers Piece old new trapped (inr (own, spot, a, unrun, p, q)) =
     refused_twice old.pass a.pass new.pass trapped (own_pass own old a p) (other_pass (Ran spot) (refused_both a) new q)
 call_after workers Launched old new trapped (own, a, book, unrun, p, l, front) =
-    launched_pass old.pass a.pass new.pass book l.done trapped.0 (launched_front workers a.pass.book_seen book l.posted l.done front l.gathers) (own_pass own old a p) l.released
+    launched_pass old.pass a.pass new.pass book l.done new.pass.stop_looks (launch_events workers l.served) trapped.0 (launched_front workers a.pass.book_seen book l.posted l.served l.done front l.gathers)
+    (own_pass own old a p) l.looks l.released
 call_after workers Nothing old new trapped (own, other, a, unrun, not, p, q) =
     refused_twice old.pass a.pass new.pass trapped (own_pass own old a p) (other_pass other (refused_both a) new q)
 
 pub launched_call : (workers : ℕ) (book : List (List Entry)) (old new : MeSeen) → is_trapped old.pass.call ≡ true → IsFront old.pass.book_seen book → Launches workers book old new → IsStillTrapped old.pass new.pass
 launched_call workers book old new trapped front l =
-    came_on old.pass new.pass old.pass.refused_leaves old.pass.wins old.pass.refused_wins (Some l.done) l.done.book trapped (launched_front workers old.pass.book_seen book l.posted l.done front l.gathers) l.released
+    came_on old.pass new.pass old.pass.refused_leaves old.pass.wins old.pass.refused_wins new.pass.stop_looks (Some l.done) l.done.book (old.pass.events ++ launch_events workers l.served) trapped l.looks
+    (launched_front workers old.pass.book_seen book l.posted l.served l.done front l.gathers) (launch_events workers l.served, refl) l.released
 
 -- a pass whose call and hold have come on, and whose job has not
-abbrev turned : CallState → Option HoldSeen → Option HoldSeen → ℕ → ℕ → ℕ → List Receipt → List (List Entry) → PassSeen → PassSeen
-turned call hold last wins refused leaves left book p = record p {
+abbrev turned : CallState → Option HoldSeen → Option HoldSeen → ℕ → ℕ → ℕ → ℕ → List Receipt → List (List Entry) → List Event → PassSeen → PassSeen
+turned call hold last wins refused leaves looks left book events p = record p {
   call = call;
   hold = hold;
   last = last;
   wins = wins;
   refused_wins = refused;
   refused_leaves = leaves;
+  stop_looks = looks;
   left = left;
   book_seen = book;
+  events = events;
 }
 
-job_kept : (old new : PassSeen) (call : CallState) (hold last : Option HoldSeen) (wins refused leaves : ℕ) (left : List Receipt) (book : List (List Entry))
-    → new ≡ turned call hold last wins refused leaves left book old → IsJobSame old new
-job_kept old new call hold last wins refused leaves left book is = subst (λ (p : PassSeen). IsJobSame old p) (sym is)
+job_kept : (old new : PassSeen) (call : CallState) (hold last : Option HoldSeen) (wins refused leaves looks : ℕ) (left : List Receipt) (book : List (List Entry)) (events : List Event)
+    → new ≡ turned call hold last wins refused leaves looks left book events old → IsJobSame old new
+job_kept old new call hold last wins refused leaves looks left book events is = subst (λ (p : PassSeen). IsJobSame old p) (sym is)
     (record { worker = refl; task = refl; claims = refl; claimed = refl; refused = refl; opened = refl; found = refl; stops = refl })
 
-refused_job : (old mid new : PassSeen) → mid ≡ old → new ≡ losing (staying mid) → IsJobSame old new
+refused_job : (old mid new : PassSeen) → mid ≡ finding_none old → new ≡ losing (staying mid) → IsJobSame old new
 refused_job old mid new same is =
-    job_kept old new old.call old.hold old.last old.wins (old.refused_wins + 1) (old.refused_leaves + 1) old.left old.book_seen
+    job_kept old new old.call old.hold old.last old.wins (old.refused_wins + 1) (old.refused_leaves + 1) (old.stop_looks + 1) old.left old.book_seen old.events
     (is ∙ ap (λ (p : PassSeen). losing (staying p)) same)
 
 pub turn_keeps : (workers : ℕ) (answer : Trapped) (old new : MeSeen) → IsTrappedTurn workers answer old new → KeepsNodes old new
 turn_keeps workers (Left receipt) old new (own, a, unrun, p, left, same) = record {
   core = ap (λ (m : MeSeen). m.core) same ∙ ap (λ (m : MeSeen). m.core) p.same;
-  job = job_kept old.pass new.pass (Got receipt) old.pass.hold old.pass.last old.pass.wins old.pass.refused_wins old.pass.refused_leaves
-      (old.pass.left ++ receipt ∷ []) new.pass.book_seen (left.left ∙ ap (leaving receipt new.pass.book_seen) (own_pass own old a p));
+  job = job_kept old.pass new.pass (Got receipt) old.pass.hold old.pass.last old.pass.wins old.pass.refused_wins old.pass.refused_leaves (old.pass.stop_looks + 1)
+      (old.pass.left ++ receipt ∷ []) new.pass.book_seen (old.pass.events ++ made.Leave receipt ∷ []) (left.left ∙ ap (leaving receipt new.pass.book_seen) (own_pass own old a p));
 }
 turn_keeps workers Piece old new (inl (spot, p)) = record {
   core = ap (λ (m : MeSeen). m.core) p.same;
-  job = job_kept old.pass new.pass old.pass.call old.pass.hold old.pass.last old.pass.wins old.pass.refused_wins old.pass.refused_leaves old.pass.left
-      old.pass.book_seen (own_pass (Ran spot) old new p);
+  job = job_kept old.pass new.pass old.pass.call old.pass.hold old.pass.last old.pass.wins old.pass.refused_wins old.pass.refused_leaves (old.pass.stop_looks + 1) old.pass.left
+      old.pass.book_seen old.pass.events (own_pass (Ran spot) old new p);
 }
 turn_keeps workers Piece old new (inr (own, spot, a, unrun, p, q)) = record {
   core = other_core (Ran spot) (refused_both a) new q ∙ ap (λ (m : MeSeen). m.core) p.same;
@@ -155,8 +187,9 @@ turn_keeps workers Piece old new (inr (own, spot, a, unrun, p, q)) = record {
 }
 turn_keeps workers Launched old new (own, a, book, unrun, p, l, front) = record {
   core = l.core ∙ ap (λ (m : MeSeen). m.core) p.same;
-  job = job_kept old.pass new.pass old.pass.call None (Some l.done) (old.pass.wins + 1) old.pass.refused_wins (old.pass.refused_leaves + 1) old.pass.left
-      l.done.book (l.released ∙ ap (λ (q : PassSeen). record (winning book (staying q)) { hold = None; last = Some l.done; book_seen = l.done.book }) (own_pass own old a p));
+  job = job_kept old.pass new.pass old.pass.call None (Some l.done) (old.pass.wins + 1) old.pass.refused_wins (old.pass.refused_leaves + 1) new.pass.stop_looks old.pass.left
+      l.done.book ((old.pass.events ++ made.Win ∷ []) ++ launch_events workers l.served)
+      (l.released ∙ ap (launched_from book l.done new.pass.stop_looks (launch_events workers l.served)) (own_pass own old a p));
 }
 turn_keeps workers Nothing old new (own, other, a, unrun, not, p, q) = record {
   core = other_core other (refused_both a) new q ∙ ap (λ (m : MeSeen). m.core) p.same;
@@ -166,8 +199,8 @@ turn_keeps workers Nothing old new (own, other, a, unrun, not, p, q) = record {
 pub launch_keeps : (workers : ℕ) (book : List (List Entry)) (old new : MeSeen) → Launches workers book old new → KeepsNodes old new
 launch_keeps workers book old new l = record {
   core = l.core;
-  job = job_kept old.pass new.pass old.pass.call None (Some l.done) old.pass.wins old.pass.refused_wins old.pass.refused_leaves old.pass.left
-      l.done.book l.released;
+  job = job_kept old.pass new.pass old.pass.call None (Some l.done) old.pass.wins old.pass.refused_wins old.pass.refused_leaves new.pass.stop_looks old.pass.left
+      l.done.book (old.pass.events ++ launch_events workers l.served) l.released;
 }
 
 -- a piece that is given is finished
@@ -188,14 +221,14 @@ serves_helps places old new s = record { given = s.given; gave = s.gave; finishe
 
 pub trapped_helps : (workers : ℕ) (answer : Trapped) (old new : MeSeen) → IsTrappedTurn workers answer old new → Helps old.desk new.desk
 trapped_helps workers (Left receipt) old new (own, a, unrun, p, left, same) =
-    helps_is old.desk a.desk new.desk (ap (λ (m : MeSeen). m.desk) same) (own_helps own old a p)
-trapped_helps workers Piece old new (inl (spot, p)) = own_helps (Ran spot) old new p
+    helps_is old.desk a.desk new.desk (ap (λ (m : MeSeen). m.desk) same) (own_helps own (unstopped old) a p)
+trapped_helps workers Piece old new (inl (spot, p)) = own_helps (Ran spot) (unstopped old) new p
 trapped_helps workers Piece old new (inr (own, spot, a, unrun, p, q)) =
-    helps_then old.desk a.desk new.desk (own_helps own old a p) (other_helps (Ran spot) (refused_both a) new q)
+    helps_then old.desk a.desk new.desk (own_helps own (unstopped old) a p) (other_helps (Ran spot) (refused_both a) new q)
 trapped_helps workers Launched old new (own, a, book, unrun, p, l, front) =
-    helps_then old.desk a.desk new.desk (own_helps own old a p) (serves_helps l.posted a.desk new.desk l.desk)
+    helps_then old.desk a.desk new.desk (own_helps own (unstopped old) a p) (serves_helps l.posted a.desk new.desk l.desk)
 trapped_helps workers Nothing old new (own, other, a, unrun, not, p, q) =
-    helps_then old.desk a.desk new.desk (own_helps own old a p) (other_helps other (refused_both a) new q)
+    helps_then old.desk a.desk new.desk (own_helps own (unstopped old) a p) (other_helps other (refused_both a) new q)
 
 pub launch_helps : (workers : ℕ) (book : List (List Entry)) (old new : MeSeen) → Launches workers book old new → Helps old.desk new.desk
 launch_helps workers book old new l = serves_helps l.posted old.desk new.desk l.desk
@@ -210,20 +243,20 @@ node_helps : (t : Found) (old a : MeSeen) → IsOwnNode t old a → Helps old.de
 node_helps t old a p = helps_is old.desk old.desk a.desk (ap (λ (m : MeSeen). m.desk) p.same) (helps_none old.desk)
 
 -- after both own deques, the steal
-all_help : (t : Found) (own : Tried) (other : Other) (old a b new : MeSeen) → IsOwnNode t old a → IsOwnPiece own a b → IsOther other b new → Helps old.desk new.desk
+all_help : (t : Found) (own : Tried) (other : Other) (old a b new : MeSeen) → IsOwnNode t (unstopped old) a → IsOwnPiece own a b → IsOther other b new → Helps old.desk new.desk
 all_help t own other old a b new p q o =
-    helps_then old.desk b.desk new.desk (helps_then old.desk a.desk b.desk (node_helps t old a p) (own_helps own a b q)) (steal_helps other b new o)
+    helps_then old.desk b.desk new.desk (helps_then old.desk a.desk b.desk (node_helps t (unstopped old) a p) (own_helps own a b q)) (steal_helps other b new o)
 
 pub free_helps : (answer : Did) (old new : MeSeen) → IsFreeTurn answer old new → Helps old.desk new.desk
-free_helps did.Ran old new (inl (n, a, p, c)) = helps_then old.desk a.desk new.desk (node_helps (Claimed n) old a p) c.desk
+free_helps did.Ran old new (inl (n, a, p, c)) = helps_then old.desk a.desk new.desk (node_helps (Claimed n) (unstopped old) a p) c.desk
 free_helps did.Ran old new (inr (n, a, b, d, p, q, o, c)) =
     helps_then old.desk d.desk new.desk (all_help NoNode Dry (others.Node (Claimed n)) old a b d p q o) c.desk
 free_helps did.Piece old new (inl (spot, a, p, q)) =
-    helps_then old.desk a.desk new.desk (node_helps NoNode old a p) (own_helps (Ran spot) a new q)
+    helps_then old.desk a.desk new.desk (node_helps NoNode (unstopped old) a p) (own_helps (Ran spot) a new q)
 free_helps did.Piece old new (inr (spot, a, b, p, q, o)) = all_help NoNode Dry (others.Piece (Ran spot)) old a b new p q o
-free_helps did.Nothing old new (inl (n, p)) = node_helps (Refused n) old new p
+free_helps did.Nothing old new (inl (n, p)) = node_helps (Refused n) (unstopped old) new p
 free_helps did.Nothing old new (inr (inl (spot, a, p, q))) =
-    helps_then old.desk a.desk new.desk (node_helps NoNode old a p) (own_helps (Dropped spot) a new q)
+    helps_then old.desk a.desk new.desk (node_helps NoNode (unstopped old) a p) (own_helps (Dropped spot) a new q)
 free_helps did.Nothing old new (inr (inr (other, a, b, unrun, p, q, o))) = all_help NoNode Dry other old a b new p q o
 
 -- no piece was given
@@ -243,11 +276,11 @@ own_none_given t old a unrun p = given_none t old.desk a.desk unrun (ap (λ (m :
 
 pub left_helps_none : (workers : ℕ) (receipt : Receipt) (old new : MeSeen) → IsTrappedTurn workers (Left receipt) old new → HelpsNone old.desk new.desk
 left_helps_none workers receipt old new (own, a, unrun, p, left, same) =
-    none_then old.desk a.desk new.desk (own_none_given own old a unrun p) (none_is a.desk new.desk (ap (λ (m : MeSeen). m.desk) same))
+    none_then old.desk a.desk new.desk (own_none_given own (unstopped old) a unrun p) (none_is a.desk new.desk (ap (λ (m : MeSeen). m.desk) same))
 
 pub nothing_helps_none : (workers : ℕ) (old new : MeSeen) → IsTrappedTurn workers Nothing old new → HelpsNone old.desk new.desk
 nothing_helps_none workers old new (own, other, a, unrun, not, p, q) =
-    none_then old.desk a.desk new.desk (own_none_given own old a unrun p) (given_none other a.desk new.desk not (other_desk other (refused_both a) new q))
+    none_then old.desk a.desk new.desk (own_none_given own (unstopped old) a unrun p) (given_none other a.desk new.desk not (other_desk other (refused_both a) new q))
 
 steal_given_none : (other : Other) (old new : MeSeen) → GaveNothing other → IsOther other old new → HelpsNone old.desk new.desk
 steal_given_none others.Alone old new unrun (one, same) = none_is old.desk new.desk (ap (λ (m : MeSeen). m.desk) same)
@@ -258,9 +291,9 @@ node_none : (t : Found) (old a : MeSeen) → IsOwnNode t old a → HelpsNone old
 node_none t old a p = none_is old.desk a.desk (ap (λ (m : MeSeen). m.desk) p.same)
 
 pub found_helps_none : (old new : MeSeen) → IsFreeTurn did.Nothing old new → HelpsNone old.desk new.desk
-found_helps_none old new (inl (n, p)) = node_none (Refused n) old new p
+found_helps_none old new (inl (n, p)) = node_none (Refused n) (unstopped old) new p
 found_helps_none old new (inr (inl (spot, a, p, q))) =
-    none_then old.desk a.desk new.desk (node_none NoNode old a p) (own_none_given (Dropped spot) a new tt q)
+    none_then old.desk a.desk new.desk (node_none NoNode (unstopped old) a p) (own_none_given (Dropped spot) a new tt q)
 found_helps_none old new (inr (inr (other, a, b, unrun, p, q, o))) =
-    none_then old.desk b.desk new.desk (none_then old.desk a.desk b.desk (node_none NoNode old a p) (own_none_given Dry a b tt q))
+    none_then old.desk b.desk new.desk (none_then old.desk a.desk b.desk (node_none NoNode (unstopped old) a p) (own_none_given Dry a b tt q))
     (steal_given_none other b new unrun o)

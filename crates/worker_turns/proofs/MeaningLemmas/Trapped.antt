@@ -7,8 +7,9 @@ use Rattle.worker_crew.specs.Words.{Receipt}
 use Rattle.worker_turns.specs.declared.found.Tried.{Tried}
 use Rattle.worker_turns.specs.declared.found.Tried.TheVariants.{Ran, Dropped, Dry}
 use Rattle.worker_turns.specs.declared.trapped.Trapped.TheVariants.{Left, Piece, Nothing}
-use Rattle.worker_crew.specs.Passes.{PassSeen, IsLeft}
+use Rattle.worker_crew.specs.Passes.{PassSeen, finding_none, IsLeft}
 use Rattle.worker_crew.specs.Workers.{MeSeen}
+use Rattle.worker_turns.specs.Stops.{unstopped}
 use Rattle.worker_turns.specs.Pieces.{Desk, spot_of, desk_after, NotRan, IsPop, IsOwnPiece, IsOtherPiece}
 use Rattle.worker_turns.specs.Trapped.{IsTrappedTurn, refused_both}
 use Rattle.worker_turns.specs.Meanings.Gains.{GrewBy, on_board, Gained, next_victim, HasEachEnd, HasAllEnds}
@@ -24,12 +25,12 @@ not_ran_desk (Ran s) d unrun = absurd unrun
 not_ran_desk (Dropped s) d unrun = refl
 not_ran_desk Dry d unrun = λ i. record d { refused = sym (append-nil d.refused) i }
 
--- the worker after the own deque of pieces gave none that could be run
+-- the worker after its look at the stop word, and after the own deque of pieces gave none that could be run
 abbrev pub after_own : List Spot → HeldEnds Spot → MeSeen → MeSeen
-after_own lost batch m = record m { batch = batch; desk = refusing_spots lost m.desk }
+after_own lost batch m = record m { pass = finding_none m.pass; batch = batch; desk = refusing_spots lost m.desk }
 
-pub own_none : (t : Tried) (old a : MeSeen) → NotRan t → IsOwnPiece t old a → a ≡ after_own (listed (spot_of t)) a.batch old
-own_none t old a unrun is = is.same ∙ ap (λ (d : Desk). record old { batch = a.batch; desk = d }) (not_ran_desk t old.desk unrun)
+pub own_none : (t : Tried) (old a : MeSeen) → NotRan t → IsOwnPiece t (unstopped old) a → a ≡ after_own (listed (spot_of t)) a.batch old
+own_none t old a unrun is = is.same ∙ ap (λ (d : Desk). record (unstopped old) { batch = a.batch; desk = d }) (not_ran_desk t old.desk unrun)
 
 own_gave_none : (t : Tried) (old new : HeldEnds Spot) → NotRan t → IsPop (spot_of t) old new → OwnGaveNone (listed (spot_of t)) old new
 own_gave_none (Ran s) old new unrun is = absurd unrun

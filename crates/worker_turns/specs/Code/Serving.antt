@@ -1,55 +1,74 @@
--- The hold in the course of a launch.
-use Rattle.std.specs.Prelude.{ℕ, ◌≡◌, true, Some, List, [], ◌∷◌, ◌++◌, length}
+-- The hold and the pass at each stage of a launch.
+use Rattle.std.specs.Prelude.{ℕ, ◌≡◌, ◌≤◌, true, Option, Some, List, [], ◌∷◌, ◌++◌, length}
 use Rattle.seq_objects.specs.declared.call.Call.{Call}
 use Rattle.core_model.specs.Words.{Entry}
 use Rattle.launch_batch.specs.Calls.{IsServiceOf}
 use Rattle.worker_crew.specs.Holds.{HoldSeen, new_hold, workers_in, IsPublished}
 use Rattle.worker_crew.specs.Passes.{PassSeen, in_hold}
 use Rattle.worker_crew.specs.Workers.{MeSeen}
-use Rattle.worker_turns.specs.Launches.{Serves, ArePlaces}
+use Rattle.worker_turns.specs.Launches.{Serves, ArePlaces, AreFound, look_events, answer_events, serve_events}
 
--- the flag was just won
+-- the hold is that just after a win: no look, no call taken, nothing published
 abbrev pub IsNewHold : HoldSeen → Type 0
 IsNewHold h = h ≡ new_hold h.book
 
--- so many workers were looked at, and these calls taken
-abbrev pub after_looks : ℕ → List Call → HoldSeen → HoldSeen
-after_looks looks calls h = record h { looks = looks; taken = calls }
+-- the hold, and the pass, after `looks` looks from worker 0 on that found these statuses and took these calls
+abbrev pub after_looks : ℕ → List ℕ → List Call → HoldSeen → HoldSeen
+after_looks looks found calls h = record h { looks = looks; found = found; taken = calls }
 
-abbrev pub looked : ℕ → List Call → PassSeen → PassSeen
-looked looks calls p = record p { hold = in_hold (after_looks looks calls) p.hold }
+abbrev pub looked : ℕ → List ℕ → List Call → PassSeen → PassSeen
+looked looks found calls p = record p {
+  hold = in_hold (after_looks looks found calls) p.hold;
+  events = p.events ++ look_events looks;
+}
 
--- these workers were answered
+-- The pass has looked at the first `looks` workers, and has taken `calls`, exactly those of the workers found pending.
+abbrev pub HasLooked : ℕ → List Call → PassSeen → PassSeen → Type 0
+HasLooked looks calls old new = (found : List ℕ) × AreFound looks found calls × (new ≡ looked looks found calls old)
+
+-- the hold after these workers were answered, and the pass after these first entries of the batch of this number were
 abbrev pub after_answers : List ℕ → HoldSeen → HoldSeen
 after_answers workers h = record h { answered = workers }
 
-abbrev pub answered_all : List ℕ → PassSeen → PassSeen
-answered_all workers p = record p { hold = in_hold (after_answers workers) p.hold }
+abbrev pub answered_all : ℕ → List Entry → PassSeen → PassSeen
+answered_all number entries p = record p {
+  hold = in_hold (after_answers (workers_in entries)) p.hold;
+  events = p.events ++ answer_events number 0 entries;
+}
 
--- the batch of this number is published, and none of it is answered
+-- `batch` is published with this number, and no call of it is answered yet
 pub record IsAnswerable (number : ℕ) (batch : List Entry) (h : HoldSeen) : Type 0 where
   pub before : List (List Entry)
   pub published : IsPublished before batch h
   pub numbered : number ≡ length before
   pub none : h.answered ≡ []
 
--- the hold after all was looked at and these calls were taken
-abbrev pub taken_hold : ℕ → List Call → List (List Entry) → HoldSeen
-taken_hold workers calls book = after_looks workers calls (new_hold book)
+-- the hold after a win that found this book, and one look at each worker, which took these calls
+abbrev pub taken_hold : ℕ → List ℕ → List Call → List (List Entry) → HoldSeen
+taken_hold workers found calls book = after_looks workers found calls (new_hold book)
 
--- the hold after these calls were served as this batch, and answered
-abbrev pub served_hold : ℕ → List Call → List Entry → List (List Entry) → HoldSeen
-served_hold workers calls batch book =
-    record (taken_hold workers calls book) { answered = workers_in batch; published = true; book = book ++ batch ∷ [] }
+-- the hold is such a one, for some found statuses
+abbrev pub HasTaken : ℕ → List Call → List (List Entry) → Option HoldSeen → Type 0
+HasTaken workers calls book hold = (found : List ℕ) × (hold ≡ Some (taken_hold workers found calls book))
 
--- the calls were served as one batch, which was published and answered, and the book is this one then
-pub record ServesBatch (workers : ℕ) (book : List (List Entry)) (calls : List Call) (after : List (List Entry))
+-- the hold after its calls were served as `batch`, which was published, and answered
+abbrev pub after_service : List Entry → HoldSeen → HoldSeen
+after_service batch h = record h { answered = workers_in batch; published = true; book = h.book ++ batch ∷ [] }
+
+-- The calls were served as one batch after `book`, with its pieces posted and collected; the batch was published, and
+-- answered; and the book is `after` then. Meanwhile the worker may have looked at the stop word, and found it unset.
+pub record ServesBatch (book : List (List Entry)) (calls : List Call) (after : List (List Entry))
     (old new : MeSeen) : Type 0 where
   pub batch : List Entry
   pub posted : List ℕ
   pub service : IsServiceOf book calls batch
   pub places : ArePlaces book calls posted
   pub grown : after ≡ book ++ batch ∷ []
-  pub pass : new.pass ≡ record old.pass { hold = Some (served_hold workers calls batch book) }
+  pub pass : new.pass ≡ record old.pass {
+    hold = in_hold (after_service batch) old.pass.hold;
+    stop_looks = new.pass.stop_looks;
+    events = old.pass.events ++ serve_events (length book) batch;
+  }
+  pub looks : old.pass.stop_looks ≤ new.pass.stop_looks
   pub desk : Serves posted old.desk new.desk
   pub core : new.core ≡ old.core

@@ -1,4 +1,4 @@
--- What each answer of a free worker's turn means, in counts and lists that rose.
+-- The meaning of each answer of a free worker's turn, in counts and lists that grew.
 use Rattle.std.specs.Prelude.{ℕ, ◌≡◌, ◌<◌, ◌+◌, ◌⊎◌, List, [], ◌∷◌, ◌++◌}
 use Rattle.two_deques.specs.declared.spot.Spot.{Spot}
 use Rattle.two_deques.specs.declared.tries.Deck.{Deck}
@@ -9,34 +9,34 @@ use Rattle.worker_crew.specs.Passes.{PassSeen}
 use Rattle.worker_crew.specs.Workers.{MeSeen}
 use Rattle.worker_turns.specs.Meanings.Gains.{GrewBy, on_board, EmptyPopsRose, FruitlessRose, Took, Gained, GainedNone}
 
--- the worker at one of whose deques the next steal is tried
+-- the victim of the next steal, at either of its deques
 abbrev pub next_worker : MeSeen → ℕ
 next_worker m = (try_of m.tries).victim
 
--- the fruitless steals at the deque that is the next to try rose
+-- the count of fruitless steals at this kind of deque of the victim rose by one
 abbrev pub TryWasFruitless : Deck → ℕ → MeSeen → MeSeen → Type 0
 TryWasFruitless CoreDeck victim old new = FruitlessRose victim old.core new.core
 TryWasFruitless BatchDeck victim old new = FruitlessRose victim old.batch new.batch
 
--- it claimed no node
+-- the worker claimed no node
 pub record ClaimedNone (old new : PassSeen) : Type 0 where
   pub claims : new.claims ≡ old.claims
   pub claimed : new.claimed ≡ old.claimed
 
--- Exactly this task was got of the deques of its kind: it was the last of the own list, which lost it, or the hand took it
--- of that worker's deque.
+-- Exactly this task was got from the deques of its kind: it was popped, the newest of the own list, or the hand took it
+-- from the victim's deque.
 abbrev pub GotOne : {T : Type 0} → ℕ → T → HeldEnds T → HeldEnds T → Type 0
 GotOne victim x old new = Gained victim (x ∷ []) [] old new ⊎ Gained victim [] (x ∷ []) old new
 
--- How the node was come by: it was the last of the own list, and this is the rest; or this is the list, and the hand took
--- the node, and no other.
+-- Where the node came from. Either it was the newest of the own list, `rest` is the list without it, and the hand took
+-- nothing; or `rest` is the own list, and the hand took the node, and no other, from the next victim.
 abbrev pub CameBy : ℕ → List ℕ → MeSeen → MeSeen → Type 0
 CameBy node rest old new =
     ((old.core.own ≡ rest ++ node ∷ []) × (new.core.stolen ≡ old.core.stolen))
     ⊎ ((rest ≡ old.core.own) × Took (next_worker old) (node ∷ []) old.core new.core)
 
--- Ran: one node was claimed, and none refused. The own list is the list at entry, without the node where it was popped,
--- and then the nodes that were opened, in their order.
+-- `Ran`: one node was claimed, and none refused. The own list is the old one, without the node if that was popped, with
+-- the nodes opened behind it, in order.
 pub record DidRun (old new : MeSeen) : Type 0 where
   pub node : ℕ
   pub claims : new.pass.claims ≡ old.pass.claims + 1
@@ -48,8 +48,8 @@ pub record DidRun (old new : MeSeen) : Type 0 where
   pub own : new.core.own ≡ rest ++ opened
   pub came : CameBy node rest old new
 
--- Piece: one piece was claimed and finished, and none posted; it is the one task that was got. No node was claimed, and no
--- node or spot refused.
+-- `Piece`: one piece was claimed and finished, and none posted. Its spot is all that was got from the deques. No node
+-- was claimed, and no node or spot was refused.
 pub record DidRunPiece (old new : MeSeen) : Type 0 where
   pub spot : Spot
   pub finishes : new.desk.finishes ≡ old.desk.finishes + 1
@@ -61,8 +61,8 @@ pub record DidRunPiece (old new : MeSeen) : Type 0 where
   pub refused_nodes : new.pass.refused_nodes ≡ old.pass.refused_nodes
   pub refused : new.desk.refused ≡ old.desk.refused
 
--- Nothing was found: both own pops gave nothing, and where there is more than one worker so did the steal. No task was got,
--- and none refused.
+-- Both own pops found nothing, and so did the steal if there is more than one worker. Nothing was got from the deques,
+-- and nothing was refused.
 pub record FoundNothing (old new : MeSeen) : Type 0 where
   pub nodes : GainedNone old.core new.core
   pub spots : GainedNone old.batch new.batch
@@ -72,7 +72,7 @@ pub record FoundNothing (old new : MeSeen) : Type 0 where
   pub batch_pops : EmptyPopsRose old.batch new.batch
   pub steal : 1 < old.tries.workers → TryWasFruitless (try_of old.tries).deck (next_worker old) old new
 
--- One node was got, and it was refused; no spot was got.
+-- One node was got, and its claim was refused; no spot was got or refused.
 pub record FoundNode (old new : MeSeen) : Type 0 where
   pub node : ℕ
   pub got : GotOne (next_worker old) node old.core new.core
@@ -80,7 +80,7 @@ pub record FoundNode (old new : MeSeen) : Type 0 where
   pub spots : GainedNone old.batch new.batch
   pub refused : new.desk.refused ≡ old.desk.refused
 
--- One spot was got, and it was refused; no node was got.
+-- One spot was got, and its claim was refused; no node was got or refused.
 pub record FoundSpot (old new : MeSeen) : Type 0 where
   pub spot : Spot
   pub got : GotOne (next_worker old) spot old.batch new.batch
@@ -88,7 +88,7 @@ pub record FoundSpot (old new : MeSeen) : Type 0 where
   pub nodes : GainedNone old.core new.core
   pub refused_nodes : new.pass.refused_nodes ≡ old.pass.refused_nodes
 
--- Nothing: no node was claimed, and nothing was found, or exactly one task, which was refused.
+-- `Nothing`: no node was claimed, and nothing was found, or exactly one node or spot, whose claim was refused.
 pub record DidFindNothing (old new : MeSeen) : Type 0 where
   pub none : ClaimedNone old.pass new.pass
   pub found : FoundNothing old new ⊎ (FoundNode old new ⊎ FoundSpot old new)

@@ -1,21 +1,22 @@
--- What a launch means, sentence by sentence.
+-- The meaning of a launch, in counts and lists that grew.
 use Rattle.std.specs.Prelude.{ℕ, ◌≡◌, ◌+◌, ◌⊎◌, true, false, None, Some, List, [], ◌∷◌, length}
 use Rattle.batch_history.specs.Serving.{calls_in}
 use Rattle.launch_batch.specs.Calls.{AreSame, IsServiceOf}
 use Rattle.core_model.specs.Words.{Entry}
 use Rattle.worker_crew.specs.Holds.{HoldSeen, workers_in}
-use Rattle.worker_turns.specs.Launches.{ArePlaces}
+use Rattle.worker_turns.specs.Launches.{ArePlaces, AreFound}
 use Rattle.worker_turns.specs.Pieces.{Desk}
 use Rattle.worker_crew.specs.Workers.{MeSeen}
 use Rattle.worker_turns.specs.Meanings.Gains.{GrewBy}
 
--- No call was found: nothing was published, and nobody answered.
+-- No call was taken, nothing was published, and the book is unchanged.
 pub record FoundNone (book : List (List Entry)) (done : HoldSeen) : Type 0 where
   pub none : done.taken ≡ []
   pub unpublished : done.published ≡ false
   pub unchanged : done.book ≡ book
 
--- The calls that were found, and no others, are one batch, which was published behind the book, and each was answered.
+-- The calls taken, and no others, form the batch, which serves them after the book. It was published behind the book,
+-- and each of its calls was answered, in batch order.
 pub record Served (book : List (List Entry)) (batch : List Entry) (done : HoldSeen) : Type 0 where
   pub published : done.published ≡ true
   pub behind : GrewBy (batch ∷ []) book done.book
@@ -23,33 +24,34 @@ pub record Served (book : List (List Entry)) (batch : List Entry) (done : HoldSe
   pub service : IsServiceOf book done.taken batch
   pub answered : done.answered ≡ workers_in batch
 
--- Each of the pieces at these places was posted once and collected once, and the row is free.
+-- Pieces were posted at exactly these places, in this order, as many results were collected, and the row is free.
 pub record Passed (places : List ℕ) (old new : Desk) : Type 0 where
   pub posts : GrewBy places old.posts new.posts
   pub collects : new.collects ≡ old.collects + length places
   pub free : new.posted ≡ []
 
--- no piece was posted or collected
+-- no piece was posted or collected, and the row is free
 pub record PassedNone (old new : Desk) : Type 0 where
   pub posts : new.posts ≡ old.posts
   pub collects : new.collects ≡ old.collects
   pub free : new.posted ≡ []
 
--- After a launch the flag is released, and this is how its hold was then: it had looked at each worker exactly once, since
--- its look number u is at worker u. Where it found no call nothing was published and no piece posted; else the calls that
--- it found are one batch, which has so many pieces. The book of the hold, with that batch, is the one that the pass has seen:
--- it begins each later book, and the history of the closing report.
+-- After a launch the flag is released, and `done` is the hold as of the release. It looked at each worker exactly once,
+-- as its look number u is at worker u. If no call was found pending, nothing was published and no piece was posted.
+-- Otherwise the calls found form one batch, whose pieces were posted at their places and collected. The book that the
+-- pass has seen is that of the hold, with this batch.
 pub record HasLaunched (workers : ℕ) (book : List (List Entry)) (old new : MeSeen) : Type 0 where
   pub done : HoldSeen
   pub last : new.pass.last ≡ Some done
   pub released : new.pass.hold ≡ None
   pub looks : done.looks ≡ workers
+  pub pending : AreFound workers done.found done.taken
   pub seen : new.pass.book_seen ≡ done.book
   pub found : (FoundNone book done × PassedNone old.desk new.desk)
       ⊎ ((batch : List Entry) × (places : List ℕ) × Served book batch done × ArePlaces book done.taken places
       × Passed places old.desk new.desk)
 
--- A trapped worker launched: its leave was refused, and it won the flag, once each.
+-- `Launched`: one leave was refused, one win succeeded and none was refused, and for some book the turn launched.
 pub record DidLaunch (workers : ℕ) (old new : MeSeen) : Type 0 where
   pub leaves : new.pass.refused_leaves ≡ old.pass.refused_leaves + 1
   pub wins : new.pass.wins ≡ old.pass.wins + 1

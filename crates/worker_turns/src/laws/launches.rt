@@ -1,13 +1,13 @@
-//! What a launch means.
+//! The meaning of a launch.
 ghost use Rattle.std.specs.Prelude.{ℕ, List};
 ghost use Rattle.batch_history.specs.declared.batch.Entry.{Entry};
 ghost use Rattle.worker_crew.specs.Workers.{MeSeen};
 ghost use Rattle.worker_turns.specs.Launches.{Launches};
 ghost use Rattle.worker_turns.specs.Meanings.Launches.{HasLaunched};
 
-/// A launch looked at each worker once. Where it found no call it published nothing; else the calls that it found, and no
-/// others, are one batch, which was published and answered. Each piece was posted once and collected once, as many as the
-/// batch has. The flag is released.
+/// A launch looks at each worker once. If it finds no call, it publishes nothing. Otherwise the calls that it finds,
+/// and no others, form one batch, which it publishes and answers; it posts each piece of the batch once and collects
+/// each result once. Afterwards the flag is released.
 #[tactic(auto, using(crate::proofs::MeaningLemmas::Launches::launch_means))]
 pub fn a_launch_serves_exactly_the_calls_that_it_found()
     ensures { (workers : ℕ) (book : List (List Entry)) (old new : MeSeen) → Launches workers book old new

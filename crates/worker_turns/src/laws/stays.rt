@@ -1,4 +1,4 @@
-//! What the turns, and a launch, leave as it was.
+//! What turns and launches leave unchanged.
 ghost use Rattle.std.specs.Prelude.{◌≡◌, ℕ, List, true};
 ghost use Rattle.batch_history.specs.declared.batch.Entry.{Entry};
 ghost use Rattle.core_model.specs.declared.status.Receipt.{Receipt};
@@ -13,9 +13,9 @@ ghost use Rattle.worker_turns.specs.Free.{IsFreeTurn, Helps};
 ghost use Rattle.worker_turns.specs.Launches.{Launches};
 ghost use Rattle.worker_turns.specs.Meanings.Stays.{CallAfter, IsStillTrapped, KeepsNodes, HelpsNone};
 
-/// After a launch, and after each answer of a trapped turn but Left, the worker is trapped as before, and its task, its call,
-/// the receipts that it left with and the numbers that it was told are as they were. After Left it is not trapped, its call
-/// has got the receipt, and its task and those numbers are as they were.
+/// After a launch, and after each answer of a trapped turn but `Left`, the worker is still trapped, and its task, its
+/// call, the receipts that it left with and its record of what `since` answered are unchanged. After `Left` it is free,
+/// its call has the receipt, and its task and that record are unchanged.
 #[tactic(auto, using(crate::proofs::MeaningLemmas::Stays::call_after, crate::proofs::MeaningLemmas::Stays::launched_call))]
 pub fn a_trapped_worker_waits_for_the_same_call()
     ensures turn { (workers : ℕ) (answer : TrappedAnswer) (old new : MeSeen) → IsTrapped old.pass
@@ -25,8 +25,8 @@ pub fn a_trapped_worker_waits_for_the_same_call()
         → Launches workers book old new → IsStillTrapped old.pass new.pass }
 {}
 
-/// A trapped turn, and a launch, leave the deques of nodes, and the nodes that were claimed, refused and opened, as they
-/// were.
+/// A trapped turn or a launch changes neither the worker's ends of the deques of nodes nor the record of the nodes that
+/// it claimed, was refused and opened.
 #[tactic(auto, using(crate::proofs::MeaningLemmas::Stays::turn_keeps, crate::proofs::MeaningLemmas::Stays::launch_keeps))]
 pub fn a_trapped_worker_keeps_its_nodes()
     ensures turn { (workers : ℕ) (answer : TrappedAnswer) (old new : MeSeen)
@@ -35,7 +35,7 @@ pub fn a_trapped_worker_keeps_its_nodes()
         → Launches workers book old new → KeepsNodes old new }
 {}
 
-/// In each turn, and in a launch, the claims of pieces that were given rose by as many as the finishes.
+/// In each turn, and in a launch, the worker finishes as many pieces as it claims.
 #[tactic(auto, using(crate::proofs::MeaningLemmas::Stays::trapped_helps, crate::proofs::MeaningLemmas::Stays::free_helps, crate::proofs::MeaningLemmas::Stays::launch_helps))]
 pub fn each_piece_that_is_given_is_finished()
     ensures trapped { (workers : ℕ) (answer : TrappedAnswer) (old new : MeSeen)
@@ -46,7 +46,7 @@ pub fn each_piece_that_is_given_is_finished()
         → Launches workers book old new → Helps old.desk new.desk }
 {}
 
-/// At Left, and at Nothing of either turn, no piece was claimed or finished.
+/// With the answer `Left`, or `Nothing` of either kind of turn, the worker claimed and finished no piece.
 #[tactic(auto, using(crate::proofs::MeaningLemmas::Stays::left_helps_none, crate::proofs::MeaningLemmas::Stays::nothing_helps_none, crate::proofs::MeaningLemmas::Stays::found_helps_none))]
 pub fn no_piece_is_run_at_left_and_nothing()
     ensures left { (workers : ℕ) (receipt : Receipt) (old new : MeSeen)

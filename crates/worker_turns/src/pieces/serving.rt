@@ -1,4 +1,4 @@
-//! How the pieces of a batch are handed out, and their results collected.
+//! How the combiner hands out the pieces of a batch and collects their results.
 ghost use Rattle.std.specs.Prelude.{◌≡◌, ◌<◌, ℕ, List, [], ◌∷◌, length, map, IfOk, IfErr};
 ghost use Rattle.std.specs.List.{AllByRecursion};
 ghost use Rattle.seq_objects.specs.Orders.{StrictlyAscends};
@@ -10,7 +10,8 @@ ghost use Rattle.two_deques.specs.Hands.{held};
 ghost use Rattle.worker_crew.specs.declared.crew.Stop.TheVariants.{Memory};
 ghost use Rattle.worker_crew.specs.Workers.{IsMeOf};
 ghost use Rattle.worker_turns.specs.Pieces.{Works, after_posts, with_place};
-ghost use Rattle.worker_turns.specs.Launches.{Serves, IsStop};
+ghost use Rattle.worker_turns.specs.Launches.{Serves};
+ghost use Rattle.worker_turns.specs.Stops.{HasOnlyLooked, IsStop};
 
 use crate::found::Tried;
 use crate::pieces::{other_piece, own_piece};
@@ -23,8 +24,8 @@ use std::sync::Wait;
 use two_deques::Spot;
 use worker_crew::{Crew, Me, Stop, Table};
 
-/// Posts each piece at its place of the own row, and pushes its spot on the own deque of pieces. The answer is the
-/// places.
+/// Posts each piece at its place in the worker's own row, and pushes its spot on the worker's own deque of pieces.
+/// Returns the places.
 fn post_all<T: Table, G: Pause>(
     alloc: Global,
     crew: &Crew<T, G>,
@@ -63,7 +64,7 @@ fn post_all<T: Table, G: Pause>(
     Ok(places)
 }
 
-/// Runs pieces of the own deque, until a pop gives none.
+/// Runs pieces of the worker's own deque until a pop gives none, or after 64 pops. A batch has at most 56 pieces.
 fn run_own<T: Table, G: Pause>(
     alloc: Global,
     crew: &Crew<T, G>,
@@ -85,8 +86,8 @@ fn run_own<T: Table, G: Pause>(
     Ok(())
 }
 
-/// Waits for the result at the first place of the own row that is not free. While it is not there the worker looks at
-/// the stop word, and tries to steal one piece.
+/// Waits for the result at `place`, the first place of the worker's own row that is not free. After each look that
+/// finds no result, the worker looks at the stop word and tries to steal one piece.
 fn collect_one<T: Table, G: Pause, R: Wait>(
     rt: &R,
     alloc: Global,
@@ -105,7 +106,7 @@ fn collect_one<T: Table, G: Pause, R: Wait>(
         → (desk_view me.old.desk).posted ≡ (place, input) ∷ rest → Meets input out) }
     ensures desk { IfOk result (λ _. Works 1 (desk_view me.old.desk) (desk_view me.new.desk)) }
     ensures core { IfOk result (λ _. (held me.new.hand).core ≡ (held me.old.hand).core) }
-    ensures seen { IfOk result (λ _. T.seen me.new.pass ≡ T.seen me.old.pass) }
+    ensures seen { IfOk result (λ _. HasOnlyLooked (T.seen me.old.pass) (T.seen me.new.pass)) }
     ensures stopped { IfErr result (λ stop. IsStop stop (T.seen me.old.pass) (T.seen me.new.pass)) }
 {
     let backoff = Backoff::new();
@@ -122,7 +123,7 @@ fn collect_one<T: Table, G: Pause, R: Wait>(
     unreachable!()
 }
 
-/// Collects the results of the own row, place by place.
+/// Collects the results of the worker's own row, in the order of `places`.
 fn collect_all<T: Table, G: Pause, R: Wait>(
     rt: &R,
     alloc: Global,
@@ -142,7 +143,7 @@ fn collect_all<T: Table, G: Pause, R: Wait>(
     ensures desk { IfOk result (λ _.
         Works (length places.now) (desk_view me.old.desk) (desk_view me.new.desk)) }
     ensures core { IfOk result (λ _. (held me.new.hand).core ≡ (held me.old.hand).core) }
-    ensures seen { IfOk result (λ _. T.seen me.new.pass ≡ T.seen me.old.pass) }
+    ensures seen { IfOk result (λ _. HasOnlyLooked (T.seen me.old.pass) (T.seen me.new.pass)) }
     ensures stopped { IfErr result (λ stop. IsStop stop (T.seen me.old.pass) (T.seen me.new.pass)) }
 {
     let mut outs = Vec::new(alloc);
@@ -153,7 +154,7 @@ fn collect_all<T: Table, G: Pause, R: Wait>(
     Ok(outs)
 }
 
-/// Hands the pieces of a batch out, helps with them, and collects their results.
+/// Hands out the pieces of a batch, helps to run them, and collects their results.
 pub(crate) fn serve_pieces<T: Table, G: Pause, R: Wait>(
     rt: &R,
     alloc: Global,
@@ -172,7 +173,7 @@ pub(crate) fn serve_pieces<T: Table, G: Pause, R: Wait>(
     ensures desk { IfOk result (λ _.
         Serves (map place_of ins.items) (desk_view me.old.desk) (desk_view me.new.desk)) }
     ensures core { IfOk result (λ _. (held me.new.hand).core ≡ (held me.old.hand).core) }
-    ensures seen { IfOk result (λ _. T.seen me.new.pass ≡ T.seen me.old.pass) }
+    ensures seen { IfOk result (λ _. HasOnlyLooked (T.seen me.old.pass) (T.seen me.new.pass)) }
     ensures stopped { IfErr result (λ stop. IsStop stop (T.seen me.old.pass) (T.seen me.new.pass)) }
 {
     let places = post_all(alloc, crew, me, ins)?;

@@ -1,4 +1,4 @@
-use Rattle.std.proofs.Common.{◌∙◌, ap}
+use Rattle.std.proofs.Common.{◌∙◌, ap, arith}
 use Rattle.worker_crew.specs.Passes.{is_trapped}
 use Rattle.worker_turns.specs.Trapped.{IsCallSame}
 use Rattle.worker_turns.proofs.CarryLemmas.Steps.{front_then, helps_then, jobs_then, stays_same}
@@ -15,6 +15,8 @@ loop-preserved g c =
       trapped = (ap is_trapped same.call ∙ i.trapped.0, same.hold);
       job = jobs_then _ old new i.job same.job;
       posted = (i.posted.0, i.posted.1, same.posted ∙ i.posted.2);
+      made = (i.made.0, i.made.1, i.made.2, front_then _ _ _ i.made.3 same.events);
+      looks = (let a = i.looks in let b = same.looks in omega (arith, a, b));
       left = same.left ∙ i.left;
       book = front_then _ _ _ i.book same.book;
       before = same.before ∙ i.before;

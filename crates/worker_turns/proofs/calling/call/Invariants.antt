@@ -1,8 +1,10 @@
-use Rattle.std.proofs.Common.{◌≡◌, Some, []}
+use Rattle.std.proofs.Common.{ℕ, ◌≡◌, ◌≤◌, Some, [], ◌∷◌, ◌++◌}
 use Rattle.two_deques.specs.Hands.{held}
 use Rattle.piece_board.specs.Boards.{desk_view}
 use Rattle.worker_crew.specs.declared.step.Step.TheVariants as steps
 use Rattle.core_model.specs.Words.{Op}
+use Rattle.core_model.specs.declared.event.Event.TheVariants.{Post}
+use Rattle.core_model.specs.declared.task.Task.TheVariants.{Started}
 use Rattle.worker_crew.specs.Passes.{IsFront, IsTrapped}
 use Rattle.worker_crew.specs.Workers.{IsMeOf}
 use Rattle.worker_turns.specs.Trapped.{IsJobSame}
@@ -17,6 +19,9 @@ invariant-loop g l = record {
   posted : (op : Op)
       × (g.T.Table.next_of l.crew.table (g.T.Table.seen l.fn.me.pass).task (g.T.Table.seen l.fn.me.pass).call ≡ Some (steps.Call l.fn.leaf op))
       × ((g.T.Table.seen l.me.pass).posted ≡ Some (l.fn.leaf, op));
+  made : (node : ℕ) × (start : ℕ) × ((g.T.Table.seen l.fn.me.pass).task ≡ Started node start)
+      × IsFront ((g.T.Table.seen l.fn.me.pass).events ++ Post node start ∷ []) (g.T.Table.seen l.me.pass).events;
+  looks : (g.T.Table.seen l.fn.me.pass).stop_looks ≤ (g.T.Table.seen l.me.pass).stop_looks;
   left : (g.T.Table.seen l.me.pass).left ≡ (g.T.Table.seen l.fn.me.pass).left;
   book : IsFront (g.T.Table.seen l.fn.me.pass).book_seen (g.T.Table.seen l.me.pass).book_seen;
   before : (g.T.Table.seen l.me.pass).before ≡ (g.T.Table.seen l.fn.me.pass).greatest;

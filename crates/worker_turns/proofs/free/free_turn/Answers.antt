@@ -1,4 +1,4 @@
-use Rattle.std.proofs.Common.{rules, subst, inr}
+use Rattle.std.proofs.Common.{rules, ◌≡◌, ap, ◌∙◌, subst, inl, inr}
 use Rattle.worker_turns.specs.declared.found.Tried.{Tried}
 use Rattle.worker_turns.specs.declared.found.Found.TheVariants.{NoNode}
 use Rattle.worker_crew.specs.Passes.{PassSeen}

@@ -12,8 +12,8 @@ answer-requires-clause-held g c =
 pub loop-place-preserved : goal.loop-place-preserved
 loop-place-preserved g c = record {
   pass = c.answer.ensures.pass;
-  seen = answered_more (g.T.Table.seen c.args.pass.now) _ _ c.loop-place.place c.args.batch.now _ c.loop-place-test.true
-      (entry_at_itself c.args.batch.now c.loop-place.place _ c.loop-place-test.true) c.loop-place.invariant.seen c.answer.ensures.answered;
+  seen = answered_more (g.T.Table.seen c.args.pass.now) _ _ c.args.number c.loop-place.place c.args.batch.now _ _ c.loop-place-test.true
+      (entry_at_itself c.args.batch.now c.loop-place.place _ c.loop-place-test.true) refl c.loop-place.invariant.seen c.answer.ensures.answered;
   inside = omega (arith, c.loop-place-test.true);
 }
 

@@ -3,7 +3,7 @@ use Rattle.core_model.specs.Words.{Entry}
 use Rattle.seq_objects.specs.Pieces.{BatchContext}
 use Rattle.launch_batch.specs.declared.piece.PieceIn.{PieceIn}
 use Rattle.launch_batch.specs.Pieces.{place_of}
-use Rattle.worker_turns.proofs.LaunchLemmas.Batches.{few_before, answerable, pass_served, last_at}
+use Rattle.worker_turns.proofs.LaunchLemmas.Batches.{few_before, answerable, pass_served, served_looks, last_at}
 use Rattle.worker_turns.proofs.launching.serve_batch.Goals as goal
 
 pub overflow_cast-number : goal.overflow_cast-number
@@ -34,7 +34,8 @@ returns-clause-batch g c =
       service = c.in_ok-shop.ensures.batch o c.in_ok-opened.ensures.context c.in_ok-outs.ensures.meet;
       places = c.in_ok-opened.ensures.places;
       grown = grown;
-      pass = pass_served (g.T.Table.seen c.args.me.now.pass) _ _ _ _ c.args.calls.items c.args.shop c.in_ok-shop.batch _ c.requires.hold c.in_ok-outs.ensures.seen c.publish.ensures.published c.answer_all.ensures.answered all;
+      pass = pass_served (g.T.Table.seen c.args.me.now.pass) _ _ _ _ c.args.shop c.in_ok-shop.batch _ c.in_ok-outs.ensures.seen c.publish.ensures.published c.answer_all.ensures.answered (ap (λ (l : List (List Entry)). length l) book) all;
+      looks = served_looks (g.T.Table.seen c.args.me.now.pass) _ _ _ _ c.args.shop c.in_ok-shop.batch _ c.in_ok-outs.ensures.seen c.publish.ensures.published c.answer_all.ensures.answered;
       desk = c.in_ok-outs.ensures.desk;
       core = c.in_ok-outs.ensures.core;
     }

@@ -6,6 +6,7 @@ use Rattle.worker_turns.specs.declared.trapped.Trapped.TheVariants.{Piece, Launc
 use Rattle.worker_turns.specs.Launches.{Launches}
 use Rattle.worker_turns.specs.Trapped.{IsTrappedTurn, won_after}
 use Rattle.worker_turns.proofs.MeaningLemmas.Stays.{call_after, trapped_helps}
+use Rattle.worker_turns.proofs.MeaningLemmas.Events.{trapped_looked}
 use Rattle.worker_turns.proofs.PieceLemmas.Working.{own_works, other_works}
 use Rattle.worker_turns.proofs.CarryLemmas.Steps.{helps_then, helps_works}
 use Rattle.worker_turns.proofs.trapped.trapped_turn.Goals as goal
@@ -22,6 +23,7 @@ returns g c =
       pass = search rules;
       me = c.in_ok-other.ensures.me;
       path = path;
+      looked = trapped_looked (g.T.Table.workers c.args.crew.now.table) Nothing old (me_seen g.T.Table.seen c.other_piece.new.me) path;
       stays = (call_after (g.T.Table.workers c.args.crew.now.table) Nothing old (me_seen g.T.Table.seen c.other_piece.new.me) c.requires.trapped path).same;
       free = search rules;
       core = search rules;
@@ -36,6 +38,7 @@ returns-in-Ran-other g c =
       pass = search rules;
       me = search rules;
       path = path;
+      looked = trapped_looked (g.T.Table.workers c.args.crew.now.table) Piece old (me_seen g.T.Table.seen c.other_piece.new.me) path;
       stays = (call_after (g.T.Table.workers c.args.crew.now.table) Piece old (me_seen g.T.Table.seen c.other_piece.new.me) c.requires.trapped path).same;
       free = search rules;
       core = search rules;
@@ -60,6 +63,7 @@ returns-in-Some g c =
       pass = c.in_ok-launch.ensures.pass;
       me = c.in_ok-launch.ensures.me;
       path = path;
+      looked = trapped_looked workers Launched old new path;
       stays = (call_after workers Launched old new c.requires.trapped path).same;
       free = launches.desk.free;
       core = launches.core ∙ ap (λ (m : MeSeen). m.core) own.same;

@@ -37,4 +37,4 @@ pub returns-clause-answered : goal.returns-clause-answered
 returns-clause-answered c =
     let old = view c.args.pass.now in
     let a = c.answer.ensures.answered in
-    hold_step (view c.answer.new.pass) old a.0 (views.answered_view a.0 c.args.u) (after_answer c.args.u) (views.with_event (views.with_hold old (views.answered_view a.0 c.args.u)) (Answer c.args.u c.args.receipt)) a.1 refl a.2 refl
+    hold_step (view c.answer.new.pass) old a.0 (views.answered_view a.0 c.args.u) (Answer c.args.u c.args.receipt) (after_answer c.args.u) (views.with_event (views.with_hold old (views.answered_view a.0 c.args.u)) (Answer c.args.u c.args.receipt)) a.1 refl a.2 refl

@@ -1,4 +1,4 @@
-use Rattle.std.proofs.Common.{subst, true, false, Bool, ◌≡◌, ℕ, refl}
+use Rattle.std.proofs.Common.{subst, ap, inl, inr, true, false, Bool, ◌≡◌, ℕ, refl}
 use Rattle.std.specs.Prelude.{IsTrue, IsFalse}
 use Rattle.core_table.specs.Passes.{view, job_in, IsPassOf}
 use Rattle.core_table.specs.declared.table.CoreTable.{CoreTable}
@@ -8,10 +8,10 @@ use Rattle.worker_crew.specs.Words.{Idle}
 use Rattle.core_table.specs.JobEvents.{IsArrival}
 use Rattle.core_table.specs.Views as views
 use Rattle.core_model.specs.declared.task.Task.TheVariants.{Handed}
-use Rattle.worker_crew.specs.Passes as passes
+use Rattle.worker_crew.specs.Passes.{HasArrived}
 use Rattle.worker_crew.specs.Seats.{pass_seen, IsSeat}
 use Rattle.worker_crew.proofs.SeatLemmas.Steps.{not_out, IsStepDue, step_due}
-use Rattle.worker_crew.proofs.SeatLemmas.Seats.{seat_by, task_seen}
+use Rattle.worker_crew.proofs.SeatLemmas.Seats.{seat_by}
 use Rattle.worker_crew.proofs.running.CoreTableTable.arrive.Goals as goal
 
 -- it arrived first or second
@@ -26,9 +26,9 @@ module _ (table : CoreTable) (old new : Pass) (P : ℕ → ℕ → Type 0) where
   seat true was now first second = let s = second refl in seat_by table new (views.with_event (views.with_task (view old) (Handed s.1)) (ArriveSecond s.1 s.2 s.3 s.0)) now s.6 (tt, was.looks)
   seat false was now first second = let s = first refl in seat_by table new (views.with_event (views.with_task (view old) Idle) (ArriveFirst s.1 s.2 s.3 s.0)) now s.6 (tt, was.looks)
 
-  seen : (b : Bool) → First b → Second b → pass_seen (view new) ≡ passes.with_task (view new).task (pass_seen (view old))
-  seen true first second = let s = second refl in task_seen (view new) (view old) (Handed s.1) (ArriveSecond s.1 s.2 s.3 s.0) s.6
-  seen false first second = let s = first refl in task_seen (view new) (view old) Idle (ArriveFirst s.1 s.2 s.3 s.0) s.6
+  seen : (b : Bool) → First b → Second b → HasArrived (job_in table).plan (pass_seen (view old)) (pass_seen (view new))
+  seen true first second = let s = second refl in (s.0, s.1, s.2, s.3, s.5, inr (ap pass_seen s.6))
+  seen false first second = let s = first refl in (s.0, s.1, s.2, s.3, s.5, inl (ap pass_seen s.6))
 
 pub arrive-requires-clause-pass : goal.arrive-requires-clause-pass
 arrive-requires-clause-pass c = c.requires.pass.pass_of

@@ -1,9 +1,10 @@
-use Rattle.std.proofs.Common.{subst}
+use Rattle.std.proofs.Common.{subst, ap}
 use Rattle.core_table.specs.Passes.{view, job_in}
 use Rattle.core_table.specs.Views as views
 use Rattle.core_model.specs.Events.{task_after}
+use Rattle.worker_crew.specs.Seats.{pass_seen}
 use Rattle.worker_crew.proofs.SeatLemmas.Steps.{not_out, IsStepDue, step_due, after_fits}
-use Rattle.worker_crew.proofs.SeatLemmas.Seats.{seat_by, task_seen}
+use Rattle.worker_crew.proofs.SeatLemmas.Seats.{seat_by}
 use Rattle.worker_crew.proofs.running.CoreTableTable.finish.Goals as goal
 
 pub finish-requires-clause-pass : goal.finish-requires-clause-pass
@@ -25,4 +26,4 @@ returns-clause-pass c =
     (after_fits (job_in c.args.self.now).plan f.0, c.requires.pass.looks)
 
 pub returns-clause-finished : goal.returns-clause-finished
-returns-clause-finished c = let f = c.finish.ensures.finished in task_seen (view c.finish.new.pass) (view c.args.pass.now) (task_after f.0) f.1 f.4
+returns-clause-finished c = let f = c.finish.ensures.finished in (f.0, f.1, f.3, ap pass_seen f.4)

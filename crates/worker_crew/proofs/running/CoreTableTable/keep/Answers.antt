@@ -1,9 +1,11 @@
+use Rattle.std.proofs.Common.{ap}
 use Rattle.core_table.specs.Passes.{view, job_in}
 use Rattle.core_table.specs.CoreWords.{Keep}
 use Rattle.core_table.specs.Views as views
 use Rattle.worker_crew.specs.NextSteps.{next_step}
+use Rattle.worker_crew.specs.Seats.{pass_seen}
 use Rattle.worker_crew.proofs.SeatLemmas.Steps.{not_out, value_by, step_due}
-use Rattle.worker_crew.proofs.SeatLemmas.Seats.{seat_by, kept_seen}
+use Rattle.worker_crew.proofs.SeatLemmas.Seats.{seat_by}
 use Rattle.worker_crew.proofs.running.CoreTableTable.keep.Goals as goal
 
 pub keep-requires-clause-pass : goal.keep-requires-clause-pass
@@ -24,4 +26,4 @@ returns-clause-pass c =
     seat_by c.args.self.now c.keep.new.pass (views.with_event (views.keeping (view c.args.pass.now) k.0 k.1) (Keep k.0 k.1 c.args.value)) c.keep.ensures.pass k.3 (tt, c.requires.pass.looks)
 
 pub returns-clause-kept : goal.returns-clause-kept
-returns-clause-kept c = let k = c.keep.ensures.kept in kept_seen (view c.keep.new.pass) (view c.args.pass.now) k.0 k.1 (Keep k.0 k.1 c.args.value) k.3
+returns-clause-kept c = let k = c.keep.ensures.kept in (k.0, k.1, k.2, ap pass_seen k.3)

@@ -26,4 +26,5 @@ returns-clause-pass c =
 
 pub returns-clause-opened : goal.returns-clause-opened
 returns-clause-opened c =
-    opened_seen (view c.open_node.new.pass) (view c.args.pass.now) c.open_node.result (opened_task (job_in c.args.self.now) (view c.args.pass.now).task) c.open_node.ensures.opened.0 c.open_node.ensures.opened.2
+    let o = c.open_node.ensures.opened in
+    (o.0, o.1, opened_seen (view c.open_node.new.pass) (view c.args.pass.now) c.open_node.result (opened_task (job_in c.args.self.now) (view c.args.pass.now).task) o.0 o.2)

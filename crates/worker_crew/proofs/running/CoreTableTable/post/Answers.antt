@@ -30,7 +30,7 @@ returns-clause-pass c =
     (fits_of c.args.self.now c.args.pass.now c.requires.pass)
 
 pub returns-clause-posted : goal.returns-clause-posted
-returns-clause-posted c = ap pass_seen c.post.ensures.posted.3
+returns-clause-posted c = let p = c.post.ensures.posted in (p.0, p.1, p.2, ap pass_seen p.3)
 
 pub returns-clause-just_posted : goal.returns-clause-just_posted
 returns-clause-just_posted c = ap (λ (v : View). v.just_posted) c.post.ensures.posted.3

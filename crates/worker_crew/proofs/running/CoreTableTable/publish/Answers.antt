@@ -27,4 +27,4 @@ pub returns-clause-published : goal.returns-clause-published
 returns-clause-published c =
     let old = view c.args.pass.now in
     let p = c.publish.ensures.published in
-    hold_step (view c.publish.new.pass) old p.0 (views.published_view p.0 c.args.batch) (after_publish c.args.batch) (views.with_event (views.with_hold old (views.published_view p.0 c.args.batch)) Publish) p.1 refl p.2 refl
+    hold_step (view c.publish.new.pass) old p.0 (views.published_view p.0 c.args.batch) Publish (after_publish c.args.batch) (views.with_event (views.with_hold old (views.published_view p.0 c.args.batch)) Publish) p.1 refl p.2 refl

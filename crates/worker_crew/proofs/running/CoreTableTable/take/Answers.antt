@@ -39,7 +39,7 @@ returns-in-Ok-clause-took c =
     let t = c.in-Ok.ensures.took in
     let call = c.in-Ok.call in (
       refl,
-      hold_step (view c.take.new.pass) old t.0 (views.taken_view t.0 c.args.u call) (after_take (taken_call (record { worker = c.args.u; call = call })))
+      hold_step (view c.take.new.pass) old t.0 (views.taken_view t.0 c.args.u call) (Take c.args.u) (after_take (taken_call (record { worker = c.args.u; call = call })))
           (views.with_event (views.with_hold old (views.taken_view t.0 c.args.u call)) (Take c.args.u)) t.1 refl t.3 refl,
     )
 
@@ -69,10 +69,10 @@ pub returns-in-Err-clause-passed : goal.returns-in-Err-clause-passed
 returns-in-Err-clause-passed c =
     let old = view c.args.pass.now in
     let t = c.in-Err.ensures.passed.1 in
-    (c.in-Err.ensures.passed.0, hold_step (view c.take.new.pass) old t.0 (views.passed_view t.0) after_pass (views.with_event (views.passing old t.0 c.in-Err.status) (Take c.args.u)) t.1 refl t.2 refl)
+    (c.in-Err.ensures.passed.0, hold_step (view c.take.new.pass) old t.0 (views.passed_view t.0 c.in-Err.status) (Take c.args.u) (after_pass c.in-Err.status) (views.with_event (views.passing old t.0 c.in-Err.status) (Take c.args.u)) t.1 refl t.2 refl)
 
 pub returns-in-Err-clause-fit : goal.returns-in-Err-clause-fit
 returns-in-Err-clause-fit c =
     let old = view c.args.pass.now in
     let t = c.in-Err.ensures.passed.1 in
-    pass_fits t.0 old.hold (view c.take.new.pass).hold t.1 (ap (λ (v : View). v.hold) t.2)
+    pass_fits t.0 c.in-Err.status old.hold (view c.take.new.pass).hold t.1 (ap (λ (v : View). v.hold) t.2)

@@ -26,4 +26,5 @@ returns-clause-pass c =
 
 pub returns-clause-ticked : goal.returns-clause-ticked
 returns-clause-ticked c =
-    task_seen (view c.tick.new.pass) (view c.args.pass.now) (views.ticked (view c.args.pass.now).task c.tick.result) c.tick.ensures.drawn.0 c.tick.ensures.drawn.2
+    let drawn = c.tick.ensures.drawn in
+    (drawn.0, drawn.1, task_seen (view c.tick.new.pass) (view c.args.pass.now) (views.ticked (view c.args.pass.now).task c.tick.result) drawn.0 drawn.2)

@@ -4,6 +4,7 @@ use Rattle.launch_batch.specs.declared.piece.PieceOut.{PieceOut}
 use Rattle.launch_batch.specs.Pieces.{place_of, Meets}
 use Rattle.worker_turns.specs.Pieces.{Desk}
 use Rattle.worker_turns.proofs.PieceLemmas.Posting.{at_below}
+use Rattle.worker_turns.proofs.PieceLemmas.Looks.{looked_none, looked_then}
 use Rattle.worker_turns.proofs.PieceLemmas.Working.{works_none, works_more}
 use Rattle.worker_turns.proofs.PieceLemmas.Collecting.{next_posted, next_place, named_for}
 use Rattle.worker_turns.proofs.PieceLemmas.Met.{meets_push}
@@ -13,7 +14,7 @@ pub loop-k-init : goal.loop-k-init
 loop-k-init g c = record {
   me = c.requires.me;
   core = refl;
-  seen = refl;
+  seen = looked_none _;
   desk = works_none _;
   meet = λ ins is. subst (λ (outs : List PieceOut). AllMeet Meets [] outs) (sym c.new-outs.ensures.items) tt;
   inside = omega arith;
@@ -43,7 +44,7 @@ loop-k-preserved g c =
     let inside = c.loop-k-test.true in record {
       me = e.me;
       core = e.core ∙ i.core;
-      seen = e.seen ∙ i.seen;
+      seen = looked_then _ _ _ i.seen e.seen;
       desk = works_more c.loop-k.k 1 _ _ _ i.desk e.desk _ refl;
       meet = λ ins is.
           let p = next_posted place_of c.args.places.now _ _ ins c.loop-k.k (named_for place_of c.args.places.now _ r.0 ins r.1 r.2 is) is (ap (λ (d : Desk). d.posted) i.desk.is) inside in

@@ -2,6 +2,7 @@ use Rattle.std.proofs.Common.{◌≡◌}
 use Rattle.two_deques.specs.Hands.{held}
 use Rattle.piece_board.specs.Boards.{desk_view}
 use Rattle.worker_crew.specs.Workers.{IsMeOf}
+use Rattle.worker_turns.specs.Stops.{HasOnlyLooked}
 use Rattle.worker_turns.specs.Pieces.{Works}
 use Rattle.worker_turns.proofs.pieces.serving.collect_one.Given as goal
 
@@ -9,6 +10,6 @@ abbrev pub invariant-loop : goal.invariant-loop
 invariant-loop g l = record {
   me : IsMeOf (g.T.Table.gave l.crew.table) g.T.Table.seen l.crew.decks l.crew.board l.me;
   core : (held l.me.hand).core ≡ (held l.initial.me.hand).core;
-  seen : g.T.Table.seen l.me.pass ≡ g.T.Table.seen l.initial.me.pass;
+  seen : HasOnlyLooked (g.T.Table.seen l.initial.me.pass) (g.T.Table.seen l.me.pass);
   desk : Works 0 (desk_view l.initial.me.desk) (desk_view l.me.desk);
 }

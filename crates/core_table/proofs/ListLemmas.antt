@@ -1,4 +1,1 @@
-pub mod Lists
-pub mod CallCounts
-pub mod Standing
 pub mod Owed

@@ -1,3 +1,2 @@
 pub mod PassKept
 pub mod NewPass
-pub mod Starts

@@ -9,27 +9,21 @@ use Rattle.sp_order.specs.Preorder.{nodes_of}
 use Rattle.core_model.specs.Events.{value_in}
 use Rattle.core_model.specs.Operations.{leaf_of, place_of, IsReceipt}
 use Rattle.core_model.specs.Words.{Entry, SeqNode, ParNode, IsSide}
-use Rattle.core_table.specs.CoreWords.{Receipt, Claim, OpenParRight, OpenParLeft, OpenSeqLeft, OpenSeqRight, Post, Win, Take, Publish, Answer, Release, Keep, FinishLeaf, FinishSeq, FinishPar, ArriveFirst, ArriveSecond, Idle, Run, Half, Started, Ended, Whole, Handed, NotCalled, Out, Ran}
+use Rattle.table_rule.specs.CoreWords.{Receipt, Claim, OpenParRight, OpenParLeft, OpenSeqLeft, OpenSeqRight, Post, Win, Take, Publish, Answer, Release, Keep, FinishLeaf, FinishSeq, FinishPar, ArriveFirst, ArriveSecond, Idle, Run, Half, Started, Ended, Whole, Handed, NotCalled, Out, Ran}
 use Rattle.core_model.specs.declared.setting.Setting.{Setting}
-use Rattle.core_table.specs.declared.slot.OpRecord.{OpRecord}
-use Rattle.core_table.specs.declared.slot.Slot.{Slot}
-use Rattle.core_table.specs.declared.slot.Slot.TheVariants as Slots
-use Rattle.core_table.specs.declared.view.HoldView.{HoldView}
-use Rattle.core_table.specs.declared.view.View.{View}
-use Rattle.core_table.specs.Words.{flag_at, count_at, tick_at, stop_at, node_at, mark_at, value_at, progress_code}
-use Rattle.core_table.specs.Shows.{job_of, room_of, reserved, record_in, among, IsPostDue}
-use Rattle.core_table.specs.Batches.{IsPublishDue, IsReleaseDue}
-use Rattle.core_table.specs.Passes.{IsTickDue}
-use Rattle.core_table.specs.Plays as plays
-use Rattle.core_table.specs.Plays.{Sat}
-use Rattle.core_table.specs.Steps.{Steps, Makes, Stays, TryMakes, ArrivalMakes, DrawMakes, LeaveMakes}
-
--- the bounds of every setting of a table: nodes, one act for each leaf, at most 20000 acts and 32 workers
-pub record IsSound (key : Setting) : Type 0 where
-  pub few : (job_of key).plan.count < 40000
-  pub leaves : length key.job.acts ≡ leaves (job_tree key.job)
-  pub short : length key.job.acts ≤ 20000
-  pub workers : key.workers ≤ 32
+use Rattle.table_rule.specs.declared.slot.OpRecord.{OpRecord}
+use Rattle.table_rule.specs.declared.slot.Slot.{Slot}
+use Rattle.table_rule.specs.declared.slot.Slot.TheVariants as Slots
+use Rattle.table_rule.specs.declared.view.HoldView.{HoldView}
+use Rattle.table_rule.specs.declared.view.View.{View}
+use Rattle.table_rule.specs.Words.{flag_at, count_at, tick_at, stop_at, node_at, mark_at, value_at, progress_code}
+use Rattle.table_rule.specs.Shows.{job_of, room_of, reserved, record_in, among, IsPostDue}
+use Rattle.table_rule.specs.Batches.{IsPublishDue, IsReleaseDue}
+use Rattle.table_rule.specs.Laws.{IsSound}
+use Rattle.table_rule.specs.DueTasks.{IsTickDue}
+use Rattle.table_rule.specs.Plays as plays
+use Rattle.table_rule.specs.Plays.{Sat}
+use Rattle.table_rule.specs.Steps.{Steps, Makes, Stays, TryMakes, ArrivalMakes, DrawMakes, LeaveMakes}
 
 -- the view is one of worker k's pass at a table of this setting, after it has enrolled
 pub record IsViewOf (key : Setting) (k : ℕ) (v : View) : Type 0 where

@@ -8,8 +8,8 @@ use Rattle.batch_history.specs.declared.report.Report.{Report}
 use Rattle.core_model.specs.Tasks.{is_done}
 use Rattle.core_model.specs.Reports.{IsReportOf}
 use Rattle.core_model.specs.declared.setting.Setting.{Setting}
-use Rattle.core_table.specs.Words.{node_at, value_at}
-use Rattle.core_table.specs.Shows.{St, Shown, job_of}
+use Rattle.table_rule.specs.Words.{node_at, value_at}
+use Rattle.table_rule.specs.Shows.{St, Shown, job_of}
 
 -- The row of a leaf, read from the words: worker, start and end are packed in the node's progress word (`progress_code`
 -- in `Words.antt`), and the value has a word of its own.

@@ -1,15 +1,4 @@
-pub mod CoreWords
-pub mod Words
-pub mod Shows
-pub mod OneState
-pub mod Views
-pub mod JobEvents
-pub mod Plays
-pub mod Steps
-pub mod Carries
-pub mod Remembers
 pub mod Passes
-pub mod Batches
 pub mod Calls
 pub mod Closing
 pub mod Code

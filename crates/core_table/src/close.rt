@@ -6,7 +6,7 @@ ghost use Rattle.sp_order.specs.Jobs.{job_tree};
 ghost use Rattle.sp_order.specs.Precedence.{leaves};
 ghost use Rattle.sp_order.specs.Preorder.{nodes_of};
 ghost use Rattle.batch_history.specs.Lawful.{Lawful};
-ghost use Rattle.core_table.specs.Shows.{IsFront, events_by, St as TableState};
+ghost use Rattle.table_rule.specs.Shows.{IsFront, events_by, St as TableState};
 ghost use Rattle.core_table.specs.Passes.{IsPassOf, job_in, planned_in, setting_in, view};
 ghost use Rattle.core_table.specs.Closing.{RowInWords, IsReportOfTable};
 ghost use Rattle.core_model.specs.Reports.{IsRunFrom, IsRunReport};
@@ -15,8 +15,6 @@ ghost use mathlib.Core.Option.{some};
 ghost use lib.ListN.{get_elem?};
 ghost use Rattle.core_table.specs.Code.Rows.{HasSlotsBelow};
 
-use crate::laws::laws_hold;
-use crate::slot::Slot;
 use crate::table::{CoreTable, Pass};
 use atomic_table::Closed;
 use batch_history::{Report, Row, Rows};
@@ -24,6 +22,8 @@ use core_model::laws::report::{done_leaves_have_run, done_report_is_lawful};
 use sp_order::PlannedJob;
 use sp_order::laws::{leaf_has_one_node, plan_has_sides, plan_stands_for_tree};
 use std::alloc::{AllocError, Global};
+use table_rule::Slot;
+use table_rule::laws::laws_hold;
 
 /// One row for each leaf, in leaf order, unpacked from the words of its node (`progress_code` in `specs/Words.antt`).
 fn read_rows(

@@ -1,26 +1,26 @@
 //! The gate side: posting a call, winning the flag, taking, publishing and answering a batch, and leaving.
 ghost use Rattle.std.specs.Prelude.{List, ◌≡◌, ◌≢◌, ℕ, ◌+◌, ◌<◌, ◌≤◌, ◌^◌, ◌∷◌, [], true, false, None, Some, IfSome, IfNone, IfOk, IfErr, length};
 ghost use Rattle.batch_history.specs.declared.batch.Entry.{Entry};
-ghost use Rattle.core_table.specs.CoreWords.{NotCalled, Started, Post as PostOf, Win as WinOf, Take as TakeOf, Publish as PublishOf, Answer as AnswerOf, Release as ReleaseOf, Leave as LeaveOf};
+ghost use Rattle.table_rule.specs.CoreWords.{NotCalled, Started, Post as PostOf, Win as WinOf, Take as TakeOf, Publish as PublishOf, Answer as AnswerOf, Release as ReleaseOf, Leave as LeaveOf};
 ghost use Rattle.core_model.specs.Measure.{call_count};
 ghost use Rattle.core_model.specs.Operations.{place_of, IsReceipt};
-ghost use Rattle.core_table.specs.declared.view.HoldView.{HoldView};
-ghost use Rattle.core_table.specs.declared.slot.OpRecord.{OpRecord as CallRecord};
-ghost use Rattle.core_table.specs.Shows.{IsPostDue, record_in, among, entry_of, IsFront};
+ghost use Rattle.table_rule.specs.declared.view.HoldView.{HoldView};
+ghost use Rattle.table_rule.specs.declared.slot.OpRecord.{OpRecord as CallRecord};
+ghost use Rattle.table_rule.specs.Shows.{IsPostDue, record_in, among, entry_of, IsFront};
 ghost use Rattle.core_model.specs.Entries.{StandsAt};
 ghost use Rattle.core_table.specs.Passes.{IsPassOf, job_in, view, IsTrapped};
-ghost use Rattle.core_table.specs.Batches.{IsPublishDue, IsReleaseDue};
-ghost use Rattle.core_table.specs.Views.{with_event, posting, winning, losing, leaving, staying, releasing, with_hold, taken_view, passing, published_view, answered_view};
-ghost use Rattle.core_table.specs.Plays.{IsNewCall};
+ghost use Rattle.table_rule.specs.Batches.{IsPublishDue, IsReleaseDue};
+ghost use Rattle.table_rule.specs.Views.{with_event, posting, winning, losing, leaving, staying, releasing, with_hold, taken_view, passing, published_view, answered_view};
+ghost use Rattle.table_rule.specs.Plays.{IsNewCall};
 
-use crate::laws::laws_hold;
-use crate::plays::{Admit, Answer, Leave, Post, Publish, ReleaseBoth, ReleaseShop, Take, Win};
-use crate::slot::{OpRecord, Slot};
 use crate::table::{CoreTable, Pass};
 use crate::turns::{first_place, turn_by};
 use batch_history::Batch;
 use core_model::{CallState, Receipt};
 use launch_batch::Shop;
+use table_rule::laws::laws_hold;
+use table_rule::plays::{Admit, Answer, Leave, Post, Publish, ReleaseBoth, ReleaseShop, Take, Win};
+use table_rule::{OpRecord, Slot};
 
 impl CoreTable {
     /// Posts the call of the started leaf. The pass is trapped from then until its `leave` succeeds.

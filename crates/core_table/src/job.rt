@@ -1,20 +1,21 @@
 //! The job side (claim, tick, open, keep, finish, arrive), and the calls on the root, batch count and stop word.
 ghost use Rattle.std.specs.Prelude.{◌≡◌, ◌≢◌, ℕ, ◌+◌, ◌%◌, ◌<◌, ◌≤◌, ◌∷◌, Some, IsTrue, IsFalse};
 ghost use Rattle.core_model.specs.Words.{Arrive as ArriveAt};
-ghost use Rattle.core_table.specs.CoreWords.{Event, Idle, Run, Half, Started, Ended, Whole, Handed, Claim as ClaimOf, Keep as KeepOf, FinishLeaf, ArriveFirst, ArriveSecond};
-ghost use Rattle.core_table.specs.JobEvents.{IsTickEvent, IsOpenEvent, IsFinishEvent, IsArrival};
+ghost use Rattle.table_rule.specs.CoreWords.{Event, Idle, Run, Half, Started, Ended, Whole, Handed, Claim as ClaimOf, Keep as KeepOf, FinishLeaf, ArriveFirst, ArriveSecond};
+ghost use Rattle.table_rule.specs.JobEvents.{IsTickEvent, IsOpenEvent, IsFinishEvent, IsArrival};
 ghost use Rattle.core_model.specs.Operations.{leaf_of};
 ghost use Rattle.core_model.specs.Events.{value_in, task_after as next_task};
-ghost use Rattle.core_table.specs.Passes.{IsPassOf, job_in, view, IsNotTrapped, IsTickDue, IsOpenDue, IsFinishDue, IsFinished, IsArriveDue, opened_task};
-ghost use Rattle.core_table.specs.Views.{with_event, with_task, claiming, refusing, ticked, opening, keeping, seeing_done, seeing_undone, hearing, stopping, finding_stop, finding_none};
+ghost use Rattle.core_table.specs.Passes.{IsPassOf, job_in, view, IsNotTrapped};
+ghost use Rattle.table_rule.specs.DueTasks.{IsTickDue, IsOpenDue, IsFinishDue, IsFinished, IsArriveDue, opened_task};
+ghost use Rattle.table_rule.specs.Views.{with_event, with_task, claiming, refusing, ticked, opening, keeping, seeing_done, seeing_undone, hearing, stopping, finding_stop, finding_none};
 
-use crate::laws::laws_hold;
-use crate::plays::{
-    Arrive, Claim, Draw, Finish, Hear, Keep, LookAtRoot, LookAtStop, Open, OpenHalf, Stop, Stray,
-};
 use crate::table::{CoreTable, Pass};
 use core_model::{CallState, Task};
 use sp_order::node::{Kind, Move};
+use table_rule::laws::laws_hold;
+use table_rule::plays::{
+    Arrive, Claim, Draw, Finish, Hear, Keep, LookAtRoot, LookAtStop, Open, OpenHalf, Stop, Stray,
+};
 
 /// The task after its tick is drawn: `Run` becomes `Started`, and `Kept` becomes `Ended`.
 fn ticked(task: Task, tick: u64) -> Task

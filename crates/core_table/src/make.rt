@@ -4,12 +4,9 @@ ghost use Rattle.sp_order.specs.Jobs.{job_tree};
 ghost use Rattle.sp_order.specs.Preorder.{nodes_of};
 ghost use Rattle.core_model.specs.State.{core_job};
 ghost use Rattle.core_model.specs.Measure.{call_count, one_if_call};
-ghost use Rattle.core_table.specs.Shows.{reserved};
+ghost use Rattle.table_rule.specs.Shows.{reserved};
 ghost use Rattle.core_table.specs.Passes.{job_in, planned_in, setting_in, opening_view, IsPassOf, view};
 
-use crate::laws::laws_hold;
-use crate::plays::{Cut, Enrol};
-use crate::slot::Slot;
 use crate::table::{CoreTable, Pass};
 use atomic_table::{Refused, Table};
 use batch_history::ReservedHistory;
@@ -19,6 +16,9 @@ use seq_objects::Act;
 use sp_order::node::Kind;
 use sp_order::{Job, PlannedJob};
 use std::alloc::{AllocError, Global};
+use table_rule::Slot;
+use table_rule::laws::laws_hold;
+use table_rule::plays::{Cut, Enrol};
 
 /// The words of the opening state: all are 0 but the root's, which is 1 (ready).
 fn opening_words(alloc: Global, workers: usize, nodes: usize) -> Result<Vec<u64>, AllocError>

@@ -5,24 +5,23 @@ ghost use denote.Builtin.{u32 as number_row};
 ghost use denote.Param.Send.{IsSend, IsSync};
 ghost use Rattle.atomic_table.specs.contracts.owned.Table.{the_row as words_row};
 ghost use Rattle.atomic_table.specs.contracts.shared.Seat.{the_row as seat_row};
-ghost use Rattle.core_table.specs.contracts.plays.Law.{the_row as law_row};
-ghost use Rattle.core_table.specs.contracts.plays.LawTableRuleSlotViewSetting.TheImpl.{ghosts as law_ghosts};
+ghost use Rattle.table_rule.specs.contracts.plays.Law.{the_row as law_row};
+ghost use Rattle.table_rule.specs.contracts.plays.LawTableRuleSlotViewSetting.TheImpl.{ghosts as law_ghosts};
 ghost use Rattle.core_model.specs.contracts.setting.Setting.{the_row as setting_row};
-ghost use Rattle.core_table.specs.contracts.slot.Slot.{the_row as slot_row};
+ghost use Rattle.table_rule.specs.contracts.slot.Slot.{the_row as slot_row};
 ghost use Rattle.core_table.specs.contracts.table.CoreTable.{the_row as table_row};
 ghost use Rattle.core_table.specs.contracts.table.Pass.{the_row as pass_row};
-ghost use Rattle.core_table.specs.contracts.view.View.{the_row as view_row};
+ghost use Rattle.table_rule.specs.contracts.view.View.{the_row as view_row};
 ghost use Rattle.std.specs.contracts.alloc.Global.{the_row as heap_row};
 ghost use Rattle.std.specs.contracts.impls.GlobalAllocator.TheImpl.{ghosts as heap_ghosts};
 ghost use Rattle.std.specs.contracts.vec.Vec.{the_row as list_row};
 
-use crate::plays::Law;
-use crate::slot::Slot;
-use crate::view::View;
 use atomic_table::{Seat, Table};
 use core_model::Setting;
 use launch_batch::Shop;
 use std::alloc::Global;
+use table_rule::plays::Law;
+use table_rule::{Slot, View};
 
 /// States that `T` is `Send`. For proofs only; does nothing at run time.
 fn is_sent<T: Send>()

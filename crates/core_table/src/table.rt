@@ -4,16 +4,15 @@ ghost use Rattle.std.specs.Coded.{codes};
 ghost use Rattle.sp_order.specs.Jobs.{job_tree};
 ghost use Rattle.sp_order.specs.TreeEncoding.{coded_tree};
 ghost use Rattle.sp_order.specs.Precedence.{leaves};
-ghost use Rattle.core_table.specs.Shows.{job_of};
+ghost use Rattle.table_rule.specs.Shows.{job_of};
 
-use crate::plays::Law;
-use crate::slot::Slot;
-use crate::view::View;
 use atomic_table::{Seat, Table};
 use core_model::{CallState, Setting, Task};
 use seq_objects::Act;
 use sp_order::PlannedJob;
 use std::alloc::Global;
+use table_rule::plays::Law;
+use table_rule::{Slot, View};
 
 /// The running table: the core's state as atomic words and slots that all passes share.
 #[derive(Drop)]

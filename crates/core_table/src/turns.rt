@@ -1,11 +1,10 @@
 //! Rotating a seat's list of slots, to bring one worker's slot to the head.
 ghost use Rattle.std.specs.Prelude.{◌≡◌, true};
-ghost use Rattle.core_table.specs.Shows.{among};
+ghost use Rattle.table_rule.specs.Shows.{among};
 ghost use Rattle.core_table.specs.Code.Turns.{turns, IsFirstAt};
 
-use crate::slot::Slot;
-use crate::view::View;
 use atomic_table::Seat;
+use table_rule::{Slot, View};
 
 /// Moves the head of the seat's list to its back, `times` times. The list exists in proofs only.
 pub(crate) fn turn_by(seat: &mut Seat<Slot, View>, times: usize)

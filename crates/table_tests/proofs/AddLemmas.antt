@@ -19,14 +19,15 @@ use Rattle.core_model.specs.declared.task.Task.{Task}
 use Rattle.core_model.specs.declared.task.Task.TheVariants.{Run, Half, Started, Kept, Ended, Whole}
 use Rattle.core_model.specs.Events.{value_in, task_after}
 use Rattle.core_model.specs.State.{CoreJob}
-use Rattle.core_table.specs.declared.view.View.{View}
-use Rattle.core_table.specs.CoreWords.{Event}
-use Rattle.core_table.specs.Views.{with_event, keeping, with_task, ticked}
+use Rattle.table_rule.specs.declared.view.View.{View}
+use Rattle.table_rule.specs.CoreWords.{Event}
+use Rattle.table_rule.specs.Views.{with_event, keeping, with_task, ticked}
 use Rattle.core_model.specs.Operations.{op_in, leaf_of}
 use Rattle.std.specs.Prelude.{slice_index_or}
 use Rattle.core_table.specs.declared.table.CoreTable.{CoreTable}
-use Rattle.core_table.specs.Passes.{job_in, IsInner, IsTickDue, IsOpenDue, IsArriveDue, IsFinished, half_if, opened_task}
-use Rattle.core_table.specs.Shows.{IsPostDue}
+use Rattle.core_table.specs.Passes.{job_in}
+use Rattle.table_rule.specs.DueTasks.{IsInner, IsTickDue, IsOpenDue, IsArriveDue, IsFinished, half_if, opened_task}
+use Rattle.table_rule.specs.Shows.{IsPostDue}
 use Rattle.table_tests.specs.Adds.{IsTwoAdds}
 
 -- the value of a leaf that called

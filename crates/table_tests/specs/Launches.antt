@@ -8,13 +8,13 @@ use Rattle.batch_history.specs.Book.{flat}
 use Rattle.core_model.specs.Operations.{place_of}
 use Rattle.core_model.specs.declared.status.CallState.TheVariants.{Out}
 use Rattle.core_model.specs.declared.task.Task.TheVariants.{Started}
-use Rattle.core_table.specs.declared.slot.OpRecord.{OpRecord}
+use Rattle.table_rule.specs.declared.slot.OpRecord.{OpRecord}
 use Rattle.core_table.specs.declared.table.CoreTable.{CoreTable}
 use Rattle.core_table.specs.declared.table.Pass.{Pass}
-use Rattle.core_table.specs.declared.view.HoldView.{HoldView}
-use Rattle.core_table.specs.Batches.{call_of}
+use Rattle.table_rule.specs.declared.view.HoldView.{HoldView}
+use Rattle.table_rule.specs.Batches.{call_of}
 use Rattle.core_table.specs.Passes.{IsPassOf, job_in, view}
-use Rattle.core_table.specs.Shows.{record_in, took_in, among}
+use Rattle.table_rule.specs.Shows.{record_in, took_in, among}
 
 -- what a worker posted for its call
 abbrev pub record_of : Call → OpRecord

@@ -9,10 +9,11 @@ ghost use Rattle.sp_order.specs.Precedence.{leaf, par};
 ghost use Rattle.table_tests.specs.Adds.{IsTwoAdds, IsAt, HasStarted};
 
 use core_model::Receipt;
-use core_table::{CoreTable, OpRecord, Pass};
+use core_table::{CoreTable, Pass};
 use seq_objects::{Act, Op, value};
 use sp_order::{Job, Shape};
 use std::alloc::{AllocError, Global};
+use table_rule::OpRecord;
 
 /// `par { counter add 1 counter add 2 }`.
 pub(crate) fn two_adds(alloc: Global) -> Result<Job, AllocError>

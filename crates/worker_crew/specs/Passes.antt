@@ -8,14 +8,14 @@ use Rattle.core_model.specs.Words.{Op, Entry}
 use Rattle.core_model.specs.declared.event.Event.TheVariants as made
 use Rattle.core_model.specs.declared.task.Task.TheVariants.{Started, Kept, Handed}
 use Rattle.core_model.specs.Events.{task_after}
-use Rattle.core_table.specs.JobEvents.{IsTickEvent, IsOpenEvent, IsFinishEvent, IsArrival}
+use Rattle.table_rule.specs.JobEvents.{IsTickEvent, IsOpenEvent, IsFinishEvent, IsArrival}
 use Rattle.worker_crew.specs.Words.{Event, Receipt, Task, Idle, Run, CallState, NotCalled, Out, Got}
 use Rattle.core_model.specs.Entries.{StandsAt}
 use Rattle.worker_crew.specs.declared.step.Step.{Step}
 use Rattle.worker_crew.specs.declared.step.Step.TheVariants as steps
 use Rattle.worker_crew.specs.Holds.{HoldSeen, new_hold, after_take, after_pass, after_publish, after_answer}
-use Rattle.core_table.specs.Shows.{IsFront}
-pub use Rattle.core_table.specs.Shows.{IsFront}
+use Rattle.table_rule.specs.Shows.{IsFront}
+pub use Rattle.table_rule.specs.Shows.{IsFront}
 
 pub record PassSeen : Type 0 where
   -- the worker, its task, and the state of its call

@@ -3,11 +3,11 @@ use Rattle.std.specs.Prelude.{ℕ, ◌≢◌, ◌≤◌, Option, None, Some, Lis
 use Rattle.sp_order.specs.Plans.{Nodes}
 use Rattle.core_model.specs.Operations.{IsLeaf}
 use Rattle.core_model.specs.declared.task.Task.TheVariants.{Half, Started, Kept, Ended, Whole, Handed}
-use Rattle.core_table.specs.declared.slot.OpRecord.{OpRecord}
-use Rattle.core_table.specs.declared.view.TakenCall.{TakenCall}
-use Rattle.core_table.specs.declared.view.LeftCall.{LeftCall}
-use Rattle.core_table.specs.declared.view.HoldView.{HoldView}
-use Rattle.core_table.specs.declared.view.View.{View}
+use Rattle.table_rule.specs.declared.slot.OpRecord.{OpRecord}
+use Rattle.table_rule.specs.declared.view.TakenCall.{TakenCall}
+use Rattle.table_rule.specs.declared.view.LeftCall.{LeftCall}
+use Rattle.table_rule.specs.declared.view.HoldView.{HoldView}
+use Rattle.table_rule.specs.declared.view.View.{View}
 use Rattle.core_table.specs.declared.table.CoreTable.{CoreTable}
 use Rattle.core_table.specs.declared.table.Pass.{Pass}
 use Rattle.core_table.specs.Passes.{IsPassOf, job_in, view}

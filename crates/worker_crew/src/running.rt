@@ -1,7 +1,8 @@
 //! `CoreTable` implements the `Table` trait.
 ghost use Rattle.std.specs.Prelude.{◌≡◌, true, Some};
 ghost use Rattle.core_model.specs.Operations.{leaf_of};
-ghost use Rattle.core_table.specs.Passes.{job_in, view, TaskHere};
+ghost use Rattle.core_table.specs.Passes.{job_in, view};
+ghost use Rattle.table_rule.specs.DueTasks.{TaskHere};
 ghost use Rattle.worker_crew.specs.NextSteps.{step_run, step_started, step_whole, next_step};
 ghost use Rattle.worker_crew.specs.Seats.{pass_seen, IsSeat};
 
@@ -9,11 +10,12 @@ use crate::step::Step;
 use crate::table::Table;
 use batch_history::Batch;
 use core_model::{CallState, Receipt, Task};
-use core_table::{CoreTable, OpRecord, Pass};
+use core_table::{CoreTable, Pass};
 use launch_batch::Shop;
 use seq_objects::{Act, Call, Op};
 use sp_order::laws::plan_stands_for_tree;
 use sp_order::node::{Kind, Move};
+use table_rule::OpRecord;
 
 /// The leaf number of a node of this kind, or 0 if it is no leaf.
 fn leaf_at(kind: Kind) -> u32

@@ -7,22 +7,12 @@ use Rattle.core_model.specs.declared.progress.Progress.TheVariants.{Ran}
 use Rattle.core_model.specs.State.{CoreJob, Hold, State}
 use Rattle.core_model.specs.Tasks.{is_done}
 use Rattle.core_model.specs.Invariant.{Parts}
-use Rattle.core_table.specs.declared.view.View.{View}
-use Rattle.core_table.specs.declared.slot.Slot.{Slot}
-use Rattle.core_table.specs.declared.slot.Slot.TheVariants as Slots
-use Rattle.core_table.specs.Words.{WordsShow, progress_code}
-use Rattle.core_table.specs.Code.Laws.{Laws}
-use Rattle.core_table.specs.Shows.{St, reserved, BookAt, IsFront, events_by, Shows}
-
--- the parts of the word of a leaf that has run
-pub worker_of : (w s e : ℕ) → w < 32 → progress_code (Ran w s e) / 4 % 32 ≡ w
-worker_of w s e low = omega arith
-
-pub start_of : (w s e : ℕ) → w < 32 → s < 1048576 → progress_code (Ran w s e) / 128 % 1048576 ≡ s
-start_of w s e low low' = omega arith
-
-pub end_of : (w s e : ℕ) → w < 32 → s < 1048576 → progress_code (Ran w s e) / 134217728 ≡ e
-end_of w s e low low' = omega arith
+use Rattle.table_rule.specs.declared.view.View.{View}
+use Rattle.table_rule.specs.declared.slot.Slot.{Slot}
+use Rattle.table_rule.specs.declared.slot.Slot.TheVariants as Slots
+use Rattle.table_rule.specs.Words.{WordsShow, progress_code}
+use Rattle.table_rule.specs.Laws.{Laws}
+use Rattle.table_rule.specs.Shows.{St, reserved, BookAt, IsFront, events_by, Shows}
 
 pub at_word : (l : List ℕ) (i a : ℕ) → get_elem? l i ≡ some a → get_or l i 0 ≡ a
 at_word [] i a e = absurd (some-ne-none a (sym e))

@@ -9,11 +9,11 @@ use Rattle.core_model.specs.State.{CoreJob, State}
 use Rattle.core_model.specs.Invariant.Ticks.{start_of as start_of_node}
 use Rattle.core_model.specs.Invariant.{Parts}
 use Rattle.core_model.specs.Reports.{HasRun, IsRowOf}
-use Rattle.core_table.specs.Words.{node_at, value_at, progress_code, HasValue, WordsShow}
-use Rattle.core_table.specs.Code.Laws.{Laws}
+use Rattle.table_rule.specs.Words.{node_at, value_at, progress_code, HasValue, WordsShow}
+use Rattle.table_rule.specs.Laws.{Laws}
 use Rattle.core_table.specs.Closing.{RowInWords}
-use Rattle.core_table.proofs.CloseLemmas.Closes.{worker_of, start_of, end_of}
-use Rattle.core_table.proofs.ListLemmas.Lists.{each_so}
+use Rattle.table_rule.proofs.TableLemmas.Words.{worker_of, start_of, end_of}
+use Rattle.table_rule.proofs.ListLemmas.Lists.{each_so}
 
 value_is : (o : Maybe ℕ) (word : ℕ) → o ≢ None → HasValue o word → o ≡ Some word
 value_is None word some_value h = absurd (some_value refl)

@@ -14,14 +14,14 @@ use Rattle.core_model.specs.State.{State}
 use Rattle.core_model.specs.Tasks.{is_done}
 use Rattle.core_model.specs.Invariant.{Parts}
 use Rattle.core_model.specs.Reports.{HasRun, IsRowOf, IsReportOf, IsRunFrom}
-use Rattle.core_table.specs.declared.view.View.{View}
-use Rattle.core_table.specs.declared.slot.Slot.{Slot}
-use Rattle.core_table.specs.declared.slot.Slot.TheVariants as Slots
+use Rattle.table_rule.specs.declared.view.View.{View}
+use Rattle.table_rule.specs.declared.slot.Slot.{Slot}
+use Rattle.table_rule.specs.declared.slot.Slot.TheVariants as Slots
 use Rattle.core_model.specs.declared.setting.Setting.{Setting}
 use Rattle.core_model.specs.State.{opening_core}
-use Rattle.core_table.specs.Shows.{St, Shown, IsFront, events_by, reserved, room_of, job_of}
+use Rattle.table_rule.specs.Shows.{St, Shown, IsFront, events_by, reserved, room_of, job_of}
 use Rattle.core_table.specs.Closing.{RowInWords, IsReportOfTable}
-use Rattle.core_table.specs.Code.Laws.{Laws}
+use Rattle.table_rule.specs.Laws.{Laws}
 use Rattle.core_table.proofs.PassLemmas.PassKept.{books}
 use Rattle.core_table.proofs.CloseLemmas.Closes.{Last, closes}
 use Rattle.core_table.proofs.CloseLemmas.LastRows.{rows_told}

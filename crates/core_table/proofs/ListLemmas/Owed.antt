@@ -7,18 +7,18 @@ use Rattle.std.proofs.lemmas.Bool.Decides.{nat_tests}
 use Rattle.atomic_table.specs.Table.{turned}
 use Rattle.seq_objects.specs.Pairs.{AreDistinct}
 use Rattle.batch_history.specs.declared.batch.Entry.{Entry}
-use Rattle.core_table.specs.declared.slot.OpRecord.{OpRecord}
-use Rattle.core_table.specs.declared.slot.Slot.{Slot}
-use Rattle.core_table.specs.declared.slot.Slot.TheVariants as Slots
-use Rattle.core_table.specs.declared.view.TakenCall.{TakenCall}
-use Rattle.core_table.specs.declared.view.HoldView.{HoldView}
-use Rattle.core_table.specs.declared.view.View.{View}
-use Rattle.core_table.specs.Shows.{took_in, among}
-use Rattle.core_table.specs.Views.{without_first, new_view, taken_view, passed_view, published_view, answered_view}
-use Rattle.core_table.specs.Carries.{vacant}
-use Rattle.core_table.specs.Remembers.{Owes, Remembers}
+use Rattle.table_rule.specs.declared.slot.OpRecord.{OpRecord}
+use Rattle.table_rule.specs.declared.slot.Slot.{Slot}
+use Rattle.table_rule.specs.declared.slot.Slot.TheVariants as Slots
+use Rattle.table_rule.specs.declared.view.TakenCall.{TakenCall}
+use Rattle.table_rule.specs.declared.view.HoldView.{HoldView}
+use Rattle.table_rule.specs.declared.view.View.{View}
+use Rattle.table_rule.specs.Shows.{took_in, among}
+use Rattle.table_rule.specs.Views.{without_first, new_view, taken_view, passed_view, published_view, answered_view}
+use Rattle.table_rule.specs.Carries.{vacant}
+use Rattle.table_rule.specs.Remembers.{Owes, Remembers}
 use Rattle.core_table.specs.Code.Turns.{turns, IsFirstAt}
-use Rattle.core_table.proofs.ListLemmas.Lists.{each_so, each_append}
+use Rattle.table_rule.proofs.ListLemmas.Lists.{each_so, each_append}
 
 if_no : {A : Type 0} (a b : ℕ) (p q : A) → a ≢ b → (if a == b then p else q) ≡ q
 if_no a b p q e = grind (arith, nat_tests)

@@ -2,19 +2,20 @@
 use Rattle.std.proofs.Common.{ℕ, zero, suc, ◌≡◌, ◌<◌, false, List, [], ◌∷◌, ◌++◌, length, arith, refl, sym, ap, subst, IfSome, slice_get}
 use Rattle.atomic_table.specs.Seated.{TableId}
 use Rattle.atomic_table.specs.declared.shared.Seat.{Seat}
-use Rattle.core_table.specs.declared.view.View.{View}
-use Rattle.core_table.specs.declared.slot.Slot.{Slot}
-use Rattle.core_table.specs.declared.slot.Slot.TheVariants as Slots
+use Rattle.table_rule.specs.declared.view.View.{View}
+use Rattle.table_rule.specs.declared.slot.Slot.{Slot}
+use Rattle.table_rule.specs.declared.slot.Slot.TheVariants as Slots
 use Rattle.core_model.specs.declared.setting.Setting.{Setting}
 use Rattle.sp_order.specs.Preorder.{nodes_of}
-use Rattle.core_table.specs.Shows.{job_of}
-use Rattle.core_table.specs.Plays.{Sat}
-use Rattle.core_table.specs.Views.{enrolling, pass_of}
-use Rattle.core_table.specs.Carries.{Carries}
-use Rattle.core_table.specs.Remembers.{Remembers}
+use Rattle.table_rule.specs.Shows.{job_of}
+use Rattle.table_rule.specs.Plays.{Sat}
+use Rattle.table_rule.specs.Views.{enrolling, pass_of}
+use Rattle.table_rule.specs.Carries.{Carries}
+use Rattle.table_rule.specs.Remembers.{Remembers}
 use Rattle.core_table.proofs.ListLemmas.Owed.{remembers_none}
-use Rattle.core_table.specs.Passes.{TaskHere, IsSeatOf}
-use Rattle.core_table.specs.Views.{rest_from}
+use Rattle.core_table.specs.Passes.{IsSeatOf}
+use Rattle.table_rule.specs.DueTasks.{TaskHere}
+use Rattle.table_rule.specs.Views.{rest_from}
 
 pub each_push : {A : Type 0} (P : ℕ → A → Type 0) (l : List A) (x : A) → ((w : ℕ) → IfSome (slice_get l w) (P w)) → P (length l) x → (w : ℕ) → IfSome (slice_get (l ++ x ∷ []) w) (P w)
 each_push P [] x old new zero = new

@@ -7,22 +7,23 @@ use Rattle.atomic_table.specs.Seated.{TableId}
 use Rattle.atomic_table.specs.declared.shared.Seat.{Seat}
 use Rattle.core_model.specs.declared.status.CallState.TheVariants.{NotCalled, Out, Got}
 use Rattle.core_model.specs.declared.status.CallState.{CallState}
-use Rattle.core_table.specs.declared.view.View.{View}
-use Rattle.core_table.specs.declared.view.HoldView.{HoldView}
-use Rattle.core_table.specs.declared.slot.Slot.{Slot}
-use Rattle.core_table.specs.declared.slot.Slot.TheVariants as Slots
+use Rattle.table_rule.specs.declared.view.View.{View}
+use Rattle.table_rule.specs.declared.view.HoldView.{HoldView}
+use Rattle.table_rule.specs.declared.slot.Slot.{Slot}
+use Rattle.table_rule.specs.declared.slot.Slot.TheVariants as Slots
 use Rattle.core_model.specs.declared.setting.Setting.{Setting}
-use Rattle.core_table.specs.Shows.{reserved, job_of}
+use Rattle.table_rule.specs.Shows.{reserved, job_of}
 use Rattle.batch_history.specs.Reserved.{ReservedView}
-use Rattle.core_table.specs.declared.slot.OpRecord.{OpRecord}
+use Rattle.table_rule.specs.declared.slot.OpRecord.{OpRecord}
 use Rattle.batch_history.specs.declared.batch.Entry.{Entry}
-use Rattle.core_table.specs.Plays.{Sat}
-use Rattle.core_table.specs.CoreWords.{Event, Receipt, Win, Take, Publish, Answer, Release}
-use Rattle.core_table.specs.Views.{with_event, without_first, posting, winning, with_hold, taken_view, passed_view, passing, published_view, answered_view, releasing}
-use Rattle.core_table.specs.Carries.{vacant, HolderCarries, Carries}
-use Rattle.core_table.specs.Remembers.{Remembers}
+use Rattle.table_rule.specs.Plays.{Sat}
+use Rattle.table_rule.specs.CoreWords.{Event, Receipt, Win, Take, Publish, Answer, Release}
+use Rattle.table_rule.specs.Views.{with_event, without_first, posting, winning, with_hold, taken_view, passed_view, passing, published_view, answered_view, releasing}
+use Rattle.table_rule.specs.Carries.{vacant, HolderCarries, Carries}
+use Rattle.table_rule.specs.Remembers.{Remembers}
 use Rattle.core_table.proofs.ListLemmas.Owed.{remembers_kept}
-use Rattle.core_table.specs.Passes.{TaskHere, IsSeatOf}
+use Rattle.core_table.specs.Passes.{IsSeatOf}
+use Rattle.table_rule.specs.DueTasks.{TaskHere}
 
 holder_kept : (b : Bool) (v w : View) (h : HoldView) (xs : List (ℕ × Slot)) → w.workers ≡ v.workers → w.room ≡ v.room → HolderCarries b v h xs → HolderCarries b w h xs
 holder_kept false v w h xs a b m = rw (a, b) m

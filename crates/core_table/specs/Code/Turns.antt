@@ -1,8 +1,8 @@
 -- Rotating a list, and removing a number from one at an index.
 use Rattle.std.specs.Prelude.{ℕ, zero, suc, ◌≡◌, ◌<◌, List, ◌∷◌, ◌++◌, length, take, drop}
 use Rattle.atomic_table.specs.Table.{turned}
-use Rattle.core_table.specs.declared.slot.Slot.{Slot}
-use Rattle.core_table.specs.Views.{without_first}
+use Rattle.table_rule.specs.declared.slot.Slot.{Slot}
+use Rattle.table_rule.specs.Views.{without_first}
 
 -- the list after its head is moved to the back n times
 abbrev pub turns : ℕ → List (ℕ × Slot) → List (ℕ × Slot)

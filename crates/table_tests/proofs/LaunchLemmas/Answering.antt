@@ -14,11 +14,11 @@ use Rattle.launch_batch.specs.Calls.{IsServiceOf}
 use Rattle.launch_batch.proofs.ListLemmas.Elements.{each_mapped, each_unmapped}
 use Rattle.launch_batch.proofs.ListLemmas.Same.{each_same, distinct_same, length_same}
 use Rattle.core_model.specs.Operations.{Place, place_in, place_of, or_else, IsReceipt}
-use Rattle.core_table.specs.declared.view.HoldView.{HoldView}
-use Rattle.core_table.specs.Batches.{call_of, IsPublishDue, IsReleaseDue}
-use Rattle.core_table.specs.Shows.{record_in, took_in, among}
-use Rattle.core_table.specs.Views.{published_view, answered_view}
-use Rattle.core_table.proofs.TableLemmas.Moved.{record_took}
+use Rattle.table_rule.specs.declared.view.HoldView.{HoldView}
+use Rattle.table_rule.specs.Batches.{call_of, IsPublishDue, IsReleaseDue}
+use Rattle.table_rule.specs.Shows.{record_in, took_in, among}
+use Rattle.table_rule.specs.Views.{published_view, answered_view}
+use Rattle.table_rule.proofs.TableLemmas.Moved.{record_took}
 use Rattle.table_tests.specs.Launches.{record_of, HasTaken, HasAnswered}
 use Rattle.table_tests.proofs.LaunchLemmas.Lists.{if_yes, if_no, each_two, of_member, contains_same, maps, pairs_unmapped, split_at, take_more, take_all, each_at, apart_behind}
 

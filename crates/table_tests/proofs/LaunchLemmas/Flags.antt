@@ -7,19 +7,19 @@ use Rattle.seq_objects.specs.declared.call.Call.{Call}
 use Rattle.batch_history.specs.declared.batch.Entry.{Entry}
 use Rattle.core_model.specs.Measure.{call_count}
 use Rattle.launch_batch.specs.Calls.{MayServe, IsServiceOf}
-use Rattle.core_table.specs.declared.slot.OpRecord.{OpRecord}
+use Rattle.table_rule.specs.declared.slot.OpRecord.{OpRecord}
 use Rattle.core_table.specs.declared.table.CoreTable.{CoreTable}
 use Rattle.core_table.specs.declared.table.Pass.{Pass}
-use Rattle.core_table.specs.declared.view.HoldView.{HoldView}
-use Rattle.core_table.specs.declared.view.View.{View}
+use Rattle.table_rule.specs.declared.view.HoldView.{HoldView}
+use Rattle.table_rule.specs.declared.view.View.{View}
 use Rattle.core_model.specs.Operations.{place_in, place_of, or_else, IsReceipt}
-use Rattle.core_table.specs.Shows.{record_in, among}
-use Rattle.core_table.specs.Batches.{call_of, IsPublishDue, IsReleaseDue}
+use Rattle.table_rule.specs.Shows.{record_in, among}
+use Rattle.table_rule.specs.Batches.{call_of, IsPublishDue, IsReleaseDue}
 use Rattle.core_table.specs.Passes.{IsPassOf, job_in, view}
-use Rattle.core_table.specs.Plays.{IsNewCall}
-use Rattle.core_table.specs.CoreWords.{Event}
-use Rattle.core_table.specs.Views.{with_event, with_hold, taken_view, passing, passed_view, published_view, answered_view}
-use Rattle.core_table.proofs.ListLemmas.CallCounts.{room_few}
+use Rattle.table_rule.specs.Plays.{IsNewCall}
+use Rattle.table_rule.specs.CoreWords.{Event}
+use Rattle.table_rule.specs.Views.{with_event, with_hold, taken_view, passing, passed_view, published_view, answered_view}
+use Rattle.table_rule.proofs.ListLemmas.CallCounts.{room_few}
 use Rattle.table_tests.specs.Adds.{IsTwoAdds}
 use Rattle.table_tests.specs.Launches.{HasFlag, Answers, HasTaken}
 use Rattle.table_tests.proofs.LaunchLemmas.Taking.{taken_more, taken_same, may_serve}

@@ -11,12 +11,12 @@ use Rattle.batch_history.specs.Book.{flat}
 use Rattle.launch_batch.specs.Calls.{MayServe}
 use Rattle.launch_batch.proofs.ListLemmas.Elements.{each_mapped}
 use Rattle.core_model.specs.Operations.{Place, place_in, place_from, place_of, or_else}
-use Rattle.core_table.specs.declared.slot.OpRecord.{OpRecord}
-use Rattle.core_table.specs.declared.view.HoldView.{HoldView}
-use Rattle.core_table.specs.declared.view.TakenCall.{TakenCall}
-use Rattle.core_table.specs.Plays.{IsNewCall}
-use Rattle.core_table.specs.Shows.{record_in, took_in}
-use Rattle.core_table.specs.Views.{new_view, taken_view, passed_view}
+use Rattle.table_rule.specs.declared.slot.OpRecord.{OpRecord}
+use Rattle.table_rule.specs.declared.view.HoldView.{HoldView}
+use Rattle.table_rule.specs.declared.view.TakenCall.{TakenCall}
+use Rattle.table_rule.specs.Plays.{IsNewCall}
+use Rattle.table_rule.specs.Shows.{record_in, took_in}
+use Rattle.table_rule.specs.Views.{new_view, taken_view, passed_view}
 use Rattle.table_tests.specs.Launches.{record_of, HasTaken}
 use Rattle.table_tests.proofs.LaunchLemmas.Lists.{if_yes, if_no, each_two, is_first, is_later}
 

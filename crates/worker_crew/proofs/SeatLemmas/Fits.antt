@@ -7,11 +7,11 @@ use Rattle.seq_objects.proofs.Elements.{each_append, each_so}
 use Rattle.launch_batch.specs.Calls.{MayServe}
 use Rattle.launch_batch.proofs.ListLemmas.Elements.{each_mapped, map_append}
 use Rattle.batch_history.specs.Book.{flat}
-use Rattle.core_table.specs.declared.slot.OpRecord.{OpRecord}
-use Rattle.core_table.specs.declared.view.TakenCall.{TakenCall}
-use Rattle.core_table.specs.declared.view.HoldView.{HoldView}
-use Rattle.core_table.specs.Plays.{IsNewCall}
-use Rattle.core_table.specs.Views.{taken_view, passed_view}
+use Rattle.table_rule.specs.declared.slot.OpRecord.{OpRecord}
+use Rattle.table_rule.specs.declared.view.TakenCall.{TakenCall}
+use Rattle.table_rule.specs.declared.view.HoldView.{HoldView}
+use Rattle.table_rule.specs.Plays.{IsNewCall}
+use Rattle.table_rule.specs.Views.{taken_view, passed_view}
 use Rattle.seq_objects.specs.declared.call.Call.{Call}
 use Rattle.core_model.specs.Words.{Entry}
 use Rattle.worker_crew.specs.Holds.{AreFit, StayFit}

@@ -15,8 +15,8 @@ use Rattle.core_model.specs.State.{CoreJob}
 use Rattle.core_model.specs.Measure.{call_count, one_if_call, total}
 use Rattle.core_model.specs.Operations.{leaf_of}
 use Rattle.core_model.specs.declared.task.Task.TheVariants.{Half, Started, Kept, Ended, Whole, Handed}
-use Rattle.core_table.specs.Passes.{TaskHere}
-use Rattle.core_table.proofs.ListLemmas.CallCounts.{one_at_most, total_next}
+use Rattle.table_rule.specs.DueTasks.{TaskHere}
+use Rattle.table_rule.proofs.ListLemmas.CallCounts.{one_at_most, total_next}
 use Rattle.worker_crew.specs.Words.{Task, Idle, Run, CallState, NotCalled, Out, Got}
 use Rattle.worker_crew.specs.NextSteps.{step_run, step_started, step_whole, next_step}
 use Rattle.worker_crew.specs.Seats.{TaskFits}

@@ -2,18 +2,18 @@
 use Rattle.std.proofs.Common.{ℕ, ◌≡◌, ◌≤◌, ◌+◌, Bool, true, false, List, [], ◌∷◌, ◌++◌, refl, sym, ap, ◌∙◌, subst}
 use Rattle.std.specs.Prelude.{Option, None, Some, option_map, IfSome, IfNone, IfOk, IfErr, IsTrue, IsFalse, Result, Ok, Err}
 use Rattle.core_model.specs.Entries.{StandsAt}
-use Rattle.core_table.specs.declared.slot.OpRecord.{OpRecord}
-use Rattle.core_table.specs.declared.view.HoldView.{HoldView}
-use Rattle.core_table.specs.declared.view.LeftCall.{LeftCall}
-use Rattle.core_table.specs.declared.view.View.{View}
+use Rattle.table_rule.specs.declared.slot.OpRecord.{OpRecord}
+use Rattle.table_rule.specs.declared.view.HoldView.{HoldView}
+use Rattle.table_rule.specs.declared.view.LeftCall.{LeftCall}
+use Rattle.table_rule.specs.declared.view.View.{View}
 use Rattle.core_table.specs.declared.table.CoreTable.{CoreTable}
 use Rattle.core_table.specs.declared.table.Pass.{Pass}
 use Rattle.core_table.specs.Passes.{IsPassOf, job_in, view}
-use Rattle.core_table.specs.Shows.{IsFront, entry_of}
+use Rattle.table_rule.specs.Shows.{IsFront, entry_of}
 use Rattle.core_model.specs.Words.{Entry}
-use Rattle.core_table.specs.CoreWords.{Event, Leave, Release}
+use Rattle.table_rule.specs.CoreWords.{Event, Leave, Release}
 use Rattle.worker_crew.specs.Words.{Task, Receipt}
-use Rattle.core_table.specs.Views as views
+use Rattle.table_rule.specs.Views as views
 use Rattle.launch_batch.proofs.ListLemmas.Elements.{map_append}
 use Rattle.worker_crew.specs.Holds.{HoldSeen}
 use Rattle.worker_crew.specs.Passes as passes

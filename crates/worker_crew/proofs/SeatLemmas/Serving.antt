@@ -11,11 +11,11 @@ use Rattle.launch_batch.proofs.ListLemmas.Same.{distinct_same, length_same}
 use Rattle.batch_history.specs.Book.{flat}
 use Rattle.batch_history.specs.Serving.{call_in, calls_in}
 use Rattle.core_model.specs.Operations.{place_of, IsReceipt}
-use Rattle.core_table.specs.declared.slot.OpRecord.{OpRecord}
-use Rattle.core_table.specs.declared.view.HoldView.{HoldView}
-use Rattle.core_table.specs.Shows.{took_in, record_in, among}
-use Rattle.core_table.specs.Batches as batches
-use Rattle.core_table.specs.Batches.{call_of, ServesTaken}
+use Rattle.table_rule.specs.declared.slot.OpRecord.{OpRecord}
+use Rattle.table_rule.specs.declared.view.HoldView.{HoldView}
+use Rattle.table_rule.specs.Shows.{took_in, record_in, among}
+use Rattle.table_rule.specs.Batches as batches
+use Rattle.table_rule.specs.Batches.{call_of, ServesTaken}
 use Rattle.seq_objects.specs.declared.call.Call.{Call}
 use Rattle.core_model.specs.Words.{Entry}
 use Rattle.worker_crew.specs.Words.{Receipt}

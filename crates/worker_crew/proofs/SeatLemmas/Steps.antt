@@ -14,9 +14,9 @@ use Rattle.core_model.specs.State.{CoreJob}
 use Rattle.core_model.specs.Operations.{leaf_of, op_in, IsLeaf}
 use Rattle.core_model.specs.Events.{value_in, task_after}
 use Rattle.core_model.specs.declared.task.Task.TheVariants.{Half, Started, Kept, Ended, Whole, Handed}
-use Rattle.core_table.specs.Passes.{IsTickDue, IsOpenDue, IsFinishDue, IsArriveDue, IsInner, opened_task, half_if}
-use Rattle.core_table.specs.Shows.{IsPostDue}
-use Rattle.core_table.specs.Views.{ticked}
+use Rattle.table_rule.specs.DueTasks.{IsTickDue, IsOpenDue, IsFinishDue, IsArriveDue, IsInner, opened_task, half_if}
+use Rattle.table_rule.specs.Shows.{IsPostDue}
+use Rattle.table_rule.specs.Views.{ticked}
 use Rattle.worker_crew.specs.Words.{Task, Idle, Run, CallState, NotCalled, Out, Got}
 use Rattle.worker_crew.specs.declared.step.Step.{Step}
 use Rattle.worker_crew.specs.declared.step.Step.TheVariants as steps

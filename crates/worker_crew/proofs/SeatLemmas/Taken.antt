@@ -6,9 +6,9 @@ use Rattle.std.proofs.lemmas.Bool.Decides.{nat_tests}
 use Rattle.seq_objects.specs.declared.call.Call.{Call}
 use Rattle.seq_objects.specs.Pairs.{AreDistinct}
 use Rattle.launch_batch.proofs.ListLemmas.Elements.{each_unmapped}
-use Rattle.core_table.specs.declared.slot.OpRecord.{OpRecord}
-use Rattle.core_table.specs.declared.view.TakenCall.{TakenCall}
-use Rattle.core_table.specs.Shows.{took_in, record_in, among}
+use Rattle.table_rule.specs.declared.slot.OpRecord.{OpRecord}
+use Rattle.table_rule.specs.declared.view.TakenCall.{TakenCall}
+use Rattle.table_rule.specs.Shows.{took_in, record_in, among}
 use Rattle.worker_crew.specs.Seats.{oldest_first, taken_call}
 use Rattle.launch_batch.proofs.ListLemmas.Among.{Among, each_among}
 use Rattle.worker_crew.proofs.SeatLemmas.Turned.{among_turned, among_turned_back, distinct_turned_back}

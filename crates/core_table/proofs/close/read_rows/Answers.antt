@@ -3,9 +3,9 @@ use Rattle.std.specs.Mem.Slots.{slots_items}
 use Rattle.sp_order.specs.Jobs.{job_tree}
 use Rattle.sp_order.specs.Preorder.{nodes_of}
 use Rattle.batch_history.specs.declared.row.Row.{Row}
-use Rattle.core_table.proofs.ListLemmas.Lists.{each_append}
-use Rattle.core_table.proofs.ListLemmas.Lists.{next_row}
-use Rattle.core_table.specs.Words.{node_at, value_at}
+use Rattle.table_rule.proofs.ListLemmas.Lists.{each_append}
+use Rattle.table_rule.proofs.ListLemmas.Lists.{next_row}
+use Rattle.table_rule.specs.Words.{node_at, value_at}
 use Rattle.core_table.specs.Closing.{RowInWords}
 use Rattle.core_table.proofs.CloseLemmas.Closes.{at_word}
 use Rattle.core_table.proofs.CloseLemmas.LastRows.{leaf_in}

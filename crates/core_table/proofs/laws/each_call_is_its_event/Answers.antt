@@ -1,9 +1,9 @@
 use Rattle.std.proofs.Common.{ℕ, ◌≤◌, refl, sym, subst}
-use Rattle.core_table.specs.Shows.{job_of, room_of}
-use Rattle.core_table.proofs.StepLemmas.JobSteps as jobs
-use Rattle.core_table.proofs.StepLemmas.LookSteps as looks
-use Rattle.core_table.proofs.StepLemmas.GateSteps as gate
-use Rattle.core_table.proofs.StepLemmas.PublishStep as publishing
+use Rattle.table_rule.specs.Shows.{job_of, room_of}
+use Rattle.table_rule.proofs.StepLemmas.JobSteps as jobs
+use Rattle.table_rule.proofs.StepLemmas.LookSteps as looks
+use Rattle.table_rule.proofs.StepLemmas.GateSteps as gate
+use Rattle.table_rule.proofs.StepLemmas.PublishStep as publishing
 use Rattle.core_table.proofs.laws.each_call_is_its_event.Goals as goal
 
 pub returns : goal.returns

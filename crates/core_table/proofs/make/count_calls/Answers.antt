@@ -3,7 +3,7 @@ use Rattle.sp_order.specs.Jobs.{job_tree}
 use Rattle.sp_order.specs.Preorder.{nodes_of}
 use Rattle.core_model.specs.State.{core_job}
 use Rattle.core_model.specs.Measure.{total, one_if_call}
-use Rattle.core_table.proofs.ListLemmas.CallCounts.{one_at_most, total_next}
+use Rattle.table_rule.proofs.ListLemmas.CallCounts.{one_at_most, total_next}
 use Rattle.core_table.proofs.make.count_calls.Goals as goal
 
 pub overflow_add-count : goal.overflow_add-count

@@ -1,8 +1,8 @@
 use Rattle.std.proofs.Common.{◌≡◌, ℕ, ap, ◌∙◌, ◌∷◌, [], ◌++◌, List, append_assoc, replicate, arith}
 use Rattle.batch_history.specs.declared.batch.Entry.{Entry}
 use Rattle.batch_history.specs.Reserved.{ReservedView}
-use Rattle.core_table.specs.declared.slot.Slot.{Slot}
-use Rattle.core_table.specs.declared.slot.Slot.TheVariants as Slots
+use Rattle.table_rule.specs.declared.slot.Slot.{Slot}
+use Rattle.table_rule.specs.declared.slot.Slot.TheVariants as Slots
 use Rattle.core_table.proofs.make.opening_slots.Goals as goal
 
 pub returns : goal.returns

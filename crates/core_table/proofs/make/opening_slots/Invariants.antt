@@ -1,5 +1,5 @@
 use Rattle.std.proofs.Common.{◌≡◌, ◌+◌, ◌≤◌, replicate, vec_capacity, vec_len}
-use Rattle.core_table.specs.declared.slot.Slot.TheVariants as Slots
+use Rattle.table_rule.specs.declared.slot.Slot.TheVariants as Slots
 use Rattle.core_table.proofs.make.opening_slots.Given as goal
 
 abbrev pub invariant-loop : goal.invariant-loop

@@ -1,5 +1,5 @@
 use Rattle.std.proofs.Common.{◌≡◌, false, take}
-use Rattle.core_table.specs.Shows.{among}
+use Rattle.table_rule.specs.Shows.{among}
 use Rattle.core_table.proofs.turns.first_place.Given as goal
 
 abbrev pub invariant-loop-i : goal.invariant-loop-i

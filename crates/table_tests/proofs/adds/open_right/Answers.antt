@@ -1,5 +1,5 @@
 use Rattle.std.proofs.Common.{ap, ◌∙◌}
-use Rattle.core_table.specs.declared.view.View.{View}
+use Rattle.table_rule.specs.declared.view.View.{View}
 use Rattle.table_tests.proofs.AddLemmas.{open_due, half_opened}
 use Rattle.table_tests.proofs.adds.open_right.Goals as goal
 

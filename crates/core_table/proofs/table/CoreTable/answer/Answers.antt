@@ -1,18 +1,18 @@
 use Rattle.std.proofs.Common.{◌≡◌, ℕ, ◌+◌, List, [], ◌∷◌, ◌++◌, true, suc, ◌-◌, take, drop, length, subst, sym, ap, ◌∙◌, arith, refl}
 use Rattle.atomic_table.specs.Table.{rest}
-use Rattle.core_table.specs.declared.slot.Slot.{Slot}
-use Rattle.core_table.specs.declared.slot.Slot.TheVariants as Slots
-use Rattle.core_table.specs.declared.view.HoldView.{HoldView}
+use Rattle.table_rule.specs.declared.slot.Slot.{Slot}
+use Rattle.table_rule.specs.declared.slot.Slot.TheVariants as Slots
+use Rattle.table_rule.specs.declared.view.HoldView.{HoldView}
 use Rattle.core_table.specs.Code.Turns.{turns, IsFirstAt}
-use Rattle.core_table.specs.Carries.{vacant}
-use Rattle.core_table.specs.Plays.{Sat}
-use Rattle.core_table.specs.Shows.{among, room_of, job_of}
-use Rattle.core_table.specs.CoreWords.{Answer}
-use Rattle.core_table.specs.Views.{with_event, with_hold, answered_view, without_first}
-use Rattle.core_table.proofs.TableLemmas.Moved.{few_nodes, record_took}
+use Rattle.table_rule.specs.Carries.{vacant}
+use Rattle.table_rule.specs.Plays.{Sat}
+use Rattle.table_rule.specs.Shows.{among, room_of, job_of}
+use Rattle.table_rule.specs.CoreWords.{Answer}
+use Rattle.table_rule.specs.Views.{with_event, with_hold, answered_view, without_first}
+use Rattle.table_rule.proofs.TableLemmas.Moved.{few_nodes, record_took}
 use Rattle.core_table.proofs.ListLemmas.Owed.{to_front, to_places, owes_answered, remembers_hold}
 use Rattle.core_table.proofs.PassLemmas.PassKept.{held_out, pass_made, first, swapped, same_hold, holder_after, carries_answered}
-use Rattle.core_table.proofs.StepLemmas.GateSteps.{answers_at}
+use Rattle.table_rule.proofs.StepLemmas.GateSteps.{answers_at}
 use Rattle.core_table.proofs.table.CoreTable.answer.Goals as goal
 
 pub first_place-at-requires : goal.first_place-at-requires

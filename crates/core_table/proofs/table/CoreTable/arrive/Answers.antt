@@ -1,9 +1,9 @@
 use Rattle.std.proofs.Common.{sym, ◌∙◌, arith}
 use Rattle.sp_order.specs.declared.node.Kind.TheVariants.{ParNode}
-use Rattle.core_table.specs.Shows.{room_of, job_of}
-use Rattle.core_table.proofs.TableLemmas.Moved.{few_nodes}
-use Rattle.core_table.proofs.StepLemmas.Sides.{block_in}
-use Rattle.core_table.proofs.StepLemmas.JobSteps.{arrives}
+use Rattle.table_rule.specs.Shows.{room_of, job_of}
+use Rattle.table_rule.proofs.TableLemmas.Moved.{few_nodes}
+use Rattle.table_rule.proofs.StepLemmas.Sides.{block_in}
+use Rattle.table_rule.proofs.StepLemmas.JobSteps.{arrives}
 use Rattle.core_table.proofs.table.CoreTable.arrive.Goals as goal
 
 pub fetch_add-second-requires : goal.fetch_add-second-requires

@@ -1,8 +1,8 @@
 use Rattle.std.proofs.Common.{arith}
-use Rattle.core_table.specs.Shows.{room_of, job_of}
-use Rattle.core_table.proofs.TableLemmas.Moved.{few_nodes}
-use Rattle.core_table.proofs.StepLemmas.JobSteps.{claims}
-use Rattle.core_table.proofs.StepLemmas.LookSteps.{strays}
+use Rattle.table_rule.specs.Shows.{room_of, job_of}
+use Rattle.table_rule.proofs.TableLemmas.Moved.{few_nodes}
+use Rattle.table_rule.proofs.StepLemmas.JobSteps.{claims}
+use Rattle.table_rule.proofs.StepLemmas.LookSteps.{strays}
 use Rattle.core_table.proofs.table.CoreTable.claim.Goals as goal
 
 pub compare_exchange-requires : goal.compare_exchange-requires

@@ -7,8 +7,8 @@ use Rattle.sp_order.specs.Jobs.{job_tree}
 use Rattle.sp_order.specs.Precedence.{Tree, leaves}
 use Rattle.sp_order.specs.Preorder.{nodes_of}
 use Rattle.core_model.specs.Reports.{IsRunShape}
-use Rattle.core_table.specs.Shows.{reserved, room_of, job_of}
-use Rattle.core_table.proofs.TableLemmas.Moved.{few_nodes}
+use Rattle.table_rule.specs.Shows.{reserved, room_of, job_of}
+use Rattle.table_rule.proofs.TableLemmas.Moved.{few_nodes}
 use Rattle.core_table.proofs.CloseLemmas.Closes.{closes}
 use Rattle.core_table.proofs.CloseLemmas.Reported.{Reported, reported}
 use Rattle.core_table.proofs.CloseLemmas.LastRows.{leaf_in}

@@ -1,8 +1,8 @@
 use Rattle.std.proofs.Common.{arith}
-use Rattle.core_table.specs.Shows.{room_of, job_of}
-use Rattle.core_table.proofs.TableLemmas.Moved.{few_nodes}
-use Rattle.core_table.proofs.StepLemmas.Sides.{ended_in}
-use Rattle.core_table.proofs.StepLemmas.JobSteps.{finishes_leaf}
+use Rattle.table_rule.specs.Shows.{room_of, job_of}
+use Rattle.table_rule.proofs.TableLemmas.Moved.{few_nodes}
+use Rattle.table_rule.proofs.StepLemmas.Sides.{ended_in}
+use Rattle.table_rule.proofs.StepLemmas.JobSteps.{finishes_leaf}
 use Rattle.core_table.proofs.table.CoreTable.finish_leaf.Goals as goal
 
 pub store-requires : goal.store-requires

@@ -1,10 +1,10 @@
 use Rattle.std.proofs.Common.{◌≡◌, ℕ, ◌<◌, subst, sym, ◌∙◌, arith, Some}
 use Rattle.core_model.specs.Operations.{leaf_of}
 use Rattle.core_model.specs.Events.{value_in}
-use Rattle.core_table.specs.Shows.{room_of, job_of}
-use Rattle.core_table.proofs.TableLemmas.Moved.{few_nodes}
-use Rattle.core_table.proofs.StepLemmas.Sides.{started_in}
-use Rattle.core_table.proofs.StepLemmas.JobSteps.{keeps_value}
+use Rattle.table_rule.specs.Shows.{room_of, job_of}
+use Rattle.table_rule.proofs.TableLemmas.Moved.{few_nodes}
+use Rattle.table_rule.proofs.StepLemmas.Sides.{started_in}
+use Rattle.table_rule.proofs.StepLemmas.JobSteps.{keeps_value}
 use Rattle.core_table.proofs.table.CoreTable.keep.Goals as goal
 
 pub store-requires : goal.store-requires

@@ -1,9 +1,9 @@
 use Rattle.std.proofs.Common.{◌∙◌, arith}
-use Rattle.core_table.specs.declared.slot.Slot.TheVariants as Slots
-use Rattle.core_table.specs.Shows.{room_of, job_of}
-use Rattle.core_table.proofs.TableLemmas.Moved.{few_nodes}
+use Rattle.table_rule.specs.declared.slot.Slot.TheVariants as Slots
+use Rattle.table_rule.specs.Shows.{room_of, job_of}
+use Rattle.table_rule.proofs.TableLemmas.Moved.{few_nodes}
 use Rattle.core_table.proofs.PassLemmas.PassKept.{first}
-use Rattle.core_table.proofs.StepLemmas.GateSteps.{leaves}
+use Rattle.table_rule.proofs.StepLemmas.GateSteps.{leaves}
 use Rattle.core_table.proofs.table.CoreTable.leave.Goals as goal
 
 pub compare_exchange-seen-requires : goal.compare_exchange-seen-requires

@@ -1,16 +1,16 @@
 use Rattle.std.proofs.Common.{false, Some, ◌≡◌, ℕ, ◌+◌, [], ◌∷◌, length, replicate, set, subst, sym, ap, ◌∙◌, arith, refl, List, length-append}
 use Rattle.sp_order.specs.Jobs.{JobValue, IsJob, job_tree}
 use Rattle.sp_order.specs.Precedence.{leaf_count, leaves}
-use Rattle.core_table.specs.declared.slot.Slot.TheVariants as Slots
+use Rattle.table_rule.specs.declared.slot.Slot.TheVariants as Slots
 use Rattle.core_table.specs.declared.table.Pass.{Pass}
-use Rattle.core_table.specs.Words.{node_at}
-use Rattle.core_table.specs.Shows.{room_of, job_of}
-use Rattle.core_table.specs.Plays.{Sat}
-use Rattle.core_table.specs.Views.{enrolling, pass_of, rest_of}
+use Rattle.table_rule.specs.Words.{node_at}
+use Rattle.table_rule.specs.Shows.{room_of, job_of}
+use Rattle.table_rule.specs.Plays.{Sat}
+use Rattle.table_rule.specs.Views.{enrolling, pass_of, rest_of}
 use Rattle.core_table.specs.Passes.{IsSeatOf}
-use Rattle.core_table.specs.Views.{rest_from}
-use Rattle.core_table.proofs.TableLemmas.Moved.{few_nodes}
-use Rattle.core_table.proofs.PassLemmas.Starts.{starts, cuts_at, enrols_at}
+use Rattle.table_rule.specs.Views.{rest_from}
+use Rattle.table_rule.proofs.TableLemmas.Moved.{few_nodes}
+use Rattle.table_rule.proofs.StepLemmas.Starts.{starts, cuts_at, enrols_at}
 use Rattle.core_table.proofs.PassLemmas.NewPass.{each_push, new_pass}
 use Rattle.core_table.proofs.table.CoreTable.of.Goals as goal
 

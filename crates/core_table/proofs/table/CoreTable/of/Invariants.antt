@@ -1,7 +1,7 @@
 use Rattle.std.proofs.Common.{◌≡◌, ◌≤◌, ℕ, ◌+◌, [], length, IfSome, vec_len, vec_capacity, slice_get}
-use Rattle.core_table.specs.Views.{enrolling, pass_of}
+use Rattle.table_rule.specs.Views.{enrolling, pass_of}
 use Rattle.core_table.specs.Passes.{IsSeatOf}
-use Rattle.core_table.specs.Views.{rest_from}
+use Rattle.table_rule.specs.Views.{rest_from}
 use Rattle.core_table.proofs.table.CoreTable.of.Given as goal
 
 abbrev pub invariant-loop-worker : goal.invariant-loop-worker

@@ -1,13 +1,13 @@
 use Rattle.std.proofs.Common.{ℕ, ◌≡◌, refl, sym, ap, ◌∙◌, arith, Some, inl}
-use Rattle.core_table.specs.CoreWords.{Run, Half, OpenParRight}
-use Rattle.core_table.specs.Passes.{opened_task, half_if}
-use Rattle.core_table.specs.Plays.{Sat}
-use Rattle.core_table.specs.Views.{with_event, opening}
+use Rattle.table_rule.specs.CoreWords.{Run, Half, OpenParRight}
+use Rattle.table_rule.specs.DueTasks.{opened_task, half_if}
+use Rattle.table_rule.specs.Plays.{Sat}
+use Rattle.table_rule.specs.Views.{with_event, opening}
 use Rattle.sp_order.specs.declared.node.Kind.TheVariants.{SeqNode, ParNode}
-use Rattle.core_table.specs.Shows.{room_of, job_of}
-use Rattle.core_table.proofs.TableLemmas.Moved.{few_nodes}
-use Rattle.core_table.proofs.StepLemmas.Sides.{par_sides, seq_sides}
-use Rattle.core_table.proofs.StepLemmas.JobSteps.{opens_right, opens_first}
+use Rattle.table_rule.specs.Shows.{room_of, job_of}
+use Rattle.table_rule.proofs.TableLemmas.Moved.{few_nodes}
+use Rattle.table_rule.proofs.StepLemmas.Sides.{par_sides, seq_sides}
+use Rattle.table_rule.proofs.StepLemmas.JobSteps.{opens_right, opens_first}
 use Rattle.core_table.proofs.table.CoreTable.open_block.Goals as goal
 
 pub store-requires : goal.store-requires

@@ -1,9 +1,9 @@
 use Rattle.std.proofs.Common.{◌≡◌, sym, ap, ◌∙◌, arith, Some}
 use Rattle.sp_order.specs.declared.node.Kind.TheVariants.{ParNode}
-use Rattle.core_table.specs.Shows.{room_of, job_of}
-use Rattle.core_table.proofs.TableLemmas.Moved.{few_nodes}
-use Rattle.core_table.proofs.StepLemmas.Sides.{par_sides}
-use Rattle.core_table.proofs.StepLemmas.JobSteps.{opens_left}
+use Rattle.table_rule.specs.Shows.{room_of, job_of}
+use Rattle.table_rule.proofs.TableLemmas.Moved.{few_nodes}
+use Rattle.table_rule.proofs.StepLemmas.Sides.{par_sides}
+use Rattle.table_rule.proofs.StepLemmas.JobSteps.{opens_left}
 use Rattle.core_table.proofs.table.CoreTable.open_left.Goals as goal
 
 pub store-requires : goal.store-requires

@@ -1,10 +1,10 @@
 use Rattle.std.proofs.Common.{◌≡◌, sym, ap, ◌∙◌, arith, Some}
 use Rattle.sp_order.specs.declared.node.Kind.TheVariants.{SeqNode}
 use Rattle.core_model.specs.declared.task.Task.TheVariants.{Whole}
-use Rattle.core_table.specs.Shows.{room_of, job_of}
-use Rattle.core_table.proofs.TableLemmas.Moved.{few_nodes}
-use Rattle.core_table.proofs.StepLemmas.Sides.{block_in, seq_sides}
-use Rattle.core_table.proofs.StepLemmas.JobSteps.{opens_second}
+use Rattle.table_rule.specs.Shows.{room_of, job_of}
+use Rattle.table_rule.proofs.TableLemmas.Moved.{few_nodes}
+use Rattle.table_rule.proofs.StepLemmas.Sides.{block_in, seq_sides}
+use Rattle.table_rule.proofs.StepLemmas.JobSteps.{opens_second}
 use Rattle.core_table.proofs.table.CoreTable.open_second.Goals as goal
 
 pub kind-requires : goal.kind-requires

@@ -1,14 +1,14 @@
 use Rattle.std.proofs.Common.{[], sym, ap, ◌∙◌, arith, refl}
-use Rattle.core_table.specs.declared.slot.Slot.TheVariants as Slots
-use Rattle.core_table.specs.Shows.{room_of, job_of}
-use Rattle.core_table.proofs.TableLemmas.Moved.{few_nodes}
+use Rattle.table_rule.specs.declared.slot.Slot.TheVariants as Slots
+use Rattle.table_rule.specs.Shows.{room_of, job_of}
+use Rattle.table_rule.proofs.TableLemmas.Moved.{few_nodes}
 use Rattle.core_table.proofs.PassLemmas.PassKept.{pass_made, first, swapped}
-use Rattle.core_table.proofs.StepLemmas.GateSteps.{posts_at}
+use Rattle.table_rule.proofs.StepLemmas.GateSteps.{posts_at}
 use Rattle.atomic_table.specs.Table.{rest}
-use Rattle.core_table.specs.Plays.{Sat}
+use Rattle.table_rule.specs.Plays.{Sat}
 use Rattle.core_table.proofs.ListLemmas.Owed.{remembers_kept}
-use Rattle.core_table.specs.Views.{with_event, posting}
-use Rattle.core_table.specs.CoreWords.{Post}
+use Rattle.table_rule.specs.Views.{with_event, posting}
+use Rattle.table_rule.specs.CoreWords.{Post}
 use Rattle.core_table.proofs.PassLemmas.PassKept.{pass_made, first, carries_posted}
 use Rattle.core_table.proofs.table.CoreTable.post.Goals as goal
 

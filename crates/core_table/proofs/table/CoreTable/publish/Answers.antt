@@ -2,18 +2,18 @@ use Rattle.std.proofs.Common.{true, ◌≡◌, ℕ, ◌<◌, ◌+◌, [], ◌∷
 use Rattle.atomic_table.specs.Table.{rest}
 use Rattle.batch_history.specs.Reserved.{ReservedView}
 use Rattle.batch_history.specs.Book.{IsHistory}
-use Rattle.core_table.specs.declared.slot.Slot.TheVariants as Slots
-use Rattle.core_table.specs.Batches.{IsPublishDue}
-use Rattle.core_table.specs.Carries.{vacant}
-use Rattle.core_table.specs.Plays.{Sat}
-use Rattle.core_table.specs.Shows.{reserved, room_of, job_of}
-use Rattle.core_table.specs.CoreWords.{Publish}
-use Rattle.core_table.specs.Views.{with_event, with_hold, published_view}
-use Rattle.core_table.proofs.TableLemmas.Moved.{few_nodes}
+use Rattle.table_rule.specs.declared.slot.Slot.TheVariants as Slots
+use Rattle.table_rule.specs.Batches.{IsPublishDue}
+use Rattle.table_rule.specs.Carries.{vacant}
+use Rattle.table_rule.specs.Plays.{Sat}
+use Rattle.table_rule.specs.Shows.{reserved, room_of, job_of}
+use Rattle.table_rule.specs.CoreWords.{Publish}
+use Rattle.table_rule.specs.Views.{with_event, with_hold, published_view}
+use Rattle.table_rule.proofs.TableLemmas.Moved.{few_nodes}
 use Rattle.core_table.proofs.PassLemmas.PassKept.{held_out, pass_made, first, swapped, turned_to, carries_published, holder_list, found_book, books}
 use Rattle.core_table.proofs.ListLemmas.Owed.{remembers_hold, owes_published}
-use Rattle.core_table.proofs.ListLemmas.CallCounts.{room_few, few_batches_in}
-use Rattle.core_table.proofs.StepLemmas.PublishStep.{admits, publishes_at}
+use Rattle.table_rule.proofs.ListLemmas.CallCounts.{room_few, few_batches_in}
+use Rattle.table_rule.proofs.StepLemmas.PublishStep.{admits, publishes_at}
 use Rattle.core_table.proofs.table.CoreTable.publish.Goals as goal
 
 pub load-requires : goal.load-requires

@@ -1,14 +1,14 @@
 use Rattle.std.proofs.Common.{◌≡◌, [], true, sym, ap, ◌∙◌, arith, refl}
 use Rattle.atomic_table.specs.Table.{rest}
-use Rattle.core_table.specs.declared.slot.Slot.TheVariants as Slots
-use Rattle.core_table.specs.Plays.{Sat}
-use Rattle.core_table.specs.Shows.{room_of, job_of}
-use Rattle.core_table.specs.CoreWords.{Release}
-use Rattle.core_table.specs.Views.{with_event, releasing}
-use Rattle.core_table.proofs.TableLemmas.Moved.{few_nodes}
+use Rattle.table_rule.specs.declared.slot.Slot.TheVariants as Slots
+use Rattle.table_rule.specs.Plays.{Sat}
+use Rattle.table_rule.specs.Shows.{room_of, job_of}
+use Rattle.table_rule.specs.CoreWords.{Release}
+use Rattle.table_rule.specs.Views.{with_event, releasing}
+use Rattle.table_rule.proofs.TableLemmas.Moved.{few_nodes}
 use Rattle.core_table.proofs.ListLemmas.Owed.{owes_nobody, remembers_none}
 use Rattle.core_table.proofs.PassLemmas.PassKept.{held_out, pass_made, first, swapped, holder_after, carries_released}
-use Rattle.core_table.proofs.StepLemmas.GateSteps.{releases_shop_at}
+use Rattle.table_rule.proofs.StepLemmas.GateSteps.{releases_shop_at}
 use Rattle.core_table.proofs.table.CoreTable.release_shop.Goals as goal
 
 pub exchange-requires : goal.exchange-requires

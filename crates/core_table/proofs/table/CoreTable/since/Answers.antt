@@ -1,9 +1,9 @@
 use Rattle.std.proofs.Common.{arith}
-use Rattle.core_table.specs.Shows.{room_of, job_of}
-use Rattle.core_table.proofs.TableLemmas.Moved.{few_nodes}
-use Rattle.core_table.proofs.StepLemmas.LookSteps.{hears}
+use Rattle.table_rule.specs.Shows.{room_of, job_of}
+use Rattle.table_rule.proofs.TableLemmas.Moved.{few_nodes}
+use Rattle.table_rule.proofs.StepLemmas.LookSteps.{hears}
 use Rattle.std.proofs.Common.{refl}
-use Rattle.core_table.specs.Views.{hearing}
+use Rattle.table_rule.specs.Views.{hearing}
 use Rattle.core_table.proofs.PassLemmas.PassKept.{pass_kept}
 use Rattle.core_table.proofs.table.CoreTable.since.Goals as goal
 

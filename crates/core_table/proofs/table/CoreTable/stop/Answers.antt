@@ -1,8 +1,8 @@
 use Rattle.std.proofs.Common.{arith, refl}
-use Rattle.core_table.specs.Shows.{room_of, job_of}
-use Rattle.core_table.specs.Views.{stopping}
-use Rattle.core_table.proofs.TableLemmas.Moved.{few_nodes}
-use Rattle.core_table.proofs.StepLemmas.LookSteps.{stops}
+use Rattle.table_rule.specs.Shows.{room_of, job_of}
+use Rattle.table_rule.specs.Views.{stopping}
+use Rattle.table_rule.proofs.TableLemmas.Moved.{few_nodes}
+use Rattle.table_rule.proofs.StepLemmas.LookSteps.{stops}
 use Rattle.core_table.proofs.PassLemmas.PassKept.{pass_kept}
 use Rattle.core_table.proofs.table.CoreTable.stop.Goals as goal
 

@@ -1,9 +1,9 @@
 use Rattle.std.proofs.Common.{arith, refl, inl, inr}
 use Rattle.std.proofs.lemmas.Bool.{cases_eq}
-use Rattle.core_table.specs.Views.{finding_stop, finding_none}
-use Rattle.core_table.specs.Shows.{room_of, job_of}
-use Rattle.core_table.proofs.TableLemmas.Moved.{few_nodes}
-use Rattle.core_table.proofs.StepLemmas.LookSteps.{looks_at_stop}
+use Rattle.table_rule.specs.Views.{finding_stop, finding_none}
+use Rattle.table_rule.specs.Shows.{room_of, job_of}
+use Rattle.table_rule.proofs.TableLemmas.Moved.{few_nodes}
+use Rattle.table_rule.proofs.StepLemmas.LookSteps.{looks_at_stop}
 use Rattle.core_table.proofs.PassLemmas.PassKept.{pass_kept}
 use Rattle.core_table.proofs.table.CoreTable.stopped.Goals as goal
 

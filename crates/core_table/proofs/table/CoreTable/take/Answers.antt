@@ -1,16 +1,16 @@
 use Rattle.std.proofs.Common.{List, ◌≡◌, ℕ, [], ◌∷◌, ◌++◌, length, subst, sym, ap, ◌∙◌, arith, refl}
 use Rattle.core_model.specs.declared.status.CallState.TheVariants.{Out}
-use Rattle.core_table.specs.declared.slot.Slot.TheVariants as Slots
-use Rattle.core_table.specs.Shows.{room_of, job_of}
-use Rattle.core_table.proofs.TableLemmas.Moved.{few_nodes}
+use Rattle.table_rule.specs.declared.slot.Slot.TheVariants as Slots
+use Rattle.table_rule.specs.Shows.{room_of, job_of}
+use Rattle.table_rule.proofs.TableLemmas.Moved.{few_nodes}
 use Rattle.core_table.proofs.PassLemmas.PassKept.{held_out, pass_made, first, swapped, turned_to, carries_took, carries_passed}
-use Rattle.core_table.specs.declared.view.HoldView.{HoldView}
-use Rattle.core_table.specs.Remembers.{Owes}
+use Rattle.table_rule.specs.declared.view.HoldView.{HoldView}
+use Rattle.table_rule.specs.Remembers.{Owes}
 use Rattle.core_table.proofs.ListLemmas.Owed.{remembers_hold, owes_passed, owes_taken}
 use Rattle.core_table.proofs.PassLemmas.PassKept.{same_hold}
-use Rattle.core_table.specs.CoreWords.{Take}
-use Rattle.core_table.specs.Views.{with_event, passing, with_hold, taken_view, passed_view}
-use Rattle.core_table.proofs.StepLemmas.GateSteps.{looks}
+use Rattle.table_rule.specs.CoreWords.{Take}
+use Rattle.table_rule.specs.Views.{with_event, passing, with_hold, taken_view, passed_view}
+use Rattle.table_rule.proofs.StepLemmas.GateSteps.{looks}
 use Rattle.core_table.proofs.table.CoreTable.take.Goals as goal
 
 pub compare_exchange-seen-requires : goal.compare_exchange-seen-requires

@@ -1,7 +1,7 @@
 use Rattle.std.proofs.Common.{arith}
-use Rattle.core_table.specs.Shows.{room_of, job_of}
-use Rattle.core_table.proofs.TableLemmas.Moved.{few_nodes}
-use Rattle.core_table.proofs.StepLemmas.JobSteps.{draws_due}
+use Rattle.table_rule.specs.Shows.{room_of, job_of}
+use Rattle.table_rule.proofs.TableLemmas.Moved.{few_nodes}
+use Rattle.table_rule.proofs.StepLemmas.JobSteps.{draws_due}
 use Rattle.core_table.proofs.table.CoreTable.tick.Goals as goal
 
 pub fetch_add-tick-requires : goal.fetch_add-tick-requires

@@ -1,13 +1,13 @@
 use Rattle.std.proofs.Common.{false, ◌≡◌, ◌+◌, [], ◌∷◌, ap, ◌∙◌, arith, refl}
 use Rattle.core_model.specs.declared.status.CallState.TheVariants.{Out}
-use Rattle.core_table.specs.declared.slot.Slot.TheVariants as Slots
-use Rattle.core_table.specs.Shows.{reserved, room_of, job_of}
-use Rattle.core_table.proofs.TableLemmas.Moved.{few_nodes}
+use Rattle.table_rule.specs.declared.slot.Slot.TheVariants as Slots
+use Rattle.table_rule.specs.Shows.{reserved, room_of, job_of}
+use Rattle.table_rule.proofs.TableLemmas.Moved.{few_nodes}
 use Rattle.core_table.proofs.PassLemmas.PassKept.{pass_kept, pass_made, first, swapped, turned_to, carries_won}
 use Rattle.core_table.proofs.ListLemmas.Owed.{remembers_hold, owes_new}
-use Rattle.core_table.specs.CoreWords.{Win}
-use Rattle.core_table.specs.Views.{with_event, new_view, winning, losing}
-use Rattle.core_table.proofs.StepLemmas.GateSteps.{wins}
+use Rattle.table_rule.specs.CoreWords.{Win}
+use Rattle.table_rule.specs.Views.{with_event, new_view, winning, losing}
+use Rattle.table_rule.proofs.StepLemmas.GateSteps.{wins}
 use Rattle.core_table.proofs.table.CoreTable.win.Goals as goal
 
 pub compare_exchange-requires : goal.compare_exchange-requires

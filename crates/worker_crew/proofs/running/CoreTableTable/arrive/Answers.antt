@@ -3,10 +3,10 @@ use Rattle.std.specs.Prelude.{IsTrue, IsFalse}
 use Rattle.core_table.specs.Passes.{view, job_in, IsPassOf}
 use Rattle.core_table.specs.declared.table.CoreTable.{CoreTable}
 use Rattle.core_table.specs.declared.table.Pass.{Pass}
-use Rattle.core_table.specs.CoreWords.{ArriveFirst, ArriveSecond}
+use Rattle.table_rule.specs.CoreWords.{ArriveFirst, ArriveSecond}
 use Rattle.worker_crew.specs.Words.{Idle}
-use Rattle.core_table.specs.JobEvents.{IsArrival}
-use Rattle.core_table.specs.Views as views
+use Rattle.table_rule.specs.JobEvents.{IsArrival}
+use Rattle.table_rule.specs.Views as views
 use Rattle.core_model.specs.declared.task.Task.TheVariants.{Handed}
 use Rattle.worker_crew.specs.Passes.{HasArrived}
 use Rattle.worker_crew.specs.Seats.{pass_seen, IsSeat}

@@ -1,6 +1,6 @@
 use Rattle.std.proofs.Common.{subst, ap}
 use Rattle.core_table.specs.Passes.{view, job_in}
-use Rattle.core_table.specs.Views as views
+use Rattle.table_rule.specs.Views as views
 use Rattle.core_model.specs.Events.{task_after}
 use Rattle.worker_crew.specs.Seats.{pass_seen}
 use Rattle.worker_crew.proofs.SeatLemmas.Steps.{not_out, IsStepDue, step_due, after_fits}

@@ -2,7 +2,8 @@ use Rattle.std.proofs.Common.{◌∙◌, sym, subst, ap}
 use Rattle.std.specs.Prelude.{IsNone}
 use Rattle.sp_order.specs.Jobs.{job_tree}
 use Rattle.core_model.specs.declared.task.Task.{Task}
-use Rattle.core_table.specs.Passes.{view, job_in, planned_in, TaskHere}
+use Rattle.core_table.specs.Passes.{view, job_in, planned_in}
+use Rattle.table_rule.specs.DueTasks.{TaskHere}
 use Rattle.worker_crew.proofs.SeatLemmas.Steps.{not_out}
 use Rattle.worker_crew.specs.NextSteps.{next_step}
 use Rattle.worker_crew.proofs.SeatLemmas.Room.{idle_by}

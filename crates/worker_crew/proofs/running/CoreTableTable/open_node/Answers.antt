@@ -1,6 +1,7 @@
 use Rattle.std.proofs.Common.{subst}
-use Rattle.core_table.specs.Passes.{view, job_in, opened_task}
-use Rattle.core_table.specs.Views as views
+use Rattle.core_table.specs.Passes.{view, job_in}
+use Rattle.table_rule.specs.DueTasks.{opened_task}
+use Rattle.table_rule.specs.Views as views
 use Rattle.worker_crew.proofs.SeatLemmas.Steps.{not_out, IsStepDue, step_due, opened_fits}
 use Rattle.worker_crew.proofs.SeatLemmas.Seats.{seat_by, opened_seen}
 use Rattle.worker_crew.proofs.running.CoreTableTable.open_node.Goals as goal

@@ -1,8 +1,8 @@
 use Rattle.std.proofs.Common.{ap, subst}
-use Rattle.core_table.specs.declared.view.View.{View}
+use Rattle.table_rule.specs.declared.view.View.{View}
 use Rattle.core_table.specs.Passes.{view, job_in}
-use Rattle.core_table.specs.CoreWords.{Post}
-use Rattle.core_table.specs.Views as views
+use Rattle.table_rule.specs.CoreWords.{Post}
+use Rattle.table_rule.specs.Views as views
 use Rattle.worker_crew.specs.Seats.{pass_seen}
 use Rattle.worker_crew.proofs.SeatLemmas.Steps.{IsStepDue, step_due}
 use Rattle.worker_crew.proofs.SeatLemmas.Seats.{seat_by, fits_of}

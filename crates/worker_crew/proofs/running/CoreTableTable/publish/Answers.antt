@@ -1,7 +1,7 @@
 use Rattle.std.proofs.Common.{refl}
 use Rattle.core_table.specs.Passes.{view, job_in}
-use Rattle.core_table.specs.CoreWords.{Publish}
-use Rattle.core_table.specs.Views as views
+use Rattle.table_rule.specs.CoreWords.{Publish}
+use Rattle.table_rule.specs.Views as views
 use Rattle.worker_crew.specs.Holds.{IsPublishDue, after_publish}
 use Rattle.worker_crew.proofs.SeatLemmas.Seats.{seat_by, held, looks_at, hold_step}
 use Rattle.worker_crew.proofs.SeatLemmas.Serving.{publish_due}

@@ -1,7 +1,7 @@
 use Rattle.std.proofs.Common.{ap, ◌∙◌}
 use Rattle.core_table.specs.Passes.{view, job_in}
-use Rattle.core_table.specs.CoreWords.{Release}
-use Rattle.core_table.specs.Views as views
+use Rattle.table_rule.specs.CoreWords.{Release}
+use Rattle.table_rule.specs.Views as views
 use Rattle.worker_crew.specs.Holds.{IsReleaseDue}
 use Rattle.worker_crew.specs.Seats.{pass_seen}
 use Rattle.worker_crew.proofs.SeatLemmas.Seats.{seat_by, held, released_seen}

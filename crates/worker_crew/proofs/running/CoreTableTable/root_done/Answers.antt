@@ -1,8 +1,8 @@
 use Rattle.std.proofs.Common.{ap, ℕ, ◌%◌, ◌≢◌, Bool, true, false, ◌≡◌, refl}
 use Rattle.std.specs.Prelude.{IsTrue, IsFalse}
-use Rattle.core_table.specs.declared.view.View.{View}
+use Rattle.table_rule.specs.declared.view.View.{View}
 use Rattle.core_table.specs.Passes.{view}
-use Rattle.core_table.specs.Views as views
+use Rattle.table_rule.specs.Views as views
 use Rattle.worker_crew.specs.Seats.{pass_seen}
 use Rattle.worker_crew.proofs.SeatLemmas.Seats.{seat_found, fits_of}
 use Rattle.worker_crew.proofs.running.CoreTableTable.root_done.Goals as goal

@@ -1,5 +1,5 @@
 use Rattle.core_table.specs.Passes.{view}
-use Rattle.core_table.specs.Views as views
+use Rattle.table_rule.specs.Views as views
 use Rattle.worker_crew.proofs.SeatLemmas.Seats.{seat_by, fits_of, told_seen, first_seen}
 use Rattle.worker_crew.proofs.running.CoreTableTable.since.Goals as goal
 

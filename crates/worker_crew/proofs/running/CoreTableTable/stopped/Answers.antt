@@ -1,6 +1,6 @@
 use Rattle.std.proofs.Common.{ap}
 use Rattle.core_table.specs.Passes.{view}
-use Rattle.core_table.specs.Views as views
+use Rattle.table_rule.specs.Views as views
 use Rattle.worker_crew.specs.Seats.{pass_seen}
 use Rattle.worker_crew.proofs.SeatLemmas.Seats.{seat_found, fits_of}
 use Rattle.worker_crew.proofs.running.CoreTableTable.stopped.Goals as goal

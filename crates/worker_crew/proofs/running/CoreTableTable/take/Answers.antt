@@ -1,9 +1,9 @@
 use Rattle.std.proofs.Common.{refl, ap, ◌≡◌, arith}
-use Rattle.core_table.specs.declared.view.View.{View}
+use Rattle.table_rule.specs.declared.view.View.{View}
 use Rattle.core_table.specs.Passes.{view, job_in}
 use Rattle.core_table.specs.Passes.{planned_in}
-use Rattle.core_table.specs.CoreWords.{Take}
-use Rattle.core_table.specs.Views as views
+use Rattle.table_rule.specs.CoreWords.{Take}
+use Rattle.table_rule.specs.Views as views
 use Rattle.sp_order.specs.Jobs.{job_tree}
 use Rattle.core_model.specs.Measure.{call_count}
 use Rattle.worker_crew.specs.Holds.{IsLooking, after_take, after_pass}

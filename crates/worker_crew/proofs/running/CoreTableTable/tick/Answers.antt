@@ -1,5 +1,5 @@
 use Rattle.core_table.specs.Passes.{view, job_in}
-use Rattle.core_table.specs.Views as views
+use Rattle.table_rule.specs.Views as views
 use Rattle.worker_crew.proofs.SeatLemmas.Steps.{not_out, tick_by, step_due, ticked_fits}
 use Rattle.worker_crew.proofs.SeatLemmas.Seats.{seat_by, task_seen}
 use Rattle.worker_crew.specs.NextSteps.{next_step}

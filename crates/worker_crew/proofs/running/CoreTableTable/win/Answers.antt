@@ -1,7 +1,7 @@
 use Rattle.std.proofs.Common.{ap, arith}
 use Rattle.core_table.specs.Passes.{view}
-use Rattle.core_table.specs.CoreWords.{Win}
-use Rattle.core_table.specs.Views as views
+use Rattle.table_rule.specs.CoreWords.{Win}
+use Rattle.table_rule.specs.Views as views
 use Rattle.worker_crew.specs.Seats.{pass_seen}
 use Rattle.worker_crew.proofs.SeatLemmas.Steps.{is_out}
 use Rattle.worker_crew.proofs.SeatLemmas.Seats.{seat_some, fits_of, some_so, none_so}

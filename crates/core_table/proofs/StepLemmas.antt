@@ -1,6 +1,0 @@
-pub mod JobSteps
-pub mod Sides
-pub mod LookSteps
-pub mod GateSteps
-pub mod TakeOk
-pub mod PublishStep

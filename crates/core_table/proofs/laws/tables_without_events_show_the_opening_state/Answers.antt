@@ -1,7 +1,0 @@
-use Rattle.std.proofs.Common.{refl}
-use Rattle.core_table.specs.Shows.{job_of, room_of}
-use Rattle.core_table.proofs.TableLemmas.Untouched.{no_event}
-use Rattle.core_table.proofs.laws.tables_without_events_show_the_opening_state.Goals as goal
-
-pub returns : goal.returns
-returns c key t shown none_made = no_event (job_of key) (room_of key) t shown none_made shown.trace refl shown.reached

@@ -1,0 +1,137 @@
+-- The looks at the root, the batch count and the stop word, the set of the stop word, and claims past the last node.
+use Rattle.std.proofs.Common.{ℕ, ◌≡◌, ◌<◌, ◌≤◌, ◌+◌, ◌%◌, ◌⊎◌, min, true, Option as Maybe, None, Some, List, length, get_or, set, eqb, arith, refl, sym, ap, ◌∙◌, subst, inl, inr, get_or-set_same}
+use Rattle.std.proofs.lemmas.Bool.{cases_eq}
+use mathlib.Core.Option.{none}
+use lib.ListN.{get_elem?}
+use prog.Atomic.{either}
+use Rattle.atomic_table.specs.Table.{step, Act, keeps, Valid, carried_after, stepped}
+use Rattle.atomic_table.proofs.Lists.{exchanged}
+use Rattle.core_model.specs.declared.progress.Progress.{Progress}
+use Rattle.core_model.specs.declared.progress.Progress.TheVariants.{Waiting, Ready, Taken as IsTaken, Done, Ran}
+use Rattle.core_model.specs.declared.status.Status.{Status}
+use Rattle.core_model.specs.declared.status.Status.TheVariants.{Free, Pending, Executing, Served}
+use Rattle.core_model.specs.State.{CoreJob}
+use Rattle.core_model.specs.Tasks.{is_done}
+use Rattle.core_model.specs.Waits.{WaitsSince}
+use Rattle.table_rule.specs.declared.view.View.{View}
+use Rattle.table_rule.specs.declared.slot.Slot.{Slot}
+use Rattle.table_rule.specs.Words.{node_at, count_at, stop_at, progress_code, status_code}
+use Rattle.table_rule.specs.Laws.{Laws}
+use Rattle.table_rule.specs.Steps.{ShowsOne, Steps, Stays}
+use Rattle.table_rule.specs.Shows.{St, Shows, SinceKnown}
+use Rattle.table_rule.specs.Plays.{looked_at_root, heard, strayed, stopped_all, looked_at_stop}
+use Rattle.table_rule.specs.Views.{seeing_done, seeing_undone, finding_stop, finding_none, hearing, refusing, least_told, stopping}
+use Rattle.table_rule.proofs.TableLemmas.Facts.{is_trapped}
+use Rattle.table_rule.proofs.TableLemmas.Moved.{at_below, looked, renewed}
+use Rattle.table_rule.proofs.TableLemmas.Traces.{stop_set}
+use Rattle.table_rule.proofs.TableLemmas.Through.{again}
+use Rattle.table_rule.proofs.TableLemmas.Words.{set_stop}
+
+done_word : (p : Progress) → progress_code p % 4 ≡ 3 → is_done p ≡ true
+done_word Waiting e = absurd (omega (arith, e))
+done_word Ready e = absurd (omega (arith, e))
+done_word IsTaken e = absurd (omega (arith, e))
+done_word Done e = refl
+done_word (Ran w s d) e = refl
+
+few_status : (st : Status) → status_code st ≤ 3
+few_status Free = omega arith
+few_status Pending = omega arith
+few_status Executing = omega arith
+few_status (Served r) = omega arith
+
+-- the least number told is the first, if later ones are no smaller
+told_least : (after : Maybe ℕ) (n : ℕ) (b : ℕ) → ((c : ℕ) → after ≡ Some c → c ≤ n) → least_told after n ≡ Some b → (after ≡ Some b) ⊎ ((after ≡ None) × (b ≡ n))
+told_least None n b low e = inr (refl, (cc))
+told_least (Some c) n b low e = let h = low c refl in let same : min c n ≡ c = omega arith in inl (rw same at e)
+
+module _ (job : CoreJob) (room : ℕ) (laws : Laws job) (slots id : ℕ) (v : View) (xs : List (ℕ × Slot)) (k : ℕ) (from : v.from ≡ k) (to : v.to ≡ k + 1) where
+  abbrev P : ℕ
+  P = job.workers
+
+  pub looks_at_root : (i : ℕ) → v.workers ≡ P → i ≡ node_at P 0 → 0 < job.plan.count → Steps job room slots id (v, xs) i (λ y. y) (looked_at_root (step slots i 0 0 none) (v, xs)) (Stays)
+  looks_at_root i sized is any t o wide me fits =
+      let word = get_or t.words i 0 in
+      let at = ap (λ (j : ℕ). get_or t.words j 0) is ∙ o.words.progress 0 any in elim (cases_eq (word % 4) 3) [
+        | inl e ↦ (
+          seeing_done v,
+          keeps,
+          tt,
+          looked job room t o id k i v (seeing_done v) me from to from to refl refl (λ h. inl h)
+              (λ m. record {
+                sits = m.sits;
+                task = m.task;
+                call = m.call;
+                posted = m.posted;
+                entries = m.entries;
+                hold = m.hold;
+                new = m.new;
+                done = λ _. done_word (o.state.node 0) (ap (λ (y : ℕ). y % 4) (sym at) ∙ e);
+                seen = m.seen;
+                since = record { most = m.since.most; early = m.since.early; late = m.since.late; placed = m.since.placed; waits = m.since.waits };
+              }),
+          ((λ _. refl), (λ ne. absurd (ne e)), omega (arith, is, sized)),
+        )
+        | inr ne ↦ (seeing_undone v word, keeps, tt, looked job room t o id k i v (seeing_undone v word) me from to from to refl refl (λ h. inl h) (λ m. again job o.state (get_elem? t.homes k) (o.seat k) id v _ k record { task = refl; call = refl; posted = refl; left = refl; enrolled = refl; saw_done = refl; greatest = refl; before = refl; after = refl; book_seen = refl } refl m), ((λ e. absurd (ne e)), (λ _. refl), omega (arith, is, sized)))
+      ]
+
+  hears_since : (t : St) (o : Shows job room t) (n : ℕ) → n ≡ length o.state.book → SinceKnown job o.state v k → SinceKnown job o.state (hearing v n) k
+  hears_since t o n is m = record {
+    most = let a = m.most in omega arith;
+    early = let a = m.early in omega arith;
+    late = λ since told. elim (told_least v.after n since (λ c e. let a = m.late c e in let b = m.most in omega arith) told) [ inl e ↦ let a = m.late since e in omega arith | inr e ↦ let a = e.1 in omega arith ];
+    placed = m.placed;
+    waits = λ since told out. elim (told_least v.after n since (λ c e. let a = m.late c e in let b = m.most in omega arith) told) [
+      | inl e ↦ m.waits since e out
+      | inr e ↦ subst (λ (y : ℕ). WaitsSince job o.state k y) (sym (e.1 ∙ is)) (laws.now o.state k o.parts (is_trapped job o.state k o.parts out))
+    ];
+  }
+
+  pub hears : v.workers ≡ P → Steps job room slots id (v, xs) (count_at P) (λ y. y) (heard (step slots (count_at P) 0 0 none) (v, xs)) (Stays)
+  hears sized t o wide me fits =
+      let word = get_or t.words (count_at P) 0 in (
+        hearing v word,
+        keeps,
+        tt,
+        looked job room t o id k (count_at P) v (hearing v word) me from to from to refl refl (λ h. inl h)
+            (λ m. record { sits = m.sits; task = m.task; call = m.call; posted = m.posted; entries = m.entries; hold = m.hold; new = m.new; done = m.done; seen = m.seen; since = hears_since t o word o.words.batches m.since }),
+        (refl, ap count_at (sym sized)),
+      )
+
+  -- a claim past the last node: a status is at most 3, so the exchange, which wants at least 4, is refused
+  pub strays : (n : ℕ) → v.nodes ≤ n → 0 < P → Steps job room slots id (v, xs) 0 (λ y. either (eqb y (4 + n)) 0 y) (strayed (step slots 0 (4 + n) 0 none) (v, xs)) (Stays)
+  strays n far any t o wide me fits =
+      let word = get_or t.words 0 0 in
+      let few = few_status (o.state.status 0) in
+      let at = o.words.statuses 0 any in
+      exchanged word (4 + n) 0 (λ y. (w : View) × (a : Act Slot) × Valid t.homes xs a × ShowsOne job room (Stays o.state word) (stepped t 0 y id xs w a) × strayed (step slots 0 (4 + n) 0 none) (v, xs) word (w, carried_after xs a))
+      (λ e. absurd (omega (arith, few, at, e)))
+      (λ ne. (
+        refusing v n word,
+        keeps,
+        tt,
+        looked job room t o id k 0 v (refusing v n word) me from to from to refl refl (λ h. inl h)
+            (λ m. again job o.state (get_elem? t.homes k) (o.seat k) id v _ k record { task = refl; call = refl; posted = refl; left = refl; enrolled = refl; saw_done = refl; greatest = refl; before = refl; after = refl; book_seen = refl } refl m),
+        (n, refl, refl, far),
+      ))
+
+  -- the stop word is set
+  pub stops : v.workers ≡ P → Steps job room slots id (v, xs) (stop_at P) (λ y. 1) (λ y. stopped_all (step slots (stop_at P) 1 0 none) (v, xs) 1) (Stays)
+  stops sized t o wide me fits =
+      let s = o.state in (
+        stopping v,
+        keeps,
+        tt,
+        renewed job room t o id k v (stopping v) (set t.words (stop_at P) 1) me from to from to refl
+            (stop_set t.views id v (stopping v) (get_or t.words (stop_at P) 0) (get_or (set t.words (stop_at P) 1) (stop_at P) 0) (at_below t.views id v me) me (get_or-set_same t.words (stop_at P) 1 0 (omega (arith, o.words.wide))) (omega arith) o.stop)
+            (set_stop P job.plan.count t.words s.node s.mark s.value s.status s.hold s.tick (length s.book) o.words 1)
+            (λ m. again job o.state (get_elem? t.homes k) (o.seat k) id v _ k record { task = refl; call = refl; posted = refl; left = refl; enrolled = refl; saw_done = refl; greatest = refl; before = refl; after = refl; book_seen = refl } refl m),
+        (refl, ap stop_at (sym sized), refl),
+      )
+
+  -- and looked at
+  pub looks_at_stop : v.workers ≡ P → Steps job room slots id (v, xs) (stop_at P) (λ y. y) (looked_at_stop (step slots (stop_at P) 0 0 none) (v, xs)) (Stays)
+  looks_at_stop sized t o wide me fits = elim (cases_eq (get_or t.words (stop_at P) 0) 1) [
+    | inl e ↦ (finding_stop v, keeps, tt, looked job room t o id k (stop_at P) v (finding_stop v) me from to from to refl refl (λ _. inr e) (λ m. again job o.state (get_elem? t.homes k) (o.seat k) id v _ k record { task = refl; call = refl; posted = refl; left = refl; enrolled = refl; saw_done = refl; greatest = refl; before = refl; after = refl; book_seen = refl } refl m), ((λ _. refl), (λ ne. absurd (ne e)), ap stop_at (sym sized)))
+    | inr ne ↦ (finding_none v (get_or t.words (stop_at P) 0), keeps, tt, looked job room t o id k (stop_at P) v (finding_none v (get_or t.words (stop_at P) 0)) me from to from to refl refl (λ h. inl h) (λ m. again job o.state (get_elem? t.homes k) (o.seat k) id v _ k record { task = refl; call = refl; posted = refl; left = refl; enrolled = refl; saw_done = refl; greatest = refl; before = refl; after = refl; book_seen = refl } refl m), ((λ e. absurd (ne e)), (λ _. refl), ap stop_at (sym sized)))
+  ]

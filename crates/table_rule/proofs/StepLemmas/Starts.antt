@@ -1,0 +1,306 @@
+-- The opening table, splitting the first seat into passes, and enrolling a pass.
+use Rattle.std.proofs.Common.{ℕ, zero, suc, ◌≡◌, ◌≢◌, ◌<◌, ◌≤◌, ◌+◌, ◌⊎◌, false, Option as Maybe, None, List, [], ◌∷◌, ◌++◌, map, length, replicate, get_or, set, arith, refl, sym, ap, ◌∙◌, subst, inl, inr, ⊎_elim, length-set, length-append, get_or-set_other}
+use Rattle.std.proofs.lemmas.List.{length-map, length-replicate}
+use Rattle.std.proofs.lemmas.Bool.{cases_eq}
+use mathlib.Core.Option.{none, some, some-injective, some-ne-none}
+use lib.ListN.{get_elem?}
+use lib.Seq.{set-get_or}
+use Rattle.atomic_table.specs.Table.{step, takes, Allows, Splits, opening}
+use Rattle.atomic_table.proofs.Lists.{at_set, set_here, set_else, at_longer, at_last}
+use Rattle.core_model.specs.declared.progress.Progress.TheVariants.{Waiting, Ready}
+use Rattle.core_model.specs.declared.status.Status.{Status}
+use Rattle.core_model.specs.declared.status.Status.TheVariants.{Free}
+use Rattle.core_model.specs.State.{put, CoreJob, Hold, opening_state}
+use Rattle.table_rule.specs.declared.view.View.{View}
+use Rattle.table_rule.specs.declared.slot.Slot.{Slot}
+use Rattle.table_rule.specs.declared.slot.Slot.TheVariants as Slots
+use Rattle.table_rule.specs.Words.{node_at, WordsShow}
+use Rattle.table_rule.specs.Laws.{Laws}
+use Rattle.batch_history.specs.declared.batch.Entry.{Entry}
+use Rattle.batch_history.specs.Reserved.{ReservedView}
+use Rattle.core_model.specs.Words.{Tree}
+use Rattle.core_model.specs.State.{opening_core}
+use Rattle.core_model.specs.Runs.{Step}
+use Rattle.table_rule.specs.Words.{stop_at}
+use Rattle.table_rule.proofs.TableLemmas.Traces.{agree_still, stop_still, stop_cut}
+use Rattle.table_rule.specs.Shows.{reserved, Home, RecordAt, Mine, HasSeat, EventsAgree, StopShows, Shows}
+use Rattle.table_rule.specs.Views.{newcomer}
+use Rattle.table_rule.specs.Plays.{enrolled}
+use Rattle.table_rule.specs.Views.{enrolling, pass_of, rest_of}
+use Rattle.table_rule.proofs.TableLemmas.Words.{put_at, put_other, set_node}
+use Rattle.table_rule.proofs.TableLemmas.Facts.{is_free}
+use Rattle.table_rule.proofs.TableLemmas.Moved.{mine_of, at_below, seat_stays}
+use Rattle.table_rule.proofs.TableLemmas.Through.{SameTold, told_again, reseat}
+
+at_snoc_at : {A : Type 0} (l : List A) (a b : A) (j : ℕ) → get_elem? (l ++ a ∷ []) j ≡ some b → (get_elem? l j ≡ some b) ⊎ ((a ≡ b) × (j ≡ length l))
+at_snoc_at [] a b zero e = inr (some-injective a b e, refl)
+at_snoc_at [] a b (suc j) e = absurd (some-ne-none b (sym e))
+at_snoc_at (x ∷ xs) a b zero e = inl e
+at_snoc_at (x ∷ xs) a b (suc j) e = ⊎_elim (λ t. inl t) (λ t. inr (t.0, (let h = t.1 in omega arith))) (at_snoc_at xs a b j e)
+
+told_cut : (v : View) (a b : ℕ) → SameTold v (record v { from = a; to = b })
+told_cut v a b = record { task = refl; call = refl; posted = refl; left = refl; enrolled = refl; saw_done = refl; greatest = refl; before = refl; after = refl; book_seen = refl }
+
+-- after a split every worker is in the range of a seat: the pass's worker in the new one's, the others in the old
+seat_cut : (views : List View) (id x : ℕ) (seat : ℕ → ℕ) (v : View) → get_elem? views id ≡ some v → HasSeat views (seat x) x
+    → HasSeat (set views id (rest_of v) ++ pass_of v ∷ []) (put seat v.from (length views) x) x
+seat_cut views id x seat v me h =
+    let cut = set views id (rest_of v) in
+    let rest = pass_of v ∷ [] in elim (cases_eq x v.from) [
+      | inl e ↦ (
+        pass_of v,
+        ap (λ (j : ℕ). get_elem? (cut ++ rest) j) (put_at seat v.from x (length views) e) ∙ at_last cut (pass_of v) (length views) (length-set views id (rest_of v)),
+        omega arith,
+        omega arith,
+      )
+      | inr ne ↦ elim (cases_eq (seat x) id) [
+        | inl e ↦
+            let same : h.0 ≡ v = some-injective _ _ (sym h.1 ∙ (ap (λ (j : ℕ). get_elem? views j) e ∙ me)) in
+            let low : v.from ≤ x = subst (λ (y : View). y.from ≤ x) same h.2 in
+            let high : x < v.to = subst (λ (y : View). x < y.to) same h.3 in (
+              rest_of v,
+              ap (λ (j : ℕ). get_elem? (cut ++ rest) j) (put_other seat v.from x (length views) ne ∙ e) ∙ at_longer cut rest id (rest_of v) (set_here views id (rest_of v) (at_below views id v me)),
+              omega arith,
+              high,
+            )
+        | inr other ↦ (
+          h.0,
+          ap (λ (j : ℕ). get_elem? (cut ++ rest) j) (put_other seat v.from x (length views) ne) ∙ at_longer cut rest (seat x) h.0 (set_else views id (seat x) (rest_of v) other ∙ h.1),
+          h.2,
+          h.3,
+        )
+      ]
+    ]
+
+-- the events are those of each half
+agree_cut : (views : List View) (id : ℕ) (v : View) (steps : List Step) → get_elem? views id ≡ some v → v.from < v.to → EventsAgree views steps → EventsAgree (set views id (rest_of v) ++ pass_of v ∷ []) steps
+agree_cut views id v steps me some_left old i u x e lo hi = ⊎_elim
+    (λ q. ⊎_elim
+    (λ r.
+    let lo' : v.from + 1 ≤ x = subst (λ (y : View). y.from ≤ x) (sym r.1) lo in
+    let hi' : x < v.to = subst (λ (y : View). x < y.to) (sym r.1) hi in
+    old id v x me (omega arith) hi' ∙ ap (λ (y : View). y.events) r.1)
+    (λ r. old i u x r.1 lo hi)
+    (at_set views id i (rest_of v) u q))
+    (λ q.
+    let lo' : v.from ≤ x = subst (λ (y : View). y.from ≤ x) (sym q.0) lo in
+    let hi' : x < v.from + 1 = subst (λ (y : View). x < y.to) (sym q.0) hi in
+    old id v x me lo' (omega arith) ∙ ap (λ (y : View). y.events) q.0)
+    (at_snoc_at (set views id (rest_of v)) (pass_of v) u i e)
+
+-- and so are its sets of the stop word
+stop_both : (views : List View) (id : ℕ) (v : View) (word : ℕ) → get_elem? views id ≡ some v → StopShows word views → StopShows word (set views id (rest_of v) ++ pass_of v ∷ [])
+stop_both views id v word me =
+    stop_cut views id v (rest_of v) (pass_of v) word
+    (λ i u e. ⊎_elim
+    (λ q. ⊎_elim
+    (λ r. (id, v, me, ap (λ (y : View). y.stops) (sym r.1), ap (λ (y : View). y.stops_found) (sym r.1)))
+    (λ r. (i, u, r.1, refl, refl))
+    (at_set views id i (rest_of v) u q))
+    (λ q. (id, v, me, ap (λ (y : View). y.stops) (sym q.0), ap (λ (y : View). y.stops_found) (sym q.0)))
+    (at_snoc_at (set views id (rest_of v)) (pass_of v) u i e))
+    (λ i u e. elim (cases_eq i id) [
+      | inl is ↦
+          let same : u ≡ v = some-injective _ _ (sym e ∙ (ap (λ (j : ℕ). get_elem? views j) is ∙ me)) in
+          (id, rest_of v, at_longer (set views id (rest_of v)) (pass_of v ∷ []) id (rest_of v) (set_here views id (rest_of v) (at_below views id v me)), ap (λ (y : View). y.stops) (sym same))
+      | inr ne ↦ (i, u, at_longer (set views id (rest_of v)) (pass_of v ∷ []) i u (set_else views id i (rest_of v) ne ∙ e), refl)
+    ])
+
+-- a pass is split off
+pub cuts : (job : CoreJob) (room id : ℕ) (v : View) → v.from < v.to → Splits (Shows job room) id v (rest_of v) (pass_of v)
+cuts job room id v some_left t o me =
+    let z = length t.views in
+    let seat : ℕ → ℕ = put o.seat v.from z in
+    let here = o.views id v v.from me (omega arith) some_left in record {
+      state = o.state;
+      seat = seat;
+      parts = o.parts;
+      words = o.words;
+      slots = o.slots;
+      views = λ i u x e lo hi. ⊎_elim
+          (λ q. ⊎_elim
+          (λ r.
+          let lo' : v.from + 1 ≤ x = subst (λ (y : View). y.from ≤ x) (sym r.1) lo in
+          let hi' : x < v.to = subst (λ (y : View). x < y.to) (sym r.1) hi in
+          let was = o.views id v x me (omega arith) hi' in (
+            was.0,
+            subst (λ (y : View). Mine job o.state (get_elem? t.homes x) (seat x) i y x) r.1
+                (reseat job o.state (get_elem? t.homes x) (o.seat x) (seat x) id i v (rest_of v) x (put_other o.seat v.from x z (λ h. omega arith) ∙ (was.1.sits ∙ sym r.0)) (told_cut v (v.from + 1) v.to) refl was.1),
+          ))
+          (λ r.
+          let was = o.views i u x r.1 lo hi in
+          (was.0, reseat job o.state (get_elem? t.homes x) (o.seat x) (seat x) i i u u x (put_other o.seat v.from x z (λ h. r.0 (sym was.1.sits ∙ (ap o.seat h ∙ here.1.sits))) ∙ was.1.sits) (told_again u) refl was.1))
+          (at_set t.views id i (rest_of v) u q))
+          (λ q.
+          let lo' : v.from ≤ x = subst (λ (y : View). y.from ≤ x) (sym q.0) lo in
+          let hi' : x < v.from + 1 = subst (λ (y : View). x < y.to) (sym q.0) hi in
+          let is : x ≡ v.from = omega arith in (
+            subst (λ (y : ℕ). y < job.workers) (sym is) here.0,
+            subst (λ (y : View). Mine job o.state (get_elem? t.homes x) (seat x) i y x) q.0
+                (subst (λ (y : ℕ). Mine job o.state (get_elem? t.homes y) (seat y) i (pass_of v) y) (sym is)
+                (reseat job o.state (get_elem? t.homes v.from) (o.seat v.from) (seat v.from) id i v (pass_of v) v.from
+                (put_at o.seat v.from v.from z refl ∙ (sym (length-set t.views id (rest_of v)) ∙ sym q.1)) (told_cut v v.from (v.from + 1)) refl here.1)),
+          ))
+          (at_snoc_at (set t.views id (rest_of v)) (pass_of v) u i e);
+      seats = λ x low. seat_cut t.views id x o.seat v me (o.seats x low);
+      trace = o.trace;
+      ready = o.ready;
+      reached = o.reached;
+      events = agree_cut t.views id v o.trace me some_left o.events;
+      stop = stop_both t.views id v (get_or t.words (stop_at job.workers) 0) me o.stop;
+    }
+
+-- a pass takes its own record slot
+pub enrols : (job : CoreJob) (room : ℕ) (slots id j : ℕ) (v : View) (xs : List (ℕ × Slot)) (k : ℕ) → v.from ≡ k → v.to ≡ k + 1 → v.enrolled ≡ false
+    → Allows (Shows job room) slots id (v, xs) j (λ y. y) (enrolled (step slots j 0 0 none) (v, xs))
+enrols job room slots id j v xs k from to fresh t o wide me fits =
+    let s = o.state in
+    let m = mine_of job room t o id k v me from to in
+    let new = m.1.new fresh in
+    let free : s.status k ≡ Free = is_free job s k o.parts (rw (m.1.call, new.2) (λ e. cc)) in
+    let w : View = enrolling v in
+    let homes = set t.homes k none in (
+      w,
+      takes k Slots.Vacant,
+      new.0,
+      subst (λ (ws : List ℕ). Shows job room record { words = ws; homes = homes; views = set t.views id w }) (sym (set-get_or t.words j 0)) record {
+        state = s;
+        seat = o.seat;
+        parts = o.parts;
+        words = o.words;
+        slots = record {
+          wide = length-set t.homes k none ∙ o.slots.wide;
+          records = λ u low. elim (cases_eq u k) [
+            | inl e ↦ subst (λ (y : ℕ). RecordAt job s.book (s.task y) (s.status y) (get_elem? homes y)) (sym e) (subst (λ (st : Status). RecordAt job s.book (s.task k) st (get_elem? homes k)) (sym free) tt)
+            | inr ne ↦ rw (set_else t.homes k u none ne) (o.slots.records u low)
+          ];
+          shop = rw (set_else t.homes k job.workers none (λ e. let a = m.0 in omega arith)) o.slots.shop;
+          batches = rw (set_else t.homes k (job.workers + 1) none (λ e. let a = m.0 in omega arith)) o.slots.batches;
+        };
+        views = λ i u x e lo hi. ⊎_elim
+            (λ q.
+            let lo' : w.from ≤ x = subst (λ (y : View). y.from ≤ x) (sym q.1) lo in
+            let hi' : x < w.to = subst (λ (y : View). x < y.to) (sym q.1) hi in
+            let is : x ≡ k = omega arith in (
+              subst (λ (y : ℕ). y < job.workers) (sym is) m.0,
+              subst (λ (y : ℕ). Mine job s (get_elem? homes y) (o.seat y) i u y) (sym is)
+                  (subst (λ (j : ℕ). Mine job s (get_elem? homes k) (o.seat k) j u k) (sym q.0) (subst (λ (y : View). Mine job s (get_elem? homes k) (o.seat k) id y k) q.1
+                  record {
+                    sits = m.1.sits;
+                    task = m.1.task;
+                    call = m.1.call;
+                    posted = m.1.posted;
+                    hold = m.1.hold;
+                    entries = m.1.entries;
+                    new = λ e. absurd (cc);
+                    done = m.1.done;
+                    seen = m.1.seen;
+                    since = record { most = m.1.since.most; early = m.1.since.early; late = m.1.since.late; placed = m.1.since.placed; waits = m.1.since.waits };
+                  })),
+            ))
+            (λ q.
+            let was = o.views i u x q.1 lo hi in
+            let ne : x ≢ k = λ is. q.0 (sym was.1.sits ∙ (ap o.seat is ∙ m.1.sits)) in
+            (was.0, subst (λ (h : Home). Mine job s h (o.seat x) i u x) (sym (set_else t.homes k x none ne)) was.1))
+            (at_set t.views id i w u e);
+        seats = λ x low. seat_stays t.views id k v w me from to from to (o.seat x) x (o.seats x low);
+        trace = o.trace;
+        ready = o.ready;
+        reached = o.reached;
+        events = agree_still t.views id k v w o.trace me from to from to refl o.events;
+        stop = stop_still t.views id v w (get_or t.words (stop_at job.workers) 0) (get_or t.words (stop_at job.workers) 0) (at_below t.views id v me) me refl refl (λ h. inl h) o.stop;
+      },
+      ap (λ (y : ℕ). (enrolling v, (y, Slots.Vacant) ∷ xs)) (sym from),
+    )
+
+zeros : (n k : ℕ) → let z : ℕ = 0 in get_or (replicate n z) k z ≡ z
+zeros zero k = refl
+zeros (suc n) zero = refl
+zeros (suc n) (suc k) = zeros n k
+
+fill : (n k : ℕ) (shop : List (List Entry)) (book : ReservedView) → k < n → get_elem? (map some (replicate n Slots.Vacant ++ Slots.Shop shop ∷ Slots.Book book ∷ [])) k ≡ some (some Slots.Vacant)
+fill zero k shop book h = absurd (omega arith)
+fill (suc n) zero shop book h = refl
+fill (suc n) (suc k) shop book h = fill n k shop book (omega arith)
+
+fill_shop : (n : ℕ) (shop : List (List Entry)) (book : ReservedView) → get_elem? (map some (replicate n Slots.Vacant ++ Slots.Shop shop ∷ Slots.Book book ∷ [])) n ≡ some (some (Slots.Shop shop))
+fill_shop zero shop book = refl
+fill_shop (suc n) shop book = fill_shop n shop book
+
+fill_book : (n : ℕ) (shop : List (List Entry)) (book : ReservedView) → get_elem? (map some (replicate n Slots.Vacant ++ Slots.Shop shop ∷ Slots.Book book ∷ [])) (suc n) ≡ some (some (Slots.Book book))
+fill_book zero shop book = refl
+fill_book (suc n) shop book = fill_book n shop book
+
+only : (u v : View) (i : ℕ) → get_elem? (v ∷ []) i ≡ some u → (0 ≡ i) × (v ≡ u)
+only u v zero e = (refl, some-injective _ _ e)
+only u v (suc i) e = absurd (some-ne-none u (sym e))
+
+blank : (P N : ℕ) → let none_held : Maybe Hold = None in WordsShow P N (replicate (P + 4 + N + N + N) 0) (λ n. Waiting) (λ n. 0) (λ n. None) (λ w. Free) none_held 0 0
+blank P N =
+    let total = P + 4 + N + N + N in record {
+      wide = length-replicate total 0;
+      statuses = λ w low. zeros total w;
+      flag = zeros total P;
+      batches = zeros total (P + 1);
+      ticks = zeros total (P + 2);
+      progress = λ n low. zeros total (P + 4 + n);
+      marks = λ n low. zeros total (P + 4 + N + n);
+      values = λ n low. tt;
+    }
+
+pub starts : (job : CoreJob) (room : ℕ) (tree : Tree) (laws : Laws job) (words : List ℕ) → words ≡ set (replicate (job.workers + 4 + job.plan.count + job.plan.count + job.plan.count) 0) (node_at job.workers 0) 1
+    → Shows job room (opening words (replicate job.workers Slots.Vacant ++ Slots.Shop [] ∷ Slots.Book (reserved [] room) ∷ []) (newcomer tree job.workers job.plan.count room))
+unfolding opening_state opening_core
+starts job room tree laws words are =
+    let shop : List (List Entry) = [] in
+    let book = reserved [] room in
+    let P = job.workers in
+    let N = job.plan.count in
+    let slots = replicate P Slots.Vacant ++ Slots.Shop shop ∷ Slots.Book book ∷ [] in record {
+      state = opening_state;
+      seat = λ w. 0;
+      parts = laws.opening;
+      words = let none_held : Maybe Hold = None in subst (λ (ws : List ℕ). WordsShow P N ws (put (λ n. Waiting) 0 Ready) (λ n. 0) (λ n. None) (λ w. Free) none_held 0 0) (sym are)
+          (set_node P N (replicate (P + 4 + N + N + N) 0) (λ n. Waiting) (λ n. 0) (λ n. None) (λ w. Free) none_held 0 0 (blank P N) 0 Ready laws.root);
+      slots = record {
+        wide = length-map slots some ∙ (length-append (replicate P Slots.Vacant) (Slots.Shop shop ∷ Slots.Book book ∷ []) ∙ ap (λ (m : ℕ). m + 2) (length-replicate P Slots.Vacant));
+        records = λ w low. tt;
+        shop = fill_shop P shop book;
+        batches = ap (λ (m : ℕ). get_elem? (map some slots) m) (omega arith) ∙ fill_book P shop book;
+      };
+      views = λ i u w e lo hi. let t = only u (newcomer tree P N room) i e in
+          let hi' : w < P = subst (λ (y : View). w < y.to) (sym t.1) hi in (
+            hi',
+            subst (λ (y : View). Mine job opening_state (get_elem? (map some slots) w) 0 i y w) t.1 record {
+              sits = t.0;
+              task = refl;
+              call = refl;
+              posted = λ f. absurd (cc);
+              hold = λ h f. absurd (cc);
+              entries = refl;
+              new = λ f. (fill P w shop book hi', refl, refl, refl);
+              done = λ f. absurd (cc);
+              seen = ([], refl);
+              since = record { most = omega arith; early = omega arith; late = λ n f. absurd (cc); placed = λ p f. absurd (cc); waits = λ n f. absurd (cc) };
+            },
+          );
+      seats = λ w low. (newcomer tree P N room, refl, omega arith, low);
+      trace = [];
+      ready = opening_core.ready;
+      reached = refl;
+      events = λ i u w e lo hi. ap (λ (y : View). y.events) (only u (newcomer tree P N room) i e).1;
+      stop = let unset : get_or words (stop_at P) 0 ≡ 0 = ap (λ (ws : List ℕ). get_or ws (stop_at P) 0) are
+          ∙ (get_or-set_other (replicate (P + 4 + N + N + N) 0) (node_at P 0) (stop_at P) 1 0 (λ e. omega arith) ∙ zeros (P + 4 + N + N + N) (stop_at P)) in record {
+            known = inl unset;
+            set = λ i u e some_stops. let same = ap (λ (y : View). y.stops) (only u (newcomer tree P N room) i e).1 in absurd (omega (arith, same, some_stops));
+            by = λ one. absurd (omega (arith, one, unset));
+            found = λ i u e some_found. let same = ap (λ (y : View). y.stops_found) (only u (newcomer tree P N room) i e).1 in absurd (omega (arith, same, some_found));
+          };
+    }
+
+pub enrols_at : (job : CoreJob) (room : ℕ) (slots id j : ℕ) (m : View × List (ℕ × Slot)) (v : View) (xs : List (ℕ × Slot)) (k : ℕ) → m ≡ (v, xs) → v.from ≡ k → v.to ≡ k + 1 → v.enrolled ≡ false
+    → Allows (Shows job room) slots id m j (λ y. y) (enrolled (step slots j 0 0 none) m)
+enrols_at job room slots id j m v xs k e from to fresh = subst (λ (m : View × List (ℕ × Slot)). Allows (Shows job room) slots id m j (λ y. y) (enrolled (step slots j 0 0 none) m)) (sym e) (enrols job room slots id j v xs k from to fresh)
+
+pub cuts_at : (job : CoreJob) (room id : ℕ) (w v : View) → w ≡ v → v.from < v.to → Splits (Shows job room) id w (rest_of w) (pass_of w)
+cuts_at job room id w v e some_left = subst (λ (w : View). Splits (Shows job room) id w (rest_of w) (pass_of w)) (sym e) (cuts job room id v some_left)

@@ -1,0 +1,13 @@
+pub mod CoreWords
+pub mod Words
+pub mod Shows
+pub mod OneState
+pub mod Views
+pub mod JobEvents
+pub mod DueTasks
+pub mod Batches
+pub mod Plays
+pub mod Steps
+pub mod Carries
+pub mod Remembers
+pub mod Laws

@@ -1,0 +1,213 @@
+-- The refinement mapping: when the words, the slots and the views of the passes of a table show a state of the core.
+use Rattle.std.specs.Prelude.{ℕ, ◌≡◌, ◌≢◌, ◌⊎◌, slice_index, ◌<◌, ◌≤◌, ◌+◌, ◌==◌, Bool, true, false, if◌then◌else◌, Option as Maybe, None, Some, List, [], ◌∷◌, ◌++◌, length, map}
+use mathlib.Core.Option.{Option, none, some}
+use lib.ListN.{get_elem?}
+use Rattle.atomic_table.specs.Table.{State as TableState}
+use Rattle.seq_objects.specs.Pairs.{AreDistinct}
+use Rattle.batch_history.specs.Book.{flat}
+use Rattle.batch_history.specs.Reserved.{ReservedView}
+use Rattle.core_model.specs.Runs.{Step, Reaches}
+use Rattle.core_model.specs.Settings.{job_of}
+use Rattle.core_model.specs.Words.{Entry, LeafNode}
+use Rattle.table_rule.specs.CoreWords.{Event, Task, Idle, Started, Status, Free, Pending, Executing, Served, CallState, NotCalled, Out, Got}
+use Rattle.core_model.specs.State.{CoreJob, Hold, State}
+use Rattle.core_model.specs.Operations.{op_of, Place}
+use Rattle.core_model.specs.Entries.{entries_of}
+use Rattle.core_model.specs.Measure.{call_count}
+use Rattle.core_model.specs.Tasks.{is_done}
+use Rattle.core_model.specs.Invariant.{Parts}
+use Rattle.core_model.specs.Waits.{WaitsSince, task_place}
+use Rattle.table_rule.specs.declared.slot.OpRecord.{OpRecord}
+use Rattle.table_rule.specs.declared.slot.Slot.{Slot}
+use Rattle.table_rule.specs.declared.slot.Slot.TheVariants as Slots
+use Rattle.table_rule.specs.declared.view.TakenCall.{TakenCall}
+use Rattle.table_rule.specs.declared.view.HoldView.{HoldView}
+use Rattle.table_rule.specs.declared.view.LeftCall.{LeftCall}
+use Rattle.table_rule.specs.declared.view.View.{View}
+use Rattle.core_model.specs.declared.setting.Setting.{Setting}
+use Rattle.table_rule.specs.Words.{stop_at, WordsShow}
+pub use Rattle.core_model.specs.Settings.{job_of}
+
+-- a table as plain data: its words, its slots and the view of each seat
+abbrev pub St : Type 0
+St = TableState Slot View
+
+-- A look-up of a slot: `none` if there is no such slot, `some none` if a pass carries it, else its value in the table.
+abbrev pub Home : Type 0
+Home = Option (Option Slot)
+
+-- the number of leaves that call, which is the number of batches that the book has room for
+abbrev pub room_of : Setting → ℕ
+room_of key = call_count (job_of key)
+
+-- the task is `Started` at the record's leaf, and the record's operation is what that leaf calls under this book
+abbrev pub IsRecordOf : CoreJob → List (List Entry) → Task → OpRecord → Type 0
+IsRecordOf job book task call =
+    (node : ℕ) × (start : ℕ) × (task ≡ Started node start) × (job.plan.kind node ≡ Some (LeafNode call.leaf))
+    × (op_of job.act book call.leaf ≡ Some call.op)
+
+-- The call may be posted: the task is `Started` at its leaf, and its operation is the leaf's under every book.
+abbrev pub IsPostDue : CoreJob → Task → OpRecord → Type 0
+IsPostDue job task call =
+    (node : ℕ) × (start : ℕ) × (task ≡ Started node start) × (job.plan.kind node ≡ Some (LeafNode call.leaf))
+    × ((book : List (List Entry)) → op_of job.act book call.leaf ≡ Some call.op)
+
+-- A worker's record slot, by its status. Pending: it is in the table, with the call. Executing: it is not in the table.
+-- Served: it is in the table, with the receipt. Free: nothing is said.
+abbrev pub RecordAt : CoreJob → List (List Entry) → Task → Status → Home → Type 0
+RecordAt job book task Free home = Unit {0}
+RecordAt job book task Pending home = (call : OpRecord) × (home ≡ some (some (Slots.Record call))) × IsRecordOf job book task call
+RecordAt job book task Executing home = home ≡ some none
+RecordAt job book task (Served receipt) home = home ≡ some (some (Slots.Receipt receipt))
+
+-- the shop is in the table, with the batches of the book, exactly while the flag is free
+abbrev pub ShopAt : Maybe Hold → List (List Entry) → Home → Type 0
+ShopAt None book home = home ≡ some (some (Slots.Shop book))
+ShopAt (Some h) book home = home ≡ some none
+
+-- a book with these batches, and room for `capacity` batches in all
+abbrev pub reserved : List (List Entry) → ℕ → ReservedView
+reserved batches capacity = record { batches = batches; capacity = capacity }
+
+abbrev pub IsBookHome : ℕ → List (List Entry) → Home → Type 0
+IsBookHome room book home = home ≡ some (some (Slots.Book (reserved book room)))
+
+abbrev pub BookIf : Bool → ℕ → List (List Entry) → Home → Type 0
+BookIf true room book home = IsBookHome room book home
+BookIf false room book home = home ≡ some none
+
+-- the book is in the table exactly while the flag is free or its hold has published
+abbrev pub BookAt : ℕ → Maybe Hold → List (List Entry) → Home → Type 0
+BookAt room None book home = IsBookHome room book home
+BookAt room (Some h) book home = BookIf h.published room book home
+
+-- The slots show these parts of a state. Their order: the workers' record slots, the shop, the book.
+pub record SlotsShow (job : CoreJob) (room : ℕ) (homes : List (Option Slot)) (task : ℕ → Task) (status : ℕ → Status)
+    (hold : Maybe Hold) (book : List (List Entry)) : Type 0 where
+  pub wide : length homes ≡ job.workers + 2
+  pub records : (w : ℕ) → w < job.workers → RecordAt job book (task w) (status w) (get_elem? homes w)
+  pub shop : ShopAt hold book (get_elem? homes job.workers)
+  pub batches : BookAt room hold book (get_elem? homes (job.workers + 1))
+
+-- whether a worker's call was taken, and which call it is
+abbrev pub took_in : List TakenCall → ℕ → Bool
+took_in [] u = false
+took_in (t ∷ taken) u = if u == t.worker then true else took_in taken u
+
+abbrev pub record_in : List TakenCall → ℕ → Maybe OpRecord
+record_in [] u = None
+record_in (t ∷ taken) u = if u == t.worker then Some t.call else record_in taken u
+
+abbrev pub among : List ℕ → ℕ → Bool
+among [] u = false
+among (x ∷ xs) u = if u == x then true else among xs u
+
+-- the core's hold, as the hold view of worker w determines it
+abbrev pub hold_of : ℕ → HoldView → Hold
+hold_of w v = record { worker = w; looks = v.looks; taken = took_in v.taken; answered = among v.answered; published = v.published }
+
+-- What the view of worker w says of the flag. Without a hold, w is not the flag's holder. With one, it determines the
+-- state's hold and book, each unanswered call is that of its worker's task, and no worker was taken twice.
+abbrev pub HoldKnown : CoreJob → State → Maybe HoldView → ℕ → Type 0
+HoldKnown job s None w = (h : Hold) → s.hold ≡ Some h → h.worker ≢ w
+HoldKnown job s (Some v) w =
+    (s.hold ≡ Some (hold_of w v)) × (s.book ≡ v.book)
+    × ((u : ℕ) (call : OpRecord) → record_in v.taken u ≡ Some call → among v.answered u ≡ false → IsRecordOf job s.book (s.task u) call)
+    × AreDistinct (map (λ t. t.worker) v.taken)
+
+-- the book entry of a call that worker w has left
+abbrev pub entry_of : ℕ → LeftCall → Entry
+entry_of w call = record { leaf = call.call.leaf; worker = w; op = call.call.op; reply = call.receipt.reply }
+
+abbrev pub entry_at : Maybe Place → List Entry
+entry_at None = []
+entry_at (Some place) = place.entry ∷ []
+
+-- the entry of an outstanding call, if it has a place in the book
+abbrev pub present : CallState → Maybe Place → List Entry
+present NotCalled place = []
+present Out place = entry_at place
+present (Got receipt) place = []
+
+-- What the view of worker w says of the number of batches. `greatest` is at most the book's length, and bounds `before`
+-- and `after`. The batch of an outstanding call is not below `before`; its wait is counted from `after`.
+pub record SinceKnown (job : CoreJob) (s : State) (v : View) (w : ℕ) : Type 0 where
+  pub most : v.greatest ≤ length s.book
+  pub early : v.before ≤ v.greatest
+  pub late : (since : ℕ) → v.after ≡ Some since → since ≤ v.greatest
+  pub placed : (place : Place) → s.call w ≡ Out → task_place job s.book (s.task w) ≡ Some place → v.before ≤ place.batch
+  pub waits : (since : ℕ) → v.after ≡ Some since → s.call w ≡ Out → WaitsSince job s w since
+
+-- xs is a prefix of ys
+abbrev pub IsFront : {A : Type 0} → List A → List A → Type 0
+IsFront {A} xs ys = (more : List A) × (ys ≡ xs ++ more)
+
+-- What view v of seat `id` says of worker w, whose record slot is `home`. By `sits`, `id` is the one seat of the worker
+-- (`seat`).
+pub record Mine (job : CoreJob) (s : State) (home : Home) (seat id : ℕ) (v : View) (w : ℕ) : Type 0 where
+  pub sits : seat ≡ id
+  -- the state's task and call of the worker are those of the view
+  pub task : s.task w ≡ v.task
+  pub call : s.call w ≡ v.call
+  -- an outstanding call is the one that the pass posted last
+  pub posted : s.call w ≡ Out → (call : OpRecord) × (v.posted ≡ Some call) × IsRecordOf job s.book (s.task w) call
+  pub hold : HoldKnown job s v.hold w
+  -- the worker's entries in the book: those of the calls that the pass has left, in order, then that of its
+  -- outstanding call, if the book has it
+  pub entries : entries_of w (flat s.book) ≡ map (entry_of w) v.left ++ present (s.call w) (task_place job s.book (s.task w))
+  -- A worker whose pass has not enrolled is idle and has neither call nor left calls. Its record slot is vacant, in
+  -- the table.
+  pub new : v.enrolled ≡ false → (home ≡ some (some Slots.Vacant)) × (v.task ≡ Idle) × (v.call ≡ NotCalled) × (v.left ≡ [])
+  pub done : v.saw_done ≡ true → is_done (s.node 0) ≡ true
+  pub since : SinceKnown job s v w
+  -- the book that the pass has seen is a prefix of the book
+  pub seen : IsFront v.book_seen s.book
+
+-- worker w is in the range of this seat's view
+abbrev pub HasSeat : List View → ℕ → ℕ → Type 0
+HasSeat views seat w = (v : View) × (get_elem? views seat ≡ some v) × (v.from ≤ w) × (w < v.to)
+
+-- the events of worker w in a trace, the latest first; a trace lists its earliest step first
+abbrev pub event_if : ℕ → Step → List Event
+event_if w step = if step.worker == w then step.event ∷ [] else []
+
+abbrev pub events_by : ℕ → List Step → List Event
+events_by w [] = []
+events_by w (step ∷ steps) = events_by w steps ++ event_if w step
+
+-- The views agree with a trace: for each worker in a view's range, the view's events are the worker's events in the
+-- trace. The first seat has several workers until their passes are split off, and no events.
+abbrev pub EventsAgree : List View → List Step → Type 0
+EventsAgree views steps =
+    (id : ℕ) (v : View) (w : ℕ) → get_elem? views id ≡ some v → v.from ≤ w → w < v.to → events_by w steps ≡ v.events
+
+-- The stop word is 0 or 1. It is 1 exactly if some pass has set it, and it is 1 if any look has ever found it set.
+pub record StopShows (word : ℕ) (views : List View) : Type 0 where
+  pub known : (word ≡ 0) ⊎ (word ≡ 1)
+  pub set : (id : ℕ) (v : View) → get_elem? views id ≡ some v → 0 < v.stops → word ≡ 1
+  pub by : word ≡ 1 → (id : ℕ) × (v : View) × (get_elem? views id ≡ some v) × (0 < v.stops)
+  pub found : (id : ℕ) (v : View) → get_elem? views id ≡ some v → 0 < v.stops_found → word ≡ 1
+
+-- The table shows a state that has the eight parts of the invariant. Each worker is in the range of exactly one seat;
+-- the first seat has all workers not yet split off. A trace leads from the opening state to the state, and each
+-- worker's events in it are those in the view of its seat.
+pub record Shows (job : CoreJob) (room : ℕ) (t : St) : Type 0 where
+  pub state : State
+  -- the seat of each worker
+  pub seat : ℕ → ℕ
+  pub parts : Parts job state
+  pub words : WordsShow job.workers job.plan.count t.words state.node state.mark state.value state.status state.hold state.tick (length state.book)
+  pub slots : SlotsShow job room t.homes state.task state.status state.hold state.book
+  pub views : (id : ℕ) (v : View) (w : ℕ) → get_elem? t.views id ≡ some v → v.from ≤ w → w < v.to
+      → (w < job.workers) × Mine job state (get_elem? t.homes w) (seat w) id v w
+  pub seats : (w : ℕ) → w < job.workers → HasSeat t.views (seat w) w
+  pub trace : List Step
+  -- the ready list of each worker after the trace; it is in the model only, for a table has no deques
+  pub ready : ℕ → List ℕ
+  pub reached : Reaches job trace (record { state = state; ready = ready })
+  pub events : EventsAgree t.views trace
+  pub stop : StopShows (slice_index t.words (stop_at job.workers)) t.views
+
+-- the rule of the table: `atomic_table` keeps it between any two steps
+abbrev pub Shown : Setting → St → Type 0
+Shown key = Shows (job_of key) (room_of key)

@@ -1,0 +1,57 @@
+-- What a step makes of the state that the table shows: the form of the refinement statements in `Calls.antt`.
+use Rattle.std.specs.Prelude.{ℕ, ◌≡◌, ◌≢◌, ◌<◌, length, slice_index}
+use mathlib.Core.Option.{some}
+use lib.ListN.{get_elem?}
+use Rattle.atomic_table.specs.Table.{Act, Valid, carried_after, stepped}
+use Rattle.core_model.specs.State.{CoreJob, State}
+use Rattle.core_model.specs.Events.{Happens}
+use Rattle.table_rule.specs.CoreWords.{Event, Start, End, Leave, Receipt, Task, Idle, Run, Half, Started, Kept, Ended, Whole, Handed}
+use Rattle.table_rule.specs.declared.slot.Slot.{Slot}
+use Rattle.table_rule.specs.declared.view.View.{View}
+use Rattle.table_rule.specs.Shows.{St, Shows}
+use Rattle.table_rule.specs.Plays.{Sat}
+
+-- the table shows a state that satisfies `Is`
+abbrev pub ShowsOne : CoreJob → ℕ → (State → Type 0) → St → Type 0
+ShowsOne job room Is t = (shown : Shows job room t) × Is shown.state
+
+-- For any table that shows a state before word i becomes f of itself, there are a new view and a valid act on the slots
+-- such that `tells` holds of the seat after the step, and the table then shows a state that `Makes` allows.
+abbrev pub Steps : CoreJob → ℕ → ℕ → ℕ → Sat → ℕ → (ℕ → ℕ) → (ℕ → Sat → Type 0) → (State → ℕ → State → Type 0) → Type 0
+Steps job room slots id me i f tells Makes =
+    (t : St) (before : Shows job room t) → length t.homes ≡ slots → get_elem? t.views id ≡ some me.0
+    → slice_index t.words i < 18446744073709551616
+    → (w : View) × (a : Act Slot) × Valid t.homes me.1 a
+    × ShowsOne job room (Makes before.state (slice_index t.words i)) (stepped t i (f (slice_index t.words i)) id me.1 w a)
+    × tells (slice_index t.words i) (w, carried_after me.1 a)
+
+-- a try: it makes `Makes` if it finds the wanted number, else it is a stutter
+abbrev pub TryMakes : ℕ → (State → State → Type 0) → State → ℕ → State → Type 0
+TryMakes wanted Makes before found after = (found ≡ wanted → Makes before after) × (found ≢ wanted → after ≡ before)
+
+-- an arrival: `First` if the mark found is 0, else `Second`
+abbrev pub ArrivalMakes : (State → State → Type 0) → (State → State → Type 0) → State → ℕ → State → Type 0
+ArrivalMakes First Second before found after = (found ≡ 0 → First before after) × (found ≢ 0 → Second before after)
+
+-- the step is this event of worker k
+abbrev pub Makes : CoreJob → ℕ → Event → State → State → Type 0
+Makes job k event before after = Happens job before k event after
+
+-- a stutter: the state shown stays
+abbrev pub Stays : State → ℕ → State → Type 0
+Stays before found after = after ≡ before
+
+-- the draw of a tick: the task's leaf starts or ends
+abbrev pub DrawMakes : CoreJob → ℕ → Task → State → State → Type 0
+DrawMakes job k Idle before after = ⊥
+DrawMakes job k (Run n) before after = Happens job before k (Start n) after
+DrawMakes job k (Half n) before after = ⊥
+DrawMakes job k (Started n start) before after = ⊥
+DrawMakes job k (Kept n start) before after = Happens job before k (End n start) after
+DrawMakes job k (Ended n start end) before after = ⊥
+DrawMakes job k (Whole n) before after = ⊥
+DrawMakes job k (Handed n) before after = ⊥
+
+-- the step is worker k's `Leave` with some receipt
+abbrev pub LeaveMakes : CoreJob → ℕ → State → State → Type 0
+LeaveMakes job k before after = (receipt : Receipt) × Happens job before k (Leave receipt) after

@@ -1,0 +1,64 @@
+-- The layout of a table's words, and how each word encodes its part of the state.
+use Rattle.std.specs.Prelude.{ℕ, ◌≡◌, ◌<◌, ◌+◌, ◌*◌, Option, None, Some, List, length, slice_index}
+use Rattle.table_rule.specs.CoreWords.{Progress, Waiting, Ready, Taken, Done, Ran, Status, Free, Pending, Executing, Served}
+use Rattle.core_model.specs.State.{Hold}
+
+-- The layout: the workers' statuses, the flag, the number of batches, the tick, the stop word, then three blocks with a
+-- word for each node: its progress, its join mark (the number of sides that have arrived), and its value.
+abbrev pub flag_at : ℕ → ℕ
+flag_at workers = workers
+
+abbrev pub count_at : ℕ → ℕ
+count_at workers = workers + 1
+
+abbrev pub tick_at : ℕ → ℕ
+tick_at workers = workers + 2
+
+abbrev pub stop_at : ℕ → ℕ
+stop_at workers = workers + 3
+
+abbrev pub node_at : ℕ → ℕ → ℕ
+node_at workers n = workers + 4 + n
+
+abbrev pub mark_at : ℕ → ℕ → ℕ → ℕ
+mark_at workers nodes n = workers + 4 + nodes + n
+
+abbrev pub value_at : ℕ → ℕ → ℕ → ℕ
+value_at workers nodes n = workers + 4 + nodes + nodes + n
+
+-- A node's progress, from the lowest bit: 2 bits for which progress; for a leaf that has run also 5 bits for the
+-- worker, 20 for the start tick, and the rest for the end tick.
+abbrev pub progress_code : Progress → ℕ
+progress_code Waiting = 0
+progress_code Ready = 1
+progress_code Taken = 2
+progress_code Done = 3
+progress_code (Ran worker start end) = 3 + 4 * (worker + 32 * (start + 1048576 * end))
+
+abbrev pub status_code : Status → ℕ
+status_code Free = 0
+status_code Pending = 1
+status_code Executing = 2
+status_code (Served receipt) = 3
+
+-- 0 if the flag is free, else the holder's worker number plus 1
+abbrev pub flag_code : Option Hold → ℕ
+flag_code None = 0
+flag_code (Some h) = h.worker + 1
+
+-- the word is the value, if there is one
+abbrev pub HasValue : Option ℕ → ℕ → Type 0
+HasValue None word = Unit {0}
+HasValue (Some value) word = word ≡ value
+
+-- the words encode these parts of a state
+pub record WordsShow (workers nodes : ℕ) (words : List ℕ) (node : ℕ → Progress) (mark : ℕ → ℕ) (value : ℕ → Option ℕ)
+    (status : ℕ → Status) (hold : Option Hold) (tick count : ℕ) : Type 0 where
+  pub wide : length words ≡ workers + 4 + nodes + nodes + nodes
+  pub statuses : (w : ℕ) → w < workers → slice_index words w ≡ status_code (status w)
+  pub flag : slice_index words (flag_at workers) ≡ flag_code hold
+  pub batches : slice_index words (count_at workers) ≡ count
+  pub ticks : slice_index words (tick_at workers) ≡ tick
+  pub progress : (n : ℕ) → n < nodes → slice_index words (node_at workers n) ≡ progress_code (node n)
+  pub marks : (n : ℕ) → n < nodes → slice_index words (mark_at workers nodes n) ≡ mark n
+  pub values : (n : ℕ) → n < nodes → HasValue (value n) (slice_index words (value_at workers nodes n))

@@ -1,0 +1,91 @@
+//! The rule's laws: those of the core that the rule rests on, and what a table that meets the rule satisfies.
+ghost use Rattle.std.specs.Prelude.{◌≡◌, ◌<◌, ◌+◌, ◌≤◌, ℕ, List, [], length, slice_index};
+ghost use mathlib.Core.Option.{some};
+ghost use lib.ListN.{get_elem?};
+ghost use Rattle.sp_order.specs.Jobs.{job_tree};
+ghost use Rattle.sp_order.specs.Precedence.{leaves};
+ghost use Rattle.core_model.specs.declared.setting.Setting.{Setting};
+ghost use Rattle.table_rule.specs.declared.view.View.{View};
+ghost use Rattle.table_rule.specs.Laws.{IsSound, Laws};
+ghost use Rattle.table_rule.specs.Shows.{St as TableState, Shown, job_of, IsFront};
+ghost use Rattle.table_rule.specs.OneState.{AreOne};
+ghost use Rattle.table_rule.specs.Words.{stop_at};
+ghost use Rattle.core_model.specs.Entries.{StandsAt};
+ghost use Rattle.core_model.specs.State.{opening_state};
+ghost use Rattle.batch_history.specs.declared.batch.Entry.{Entry};
+
+use core_model::laws::book::{
+    calls_have_room, publish_adds_the_taken_call, receipt_is_of_the_own_entry,
+};
+use core_model::laws::invariant::{
+    event_keeps_parts, mark_before_arrival_is_below_two, moves_tell_sides, opening_has_parts,
+    tick_is_at_most_two_a_node,
+};
+use core_model::laws::report::done_root_ends_all;
+use core_model::laws::wait::{event_keeps_waits, trapped_waits_from_now};
+use sp_order::laws::{plan_has_root, plan_has_sides, plan_stands_for_tree};
+
+/// The core's laws, instantiated for a table's job.
+pub fn laws_hold()
+    ensures { (key : Setting) → (job_of key).plan.count < 40000
+        → length key.job.acts ≡ leaves (job_tree key.job)
+        → length key.job.acts ≤ 20000
+        → Laws (job_of key) }
+{
+    event_keeps_parts();
+    calls_have_room();
+    publish_adds_the_taken_call();
+    receipt_is_of_the_own_entry();
+    tick_is_at_most_two_a_node();
+    mark_before_arrival_is_below_two();
+    event_keeps_waits();
+    trapped_waits_from_now();
+    plan_stands_for_tree();
+    plan_has_root();
+    plan_has_sides();
+    moves_tell_sides();
+    opening_has_parts();
+    done_root_ends_all();
+}
+
+/// A table shows at most one state: any two states that it shows agree on everything that `AreOne` lists.
+pub fn at_most_one_state_is_shown()
+    ensures { (key : Setting) → IsSound key
+        → (t : TableState) (one two : Shown key t)
+        → AreOne (job_of key) one.state two.state }
+{
+    laws_hold();
+}
+
+/// An entry keeps its batch and place when a book grows. So a receipt's entry stands there in every book that extends
+/// the one the pass has seen.
+pub fn entries_stay_where_they_stand()
+    ensures { (front book : List (List Entry)) (batch place : ℕ) (entry : Entry)
+        → IsFront front book
+        → StandsAt front batch place entry
+        → StandsAt book batch place entry }
+{}
+
+/// A table on which every worker's seat has no events shows the opening state. So a new table does: no leaf has run
+/// on it.
+pub fn tables_without_events_show_the_opening_state()
+    ensures { (key : Setting) (t : TableState) (shown : Shown key t)
+        → ((w : ℕ) → w < key.workers → (id : ℕ) × (v : View) × (get_elem? t.views id ≡ some v)
+        × (v.from ≤ w) × (w < v.to) × (v.events ≡ []))
+        → shown.state ≡ opening_state }
+{}
+
+/// The stop word is 0 until a pass sets it, and 1 from then on. A look finds it set only if some pass has set it.
+pub fn the_stop_word_is_set_by_a_pass()
+    ensures found { (key : Setting) (t : TableState) (shown : Shown key t) (id : ℕ) (v : View)
+        → get_elem? t.views id ≡ some v
+        → 0 < v.stops_found
+        → (by : ℕ) × (u : View) × (get_elem? t.views by ≡ some u) × (0 < u.stops) }
+    ensures stays { (key : Setting) (t : TableState) (shown : Shown key t) (id : ℕ) (v : View)
+        → get_elem? t.views id ≡ some v
+        → 0 < v.stops
+        → slice_index t.words (stop_at key.workers) ≡ 1 }
+    ensures unset { (key : Setting) (t : TableState) (shown : Shown key t)
+        → ((id : ℕ) (v : View) → get_elem? t.views id ≡ some v → v.stops ≡ 0)
+        → slice_index t.words (stop_at key.workers) ≡ 0 }
+{}

@@ -1,3 +1,4 @@
 pub mod ActLemmas
+pub mod BookLemmas
 mod Few
 mod TallyLemmas

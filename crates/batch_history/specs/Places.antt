@@ -1,12 +1,7 @@
 -- The place of a leaf's entry in a book.
 use Rattle.std.specs.Prelude.{ℕ, ◌+◌, ◌==◌, if◌then◌else◌, List, [], ◌∷◌, None, Option, Some}
 use Rattle.batch_history.specs.declared.batch.Entry.{Entry}
-
--- an entry with the number of its batch and its place in that batch
-pub record Place : Type 0 where
-  pub batch : ℕ
-  pub place : ℕ
-  pub entry : Entry
+use Rattle.batch_history.specs.declared.place.Place.{Place}
 
 -- the place of a leaf's first entry in a list; the list is the batch `batch` from `place` on
 abbrev pub place_in : ℕ → ℕ → List Entry → ℕ → Option Place

@@ -9,6 +9,7 @@
 pub mod batch;
 pub mod history;
 pub mod laws;
+pub mod place;
 pub mod report;
 pub mod report_text;
 pub mod reserved;
@@ -19,6 +20,7 @@ mod words;
 
 pub use batch::{Batch, Entry};
 pub use history::History;
+pub use place::{Place, place_of};
 pub use report::Report;
 pub use report_text::text;
 pub use reserved::ReservedHistory;

@@ -4,7 +4,7 @@ use Rattle.core_model.specs.Choice.{choice}
 use Rattle.core_model.specs.Runs.{IsStep}
 use Rattle.core_model.specs.State.{CoreJob, CoreState, core_job}
 use Rattle.core_model.specs.Tasks.{is_done}
-use Rattle.core_parts.specs.WorkDue.{work_due}
+use Rattle.core_state.specs.WorkDue.{work_due}
 use Rattle.core_model.specs.declared.event.Event.{Event}
 use Rattle.core_state.specs.declared.state.State.{State as StoredState}
 use Rattle.batcher_core.specs.declared.turn.Turn.{Turn}

@@ -2,8 +2,8 @@
 //!
 //! `drive` takes turns until the root is done, and `report` makes the rows of the report; a job without leaves has its
 //! report at once (`empty`). The rules and the laws of all runs are in `core_model`, and the state and its turns in
-//! `core_state`. The crate also builds on `core_parts`, on `launch_batch`, whose shop is part of the state, and on
-//! `sp_order`, `batch_history` and `seq_objects` for nodes, books and operations.
+//! `core_state`. The crate also builds on `launch_batch`, whose shop is part of the state, and on `sp_order`,
+//! `batch_history` and `seq_objects` for nodes, books and operations.
 #![tactic(auto)]
 
 pub mod driver;

@@ -6,7 +6,7 @@ ghost use Rattle.sp_order.specs.Precedence.{leaves};
 ghost use Rattle.sp_order.specs.Preorder.{nodes_of};
 ghost use Rattle.batch_history.specs.declared.row.Row.{Row};
 ghost use Rattle.core_model.specs.declared.progress.Progress.TheVariants.{Waiting};
-ghost use Rattle.core_parts.specs.Places.{at};
+ghost use Rattle.core_state.specs.Places.{at};
 ghost use Rattle.core_model.specs.Reports.{HasRun, IsRowFor, TellsLeaf};
 
 use batch_history::Row;

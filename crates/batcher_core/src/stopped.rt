@@ -7,7 +7,7 @@ ghost use Rattle.core_model.specs.Runs.{IsTurn};
 ghost use Rattle.core_model.specs.Choice.{choice};
 ghost use Rattle.batcher_core.specs.Cores.{job_in, state_in, is_over_in};
 ghost use Rattle.core_model.specs.Measure.{measure};
-ghost use Rattle.core_parts.specs.Places.{at};
+ghost use Rattle.core_state.specs.Places.{at};
 ghost use Rattle.core_model.specs.Stopped.{NoLiveEvent, LiveDrive};
 ghost use Rattle.batcher_core.specs.LiveEnds.{IsEndOf, IsOver};
 

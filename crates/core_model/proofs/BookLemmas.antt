@@ -1,5 +1,3 @@
-pub mod EntryLists
-pub mod Books
 pub mod CallsIn
 pub mod LeavesIn
 pub mod Room

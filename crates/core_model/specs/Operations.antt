@@ -1,11 +1,12 @@
 -- Calling leaves, their operations, the places of their entries, and their receipts.
 use Rattle.batch_history.specs.Operations.{op_in}
-use Rattle.batch_history.specs.Places.{Place}
+use Rattle.batch_history.specs.declared.place.Place.{Place}
 use Rattle.core_model.specs.Words.{Receipt, Kind, LeafNode, ParNode, SeqNode}
 use Rattle.core_model.specs.State.{CoreJob}
 use Rattle.std.specs.Prelude.{None, Option, Some, ℕ, ◌≡◌, ◌≢◌}
 pub use Rattle.batch_history.specs.Operations.{op_in, op_of}
-pub use Rattle.batch_history.specs.Places.{Place, place_in, or_else, place_from}
+pub use Rattle.batch_history.specs.declared.place.Place.{Place}
+pub use Rattle.batch_history.specs.Places.{place_in, or_else, place_from}
 unfoldable pub use Rattle.batch_history.specs.Places.{place_of}
 
 -- the number of the leaf at a node, 0 if it is no leaf

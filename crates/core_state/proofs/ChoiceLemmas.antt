@@ -1,3 +1,4 @@
+pub mod Ends
 pub mod ClaimEnds
 pub mod Steals
 pub mod Allowed

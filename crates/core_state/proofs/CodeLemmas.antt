@@ -1,2 +1,5 @@
+pub mod Copies
+pub mod Written
+pub mod NonEmpty
 pub mod KeptParts
 pub mod CoreFits

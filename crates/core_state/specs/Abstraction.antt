@@ -1,9 +1,9 @@
 -- The refinement mapping: the model's state that a stored state represents.
-use Rattle.core_parts.specs.Holds.{hold_view}
-use Rattle.core_parts.specs.Places.{at}
+use Rattle.core_state.specs.Holds.{hold_view}
+use Rattle.core_state.specs.Places.{at}
 use Rattle.core_model.specs.State.{CoreState, Hold, State}
 use Rattle.core_state.specs.declared.state.State.{State as StoredState}
-use Rattle.core_parts.specs.declared.hold.Hold.{Hold as StoredHold}
+use Rattle.core_state.specs.declared.hold.Hold.{Hold as StoredHold}
 use Rattle.core_model.specs.declared.progress.Progress.TheVariants.{Waiting}
 use Rattle.core_model.specs.declared.status.CallState.TheVariants.{NotCalled}
 use Rattle.core_model.specs.declared.status.Status.TheVariants.{Free}

@@ -1,5 +1,6 @@
--- Definitions that only code and proofs cite, here and in the core above: the invariant of a stored state, and what a
--- turn looks up.
+-- Definitions that only code and proofs cite, here and in the core above: the stored ready lists, the invariant of a
+-- stored state, and what a turn looks up.
+pub mod ReadyLists
 pub mod Sizes
 pub mod Gate
 pub mod Lookups

@@ -3,7 +3,7 @@ use Rattle.core_model.specs.Choice.{leaf_named}
 use Rattle.core_model.specs.State.{CoreJob, State}
 use Rattle.core_model.specs.Tasks.{names}
 use Rattle.core_model.specs.Words.{Nodes}
-use Rattle.core_parts.specs.Words.{CallState, Got, NotCalled, Out, Status, Executing, Free, Pending, Served, Task, Ended, Half, Handed, Idle, Kept, Run, Started, Whole}
+use Rattle.core_state.specs.Words.{CallState, Got, NotCalled, Out, Status, Executing, Free, Pending, Served, Task, Ended, Half, Handed, Idle, Kept, Run, Started, Whole}
 use Rattle.core_state.specs.declared.doing.Doing.{Doing}
 use Rattle.core_state.specs.declared.doing.Doing.TheVariants as doings
 use Rattle.std.specs.Prelude.{ℕ}

@@ -8,9 +8,9 @@ ghost use Rattle.core_state.specs.Code.Lookups.{CanChoose, IsWorkOf};
 mod gate;
 mod job;
 
+use crate::chosen::{of_half, of_handed, of_run, of_started};
 use crate::state::State;
 use core_model::{Event, Setting, Status, Task};
-use core_parts::chosen::{of_half, of_handed, of_run, of_started};
 
 impl State {
     /// The event, by task, of a worker whose status is `Free`. `work` is the value of the work that is due, if it was

@@ -2,7 +2,7 @@
 use Rattle.std.proofs.Common.{ℕ, ◌≡◌, ◌<◌, Some, None, List, refl, ◌∙◌}
 use Rattle.sp_order.specs.Jobs.{JobValue, job_tree}
 use Rattle.core_model.proofs.Words.{core_job}
-use Rattle.core_parts.specs.Words.{Event}
+use Rattle.core_state.specs.Words.{Event}
 use Rattle.sp_order.specs.Preorder.{nodes_of}
 use Rattle.core_state.specs.declared.state.State.{State as StoredState}
 use Rattle.batcher_core.specs.declared.turn.Turn.TheVariants.{Moved, Idle}

@@ -3,8 +3,8 @@ use Rattle.std.proofs.Common.{ℕ, zero, suc, ◌≡◌, ◌<◌, ◌+◌, Optio
 use Rattle.std.proofs.lemmas.List.{get_or_past}
 use Rattle.std.proofs.lemmas.Bool.{cases_lt}
 use Rattle.batch_history.specs.declared.row.Row.{Row}
-use Rattle.core_parts.specs.Words.{Progress, Waiting}
-use Rattle.core_parts.specs.Places.{at}
+use Rattle.core_state.specs.Words.{Progress, Waiting}
+use Rattle.core_state.specs.Places.{at}
 use Rattle.core_model.specs.Reports.{HasRun, IsRowFor, TellsLeaf}
 use Rattle.core_model.proofs.ReportLemmas.RowLists.{AreRowsOf}
 

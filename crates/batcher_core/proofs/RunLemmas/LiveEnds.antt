@@ -2,7 +2,7 @@
 use Rattle.std.proofs.Common.{ℕ, zero, suc, ◌≡◌, ◌<◌, Bool, true, false, List, [], ◌∷◌, length, Contains, get_or, arith, sym, ◌∙◌}
 use Rattle.core_model.proofs.Words.{is_done}
 use Rattle.batcher_core.specs.Cores.{CoreView, state_in, is_over_in}
-use Rattle.core_parts.specs.Places.{at}
+use Rattle.core_state.specs.Places.{at}
 use Rattle.batcher_core.proofs.RunLemmas.Taken.{goes_on}
 
 -- a worker that is live

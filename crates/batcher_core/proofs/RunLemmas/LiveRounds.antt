@@ -4,7 +4,7 @@ use Rattle.std.specs.Option.{is_some}
 use Rattle.std.proofs.lemmas.Bool.{cases_eq}
 use Rattle.std.proofs.Math.Nat.{add-mod_right, mod-eq_of_lt}
 use Rattle.core_model.proofs.Words.{IsPlan, CoreJob, CoreState, is_done}
-use Rattle.core_parts.specs.Words.{Event}
+use Rattle.core_state.specs.Words.{Event}
 use Rattle.core_model.specs.Choice.{choice}
 use Rattle.core_state.specs.Code.Representation.{RepInvariant}
 use Rattle.batcher_core.specs.Cores.{CoreView, job_in, state_in, is_over_in}

@@ -12,7 +12,7 @@ use Rattle.core_model.specs.Invariant.Statuses.{IsAtCall}
 use Rattle.core_model.specs.Invariant.Tasks.{TaskFits}
 use Rattle.core_model.specs.Batches.{IsCallOf, AreTakenCalls}
 use Rattle.core_model.proofs.Inductive.Parts.{InductiveParts}
-use Rattle.core_model.proofs.BookLemmas.EntryLists.{each_append, each_front, each_so}
+use Rattle.batch_history.proofs.BookLemmas.EntryLists.{each_append, each_front, each_so}
 use Rattle.seq_objects.specs.BatchOrder.{ComesFirst, class_of, key_of}
 use Rattle.seq_objects.proofs.CallOrder.{IsFirst, first_through, first_or_second}
 use Rattle.core_model.proofs.BatchLemmas.TakenCalls.{at_call_started, TakenOf, one_among}

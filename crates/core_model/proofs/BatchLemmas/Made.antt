@@ -16,7 +16,7 @@ use Rattle.core_model.proofs.Inductive.Book.{StatusFits}
 use Rattle.core_model.proofs.Inductive.Parts.{InductiveParts}
 use Rattle.batch_history.specs.Serving.{call_in, calls_in}
 use Rattle.core_model.specs.Batches.{IsCallOf, AreTakenCalls}
-use Rattle.core_model.proofs.BookLemmas.EntryLists.{each_so}
+use Rattle.batch_history.proofs.BookLemmas.EntryLists.{each_so}
 use Rattle.core_model.proofs.InvariantLemmas.BatchFacts.{executing}
 
 -- what holds of what each element is mapped to

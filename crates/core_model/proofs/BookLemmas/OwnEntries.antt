@@ -13,8 +13,8 @@ use Rattle.core_model.specs.Invariant.Statuses.{is_taken_by}
 use Rattle.core_model.specs.Operations.{leaf_of, Place, or_else, place_in, place_of}
 use Rattle.core_model.specs.Waits.{task_place}
 use Rattle.core_model.proofs.Inductive.Parts.{InductiveParts}
-use Rattle.core_model.proofs.BookLemmas.Books.{or_else_none, place_append, flat_append}
-use Rattle.core_model.proofs.BookLemmas.EntryLists.{each_so, each_mapped, each_at, distinct_leaves}
+use Rattle.batch_history.proofs.BookLemmas.Books.{or_else_none, place_append, flat_append}
+use Rattle.batch_history.proofs.BookLemmas.EntryLists.{each_so, each_mapped, each_at, distinct_leaves}
 use Rattle.core_model.proofs.BookLemmas.EntryPlaces.{none_in, placed_in}
 use Rattle.core_model.proofs.InvariantLemmas.Publish.{one_worker, not_in_book}
 

@@ -7,7 +7,7 @@ use Rattle.core_model.specs.Invariant.{Parts}
 use Rattle.core_model.specs.Invariant.Statuses.{HasReceipt}
 use Rattle.core_model.specs.Operations.{IsCall, IsReceipt, op_of, Place, place_of, receipt_for}
 use Rattle.core_model.specs.Waits.{task_place}
-use Rattle.core_model.proofs.BookLemmas.Books.{found_in_book}
+use Rattle.batch_history.proofs.BookLemmas.Books.{found_in_book}
 use Rattle.core_model.proofs.BookLemmas.Standing.{found_stands}
 
 entry_is : (e : Entry) (leaf worker : ℕ) (op : Op) (r : Receipt) → e.leaf ≡ leaf → e.worker ≡ worker → e.op ≡ op → r.reply ≡ e.reply

@@ -5,7 +5,7 @@ use Rattle.std.proofs.lemmas.Bool.{cases_eq}
 use Rattle.core_model.proofs.Words.{Entry}
 use Rattle.core_model.specs.Entries.{StandsAt}
 use Rattle.core_model.specs.Operations.{Place, place_in, place_from, place_of}
-use Rattle.core_model.proofs.BookLemmas.Books.{picks_first, picks_later, place_in_batch, which_place}
+use Rattle.batch_history.proofs.BookLemmas.Books.{picks_first, picks_later, place_in_batch, which_place}
 
 -- in a batch, from a place on
 stands_in : (k i : ℕ) (b : List Entry) (u : ℕ) (p : Place) → place_in k i b u ≡ Some p → (j : ℕ) × (p.place ≡ i + j) × (slice_get b j ≡ Some p.entry)

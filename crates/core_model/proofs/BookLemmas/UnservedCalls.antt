@@ -14,9 +14,9 @@ use Rattle.core_model.specs.Measure.{call_count}
 use Rattle.core_model.specs.Operations.{leaf_of, IsCall, place_of}
 use Rattle.core_model.proofs.Inductive.Book.{booked_by}
 use Rattle.core_model.proofs.Inductive.Parts.{InductiveParts}
-use Rattle.core_model.proofs.BookLemmas.Books.{each_in_book}
+use Rattle.batch_history.proofs.BookLemmas.Books.{each_in_book}
 use Rattle.core_model.proofs.BookLemmas.EntryCount.{each_calls, few_leaves}
-use Rattle.core_model.proofs.BookLemmas.EntryLists.{each_append, each_mapped, distinct_append, apart_by}
+use Rattle.batch_history.proofs.BookLemmas.EntryLists.{each_append, each_mapped, distinct_append, apart_by}
 use Rattle.core_model.proofs.BookLemmas.Room.{distinct_few}
 use Rattle.core_model.proofs.InvariantLemmas.Publish.{no_entry, not_booked}
 

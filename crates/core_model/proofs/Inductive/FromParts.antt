@@ -26,7 +26,7 @@ use Rattle.core_model.proofs.Inductive.Stamps.{started_name, started_leaf, stamp
 use Rattle.core_model.proofs.Inductive.Parts.{InductiveParts}
 use Rattle.core_model.proofs.Inductive.Lists.{stands_in, InductiveLists}
 use Rattle.core_model.proofs.ChoiceLemmas.Search.{least_is_chosen, no_least}
-use Rattle.core_model.proofs.BookLemmas.Books.{found_in_book, place_below}
+use Rattle.batch_history.proofs.BookLemmas.Books.{found_in_book, place_below}
 use Rattle.core_model.proofs.BookLemmas.EntryPlaces.{entry_there}
 use Rattle.core_model.proofs.Inductive.PartsHold.{by_node, is_by, parts_stand}
 use Rattle.core_model.proofs.InvariantLemmas.EachEvent.{event_keeps}

@@ -21,7 +21,7 @@ use Rattle.core_model.proofs.Inductive.Parts.{InductiveParts}
 use Rattle.core_model.proofs.Inductive.Stamps.{stamped, stamped_end}
 use Rattle.core_model.proofs.Inductive.TicksHold.{ticks_stand}
 use Rattle.core_model.proofs.Inductive.NodesHold.{nodes_stand, tasks_stand}
-use Rattle.core_model.proofs.BookLemmas.Books.{found_in_book}
+use Rattle.batch_history.proofs.BookLemmas.Books.{found_in_book}
 use Rattle.core_model.proofs.InvariantLemmas.Publish.{valued_is_booked, there_if}
 use Rattle.core_model.proofs.InvariantLemmas.StatusRows.{call_out, executing_taken, taken_executing, idle_free}
 

@@ -9,7 +9,7 @@ use Rattle.core_model.specs.Invariant.Hold.{HoldInvariant}
 use Rattle.core_model.proofs.Inductive.Nodes.{InductiveTasks}
 use Rattle.core_model.proofs.Inductive.Ticks.{stamp, stamps}
 use Rattle.core_model.proofs.Inductive.Book.{StatusFits, EntryFits, IsEarlier, is_booked, booked_by, worker_at}
-use Rattle.core_model.proofs.BookLemmas.Books.{place_append, place_in_batch}
+use Rattle.batch_history.proofs.BookLemmas.Books.{place_append, place_in_batch}
 
 -- the node that a task has started
 abbrev pub started_at : Task → Option ℕ

@@ -15,7 +15,7 @@ use Rattle.batch_history.specs.Lawful.{HasRows, KeepsOrder, IsCallLeaf, HasCalls
 use Rattle.batch_history.specs.Operations.{act_of, op_in, op_of}
 use Rattle.batch_history.proofs.ActLemmas.{act_at}
 use Rattle.core_model.specs.Reports.{IsRowOf, IsReportOf}
-use Rattle.core_model.proofs.BookLemmas.EntryLists.{each_so, each_at, each_mapped}
+use Rattle.batch_history.proofs.BookLemmas.EntryLists.{each_so, each_at, each_mapped}
 use Rattle.core_model.proofs.ReportLemmas.EndedRuns.{IsEnded}
 use Rattle.core_model.proofs.ReportLemmas.RowTicks.{row_starts_first, ticks_each_once}
 use Rattle.core_model.proofs.ReportLemmas.RowOrder.{IsRowAt, row_at, before_ended, alone_ended}

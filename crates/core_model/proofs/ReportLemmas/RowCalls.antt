@@ -11,8 +11,8 @@ use Rattle.batch_history.specs.declared.row.Row.{Row}
 use Rattle.core_model.specs.Operations.{op_in, IsCall, Place}
 use Rattle.core_model.specs.Invariant.Values.{IsValue}
 use Rattle.core_model.specs.Invariant.Membership.{IsBooked}
-use Rattle.core_model.proofs.BookLemmas.EntryLists.{each_at}
-use Rattle.core_model.proofs.BookLemmas.Books.{found_in_book}
+use Rattle.batch_history.proofs.BookLemmas.EntryLists.{each_at}
+use Rattle.batch_history.proofs.BookLemmas.Books.{found_in_book}
 use Rattle.core_model.proofs.ReportLemmas.EndedRuns.{IsEnded}
 use Rattle.core_model.proofs.BookLemmas.EntryPlaces.{leaves_of, contains_leaf, in_flat, entry_placed, entry_there, one_entry}
 use Rattle.core_model.proofs.ReportLemmas.OneReport.{same_ran, same_some}

@@ -9,7 +9,7 @@ use Rattle.seq_objects.specs.Pairs.{EachPair, AreDistinct}
 use Rattle.batch_history.specs.Book.{IsLegalFrom}
 use Rattle.core_model.specs.Serving.{served}
 use Rattle.core_model.specs.Events.{has_taken, IsTakenCall, IsBatchOf, published, Does}
-use Rattle.core_model.proofs.BookLemmas.EntryLists.{each_so, each_both, each_at}
+use Rattle.batch_history.proofs.BookLemmas.EntryLists.{each_so, each_both, each_at}
 use Rattle.seq_objects.proofs.CallOrder.{one_way}
 
 -- an entry of the list has this worker

@@ -7,7 +7,7 @@ use Rattle.core_model.specs.Invariant.Hold.{is_published}
 use Rattle.core_model.proofs.Inductive.Book.{booked_by}
 use Rattle.core_model.proofs.Inductive.Parts.{InductiveParts}
 use Rattle.core_model.specs.Waits.{IsTrapped, started_leaf, leaf_place, task_place, StaysTrapped, at_once, by_event}
-use Rattle.core_model.proofs.BookLemmas.Books.{place_append, place_in_batch}
+use Rattle.batch_history.proofs.BookLemmas.Books.{place_append, place_in_batch}
 use Rattle.core_model.proofs.InvariantLemmas.Publish.{no_entry}
 use Rattle.core_model.proofs.Inductive.PartsHold.{parts_stand}
 use Rattle.core_model.proofs.WaitLemmas.Places.{TrappedCall, trapped_call, trapped_place, receipt_of}

@@ -7,7 +7,7 @@ use Rattle.core_model.specs.Invariant.Statuses.{IsAtCall, HasReceipt}
 use Rattle.core_model.specs.Invariant.Hold.{is_published}
 use Rattle.core_model.specs.Invariant.{Parts}
 use Rattle.core_model.specs.Waits.{IsTrapped, leaf_place, task_place, StandsBy}
-use Rattle.core_model.proofs.BookLemmas.Books.{place_append, place_below}
+use Rattle.batch_history.proofs.BookLemmas.Books.{place_append, place_below}
 
 -- what stands in the book stands by the number of its last batch
 place_stands : (bs : List (List Entry)) (u k : ℕ) (p : Place) → length bs ≤ k + 1 → place_of bs u ≡ Some p → StandsBy (place_of bs u) k

@@ -2,19 +2,19 @@
 use Rattle.std.proofs.Common.{ℕ, ◌≡◌, false, true, Some, None, List, arith, refl, sym, subst, ◌∙◌, ap}
 use Rattle.sp_order.specs.Jobs.{JobValue, job_tree}
 use Rattle.core_model.proofs.Words.{Entry, Hold, core_job}
-use Rattle.core_parts.specs.Words.{Publish}
+use Rattle.core_state.specs.Words.{Publish}
 use Rattle.seq_objects.specs.declared.call.Call.{Call}
 use Rattle.batch_history.specs.Book.{IsLegalFrom}
 use Rattle.batch_history.specs.Serving.{served_book, calls_in}
 use Rattle.launch_batch.specs.Calls.{MayServe, IsServiceOf}
-use Rattle.core_parts.specs.declared.hold.Hold.{Hold as StoredHold}
+use Rattle.core_state.specs.declared.hold.Hold.{Hold as StoredHold}
 use Rattle.core_state.specs.declared.state.State.{State as StoredState}
 use Rattle.core_model.specs.Events.{Needs, IsBatchOf}
 use Rattle.core_model.specs.Invariant.Statuses.{IsAtCall, is_taken_by}
 use Rattle.core_model.specs.Batches.{AreTakenCalls}
-use Rattle.core_parts.specs.Places.{at}
+use Rattle.core_state.specs.Places.{at}
 use Rattle.core_state.specs.Abstraction.{hold_of, state_of}
-use Rattle.core_parts.specs.Holds.{hold_view}
+use Rattle.core_state.specs.Holds.{hold_view}
 use Rattle.core_state.specs.Code.Representation.{RepInvariant}
 use Rattle.core_model.proofs.BookLemmas.CallsIn.{call_within}
 use Rattle.core_model.proofs.BatchLemmas.Made.{taken_at_call, owed_before, batch_made}

@@ -7,7 +7,7 @@ use Rattle.seq_objects.specs.declared.call.Call.{Call}
 use Rattle.launch_batch.specs.Calls.{AreSame}
 use Rattle.launch_batch.proofs.ListLemmas.Same.{each_same, distinct_same}
 use Rattle.core_model.proofs.Words.{CoreJob, Entry}
-use Rattle.core_parts.specs.Words.{Task}
+use Rattle.core_state.specs.Words.{Task}
 use Rattle.core_model.specs.Batches.{IsCallOf, AreTakenCalls}
 
 -- mapping a permuted list gives a permutation of the mapped list

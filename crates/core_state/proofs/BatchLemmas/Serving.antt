@@ -15,8 +15,8 @@ use Rattle.core_model.specs.Operations.{IsCall}
 use Rattle.core_model.specs.Events.{IsTakenCall}
 use Rattle.core_model.specs.Batches.{IsCallOf, AreTakenCalls}
 use Rattle.core_model.proofs.Inductive.Parts.{InductiveParts}
-use Rattle.core_model.proofs.BookLemmas.EntryLists.{each_append, each_front, each_so, each_mapped, distinct_back}
-use Rattle.core_model.proofs.BookLemmas.Books.{flat_append}
+use Rattle.batch_history.proofs.BookLemmas.EntryLists.{each_append, each_front, each_so, each_mapped, distinct_back}
+use Rattle.batch_history.proofs.BookLemmas.Books.{flat_append}
 use Rattle.core_model.proofs.BookLemmas.Room.{distinct_few, leaves_call}
 use Rattle.core_model.proofs.InvariantLemmas.Publish.{leaves_apart}
 use Rattle.core_model.proofs.BatchLemmas.Replied.{replied, replied_are}

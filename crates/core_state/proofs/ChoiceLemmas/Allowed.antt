@@ -2,14 +2,14 @@
 use Rattle.std.proofs.Common.{ℕ, ◌≡◌, ◌<◌, ◌+◌, ◌^◌, Option, Some, None, IfSome, IsSome, List, arith, refl, sym, ◌∙◌, ap}
 use Rattle.sp_order.specs.Jobs.{JobValue, job_tree}
 use Rattle.core_model.proofs.Words.{Hold, core_job}
-use Rattle.core_parts.specs.Words.{Event, Claim, Take}
+use Rattle.core_state.specs.Words.{Event, Claim, Take}
 use Rattle.sp_order.specs.Preorder.{nodes_of}
-use Rattle.core_parts.specs.declared.hold.Hold.{Hold as StoredHold}
+use Rattle.core_state.specs.declared.hold.Hold.{Hold as StoredHold}
 use Rattle.core_state.specs.declared.state.State.{State as StoredState}
 use Rattle.core_model.specs.Events.{Needs}
 use Rattle.core_model.specs.Choice.{choice}
 use Rattle.core_model.specs.Ranges.{IsInRange}
-use Rattle.core_parts.specs.Code.ReadyLists.{IsAtOneEnd}
+use Rattle.core_state.specs.Code.ReadyLists.{IsAtOneEnd}
 use Rattle.core_state.specs.Abstraction.{state_of, ready_of, core_state_of, hold_of}
 use Rattle.core_state.specs.Code.Representation.{RepInvariant}
 use Rattle.core_model.proofs.InvariantLemmas.InRange.{event_in}

@@ -2,14 +2,14 @@
 use Rattle.std.proofs.Common.{ℕ, ◌≡◌, ◌≢◌, ◌-◌, ◌⊎◌, List, [], ◌∷◌, ◌++◌, length, get_or, arith, refl, inl, inr, sym, ◌∙◌, length-append}
 use Rattle.std.proofs.lemmas.Bool.{cases_eq}
 use Rattle.core_model.proofs.Words.{CoreJob, CoreState}
-use Rattle.core_parts.specs.Words.{Progress, Idle, Free, Claim}
+use Rattle.core_state.specs.Words.{Progress, Idle, Free, Claim}
 use Rattle.std.proofs.Common.{Some}
 use Rattle.core_model.specs.Lists.{times}
 use Rattle.core_model.specs.Invariant.ReadyLists.{ReadyListsInvariant}
 use Rattle.core_model.proofs.Inductive.Parts.{InductiveParts}
 use Rattle.core_model.specs.Choice.{choice, LeavesAnEnd}
-use Rattle.core_parts.specs.Code.ReadyLists.{IsOldest, IsNewest, IsAtEnd, IsAtOneEnd}
-use Rattle.core_parts.proofs.ChoiceLemmas.Ends.{oldest_stands, newest_stands}
+use Rattle.core_state.specs.Code.ReadyLists.{IsOldest, IsNewest, IsAtEnd, IsAtOneEnd}
+use Rattle.core_state.proofs.ChoiceLemmas.Ends.{oldest_stands, newest_stands}
 use Rattle.core_model.proofs.ChoiceLemmas.Ready.{once_there, idle_leaves, choice_of_idle}
 
 -- the node is at an end of a list

@@ -3,7 +3,7 @@ use Rattle.std.proofs.Common.{ℕ, zero, suc, ◌≡◌, ◌<◌, ◌≤◌, ◌
 use Rattle.std.specs.List.{slice_get}
 use Rattle.core_model.specs.Choice.{choice_steal, oldest_or, last_of}
 use Rattle.core_state.specs.Code.Lookups.{claim_choice}
-use Rattle.core_parts.specs.Words.{Event, Claim}
+use Rattle.core_state.specs.Words.{Event, Claim}
 
 abbrev claim_of : Option ℕ → Option Event
 claim_of None = None

@@ -1,7 +1,7 @@
 -- The invariant of a core implies the preconditions of choosing a turn.
 use Rattle.std.proofs.Common.{ℕ, ◌≡◌, ◌≢◌, ◌<◌, Some, arith, refl, sym, ◌∙◌}
 use Rattle.core_model.proofs.Words.{Nodes, IsPlan, Move, Root, OpenSecond, FinishParent, Arrive, CoreJob, names}
-use Rattle.core_parts.specs.Words.{Progress, Task, Idle, Run, Half, Started, Kept, Ended, Whole, Handed, Free, NotCalled, Out}
+use Rattle.core_state.specs.Words.{Progress, Task, Idle, Run, Half, Started, Kept, Ended, Whole, Handed, Free, NotCalled, Out}
 use Rattle.core_state.specs.declared.state.State.{State as StoredState}
 use Rattle.core_model.specs.Settings.{job_of, HasLeaf, TaskIn}
 use Rattle.core_model.specs.Invariant.Statuses.{IsAtCall, is_taken_by}

@@ -1,5 +1,5 @@
 -- The events of the gate: those of calls and of the flag.
-use Rattle.core_parts.specs.Words.{Event, Answer, Leave, Post, Publish, Release, Take, Win}
+use Rattle.core_state.specs.Words.{Event, Answer, Leave, Post, Publish, Release, Take, Win}
 
 -- the event concerns a call or the flag
 abbrev pub IsOfGate : Event → Type 0

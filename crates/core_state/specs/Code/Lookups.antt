@@ -7,7 +7,7 @@ use Rattle.core_model.specs.Ranges.{LeafIn}
 use Rattle.core_state.specs.Code.Sizes.{HasShop, Sizes}
 use Rattle.core_model.specs.Invariant.Statuses.{is_taken_by}
 use Rattle.core_model.specs.Operations.{IsLeaf}
-use Rattle.core_parts.specs.WorkDue.{work_due}
+use Rattle.core_state.specs.WorkDue.{work_due}
 use Rattle.core_model.specs.declared.event.Event.{Event}
 use Rattle.core_model.specs.declared.event.Event.TheVariants.{Claim}
 use Rattle.core_model.specs.declared.setting.Setting.{Setting}

@@ -7,9 +7,9 @@ ghost use Rattle.core_model.specs.Events.{is_pending as status_pending, new_hold
 ghost use Rattle.core_model.specs.declared.status.Status.TheVariants.{Free, Pending, Executing, Served};
 ghost use Rattle.core_model.specs.declared.status.CallState.TheVariants.{Out, Got};
 
+use crate::hold::Hold;
 use crate::state::State;
 use core_model::{CallState, Receipt, Status};
-use core_parts::Hold;
 
 /// Whether the status is `Pending`: the call is posted and not taken.
 fn is_pending(status: Status) -> bool
@@ -23,7 +23,7 @@ fn is_pending(status: Status) -> bool
 
 impl State {
     /// `Post`: the worker's call becomes pending.
-    #[tactic(auto, using(core_parts::proofs::CodeLemmas::Written::at_written), unfolding(crate::specs::Abstraction::state_of, crate::specs::Abstraction::ready_of))]
+    #[tactic(auto, using(crate::proofs::CodeLemmas::Written::at_written), unfolding(crate::specs::Abstraction::state_of, crate::specs::Abstraction::ready_of))]
     pub(crate) fn post(&mut self, worker: u32)
         requires status_in { worker < length self.old.statuses.items }
         requires call_in { worker < length self.old.calls.items }
@@ -50,7 +50,7 @@ impl State {
     }
 
     /// `Take`: the flag's owner looks at the worker `other` and takes its call if that is pending.
-    #[tactic(auto, using(core_parts::proofs::CodeLemmas::Written::at_written), unfolding(crate::specs::Abstraction::state_of, crate::specs::Abstraction::ready_of))]
+    #[tactic(auto, using(crate::proofs::CodeLemmas::Written::at_written), unfolding(crate::specs::Abstraction::state_of, crate::specs::Abstraction::ready_of))]
     pub(crate) fn take(&mut self, other: u32)
         requires status_in { other < length self.old.statuses.items }
         requires other_in { other < 32 }
@@ -76,7 +76,7 @@ impl State {
     }
 
     /// `Answer`: the worker `other` gets its receipt.
-    #[tactic(auto, using(core_parts::proofs::CodeLemmas::Written::at_written), unfolding(crate::specs::Abstraction::state_of, crate::specs::Abstraction::ready_of))]
+    #[tactic(auto, using(crate::proofs::CodeLemmas::Written::at_written), unfolding(crate::specs::Abstraction::state_of, crate::specs::Abstraction::ready_of))]
     pub(crate) fn answer(&mut self, other: u32, receipt: Receipt)
         requires status_in { other < length self.old.statuses.items }
         requires other_in { other < 32 }
@@ -106,7 +106,7 @@ impl State {
     }
 
     /// `Leave`: the worker's status is free again, and its call has the receipt.
-    #[tactic(auto, using(core_parts::proofs::CodeLemmas::Written::at_written), unfolding(crate::specs::Abstraction::state_of, crate::specs::Abstraction::ready_of))]
+    #[tactic(auto, using(crate::proofs::CodeLemmas::Written::at_written), unfolding(crate::specs::Abstraction::state_of, crate::specs::Abstraction::ready_of))]
     pub(crate) fn leave(&mut self, worker: u32, receipt: Receipt)
         requires status_in { worker < length self.old.statuses.items }
         requires call_in { worker < length self.old.calls.items }

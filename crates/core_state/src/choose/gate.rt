@@ -7,12 +7,13 @@ ghost use Rattle.core_model.specs.Operations.{place_of};
 ghost use Rattle.core_model.specs.Tasks.{names};
 ghost use Rattle.core_model.specs.Choice.{leaf_named as leaf_at, answer_with, choice_pending, choice_holding};
 ghost use Rattle.core_state.specs.Abstraction.{state_of, hold_of};
-ghost use Rattle.core_parts.specs.Holds.{hold_view};
+ghost use Rattle.core_state.specs.Holds.{hold_view};
 ghost use Rattle.core_state.specs.Code.Lookups.{CanChoose};
 
+use crate::hold::Hold;
 use crate::state::State;
-use core_model::{Event, Setting};
-use core_parts::{Hold, receipt_of};
+use batch_history::place_of as place_in;
+use core_model::{Event, Receipt, Setting};
 
 impl State {
     /// The event of a worker whose call is pending: it wins the flag if that is free.
@@ -39,13 +40,15 @@ impl State {
         let Some(shop) = &self.shop else {
             unreachable!()
         };
-        match receipt_of(shop.history().batches(), leaf) {
-            None => None,
-            Some(receipt) => Some(Event::Answer {
-                worker: other,
-                receipt,
-            }),
-        }
+        let place = place_in(shop.history().batches(), leaf)?;
+        Some(Event::Answer {
+            worker: other,
+            receipt: Receipt {
+                batch: place.batch,
+                place: place.place,
+                reply: place.entry.reply,
+            },
+        })
     }
 
     /// The event of the flag's owner. It looks at each worker in turn, publishes unless it took no call, answers the

@@ -3,11 +3,11 @@ ghost use Rattle.std.specs.Prelude.{◌≡◌, ◌<◌, ◌≤◌, length, None,
 ghost use Rattle.core_model.specs.Settings.{job_of};
 ghost use Rattle.core_state.specs.Abstraction.{state_of, ready_of};
 ghost use Rattle.core_state.specs.Code.Lookups.{CanChoose, MoveIn, claim_choice, whole_choice};
-ghost use Rattle.core_parts.specs.WorkDue.{work_due};
+ghost use Rattle.core_state.specs.WorkDue.{work_due};
 
+use crate::chosen::{of_arrive, of_parent, of_second, steps_of};
 use crate::state::State;
 use core_model::{Event, Setting, Task};
-use core_parts::chosen::{of_arrive, of_parent, of_second, steps_of};
 use sp_order::node::Move;
 
 impl State {

@@ -1,14 +1,14 @@
 //! The opening state of a run.
 ghost use Rattle.std.specs.Prelude.{◌≡◌, ◌<◌, ℕ, length, IfOk, replicate};
 ghost use Rattle.core_model.specs.State.{opening_state, opening_core};
-ghost use Rattle.core_parts.specs.Places.{at};
+ghost use Rattle.core_state.specs.Places.{at};
 ghost use Rattle.core_state.specs.Abstraction.{state_of, ready_of};
 ghost use Rattle.core_state.specs.Code.Sizes.{HasShop, Sizes};
 ghost use Rattle.core_model.specs.declared.progress.Progress.TheVariants.{Waiting};
 
+use crate::ready::ReadyLists;
 use crate::state::State;
 use core_model::{CallState, Progress, Status, Task};
-use core_parts::ReadyLists;
 use launch_batch::Shop;
 use std::alloc::{AllocError, Global};
 

@@ -6,7 +6,7 @@ use Rattle.seq_objects.specs.Pairs.{AreDistinct}
 use Rattle.launch_batch.proofs.ListLemmas.Elements.{each_mapped, each_unmapped}
 use Rattle.batch_history.specs.Book.{flat}
 use Rattle.core_model.specs.Operations.{Place, place_in, place_of, or_else, IsReceipt}
-use Rattle.core_model.proofs.BookLemmas.Books.{each_in_book, found_in_book, place_append}
+use Rattle.batch_history.proofs.BookLemmas.Books.{each_in_book, found_in_book, place_append}
 use Rattle.core_model.specs.Words.{Entry}
 use Rattle.worker_crew.specs.Words.{Receipt}
 use Rattle.worker_crew.proofs.SeatLemmas.Taken.{if_yes, if_no}

@@ -3,7 +3,7 @@ use Rattle.std.specs.List.{AllByRecursion, range_with_len}
 use Rattle.sp_order.specs.Jobs.{job_tree}
 use Rattle.sp_order.specs.Preorder.{nodes_of}
 use Rattle.core_model.specs.declared.progress.Progress.TheVariants.{Waiting}
-use Rattle.core_parts.specs.Places.{at}
+use Rattle.core_state.specs.Places.{at}
 use Rattle.core_model.specs.Reports.{TellsLeaf}
 use Rattle.batcher_core.proofs.report.rows_of.Given as goal
 

@@ -1,7 +1,7 @@
 use Rattle.sp_order.specs.Jobs.{job_tree}
 use Rattle.std.proofs.Common.{◌≡◌, false, sym, ◌∙◌, rules}
 use Rattle.batcher_core.specs.Cores.{job_in, state_in}
-use Rattle.core_parts.specs.Places.{at}
+use Rattle.core_state.specs.Places.{at}
 use Rattle.batcher_core.proofs.RunLemmas.LiveEnds.{not_stuck}
 use Rattle.batcher_core.proofs.stopped.drive_some.Goals as goal
 

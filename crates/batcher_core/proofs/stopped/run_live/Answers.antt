@@ -1,6 +1,6 @@
 use Rattle.std.proofs.Common.{false}
 use Rattle.batcher_core.specs.Cores.{job_in, state_in}
-use Rattle.core_parts.specs.Places.{at}
+use Rattle.core_state.specs.Places.{at}
 use Rattle.batcher_core.proofs.RunLemmas.LiveRounds.{ends_here}
 use Rattle.batcher_core.proofs.stopped.run_live.Goals as goal
 

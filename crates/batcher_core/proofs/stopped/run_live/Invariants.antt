@@ -2,7 +2,7 @@ use Rattle.std.proofs.Common.{◌≡◌, ◌+◌, false, if◌then◌else◌}
 use Rattle.core_model.specs.State.{CoreState}
 use Rattle.batcher_core.specs.Cores.{job_in, state_in, is_over_in}
 use Rattle.core_model.specs.Measure.{measure}
-use Rattle.core_parts.specs.Places.{at}
+use Rattle.core_state.specs.Places.{at}
 use Rattle.core_model.specs.Stopped.{NoLiveEvent, LiveDrive}
 use Rattle.batcher_core.proofs.RunLemmas.Taken.{SameJob}
 use Rattle.batcher_core.proofs.stopped.run_live.Given as goal

@@ -1,5 +1,5 @@
 use Rattle.core_model.proofs.Words.{Entry}
-use Rattle.core_model.proofs.BookLemmas.Books.{each_in_book, found_in_book, place_append}
+use Rattle.batch_history.proofs.BookLemmas.Books.{each_in_book, found_in_book, place_append}
 use Rattle.core_model.proofs.BookLemmas.EntryPlaces.{entry_there}
 use Rattle.core_model.proofs.BookLemmas.Standing.{found_stands}
 use Rattle.core_model.specs.Operations.{place_of}

@@ -1,7 +1,7 @@
 use Rattle.std.proofs.Common.{sym, ◌∙◌}
 use Rattle.core_model.specs.Choice.{is_owed}
 use Rattle.core_state.specs.Abstraction.{state_of}
-use Rattle.core_parts.specs.Holds.{hold_view}
+use Rattle.core_state.specs.Holds.{hold_view}
 use Rattle.core_model.proofs.ChoiceLemmas.Search.{least_is_chosen}
 use Rattle.core_model.proofs.ChoiceLemmas.Searches.{least_in}
 use Rattle.core_state.proofs.state.State.choose_holding.Goals as goal

@@ -1,7 +1,7 @@
 use Rattle.std.proofs.Common.{refl}
 use Rattle.core_state.specs.Abstraction.{book_of, state_of, ready_of}
 use Rattle.core_state.proofs.CodeLemmas.CoreFits.{looks}
-use Rattle.core_model.proofs.BookLemmas.Books.{served_then}
+use Rattle.batch_history.proofs.BookLemmas.Books.{served_then}
 use Rattle.core_state.proofs.BatchLemmas.Publishing.{at_call, taken_owed, can_serve, served_batch, no_hold}
 use Rattle.core_state.proofs.state.State.publish.Goals as goal
 

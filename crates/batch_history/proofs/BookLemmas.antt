@@ -1,0 +1,3 @@
+pub mod EntryLists
+pub mod Books
+pub mod Search

@@ -1,3 +1,0 @@
-pub mod Written
-pub mod NonEmpty
-pub mod Copies

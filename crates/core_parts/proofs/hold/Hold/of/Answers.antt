@@ -1,6 +1,0 @@
-use Rattle.std.proofs.Common.{refl, false}
-use Rattle.core_parts.proofs.CodeLemmas.Copies.{at_copies}
-use Rattle.core_parts.proofs.hold.Hold.of.Goals as goal
-
-pub returns : goal.returns
-returns c = rw (at_copies 32 false) refl

@@ -1,0 +1,6 @@
+use Rattle.std.proofs.Common.{refl, false}
+use Rattle.core_state.proofs.CodeLemmas.Copies.{at_copies}
+use Rattle.core_state.proofs.hold.Hold.of.Goals as goal
+
+pub returns : goal.returns
+returns c = rw (at_copies 32 false) refl

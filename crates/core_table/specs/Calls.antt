@@ -3,8 +3,6 @@ use Rattle.std.specs.Prelude.{ℕ, ◌≡◌, ◌≢◌, ◌<◌, ◌≤◌, ◌
 use mathlib.Core.Option.{none}
 use prog.Atomic.{either}
 use Rattle.atomic_table.specs.Table.{step}
-use Rattle.sp_order.specs.Jobs.{job_tree}
-use Rattle.sp_order.specs.Precedence.{leaves}
 use Rattle.sp_order.specs.Preorder.{nodes_of}
 use Rattle.core_model.specs.Events.{value_in}
 use Rattle.core_model.specs.Operations.{leaf_of, place_of, IsReceipt}
@@ -19,7 +17,6 @@ use Rattle.table_rule.specs.declared.view.View.{View}
 use Rattle.table_rule.specs.Words.{flag_at, count_at, tick_at, stop_at, node_at, mark_at, value_at, progress_code}
 use Rattle.table_rule.specs.Shows.{job_of, room_of, reserved, record_in, among, IsPostDue}
 use Rattle.table_rule.specs.Batches.{IsPublishDue, IsReleaseDue}
-use Rattle.table_rule.specs.Laws.{IsSound}
 use Rattle.table_rule.specs.DueTasks.{IsTickDue}
 use Rattle.table_rule.specs.Plays as plays
 use Rattle.table_rule.specs.Plays.{Sat}

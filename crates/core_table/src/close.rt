@@ -6,6 +6,7 @@ ghost use Rattle.sp_order.specs.Jobs.{job_tree};
 ghost use Rattle.sp_order.specs.Precedence.{leaves};
 ghost use Rattle.sp_order.specs.Preorder.{nodes_of};
 ghost use Rattle.batch_history.specs.Lawful.{Lawful};
+ghost use Rattle.table_rule.specs.Words.{word_count};
 ghost use Rattle.table_rule.specs.Shows.{IsFront, events_by, St as TableState};
 ghost use Rattle.core_table.specs.Passes.{IsPassOf, job_in, planned_in, setting_in, view};
 ghost use Rattle.core_table.specs.Closing.{RowInWords, IsReportOfTable};
@@ -22,42 +23,39 @@ use core_model::laws::report::{done_leaves_have_run, done_report_is_lawful};
 use sp_order::PlannedJob;
 use sp_order::laws::{leaf_has_one_node, plan_has_sides, plan_stands_for_tree};
 use std::alloc::{AllocError, Global};
-use table_rule::Slot;
 use table_rule::laws::laws_hold;
+use table_rule::{Layout, RanLeaf, Slot};
 
-/// One row for each leaf, in leaf order, unpacked from the words of its node (`progress_code` in `specs/Words.antt`).
+/// One row for each leaf, in leaf order, unpacked from the words of its node (`RanLeaf`).
 fn read_rows(
     closed: &Closed<Slot, Global>,
     job: &PlannedJob,
-    workers: u32,
-    nodes: u32,
+    layout: Layout,
     leaf_total: u32,
     rows: Vec<Row>,
 ) -> Vec<Row>
     requires words { IsFull closed.now.words
-        × (slots_len closed.now.words ≡ workers + 4 + nodes + nodes + nodes) }
-    requires plan { (nodes ≡ (nodes_of (job_tree job.now)).count) × (leaf_total ≤ leaves (job_tree job.now))
-        × (workers ≤ 32) × (nodes < 40000) }
+        × (slots_len closed.now.words ≡ word_count layout.workers layout.nodes) }
+    requires plan { (layout.nodes ≡ (nodes_of (job_tree job.now)).count)
+        × (leaf_total ≤ leaves (job_tree job.now)) }
     requires room { (rows.items ≡ []) × (vec_len rows ≡ 0) × (leaf_total ≤ vec_capacity rows) }
     ensures leaves { map (λ row. row.leaf) result.items ≡ range_with_len 0 leaf_total }
-    ensures told { AllByRecursion (RowInWords workers nodes leaf_total (nodes_of (job_tree job.now)).node_of
+    ensures told { AllByRecursion (RowInWords layout.workers layout.nodes leaf_total (nodes_of (job_tree job.now)).node_of
         (slots_items closed.now.words)) result.items }
 {
     plan_stands_for_tree();
     plan_has_sides();
     leaf_has_one_node();
     let mut rows = rows;
-    let first = workers as usize + 4;
-    let values = first + nodes as usize + nodes as usize;
     for leaf in 0..leaf_total {
-        let node = job.node_of(leaf) as usize;
-        let word = closed.word(first + node);
-        let value = closed.word(values + node);
+        let node = job.node_of(leaf);
+        let ran = RanLeaf::decode(closed.word(layout.node(node)));
+        let value = closed.word(layout.value(node));
         rows.push_reserved(Row {
             leaf,
-            worker: (word / 4 % 32) as u32,
-            start: word / 128 % 1048576,
-            end: word / 134217728,
+            worker: ran.worker,
+            start: ran.start,
+            end: ran.end,
             value,
         });
     }
@@ -102,11 +100,12 @@ impl CoreTable {
         plan_has_sides();
         leaf_has_one_node();
         let leaf_total = self.setting.job.acts().len() as u32;
+        let layout = self.layout();
         let rows = Vec::with_capacity(alloc, leaf_total as usize)?;
         let CoreTable {
             table,
             setting,
-            nodes,
+            nodes: _,
         } = self;
         let Pass {
             seat,
@@ -117,15 +116,8 @@ impl CoreTable {
             published: _,
         } = pass;
         let mut closed = table.close_with(seat);
-        let rows = read_rows(
-            &closed,
-            &setting.job,
-            setting.workers,
-            nodes,
-            leaf_total,
-            rows,
-        );
-        let at = setting.workers as usize + 1;
+        let rows = read_rows(&closed, &setting.job, layout, leaf_total, rows);
+        let at = layout.batch_count();
         let last = closed.take(at);
         drop_slots(closed, at);
         match last {

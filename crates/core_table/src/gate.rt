@@ -53,7 +53,7 @@ impl CoreTable {
     {
         laws_hold();
         let shared = &self.table.shared;
-        let at = self.setting.workers as usize;
+        let at = self.layout().flag();
         let mine = pass.worker as u64 + 1;
         if shared.compare_exchange::<Win>(&mut pass.seat, at, 0, mine) != 0 {
             return None;
@@ -141,7 +141,7 @@ impl CoreTable {
     {
         laws_hold();
         let shared = &self.table.shared;
-        let at = self.setting.workers as usize + 1;
+        let at = self.layout().batch_count();
         shared.load::<Admit>(&mut pass.seat, at);
         let Slot::Book(mut book) = shared.exchange(&mut pass.seat, at, Slot::Vacant) else {
             unreachable!()
@@ -202,7 +202,7 @@ impl CoreTable {
     {
         laws_hold();
         let shared = &self.table.shared;
-        let at = self.setting.workers as usize;
+        let at = self.layout().flag();
         drop(shared.exchange(&mut pass.seat, at, Slot::Shop(shop)));
         shared.store::<ReleaseShop>(&mut pass.seat, at, 0);
     }
@@ -218,7 +218,7 @@ impl CoreTable {
     {
         laws_hold();
         let shared = &self.table.shared;
-        let at = self.setting.workers as usize;
+        let at = self.layout().flag();
         pass.seat.turn();
         drop(shared.exchange(&mut pass.seat, at, Slot::Shop(shop)));
         shared.store::<ReleaseBoth>(&mut pass.seat, at, 0);

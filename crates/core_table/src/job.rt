@@ -12,6 +12,7 @@ ghost use Rattle.table_rule.specs.Views.{with_event, with_task, claiming, refusi
 use crate::table::{CoreTable, Pass};
 use core_model::{CallState, Task};
 use sp_order::node::{Kind, Move};
+use table_rule::RanLeaf;
 use table_rule::laws::laws_hold;
 use table_rule::plays::{
     Arrive, Claim, Draw, Finish, Hear, Keep, LookAtRoot, LookAtStop, Open, OpenHalf, Stop, Stray,
@@ -62,7 +63,7 @@ impl CoreTable {
             shared.compare_exchange::<Stray>(&mut pass.seat, 0, 4 + node as u64, 0);
             return false;
         }
-        let at = self.setting.workers as usize + 4 + node as usize;
+        let at = self.layout().node(node);
         if shared.compare_exchange::<Claim>(&mut pass.seat, at, 1, 2) != 1 {
             return false;
         }
@@ -81,7 +82,7 @@ impl CoreTable {
             ≡ with_event (with_task (view pass.old) (ticked (view pass.old).task result)) event) }
     {
         laws_hold();
-        let at = self.setting.workers as usize + 2;
+        let at = self.layout().tick();
         let tick = self.table.shared.fetch_add::<Draw>(&mut pass.seat, at, 1);
         pass.task = ticked(pass.task, tick);
         tick
@@ -118,15 +119,15 @@ impl CoreTable {
     {
         laws_hold();
         let shared = &self.table.shared;
-        let first = self.setting.workers as usize + 4;
+        let layout = self.layout();
         match self.setting.job.kind(node) {
             Kind::ParNode(_left, right) => {
-                shared.store::<OpenHalf>(&mut pass.seat, first + right as usize, 1);
+                shared.store::<OpenHalf>(&mut pass.seat, layout.node(right), 1);
                 pass.task = Task::Half(node);
                 right
             }
             Kind::SeqNode(left, _right) => {
-                shared.store::<Open>(&mut pass.seat, first + left as usize, 1);
+                shared.store::<Open>(&mut pass.seat, layout.node(left), 1);
                 pass.task = Task::Idle;
                 left
             }
@@ -146,7 +147,7 @@ impl CoreTable {
         let Kind::ParNode(left, _right) = self.setting.job.kind(node) else {
             unreachable!()
         };
-        let at = self.setting.workers as usize + 4 + left as usize;
+        let at = self.layout().node(left);
         self.table.shared.store::<Open>(&mut pass.seat, at, 1);
         pass.task = Task::Idle;
         left
@@ -168,7 +169,7 @@ impl CoreTable {
         let Kind::SeqNode(_left, right) = self.setting.job.kind(parent) else {
             unreachable!()
         };
-        let at = self.setting.workers as usize + 4 + right as usize;
+        let at = self.layout().node(right);
         self.table.shared.store::<Open>(&mut pass.seat, at, 1);
         pass.task = Task::Idle;
         right
@@ -189,8 +190,7 @@ impl CoreTable {
         let Task::Started { node, start } = pass.task else {
             unreachable!()
         };
-        let nodes = self.nodes as usize;
-        let at = self.setting.workers as usize + 4 + nodes + nodes + node as usize;
+        let at = self.layout().value(node);
         self.table.shared.store::<Keep>(&mut pass.seat, at, value);
         pass.task = Task::Kept { node, start };
         pass.call = CallState::NotCalled;
@@ -224,9 +224,10 @@ impl CoreTable {
             ≡ with_event (with_task (view pass.old) (next_task node)) (FinishLeaf node start end) }
     {
         laws_hold();
-        let at = self.setting.workers as usize + 4 + node as usize;
-        let code = 3 + 4 * (pass.worker as u64 + 32 * (start + 1048576 * end));
-        self.table.shared.store::<Finish>(&mut pass.seat, at, code);
+        let at = self.layout().node(node);
+        let worker = pass.worker;
+        let word = RanLeaf { worker, start, end }.encode();
+        self.table.shared.store::<Finish>(&mut pass.seat, at, word);
         pass.task = task_after(node);
     }
 
@@ -244,7 +245,7 @@ impl CoreTable {
         let Move::FinishParent(parent) = self.setting.job.after(node) else {
             unreachable!()
         };
-        let at = self.setting.workers as usize + 4 + parent as usize;
+        let at = self.layout().node(parent);
         self.table.shared.store::<Finish>(&mut pass.seat, at, 3);
         pass.task = task_after(parent);
     }
@@ -262,7 +263,7 @@ impl CoreTable {
         let Kind::ParNode(_left, _right) = self.setting.job.kind(node) else {
             unreachable!()
         };
-        let at = self.setting.workers as usize + 4 + node as usize;
+        let at = self.layout().node(node);
         self.table.shared.store::<Finish>(&mut pass.seat, at, 3);
         pass.task = task_after(node);
     }
@@ -289,7 +290,7 @@ impl CoreTable {
         let Move::Arrive(parent) = self.setting.job.after(node) else {
             unreachable!()
         };
-        let at = self.setting.workers as usize + 4 + self.nodes as usize + parent as usize;
+        let at = self.layout().mark(parent);
         let second = self.table.shared.fetch_add::<Arrive>(&mut pass.seat, at, 1) != 0;
         pass.task = if second {
             Task::Handed(parent)
@@ -308,7 +309,7 @@ impl CoreTable {
             × (view pass.new ≡ seeing_undone (view pass.old) seen) }
     {
         laws_hold();
-        let at = self.setting.workers as usize + 4;
+        let at = self.layout().node(0);
         self.table.shared.load::<LookAtRoot>(&mut pass.seat, at) % 4 == 3
     }
 
@@ -319,7 +320,7 @@ impl CoreTable {
         ensures told { view pass.new ≡ hearing (view pass.old) result }
     {
         laws_hold();
-        let at = self.setting.workers as usize + 1;
+        let at = self.layout().batch_count();
         self.table.shared.load::<Hear>(&mut pass.seat, at)
     }
 
@@ -330,7 +331,7 @@ impl CoreTable {
         ensures stopped { view pass.new ≡ stopping (view pass.old) }
     {
         laws_hold();
-        let at = self.setting.workers as usize + 3;
+        let at = self.layout().stop();
         self.table.shared.store::<Stop>(&mut pass.seat, at, 1);
     }
 
@@ -343,7 +344,7 @@ impl CoreTable {
             × (view pass.new ≡ finding_none (view pass.old) seen) }
     {
         laws_hold();
-        let at = self.setting.workers as usize + 3;
+        let at = self.layout().stop();
         self.table.shared.load::<LookAtStop>(&mut pass.seat, at) == 1
     }
 }

@@ -4,6 +4,7 @@ ghost use Rattle.sp_order.specs.Jobs.{job_tree};
 ghost use Rattle.sp_order.specs.Preorder.{nodes_of};
 ghost use Rattle.core_model.specs.State.{core_job};
 ghost use Rattle.core_model.specs.Measure.{call_count, one_if_call};
+ghost use Rattle.table_rule.specs.Words.{node_at, word_count};
 ghost use Rattle.table_rule.specs.Shows.{reserved};
 ghost use Rattle.core_table.specs.Passes.{job_in, planned_in, setting_in, opening_view, IsPassOf, view};
 
@@ -16,32 +17,32 @@ use seq_objects::Act;
 use sp_order::node::Kind;
 use sp_order::{Job, PlannedJob};
 use std::alloc::{AllocError, Global};
-use table_rule::Slot;
 use table_rule::laws::laws_hold;
 use table_rule::plays::{Cut, Enrol};
+use table_rule::{Layout, MOST_WORKERS, Slot};
 
 /// The words of the opening state: all are 0 but the root's, which is 1 (ready).
-fn opening_words(alloc: Global, workers: usize, nodes: usize) -> Result<Vec<u64>, AllocError>
-    requires { (workers ≤ 32) × (0 < nodes) × (nodes < 40000) }
-    ensures { IfOk result (λ v. v.items
-        ≡ slice_set (replicate (workers + 4 + nodes + nodes + nodes) 0) (workers + 4) 1) }
+fn opening_words(alloc: Global, layout: Layout) -> Result<Vec<u64>, AllocError>
+    requires { (layout.workers ≤ MOST_WORKERS) × (0 < layout.nodes) × (layout.nodes < 40000) }
+    ensures { IfOk result (λ v. v.items ≡ slice_set
+        (replicate (word_count layout.workers layout.nodes) 0) (node_at layout.workers 0) 1) }
 {
-    let mut words = Vec::from_elem(alloc, 0u64, workers + 4 + nodes + nodes + nodes)?;
-    words[workers + 4] = 1;
+    let mut words = Vec::from_elem(alloc, 0u64, layout.word_count())?;
+    words[layout.node(0)] = 1;
     Ok(words)
 }
 
 /// The slots of the opening state: a vacant record slot for each worker, an empty shop, and an empty book with room for
 /// `room` batches.
-fn opening_slots(alloc: Global, workers: usize, room: usize) -> Result<Vec<Slot>, AllocError>
-    requires { workers ≤ 32 }
+fn opening_slots(alloc: Global, layout: Layout, room: usize) -> Result<Vec<Slot>, AllocError>
+    requires { layout.workers ≤ MOST_WORKERS }
     ensures { IfOk result (λ v. v.items
-        ≡ replicate workers Slot.Vacant ++ Slot.Shop [] ∷ Slot.Book (reserved [] room) ∷ []) }
+        ≡ replicate layout.workers Slot.Vacant ++ Slot.Shop [] ∷ Slot.Book (reserved [] room) ∷ []) }
 {
     let shop = Shop::new(alloc)?;
     let book = ReservedHistory::with_capacity(alloc, room)?;
-    let mut slots = Vec::with_capacity(alloc, workers + 2)?;
-    for _ in 0..workers {
+    let mut slots = Vec::with_capacity(alloc, layout.slot_count())?;
+    for _ in 0..layout.workers {
         slots.push_reserved(Slot::Vacant);
     }
     slots.push_reserved(Slot::Shop(shop));
@@ -88,7 +89,7 @@ impl CoreTable {
     ) -> Result<(CoreTable, Vec<Pass>), AllocError>
         requires leaves { IsSome job.now.shape }
         requires some_workers { 0 < workers }
-        requires few_workers { workers ≤ 32 }
+        requires few_workers { workers ≤ MOST_WORKERS }
         ensures job { IfOk result (λ r. (planned_in r.0 ≡ job.now) × ((job_in r.0).workers ≡ workers)) }
         ensures count { IfOk result (λ r. length r.1.items ≡ workers) }
         ensures passes { IfOk result (λ r. (w : ℕ) → IfSome (slice_get r.1.items w)
@@ -100,7 +101,7 @@ impl CoreTable {
 
     /// The table and the passes of a setting: a planned job and a number of workers.
     fn of(alloc: Global, setting: Setting) -> Result<(CoreTable, Vec<Pass>), AllocError>
-        requires workers { (0 < setting.workers) × (setting.workers ≤ 32) }
+        requires workers { (0 < setting.workers) × (setting.workers ≤ MOST_WORKERS) }
         ensures table { IfOk result (λ r. setting_in r.0 ≡ setting) }
         ensures count { IfOk result (λ r. length r.1.items ≡ setting.workers) }
         ensures passes { IfOk result (λ r. (w : ℕ) → IfSome (slice_get r.1.items w)
@@ -109,9 +110,10 @@ impl CoreTable {
         laws_hold();
         let nodes = setting.job.nodes();
         let workers = setting.workers;
+        let layout = Layout { workers, nodes };
         let room = count_calls(&setting.job, nodes);
-        let words = opening_words(alloc, workers as usize, nodes as usize)?;
-        let slots = opening_slots(alloc, workers as usize, room)?;
+        let words = opening_words(alloc, layout)?;
+        let slots = opening_slots(alloc, layout, room)?;
         let (table, mut seat) = match Table::new(alloc, &words, slots, &setting) {
             Ok(made) => made,
             Err(Refused { slots: _ }) => return Err(AllocError),
@@ -120,7 +122,7 @@ impl CoreTable {
         for worker in 0..workers {
             let mut own = table.shared.split_seat::<Cut>(&mut seat);
             table.shared.load::<Enrol>(&mut own, 0);
-            let owed = Vec::with_capacity(alloc, 32)?;
+            let owed = Vec::with_capacity(alloc, MOST_WORKERS as usize)?;
             passes.push_reserved(Pass {
                 seat: own,
                 worker,

@@ -4,6 +4,7 @@ ghost use Rattle.std.specs.Coded.{codes};
 ghost use Rattle.sp_order.specs.Jobs.{job_tree};
 ghost use Rattle.sp_order.specs.TreeEncoding.{coded_tree};
 ghost use Rattle.sp_order.specs.Precedence.{leaves};
+ghost use Rattle.table_rule.specs.Words.{word_count, slot_count};
 ghost use Rattle.table_rule.specs.Shows.{job_of};
 
 use atomic_table::{Seat, Table};
@@ -12,7 +13,7 @@ use seq_objects::Act;
 use sp_order::PlannedJob;
 use std::alloc::Global;
 use table_rule::plays::Law;
-use table_rule::{Slot, View};
+use table_rule::{Layout, Slot, View};
 
 /// The running table: the core's state as atomic words and slots that all passes share.
 #[derive(Drop)]
@@ -21,8 +22,8 @@ pub struct CoreTable {
     pub(crate) setting: Setting,
     pub(crate) nodes: u32,
     ghost key: { (table.shared.key ≡ setting) × (nodes ≡ (job_of setting).plan.count) },
-    ghost sized: { (table.shared.table_id.words ≡ setting.workers + 4 + nodes + nodes + nodes)
-        × (table.shared.table_id.slots ≡ setting.workers + 2) },
+    ghost sized: { (table.shared.table_id.words ≡ word_count setting.workers nodes)
+        × (table.shared.table_id.slots ≡ slot_count setting.workers) },
     ghost few: { (0 < setting.workers) × (setting.workers ≤ 32) × (nodes < 40000) × (0 < nodes) },
     ghost shape: { setting.job.shape ≡ Some (job_tree setting.job) } by { Prim.hlevel (codes, coded_tree) },
     ghost acts: { (length setting.job.acts ≡ leaves (job_tree setting.job))
@@ -47,6 +48,17 @@ pub struct Pass {
 
 impl CoreTable {
     ghost use Rattle.core_table.specs.Passes.{job_in, planned_in};
+
+    /// Where the table's words stand. Memory: none.
+    pub(crate) fn layout(&self) -> Layout
+        ensures workers { result.workers ≡ self.now.setting.workers }
+        ensures nodes { result.nodes ≡ self.now.nodes }
+    {
+        Layout {
+            workers: self.setting.workers,
+            nodes: self.nodes,
+        }
+    }
 
     /// The job, with its plan. Memory: none.
     pub fn job(&self) -> &PlannedJob

@@ -25,7 +25,7 @@ use Rattle.table_rule.specs.declared.view.HoldView.{HoldView}
 use Rattle.table_rule.specs.declared.view.LeftCall.{LeftCall}
 use Rattle.table_rule.specs.declared.view.View.{View}
 use Rattle.core_model.specs.declared.setting.Setting.{Setting}
-use Rattle.table_rule.specs.Words.{stop_at, WordsShow}
+use Rattle.table_rule.specs.Words.{stop_at, slot_count, WordsShow}
 pub use Rattle.core_model.specs.Settings.{job_of}
 
 -- a table as plain data: its words, its slots and the view of each seat
@@ -84,7 +84,7 @@ BookAt room (Some h) book home = BookIf h.published room book home
 -- The slots show these parts of a state. Their order: the workers' record slots, the shop, the book.
 pub record SlotsShow (job : CoreJob) (room : ℕ) (homes : List (Option Slot)) (task : ℕ → Task) (status : ℕ → Status)
     (hold : Maybe Hold) (book : List (List Entry)) : Type 0 where
-  pub wide : length homes ≡ job.workers + 2
+  pub wide : length homes ≡ slot_count job.workers
   pub records : (w : ℕ) → w < job.workers → RecordAt job book (task w) (status w) (get_elem? homes w)
   pub shop : ShopAt hold book (get_elem? homes job.workers)
   pub batches : BookAt room hold book (get_elem? homes (job.workers + 1))

@@ -1,5 +1,5 @@
 -- The layout of a table's words, and how each word encodes its part of the state.
-use Rattle.std.specs.Prelude.{ℕ, ◌≡◌, ◌<◌, ◌+◌, ◌*◌, Option, None, Some, List, length, slice_index}
+use Rattle.std.specs.Prelude.{ℕ, ◌≡◌, ◌<◌, ◌+◌, ◌*◌, ◌/◌, ◌%◌, Option, None, Some, List, length, slice_index}
 use Rattle.table_rule.specs.CoreWords.{Progress, Waiting, Ready, Taken, Done, Ran, Status, Free, Pending, Executing, Served}
 use Rattle.core_model.specs.State.{Hold}
 
@@ -26,6 +26,13 @@ mark_at workers nodes n = workers + 4 + nodes + n
 abbrev pub value_at : ℕ → ℕ → ℕ → ℕ
 value_at workers nodes n = workers + 4 + nodes + nodes + n
 
+abbrev pub word_count : ℕ → ℕ → ℕ
+word_count workers nodes = workers + 4 + nodes + nodes + nodes
+
+-- the workers' record slots, the shop's slot, and the book's
+abbrev pub slot_count : ℕ → ℕ
+slot_count workers = workers + 2
+
 -- A node's progress, from the lowest bit: 2 bits for which progress; for a leaf that has run also 5 bits for the
 -- worker, 20 for the start tick, and the rest for the end tick.
 abbrev pub progress_code : Progress → ℕ
@@ -34,6 +41,16 @@ progress_code Ready = 1
 progress_code Taken = 2
 progress_code Done = 3
 progress_code (Ran worker start end) = 3 + 4 * (worker + 32 * (start + 1048576 * end))
+
+-- the parts of the progress word of a leaf that has run
+abbrev pub worker_in : ℕ → ℕ
+worker_in word = word / 4 % 32
+
+abbrev pub start_in : ℕ → ℕ
+start_in word = word / 128 % 1048576
+
+abbrev pub end_in : ℕ → ℕ
+end_in word = word / 134217728
 
 abbrev pub status_code : Status → ℕ
 status_code Free = 0
@@ -54,7 +71,7 @@ HasValue (Some value) word = word ≡ value
 -- the words encode these parts of a state
 pub record WordsShow (workers nodes : ℕ) (words : List ℕ) (node : ℕ → Progress) (mark : ℕ → ℕ) (value : ℕ → Option ℕ)
     (status : ℕ → Status) (hold : Option Hold) (tick count : ℕ) : Type 0 where
-  pub wide : length words ≡ workers + 4 + nodes + nodes + nodes
+  pub wide : length words ≡ word_count workers nodes
   pub statuses : (w : ℕ) → w < workers → slice_index words w ≡ status_code (status w)
   pub flag : slice_index words (flag_at workers) ≡ flag_code hold
   pub batches : slice_index words (count_at workers) ≡ count

@@ -7,10 +7,14 @@
 #![tactic(auto)]
 
 pub mod laws;
+mod layout;
 pub mod plays;
+mod progress;
 mod slot;
 mod view;
 
+pub use layout::{Layout, MOST_WORKERS};
+pub use progress::{RanLeaf, TICKS, decode_undoes_encode};
 #[doc(hidden)]
 pub use slot::{OpRecord, Slot};
 pub use view::{HoldView, LeftCall, TakenCall, View};

@@ -1,16 +1,15 @@
 -- What a pass that has seen the root done knows of the closed table.
-use Rattle.std.proofs.Common.{ℕ, zero, suc, ◌≡◌, ◌<◌, ◌+◌, ◌/◌, ◌%◌, true, Option as Maybe, List, [], ◌∷◌, length, get_or, arith, refl, sym, subst}
+use Rattle.std.proofs.Common.{ℕ, zero, suc, ◌≡◌, ◌+◌, true, Option as Maybe, List, [], ◌∷◌, length, get_or, arith, refl, sym, subst}
 use mathlib.Core.Option.{some, some-injective, some-ne-none}
 use lib.ListN.{get_elem?}
 use Rattle.atomic_table.specs.Table.{Final, Seen}
-use Rattle.core_model.specs.declared.progress.Progress.TheVariants.{Ran}
 use Rattle.core_model.specs.State.{CoreJob, Hold, State}
 use Rattle.core_model.specs.Tasks.{is_done}
 use Rattle.core_model.specs.Invariant.{Parts}
 use Rattle.table_rule.specs.declared.view.View.{View}
 use Rattle.table_rule.specs.declared.slot.Slot.{Slot}
 use Rattle.table_rule.specs.declared.slot.Slot.TheVariants as Slots
-use Rattle.table_rule.specs.Words.{WordsShow, progress_code}
+use Rattle.table_rule.specs.Words.{WordsShow}
 use Rattle.table_rule.specs.Laws.{Laws}
 use Rattle.table_rule.specs.Shows.{St, reserved, BookAt, IsFront, events_by, Shows}
 

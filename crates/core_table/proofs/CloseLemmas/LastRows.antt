@@ -1,5 +1,5 @@
 -- The rows that are read from the words of a closed table.
-use Rattle.std.proofs.Common.{ℕ, ◌≡◌, ◌≢◌, ◌<◌, ◌≤◌, ◌/◌, ◌%◌, Option as Maybe, None, Some, List, length, get_or, arith, refl, sym, ap, ◌∙◌}
+use Rattle.std.proofs.Common.{ℕ, ◌≡◌, ◌≢◌, ◌<◌, ◌≤◌, Option as Maybe, None, Some, List, length, get_or, arith, refl, sym, ap, ◌∙◌}
 use Rattle.std.specs.List.{AllByRecursion}
 use Rattle.batch_history.specs.declared.row.Row.{Row}
 use Rattle.sp_order.specs.declared.node.Kind.TheVariants.{LeafNode}
@@ -9,7 +9,7 @@ use Rattle.core_model.specs.State.{CoreJob, State}
 use Rattle.core_model.specs.Invariant.Ticks.{start_of as start_of_node}
 use Rattle.core_model.specs.Invariant.{Parts}
 use Rattle.core_model.specs.Reports.{HasRun, IsRowOf}
-use Rattle.table_rule.specs.Words.{node_at, value_at, progress_code, HasValue, WordsShow}
+use Rattle.table_rule.specs.Words.{node_at, value_at, progress_code, worker_in, start_in, end_in, HasValue, WordsShow}
 use Rattle.table_rule.specs.Laws.{Laws}
 use Rattle.core_table.specs.Closing.{RowInWords}
 use Rattle.table_rule.proofs.TableLemmas.Words.{worker_of, start_of, end_of}
@@ -35,9 +35,9 @@ row_told job laws s ws leaf_total kept few shown inside ran row told =
     let w32 : r.0 < 32 = omega (arith, worker_low, few) in
     let s20 : r.1 < 1048576 = omega (arith, start_low, most, laws.few) in
     let word : get_or ws (node_at job.workers n) 0 ≡ progress_code (Ran r.0 r.1 r.2) = shown.progress n below ∙ ap progress_code r.3 in
-    let a : row.worker ≡ r.0 = told.worker ∙ (ap (λ (x : ℕ). x / 4 % 32) word ∙ worker_of r.0 r.1 r.2 w32) in
-    let b : row.start ≡ r.1 = told.start ∙ (ap (λ (x : ℕ). x / 128 % 1048576) word ∙ start_of r.0 r.1 r.2 w32 s20) in
-    let c : row.end ≡ r.2 = told.end ∙ (ap (λ (x : ℕ). x / 134217728) word ∙ end_of r.0 r.1 r.2 w32 s20) in
+    let a : row.worker ≡ r.0 = told.worker ∙ (ap worker_in word ∙ worker_of r.0 r.1 r.2 w32) in
+    let b : row.start ≡ r.1 = told.start ∙ (ap start_in word ∙ start_of r.0 r.1 r.2 w32 s20) in
+    let c : row.end ≡ r.2 = told.end ∙ (ap end_in word ∙ end_of r.0 r.1 r.2 w32 s20) in
     let v = value_is (s.value n) (get_or ws (value_at job.workers job.plan.count n) 0) (ran row.leaf told.low).1 (shown.values n below) in
     record {
       ran = r.3 ∙ (λ i. Ran (sym a i) (sym b i) (sym c i));

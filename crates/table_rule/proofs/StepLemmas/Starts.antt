@@ -14,7 +14,7 @@ use Rattle.core_model.specs.State.{put, CoreJob, Hold, opening_state}
 use Rattle.table_rule.specs.declared.view.View.{View}
 use Rattle.table_rule.specs.declared.slot.Slot.{Slot}
 use Rattle.table_rule.specs.declared.slot.Slot.TheVariants as Slots
-use Rattle.table_rule.specs.Words.{node_at, WordsShow}
+use Rattle.table_rule.specs.Words.{node_at, word_count, WordsShow}
 use Rattle.table_rule.specs.Laws.{Laws}
 use Rattle.batch_history.specs.declared.batch.Entry.{Entry}
 use Rattle.batch_history.specs.Reserved.{ReservedView}
@@ -248,7 +248,7 @@ blank P N =
       values = λ n low. tt;
     }
 
-pub starts : (job : CoreJob) (room : ℕ) (tree : Tree) (laws : Laws job) (words : List ℕ) → words ≡ set (replicate (job.workers + 4 + job.plan.count + job.plan.count + job.plan.count) 0) (node_at job.workers 0) 1
+pub starts : (job : CoreJob) (room : ℕ) (tree : Tree) (laws : Laws job) (words : List ℕ) → words ≡ set (replicate (word_count job.workers job.plan.count) 0) (node_at job.workers 0) 1
     → Shows job room (opening words (replicate job.workers Slots.Vacant ++ Slots.Shop [] ∷ Slots.Book (reserved [] room) ∷ []) (newcomer tree job.workers job.plan.count room))
 unfolding opening_state opening_core
 starts job room tree laws words are =

@@ -1,5 +1,5 @@
 -- A table shows at most one state: each part is determined by a word, a slot or a view.
-use Rattle.std.proofs.Common.{ℕ, ◌≡◌, ◌≢◌, ◌<◌, ◌≤◌, ◌+◌, ◌/◌, ◌%◌, Option as Maybe, None, Some, List, get_or, arith, refl, sym, ap, ◌∙◌, subst, inl, inr}
+use Rattle.std.proofs.Common.{ℕ, ◌≡◌, ◌≢◌, ◌<◌, ◌≤◌, ◌+◌, Option as Maybe, None, Some, List, get_or, arith, refl, sym, ap, ◌∙◌, subst, inl, inr}
 use mathlib.Core.Option.{some, some-injective}
 use lib.ListN.{get_elem?}
 use native.Mathlib.Decide.{dec_le}
@@ -19,7 +19,7 @@ use Rattle.table_rule.specs.declared.slot.Slot.{Slot}
 use Rattle.table_rule.specs.declared.slot.Slot.TheVariants as Slots
 use Rattle.table_rule.specs.declared.view.View.{View}
 use Rattle.table_rule.specs.declared.view.HoldView.{HoldView}
-use Rattle.table_rule.specs.Words.{progress_code, status_code, flag_code, value_at, HasValue}
+use Rattle.table_rule.specs.Words.{progress_code, worker_in, start_in, end_in, status_code, flag_code, value_at, HasValue}
 use Rattle.table_rule.specs.Shows.{St, Home, RecordAt, ShopAt, HoldKnown, Mine, Shows}
 use Rattle.table_rule.specs.OneState.{AreOne}
 use Rattle.table_rule.specs.Laws.{Laws}
@@ -56,9 +56,9 @@ same_progress (Ran w s e) Done same low low' leaf leaf' = absurd (leaf' w s e re
 same_progress (Ran w s e) (Ran v t f) same low low' leaf leaf' =
     let p = low w s e refl in
     let q = low' v t f refl in
-    let worker = sym (worker_of w s e p.0) ∙ (ap (λ (x : ℕ). x / 4 % 32) same ∙ worker_of v t f q.0) in
-    let start = sym (start_of w s e p.0 p.1) ∙ (ap (λ (x : ℕ). x / 128 % 1048576) same ∙ start_of v t f q.0 q.1) in
-    let end = sym (end_of w s e p.0 p.1) ∙ (ap (λ (x : ℕ). x / 134217728) same ∙ end_of v t f q.0 q.1) in
+    let worker = sym (worker_of w s e p.0) ∙ (ap worker_in same ∙ worker_of v t f q.0) in
+    let start = sym (start_of w s e p.0 p.1) ∙ (ap start_in same ∙ start_of v t f q.0 q.1) in
+    let end = sym (end_of w s e p.0 p.1) ∙ (ap end_in same ∙ end_of v t f q.0 q.1) in
     λ i. Ran (worker i) (start i) (end i)
 
 receipts : (r q : Receipt) → Slots.Receipt r ≡ Slots.Receipt q → r ≡ q

@@ -9,7 +9,7 @@ use Rattle.core_table.proofs.close.read_rows.Given as goal
 abbrev pub invariant-loop-leaf : goal.invariant-loop-leaf
 invariant-loop-leaf l = record {
   leaves : map (λ row. row.leaf) l.rows.items ≡ range_with_len 0 l.leaf;
-  told : AllByRecursion (RowInWords l.workers l.nodes l.leaf_total (nodes_of (job_tree l.job)).node_of (slots_items l.closed.words)) l.rows.items;
+  told : AllByRecursion (RowInWords l.layout.workers l.layout.nodes l.leaf_total (nodes_of (job_tree l.job)).node_of (slots_items l.closed.words)) l.rows.items;
   len : vec_len l.rows ≡ l.leaf;
   room : l.leaf_total ≤ vec_capacity l.rows;
 }

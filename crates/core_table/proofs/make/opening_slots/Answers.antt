@@ -8,10 +8,10 @@ use Rattle.core_table.proofs.make.opening_slots.Goals as goal
 pub returns : goal.returns
 returns c =
     let shop : List (List Entry) = [] in
-    let all : c.loop.counter ≡ c.args.workers = omega arith in
+    let all : c.loop.counter ≡ c.args.layout.workers = omega arith in
     c.push_reserved-3.ensures.items
     ∙ (ap (λ (l : List Slot). l ++ Slots.Book c.in_ok-book.book ∷ [])
     (c.push_reserved-2.ensures.items ∙ ap (λ (l : List Slot). l ++ Slots.Shop c.in_ok-shop.shop ∷ []) (c.loop.invariant.items ∙ ap (λ (n : ℕ). replicate n Slots.Vacant) all))
-    ∙ (append_assoc (replicate c.args.workers Slots.Vacant) (Slots.Shop c.in_ok-shop.shop ∷ []) (Slots.Book c.in_ok-book.book ∷ [])
-    ∙ (ap (λ (s : List (List Entry)). replicate c.args.workers Slots.Vacant ++ Slots.Shop s ∷ Slots.Book c.in_ok-book.book ∷ []) c.in_ok-shop.ensures
-    ∙ ap (λ (b : ReservedView). replicate c.args.workers Slots.Vacant ++ Slots.Shop shop ∷ Slots.Book b ∷ []) c.in_ok-book.ensures)))
+    ∙ (append_assoc (replicate c.args.layout.workers Slots.Vacant) (Slots.Shop c.in_ok-shop.shop ∷ []) (Slots.Book c.in_ok-book.book ∷ [])
+    ∙ (ap (λ (s : List (List Entry)). replicate c.args.layout.workers Slots.Vacant ++ Slots.Shop s ∷ Slots.Book c.in_ok-book.book ∷ []) c.in_ok-shop.ensures
+    ∙ ap (λ (b : ReservedView). replicate c.args.layout.workers Slots.Vacant ++ Slots.Shop shop ∷ Slots.Book b ∷ []) c.in_ok-book.ensures)))

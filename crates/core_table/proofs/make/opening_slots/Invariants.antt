@@ -6,5 +6,5 @@ abbrev pub invariant-loop : goal.invariant-loop
 invariant-loop l = record {
   items : l.slots.items ≡ replicate l.counter Slots.Vacant;
   len : vec_len l.slots ≡ l.counter;
-  room : l.workers + 2 ≤ vec_capacity l.slots;
+  room : l.fn.layout.workers + 2 ≤ vec_capacity l.slots;
 }

@@ -14,7 +14,7 @@ fetch_add-second-requires c =
     let sides = laws.arrive n p (sym c.after.ensures ∙ c.in-Arrive.is) in
     let below = block_in job.plan p (ParNode sides.0 sides.1) laws.plan sides.2 in (
       c.requires.pass.0,
-      omega (arith, self.sized.0, self.key.1, below),
-      rw self.key.0 (λ a b d e f. let x = (arrives job (room_of self.setting) laws _ _ v pass.seat.me.1 pass.worker pass.number.0 pass.number.1 c.requires.pass.2 c.requires.pass.4 c.requires.pass.9
+      omega (arith, self.sized.0, c.mark-at.ensures, c.layout.ensures.workers, c.layout.ensures.nodes, self.key.1, below),
+      rw (self.key.0, c.mark-at.ensures, c.layout.ensures.workers, c.layout.ensures.nodes) (λ a b d e f. let x = (arrives job (room_of self.setting) laws _ _ v pass.seat.me.1 pass.worker pass.number.0 pass.number.1 c.requires.pass.2 c.requires.pass.4 c.requires.pass.9
           _ p sides.0 sides.1 n (omega (arith, self.key.1)) (pass.own.0 ∙ c.in-Whole.is) c.requires.pass.3 sides.2 sides.3 below c.requires.free) a b d e f in (x.0, x.1, x.2, x.3.0, x.4)),
     )

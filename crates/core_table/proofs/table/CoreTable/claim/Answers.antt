@@ -20,8 +20,8 @@ compare_exchange-requires-2 c =
     let laws = c.laws_hold.ensures self.setting (few_nodes self.nodes job.plan.count self.key.1 self.few.2) self.acts.0 self.acts.1 in
     let below = c.if-node-self.false in (
       c.requires.pass.0,
-      omega (arith, self.sized.0, below),
-      rw self.key.0
+      omega (arith, self.sized.0, c.node-at.ensures, c.layout.ensures.workers, below),
+      rw (self.key.0, c.node-at.ensures, c.layout.ensures.workers)
           (λ a b d e f. let x = (claims job (room_of self.setting) laws _ _ pass.seat.me.0 pass.seat.me.1 pass.worker pass.number.0 pass.number.1 c.requires.pass.2 c.requires.pass.4 c.requires.pass.9
           c.args.node (omega (arith, below, self.key.1)) c.requires.idle c.requires.free) a b d e f in (x.0, x.1, x.2, x.3.0, x.4)),
     )

@@ -13,7 +13,7 @@ store-requires c =
     let kind : job.plan.kind c.args.node ≡ Some (ParNode c.in-ParNode._left c.in-ParNode._right) = sym c.kind.ensures ∙ ap Some c.in-ParNode.is in
     let below = block_in job.plan c.args.node (ParNode c.in-ParNode._left c.in-ParNode._right) laws.plan kind in (
       c.requires.pass.0,
-      omega (arith, self.sized.0, self.key.1, below),
-      rw self.key.0 (λ a b d e f. let x = (finishes_par job (room_of self.setting) laws _ _ v pass.seat.me.1 pass.worker pass.number.0 pass.number.1 c.requires.pass.2 c.requires.pass.4 c.requires.pass.9
+      omega (arith, self.sized.0, c.node-at.ensures, c.layout.ensures.workers, self.key.1, below),
+      rw (self.key.0, c.node-at.ensures, c.layout.ensures.workers) (λ a b d e f. let x = (finishes_par job (room_of self.setting) laws _ _ v pass.seat.me.1 pass.worker pass.number.0 pass.number.1 c.requires.pass.2 c.requires.pass.4 c.requires.pass.9
           c.args.node c.in-ParNode._left c.in-ParNode._right c.requires.handed kind below c.requires.free) a b d e f in (x.0, x.1, x.2, x.3.0, x.4)),
     )

@@ -14,7 +14,7 @@ store-requires c =
     let parent = laws.parent c.args.node p (sym c.after.ensures ∙ c.in-FinishParent.is) in
     let below = block_in job.plan p (SeqNode parent.0 c.args.node) laws.plan parent.1 in (
       c.requires.pass.0,
-      omega (arith, self.sized.0, self.key.1, below),
-      rw self.key.0 (λ a b d e f. let x = (finishes_seq job (room_of self.setting) laws _ _ v pass.seat.me.1 pass.worker pass.number.0 pass.number.1 c.requires.pass.2 c.requires.pass.4 c.requires.pass.9
+      omega (arith, self.sized.0, c.node-at.ensures, c.layout.ensures.workers, self.key.1, below),
+      rw (self.key.0, c.node-at.ensures, c.layout.ensures.workers) (λ a b d e f. let x = (finishes_seq job (room_of self.setting) laws _ _ v pass.seat.me.1 pass.worker pass.number.0 pass.number.1 c.requires.pass.2 c.requires.pass.4 c.requires.pass.9
           p parent.0 c.args.node c.requires.whole parent.1 below c.requires.free) a b d e f in (x.0, x.1, x.2, x.3.0, x.4)),
     )

@@ -3,7 +3,7 @@ use Rattle.sp_order.specs.Jobs.{JobValue, IsJob, job_tree}
 use Rattle.sp_order.specs.Precedence.{leaf_count, leaves}
 use Rattle.table_rule.specs.declared.slot.Slot.TheVariants as Slots
 use Rattle.core_table.specs.declared.table.Pass.{Pass}
-use Rattle.table_rule.specs.Words.{node_at}
+use Rattle.table_rule.specs.Words.{node_at, word_count}
 use Rattle.table_rule.specs.Shows.{room_of, job_of}
 use Rattle.table_rule.specs.Plays.{Sat}
 use Rattle.table_rule.specs.Views.{enrolling, pass_of, rest_of}
@@ -23,9 +23,7 @@ new-requires c =
     let setting = c.args.setting in let job = job_of setting in let workers = setting.workers in
     let nodes : c.nodes-nodes.result ≡ job.plan.count = c.nodes-nodes.ensures.nodes in
     let laws = c.laws_hold.ensures setting (few_nodes c.nodes-nodes.result job.plan.count nodes c.nodes-nodes.ensures.most) (all_acts c.nodes-nodes.ensures.shape c.nodes-nodes.ensures.job) c.nodes-nodes.ensures.job.most in
-    let root : workers + 4 ≡ node_at workers 0 = omega arith in
-    let are = c.deref.ensures.value ∙ (c.in_ok-words.ensures ∙ (ap (λ (n : ℕ). set (replicate (workers + 4 + n + n + n) 0) (workers + 4) 1) nodes
-    ∙ ap (λ (i : ℕ). set (replicate (workers + 4 + job.plan.count + job.plan.count + job.plan.count) 0) i 1) root)) in
+    let are = c.deref.ensures.value ∙ (c.in_ok-words.ensures ∙ ap (λ (n : ℕ). set (replicate (word_count workers n) 0) (node_at workers 0) 1) nodes) in
     let room = c.count_calls-room.ensures workers in
     rw (c.in_ok-slots.ensures, room) (starts job (room_of setting) (job_tree setting.job) laws c.deref.result.now are)
 

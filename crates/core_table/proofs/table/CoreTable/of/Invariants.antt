@@ -1,4 +1,5 @@
-use Rattle.std.proofs.Common.{◌≡◌, ◌≤◌, ℕ, ◌+◌, [], length, IfSome, vec_len, vec_capacity, slice_get}
+use Rattle.std.proofs.Common.{◌≡◌, ◌≤◌, ℕ, [], length, IfSome, vec_len, vec_capacity, slice_get}
+use Rattle.table_rule.specs.Words.{word_count, slot_count}
 use Rattle.table_rule.specs.Views.{enrolling, pass_of}
 use Rattle.core_table.specs.Passes.{IsSeatOf}
 use Rattle.table_rule.specs.Views.{rest_from}
@@ -7,8 +8,8 @@ use Rattle.core_table.proofs.table.CoreTable.of.Given as goal
 abbrev pub invariant-loop-worker : goal.invariant-loop-worker
 invariant-loop-worker l = record {
   key : l.table.shared.key ≡ l.setting;
-  words : l.table.shared.table_id.words ≡ l.setting.workers + 4 + l.nodes + l.nodes + l.nodes;
-  slots : l.table.shared.table_id.slots ≡ l.setting.workers + 2;
+  words : l.table.shared.table_id.words ≡ word_count l.setting.workers l.nodes;
+  slots : l.table.shared.table_id.slots ≡ slot_count l.setting.workers;
   same : l.seat.table_id ≡ l.table.shared.table_id;
   seat : l.seat.me ≡ (rest_from l.worker l.setting, []);
   count : vec_len l.passes ≡ l.worker;

@@ -17,8 +17,8 @@ store-requires c =
     let kind : job.plan.kind c.args.node ≡ Some (ParNode c.in-ParNode._left c.in-ParNode.right) = sym c.kind.ensures ∙ ap Some c.in-ParNode.is in
     let sides = par_sides job.plan c.args.node c.in-ParNode._left c.in-ParNode.right laws.plan kind in (
       c.requires.pass.0,
-      omega (arith, self.sized.0, self.key.1, sides.1),
-      rw self.key.0 (λ a b d e f. let x = (opens_right job (room_of self.setting) laws _ _ v pass.seat.me.1 pass.worker pass.number.0 pass.number.1 c.requires.pass.2 c.requires.pass.4 c.requires.pass.9
+      omega (arith, self.sized.0, c.node.ensures, c.layout-layout.ensures.workers, self.key.1, sides.1),
+      rw (self.key.0, c.node.ensures, c.layout-layout.ensures.workers) (λ a b d e f. let x = (opens_right job (room_of self.setting) laws _ _ v pass.seat.me.1 pass.worker pass.number.0 pass.number.1 c.requires.pass.2 c.requires.pass.4 c.requires.pass.9
           c.args.node c.in-ParNode._left c.in-ParNode.right c.requires.run kind c.requires.free) a b d e f in (x.0, x.1, x.2, x.3.0, x.4)),
     )
 
@@ -29,8 +29,8 @@ store-requires-in-SeqNode c =
     let kind : job.plan.kind c.args.node ≡ Some (SeqNode c.in-SeqNode.left c.in-SeqNode._right) = sym c.kind.ensures ∙ ap Some c.in-SeqNode.is in
     let sides = seq_sides job.plan c.args.node c.in-SeqNode.left c.in-SeqNode._right laws.plan kind in (
       c.requires.pass.0,
-      omega (arith, self.sized.0, self.key.1, sides.0),
-      rw self.key.0 (λ a b d e f. let x = (opens_first job (room_of self.setting) laws _ _ v pass.seat.me.1 pass.worker pass.number.0 pass.number.1 c.requires.pass.2 c.requires.pass.4 c.requires.pass.9
+      omega (arith, self.sized.0, c.node-in-SeqNode.ensures, c.layout-layout.ensures.workers, self.key.1, sides.0),
+      rw (self.key.0, c.node-in-SeqNode.ensures, c.layout-layout.ensures.workers) (λ a b d e f. let x = (opens_first job (room_of self.setting) laws _ _ v pass.seat.me.1 pass.worker pass.number.0 pass.number.1 c.requires.pass.2 c.requires.pass.4 c.requires.pass.9
           c.args.node c.in-SeqNode.left c.in-SeqNode._right c.requires.run kind c.requires.free) a b d e f in (x.0, x.1, x.2, x.3.0, x.4)),
     )
 

@@ -32,7 +32,7 @@ store-requires c =
     let left : c.args.node ≡ c.in-SeqNode._left = cc in
     let sides = seq_sides job.plan c.in-OpenSecond.parent c.in-SeqNode._left c.in-SeqNode.right laws.plan kind in (
       c.requires.pass.0,
-      omega (arith, self.sized.0, self.key.1, sides.1),
-      rw self.key.0 (λ a b d e f. let x = (opens_second job (room_of self.setting) laws _ _ v pass.seat.me.1 pass.worker pass.number.0 pass.number.1 c.requires.pass.2 c.requires.pass.4 c.requires.pass.9
+      omega (arith, self.sized.0, c.node-at.ensures, c.layout.ensures.workers, self.key.1, sides.1),
+      rw (self.key.0, c.node-at.ensures, c.layout.ensures.workers) (λ a b d e f. let x = (opens_second job (room_of self.setting) laws _ _ v pass.seat.me.1 pass.worker pass.number.0 pass.number.1 c.requires.pass.2 c.requires.pass.4 c.requires.pass.9
           c.in-OpenSecond.parent c.in-SeqNode._left c.in-SeqNode.right (c.requires.whole ∙ ap Whole left) kind c.requires.free) a b d e f in (x.0, x.1, x.2, x.3.0, x.4)),
     )

@@ -21,7 +21,7 @@ load-requires c =
     let self = c.args.self.now in let pass = c.args.pass.now in let job = job_of self.setting in let v = pass.seat.me.0 in
     let laws = c.laws_hold.ensures self.setting (few_nodes self.nodes job.plan.count self.key.1 self.few.2) self.acts.0 self.acts.1 in (
       c.requires.pass.0,
-      omega (arith, self.sized.0),
+      omega (arith, self.sized.0, c.batch_count-at.ensures, c.layout.ensures.workers),
       rw self.key.0 (λ a b d e f. let x = (admits job (room_of self.setting) laws _ _ v pass.seat.me.1 pass.worker pass.number.0 pass.number.1 _ c.requires.pass.2 c.requires.pass.6 self.few.1) a b d e f in (x.0, x.1, x.2, x.3.0, x.4)),
     )
 
@@ -29,29 +29,32 @@ pub exchange-requires : goal.exchange-requires
 exchange-requires c =
     let self = c.args.self.now in let pass = c.args.pass.now in let job = job_of self.setting in let old = pass.seat in let v = old.me.0 in let workers = self.setting.workers in let room = room_of self.setting in
     let h = c.requires.due.0 in let holds = c.requires.due.1 in let due = c.requires.due.2 in
+    let at = c.batch_count-at.result in let place = c.batch_count-at.ensures ∙ ap (λ (n : ℕ). n + 1) c.layout.ensures.workers in
     let book = reserved h.book room in
     let tail = (workers, Slots.Vacant) ∷ vacant h.owed in
-    let list = c.load.ensures.2.0 ∙ holder_list pass.worker workers room old.me h holds due.early c.requires.pass.2 c.requires.pass.6 c.requires.pass.7 in
-    (c.load.ensures.0 ∙ c.requires.pass.0, (Slots.Book book, first c.load.new.seat.me v (workers + 1) (Slots.Book book) tail list))
+    let list = c.load.ensures.2.0 ∙ (holder_list pass.worker workers room old.me h holds due.early c.requires.pass.2 c.requires.pass.6 c.requires.pass.7 ∙ ap (λ (i : ℕ). (v, (i, Slots.Book book) ∷ tail)) (sym place)) in
+    (c.load.ensures.0 ∙ c.requires.pass.0, (Slots.Book book, first c.load.new.seat.me v at (Slots.Book book) tail list))
 
 pub unreachable-requires : goal.unreachable-requires
 unreachable-requires c =
     let self = c.args.self.now in let pass = c.args.pass.now in let job = job_of self.setting in let old = pass.seat in let v = old.me.0 in let workers = self.setting.workers in let room = room_of self.setting in
     let h = c.requires.due.0 in let holds = c.requires.due.1 in let due = c.requires.due.2 in
+    let at = c.batch_count-at.result in let place = c.batch_count-at.ensures ∙ ap (λ (n : ℕ). n + 1) c.layout.ensures.workers in
     let book = reserved h.book room in
     let tail = (workers, Slots.Vacant) ∷ vacant h.owed in
-    let list = c.load.ensures.2.0 ∙ holder_list pass.worker workers room old.me h holds due.early c.requires.pass.2 c.requires.pass.6 c.requires.pass.7 in
-    let found = found_book c.load.new.seat.me v (workers + 1) c.exchange.result book tail _ list c.exchange.ensures.2 in
+    let list = c.load.ensures.2.0 ∙ (holder_list pass.worker workers room old.me h holds due.early c.requires.pass.2 c.requires.pass.6 c.requires.pass.7 ∙ ap (λ (i : ℕ). (v, (i, Slots.Book book) ∷ tail)) (sym place)) in
+    let found = found_book c.load.new.seat.me v at c.exchange.result book tail _ list c.exchange.ensures.2 in
     c.in_default.not-Book book (sym found)
 
 pub append-requires : goal.append-requires
 append-requires c =
     let self = c.args.self.now in let pass = c.args.pass.now in let job = job_of self.setting in let old = pass.seat in let v = old.me.0 in let workers = self.setting.workers in let room = room_of self.setting in
     let h = c.requires.due.0 in let holds = c.requires.due.1 in let due = c.requires.due.2 in
+    let at = c.batch_count-at.result in let place = c.batch_count-at.ensures ∙ ap (λ (n : ℕ). n + 1) c.layout.ensures.workers in
     let book = reserved h.book room in
     let tail = (workers, Slots.Vacant) ∷ vacant h.owed in
-    let list = c.load.ensures.2.0 ∙ holder_list pass.worker workers room old.me h holds due.early c.requires.pass.2 c.requires.pass.6 c.requires.pass.7 in
-    let found = found_book c.load.new.seat.me v (workers + 1) c.exchange.result book tail _ list c.exchange.ensures.2 in
+    let list = c.load.ensures.2.0 ∙ (holder_list pass.worker workers room old.me h holds due.early c.requires.pass.2 c.requires.pass.6 c.requires.pass.7 ∙ ap (λ (i : ℕ). (v, (i, Slots.Book book) ∷ tail)) (sym place)) in
+    let found = found_book c.load.new.seat.me v at c.exchange.result book tail _ list c.exchange.ensures.2 in
     let same : book ≡ c.in-Book.book = books book c.in-Book.book (found ∙ c.in-Book.is) in
     let admitted = c.load.ensures.2.1 h c.args.batch holds (subst (λ (n : ℕ). IsPublishDue n h c.args.batch) (sym c.requires.pass.2) due) in
     record {
@@ -63,39 +66,40 @@ pub fetch_add-requires : goal.fetch_add-requires
 fetch_add-requires c =
     let self = c.args.self.now in let pass = c.args.pass.now in let job = job_of self.setting in let old = pass.seat in let v = old.me.0 in let workers = self.setting.workers in let room = room_of self.setting in
     let h = c.requires.due.0 in let holds = c.requires.due.1 in let due = c.requires.due.2 in
+    let at = c.batch_count-at.result in let place = c.batch_count-at.ensures ∙ ap (λ (n : ℕ). n + 1) c.layout.ensures.workers in
     let book = reserved h.book room in
     let tail = (workers, Slots.Vacant) ∷ vacant h.owed in
-    let list = c.load.ensures.2.0 ∙ holder_list pass.worker workers room old.me h holds due.early c.requires.pass.2 c.requires.pass.6 c.requires.pass.7 in
-    let found = found_book c.load.new.seat.me v (workers + 1) c.exchange.result book tail _ list c.exchange.ensures.2 in
+    let list = c.load.ensures.2.0 ∙ (holder_list pass.worker workers room old.me h holds due.early c.requires.pass.2 c.requires.pass.6 c.requires.pass.7 ∙ ap (λ (i : ℕ). (v, (i, Slots.Book book) ∷ tail)) (sym place)) in
+    let found = found_book c.load.new.seat.me v at c.exchange.result book tail _ list c.exchange.ensures.2 in
     let same : book ≡ c.in-Book.book = books book c.in-Book.book (found ∙ c.in-Book.is) in
-    let later = reserved (h.book ++ c.args.batch ∷ []) room in
     let whole = c.append.ensures ∙ ap (λ (b : ReservedView). reserved (b.batches ++ c.args.batch ∷ []) b.capacity) (sym same) in
-    let emptied = swapped c.load.new.seat.me c.exchange.new.seat.me v (workers + 1) (Slots.Book book) Slots.Vacant tail list c.exchange.ensures.3 in
-    let put_back = swapped c.exchange.new.seat.me c.exchange-2.new.seat.me v (workers + 1) Slots.Vacant (Slots.Book _) tail emptied c.exchange-2.ensures.3
-    ∙ ap (λ (b : ReservedView). (v, (workers + 1, Slots.Book b) ∷ tail)) whole in
+    let emptied = swapped c.load.new.seat.me c.exchange.new.seat.me v at (Slots.Book book) Slots.Vacant tail list c.exchange.ensures.3 in
+    let put_back = swapped c.exchange.new.seat.me c.exchange-2.new.seat.me v at Slots.Vacant (Slots.Book _) tail emptied c.exchange-2.ensures.3
+    ∙ ap (λ (b : ReservedView). (v, (at, Slots.Book b) ∷ tail)) whole in
     let admitted = c.load.ensures.2.1 h c.args.batch holds (subst (λ (n : ℕ). IsPublishDue n h c.args.batch) (sym c.requires.pass.2) due) in
     let laws = c.laws_hold.ensures self.setting (few_nodes self.nodes job.plan.count self.key.1 self.few.2) self.acts.0 self.acts.1 in (
       c.exchange-2.ensures.0 ∙ (c.exchange.ensures.0 ∙ (c.load.ensures.0 ∙ c.requires.pass.0)),
-      omega (arith, self.sized.0),
-      rw self.key.0 (λ a b d e f. let x = (publishes_at job room laws _ _ v tail pass.worker pass.number.0 pass.number.1 _ h c.args.batch put_back holds c.requires.pass.6 due (few_batches_in room job.plan.count (length h.book) (room_few job) laws.few (omega (arith, admitted.1, c.requires.pass.6)))) a b d e f in (x.0, x.1, x.2, x.3.0, x.4)),
+      omega (arith, self.sized.0, place),
+      rw (self.key.0, place) (λ a b d e f. let x = (publishes_at job room laws _ _ v tail pass.worker pass.number.0 pass.number.1 _ h c.args.batch (put_back ∙ ap (λ (i : ℕ). (v, (i, Slots.Book (reserved (h.book ++ c.args.batch ∷ []) room)) ∷ tail)) place)
+          holds c.requires.pass.6 due (few_batches_in room job.plan.count (length h.book) (room_few job) laws.few (omega (arith, admitted.1, c.requires.pass.6)))) a b d e f in (x.0, x.1, x.2, x.3.0, x.4)),
     )
 
 pub invariant_of-pass : goal.invariant_of-pass
 invariant_of-pass c =
     let self = c.args.self.now in let pass = c.args.pass.now in let job = job_of self.setting in let old = pass.seat in let v = old.me.0 in let workers = self.setting.workers in let room = room_of self.setting in
     let h = c.requires.due.0 in let holds = c.requires.due.1 in let due = c.requires.due.2 in
+    let at = c.batch_count-at.result in let place = c.batch_count-at.ensures ∙ ap (λ (n : ℕ). n + 1) c.layout.ensures.workers in
     let book = reserved h.book room in
     let tail = (workers, Slots.Vacant) ∷ vacant h.owed in
-    let list = c.load.ensures.2.0 ∙ holder_list pass.worker workers room old.me h holds due.early c.requires.pass.2 c.requires.pass.6 c.requires.pass.7 in
-    let found = found_book c.load.new.seat.me v (workers + 1) c.exchange.result book tail _ list c.exchange.ensures.2 in
+    let list = c.load.ensures.2.0 ∙ (holder_list pass.worker workers room old.me h holds due.early c.requires.pass.2 c.requires.pass.6 c.requires.pass.7 ∙ ap (λ (i : ℕ). (v, (i, Slots.Book book) ∷ tail)) (sym place)) in
+    let found = found_book c.load.new.seat.me v at c.exchange.result book tail _ list c.exchange.ensures.2 in
     let same : book ≡ c.in-Book.book = books book c.in-Book.book (found ∙ c.in-Book.is) in
-    let later = reserved (h.book ++ c.args.batch ∷ []) room in
     let whole = c.append.ensures ∙ ap (λ (b : ReservedView). reserved (b.batches ++ c.args.batch ∷ []) b.capacity) (sym same) in
-    let emptied = swapped c.load.new.seat.me c.exchange.new.seat.me v (workers + 1) (Slots.Book book) Slots.Vacant tail list c.exchange.ensures.3 in
-    let put_back = swapped c.exchange.new.seat.me c.exchange-2.new.seat.me v (workers + 1) Slots.Vacant (Slots.Book _) tail emptied c.exchange-2.ensures.3
-    ∙ ap (λ (b : ReservedView). (v, (workers + 1, Slots.Book b) ∷ tail)) whole in
+    let emptied = swapped c.load.new.seat.me c.exchange.new.seat.me v at (Slots.Book book) Slots.Vacant tail list c.exchange.ensures.3 in
+    let put_back = swapped c.exchange.new.seat.me c.exchange-2.new.seat.me v at Slots.Vacant (Slots.Book _) tail emptied c.exchange-2.ensures.3
+    ∙ ap (λ (b : ReservedView). (v, (at, Slots.Book b) ∷ tail)) whole in
     let told = c.fetch_add.ensures.2 h c.args.batch (ap (λ (m : Sat). m.0.hold) put_back ∙ holds)
-    (first _ _ _ _ _ put_back ∙ ap (λ (r : ℕ). (workers + 1, Slots.Book (reserved (h.book ++ c.args.batch ∷ []) r)) ∷ rest c.exchange-2.new.seat.me.1) (sym (ap (λ (m : Sat). m.0.room) put_back ∙ c.requires.pass.6))) in
+    (first _ _ _ _ _ put_back ∙ ap (λ (r : ℕ). (at, Slots.Book (reserved (h.book ++ c.args.batch ∷ []) r)) ∷ rest c.exchange-2.new.seat.me.1) (sym (ap (λ (m : Sat). m.0.room) put_back ∙ c.requires.pass.6))) in
     let w = with_event (with_hold v (published_view h c.args.batch)) Publish in
     let here = told ∙ ap (λ (m : Sat). (with_event (with_hold m.0 (published_view h c.args.batch)) Publish, rest m.1)) put_back in
     let last = turned_to _ c.turn.new.self.me w tail here c.turn.ensures.2 in
@@ -105,47 +109,29 @@ invariant_of-pass c =
       room = pass.room;
     }
 
-pub returns-clause-pass : goal.returns-clause-pass
-returns-clause-pass c =
+pub returns : goal.returns
+returns c =
     let self = c.args.self.now in let pass = c.args.pass.now in let job = job_of self.setting in let old = pass.seat in let v = old.me.0 in let workers = self.setting.workers in let room = room_of self.setting in
     let h = c.requires.due.0 in let holds = c.requires.due.1 in let due = c.requires.due.2 in
+    let at = c.batch_count-at.result in let place = c.batch_count-at.ensures ∙ ap (λ (n : ℕ). n + 1) c.layout.ensures.workers in
     let book = reserved h.book room in
     let tail = (workers, Slots.Vacant) ∷ vacant h.owed in
-    let list = c.load.ensures.2.0 ∙ holder_list pass.worker workers room old.me h holds due.early c.requires.pass.2 c.requires.pass.6 c.requires.pass.7 in
-    let found = found_book c.load.new.seat.me v (workers + 1) c.exchange.result book tail _ list c.exchange.ensures.2 in
+    let list = c.load.ensures.2.0 ∙ (holder_list pass.worker workers room old.me h holds due.early c.requires.pass.2 c.requires.pass.6 c.requires.pass.7 ∙ ap (λ (i : ℕ). (v, (i, Slots.Book book) ∷ tail)) (sym place)) in
+    let found = found_book c.load.new.seat.me v at c.exchange.result book tail _ list c.exchange.ensures.2 in
     let same : book ≡ c.in-Book.book = books book c.in-Book.book (found ∙ c.in-Book.is) in
-    let later = reserved (h.book ++ c.args.batch ∷ []) room in
     let whole = c.append.ensures ∙ ap (λ (b : ReservedView). reserved (b.batches ++ c.args.batch ∷ []) b.capacity) (sym same) in
-    let emptied = swapped c.load.new.seat.me c.exchange.new.seat.me v (workers + 1) (Slots.Book book) Slots.Vacant tail list c.exchange.ensures.3 in
-    let put_back = swapped c.exchange.new.seat.me c.exchange-2.new.seat.me v (workers + 1) Slots.Vacant (Slots.Book _) tail emptied c.exchange-2.ensures.3
-    ∙ ap (λ (b : ReservedView). (v, (workers + 1, Slots.Book b) ∷ tail)) whole in
+    let emptied = swapped c.load.new.seat.me c.exchange.new.seat.me v at (Slots.Book book) Slots.Vacant tail list c.exchange.ensures.3 in
+    let put_back = swapped c.exchange.new.seat.me c.exchange-2.new.seat.me v at Slots.Vacant (Slots.Book _) tail emptied c.exchange-2.ensures.3
+    ∙ ap (λ (b : ReservedView). (v, (at, Slots.Book b) ∷ tail)) whole in
     let told = c.fetch_add.ensures.2 h c.args.batch (ap (λ (m : Sat). m.0.hold) put_back ∙ holds)
-    (first _ _ _ _ _ put_back ∙ ap (λ (r : ℕ). (workers + 1, Slots.Book (reserved (h.book ++ c.args.batch ∷ []) r)) ∷ rest c.exchange-2.new.seat.me.1) (sym (ap (λ (m : Sat). m.0.room) put_back ∙ c.requires.pass.6))) in
+    (first _ _ _ _ _ put_back ∙ ap (λ (r : ℕ). (at, Slots.Book (reserved (h.book ++ c.args.batch ∷ []) r)) ∷ rest c.exchange-2.new.seat.me.1) (sym (ap (λ (m : Sat). m.0.room) put_back ∙ c.requires.pass.6))) in
     let w = with_event (with_hold v (published_view h c.args.batch)) Publish in
     let here = told ∙ ap (λ (m : Sat). (with_event (with_hold m.0 (published_view h c.args.batch)) Publish, rest m.1)) put_back in
     let last = turned_to _ c.turn.new.self.me w tail here c.turn.ensures.2 in
-    pass_made self.setting _ pass.worker old c.turn.new.self w (vacant h.owed ++ (workers, Slots.Vacant) ∷ [])
-    (c.turn.ensures.0 ∙ (c.fetch_add.ensures.0 ∙ (c.exchange-2.ensures.0 ∙ (c.exchange.ensures.0 ∙ c.load.ensures.0)))) last refl refl refl refl refl refl
-    (carries_published pass.worker workers v h c.args.batch (held_out pass.worker old.me h c.requires.pass.7 holds) c.requires.pass.2)
-    (let m = c.requires.pass.8.holds h holds in remembers_hold w _ true (published_view h c.args.batch) refl m.0 refl (owes_published h c.args.batch m.2)) c.requires.pass
-
-pub returns-clause-published : goal.returns-clause-published
-returns-clause-published c =
-    let self = c.args.self.now in let pass = c.args.pass.now in let job = job_of self.setting in let old = pass.seat in let v = old.me.0 in let workers = self.setting.workers in let room = room_of self.setting in
-    let h = c.requires.due.0 in let holds = c.requires.due.1 in let due = c.requires.due.2 in
-    let book = reserved h.book room in
-    let tail = (workers, Slots.Vacant) ∷ vacant h.owed in
-    let list = c.load.ensures.2.0 ∙ holder_list pass.worker workers room old.me h holds due.early c.requires.pass.2 c.requires.pass.6 c.requires.pass.7 in
-    let found = found_book c.load.new.seat.me v (workers + 1) c.exchange.result book tail _ list c.exchange.ensures.2 in
-    let same : book ≡ c.in-Book.book = books book c.in-Book.book (found ∙ c.in-Book.is) in
-    let later = reserved (h.book ++ c.args.batch ∷ []) room in
-    let whole = c.append.ensures ∙ ap (λ (b : ReservedView). reserved (b.batches ++ c.args.batch ∷ []) b.capacity) (sym same) in
-    let emptied = swapped c.load.new.seat.me c.exchange.new.seat.me v (workers + 1) (Slots.Book book) Slots.Vacant tail list c.exchange.ensures.3 in
-    let put_back = swapped c.exchange.new.seat.me c.exchange-2.new.seat.me v (workers + 1) Slots.Vacant (Slots.Book _) tail emptied c.exchange-2.ensures.3
-    ∙ ap (λ (b : ReservedView). (v, (workers + 1, Slots.Book b) ∷ tail)) whole in
-    let told = c.fetch_add.ensures.2 h c.args.batch (ap (λ (m : Sat). m.0.hold) put_back ∙ holds)
-    (first _ _ _ _ _ put_back ∙ ap (λ (r : ℕ). (workers + 1, Slots.Book (reserved (h.book ++ c.args.batch ∷ []) r)) ∷ rest c.exchange-2.new.seat.me.1) (sym (ap (λ (m : Sat). m.0.room) put_back ∙ c.requires.pass.6))) in
-    let w = with_event (with_hold v (published_view h c.args.batch)) Publish in
-    let here = told ∙ ap (λ (m : Sat). (with_event (with_hold m.0 (published_view h c.args.batch)) Publish, rest m.1)) put_back in
-    let last = turned_to _ c.turn.new.self.me w tail here c.turn.ensures.2 in
-    (h, holds, ap (λ (m : Sat). m.0) last)
+    record {
+      pass = pass_made self.setting _ pass.worker old c.turn.new.self w (vacant h.owed ++ (workers, Slots.Vacant) ∷ [])
+          (c.turn.ensures.0 ∙ (c.fetch_add.ensures.0 ∙ (c.exchange-2.ensures.0 ∙ (c.exchange.ensures.0 ∙ c.load.ensures.0)))) last refl refl refl refl refl refl
+          (carries_published pass.worker workers v h c.args.batch (held_out pass.worker old.me h c.requires.pass.7 holds) c.requires.pass.2)
+          (let m = c.requires.pass.8.holds h holds in remembers_hold w _ true (published_view h c.args.batch) refl m.0 refl (owes_published h c.args.batch m.2)) c.requires.pass;
+      published = (h, holds, ap (λ (m : Sat). m.0) last);
+    }

@@ -1,4 +1,4 @@
-use Rattle.std.proofs.Common.{false, ◌≡◌, ◌+◌, [], ◌∷◌, ap, ◌∙◌, arith, refl}
+use Rattle.std.proofs.Common.{false, ◌≡◌, ℕ, ◌+◌, [], ◌∷◌, ap, ◌∙◌, arith, refl}
 use Rattle.core_model.specs.declared.status.CallState.TheVariants.{Out}
 use Rattle.table_rule.specs.declared.slot.Slot.TheVariants as Slots
 use Rattle.table_rule.specs.Shows.{reserved, room_of, job_of}
@@ -15,8 +15,8 @@ compare_exchange-requires c =
     let self = c.args.self.now in let pass = c.args.pass.now in let job = job_of self.setting in let v = pass.seat.me.0 in
     let laws = c.laws_hold.ensures self.setting (few_nodes self.nodes job.plan.count self.key.1 self.few.2) self.acts.0 self.acts.1 in (
       c.requires.pass.0,
-      omega (arith, self.sized.0),
-      rw self.key.0 (λ a b d e f. let x = (wins job (room_of self.setting) laws _ _ v pass.seat.me.1 pass.worker pass.number.0 pass.number.1 c.requires.pass.2 c.requires.trapped c.requires.pass.6) a b d e f in (x.0, x.1, x.2, x.3.0, x.4)),
+      omega (arith, self.sized.0, c.flag-at.ensures, c.layout.ensures.workers),
+      rw (self.key.0, c.flag-at.ensures, c.layout.ensures.workers) (λ a b d e f. let x = (wins job (room_of self.setting) laws _ _ v pass.seat.me.1 pass.worker pass.number.0 pass.number.1 c.requires.pass.2 c.requires.trapped c.requires.pass.6) a b d e f in (x.0, x.1, x.2, x.3.0, x.4)),
     )
 
 pub returns-then-compare_exchange-ne0-clause-pass : goal.returns-then-compare_exchange-ne0-clause-pass
@@ -32,13 +32,14 @@ exchange-slot-requires c =
 pub returns-clause-pass : goal.returns-clause-pass
 returns-clause-pass c =
     let old = c.args.pass.now.seat in let workers = c.args.self.now.setting.workers in
+    let at = c.flag-at.result in let place = c.flag-at.ensures ∙ c.layout.ensures.workers in
     let t = c.compare_exchange.ensures.2.0 c.if-compare_exchange-ne0.false in
     let w = with_event (winning old.me.0 t.1) Win in let book = reserved t.1 old.me.0.room in
     let out : old.me.0.call ≡ Out = c.requires.trapped in
     let nothing : old.me.1 ≡ [] = c.requires.pass.7.trapped out t.0 in
-    let won = t.2 ∙ ap (λ l. (w, (workers, Slots.Shop t.1) ∷ (workers + 1, Slots.Book book) ∷ l)) nothing in
-    let emptied = swapped _ _ w workers (Slots.Shop t.1) Slots.Vacant ((workers + 1, Slots.Book book) ∷ []) won c.exchange-slot.ensures.3 in
-    let last = turned_to _ c.turn.new.self.me w ((workers, Slots.Vacant) ∷ (workers + 1, Slots.Book book) ∷ []) emptied c.turn.ensures.2 in
+    let won = t.2 ∙ ap (λ l. (w, (at, Slots.Shop t.1) ∷ (at + 1, Slots.Book book) ∷ l)) nothing in
+    let emptied = swapped _ _ w at (Slots.Shop t.1) Slots.Vacant ((at + 1, Slots.Book book) ∷ []) won c.exchange-slot.ensures.3 in
+    let last = turned_to _ c.turn.new.self.me w ((at, Slots.Vacant) ∷ (at + 1, Slots.Book book) ∷ []) emptied c.turn.ensures.2 ∙ ap (λ (i : ℕ). (w, (i + 1, Slots.Book book) ∷ (i, Slots.Vacant) ∷ [])) place in
     pass_made c.args.self.now.setting _ c.args.pass.now.worker old c.turn.new.self w ((workers + 1, Slots.Book book) ∷ (workers, Slots.Vacant) ∷ [])
     (c.turn.ensures.0 ∙ (c.exchange-slot.ensures.0 ∙ c.compare_exchange.ensures.0)) last refl refl refl refl refl refl
     (carries_won c.args.pass.now.worker workers old.me.0 t.1 out c.requires.pass.2)

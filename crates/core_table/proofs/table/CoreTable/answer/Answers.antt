@@ -1,4 +1,4 @@
-use Rattle.std.proofs.Common.{◌≡◌, ℕ, ◌+◌, List, [], ◌∷◌, ◌++◌, true, suc, ◌-◌, take, drop, length, subst, sym, ap, ◌∙◌, arith, refl}
+use Rattle.std.proofs.Common.{rules, ◌≡◌, ℕ, ◌+◌, List, [], ◌∷◌, ◌++◌, true, suc, ◌-◌, take, drop, length, subst, sym, ap, ◌∙◌, arith, refl}
 use Rattle.atomic_table.specs.Table.{rest}
 use Rattle.table_rule.specs.declared.slot.Slot.{Slot}
 use Rattle.table_rule.specs.declared.slot.Slot.TheVariants as Slots
@@ -52,8 +52,8 @@ store-requires c =
       rw self.key.0 (λ a b d e f. let x = (answers_at job (room_of self.setting) laws _ _ v tail pass.worker pass.number.0 pass.number.1 _ h u due.1 c.args.receipt put holds c.requires.low there due.4 due.5 due.6) a b d e f in (x.0, x.1, x.2, x.3.0, x.4)),
     )
 
-pub invariant_of-pass-clause-number : goal.invariant_of-pass-clause-number
-invariant_of-pass-clause-number c =
+pub invariant_of-pass : goal.invariant_of-pass
+invariant_of-pass c =
     let self = c.args.self.now in let pass = c.args.pass.now in let job = job_of self.setting in let old = pass.seat in let v = old.me.0 in let workers = self.setting.workers in let u = c.args.u in
     let due = c.requires.due in let h = due.0 in let holds = due.2 in let there = due.3 in
     let m = c.requires.pass.8.holds h holds in
@@ -70,10 +70,14 @@ invariant_of-pass-clause-number c =
     let n = c.len.result - c.first_place-at.result in
     let behind : n ≡ length h.owed - c.first_place-at.result = let a = pass.room.1 in let b = ap (λ (l : List ℕ). length l) m.0 in omega (arith, a, b, c.len.ensures) in
     let done = c.turn_by-2.ensures.me ∙ (ap (λ (s : Sat). (s.0, turns n s.1)) here ∙ ap (λ l. (w, l)) (to_places h.owed u c.first_place-at.result n last at behind)) in
-    (ap (λ (m : Sat). m.0.from) done ∙ pass.number.0, ap (λ (m : Sat). m.0.to) done ∙ pass.number.1)
+    record {
+      number = (ap (λ (m : Sat). m.0.from) done ∙ pass.number.0, ap (λ (m : Sat). m.0.to) done ∙ pass.number.1);
+      own = (ap (λ (m : Sat). m.0.task) done ∙ pass.own.0, ap (λ (m : Sat). m.0.call) done ∙ pass.own.1);
+      room = search rules;
+    }
 
-pub invariant_of-pass-clause-own : goal.invariant_of-pass-clause-own
-invariant_of-pass-clause-own c =
+pub returns : goal.returns
+returns c =
     let self = c.args.self.now in let pass = c.args.pass.now in let job = job_of self.setting in let old = pass.seat in let v = old.me.0 in let workers = self.setting.workers in let u = c.args.u in
     let due = c.requires.due in let h = due.0 in let holds = due.2 in let there = due.3 in
     let m = c.requires.pass.8.holds h holds in
@@ -90,46 +94,9 @@ invariant_of-pass-clause-own c =
     let n = c.len.result - c.first_place-at.result in
     let behind : n ≡ length h.owed - c.first_place-at.result = let a = pass.room.1 in let b = ap (λ (l : List ℕ). length l) m.0 in omega (arith, a, b, c.len.ensures) in
     let done = c.turn_by-2.ensures.me ∙ (ap (λ (s : Sat). (s.0, turns n s.1)) here ∙ ap (λ l. (w, l)) (to_places h.owed u c.first_place-at.result n last at behind)) in
-    (ap (λ (m : Sat). m.0.task) done ∙ pass.own.0, ap (λ (m : Sat). m.0.call) done ∙ pass.own.1)
-
-pub returns-clause-pass : goal.returns-clause-pass
-returns-clause-pass c =
-    let self = c.args.self.now in let pass = c.args.pass.now in let job = job_of self.setting in let old = pass.seat in let v = old.me.0 in let workers = self.setting.workers in let u = c.args.u in
-    let due = c.requires.due in let h = due.0 in let holds = due.2 in let there = due.3 in
-    let m = c.requires.pass.8.holds h holds in
-    let at : IsFirstAt h.owed u c.first_place-at.result = subst (λ (l : List ℕ). IsFirstAt l u c.first_place-at.result) (c.as_slice.ensures.value ∙ m.0) c.first_place-at.ensures in
-    let last : ℕ × Slot = (workers, Slots.Vacant) in
-    let tail = (vacant (drop (suc c.first_place-at.result) h.owed) ++ last ∷ []) ++ vacant (take c.first_place-at.result h.owed) in
-    let list = c.turn_by.ensures.me ∙ (ap (λ (s : Sat). (s.0, turns c.first_place-at.result s.1)) (holder_after pass.worker workers old.me h h.owed holds there refl c.requires.pass.2 c.requires.pass.7)
-    ∙ ap (λ l. (v, l)) (to_front h.owed u c.first_place-at.result last at)) in
-    let put = swapped c.turn_by.new.seat.me c.exchange.new.seat.me v u Slots.Vacant (Slots.Receipt c.args.receipt) tail list c.exchange.ensures.3 in
-    let t = c.store.ensures.2 in
-    let same : t.0 ≡ h = same_hold t.0 h (sym t.1 ∙ (ap (λ (m : Sat). m.0.hold) put ∙ holds)) in
-    let w = with_event (with_hold v (answered_view h u)) (Answer u c.args.receipt) in
-    let here = t.2 c.args.receipt (first _ _ _ _ _ put) ∙ (ap (λ (g : HoldView). (with_event (with_hold c.exchange.new.seat.me.0 (answered_view g u)) (Answer u c.args.receipt), rest c.exchange.new.seat.me.1)) same ∙ ap (λ (m : Sat). (with_event (with_hold m.0 (answered_view h u)) (Answer u c.args.receipt), rest m.1)) put) in
-    let n = c.len.result - c.first_place-at.result in
-    let behind : n ≡ length h.owed - c.first_place-at.result = let a = pass.room.1 in let b = ap (λ (l : List ℕ). length l) m.0 in omega (arith, a, b, c.len.ensures) in
-    let done = c.turn_by-2.ensures.me ∙ (ap (λ (s : Sat). (s.0, turns n s.1)) here ∙ ap (λ l. (w, l)) (to_places h.owed u c.first_place-at.result n last at behind)) in
-    pass_made self.setting _ pass.worker old c.turn_by-2.new.seat w (vacant (without_first u h.owed) ++ last ∷ []) (c.turn_by-2.ensures.table.0 ∙ (c.store.ensures.0 ∙ (c.exchange.ensures.0 ∙ c.turn_by.ensures.table.0))) done refl refl refl refl refl refl
-    (carries_answered pass.worker workers u v h c.args.receipt (held_out pass.worker old.me h c.requires.pass.7 holds) c.requires.pass.2 there)
-    (remembers_hold w _ _ (answered_view h u) refl (c.remove.ensures.by_index.2 ∙ (ap (λ (l : List ℕ). take c.first_place-at.result l ++ drop (c.first_place-at.result + 1) l) m.0 ∙ (let next : c.first_place-at.result + 1 ≡ suc c.first_place-at.result = omega arith in ap (λ (k : ℕ). take c.first_place-at.result h.owed ++ drop k h.owed) next ∙ sym at.rest))) m.1 (owes_answered h u there m.2)) c.requires.pass
-
-pub returns-clause-answered : goal.returns-clause-answered
-returns-clause-answered c =
-    let self = c.args.self.now in let pass = c.args.pass.now in let job = job_of self.setting in let old = pass.seat in let v = old.me.0 in let workers = self.setting.workers in let u = c.args.u in
-    let due = c.requires.due in let h = due.0 in let holds = due.2 in let there = due.3 in
-    let m = c.requires.pass.8.holds h holds in
-    let at : IsFirstAt h.owed u c.first_place-at.result = subst (λ (l : List ℕ). IsFirstAt l u c.first_place-at.result) (c.as_slice.ensures.value ∙ m.0) c.first_place-at.ensures in
-    let last : ℕ × Slot = (workers, Slots.Vacant) in
-    let tail = (vacant (drop (suc c.first_place-at.result) h.owed) ++ last ∷ []) ++ vacant (take c.first_place-at.result h.owed) in
-    let list = c.turn_by.ensures.me ∙ (ap (λ (s : Sat). (s.0, turns c.first_place-at.result s.1)) (holder_after pass.worker workers old.me h h.owed holds there refl c.requires.pass.2 c.requires.pass.7)
-    ∙ ap (λ l. (v, l)) (to_front h.owed u c.first_place-at.result last at)) in
-    let put = swapped c.turn_by.new.seat.me c.exchange.new.seat.me v u Slots.Vacant (Slots.Receipt c.args.receipt) tail list c.exchange.ensures.3 in
-    let t = c.store.ensures.2 in
-    let same : t.0 ≡ h = same_hold t.0 h (sym t.1 ∙ (ap (λ (m : Sat). m.0.hold) put ∙ holds)) in
-    let w = with_event (with_hold v (answered_view h u)) (Answer u c.args.receipt) in
-    let here = t.2 c.args.receipt (first _ _ _ _ _ put) ∙ (ap (λ (g : HoldView). (with_event (with_hold c.exchange.new.seat.me.0 (answered_view g u)) (Answer u c.args.receipt), rest c.exchange.new.seat.me.1)) same ∙ ap (λ (m : Sat). (with_event (with_hold m.0 (answered_view h u)) (Answer u c.args.receipt), rest m.1)) put) in
-    let n = c.len.result - c.first_place-at.result in
-    let behind : n ≡ length h.owed - c.first_place-at.result = let a = pass.room.1 in let b = ap (λ (l : List ℕ). length l) m.0 in omega (arith, a, b, c.len.ensures) in
-    let done = c.turn_by-2.ensures.me ∙ (ap (λ (s : Sat). (s.0, turns n s.1)) here ∙ ap (λ l. (w, l)) (to_places h.owed u c.first_place-at.result n last at behind)) in
-    (h, holds, ap (λ (m : Sat). m.0) done)
+    record {
+      pass = pass_made self.setting _ pass.worker old c.turn_by-2.new.seat w (vacant (without_first u h.owed) ++ last ∷ []) (c.turn_by-2.ensures.table.0 ∙ (c.store.ensures.0 ∙ (c.exchange.ensures.0 ∙ c.turn_by.ensures.table.0))) done refl refl refl refl refl refl
+          (carries_answered pass.worker workers u v h c.args.receipt (held_out pass.worker old.me h c.requires.pass.7 holds) c.requires.pass.2 there)
+          (remembers_hold w _ _ (answered_view h u) refl (c.remove.ensures.by_index.2 ∙ (ap (λ (l : List ℕ). take c.first_place-at.result l ++ drop (c.first_place-at.result + 1) l) m.0 ∙ (let next : c.first_place-at.result + 1 ≡ suc c.first_place-at.result = omega arith in ap (λ (k : ℕ). take c.first_place-at.result h.owed ++ drop k h.owed) next ∙ sym at.rest))) m.1 (owes_answered h u there m.2)) c.requires.pass;
+      answered = (h, holds, ap (λ (m : Sat). m.0) done);
+    }

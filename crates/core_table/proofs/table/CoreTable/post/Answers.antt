@@ -23,23 +23,16 @@ store-requires c =
           (swapped pass.seat.me _ v pass.worker Slots.Vacant (Slots.Record c.args.call) [] (λ i. (v, own.1 i)) c.exchange.ensures.3) c.requires.pass.4 c.requires.due c.requires.free) a b d e f in (x.0, x.1, x.2, x.3.0, x.4)),
     )
 
-pub returns-clause-pass : goal.returns-clause-pass
-returns-clause-pass c =
+pub returns : goal.returns
+returns c =
     let self = c.args.self.now in let pass = c.args.pass.now in let old = pass.seat in let v = old.me.0 in
     let own = c.requires.pass.7.free (λ e. let f = sym c.requires.free ∙ e in absurd (cc)) in
     let put = swapped old.me c.exchange.new.seat.me v pass.worker Slots.Vacant (Slots.Record c.args.call) [] (λ i. (v, own.1 i)) c.exchange.ensures.3 in
     let t = c.store.ensures.2 c.args.call (first _ _ _ _ _ put) in
     let event = Post t.0 t.1 in
     let told = t.3 ∙ ap (λ (m : Sat). (with_event (posting m.0 c.args.call) event, rest m.1)) put in
-    pass_made self.setting _ pass.worker old c.store.new.seat (with_event (posting v c.args.call) event) [] (c.store.ensures.0 ∙ c.exchange.ensures.0) told refl refl refl refl refl refl
-    (carries_posted pass.worker v c.args.call event own.0) (remembers_kept v (with_event (posting v c.args.call) event) _ _ refl c.requires.pass.8) c.requires.pass
-
-pub returns-clause-posted : goal.returns-clause-posted
-returns-clause-posted c =
-    let pass = c.args.pass.now in let old = pass.seat in let v = old.me.0 in
-    let own = c.requires.pass.7.free (λ e. let f = sym c.requires.free ∙ e in absurd (cc)) in
-    let put = swapped old.me c.exchange.new.seat.me v pass.worker Slots.Vacant (Slots.Record c.args.call) [] (λ i. (v, own.1 i)) c.exchange.ensures.3 in
-    let t = c.store.ensures.2 c.args.call (first _ _ _ _ _ put) in
-    let event = Post t.0 t.1 in
-    let told = t.3 ∙ ap (λ (m : Sat). (with_event (posting m.0 c.args.call) event, rest m.1)) put in
-    (t.0, t.1, ap (λ (m : Sat). m.0.task) (sym put) ∙ t.2, ap (λ (m : Sat). m.0) told)
+    record {
+      pass = pass_made self.setting _ pass.worker old c.store.new.seat (with_event (posting v c.args.call) event) [] (c.store.ensures.0 ∙ c.exchange.ensures.0) told refl refl refl refl refl refl
+          (carries_posted pass.worker v c.args.call event own.0) (remembers_kept v (with_event (posting v c.args.call) event) _ _ refl c.requires.pass.8) c.requires.pass;
+      posted = (t.0, t.1, ap (λ (m : Sat). m.0.task) (sym put) ∙ t.2, ap (λ (m : Sat). m.0) told);
+    }

@@ -1,4 +1,5 @@
 pub mod Search
+pub mod NextActs
 pub mod Tasks
 pub mod Gate
 pub mod Idle

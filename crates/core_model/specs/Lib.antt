@@ -21,6 +21,7 @@ pub mod Lists
 pub mod Events
 pub mod Tasks
 pub mod Invariant
+pub mod Next
 pub mod Choice
 pub mod Runs
 pub mod Ranges

@@ -1,15 +1,14 @@
 -- The turns of a worker that is not trapped and has a task: the choice is an event whose needs are met.
-use Rattle.std.proofs.Common.{ℕ, ◌≡◌, ◌≢◌, ◌<◌, ◌+◌, ◌==◌, ◌⊎◌, Bool, Option, Some, None, List, arith, refl, inl, inr, ap, eqb-true}
-use Rattle.std.proofs.lemmas.Bool.{cases_eq}
+use Rattle.std.proofs.Common.{ℕ, ◌≡◌, ◌≢◌, ◌==◌, Option, Some, None, List, arith, refl, inl, inr, ap, eqb-true}
 use Rattle.std.proofs.lemmas.Bool.Decides.{nat_tests}
-use Rattle.core_model.proofs.Words.{Act, Work, Call, Kind, LeafNode, SeqNode, ParNode, Move, Root, OpenSecond, FinishParent, Arrive as ArriveAt, IsPlan, IsSide, HasSide, parent_of, Task, Idle, Run, Half, Started, Kept, Ended, Whole, Handed, Free, CallState, NotCalled, Out, Got, Event, ArriveFirst, ArriveSecond, CoreJob, State, is_done, names}
+use Rattle.core_model.proofs.Words.{Act, Work, Call, Kind, LeafNode, SeqNode, ParNode, Move, Root, OpenSecond, FinishParent, Arrive as ArriveAt, IsPlan, IsSide, HasSide, parent_of, Task, Idle, Run, Half, Started, Kept, Ended, Whole, Handed, Free, CallState, NotCalled, Out, Got, Event, ArriveFirst, ArriveSecond, CoreJob, State, is_done}
 use Rattle.core_model.specs.Operations.{leaf_of, op_in}
 use Rattle.core_model.specs.Invariant.Tasks.{TaskFits}
 use Rattle.core_model.specs.Events.{Needs}
 use Rattle.core_model.specs.Invariant.Statuses.{is_taken_by}
-use Rattle.core_model.proofs.Inductive.Nodes.{passed_if}
 use Rattle.core_model.proofs.Inductive.Parts.{InductiveParts}
 use Rattle.core_model.specs.Choice.{choice_run, choice_half, choice_started, choice_second, choice_parent, choice_arrive, choice_whole, choice_handed, choice_free}
+use Rattle.core_model.proofs.ChoiceLemmas.NextActs.{low_mark, held_at}
 use Rattle.core_model.proofs.ChoiceLemmas.Search.{if_both}
 use Rattle.core_model.proofs.InvariantLemmas.StatusRows.{not_out}
 
@@ -26,22 +25,6 @@ Gives job s w (Some event) = Needs job s w event
 pub gives_allows : (job : CoreJob) (s : State) (w : ℕ) (o : Option Event) → Gives job s w o → Allows job s w o
 gives_allows job s w None h = absurd h
 gives_allows job s w (Some event) h = h
-
-low_mark : (a b : Bool) (o q : Option ℕ) (k : ℕ) → k ≡ passed_if a o + passed_if b q → (o ≢ None) ⊎ (q ≢ None) → k ≢ 0 → k ≡ 1
-low_mark a b o q k e held some = grind arith
-
-held_at : (holder : ℕ → Option ℕ) (n l r w : ℕ) → (n ≡ l) ⊎ (n ≡ r) → holder n ≡ Some w → (holder l ≢ None) ⊎ (holder r ≢ None)
-held_at holder n l r w which e = grind arith
-
--- a side that is to arrive is the first or the second
-pub mark_low : (job : CoreJob) (s : State) (w p l r n : ℕ) → IsPlan job.plan → InductiveParts job s → s.task w ≡ Whole n → job.plan.kind p ≡ Some (ParNode l r) → IsSide job.plan p n → s.mark p < 2
-mark_low job s w p l r n laws h mine kind side =
-    let which : (n ≡ l) ⊎ (n ≡ r) = rw kind at (laws.has_side p n side) in
-    let held = held_at h.holder n l r w which (h.tasks.holders.named w n (ap names mine)) in
-    elim (cases_eq (s.mark p) 0) [
-      | inl zero ↦ omega (arith, zero)
-      | inr some ↦ let one = low_mark (is_done (s.node l)) (is_done (s.node r)) (h.holder l) (h.holder r) (s.mark p) (h.tasks.marks p l r kind) held some in omega (arith, one)
-    ]
 
 module _ (job : CoreJob) (s : State) (w : ℕ) (laws : IsPlan job.plan) (h : InductiveParts job s) (free : s.status w ≡ Free) where
   run_gives : (n : ℕ) (k : Option Kind) → s.task w ≡ Run n → job.plan.kind n ≡ k → k ≢ None → Gives job s w (choice_run k n)

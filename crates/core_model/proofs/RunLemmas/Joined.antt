@@ -1,5 +1,5 @@
 -- Reports of runs: those that turns drive, and those that continue from a reached state.
-use Rattle.std.proofs.Common.{ℕ, ◌≡◌, Option, None, Some, List, [], ◌∷◌, ◌++◌, subst}
+use Rattle.std.proofs.Common.{ℕ, Option, None, Some, List, [], ◌∷◌, ◌++◌, subst}
 use Rattle.batch_history.specs.declared.report.Report.{Report}
 use Rattle.core_model.proofs.Words.{CoreJob, CoreState}
 use Rattle.core_model.specs.State.{opening_core}

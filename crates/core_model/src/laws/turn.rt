@@ -1,9 +1,11 @@
 //! The laws of a worker's turn: which event it chooses, and what events do to a state. Each law is the contract of an
 //! empty function.
-ghost use Rattle.std.specs.Prelude.{◌≡◌, ℕ, ◌<◌, ◌≤◌, ◌+◌, ◌*◌, Bool, true, false, None, Some};
+ghost use Rattle.std.specs.Prelude.{◌≡◌, ◌≢◌, ℕ, ◌<◌, ◌≤◌, ◌+◌, ◌*◌, Bool, true, false, None, Some};
 ghost use Rattle.sp_order.specs.Precedence.{Tree};
 ghost use Rattle.sp_order.specs.Plans.{IsPlan};
 ghost use Rattle.sp_order.specs.PlanOf.{IsPlanOf};
+ghost use Rattle.core_model.specs.declared.next.Next.{Next};
+ghost use Rattle.core_model.specs.declared.status.Status.TheVariants.{Free};
 ghost use Rattle.core_model.specs.declared.task.Task.TheVariants.{Idle};
 ghost use Rattle.core_model.specs.declared.event.Event.{Event};
 ghost use Rattle.core_model.specs.declared.event.Event.TheVariants.{Claim};
@@ -11,12 +13,28 @@ ghost use Rattle.core_model.specs.State.{CoreJob, State, CoreState, opening_stat
 ghost use Rattle.core_model.specs.Events.{Needs, Does, Happens};
 ghost use Rattle.core_model.specs.Invariant.{Parts, Invariant};
 ghost use Rattle.core_model.specs.Choice.{choice, LeavesAnEnd};
+ghost use Rattle.core_model.specs.Next.{next_act, IsNextEvent};
 ghost use Rattle.core_model.specs.Ranges.{IsInRange};
 ghost use Rattle.core_model.specs.Runs.{IsStep};
 ghost use Rattle.core_model.specs.Tasks.{is_done};
 ghost use Rattle.core_model.specs.Measure.{measure, call_count};
 
 use sp_order::laws::plan_has_sides;
+
+/// The next act of a worker whose status is `Free` is one event, which can happen: its needs are met. A worker that has
+/// a task has a next act.
+pub fn next_is_event()
+    ensures event { (job : CoreJob) (state : State) (worker : ℕ) (act : Next) → IsPlan job.plan
+        → Parts job state
+        → state.status worker ≡ Free
+        → next_act job (state.task worker) (state.call worker) ≡ Some act
+        → IsNextEvent job state worker act }
+    ensures some { (job : CoreJob) (state : State) (worker : ℕ) → IsPlan job.plan
+        → Parts job state
+        → state.status worker ≡ Free
+        → state.task worker ≢ Idle
+        → next_act job (state.task worker) (state.call worker) ≢ None }
+{}
 
 /// The event that a turn chooses has its needs met.
 pub fn choice_has_its_needs()

@@ -1,5 +1,5 @@
 use Rattle.core_model.proofs.Inductive.FromParts.{parts_carried}
-use Rattle.core_model.proofs.ChoiceLemmas.Tasks.{mark_low}
+use Rattle.core_model.proofs.ChoiceLemmas.NextActs.{mark_low}
 use Rattle.core_model.proofs.laws.invariant.mark_before_arrival_is_below_two.Goals as goal
 
 pub returns : goal.returns

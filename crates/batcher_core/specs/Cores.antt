@@ -28,7 +28,7 @@ state_in c = core_state_of c.table
 
 -- the steps of work that worker `w` has due
 abbrev pub due_in : CoreView → ℕ → Option ℕ
-due_in c w = work_due (job_in c) ((state_of c.table).task w)
+due_in c w = work_due (job_in c) ((state_of c.table).task w) ((state_of c.table).call w)
 
 -- the core is not spent, and the root is done
 abbrev pub is_over_in : CoreView → Bool

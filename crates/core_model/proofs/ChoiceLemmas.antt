@@ -1,6 +1,7 @@
 pub mod Search
 pub mod NextActs
 pub mod Tasks
+pub mod Rows
 pub mod Gate
 pub mod Idle
 pub mod Choices

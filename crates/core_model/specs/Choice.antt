@@ -1,11 +1,11 @@
 -- The choice of a worker's turn: the event it makes, or none. In each function the first matching case decides.
 use Rattle.core_model.specs.Lists.{ready_after}
+use Rattle.core_model.specs.Next.{event_of, next_act}
+use Rattle.core_model.specs.declared.next.Next.{Next}
 use Rattle.core_model.specs.Operations.{Place, leaf_of, place_of, receipt_for}
 use Rattle.core_model.specs.State.{CoreJob, CoreState, Hold, State, put}
 use Rattle.core_model.specs.Tasks.{names}
-use Rattle.core_model.specs.Words.{Event, Answer, ArriveFirst, ArriveSecond, Claim, End, FinishLeaf, FinishPar, FinishSeq, Keep, Leave, OpenParLeft, OpenParRight, OpenSeqLeft, OpenSeqRight, Post, Publish, Release, Start, Take, Win, CallState, Got, NotCalled, Out, Status, Executing, Free, Pending, Served, Task, Ended, Half, Handed, Idle, Kept, Run, Started, Whole, Act, Call, Work, Nodes, Kind, LeafNode, ParNode, SeqNode, Move, Arrive as ArriveAt, FinishParent, OpenSecond, Root}
-use Rattle.seq_objects.specs.Objects.{value_of}
-use Rattle.seq_objects.specs.Spin.{spin_of}
+use Rattle.core_model.specs.Words.{Event, Answer, Claim, Leave, Publish, Release, Take, Win, Status, Executing, Free, Pending, Served, Task, Idle, Nodes}
 use Rattle.std.specs.Prelude.{Bool, List, None, Option, Some, [], false, if◌then◌else◌, nat_lt, not, suc, zero, ℕ, ◌%◌, ◌&&◌, ◌++◌, ◌+◌, ◌-◌, ◌==◌, ◌||◌, ◌∷◌, ◌≡◌, ◌⊎◌}
 
 -- some number below the bound satisfies `chosen`
@@ -54,63 +54,6 @@ abbrev pub choice_pending : Option Hold → Option Event
 choice_pending None = Some Win
 choice_pending (Some h) = None
 
--- task `Run`, by the kind of the node: a block opens a side, the right one first if it is parallel
-abbrev pub choice_run : Option Kind → ℕ → Option Event
-choice_run None n = None
-choice_run (Some (LeafNode leaf)) n = Some (Start n)
-choice_run (Some (SeqNode left right)) n = Some (OpenSeqLeft n left right)
-choice_run (Some (ParNode left right)) n = Some (OpenParRight n left right)
-
--- task `Half`: the right side of block `p` is open, so the left one opens
-abbrev pub choice_half : Option Kind → ℕ → Option Event
-choice_half None p = None
-choice_half (Some (LeafNode leaf)) p = None
-choice_half (Some (SeqNode left right)) p = None
-choice_half (Some (ParNode left right)) p = Some (OpenParLeft p left right)
-
--- task `Started`, by the act: work has its value at once, a call once it is answered
-abbrev pub choice_started : Act → CallState → ℕ → ℕ → Option Event
-choice_started (Work steps) call n start = Some (Keep n start (spin_of steps))
-choice_started (Call op) NotCalled n start = Some (Post n start)
-choice_started (Call op) Out n start = None
-choice_started (Call op) (Got receipt) n start = Some (Keep n start (value_of receipt.reply))
-
--- the left side of series `p` is done
-abbrev pub choice_second : Option Kind → ℕ → Option Event
-choice_second None p = None
-choice_second (Some (LeafNode leaf)) p = None
-choice_second (Some (SeqNode left right)) p = Some (OpenSeqRight p left right)
-choice_second (Some (ParNode left right)) p = None
-
--- the right side of series `p` is done
-abbrev pub choice_parent : Option Kind → ℕ → Option Event
-choice_parent None p = None
-choice_parent (Some (LeafNode leaf)) p = None
-choice_parent (Some (SeqNode left right)) p = Some (FinishSeq p left right)
-choice_parent (Some (ParNode left right)) p = None
-
--- side `n` of parallel block `p` is done; `mark` is the number of sides that have arrived
-abbrev pub choice_arrive : Option Kind → ℕ → ℕ → ℕ → Option Event
-choice_arrive None p mark n = None
-choice_arrive (Some (LeafNode leaf)) p mark n = None
-choice_arrive (Some (SeqNode left right)) p mark n = None
-choice_arrive (Some (ParNode left right)) p mark n =
-    Some (if mark == 0 then ArriveFirst p left right n else ArriveSecond p left right n)
-
--- task `Whole`: node `n` is done; the plan's move after it decides
-abbrev pub choice_whole : CoreJob → State → Move → ℕ → Option Event
-choice_whole job s Root n = None
-choice_whole job s (OpenSecond p) n = choice_second (job.plan.kind p) p
-choice_whole job s (FinishParent p) n = choice_parent (job.plan.kind p) p
-choice_whole job s (ArriveAt p) n = choice_arrive (job.plan.kind p) p (s.mark p) n
-
--- task `Handed`: both sides of parallel block `p` have arrived
-abbrev pub choice_handed : Option Kind → ℕ → Option Event
-choice_handed None p = None
-choice_handed (Some (LeafNode leaf)) p = None
-choice_handed (Some (SeqNode left right)) p = None
-choice_handed (Some (ParNode left right)) p = Some (FinishPar p left right)
-
 -- a claim of the list's oldest node, or `other` if the list is empty
 abbrev pub oldest_or : List ℕ → Option Event → Option Event
 oldest_or [] other = other
@@ -131,16 +74,15 @@ abbrev pub choice_idle : CoreJob → (ℕ → List ℕ) → ℕ → List ℕ →
 choice_idle job ready w [] = choice_steal ready job.workers (w + 1) (job.workers - 1)
 choice_idle job ready w (n ∷ ns) = Some (Claim (last_of n ns))
 
--- the turn of a worker that is not trapped, by its task
+-- the event of a next act, if there is one
+abbrev pub event_if : (ℕ → ℕ) → Option Next → Option Event
+event_if mark None = None
+event_if mark (Some act) = Some (event_of mark act)
+
+-- the turn of a worker that is not trapped: it claims a node if it has no task, else it makes its next act
 abbrev pub choice_free : CoreJob → CoreState → ℕ → Task → Option Event
 choice_free job s w Idle = choice_idle job s.ready w (s.ready w)
-choice_free job s w (Run n) = choice_run (job.plan.kind n) n
-choice_free job s w (Half p) = choice_half (job.plan.kind p) p
-choice_free job s w (Started n start) = choice_started (job.act (leaf_of (job.plan.kind n))) (s.state.call w) n start
-choice_free job s w (Kept n start) = Some (End n start)
-choice_free job s w (Ended n start end) = Some (FinishLeaf n start end)
-choice_free job s w (Whole n) = choice_whole job s.state (job.plan.after n) n
-choice_free job s w (Handed p) = choice_handed (job.plan.kind p) p
+choice_free job s w task = event_if s.state.mark (next_act job task (s.state.call w))
 
 -- the turn of a worker that does not own the flag, by its status
 abbrev pub choice_by : CoreJob → CoreState → ℕ → Status → Option Event

@@ -1,13 +1,10 @@
 //! What a run is for: a job and its workers.
-ghost use Rattle.std.specs.Prelude.{◌≡◌, ◌<◌, IfOk, IsSome, length};
+ghost use Rattle.std.specs.Prelude.{◌≡◌, ◌<◌, IfOk, IsSome};
 ghost use Rattle.core_model.specs.Choice.{leaf_named};
-ghost use Rattle.core_model.specs.Operations.{leaf_of, IsLeaf};
 ghost use Rattle.core_model.specs.Settings.{job_of, leaf_at as leaf_of_kind, HasLeaf, TaskIn};
 ghost use Rattle.core_model.specs.Tasks.{names};
-ghost use Rattle.core_model.specs.Ranges.{LeafIn};
 
 use crate::task::Task;
-use seq_objects::Act;
 use sp_order::node::Kind;
 use sp_order::{Job, PlannedJob};
 use std::alloc::{AllocError, Global};
@@ -37,19 +34,6 @@ impl Setting {
         match self.job.kind(node) {
             Kind::LeafNode(leaf) => Some(leaf),
             _ => None,
-        }
-    }
-
-    /// The act of the leaf at a node, which must be a leaf.
-    pub fn act_at(&self, node: u32) -> Act
-        requires node_in { node < (job_of self.now).plan.count }
-        requires leaf { IsLeaf ((job_of self.now).plan.kind node) }
-        requires leaf_in { LeafIn (length self.now.job.acts) ((job_of self.now).plan.kind node) }
-        ensures { result ≡ (job_of self.now).act (leaf_of ((job_of self.now).plan.kind node)) }
-    {
-        match self.leaf_at(node) {
-            Some(leaf) => self.job.acts()[leaf as usize],
-            None => unreachable!(),
         }
     }
 

@@ -8,7 +8,6 @@ ghost use Rattle.core_state.specs.Code.Lookups.{CanChoose, IsWorkOf};
 mod gate;
 mod job;
 
-use crate::chosen::{of_half, of_handed, of_run, of_started};
 use crate::state::State;
 use core_model::{Event, Setting, Status, Task};
 
@@ -31,16 +30,10 @@ impl State {
     {
         match self.tasks[worker as usize] {
             Task::Idle => self.choose_claim(setting.workers, worker),
-            Task::Run(node) => of_run(setting.job.kind(node), node),
-            Task::Half(node) => of_half(setting.job.kind(node), node),
-            Task::Started { node, start } => {
-                let act = setting.act_at(node);
-                of_started(act, self.calls[worker as usize], node, start, work)
+            task => {
+                let act = setting.next(task, self.calls[worker as usize])?;
+                Some(self.event_of(act, work))
             }
-            Task::Kept { node, start } => Some(Event::End { node, start }),
-            Task::Ended { node, start, end } => Some(Event::FinishLeaf { node, start, end }),
-            Task::Whole(node) => self.choose_whole(setting, node),
-            Task::Handed(node) => of_handed(setting.job.kind(node), node),
         }
     }
 

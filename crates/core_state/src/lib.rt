@@ -9,7 +9,6 @@
 
 mod apply;
 mod choose;
-mod chosen;
 pub mod doing;
 pub mod hold;
 pub mod ready;

@@ -30,3 +30,9 @@ pub given_asks_none : {E : Type 0} (result : Result Turn E) (due : Option ℕ) (
     → IfOk result (λ t. t ≡ turn_answer due (Some done) chosen) → IfOk result (λ t. (steps : ℕ) → t ≡ Spin steps → P steps)
 given_asks_none (Ok turn) due done chosen P is = λ steps spin. absurd (no_spin due done chosen steps (sym is ∙ spin))
 given_asks_none (Err e) due done chosen P is = tt
+
+-- a turn that asks for work asks for what is due
+pub asked_tells : (due : Option ℕ) (chosen : Option Event) (turn : Turn) (n steps : ℕ) → turn ≡ turn_answer due None chosen → turn ≡ Spin n → Spin n ≡ Spin steps → due ≡ Some steps
+asked_tells None None turn n steps is was spin = absurd (cc)
+asked_tells None (Some event) turn n steps is was spin = absurd (cc)
+asked_tells (Some due) chosen turn n steps is was spin = cc

@@ -1,5 +1,5 @@
 -- A turn preserves the core's invariant, and its result states its effect.
-use Rattle.std.proofs.Common.{ℕ, ◌≡◌, ◌<◌, Some, None, List, refl, ◌∙◌}
+use Rattle.std.proofs.Common.{ℕ, ◌≡◌, ◌<◌, Some, None, refl, ◌∙◌}
 use Rattle.sp_order.specs.Jobs.{JobValue, job_tree}
 use Rattle.core_model.proofs.Words.{core_job}
 use Rattle.core_state.specs.Words.{Event}

@@ -1,6 +1,6 @@
 -- The code of a publish: its preconditions hold, and it performs the event.
 use Rattle.std.proofs.Common.{ℕ, ◌≡◌, false, true, Some, None, List, arith, refl, sym, subst, ◌∙◌, ap}
-use Rattle.sp_order.specs.Jobs.{JobValue, job_tree}
+use Rattle.sp_order.specs.Jobs.{JobValue}
 use Rattle.core_model.proofs.Words.{Entry, Hold, core_job}
 use Rattle.core_state.specs.Words.{Publish}
 use Rattle.seq_objects.specs.declared.call.Call.{Call}

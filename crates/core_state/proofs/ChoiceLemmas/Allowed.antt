@@ -1,5 +1,5 @@
 -- The preconditions of an event's code: the tick and the looks have room, and a claimed node is at an end of its list.
-use Rattle.std.proofs.Common.{ℕ, ◌≡◌, ◌<◌, ◌+◌, ◌^◌, Option, Some, None, IfSome, IsSome, List, arith, refl, sym, ◌∙◌, ap}
+use Rattle.std.proofs.Common.{ℕ, ◌≡◌, ◌<◌, ◌+◌, ◌^◌, Option, Some, None, IfSome, IsSome, arith, refl, sym, ◌∙◌, ap}
 use Rattle.sp_order.specs.Jobs.{JobValue, job_tree}
 use Rattle.core_model.proofs.Words.{Hold, core_job}
 use Rattle.core_state.specs.Words.{Event, Claim, Take}

@@ -1,6 +1,6 @@
 -- The invariant of a core implies the preconditions of choosing a turn.
 use Rattle.std.proofs.Common.{ℕ, ◌≡◌, ◌≢◌, ◌<◌, Some, arith, refl, sym, ◌∙◌}
-use Rattle.core_model.proofs.Words.{Nodes, IsPlan, Move, Root, OpenSecond, FinishParent, Arrive, CoreJob, names}
+use Rattle.core_model.proofs.Words.{Nodes, CoreJob, names}
 use Rattle.core_state.specs.Words.{Progress, Task, Idle, Run, Half, Started, Kept, Ended, Whole, Handed, Free, NotCalled, Out}
 use Rattle.core_state.specs.declared.state.State.{State as StoredState}
 use Rattle.core_model.specs.Settings.{job_of, HasLeaf, TaskIn}
@@ -10,9 +10,9 @@ use Rattle.core_model.proofs.ChoiceLemmas.Gate.{taken_row}
 use Rattle.core_model.specs.Operations.{IsLeaf}
 use Rattle.core_model.specs.Invariant.Tasks.{TaskFits}
 use Rattle.core_state.specs.Abstraction.{book_of, state_of}
-use Rattle.core_state.specs.Code.Lookups.{MoveIn, CanChoose}
+use Rattle.core_state.specs.Code.Lookups.{CanChoose}
 use Rattle.core_state.specs.Code.Representation.{Represents}
-use Rattle.core_model.proofs.InvariantLemmas.InRange.{parent_in, named_in}
+use Rattle.core_model.proofs.InvariantLemmas.InRange.{named_in}
 use Rattle.core_model.proofs.BookLemmas.Room.{book_room}
 use Rattle.core_state.proofs.CodeLemmas.KeptParts.{kept_parts}
 
@@ -25,12 +25,6 @@ task_in nodes (Kept n s) h = h n refl
 task_in nodes (Ended n s e) h = h n refl
 task_in nodes (Whole n) h = h n refl
 task_in nodes (Handed n) h = h n refl
-
-move_in : (plan : Nodes) → IsPlan plan → (n : ℕ) (move : Move) → plan.after n ≡ move → MoveIn plan.count move
-move_in plan laws n Root e = tt
-move_in plan laws n (OpenSecond p) e = parent_in plan laws p n (rw e refl)
-move_in plan laws n (FinishParent p) e = parent_in plan laws p n (rw e refl)
-move_in plan laws n (Arrive p) e = parent_in plan laws p n (rw e refl)
 
 started_leaf : (plan : Nodes) (node : ℕ → Progress) (mark : ℕ → ℕ) (task : Task) (n start : ℕ) → TaskFits plan node mark task → task ≡ Started n start → IsLeaf (plan.kind n)
 started_leaf plan node mark task n start h e = (rw e at h).0
@@ -60,8 +54,6 @@ looks setting t h =
       sizes = h.sizes;
       tasks_in = λ w. task_in (job_of setting).plan.count ((state_of t).task w) (λ n name. named_in (job_of setting) (state_of t) h.laws kept w n name);
       at_leaf = λ w n start e. started_leaf (job_of setting).plan (state_of t).node (state_of t).mark ((state_of t).task w) n start (kept.tasks.fits w) e;
-      moves_in = λ n. move_in (job_of setting).plan h.laws n ((job_of setting).plan.after n) refl;
-      leaves_in = h.leaves_in;
       owed = λ w taken. has_leaf (job_of setting) (state_of t).node (state_of t).mark ((state_of t).task w) (kept.tasks.fits w)
           (taken_row (job_of setting) (state_of t).book ((state_of t).task w) ((state_of t).status w) ((state_of t).call w) (is_taken_by (state_of t).hold w) taken (kept.statuses w)).1;
       shop = h.shop;

@@ -1,7 +1,7 @@
 -- What carries over from one represented state to the next.
-use Rattle.std.proofs.Common.{ℕ, List}
-use Rattle.sp_order.specs.Jobs.{JobValue, job_tree}
-use Rattle.core_model.proofs.Words.{Act, Tree, core_job}
+use Rattle.std.proofs.Common.{ℕ}
+use Rattle.sp_order.specs.Jobs.{JobValue}
+use Rattle.core_model.proofs.Words.{core_job}
 use Rattle.core_model.proofs.Inductive.Parts.{InductiveParts}
 use Rattle.core_model.proofs.Inductive.FromParts.{parts_carried}
 use Rattle.core_state.specs.declared.state.State.{State as StoredState}

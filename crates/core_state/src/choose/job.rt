@@ -1,14 +1,27 @@
-//! The choice of a worker that claims a node or has finished one, and the work that is due.
-ghost use Rattle.std.specs.Prelude.{◌≡◌, ◌<◌, ◌≤◌, length, None, IsTrue};
+//! The choice of a worker that claims a node, the event of a next act, and the work that is due.
+ghost use Rattle.std.specs.Prelude.{◌≡◌, ◌<◌, ◌≤◌, ℕ, length, None, Some, IfSome, IsTrue};
+ghost use Rattle.core_model.specs.Next.{event_of};
 ghost use Rattle.core_model.specs.Settings.{job_of};
 ghost use Rattle.core_state.specs.Abstraction.{state_of, ready_of};
-ghost use Rattle.core_state.specs.Code.Lookups.{CanChoose, MoveIn, claim_choice, whole_choice};
-ghost use Rattle.core_state.specs.WorkDue.{work_due};
+ghost use Rattle.core_state.specs.Code.Lookups.{CanChoose, claim_choice};
+ghost use Rattle.core_state.specs.WorkDue.{steps_of, work_due};
+ghost use Rattle.seq_objects.specs.Spin.{spin_of};
 
-use crate::chosen::{of_arrive, of_parent, of_second, steps_of};
 use crate::state::State;
-use core_model::{Event, Setting, Task};
-use sp_order::node::Move;
+use core_model::{Event, Next, Setting};
+use seq_objects::value;
+use seq_objects::work::spin;
+
+/// The value of `steps` steps of work: `work` if that was computed already, and otherwise computed here.
+fn value_of_work(work: Option<u64>, steps: u32) -> u64
+    requires { IfSome work (λ value. value ≡ spin_of steps) }
+    ensures { result ≡ spin_of steps }
+{
+    match work {
+        Some(value) => value,
+        None => u64::from(spin(steps)),
+    }
+}
 
 impl State {
     /// The event of an idle worker: it claims the newest node of its own list, or else steals the oldest node of the
@@ -45,26 +58,61 @@ impl State {
         self.ready.are_empty()
     }
 
-    /// The event of a worker whose node is done, by the plan's move after that node.
+    /// The number of sides that have arrived at a parallel block.
     #[tactic(auto, unfolding(crate::specs::Abstraction::state_of))]
-    pub(crate) fn choose_whole(&self, setting: &Setting, node: u32) -> Option<Event>
-        requires node_in { node < (job_of setting.now).plan.count }
-        requires marks_in { length self.now.marks.items ≡ (job_of setting.now).plan.count }
-        requires moves_in { MoveIn (job_of setting.now).plan.count ((job_of setting.now).plan.after node) }
-        ensures { result ≡ whole_choice (job_of setting.now).plan (state_of self.now).mark
-            ((job_of setting.now).plan.after node) node }
+    fn mark_of(&self, parent: u32) -> u32
+        ensures { result ≡ (state_of self.now).mark parent }
     {
-        match setting.job.after(node) {
-            Move::Root => None,
-            Move::OpenSecond(parent) => of_second(setting.job.kind(parent), parent),
-            Move::FinishParent(parent) => of_parent(setting.job.kind(parent), parent),
-            Move::Arrive(parent) => {
-                of_arrive(
-                    setting.job.kind(parent),
-                    parent,
-                    self.marks[parent as usize],
-                    node,
-                )
+        match self.marks.get(parent as usize) {
+            Some(mark) => *mark,
+            None => 0,
+        }
+    }
+
+    /// The event that an act is. `work` is the value of the work that the act asks for, if it was computed already.
+    #[inline(always)]
+    pub(crate) fn event_of(&self, act: Next, work: Option<u64>) -> Event
+        requires { IfSome work (λ value. (steps : ℕ) → steps_of (Some act) ≡ Some steps
+            → value ≡ spin_of steps) }
+        ensures { result ≡ event_of (state_of self.now).mark act }
+    {
+        match act {
+            Next::Start { node, .. } => Event::Start(node),
+            Next::Open { event, .. } => event,
+            Next::Spin { node, start, steps } => Event::Keep {
+                node,
+                start,
+                value: value_of_work(work, steps),
+            },
+            Next::Call { node, start, .. } => Event::Post { node, start },
+            Next::Got { node, start, reply } => Event::Keep {
+                node,
+                start,
+                value: value(reply),
+            },
+            Next::End { node, start } => Event::End { node, start },
+            Next::Finish { event, .. } => event,
+            Next::Arrive {
+                parent,
+                left,
+                right,
+                side,
+            } => {
+                if self.mark_of(parent) == 0 {
+                    Event::ArriveFirst {
+                        parent,
+                        left,
+                        right,
+                        side,
+                    }
+                } else {
+                    Event::ArriveSecond {
+                        parent,
+                        left,
+                        right,
+                        side,
+                    }
+                }
             }
         }
     }
@@ -75,10 +123,11 @@ impl State {
         requires looks { CanChoose setting.now self.now }
         requires worker_in { worker < setting.now.workers }
         ensures { result
-            ≡ work_due (job_of setting.now) ((state_of self.now).task worker) }
+            ≡ work_due (job_of setting.now) ((state_of self.now).task worker)
+            ((state_of self.now).call worker) }
     {
-        match self.tasks[worker as usize] {
-            Task::Started { node, .. } => steps_of(setting.act_at(node)),
+        match setting.next(self.tasks[worker as usize], self.calls[worker as usize]) {
+            Some(Next::Spin { steps, .. }) => Some(steps),
             _ => None,
         }
     }

@@ -1,4 +1,4 @@
-use Rattle.std.proofs.Common.{rules, ◌≡◌, ℕ, List, Result, Ok, Err, IfOk}
+use Rattle.std.proofs.Common.{rules, ℕ, List, Result, Ok, Err, IfOk}
 use Rattle.batch_history.specs.declared.report.Report.{Report}
 use Rattle.core_model.specs.State.{CoreJob, CoreState}
 use Rattle.core_model.specs.Reports.{IsDrivenFrom, IsRunFrom}

@@ -28,7 +28,7 @@ fn take_turn(core: &mut Core, worker: u32) -> Result<bool, AllocError>
     ensures spent { IfOk result (λ _. core.old.spent ≡ false) }
     ensures over { IfOk result (λ over. over ≡ is_over_in core.new) }
 {
-    if core.surely_rests(worker) {
+    if core.is_certainly_idle(worker) {
         return Ok(false);
     }
     core.advance(worker, None)?;

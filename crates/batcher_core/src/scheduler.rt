@@ -120,13 +120,13 @@ impl Core {
     ///
     /// Memory: none.
     #[inline(always)]
-    pub(crate) fn surely_rests(&self, worker: u32) -> bool
+    pub(crate) fn is_certainly_idle(&self, worker: u32) -> bool
         requires worker_in { worker < self.now.workers }
         ensures choice { IsTrue result
             → choice (job_in self.now) (state_in self.now) worker ≡ None }
         ensures spent { IsTrue result → self.now.spent ≡ false }
     {
-        !self.spent && self.table.surely_rests(&self.setting, worker)
+        !self.spent && self.table.is_certainly_idle(&self.setting, worker)
     }
 
     /// Performs the event of a worker's turn, if it has one. `work` is the value of the work that is due; without it,

@@ -28,7 +28,7 @@ pub enum Ended {
 }
 
 /// One turn of a worker. Work that is due is done within the turn. Returns whether an event happened.
-fn moves(core: &mut Core, worker: u32) -> Result<bool, AllocError>
+fn try_turn(core: &mut Core, worker: u32) -> Result<bool, AllocError>
     requires worker_in { worker < core.old.workers }
     ensures job { (core.new.job ≡ core.old.job)
         × (core.new.workers ≡ core.old.workers) }
@@ -38,7 +38,7 @@ fn moves(core: &mut Core, worker: u32) -> Result<bool, AllocError>
         (λ moved. moved ≡ is_some (choice (job_in core.old) (state_in core.old) worker)) }
     ensures spent { IfOk result (λ _. core.new.spent ≡ false) }
 {
-    if core.surely_rests(worker) {
+    if core.is_certainly_idle(worker) {
         return Ok(false);
     }
     match core.advance(worker, None)? {
@@ -72,7 +72,7 @@ fn take_round(core: &mut Core, live: &[bool]) -> Result<bool, AllocError>
             continue;
         }
         core.invariant_holds();
-        moved |= moves(core, worker)?;
+        moved |= try_turn(core, worker)?;
     }
     core.invariant_holds();
     Ok(moved)

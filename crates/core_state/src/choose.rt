@@ -61,7 +61,7 @@ impl State {
     /// Memory: none.
     #[inline(always)]
     #[tactic(auto, unfolding(crate::specs::Abstraction::state_of, crate::specs::Abstraction::ready_of))]
-    pub fn surely_rests(&self, setting: &Setting, worker: u32) -> bool
+    pub fn is_certainly_idle(&self, setting: &Setting, worker: u32) -> bool
         requires worker_in { worker < setting.now.workers }
         requires tasks_in { length self.now.tasks.items ≡ setting.now.workers }
         requires statuses_in { length self.now.statuses.items ≡ setting.now.workers }

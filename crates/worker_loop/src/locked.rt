@@ -47,7 +47,7 @@ fn run_in_threads<S: LockedRun + Send, R: Threads + Wait + Sync, G: Pause + Sync
     let shared = Shared {
         run: Mutex::new(run),
         decks,
-        came: AtomicU64::new(0),
+        arrived: AtomicU64::new(0),
         workers,
         pause,
     };
@@ -62,7 +62,7 @@ fn run_in_threads<S: LockedRun + Send, R: Threads + Wait + Sync, G: Pause + Sync
     let Shared {
         run,
         decks: _,
-        came: _,
+        arrived: _,
         workers: _,
         pause: _,
     } = shared;

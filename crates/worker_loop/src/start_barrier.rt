@@ -8,11 +8,11 @@ const MOST_LOOKS: u32 = 1_000;
 
 /// A start barrier of at most 1,000 looks: a thread that could not be spawned never arrives. Without the barrier the
 /// first thread would do most short jobs before another one starts.
-pub(crate) fn wait_for_others(came: &AtomicU64, workers: u32) {
-    came.fetch_add(1, Ordering::SeqCst);
+pub(crate) fn wait_for_others(arrived: &AtomicU64, workers: u32) {
+    arrived.fetch_add(1, Ordering::SeqCst);
     let backoff = Backoff::new();
     for _ in 0..MOST_LOOKS {
-        if u64::from(workers) <= came.load(Ordering::SeqCst) {
+        if u64::from(workers) <= arrived.load(Ordering::SeqCst) {
             return;
         }
         backoff.snooze();

@@ -28,7 +28,7 @@ use worker_turns::work;
 
 /// What the threads of a run over the running table share. The threads are started over any `Sync` team, so that `Sync`
 /// of a crew is shown only once.
-trait Team {
+trait SharedRun {
     /// The worker is ready to start.
     ghost ready: { Self → MeOf PassOf → Type 0 };
 
@@ -42,7 +42,7 @@ trait Team {
         ensures ended { HasEnded result };
 }
 
-impl<'a, G: Pause> Team for Crew<'a, G> {
+impl<'a, G: Pause> SharedRun for Crew<'a, G> {
     ghost ready = { λ crew me. (crew.workers ≡ (job_in crew.table).workers)
         × IsReady (IsSeat crew.table) seat_seen crew.decks crew.board me };
 
@@ -55,7 +55,7 @@ impl<'a, G: Pause> Team for Crew<'a, G> {
 
 /// Runs each worker after the start barrier, in a thread of its own where one can be spawned, and joins all threads.
 /// Each worker returns its pass.
-fn work_in_threads<C: Team + Sync, R: Threads + Wait + Sync>(
+fn work_in_threads<C: SharedRun + Sync, R: Threads + Wait + Sync>(
     rt: &R,
     alloc: Global,
     team: &C,
@@ -69,8 +69,8 @@ fn work_in_threads<C: Team + Sync, R: Threads + Wait + Sync>(
         → pass ≡ slice_index_or passes.items w pass → C.gave team.now pass × HasEnded pass) }
 {
     workers_go_to_threads();
-    let came = AtomicU64::new(0);
-    let all = &came;
+    let arrived = AtomicU64::new(0);
+    let all = &arrived;
     thread::map_vec(
         rt,
         mes,

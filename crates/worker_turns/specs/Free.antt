@@ -4,11 +4,11 @@ use Rattle.std.specs.Prelude.{ℕ, ◌≡◌, ◌≤◌, ◌⊎◌, ◌+◌, Opt
 use Rattle.two_deques.specs.declared.spot.Spot.{Spot}
 use Rattle.two_deques.specs.declared.tries.Deck.TheVariants.{CoreDeck, BatchDeck}
 use Rattle.two_deques.specs.Tries.{try_of, after_try}
-use Rattle.worker_turns.specs.declared.found.Tried.TheVariants.{Ran, Dropped, Dry}
-use Rattle.worker_turns.specs.declared.found.Found.{Found}
-use Rattle.worker_turns.specs.declared.found.Found.TheVariants.{Claimed, Refused, NoNode}
-use Rattle.worker_turns.specs.declared.found.Other.{Other}
-use Rattle.worker_turns.specs.declared.found.Other.TheVariants.{Alone, Node, Piece}
+use Rattle.worker_turns.specs.declared.attempts.PieceAttempt.TheVariants.{Ran, Stale, Empty}
+use Rattle.worker_turns.specs.declared.attempts.NodeAttempt.{NodeAttempt}
+use Rattle.worker_turns.specs.declared.attempts.NodeAttempt.TheVariants.{Claimed, Refused, NoNode}
+use Rattle.worker_turns.specs.declared.attempts.StealAttempt.{StealAttempt}
+use Rattle.worker_turns.specs.declared.attempts.StealAttempt.TheVariants.{NoVictim, Node, Piece}
 use Rattle.worker_turns.specs.declared.free.Did.{Did}
 use Rattle.worker_turns.specs.declared.free.Did.TheVariants as did
 use Rattle.worker_crew.specs.Passes.{PassSeen, IsFront, claiming, refusing}
@@ -16,31 +16,31 @@ use Rattle.worker_crew.specs.Workers.{MeSeen}
 use Rattle.worker_turns.specs.Stops.{unstopped}
 use Rattle.worker_turns.specs.Pieces.{Desk, IsPop, IsSteal, spot_of, desk_after, NotRan, IsOwnPiece}
 
-abbrev pub node_of : Found → Option ℕ
+abbrev pub node_of : NodeAttempt → Option ℕ
 node_of (Claimed n) = Some n
 node_of (Refused n) = Some n
 node_of NoNode = None
 
 -- the pass after the claim of this outcome, if there was one
-abbrev pub pass_after : Found → PassSeen → PassSeen
+abbrev pub pass_after : NodeAttempt → PassSeen → PassSeen
 pass_after (Claimed n) p = claiming n p
 pass_after (Refused n) p = refusing n p
 pass_after NoNode p = p
 
-abbrev pub NotClaimed : Found → Type 0
+abbrev pub NotClaimed : NodeAttempt → Type 0
 NotClaimed (Claimed n) = ⊥
 NotClaimed (Refused n) = Unit {0}
 NotClaimed NoNode = Unit {0}
 
 -- a pop of the own deque of nodes, and the claim of what it gave, had this outcome; nothing else changed
-pub record IsOwnNode (t : Found) (old new : MeSeen) : Type 0 where
+pub record IsOwnNode (t : NodeAttempt) (old new : MeSeen) : Type 0 where
   pub pop : IsPop (node_of t) old.core new.core
   pub same : new ≡ record old { pass = pass_after t old.pass; core = new.core }
 
 -- The turn's one steal, at the deque that `Tries` names next, and the claim of what it gave, had this outcome. A sole
 -- worker makes none.
-abbrev pub IsOther : Other → MeSeen → MeSeen → Type 0
-IsOther Alone old new = (old.tries.workers ≡ 1) × (new ≡ old)
+abbrev pub IsOther : StealAttempt → MeSeen → MeSeen → Type 0
+IsOther NoVictim old new = (old.tries.workers ≡ 1) × (new ≡ old)
 IsOther (Node t) old new =
     ((try_of old.tries).deck ≡ CoreDeck) × IsSteal (try_of old.tries).victim (node_of t) old.core new.core
     × (new ≡ record old { pass = pass_after t old.pass; core = new.core; tries = after_try old.tries })
@@ -48,10 +48,10 @@ IsOther (Piece t) old new =
     ((try_of old.tries).deck ≡ BatchDeck) × IsSteal (try_of old.tries).victim (spot_of t) old.batch new.batch
     × (new ≡ record old { batch = new.batch; desk = desk_after t old.desk; tries = after_try old.tries })
 
-abbrev pub GaveNothing : Other → Type 0
-GaveNothing Alone = Unit {0}
-GaveNothing (Node t) = NotClaimed t
-GaveNothing (Piece t) = NotRan t
+abbrev pub StoleNothing : StealAttempt → Type 0
+StoleNothing NoVictim = Unit {0}
+StoleNothing (Node t) = NotClaimed t
+StoleNothing (Piece t) = NotRan t
 
 -- as many pieces were finished as were claimed
 pub record Helps (old new : Desk) : Type 0 where
@@ -62,7 +62,7 @@ pub record Helps (old new : Desk) : Type 0 where
 -- The effect of carrying on a claimed node. The nodes opened are pushed on the own deque in order, and the worker's
 -- ends of the deques of nodes are otherwise unchanged. No node is claimed or refused. The book seen and the events only
 -- grow, and each look at the stop word finds it unset.
-pub record Carried (old new : MeSeen) : Type 0 where
+pub record RanToIdle (old new : MeSeen) : Type 0 where
   pub nodes : List ℕ
   pub opened : new.pass.opened ≡ old.pass.opened ++ nodes
   pub core : new.core ≡ record old.core { own = old.core.own ++ nodes; pushes = old.core.pushes + length nodes }
@@ -81,14 +81,14 @@ pub record Carried (old new : MeSeen) : Type 0 where
 -- pieces, one steal. The path ends at the first of these that finds something; a claimed node is then carried on.
 abbrev pub IsFreeTurn : Did → MeSeen → MeSeen → Type 0
 IsFreeTurn did.Ran old new =
-    ((n : ℕ) × (a : MeSeen) × IsOwnNode (Claimed n) (unstopped old) a × Carried a new)
-    ⊎ ((n : ℕ) × (a b d : MeSeen) × IsOwnNode NoNode (unstopped old) a × IsOwnPiece Dry a b
-    × IsOther (Node (Claimed n)) b d × Carried d new)
+    ((n : ℕ) × (a : MeSeen) × IsOwnNode (Claimed n) (unstopped old) a × RanToIdle a new)
+    ⊎ ((n : ℕ) × (a b d : MeSeen) × IsOwnNode NoNode (unstopped old) a × IsOwnPiece Empty a b
+    × IsOther (Node (Claimed n)) b d × RanToIdle d new)
 IsFreeTurn did.Piece old new =
     ((spot : Spot) × (a : MeSeen) × IsOwnNode NoNode (unstopped old) a × IsOwnPiece (Ran spot) a new)
-    ⊎ ((spot : Spot) × (a b : MeSeen) × IsOwnNode NoNode (unstopped old) a × IsOwnPiece Dry a b × IsOther (Piece (Ran spot)) b new)
+    ⊎ ((spot : Spot) × (a b : MeSeen) × IsOwnNode NoNode (unstopped old) a × IsOwnPiece Empty a b × IsOther (Piece (Ran spot)) b new)
 IsFreeTurn did.Nothing old new =
     ((n : ℕ) × IsOwnNode (Refused n) (unstopped old) new)
-    ⊎ (((spot : Spot) × (a : MeSeen) × IsOwnNode NoNode (unstopped old) a × IsOwnPiece (Dropped spot) a new)
-    ⊎ ((other : Other) × (a b : MeSeen) × GaveNothing other × IsOwnNode NoNode (unstopped old) a × IsOwnPiece Dry a b
+    ⊎ (((spot : Spot) × (a : MeSeen) × IsOwnNode NoNode (unstopped old) a × IsOwnPiece (Stale spot) a new)
+    ⊎ ((other : StealAttempt) × (a b : MeSeen) × StoleNothing other × IsOwnNode NoNode (unstopped old) a × IsOwnPiece Empty a b
     × IsOther other b new))

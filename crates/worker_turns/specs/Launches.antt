@@ -14,7 +14,7 @@ use Rattle.worker_turns.specs.Pieces.{Desk}
 
 -- Pieces were posted at exactly these places of the own row, in this order, as many results were collected, and the row
 -- is free. Meanwhile, the worker finished as many pieces as it claimed.
-pub record Serves (posted : List ℕ) (old new : Desk) : Type 0 where
+pub record ExecutesPieces (posted : List ℕ) (old new : Desk) : Type 0 where
   pub posts : new.posts ≡ old.posts ++ posted
   pub collects : new.collects ≡ old.collects + length posted
   pub free : new.posted ≡ []
@@ -60,7 +60,7 @@ launch_events workers served = look_events workers ++ (served ++ Release ∷ [])
 -- Hold `done` has looked at each worker once, and has taken exactly the calls found pending. If there was none, nothing
 -- was published, no piece was posted, and `served` is empty. Otherwise the calls were served as one batch after the
 -- book, which was published, and all were answered; `posted` has the places of its pieces, and `served` those events.
-pub record Gathers (workers : ℕ) (book : List (List Entry)) (posted : List ℕ) (served : List Event) (done : HoldSeen) : Type 0 where
+pub record Collects (workers : ℕ) (book : List (List Entry)) (posted : List ℕ) (served : List Event) (done : HoldSeen) : Type 0 where
   pub looked : done.looks ≡ workers
   pub found : AreFound workers done.found done.taken
   pub batch : (TookNone done × (done.book ≡ book) × (posted ≡ []) × (served ≡ []))
@@ -74,7 +74,7 @@ pub record Launches (workers : ℕ) (book : List (List Entry)) (old new : MeSeen
   pub done : HoldSeen
   pub posted : List ℕ
   pub served : List Event
-  pub gathers : Gathers workers book posted served done
+  pub gathers : Collects workers book posted served done
   pub released : new.pass ≡ record old.pass {
     hold = None;
     last = Some done;
@@ -83,5 +83,5 @@ pub record Launches (workers : ℕ) (book : List (List Entry)) (old new : MeSeen
     events = old.pass.events ++ launch_events workers served;
   }
   pub looks : old.pass.stop_looks ≤ new.pass.stop_looks
-  pub desk : Serves posted old.desk new.desk
+  pub desk : ExecutesPieces posted old.desk new.desk
   pub core : new.core ≡ old.core

@@ -10,8 +10,8 @@ use Rattle.piece_board.specs.declared.view.DeskView.{DeskView}
 use Rattle.piece_board.specs.Desks.{after_refusal}
 use Rattle.launch_batch.specs.declared.piece.PieceIn.{PieceIn}
 use Rattle.launch_batch.specs.Pieces.{place_of}
-use Rattle.worker_turns.specs.declared.found.Tried.{Tried}
-use Rattle.worker_turns.specs.declared.found.Tried.TheVariants.{Ran, Dropped, Dry}
+use Rattle.worker_turns.specs.declared.attempts.PieceAttempt.{PieceAttempt}
+use Rattle.worker_turns.specs.declared.attempts.PieceAttempt.TheVariants.{Ran, Stale, Empty}
 use Rattle.worker_crew.specs.Workers.{MeSeen}
 
 abbrev pub Desk : Type 0
@@ -28,24 +28,24 @@ module _ {T : Type 0} where
   IsSteal victim None old new = new ≡ after_fruitless_steal victim old
   IsSteal victim (Some x) old new = new ≡ after_steal victim x old
 
-abbrev pub spot_of : Tried → Option Spot
+abbrev pub spot_of : PieceAttempt → Option Spot
 spot_of (Ran s) = Some s
-spot_of (Dropped s) = Some s
-spot_of Dry = None
+spot_of (Stale s) = Some s
+spot_of Empty = None
 
 -- the desk after the piece at this spot was claimed and finished
 abbrev pub after_run : Spot → Desk → Desk
 after_run s d = record d { given = d.given ++ (s.row, s.place) ∷ []; finishes = d.finishes + 1 }
 
-abbrev pub desk_after : Tried → Desk → Desk
+abbrev pub desk_after : PieceAttempt → Desk → Desk
 desk_after (Ran s) d = after_run s d
-desk_after (Dropped s) d = after_refusal s.row s.place d
-desk_after Dry d = d
+desk_after (Stale s) d = after_refusal s.row s.place d
+desk_after Empty d = d
 
-abbrev pub NotRan : Tried → Type 0
+abbrev pub NotRan : PieceAttempt → Type 0
 NotRan (Ran s) = ⊥
-NotRan (Dropped s) = Unit {0}
-NotRan Dry = Unit {0}
+NotRan (Stale s) = Unit {0}
+NotRan Empty = Unit {0}
 
 -- x for the deque of nodes, y for that of pieces
 abbrev pub by_deck : {A : Type 0} → Deck → A → A → A
@@ -60,19 +60,19 @@ abbrev pub after_piece_try : TriesView → TriesView
 after_piece_try t = by_deck (try_of t).deck (after_try (after_try t)) (after_try t)
 
 -- a pop of the own deque of pieces, and the claim of what it gave, had this outcome; nothing else changed
-pub record IsOwnPiece (t : Tried) (old new : MeSeen) : Type 0 where
+pub record IsOwnPiece (t : PieceAttempt) (old new : MeSeen) : Type 0 where
   pub pop : IsPop (spot_of t) old.batch new.batch
   pub same : new ≡ record old { batch = new.batch; desk = desk_after t old.desk }
 
 -- a steal at the next deque of pieces, and the claim of what it gave, had this outcome; nothing else changed
-pub record IsStolenPiece (t : Tried) (old new : MeSeen) : Type 0 where
+pub record IsStolenPiece (t : PieceAttempt) (old new : MeSeen) : Type 0 where
   pub steal : IsSteal (piece_try old.tries).victim (spot_of t) old.batch new.batch
   pub same : new ≡ record old { batch = new.batch; desk = desk_after t old.desk; tries = after_piece_try old.tries }
 
--- the same, or there is no other worker, nothing was tried, and the outcome is `Dry`
-abbrev pub IsOtherPiece : Tried → MeSeen → MeSeen → Type 0
+-- the same, or there is no other worker, nothing was tried, and the outcome is `Empty`
+abbrev pub IsOtherPiece : PieceAttempt → MeSeen → MeSeen → Type 0
 IsOtherPiece t old new =
-    ((old.tries.workers ≡ 1) × (t ≡ Dry) × (new ≡ old)) ⊎ IsStolenPiece t old new
+    ((old.tries.workers ≡ 1) × (t ≡ Empty) × (new ≡ old)) ⊎ IsStolenPiece t old new
 
 -- The desk after `collected` results were collected, at the first places of the row that are not free, while the pieces
 -- `given` were claimed and finished and the claims `refused` were refused. `empty` is the new count of empty collects.
@@ -88,7 +88,7 @@ after_works collected given refused empty d = record d {
 
 -- `collected` results were collected, at the first places of the row that are not free, while any number of pieces were
 -- run and any number of claims refused. Nothing was posted.
-pub record Works (collected : ℕ) (old new : Desk) : Type 0 where
+pub record DrainsRow (collected : ℕ) (old new : Desk) : Type 0 where
   pub given : List (ℕ × ℕ)
   pub refused : List (ℕ × ℕ)
   pub is : new ≡ after_works collected given refused new.empty_collects old

@@ -2,8 +2,8 @@
 use Rattle.std.specs.Prelude.{ℕ, ◌≡◌, ◌≤◌, ◌⊎◌, None, List}
 use Rattle.two_deques.specs.declared.spot.Spot.{Spot}
 use Rattle.core_model.specs.Words.{Entry}
-use Rattle.worker_turns.specs.declared.found.Tried.{Tried}
-use Rattle.worker_turns.specs.declared.found.Tried.TheVariants.{Ran}
+use Rattle.worker_turns.specs.declared.attempts.PieceAttempt.{PieceAttempt}
+use Rattle.worker_turns.specs.declared.attempts.PieceAttempt.TheVariants.{Ran}
 use Rattle.worker_turns.specs.declared.trapped.Trapped.{Trapped}
 use Rattle.worker_turns.specs.declared.trapped.Trapped.TheVariants.{Left, Piece, Launched, Nothing}
 use Rattle.worker_crew.specs.Passes.{PassSeen, finding_none, staying, losing, winning, IsLeft, IsDue, IsFront}
@@ -25,17 +25,17 @@ won_after book m = record m { pass = winning book (staying m.pass) }
 -- the win finds extends the one seen before.
 abbrev pub IsTrappedTurn : ℕ → Trapped → MeSeen → MeSeen → Type 0
 IsTrappedTurn workers (Left receipt) old new =
-    (own : Tried) × (a : MeSeen) × NotRan own × IsOwnPiece own (unstopped old) a
+    (own : PieceAttempt) × (a : MeSeen) × NotRan own × IsOwnPiece own (unstopped old) a
     × IsLeft receipt a.pass new.pass × (new ≡ record a { pass = new.pass })
 IsTrappedTurn workers Piece old new =
     ((spot : Spot) × IsOwnPiece (Ran spot) (unstopped old) new)
-    ⊎ ((own : Tried) × (spot : Spot) × (a : MeSeen) × NotRan own × IsOwnPiece own (unstopped old) a
+    ⊎ ((own : PieceAttempt) × (spot : Spot) × (a : MeSeen) × NotRan own × IsOwnPiece own (unstopped old) a
     × IsOtherPiece (Ran spot) (refused_both a) new)
 IsTrappedTurn workers Launched old new =
-    (own : Tried) × (a : MeSeen) × (book : List (List Entry)) × NotRan own × IsOwnPiece own (unstopped old) a
+    (own : PieceAttempt) × (a : MeSeen) × (book : List (List Entry)) × NotRan own × IsOwnPiece own (unstopped old) a
     × Launches workers book (won_after book a) new × IsFront a.pass.book_seen book
 IsTrappedTurn workers Nothing old new =
-    (own : Tried) × (other : Tried) × (a : MeSeen) × NotRan own × NotRan other × IsOwnPiece own (unstopped old) a
+    (own : PieceAttempt) × (other : PieceAttempt) × (a : MeSeen) × NotRan own × NotRan other × IsOwnPiece own (unstopped old) a
     × IsOtherPiece other (refused_both a) new
 
 -- unchanged: the worker, its task, the nodes that it claimed, was refused and opened, the number of looks that found

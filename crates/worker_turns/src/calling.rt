@@ -11,7 +11,7 @@ ghost use Rattle.worker_turns.specs.Stops.{IsStop};
 ghost use Rattle.worker_turns.specs.Trapped.{IsJobSame};
 ghost use Rattle.worker_turns.specs.Free.{Helps};
 
-use crate::rest::rest_after;
+use crate::back_off::back_off;
 use crate::trapped::{Trapped, trapped_turn};
 use bt_io::{Pause, Point};
 use core_model::Receipt;
@@ -94,7 +94,7 @@ pub fn call<T: Table, G: Pause, R: Wait>(
         if let Trapped::Left(receipt) = turn {
             return Ok(Called { since, receipt });
         }
-        rest_after(&backoff, matches!(turn, Trapped::Nothing));
+        back_off(&backoff, matches!(turn, Trapped::Nothing));
     }
     unreachable!()
 }

@@ -5,7 +5,7 @@ ghost use Rattle.piece_board.specs.Boards.{desk_view};
 ghost use Rattle.worker_crew.specs.Passes.{IsFree};
 ghost use Rattle.worker_crew.specs.Workers.{me_seen, IsMeOf};
 ghost use Rattle.worker_turns.specs.Stops.{IsStop};
-ghost use Rattle.worker_turns.specs.Free.{Carried};
+ghost use Rattle.worker_turns.specs.Free.{RanToIdle};
 
 use crate::calling::call;
 use bt_io::{Pause, Point};
@@ -34,7 +34,7 @@ fn make_step<T: Table, G: Pause, R: Wait>(
         IsMeOf (T.gave crew.now.table) T.seen crew.now.decks crew.now.board me.new) }
     ensures free_pass { IfOk result (λ _. IsFree (T.seen me.new.pass)) }
     ensures free { IfOk result (λ _. (desk_view me.new.desk).posted ≡ []) }
-    ensures carried { IfOk result (λ _. Carried (me_seen T.seen me.old) (me_seen T.seen me.new)) }
+    ensures carried { IfOk result (λ _. RanToIdle (me_seen T.seen me.old) (me_seen T.seen me.new)) }
     ensures stopped { IfErr result (λ stop. IsStop stop (T.seen me.old.pass) (T.seen me.new.pass)) }
 {
     match step {
@@ -61,7 +61,7 @@ fn make_step<T: Table, G: Pause, R: Wait>(
 }
 
 /// Makes the task's steps until it is idle. A second arrival or the last side of a series continues with the block.
-pub(crate) fn carry_on<T: Table, G: Pause, R: Wait>(
+pub(crate) fn run_to_idle<T: Table, G: Pause, R: Wait>(
     rt: &R,
     alloc: Global,
     crew: &Crew<T, G>,
@@ -77,7 +77,7 @@ pub(crate) fn carry_on<T: Table, G: Pause, R: Wait>(
     ensures free_pass { IfOk result (λ _. IsFree (T.seen me.new.pass)) }
     ensures idle { IfOk result (λ _. (T.seen me.new.pass).task ≡ Idle) }
     ensures free { IfOk result (λ _. (desk_view me.new.desk).posted ≡ []) }
-    ensures carried { IfOk result (λ _. Carried (me_seen T.seen me.old) (me_seen T.seen me.new)) }
+    ensures carried { IfOk result (λ _. RanToIdle (me_seen T.seen me.old) (me_seen T.seen me.new)) }
     ensures stopped { IfErr result (λ stop. IsStop stop (T.seen me.old.pass) (T.seen me.new.pass)) }
 {
     for _ in rt.forever() {

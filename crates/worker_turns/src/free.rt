@@ -8,9 +8,9 @@ ghost use Rattle.worker_crew.specs.Workers.{me_seen, IsMeOf};
 ghost use Rattle.worker_turns.specs.Stops.{IsStop};
 ghost use Rattle.worker_turns.specs.Free.{node_of, pass_after, IsOwnNode, IsOther, IsFreeTurn};
 
-use crate::carry::carry_on;
-use crate::found::{Found, Other, Tried};
-use crate::pieces::{own_piece, run_found};
+use crate::attempts::{NodeAttempt, PieceAttempt, StealAttempt};
+use crate::carry::run_to_idle;
+use crate::pieces::{claim_and_run, pop_own_piece};
 use bt_io::Pause;
 use std::alloc::Global;
 use std::sync::Wait;
@@ -29,7 +29,7 @@ pub enum Did {
 }
 
 /// Tries to claim the node, if there is one.
-fn claim_found<T: Table>(table: &T, pass: &mut T::Pass, found: Option<u32>) -> Found
+fn claim_found<T: Table>(table: &T, pass: &mut T::Pass, found: Option<u32>) -> NodeAttempt
     requires pass { T.gave table.now pass.old }
     requires free { IsFree (T.seen pass.old) }
     requires idle { (T.seen pass.old).task ≡ Idle }
@@ -38,17 +38,17 @@ fn claim_found<T: Table>(table: &T, pass: &mut T::Pass, found: Option<u32>) -> F
     ensures seen { T.seen pass.new ≡ pass_after result (T.seen pass.old) }
 {
     let Some(node) = found else {
-        return Found::NoNode;
+        return NodeAttempt::NoNode;
     };
     if table.claim(pass, node) {
-        Found::Claimed(node)
+        NodeAttempt::Claimed(node)
     } else {
-        Found::Refused(node)
+        NodeAttempt::Refused(node)
     }
 }
 
 /// Pops the worker's own deque of nodes once, and tries to claim what it gives.
-fn own_node<T: Table, G: Pause>(crew: &Crew<T, G>, me: &mut Me<T::Pass>) -> Found
+fn pop_own_node<T: Table, G: Pause>(crew: &Crew<T, G>, me: &mut Me<T::Pass>) -> NodeAttempt
     requires me { IsMeOf (T.gave crew.now.table) T.seen crew.now.decks crew.now.board me.old }
     requires free { IsFree (T.seen me.old.pass) }
     requires idle { (T.seen me.old.pass).task ≡ Idle }
@@ -61,12 +61,12 @@ fn own_node<T: Table, G: Pause>(crew: &Crew<T, G>, me: &mut Me<T::Pass>) -> Foun
 
 /// Makes the turn's one steal, at the deque that `Tries` names next. A node is claimed and not yet carried on; a piece
 /// is claimed and run.
-fn other<T: Table, G: Pause, R: Wait>(
+fn steal_once<T: Table, G: Pause, R: Wait>(
     rt: &R,
     alloc: Global,
     crew: &Crew<T, G>,
     me: &mut Me<T::Pass>,
-) -> Result<Other, Stop>
+) -> Result<StealAttempt, Stop>
     requires me { IsMeOf (T.gave crew.now.table) T.seen crew.now.decks crew.now.board me.old }
     requires free { IsFree (T.seen me.old.pass) }
     requires idle { (T.seen me.old.pass).task ≡ Idle }
@@ -78,16 +78,16 @@ fn other<T: Table, G: Pause, R: Wait>(
     ensures failed { IfErr result (λ stop. stop ≡ Memory) }
 {
     let Some(next) = me.tries.next_try() else {
-        return Ok(Other::Alone);
+        return Ok(StealAttempt::NoVictim);
     };
     match next.deck {
         Deck::CoreDeck => {
             let found = crew.decks.steal_core(rt, &mut me.hand, next.victim);
-            Ok(Other::Node(claim_found(&crew.table, &mut me.pass, found)))
+            Ok(StealAttempt::Node(claim_found(&crew.table, &mut me.pass, found)))
         }
         Deck::BatchDeck => {
             let found = crew.decks.steal_piece(rt, &mut me.hand, next.victim);
-            Ok(Other::Piece(run_found(alloc, crew, me, found)?))
+            Ok(StealAttempt::Piece(claim_and_run(alloc, crew, me, found)?))
         }
     }
 }
@@ -121,25 +121,25 @@ pub fn free_turn<T: Table, G: Pause, R: Wait>(
     if crew.table.stopped(&mut me.pass) {
         return Err(Stop::Stopped);
     }
-    match own_node(crew, me) {
-        Found::NoNode => {}
-        Found::Refused(_) => return Ok(Did::Nothing),
-        Found::Claimed(_) => {
-            carry_on(rt, alloc, crew, me)?;
+    match pop_own_node(crew, me) {
+        NodeAttempt::NoNode => {}
+        NodeAttempt::Refused(_) => return Ok(Did::Nothing),
+        NodeAttempt::Claimed(_) => {
+            run_to_idle(rt, alloc, crew, me)?;
             return Ok(Did::Ran);
         }
     }
-    match own_piece(alloc, crew, me)? {
-        Tried::Dry => {}
-        Tried::Dropped(_) => return Ok(Did::Nothing),
-        Tried::Ran(_) => return Ok(Did::Piece),
+    match pop_own_piece(alloc, crew, me)? {
+        PieceAttempt::Empty => {}
+        PieceAttempt::Stale(_) => return Ok(Did::Nothing),
+        PieceAttempt::Ran(_) => return Ok(Did::Piece),
     }
-    match other(rt, alloc, crew, me)? {
-        Other::Node(Found::Claimed(_)) => {
-            carry_on(rt, alloc, crew, me)?;
+    match steal_once(rt, alloc, crew, me)? {
+        StealAttempt::Node(NodeAttempt::Claimed(_)) => {
+            run_to_idle(rt, alloc, crew, me)?;
             Ok(Did::Ran)
         }
-        Other::Piece(Tried::Ran(_)) => Ok(Did::Piece),
+        StealAttempt::Piece(PieceAttempt::Ran(_)) => Ok(Did::Piece),
         _ => Ok(Did::Nothing),
     }
 }

@@ -21,7 +21,7 @@ use std::sync::Wait;
 use worker_crew::{Crew, Me, Stop, Table};
 
 /// Looks at each worker once, in order from 0, and takes each call that is pending at its look.
-fn take_all<T: Table>(
+fn collect_pending<T: Table>(
     alloc: Global,
     table: &T,
     pass: &mut T::Pass,
@@ -117,7 +117,7 @@ pub fn launch<T: Table, G: Pause, R: Wait>(
         (me_seen T.seen me.old) (me_seen T.seen me.new)) }
     ensures stopped { IfErr result (λ stop. IsStop stop (T.seen me.old.pass) (T.seen me.new.pass)) }
 {
-    let calls = take_all(alloc, &crew.table, &mut me.pass, crew.workers)?;
+    let calls = collect_pending(alloc, &crew.table, &mut me.pass, crew.workers)?;
     if calls.is_empty() {
         crew.table.release(&mut me.pass, shop);
         return Ok(());

@@ -10,19 +10,19 @@
 //! the interface of the table, a parameter here; and on `two_deques`, `piece_board` and `launch_batch`.
 #![tactic(auto)]
 
+pub mod attempts;
+mod back_off;
 pub mod calling;
 mod carry;
-pub mod found;
 pub mod free;
 pub mod launching;
 pub mod laws;
 mod pieces;
-mod rest;
 pub mod trapped;
 pub mod worker;
 
+pub use attempts::{NodeAttempt, PieceAttempt, StealAttempt};
 pub use calling::{Called, call};
-pub use found::{Found, Other, Tried};
 pub use free::{Did, free_turn};
 pub use launching::launch;
 pub use trapped::{Trapped, trapped_turn};

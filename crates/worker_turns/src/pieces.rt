@@ -6,7 +6,7 @@ ghost use Rattle.worker_crew.specs.declared.crew.Stop.TheVariants.{Memory};
 ghost use Rattle.worker_crew.specs.Workers.{me_seen, IsMeOf};
 ghost use Rattle.worker_turns.specs.Pieces.{spot_of, desk_after, piece_try, after_piece_try, IsOwnPiece, IsOtherPiece};
 
-use crate::found::Tried;
+use crate::attempts::PieceAttempt;
 use bt_io::{Pause, Point};
 use launch_batch::run_piece;
 use std::alloc::Global;
@@ -19,12 +19,12 @@ mod serving;
 pub(crate) use serving::serve_pieces;
 
 /// Claims the piece of the spot, if a spot was found, and runs it. A spot whose claim is refused is dropped.
-pub(crate) fn run_found<T: Table, G: Pause>(
+pub(crate) fn claim_and_run<T: Table, G: Pause>(
     alloc: Global,
     crew: &Crew<T, G>,
     me: &mut Me<T::Pass>,
     found: Option<Spot>,
-) -> Result<Tried, Stop>
+) -> Result<PieceAttempt, Stop>
     requires desk { IsDeskOf crew.now.board me.old.desk }
     ensures desk { IsDeskOf crew.now.board me.new.desk }
     ensures found { IfOk result (λ tried. spot_of tried ≡ found) }
@@ -35,24 +35,24 @@ pub(crate) fn run_found<T: Table, G: Pause>(
     ensures failed { IfErr result (λ stop. stop ≡ Memory) }
 {
     let Some(spot) = found else {
-        return Ok(Tried::Dry);
+        return Ok(PieceAttempt::Empty);
     };
     let Some((claim, input)) = crew.board.claim(&mut me.desk, spot.row, spot.place) else {
-        return Ok(Tried::Dropped(spot));
+        return Ok(PieceAttempt::Stale(spot));
     };
     crew.pause
         .at(Point::PieceStart(spot.place), me.hand.worker());
     let out = run_piece(alloc, input)?;
     crew.board.finish(&mut me.desk, claim, out);
-    Ok(Tried::Ran(spot))
+    Ok(PieceAttempt::Ran(spot))
 }
 
 /// Pops the worker's own deque of pieces once, and claims and runs what it gives.
-pub(crate) fn own_piece<T: Table, G: Pause>(
+pub(crate) fn pop_own_piece<T: Table, G: Pause>(
     alloc: Global,
     crew: &Crew<T, G>,
     me: &mut Me<T::Pass>,
-) -> Result<Tried, Stop>
+) -> Result<PieceAttempt, Stop>
     requires me { IsMeOf (T.gave crew.now.table) T.seen crew.now.decks crew.now.board me.old }
     ensures me { IfOk result (λ _.
         IsMeOf (T.gave crew.now.table) T.seen crew.now.decks crew.now.board me.new) }
@@ -62,7 +62,7 @@ pub(crate) fn own_piece<T: Table, G: Pause>(
     ensures failed { IfErr result (λ stop. stop ≡ Memory) }
 {
     let found = crew.decks.pop_piece(&mut me.hand);
-    run_found(alloc, crew, me, found)
+    claim_and_run(alloc, crew, me, found)
 }
 
 /// The next victim of a steal of pieces; tries at deques of nodes are skipped. `None`: there is no other worker.
@@ -84,12 +84,12 @@ fn next_victim(tries: &mut Tries) -> Option<u32>
 }
 
 /// Tries to steal one piece, if there is another worker, and claims and runs what the steal gives.
-pub(crate) fn other_piece<T: Table, G: Pause, R: Wait>(
+pub(crate) fn steal_other_piece<T: Table, G: Pause, R: Wait>(
     rt: &R,
     alloc: Global,
     crew: &Crew<T, G>,
     me: &mut Me<T::Pass>,
-) -> Result<Tried, Stop>
+) -> Result<PieceAttempt, Stop>
     requires me { IsMeOf (T.gave crew.now.table) T.seen crew.now.decks crew.now.board me.old }
     ensures me { IfOk result (λ _.
         IsMeOf (T.gave crew.now.table) T.seen crew.now.decks crew.now.board me.new) }
@@ -99,8 +99,8 @@ pub(crate) fn other_piece<T: Table, G: Pause, R: Wait>(
     ensures failed { IfErr result (λ stop. stop ≡ Memory) }
 {
     let Some(victim) = next_victim(&mut me.tries) else {
-        return Ok(Tried::Dry);
+        return Ok(PieceAttempt::Empty);
     };
     let found = crew.decks.steal_piece(rt, &mut me.hand, victim);
-    run_found(alloc, crew, me, found)
+    claim_and_run(alloc, crew, me, found)
 }

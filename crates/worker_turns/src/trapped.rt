@@ -8,9 +8,9 @@ ghost use Rattle.worker_turns.specs.Stops.{IsStop};
 ghost use Rattle.worker_turns.specs.Trapped.{IsTrappedTurn, StaysTrapped};
 ghost use Rattle.worker_turns.specs.Free.{Helps};
 
-use crate::found::Tried;
+use crate::attempts::PieceAttempt;
 use crate::launching::launch;
-use crate::pieces::{other_piece, own_piece};
+use crate::pieces::{pop_own_piece, steal_other_piece};
 use bt_io::{Pause, Point};
 use core_model::Receipt;
 use std::alloc::Global;
@@ -60,8 +60,8 @@ pub fn trapped_turn<T: Table, G: Pause, R: Wait>(
     if crew.table.stopped(&mut me.pass) {
         return Err(Stop::Stopped);
     }
-    let own = own_piece(alloc, crew, me)?;
-    if let Tried::Ran(_) = own {
+    let own = pop_own_piece(alloc, crew, me)?;
+    if let PieceAttempt::Ran(_) = own {
         return Ok(Trapped::Piece);
     }
     if let Ok(receipt) = crew.table.leave(&mut me.pass) {
@@ -72,8 +72,8 @@ pub fn trapped_turn<T: Table, G: Pause, R: Wait>(
         launch(rt, alloc, crew, me, shop)?;
         return Ok(Trapped::Launched);
     }
-    let other = other_piece(rt, alloc, crew, me)?;
-    if let Tried::Ran(_) = other {
+    let other = steal_other_piece(rt, alloc, crew, me)?;
+    if let PieceAttempt::Ran(_) = other {
         return Ok(Trapped::Piece);
     }
     Ok(Trapped::Nothing)

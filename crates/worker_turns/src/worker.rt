@@ -3,8 +3,8 @@ ghost use Rattle.std.specs.Prelude.{◌≡◌, ◌⊎◌, true, false};
 ghost use Rattle.worker_crew.specs.Workers.{IsReady};
 ghost use Rattle.worker_turns.specs.Stops.{KnowsStop};
 
+use crate::back_off::back_off;
 use crate::free::{Did, free_turn};
-use crate::rest::rest_after;
 use bt_io::Pause;
 use crossbeam_utils::Backoff;
 use std::alloc::Global;
@@ -33,7 +33,7 @@ fn turn<T: Table, G: Pause, R: Wait>(
     }
     match free_turn(rt, alloc, crew, me) {
         Ok(did) => {
-            rest_after(backoff, matches!(did, Did::Nothing));
+            back_off(backoff, matches!(did, Did::Nothing));
             true
         }
         Err(Stop::Memory) => {

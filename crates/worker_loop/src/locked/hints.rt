@@ -83,7 +83,7 @@ impl WorkHints {
     }
 
     /// Resets the backoff: the worker had an event, so its next pause is short.
-    pub(crate) fn had_event(&self) {
+    pub(crate) fn reset_backoff(&self) {
         self.backoff.reset();
     }
 }

@@ -21,7 +21,7 @@ pub(crate) struct Shared<'a, S: LockedRun, G> {
     pub(crate) run: Mutex<S>,
     pub(crate) decks: Decks,
     /// How many workers have arrived at the start barrier.
-    pub(crate) came: AtomicU64,
+    pub(crate) arrived: AtomicU64,
     pub(crate) workers: u32,
     pub(crate) pause: &'a G,
     ghost sizes: { (workers ≡ S.workers) × (workers ≡ workers_of decks) × (workers ≤ 32) },
@@ -65,7 +65,7 @@ impl Worker {
     }
 
     /// Records what an event left the worker doing. At a point of the gate, the worker may be held there.
-    fn now_does<G: Pause>(&mut self, pause: &G, doing: Doing)
+    fn set_doing<G: Pause>(&mut self, pause: &G, doing: Doing)
         ensures { self.new.hints ≡ self.old.hints }
     {
         let was = self.doing;
@@ -77,7 +77,12 @@ impl Worker {
 
     /// Pushes a node that became ready, as a sign to the other workers, and yields the thread to them. A refused push
     /// fails the run. The answer is whether the worker goes on.
-    fn tell<S: LockedRun, R: Wait, G>(&mut self, rt: &R, shared: &Shared<S, G>, node: u32) -> bool
+    fn announce<S: LockedRun, R: Wait, G>(
+        &mut self,
+        rt: &R,
+        shared: &Shared<S, G>,
+        node: u32,
+    ) -> bool
         requires hints { AreHintsOf shared.now.decks self.old.hints }
         ensures hints { AreHintsOf shared.now.decks self.new.hints }
     {
@@ -90,7 +95,7 @@ impl Worker {
     }
 
     /// What the worker does outside the lock after a look at the core. The answer is whether the worker goes on.
-    fn follow<S: LockedRun, R: Wait, G: Pause>(
+    fn act_on<S: LockedRun, R: Wait, G: Pause>(
         &mut self,
         rt: &R,
         shared: &Shared<S, G>,
@@ -110,17 +115,17 @@ impl Worker {
                 true
             }
             Look::Moved { doing, made: None } => {
-                self.hints.had_event();
-                self.now_does(shared.pause, doing);
+                self.hints.reset_backoff();
+                self.set_doing(shared.pause, doing);
                 true
             }
             Look::Moved {
                 doing,
                 made: Some(node),
             } => {
-                self.hints.had_event();
-                let goes_on = self.tell(rt, shared, node);
-                self.now_does(shared.pause, doing);
+                self.hints.reset_backoff();
+                let goes_on = self.announce(rt, shared, node);
+                self.set_doing(shared.pause, doing);
                 goes_on
             }
         }
@@ -132,7 +137,7 @@ impl Worker {
 pub(crate) fn work<S: LockedRun, R: Wait, G: Pause>(rt: &R, shared: &Shared<S, G>, hand: Hand)
     requires { IsHandOf shared.now.decks hand }
 {
-    wait_for_others(&shared.came, shared.workers);
+    wait_for_others(&shared.arrived, shared.workers);
     let mut worker = Worker::new(hand, shared.workers);
     for _ in rt.forever() {
         let number = worker.hints.hand.worker();
@@ -140,7 +145,7 @@ pub(crate) fn work<S: LockedRun, R: Wait, G: Pause>(rt: &R, shared: &Shared<S, G
         // The look is bound by `let`: a guard in the head of a `match` or an `if` would hold the lock to the end of
         // that block.
         let look = shared.run.lock(rt).look(number, spun);
-        if !worker.follow(rt, shared, look) {
+        if !worker.act_on(rt, shared, look) {
             break;
         }
     }

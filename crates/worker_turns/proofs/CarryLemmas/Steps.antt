@@ -6,12 +6,12 @@ use Rattle.two_deques.specs.Ends.{HeldEnds, after_push}
 use Rattle.worker_crew.specs.Words.{Event, Task, CallState, Receipt}
 use Rattle.worker_crew.specs.Passes.{PassSeen, IsFront, opening, with_task}
 use Rattle.worker_crew.specs.Workers.{MeSeen}
-use Rattle.worker_turns.specs.Pieces.{Desk, Works}
+use Rattle.worker_turns.specs.Pieces.{Desk, DrainsRow}
 use Rattle.worker_turns.specs.declared.trapped.Trapped.{Trapped}
 use Rattle.worker_turns.specs.declared.trapped.Trapped.TheVariants.{Left, Piece, Launched, Nothing}
 use Rattle.worker_turns.specs.Trapped.{IsJobSame, IsCallSame, StaysTrapped}
 use Rattle.worker_turns.specs.Callings.{HasCalled}
-use Rattle.worker_turns.specs.Free.{Helps, Carried}
+use Rattle.worker_turns.specs.Free.{Helps, RanToIdle}
 
 pub helps_none : (d : Desk) → Helps d d
 helps_none d = record { given = []; gave = sym (append-nil _); finishes = omega arith }
@@ -23,7 +23,7 @@ helps_then a b c v w = record {
   finishes = (let p = v.finishes in let q = w.finishes in let l = length-append v.given w.given in omega (arith, p, q, l));
 }
 
-pub helps_works : (a b : Desk) → Works 0 a b → Helps a b
+pub helps_works : (a b : Desk) → DrainsRow 0 a b → Helps a b
 helps_works a b w = record { given = w.given; gave = ap (λ (d : Desk). d.given) w.is; finishes = ap (λ (d : Desk). d.finishes) w.is }
 
 pub front_none : {A : Type 0} (xs ys : List A) → ys ≡ xs → IsFront xs ys
@@ -59,7 +59,7 @@ core_none a b is =
 
 -- a step that opens nothing
 pub carried_call : (old new : MeSeen) → IsJobSame old.pass new.pass → IsFront old.pass.book_seen new.pass.book_seen → old.pass.stop_looks < new.pass.stop_looks → IsFront old.pass.events new.pass.events
-    → new.core ≡ old.core → Helps old.desk new.desk → Carried old new
+    → new.core ≡ old.core → Helps old.desk new.desk → RanToIdle old new
 carried_call old new job longer looked events core desk = record {
   nodes = [];
   opened = job.opened ∙ sym (append-nil _);
@@ -76,7 +76,7 @@ carried_call old new job longer looked events core desk = record {
   desk = desk;
 }
 
-pub carried_step : (old new : MeSeen) (task : Task) (call : CallState) (events : List Event) → new.pass ≡ record old.pass { task = task; call = call; events = old.pass.events ++ events } → new.core ≡ old.core → new.desk ≡ old.desk → Carried old new
+pub carried_step : (old new : MeSeen) (task : Task) (call : CallState) (events : List Event) → new.pass ≡ record old.pass { task = task; call = call; events = old.pass.events ++ events } → new.core ≡ old.core → new.desk ≡ old.desk → RanToIdle old new
 carried_step old new task call events is core desk = record {
   nodes = [];
   opened = ap (λ (p : PassSeen). p.opened) is ∙ sym (append-nil _);
@@ -94,7 +94,7 @@ carried_step old new task call events is core desk = record {
 }
 
 -- a step that opens a node, which is pushed on the own deque
-pub carried_open : (old new : MeSeen) (node : ℕ) (event : Event) (task : Task) → new.pass ≡ opening node event task old.pass → new.core ≡ after_push node old.core → new.desk ≡ old.desk → Carried old new
+pub carried_open : (old new : MeSeen) (node : ℕ) (event : Event) (task : Task) → new.pass ≡ opening node event task old.pass → new.core ≡ after_push node old.core → new.desk ≡ old.desk → RanToIdle old new
 carried_open old new node event task is core desk = record {
   nodes = node ∷ [];
   opened = ap (λ (p : PassSeen). p.opened) is;
@@ -113,7 +113,7 @@ carried_open old new node event task is core desk = record {
 
 -- an arrival, as the first side or as the second
 pub carried_arrival : (old new : MeSeen) (first second : Event) (s t : Task) → (new.pass ≡ with_task first s old.pass) ⊎ (new.pass ≡ with_task second t old.pass)
-    → new.core ≡ old.core → new.desk ≡ old.desk → Carried old new
+    → new.core ≡ old.core → new.desk ≡ old.desk → RanToIdle old new
 carried_arrival old new first second s t (inl is) core desk = carried_step old new s old.pass.call (first ∷ []) is core desk
 carried_arrival old new first second s t (inr is) core desk = carried_step old new t old.pass.call (second ∷ []) is core desk
 
@@ -130,14 +130,14 @@ called receipt old mid new node start task (between, is) last = (
   between,
   task,
   last ∙ ap (λ l. l ++ Leave receipt ∷ []) is ∙ append_assoc (old.events ++ Post node start ∷ []) between (Leave receipt ∷ [])
-  ∙ append_assoc old.events (Post node start ∷ []) (between ++ Leave receipt ∷ []),
+      ∙ append_assoc old.events (Post node start ∷ []) (between ++ Leave receipt ∷ []),
 )
 
-pub carried_none : (old : MeSeen) → Carried old old
+pub carried_none : (old : MeSeen) → RanToIdle old old
 carried_none old = carried_step old old old.pass.task old.pass.call [] (λ i. record old.pass { events = sym (append-nil old.pass.events) i }) refl refl
 
 -- steps after steps
-pub carried_then : (a b c : MeSeen) → Carried a b → Carried b c → Carried a c
+pub carried_then : (a b c : MeSeen) → RanToIdle a b → RanToIdle b c → RanToIdle a c
 carried_then a b c v w = record {
   nodes = v.nodes ++ w.nodes;
   opened = w.opened ∙ ap (λ l. l ++ w.nodes) v.opened ∙ append_assoc a.pass.opened v.nodes w.nodes;

@@ -79,8 +79,8 @@ looked_take p q r u calls more call (found, are, was) worker now pushed = (
   found ++ 1 ∷ [],
   subst (λ (l : List Call). AreFound (u + 1) (found ++ 1 ∷ []) l) (sym pushed) (found_take u found calls call worker are),
   now ∙ ap (taking call) was
-  ∙ (λ i. record p { hold = take_in u found calls call p.hold i; events = more_events p u call.worker worker i })
-  ∙ ap (λ (l : List Call). looked (u + 1) (found ++ 1 ∷ []) l p) (sym pushed),
+      ∙ (λ i. record p { hold = take_in u found calls call p.hold i; events = more_events p u call.worker worker i })
+      ∙ ap (λ (l : List Call). looked (u + 1) (found ++ 1 ∷ []) l p) (sym pushed),
 )
 
 pass_in : (u : ℕ) (found : List ℕ) (calls : List Call) (status : ℕ) (h : Option HoldSeen) → in_hold (after_pass status) (in_hold (after_looks u found calls) h) ≡ in_hold (after_looks (u + 1) (found ++ status ∷ []) calls) h

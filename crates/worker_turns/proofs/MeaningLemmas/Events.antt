@@ -2,12 +2,12 @@
 use Rattle.std.proofs.Common.{◌≡◌, ◌<◌, ◌≤◌, ℕ, ◌+◌, List, [], ◌∷◌, ◌++◌, refl, ap, ◌∙◌, inl, inr, arith, append_assoc}
 use Rattle.core_model.specs.declared.event.Event.TheVariants as made
 use Rattle.core_model.specs.Words.{Entry}
-use Rattle.worker_turns.specs.declared.found.Tried.{Tried}
-use Rattle.worker_turns.specs.declared.found.Tried.TheVariants.{Ran, Dropped, Dry}
-use Rattle.worker_turns.specs.declared.found.Other.{Other}
-use Rattle.worker_turns.specs.declared.found.Other.TheVariants as others
-use Rattle.worker_turns.specs.declared.found.Found.{Found}
-use Rattle.worker_turns.specs.declared.found.Found.TheVariants.{Claimed, Refused, NoNode}
+use Rattle.worker_turns.specs.declared.attempts.PieceAttempt.{PieceAttempt}
+use Rattle.worker_turns.specs.declared.attempts.PieceAttempt.TheVariants.{Ran, Stale, Empty}
+use Rattle.worker_turns.specs.declared.attempts.StealAttempt.{StealAttempt}
+use Rattle.worker_turns.specs.declared.attempts.StealAttempt.TheVariants as others
+use Rattle.worker_turns.specs.declared.attempts.NodeAttempt.{NodeAttempt}
+use Rattle.worker_turns.specs.declared.attempts.NodeAttempt.TheVariants.{Claimed, Refused, NoNode}
 use Rattle.worker_turns.specs.declared.trapped.Trapped.{Trapped}
 use Rattle.worker_turns.specs.declared.trapped.Trapped.TheVariants.{Left, Piece, Launched, Nothing}
 use Rattle.worker_turns.specs.declared.free.Did.{Did}
@@ -18,20 +18,20 @@ use Rattle.worker_crew.specs.Passes.{PassSeen, finding_none, losing, staying, wi
 use Rattle.worker_crew.specs.Workers.{MeSeen}
 use Rattle.worker_turns.specs.Stops.{unstopped}
 use Rattle.worker_turns.specs.Pieces.{IsOwnPiece, IsOtherPiece}
-use Rattle.worker_turns.specs.Launches.{Gathers, Launches, launch_events}
+use Rattle.worker_turns.specs.Launches.{Collects, Launches, launch_events}
 use Rattle.worker_turns.specs.Trapped.{IsTrappedTurn, refused_both}
-use Rattle.worker_turns.specs.Free.{IsOther, IsOwnNode, GaveNothing, Carried, IsFreeTurn, pass_after}
+use Rattle.worker_turns.specs.Free.{IsOther, IsOwnNode, StoleNothing, RanToIdle, IsFreeTurn, pass_after}
 use Rattle.worker_turns.specs.Meanings.Events.{AreServed, HasTrappedEvents, HasFreeEvents}
 use Rattle.worker_turns.proofs.MeaningLemmas.Stays.{own_pass, other_pass}
 
-are_served : (workers : ℕ) (book : List (List Entry)) (posted : List ℕ) (served : List Event) (done : HoldSeen) → Gathers workers book posted served done → AreServed book done served
+are_served : (workers : ℕ) (book : List (List Entry)) (posted : List ℕ) (served : List Event) (done : HoldSeen) → Collects workers book posted served done → AreServed book done served
 are_served workers book posted served done g = elim g.batch [
   | inl (none, same, empty, quiet) ↦ inl (none.none, quiet)
   | inr (batch, all, are, events) ↦ inr (batch, all.published.book, events)
 ]
 
 -- the pass after its leave and its win were refused
-twice_refused : (t own : Tried) (old a new : MeSeen) → IsOwnPiece own (unstopped old) a → IsOtherPiece t (refused_both a) new → new.pass ≡ losing (staying (finding_none old.pass))
+twice_refused : (t own : PieceAttempt) (old a new : MeSeen) → IsOwnPiece own (unstopped old) a → IsOtherPiece t (refused_both a) new → new.pass ≡ losing (staying (finding_none old.pass))
 twice_refused t own old a new p q = other_pass t (refused_both a) new q ∙ ap (λ (x : PassSeen). losing (staying x)) (own_pass own old a p)
 
 pub trapped_events : (workers : ℕ) (answer : Trapped) (old new : MeSeen) → IsTrappedTurn workers answer old new → HasTrappedEvents workers answer old.pass new.pass
@@ -46,7 +46,7 @@ trapped_events workers Launched old new (own, a, book, unrun, p, l, front) = (
   ap (λ (x : PassSeen). x.last) l.released,
   are_served workers book l.posted l.served l.done l.gathers,
   ap (λ (x : PassSeen). x.events) l.released ∙ ap (λ (x : PassSeen). (x.events ++ made.Win ∷ []) ++ launch_events workers l.served) (own_pass own old a p)
-  ∙ append_assoc old.pass.events (made.Win ∷ []) (launch_events workers l.served),
+      ∙ append_assoc old.pass.events (made.Win ∷ []) (launch_events workers l.served),
 )
 trapped_events workers Nothing old new (own, other, a, unrun, not, p, q) = ap (λ (x : PassSeen). x.events) (twice_refused other own old a new p q)
 
@@ -60,17 +60,17 @@ trapped_looked workers Launched old new (own, a, book, unrun, p, l, front) =
 trapped_looked workers Nothing old new (own, other, a, unrun, not, p, q) = let now = ap (λ (x : PassSeen). x.stop_looks) (twice_refused other own old a new p q) in omega (arith, now)
 
 -- the pass of a free worker after its own deque of nodes, and after that of pieces
-node_pass : (t : Found) (old a : MeSeen) → IsOwnNode t (unstopped old) a → a.pass ≡ pass_after t (finding_none old.pass)
+node_pass : (t : NodeAttempt) (old a : MeSeen) → IsOwnNode t (unstopped old) a → a.pass ≡ pass_after t (finding_none old.pass)
 node_pass t old a p = ap (λ (m : MeSeen). m.pass) p.same
 
-piece_pass : (t : Tried) (a b : MeSeen) → IsOwnPiece t a b → b.pass ≡ a.pass
+piece_pass : (t : PieceAttempt) (a b : MeSeen) → IsOwnPiece t a b → b.pass ≡ a.pass
 piece_pass t a b p = ap (λ (m : MeSeen). m.pass) p.same
 
-both_pass : (own : Tried) (old a b : MeSeen) → IsOwnNode NoNode (unstopped old) a → IsOwnPiece own a b → b.pass ≡ finding_none old.pass
+both_pass : (own : PieceAttempt) (old a b : MeSeen) → IsOwnNode NoNode (unstopped old) a → IsOwnPiece own a b → b.pass ≡ finding_none old.pass
 both_pass own old a b p q = piece_pass own a b q ∙ node_pass NoNode old a p
 
 -- a node was claimed, and then carried on
-ran_events : (n : ℕ) (old mid new : MeSeen) → mid.pass ≡ pass_after (Claimed n) (finding_none old.pass) → Carried mid new → HasFreeEvents did.Ran old.pass new.pass
+ran_events : (n : ℕ) (old mid new : MeSeen) → mid.pass ≡ pass_after (Claimed n) (finding_none old.pass) → RanToIdle mid new → HasFreeEvents did.Ran old.pass new.pass
 ran_events n old mid new is c = (
   n,
   c.events.0,
@@ -79,8 +79,8 @@ ran_events n old mid new is c = (
 )
 
 -- the steal claimed no node
-nothing_stolen : (other : Other) (old new : MeSeen) → GaveNothing other → IsOther other old new → (new.pass.events ≡ old.pass.events) × (new.pass.stop_looks ≡ old.pass.stop_looks)
-nothing_stolen others.Alone old new unrun (one, same) = (ap (λ (m : MeSeen). m.pass.events) same, ap (λ (m : MeSeen). m.pass.stop_looks) same)
+nothing_stolen : (other : StealAttempt) (old new : MeSeen) → StoleNothing other → IsOther other old new → (new.pass.events ≡ old.pass.events) × (new.pass.stop_looks ≡ old.pass.stop_looks)
+nothing_stolen others.NoVictim old new unrun (one, same) = (ap (λ (m : MeSeen). m.pass.events) same, ap (λ (m : MeSeen). m.pass.stop_looks) same)
 nothing_stolen (others.Node (Claimed n)) old new unrun (deck, steal, same) = absurd unrun
 nothing_stolen (others.Node (Refused n)) old new unrun (deck, steal, same) = (ap (λ (m : MeSeen). m.pass.events) same, ap (λ (m : MeSeen). m.pass.stop_looks) same)
 nothing_stolen (others.Node NoNode) old new unrun (deck, steal, same) = (ap (λ (m : MeSeen). m.pass.events) same, ap (λ (m : MeSeen). m.pass.stop_looks) same)
@@ -89,24 +89,24 @@ nothing_stolen (others.Piece t) old new unrun (deck, steal, same) = (ap (λ (m :
 pub free_events : (answer : Did) (old new : MeSeen) → IsFreeTurn answer old new → HasFreeEvents answer old.pass new.pass
 free_events did.Ran old new (inl (n, a, p, c)) = ran_events n old a new (node_pass (Claimed n) old a p) c
 free_events did.Ran old new (inr (n, a, b, d, p, q, (deck, steal, same), c)) =
-    ran_events n old d new (ap (λ (m : MeSeen). m.pass) same ∙ ap (pass_after (Claimed n)) (both_pass Dry old a b p q)) c
+    ran_events n old d new (ap (λ (m : MeSeen). m.pass) same ∙ ap (pass_after (Claimed n)) (both_pass Empty old a b p q)) c
 free_events did.Piece old new (inl (spot, a, p, q)) = ap (λ (x : PassSeen). x.events) (both_pass (Ran spot) old a new p q)
 free_events did.Piece old new (inr (spot, a, b, p, q, (deck, steal, same))) =
-    ap (λ (m : MeSeen). m.pass.events) same ∙ ap (λ (x : PassSeen). x.events) (both_pass Dry old a b p q)
+    ap (λ (m : MeSeen). m.pass.events) same ∙ ap (λ (x : PassSeen). x.events) (both_pass Empty old a b p q)
 free_events did.Nothing old new (inl (n, p)) = ap (λ (x : PassSeen). x.events) (node_pass (Refused n) old new p)
-free_events did.Nothing old new (inr (inl (spot, a, p, q))) = ap (λ (x : PassSeen). x.events) (both_pass (Dropped spot) old a new p q)
+free_events did.Nothing old new (inr (inl (spot, a, p, q))) = ap (λ (x : PassSeen). x.events) (both_pass (Stale spot) old a new p q)
 free_events did.Nothing old new (inr (inr (other, a, b, unrun, p, q, o))) =
-    (nothing_stolen other b new unrun o).0 ∙ ap (λ (x : PassSeen). x.events) (both_pass Dry old a b p q)
+    (nothing_stolen other b new unrun o).0 ∙ ap (λ (x : PassSeen). x.events) (both_pass Empty old a b p q)
 
 pub free_looked : (answer : Did) (old new : MeSeen) → IsFreeTurn answer old new → old.pass.stop_looks < new.pass.stop_looks
 free_looked did.Ran old new (inl (n, a, p, c)) =
     let was = ap (λ (x : PassSeen). x.stop_looks) (node_pass (Claimed n) old a p) in let more = c.looks in omega (arith, was, more)
 free_looked did.Ran old new (inr (n, a, b, d, p, q, (deck, steal, same), c)) =
-    let was = ap (λ (m : MeSeen). m.pass.stop_looks) same ∙ ap (λ (x : PassSeen). x.stop_looks) (both_pass Dry old a b p q) in let more = c.looks in omega (arith, was, more)
+    let was = ap (λ (m : MeSeen). m.pass.stop_looks) same ∙ ap (λ (x : PassSeen). x.stop_looks) (both_pass Empty old a b p q) in let more = c.looks in omega (arith, was, more)
 free_looked did.Piece old new (inl (spot, a, p, q)) = let was = ap (λ (x : PassSeen). x.stop_looks) (both_pass (Ran spot) old a new p q) in omega (arith, was)
 free_looked did.Piece old new (inr (spot, a, b, p, q, (deck, steal, same))) =
-    let was = ap (λ (m : MeSeen). m.pass.stop_looks) same ∙ ap (λ (x : PassSeen). x.stop_looks) (both_pass Dry old a b p q) in omega (arith, was)
+    let was = ap (λ (m : MeSeen). m.pass.stop_looks) same ∙ ap (λ (x : PassSeen). x.stop_looks) (both_pass Empty old a b p q) in omega (arith, was)
 free_looked did.Nothing old new (inl (n, p)) = let was = ap (λ (x : PassSeen). x.stop_looks) (node_pass (Refused n) old new p) in omega (arith, was)
-free_looked did.Nothing old new (inr (inl (spot, a, p, q))) = let was = ap (λ (x : PassSeen). x.stop_looks) (both_pass (Dropped spot) old a new p q) in omega (arith, was)
+free_looked did.Nothing old new (inr (inl (spot, a, p, q))) = let was = ap (λ (x : PassSeen). x.stop_looks) (both_pass (Stale spot) old a new p q) in omega (arith, was)
 free_looked did.Nothing old new (inr (inr (other, a, b, unrun, p, q, o))) =
-    let was = (nothing_stolen other b new unrun o).1 ∙ ap (λ (x : PassSeen). x.stop_looks) (both_pass Dry old a b p q) in omega (arith, was)
+    let was = (nothing_stolen other b new unrun o).1 ∙ ap (λ (x : PassSeen). x.stop_looks) (both_pass Empty old a b p q) in omega (arith, was)

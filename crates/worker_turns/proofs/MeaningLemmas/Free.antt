@@ -3,16 +3,16 @@ use Rattle.std.proofs.Common.{◌≡◌, ℕ, ◌+◌, ◌<◌, ◌⊎◌, Some,
 use Rattle.two_deques.specs.declared.spot.Spot.{Spot}
 use Rattle.two_deques.specs.declared.tries.Deck.{Deck}
 use Rattle.two_deques.specs.Ends.{HeldEnds, after_empty_pop}
-use Rattle.worker_turns.specs.declared.found.Tried.TheVariants.{Ran, Dropped, Dry}
-use Rattle.worker_turns.specs.declared.found.Found.TheVariants.{Claimed, Refused, NoNode}
-use Rattle.worker_turns.specs.declared.found.Other.{Other}
-use Rattle.worker_turns.specs.declared.found.Other.TheVariants.{Alone, Node, Piece}
+use Rattle.worker_turns.specs.declared.attempts.PieceAttempt.TheVariants.{Ran, Stale, Empty}
+use Rattle.worker_turns.specs.declared.attempts.NodeAttempt.TheVariants.{Claimed, Refused, NoNode}
+use Rattle.worker_turns.specs.declared.attempts.StealAttempt.{StealAttempt}
+use Rattle.worker_turns.specs.declared.attempts.StealAttempt.TheVariants.{NoVictim, Node, Piece}
 use Rattle.worker_turns.specs.declared.free.Did.TheVariants as did
 use Rattle.worker_crew.specs.Passes.{PassSeen, finding_none}
 use Rattle.worker_crew.specs.Workers.{MeSeen}
 use Rattle.worker_turns.specs.Stops.{unstopped}
 use Rattle.worker_turns.specs.Pieces.{IsOwnPiece, IsSteal}
-use Rattle.worker_turns.specs.Free.{IsOwnNode, IsOther, GaveNothing, Carried, IsFreeTurn}
+use Rattle.worker_turns.specs.Free.{IsOwnNode, IsOther, StoleNothing, RanToIdle, IsFreeTurn}
 use Rattle.worker_turns.specs.Meanings.Gains.{Took, Gained, HasAllEnds}
 use Rattle.worker_turns.specs.Meanings.Free.{next_worker, TryWasFruitless, CameBy, DidRun, DidRunPiece, DidFindNothing}
 use Rattle.worker_turns.proofs.MeaningLemmas.Gains.{popped, took_none, took_from, stole, fruitless_rose, try_below}
@@ -27,7 +27,7 @@ none_own m = record m { pass = finding_none m.pass; core = after_empty_pop m.cor
 pub is_no_node : (old a : MeSeen) → IsOwnNode NoNode (unstopped old) a → a ≡ no_node old
 is_no_node old a p = p.same ∙ ap (λ (e : HeldEnds ℕ). record (unstopped old) { core = e }) p.pop
 
-pub is_none_own : (old a b : MeSeen) → IsOwnNode NoNode (unstopped old) a → IsOwnPiece Dry a b → b ≡ none_own old
+pub is_none_own : (old a b : MeSeen) → IsOwnNode NoNode (unstopped old) a → IsOwnPiece Empty a b → b ≡ none_own old
 is_none_own old a b p q =
     q.same ∙ ap (λ (e : HeldEnds Spot). record a { batch = e }) q.pop
     ∙ ap (λ (m : MeSeen). record m { batch = after_empty_pop m.batch }) (is_no_node old a p)
@@ -71,7 +71,7 @@ ran : (node : ℕ) (old mid new : MeSeen) → mid.pass.claims ≡ old.pass.claim
     → mid.pass.refused_nodes ≡ old.pass.refused_nodes → mid.pass.opened ≡ old.pass.opened
     → ((old.core.own ≡ mid.core.own ++ node ∷ []) × (mid.core.stolen ≡ old.core.stolen))
     ⊎ ((mid.core.own ≡ old.core.own) × Took (next_worker old) (node ∷ []) old.core mid.core)
-    → Carried mid new → DidRun old new
+    → RanToIdle mid new → DidRun old new
 ran node old mid new claims claimed refused opened came c = record {
   node = node;
   claims = c.claims ∙ claims;
@@ -84,7 +84,7 @@ ran node old mid new claims claimed refused opened came c = record {
   came = came_then node old mid new (ap (λ (e : HeldEnds ℕ). e.stolen) c.core) came;
 }
 
-ran_other : (node : ℕ) (old mid new : MeSeen) → HasAllEnds old → IsOther (Node (Claimed node)) (none_own old) mid → Carried mid new → DidRun old new
+ran_other : (node : ℕ) (old mid new : MeSeen) → HasAllEnds old → IsOther (Node (Claimed node)) (none_own old) mid → RanToIdle mid new → DidRun old new
 ran_other node old mid new ends (deck, steal, same) c =
     let took = took_one (next_worker old) node old.core mid.core (core_below old ends) steal in
     let pass = ap (λ (m : MeSeen). m.pass) same in
@@ -145,7 +145,7 @@ refused_node node old new p = record {
   }));
 }
 
-refused_spot : (spot : Spot) (old new : MeSeen) → IsOwnPiece (Dropped spot) (no_node old) new → DidFindNothing old new
+refused_spot : (spot : Spot) (old new : MeSeen) → IsOwnPiece (Stale spot) (no_node old) new → DidFindNothing old new
 refused_spot spot old new p = record {
   none = record { claims = ap (λ (m : MeSeen). m.pass.claims) p.same; claimed = ap (λ (m : MeSeen). m.pass.claimed) p.same };
   found = inr (inr (record {
@@ -158,8 +158,8 @@ refused_spot spot old new p = record {
 }
 
 -- what the steal gave after both own deques gave nothing
-no_other : (other : Other) (old new : MeSeen) → HasAllEnds old → GaveNothing other → IsOther other (none_own old) new → DidFindNothing old new
-no_other Alone old new ends unrun (one, same) = record {
+no_other : (other : StealAttempt) (old new : MeSeen) → HasAllEnds old → StoleNothing other → IsOther other (none_own old) new → DidFindNothing old new
+no_other NoVictim old new ends unrun (one, same) = record {
   none = record { claims = ap (λ (m : MeSeen). m.pass.claims) same; claimed = ap (λ (m : MeSeen). m.pass.claimed) same };
   found = inl (record {
     nodes = record { own = ap (λ (m : MeSeen). m.core.own) same; stolen = ap (λ (m : MeSeen). m.core.stolen) same };
@@ -196,7 +196,7 @@ no_other (Node NoNode) old new ends unrun (deck, steal, same) = record {
   });
 }
 no_other (Piece (Ran s)) old new ends unrun o = absurd unrun
-no_other (Piece (Dropped s)) old new ends unrun (deck, steal, same) = record {
+no_other (Piece (Stale s)) old new ends unrun (deck, steal, same) = record {
   none = record { claims = ap (λ (m : MeSeen). m.pass.claims) same; claimed = ap (λ (m : MeSeen). m.pass.claimed) same };
   found = inr (inr (record {
     spot = s;
@@ -206,7 +206,7 @@ no_other (Piece (Dropped s)) old new ends unrun (deck, steal, same) = record {
     refused_nodes = ap (λ (m : MeSeen). m.pass.refused_nodes) same;
   }));
 }
-no_other (Piece Dry) old new ends unrun (deck, steal, same) = record {
+no_other (Piece Empty) old new ends unrun (deck, steal, same) = record {
   none = record { claims = ap (λ (m : MeSeen). m.pass.claims) same; claimed = ap (λ (m : MeSeen). m.pass.claimed) same };
   found = inl (record {
     nodes = record { own = ap (λ (m : MeSeen). m.core.own) same; stolen = ap (λ (m : MeSeen). m.core.stolen) same };
@@ -223,6 +223,6 @@ no_other (Piece Dry) old new ends unrun (deck, steal, same) = record {
 pub nothing_means : (old new : MeSeen) → HasAllEnds old → IsFreeTurn did.Nothing old new → DidFindNothing old new
 nothing_means old new ends (inl (node, p)) = refused_node node old new p
 nothing_means old new ends (inr (inl (spot, a, p, q))) =
-    refused_spot spot old new (subst (λ (m : MeSeen). IsOwnPiece (Dropped spot) m new) (is_no_node old a p) q)
+    refused_spot spot old new (subst (λ (m : MeSeen). IsOwnPiece (Stale spot) m new) (is_no_node old a p) q)
 nothing_means old new ends (inr (inr (other, a, b, unrun, p, q, o))) =
     no_other other old new ends unrun (subst (λ (m : MeSeen). IsOther other m new) (is_none_own old a b p q) o)

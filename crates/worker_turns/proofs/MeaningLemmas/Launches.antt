@@ -9,26 +9,26 @@ use Rattle.worker_crew.specs.Holds.{HoldSeen, TookNone, ServedAll}
 use Rattle.worker_crew.specs.Workers.{MeSeen}
 use Rattle.worker_turns.specs.Pieces.{Desk, spot_of}
 use Rattle.worker_crew.specs.Words.{Event}
-use Rattle.worker_turns.specs.Launches.{Serves, ArePlaces, Gathers, Launches}
+use Rattle.worker_turns.specs.Launches.{ExecutesPieces, ArePlaces, Collects, Launches}
 use Rattle.worker_turns.specs.Trapped.{IsTrappedTurn, won_after}
 use Rattle.worker_turns.specs.Meanings.Launches.{FoundNone, Served, Passed, PassedNone, HasLaunched, DidLaunch}
 use Rattle.worker_turns.proofs.MeaningLemmas.Gains.{listed}
 use Rattle.worker_turns.proofs.MeaningLemmas.Trapped.{after_own, own_none}
 
-passed : (places : List ℕ) (old new : Desk) → Serves places old new → Passed places old new
+passed : (places : List ℕ) (old new : Desk) → ExecutesPieces places old new → Passed places old new
 passed places old new s = record { posts = s.posts; collects = s.collects; free = s.free }
 
-passed_none : (old new : Desk) → Serves [] old new → PassedNone old new
+passed_none : (old new : Desk) → ExecutesPieces [] old new → PassedNone old new
 passed_none old new s = let c = s.collects in record { posts = s.posts ∙ append-nil _; collects = omega (arith, c); free = s.free }
 
 -- what a launch found, where the desk at the start is only known by its posts and collects
-abbrev Found : List (List Entry) → HoldSeen → Desk → Desk → Type 0
-Found book done old new =
+abbrev LaunchFound : List (List Entry) → HoldSeen → Desk → Desk → Type 0
+LaunchFound book done old new =
     (FoundNone book done × PassedNone old new)
     ⊎ ((batch : List Entry) × (places : List ℕ) × Served book batch done × ArePlaces book done.taken places × Passed places old new)
 
 found_from : (book : List (List Entry)) (done : HoldSeen) (old mid new : Desk) → mid.posts ≡ old.posts → mid.collects ≡ old.collects
-    → Found book done mid new → Found book done old new
+    → LaunchFound book done mid new → LaunchFound book done old new
 found_from book done old mid new posts collects (inl (none, p)) =
     inl (none, record { posts = p.posts ∙ posts; collects = p.collects ∙ collects; free = p.free })
 found_from book done old mid new posts collects (inr (batch, places, served, are, p)) = inr (
@@ -39,12 +39,12 @@ found_from book done old mid new posts collects (inr (batch, places, served, are
   record { posts = p.posts ∙ ap (λ l. l ++ places) posts; collects = p.collects ∙ ap (λ n. n + length places) collects; free = p.free },
 )
 
-found_of : (workers : ℕ) (book : List (List Entry)) (posted : List ℕ) (served : List Event) (done : HoldSeen) (old new : Desk) → Serves posted old new → Gathers workers book posted served done
-    → Found book done old new
+found_of : (workers : ℕ) (book : List (List Entry)) (posted : List ℕ) (served : List Event) (done : HoldSeen) (old new : Desk) → ExecutesPieces posted old new → Collects workers book posted served done
+    → LaunchFound book done old new
 found_of workers book posted served done old new s g = elim g.batch [
   | inl (none, same, empty, quiet) ↦ inl (
     record { none = none.none; unpublished = none.early; unchanged = same },
-    passed_none old new (subst (λ (l : List ℕ). Serves l old new) empty s),
+    passed_none old new (subst (λ (l : List ℕ). ExecutesPieces l old new) empty s),
   )
   | inr (batch, all, are, made) ↦ inr (
     batch,

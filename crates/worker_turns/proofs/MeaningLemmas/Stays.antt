@@ -3,12 +3,12 @@ use Rattle.std.proofs.Common.{◌≡◌, ◌≤◌, ℕ, ◌+◌, true, Option, 
 use Rattle.core_model.specs.Words.{Entry}
 use Rattle.core_model.specs.declared.event.Event.TheVariants as made
 use Rattle.worker_crew.specs.Words.{Event, Receipt, CallState, Got}
-use Rattle.worker_turns.specs.declared.found.Tried.{Tried}
-use Rattle.worker_turns.specs.declared.found.Tried.TheVariants.{Ran, Dropped, Dry}
-use Rattle.worker_turns.specs.declared.found.Other.{Other}
-use Rattle.worker_turns.specs.declared.found.Other.TheVariants as others
-use Rattle.worker_turns.specs.declared.found.Found.{Found}
-use Rattle.worker_turns.specs.declared.found.Found.TheVariants.{Claimed, Refused, NoNode}
+use Rattle.worker_turns.specs.declared.attempts.PieceAttempt.{PieceAttempt}
+use Rattle.worker_turns.specs.declared.attempts.PieceAttempt.TheVariants.{Ran, Stale, Empty}
+use Rattle.worker_turns.specs.declared.attempts.StealAttempt.{StealAttempt}
+use Rattle.worker_turns.specs.declared.attempts.StealAttempt.TheVariants as others
+use Rattle.worker_turns.specs.declared.attempts.NodeAttempt.{NodeAttempt}
+use Rattle.worker_turns.specs.declared.attempts.NodeAttempt.TheVariants.{Claimed, Refused, NoNode}
 use Rattle.worker_turns.specs.declared.trapped.Trapped.{Trapped}
 use Rattle.worker_turns.specs.declared.trapped.Trapped.TheVariants.{Left, Piece, Launched, Nothing}
 use Rattle.worker_turns.specs.declared.free.Did.{Did}
@@ -18,9 +18,9 @@ use Rattle.worker_crew.specs.Passes.{PassSeen, is_trapped, IsFront, IsTrapped, f
 use Rattle.worker_crew.specs.Workers.{MeSeen}
 use Rattle.worker_turns.specs.Stops.{unstopped}
 use Rattle.worker_turns.specs.Pieces.{Desk, desk_after, NotRan, IsOwnPiece, IsOtherPiece}
-use Rattle.worker_turns.specs.Launches.{Serves, Gathers, Launches, launch_events}
+use Rattle.worker_turns.specs.Launches.{ExecutesPieces, Collects, Launches, launch_events}
 use Rattle.worker_turns.specs.Trapped.{IsTrappedTurn, IsJobSame, refused_both}
-use Rattle.worker_turns.specs.Free.{IsOther, IsOwnNode, GaveNothing, IsFreeTurn, Helps}
+use Rattle.worker_turns.specs.Free.{IsOther, IsOwnNode, StoleNothing, IsFreeTurn, Helps}
 use Rattle.worker_turns.specs.Meanings.Stays.{IsStillTrapped, IsAnswered, CallAfter, KeepsNodes, HelpsNone}
 use Rattle.worker_turns.proofs.PieceLemmas.Working.{works_tried}
 use Rattle.worker_turns.proofs.CarryLemmas.Steps.{front_none, helps_none, helps_then, helps_works}
@@ -65,19 +65,19 @@ came_on old new leaves wins refused looks last book events trapped more front gr
 unheld : (p : PassSeen) → p.hold ≡ None → p ≡ record p { hold = None }
 unheld p none = λ i. record p { hold = none i }
 
-pub own_pass : (t : Tried) (old a : MeSeen) → IsOwnPiece t (unstopped old) a → a.pass ≡ finding_none old.pass
+pub own_pass : (t : PieceAttempt) (old a : MeSeen) → IsOwnPiece t (unstopped old) a → a.pass ≡ finding_none old.pass
 own_pass t old a p = ap (λ (m : MeSeen). m.pass) p.same
 
-pub other_pass : (t : Tried) (old new : MeSeen) → IsOtherPiece t old new → new.pass ≡ old.pass
+pub other_pass : (t : PieceAttempt) (old new : MeSeen) → IsOtherPiece t old new → new.pass ≡ old.pass
 other_pass t old new (inl alone) = ap (λ (m : MeSeen). m.pass) alone.2
 other_pass t old new (inr s) = ap (λ (m : MeSeen). m.pass) s.same
 
-other_core : (t : Tried) (old new : MeSeen) → IsOtherPiece t old new → new.core ≡ old.core
+other_core : (t : PieceAttempt) (old new : MeSeen) → IsOtherPiece t old new → new.core ≡ old.core
 other_core t old new (inl alone) = ap (λ (m : MeSeen). m.core) alone.2
 other_core t old new (inr s) = ap (λ (m : MeSeen). m.core) s.same
 
-other_desk : (t : Tried) (old new : MeSeen) → IsOtherPiece t old new → new.desk ≡ desk_after t old.desk
-other_desk t old new (inl alone) = ap (λ (m : MeSeen). m.desk) alone.2 ∙ ap (λ (u : Tried). desk_after u old.desk) (sym alone.1)
+other_desk : (t : PieceAttempt) (old new : MeSeen) → IsOtherPiece t old new → new.desk ≡ desk_after t old.desk
+other_desk t old new (inl alone) = ap (λ (m : MeSeen). m.desk) alone.2 ∙ ap (λ (u : PieceAttempt). desk_after u old.desk) (sym alone.1)
 other_desk t old new (inr s) = ap (λ (m : MeSeen). m.desk) s.same
 
 -- what becomes of the call
@@ -88,7 +88,7 @@ refused_twice old mid new trapped same is =
     (is ∙ ap (λ (p : PassSeen). losing (staying p)) (same ∙ ap finding_none (unheld old trapped.1)))
 
 -- the book of a hold that was launched begins with the book at its win
-launched_front : (workers : ℕ) (seen book : List (List Entry)) (posted : List ℕ) (served : List Event) (done : HoldSeen) → IsFront seen book → Gathers workers book posted served done → IsFront seen done.book
+launched_front : (workers : ℕ) (seen book : List (List Entry)) (posted : List ℕ) (served : List Event) (done : HoldSeen) → IsFront seen book → Collects workers book posted served done → IsFront seen done.book
 launched_front workers seen book posted served done front g = elim g.batch [
   | inl none ↦ subst (λ l. IsFront seen l) (sym none.1) front
   | inr some ↦ (front.0 ++ some.0 ∷ [], some.1.published.book ∙ (ap (λ l. l ++ some.0 ∷ []) front.1 ∙ append_assoc seen front.0 (some.0 ∷ [])))
@@ -204,19 +204,19 @@ launch_keeps workers book old new l = record {
 }
 
 -- a piece that is given is finished
-helps_tried : (t : Tried) (d e : Desk) → e ≡ desk_after t d → Helps d e
+helps_tried : (t : PieceAttempt) (d e : Desk) → e ≡ desk_after t d → Helps d e
 helps_tried t d e is = helps_works d e (works_tried t d e is)
 
-own_helps : (t : Tried) (old a : MeSeen) → IsOwnPiece t old a → Helps old.desk a.desk
+own_helps : (t : PieceAttempt) (old a : MeSeen) → IsOwnPiece t old a → Helps old.desk a.desk
 own_helps t old a p = helps_tried t old.desk a.desk (ap (λ (m : MeSeen). m.desk) p.same)
 
-other_helps : (t : Tried) (old new : MeSeen) → IsOtherPiece t old new → Helps old.desk new.desk
+other_helps : (t : PieceAttempt) (old new : MeSeen) → IsOtherPiece t old new → Helps old.desk new.desk
 other_helps t old new q = helps_tried t old.desk new.desk (other_desk t old new q)
 
 helps_is : (a b c : Desk) → c ≡ b → Helps a b → Helps a c
 helps_is a b c is h = subst (λ (d : Desk). Helps a d) (sym is) h
 
-serves_helps : (places : List ℕ) (old new : Desk) → Serves places old new → Helps old new
+serves_helps : (places : List ℕ) (old new : Desk) → ExecutesPieces places old new → Helps old new
 serves_helps places old new s = record { given = s.given; gave = s.gave; finishes = s.finishes }
 
 pub trapped_helps : (workers : ℕ) (answer : Trapped) (old new : MeSeen) → IsTrappedTurn workers answer old new → Helps old.desk new.desk
@@ -234,33 +234,33 @@ pub launch_helps : (workers : ℕ) (book : List (List Entry)) (old new : MeSeen)
 launch_helps workers book old new l = serves_helps l.posted old.desk new.desk l.desk
 
 -- and so in the steal of a free worker
-steal_helps : (other : Other) (old new : MeSeen) → IsOther other old new → Helps old.desk new.desk
-steal_helps others.Alone old new (one, same) = helps_is old.desk old.desk new.desk (ap (λ (m : MeSeen). m.desk) same) (helps_none old.desk)
+steal_helps : (other : StealAttempt) (old new : MeSeen) → IsOther other old new → Helps old.desk new.desk
+steal_helps others.NoVictim old new (one, same) = helps_is old.desk old.desk new.desk (ap (λ (m : MeSeen). m.desk) same) (helps_none old.desk)
 steal_helps (others.Node t) old new (deck, steal, same) = helps_is old.desk old.desk new.desk (ap (λ (m : MeSeen). m.desk) same) (helps_none old.desk)
 steal_helps (others.Piece t) old new (deck, steal, same) = helps_tried t old.desk new.desk (ap (λ (m : MeSeen). m.desk) same)
 
-node_helps : (t : Found) (old a : MeSeen) → IsOwnNode t old a → Helps old.desk a.desk
+node_helps : (t : NodeAttempt) (old a : MeSeen) → IsOwnNode t old a → Helps old.desk a.desk
 node_helps t old a p = helps_is old.desk old.desk a.desk (ap (λ (m : MeSeen). m.desk) p.same) (helps_none old.desk)
 
 -- after both own deques, the steal
-all_help : (t : Found) (own : Tried) (other : Other) (old a b new : MeSeen) → IsOwnNode t (unstopped old) a → IsOwnPiece own a b → IsOther other b new → Helps old.desk new.desk
+all_help : (t : NodeAttempt) (own : PieceAttempt) (other : StealAttempt) (old a b new : MeSeen) → IsOwnNode t (unstopped old) a → IsOwnPiece own a b → IsOther other b new → Helps old.desk new.desk
 all_help t own other old a b new p q o =
     helps_then old.desk b.desk new.desk (helps_then old.desk a.desk b.desk (node_helps t (unstopped old) a p) (own_helps own a b q)) (steal_helps other b new o)
 
 pub free_helps : (answer : Did) (old new : MeSeen) → IsFreeTurn answer old new → Helps old.desk new.desk
 free_helps did.Ran old new (inl (n, a, p, c)) = helps_then old.desk a.desk new.desk (node_helps (Claimed n) (unstopped old) a p) c.desk
 free_helps did.Ran old new (inr (n, a, b, d, p, q, o, c)) =
-    helps_then old.desk d.desk new.desk (all_help NoNode Dry (others.Node (Claimed n)) old a b d p q o) c.desk
+    helps_then old.desk d.desk new.desk (all_help NoNode Empty (others.Node (Claimed n)) old a b d p q o) c.desk
 free_helps did.Piece old new (inl (spot, a, p, q)) =
     helps_then old.desk a.desk new.desk (node_helps NoNode (unstopped old) a p) (own_helps (Ran spot) a new q)
-free_helps did.Piece old new (inr (spot, a, b, p, q, o)) = all_help NoNode Dry (others.Piece (Ran spot)) old a b new p q o
+free_helps did.Piece old new (inr (spot, a, b, p, q, o)) = all_help NoNode Empty (others.Piece (Ran spot)) old a b new p q o
 free_helps did.Nothing old new (inl (n, p)) = node_helps (Refused n) (unstopped old) new p
 free_helps did.Nothing old new (inr (inl (spot, a, p, q))) =
-    helps_then old.desk a.desk new.desk (node_helps NoNode (unstopped old) a p) (own_helps (Dropped spot) a new q)
-free_helps did.Nothing old new (inr (inr (other, a, b, unrun, p, q, o))) = all_help NoNode Dry other old a b new p q o
+    helps_then old.desk a.desk new.desk (node_helps NoNode (unstopped old) a p) (own_helps (Stale spot) a new q)
+free_helps did.Nothing old new (inr (inr (other, a, b, unrun, p, q, o))) = all_help NoNode Empty other old a b new p q o
 
 -- no piece was given
-given_none : (t : Tried) (d e : Desk) → NotRan t → e ≡ desk_after t d → HelpsNone d e
+given_none : (t : PieceAttempt) (d e : Desk) → NotRan t → e ≡ desk_after t d → HelpsNone d e
 given_none t d e unrun is =
     let now = is ∙ not_ran_desk t d unrun in
     record { given = ap (λ (f : Desk). f.given) now; finishes = ap (λ (f : Desk). f.finishes) now }
@@ -271,7 +271,7 @@ none_then a b c p q = record { given = q.given ∙ p.given; finishes = q.finishe
 none_is : (a b : Desk) → b ≡ a → HelpsNone a b
 none_is a b is = record { given = ap (λ (d : Desk). d.given) is; finishes = ap (λ (d : Desk). d.finishes) is }
 
-own_none_given : (t : Tried) (old a : MeSeen) → NotRan t → IsOwnPiece t old a → HelpsNone old.desk a.desk
+own_none_given : (t : PieceAttempt) (old a : MeSeen) → NotRan t → IsOwnPiece t old a → HelpsNone old.desk a.desk
 own_none_given t old a unrun p = given_none t old.desk a.desk unrun (ap (λ (m : MeSeen). m.desk) p.same)
 
 pub left_helps_none : (workers : ℕ) (receipt : Receipt) (old new : MeSeen) → IsTrappedTurn workers (Left receipt) old new → HelpsNone old.desk new.desk
@@ -282,18 +282,18 @@ pub nothing_helps_none : (workers : ℕ) (old new : MeSeen) → IsTrappedTurn wo
 nothing_helps_none workers old new (own, other, a, unrun, not, p, q) =
     none_then old.desk a.desk new.desk (own_none_given own (unstopped old) a unrun p) (given_none other a.desk new.desk not (other_desk other (refused_both a) new q))
 
-steal_given_none : (other : Other) (old new : MeSeen) → GaveNothing other → IsOther other old new → HelpsNone old.desk new.desk
-steal_given_none others.Alone old new unrun (one, same) = none_is old.desk new.desk (ap (λ (m : MeSeen). m.desk) same)
+steal_given_none : (other : StealAttempt) (old new : MeSeen) → StoleNothing other → IsOther other old new → HelpsNone old.desk new.desk
+steal_given_none others.NoVictim old new unrun (one, same) = none_is old.desk new.desk (ap (λ (m : MeSeen). m.desk) same)
 steal_given_none (others.Node t) old new unrun (deck, steal, same) = none_is old.desk new.desk (ap (λ (m : MeSeen). m.desk) same)
 steal_given_none (others.Piece t) old new unrun (deck, steal, same) = given_none t old.desk new.desk unrun (ap (λ (m : MeSeen). m.desk) same)
 
-node_none : (t : Found) (old a : MeSeen) → IsOwnNode t old a → HelpsNone old.desk a.desk
+node_none : (t : NodeAttempt) (old a : MeSeen) → IsOwnNode t old a → HelpsNone old.desk a.desk
 node_none t old a p = none_is old.desk a.desk (ap (λ (m : MeSeen). m.desk) p.same)
 
 pub found_helps_none : (old new : MeSeen) → IsFreeTurn did.Nothing old new → HelpsNone old.desk new.desk
 found_helps_none old new (inl (n, p)) = node_none (Refused n) (unstopped old) new p
 found_helps_none old new (inr (inl (spot, a, p, q))) =
-    none_then old.desk a.desk new.desk (node_none NoNode (unstopped old) a p) (own_none_given (Dropped spot) a new tt q)
+    none_then old.desk a.desk new.desk (node_none NoNode (unstopped old) a p) (own_none_given (Stale spot) a new tt q)
 found_helps_none old new (inr (inr (other, a, b, unrun, p, q, o))) =
-    none_then old.desk b.desk new.desk (none_then old.desk a.desk b.desk (node_none NoNode (unstopped old) a p) (own_none_given Dry a b tt q))
+    none_then old.desk b.desk new.desk (none_then old.desk a.desk b.desk (node_none NoNode (unstopped old) a p) (own_none_given Empty a b tt q))
     (steal_given_none other b new unrun o)

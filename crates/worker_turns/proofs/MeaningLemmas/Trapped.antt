@@ -4,8 +4,8 @@ use Rattle.std.proofs.lemmas.List.{map-append}
 use Rattle.two_deques.specs.declared.spot.Spot.{Spot}
 use Rattle.two_deques.specs.Ends.{HeldEnds, risen}
 use Rattle.worker_crew.specs.Words.{Receipt}
-use Rattle.worker_turns.specs.declared.found.Tried.{Tried}
-use Rattle.worker_turns.specs.declared.found.Tried.TheVariants.{Ran, Dropped, Dry}
+use Rattle.worker_turns.specs.declared.attempts.PieceAttempt.{PieceAttempt}
+use Rattle.worker_turns.specs.declared.attempts.PieceAttempt.TheVariants.{Ran, Stale, Empty}
 use Rattle.worker_turns.specs.declared.trapped.Trapped.TheVariants.{Left, Piece, Nothing}
 use Rattle.worker_crew.specs.Passes.{PassSeen, finding_none, IsLeft}
 use Rattle.worker_crew.specs.Workers.{MeSeen}
@@ -20,35 +20,35 @@ use Rattle.worker_turns.proofs.MeaningLemmas.Gains.{listed, Popped, popped, took
 abbrev pub refusing_spots : List Spot → Desk → Desk
 refusing_spots spots d = record d { refused = d.refused ++ map on_board spots }
 
-pub not_ran_desk : (t : Tried) (d : Desk) → NotRan t → desk_after t d ≡ refusing_spots (listed (spot_of t)) d
+pub not_ran_desk : (t : PieceAttempt) (d : Desk) → NotRan t → desk_after t d ≡ refusing_spots (listed (spot_of t)) d
 not_ran_desk (Ran s) d unrun = absurd unrun
-not_ran_desk (Dropped s) d unrun = refl
-not_ran_desk Dry d unrun = λ i. record d { refused = sym (append-nil d.refused) i }
+not_ran_desk (Stale s) d unrun = refl
+not_ran_desk Empty d unrun = λ i. record d { refused = sym (append-nil d.refused) i }
 
 -- the worker after its look at the stop word, and after the own deque of pieces gave none that could be run
 abbrev pub after_own : List Spot → HeldEnds Spot → MeSeen → MeSeen
 after_own lost batch m = record m { pass = finding_none m.pass; batch = batch; desk = refusing_spots lost m.desk }
 
-pub own_none : (t : Tried) (old a : MeSeen) → NotRan t → IsOwnPiece t (unstopped old) a → a ≡ after_own (listed (spot_of t)) a.batch old
+pub own_none : (t : PieceAttempt) (old a : MeSeen) → NotRan t → IsOwnPiece t (unstopped old) a → a ≡ after_own (listed (spot_of t)) a.batch old
 own_none t old a unrun is = is.same ∙ ap (λ (d : Desk). record (unstopped old) { batch = a.batch; desk = d }) (not_ran_desk t old.desk unrun)
 
-own_gave_none : (t : Tried) (old new : HeldEnds Spot) → NotRan t → IsPop (spot_of t) old new → OwnGaveNone (listed (spot_of t)) old new
+own_gave_none : (t : PieceAttempt) (old new : HeldEnds Spot) → NotRan t → IsPop (spot_of t) old new → OwnGaveNone (listed (spot_of t)) old new
 own_gave_none (Ran s) old new unrun is = absurd unrun
-own_gave_none (Dropped s) old new unrun is = inr (s, refl)
-own_gave_none Dry old new unrun is = inl (ap (λ (e : HeldEnds Spot). e.empty_pops) is)
+own_gave_none (Stale s) old new unrun is = inr (s, refl)
+own_gave_none Empty old new unrun is = inl (ap (λ (e : HeldEnds Spot). e.empty_pops) is)
 
 gave_none_then : (lost : List Spot) (old mid new : HeldEnds Spot) → new.empty_pops ≡ mid.empty_pops → OwnGaveNone lost old mid → OwnGaveNone lost old new
 gave_none_then lost old mid new is (inl rose) = inl (is ∙ rose)
 gave_none_then lost old mid new is (inr one) = inr one
 
 -- what the one steal of pieces changed
-record Others (t : Tried) (old new : MeSeen) : Type 0 where
+record Others (t : PieceAttempt) (old new : MeSeen) : Type 0 where
   pub stole : Stole (next_victim old) (listed (spot_of t)) old.batch new.batch
   pub desk : new.desk ≡ desk_after t old.desk
   pub pass : new.pass ≡ old.pass
 
-others : (t : Tried) (old new : MeSeen) → 0 < old.tries.workers → HasEachEnd old.tries.workers old.batch → IsOtherPiece t old new → Others t old new
-others t old new some ends (inl alone) = subst (λ (u : Tried). Others u old new) (sym alone.1) (record {
+others : (t : PieceAttempt) (old new : MeSeen) → 0 < old.tries.workers → HasEachEnd old.tries.workers old.batch → IsOtherPiece t old new → Others t old new
+others t old new some ends (inl alone) = subst (λ (u : PieceAttempt). Others u old new) (sym alone.1) (record {
   stole = record {
     own = ap (λ (m : MeSeen). m.batch.own) alone.2;
     pops = ap (λ (m : MeSeen). m.batch.empty_pops) alone.2;
@@ -63,11 +63,11 @@ others t old new some ends (inr s) = record {
   pass = ap (λ (m : MeSeen). m.pass) s.same;
 }
 
-steal_gave_none : (t : Tried) (old new : MeSeen) → NotRan t → 0 < old.tries.workers → HasEachEnd old.tries.workers old.batch → IsOtherPiece t old new → StealGaveNone (listed (spot_of t)) old new
+steal_gave_none : (t : PieceAttempt) (old new : MeSeen) → NotRan t → 0 < old.tries.workers → HasEachEnd old.tries.workers old.batch → IsOtherPiece t old new → StealGaveNone (listed (spot_of t)) old new
 steal_gave_none (Ran s) old new unrun some ends is = absurd unrun
-steal_gave_none (Dropped s) old new unrun some ends is = inr (inr (s, refl))
-steal_gave_none Dry old new unrun some ends (inl alone) = inl alone.0
-steal_gave_none Dry old new unrun some ends (inr s) =
+steal_gave_none (Stale s) old new unrun some ends is = inr (inr (s, refl))
+steal_gave_none Empty old new unrun some ends (inl alone) = inl alone.0
+steal_gave_none Empty old new unrun some ends (inr s) =
     inr (inl (fruitless_rose (next_victim old) old.batch new.batch (subst (λ (n : ℕ). next_victim old < n) (sym ends.fruitless) (victim_below old.tries some)) s.steal))
 
 -- the worker when it comes to steal
@@ -94,7 +94,7 @@ both_gained victim lost taken old mid new p s = record {
 grew_twice : (lost taken : List Spot) (old new : List (ℕ × ℕ)) → new ≡ (old ++ map on_board lost) ++ map on_board taken → GrewBy (map on_board (lost ++ taken)) old new
 grew_twice lost taken old new is = is ∙ append_assoc old (map on_board lost) (map on_board taken) ∙ ap (λ l. old ++ l) (sym (map-append on_board lost taken))
 
-did_nothing : (lost : List Spot) (batch : HeldEnds Spot) (other : Tried) (old new : MeSeen) → HasAllEnds old → Popped lost old.batch batch
+did_nothing : (lost : List Spot) (batch : HeldEnds Spot) (other : PieceAttempt) (old new : MeSeen) → HasAllEnds old → Popped lost old.batch batch
     → OwnGaveNone lost old.batch batch → NotRan other → IsOtherPiece other (at_steal lost batch old) new → DidNothing old new
 did_nothing lost batch other old new ends p own unrun is =
     let mid = at_steal lost batch old in

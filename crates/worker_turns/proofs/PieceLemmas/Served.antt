@@ -3,8 +3,8 @@ use Rattle.std.proofs.Common.{◌≡◌, ℕ, zero, suc, ◌+◌, IfOk, Result, 
 use Rattle.std.proofs.lemmas.List.{length-map}
 use Rattle.launch_batch.specs.declared.piece.PieceIn.{PieceIn}
 use Rattle.launch_batch.specs.Pieces.{place_of}
-use Rattle.worker_turns.specs.Pieces.{Desk, with_place, after_posts, Works}
-use Rattle.worker_turns.specs.Launches.{Serves}
+use Rattle.worker_turns.specs.Pieces.{Desk, with_place, after_posts, DrainsRow}
+use Rattle.worker_turns.specs.Launches.{ExecutesPieces}
 use Rattle.worker_turns.proofs.PieceLemmas.Working.{works_then}
 
 all_dropped : {X : Type 0} (xs : List X) (n : ℕ) → n ≡ length xs → drop n xs ≡ []
@@ -13,8 +13,8 @@ all_dropped [] (suc n) is = refl
 all_dropped (x ∷ xs) zero is = absurd (omega (arith, is))
 all_dropped (x ∷ xs) (suc n) is = all_dropped xs n (omega (arith, is))
 
-serves : (d e f g : Desk) (ins : List PieceIn) (places : List ℕ) → e ≡ after_posts ins d → Works 0 e f → Works (length places) f g
-    → places ≡ map place_of ins → Serves (map place_of ins) d g
+serves : (d e f g : Desk) (ins : List PieceIn) (places : List ℕ) → e ≡ after_posts ins d → DrainsRow 0 e f → DrainsRow (length places) f g
+    → places ≡ map place_of ins → ExecutesPieces (map place_of ins) d g
 serves d e f g ins places posted helped collected named =
     let all = works_then 0 (length places) e f g helped collected in
     let count : length places ≡ length (map place_of ins) = ap (λ (l : List ℕ). length l) named in
@@ -28,7 +28,7 @@ serves d e f g ins places posted helped collected named =
       row = ap (λ (q : Desk). q.row) all.is ∙ ap (λ (q : Desk). q.row) posted;
     }
 
-pub if_serves : {V E : Type 0} (r : Result V E) (d e f g : Desk) (ins : List PieceIn) (places : List ℕ) → e ≡ after_posts ins d → Works 0 e f
-    → IfOk r (λ _. Works (length places) f g) → places ≡ map place_of ins → IfOk r (λ _. Serves (map place_of ins) d g)
+pub if_serves : {V E : Type 0} (r : Result V E) (d e f g : Desk) (ins : List PieceIn) (places : List ℕ) → e ≡ after_posts ins d → DrainsRow 0 e f
+    → IfOk r (λ _. DrainsRow (length places) f g) → places ≡ map place_of ins → IfOk r (λ _. ExecutesPieces (map place_of ins) d g)
 if_serves (Ok v) d e f g ins places posted helped collected named = serves d e f g ins places posted helped collected named
 if_serves (Err v) d e f g ins places posted helped collected named = collected

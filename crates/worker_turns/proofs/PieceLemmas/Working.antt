@@ -7,11 +7,11 @@ use Rattle.piece_board.specs.Entries.{without, entry_at}
 use Rattle.piece_board.specs.Desks.{number_of, after_claim, after_finish, after_refusal, after_collect, after_empty_collect, after_post, posted_at}
 use Rattle.worker_turns.proofs.PieceLemmas.Posting.{next_free}
 use Rattle.launch_batch.specs.declared.piece.PieceIn.{PieceIn}
-use Rattle.worker_turns.specs.declared.found.Tried.{Tried}
-use Rattle.worker_turns.specs.declared.found.Tried.TheVariants.{Ran, Dropped, Dry}
+use Rattle.worker_turns.specs.declared.attempts.PieceAttempt.{PieceAttempt}
+use Rattle.worker_turns.specs.declared.attempts.PieceAttempt.TheVariants.{Ran, Stale, Empty}
 use Rattle.launch_batch.specs.Pieces.{place_of}
 use Rattle.worker_crew.specs.Workers.{MeSeen}
-use Rattle.worker_turns.specs.Pieces.{IsOwnPiece, IsOtherPiece, Desk, with_place, after_posts, after_run, desk_after, after_works, Works}
+use Rattle.worker_turns.specs.Pieces.{IsOwnPiece, IsOtherPiece, Desk, with_place, after_posts, after_run, desk_after, after_works, DrainsRow}
 
 -- the first entry is gone
 pub first_gone : {A : Type 0} (n : ℕ) (x : A) (es : List (ℕ × A)) → without n ((n, x) ∷ es) ≡ es
@@ -30,7 +30,7 @@ after_is : (d e : Desk) (collected more finished : ℕ) (posted : List (ℕ × P
 after_is d e collected more finished posted given refused empty p c f given_now refused_now g r is =
     is ∙ (λ i. record d { posted = p i; collects = c i; finishes = f i; given = g i; refused = r i; empty_collects = empty })
 
-pub works_none : (d : Desk) → Works 0 d d
+pub works_none : (d : Desk) → DrainsRow 0 d d
 works_none d = record {
   given = [];
   refused = [];
@@ -38,23 +38,23 @@ works_none d = record {
 }
 
 -- one try after
-pub works_tried : (t : Tried) (d e : Desk) → e ≡ desk_after t d → Works 0 d e
+pub works_tried : (t : PieceAttempt) (d e : Desk) → e ≡ desk_after t d → DrainsRow 0 d e
 works_tried (Ran s) d e is = record {
   given = (s.row, s.place) ∷ [];
   refused = [];
   is = after_is d e 0 d.collects (d.finishes + 1) d.posted _ [] e.empty_collects refl (omega arith) (omega arith) (d.given ++ (s.row, s.place) ∷ []) d.refused refl (sym (append-nil _))
       (is ∙ ap (λ (n : ℕ). record (after_run s d) { empty_collects = n }) (sym (ap (λ (q : Desk). q.empty_collects) is)));
 }
-works_tried (Dropped s) d e is = record {
+works_tried (Stale s) d e is = record {
   given = [];
   refused = (s.row, s.place) ∷ [];
   is = after_is d e 0 d.collects d.finishes d.posted [] _ e.empty_collects refl (omega arith) (omega arith) d.given (d.refused ++ (s.row, s.place) ∷ []) (sym (append-nil _)) refl
       (is ∙ ap (λ (n : ℕ). record (after_refusal s.row s.place d) { empty_collects = n }) (sym (ap (λ (q : Desk). q.empty_collects) is)));
 }
-works_tried Dry d e is = subst (λ (q : Desk). Works 0 d q) (sym is) (works_none d)
+works_tried Empty d e is = subst (λ (q : Desk). DrainsRow 0 d q) (sym is) (works_none d)
 
 -- a look at a place that is not full
-pub works_empty : (d e : Desk) → e ≡ after_empty_collect d → Works 0 d e
+pub works_empty : (d e : Desk) → e ≡ after_empty_collect d → DrainsRow 0 d e
 works_empty d e is = record {
   given = [];
   refused = [];
@@ -63,7 +63,7 @@ works_empty d e is = record {
 }
 
 -- the first place is collected
-pub works_one : (d e : Desk) (n : ℕ) (x : PieceIn) (rest : List (ℕ × PieceIn)) → d.posted ≡ (n, x) ∷ rest → e ≡ after_collect n d → Works 1 d e
+pub works_one : (d e : Desk) (n : ℕ) (x : PieceIn) (rest : List (ℕ × PieceIn)) → d.posted ≡ (n, x) ∷ rest → e ≡ after_collect n d → DrainsRow 1 d e
 works_one d e n x rest first is = record {
   given = [];
   refused = [];
@@ -72,7 +72,7 @@ works_one d e n x rest first is = record {
       (is ∙ ap (λ (n' : ℕ). record (after_collect n d) { empty_collects = n' }) (sym (ap (λ (q : Desk). q.empty_collects) is)));
 }
 
-pub works_then : (m n : ℕ) (a b c : Desk) → Works m a b → Works n b c → Works (m + n) a c
+pub works_then : (m n : ℕ) (a b c : Desk) → DrainsRow m a b → DrainsRow n b c → DrainsRow (m + n) a c
 works_then m n a b c v w = record {
   given = v.given ++ w.given;
   refused = v.refused ++ w.refused;
@@ -84,8 +84,8 @@ works_then m n a b c v w = record {
       (w.is ∙ ap (after_works n w.given w.refused c.empty_collects) v.is);
 }
 
-pub works_more : (m n : ℕ) (a b c : Desk) → Works m a b → Works n b c → (k : ℕ) → k ≡ m + n → Works k a c
-works_more m n a b c v w k is = subst (λ (j : ℕ). Works j a c) (sym is) (works_then m n a b c v w)
+pub works_more : (m n : ℕ) (a b c : Desk) → DrainsRow m a b → DrainsRow n b c → (k : ℕ) → k ≡ m + n → DrainsRow k a c
+works_more m n a b c v w k is = subst (λ (j : ℕ). DrainsRow j a c) (sym is) (works_then m n a b c v w)
 
 -- nothing is posted yet
 pub posted_none : (d : Desk) → d.posted ≡ [] → d ≡ after_posts [] d
@@ -104,18 +104,18 @@ posted_more d e f ins k n x inside at is was now =
     ∙ ap (λ l. after_posts l d) (sym more)
 
 -- the own deque of pieces was tried once
-pub own_works : (t : Tried) (a b : MeSeen) → IsOwnPiece t a b → Works 0 a.desk b.desk
+pub own_works : (t : PieceAttempt) (a b : MeSeen) → IsOwnPiece t a b → DrainsRow 0 a.desk b.desk
 own_works t a b path = works_tried t a.desk b.desk (ap (λ (m : MeSeen). m.desk) path.same)
 
-pub own_core : (t : Tried) (a b : MeSeen) → IsOwnPiece t a b → b.core ≡ a.core
+pub own_core : (t : PieceAttempt) (a b : MeSeen) → IsOwnPiece t a b → b.core ≡ a.core
 own_core t a b path = ap (λ (m : MeSeen). m.core) path.same
 
 -- another's was tried once, if there is one
-pub other_works : (t : Tried) (a b : MeSeen) → IsOtherPiece t a b → Works 0 a.desk b.desk
-other_works t a b (inl alone) = subst (λ (m : MeSeen). Works 0 a.desk m.desk) (sym alone.2) (works_none a.desk)
+pub other_works : (t : PieceAttempt) (a b : MeSeen) → IsOtherPiece t a b → DrainsRow 0 a.desk b.desk
+other_works t a b (inl alone) = subst (λ (m : MeSeen). DrainsRow 0 a.desk m.desk) (sym alone.2) (works_none a.desk)
 other_works t a b (inr stolen) = works_tried t a.desk b.desk (ap (λ (m : MeSeen). m.desk) stolen.same)
 
-pub other_core : (t : Tried) (a b : MeSeen) → IsOtherPiece t a b → b.core ≡ a.core
+pub other_core : (t : PieceAttempt) (a b : MeSeen) → IsOtherPiece t a b → b.core ≡ a.core
 other_core t a b (inl alone) = ap (λ (m : MeSeen). m.core) alone.2
 other_core t a b (inr stolen) = ap (λ (m : MeSeen). m.core) stolen.same
 

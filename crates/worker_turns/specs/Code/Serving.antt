@@ -6,7 +6,7 @@ use Rattle.launch_batch.specs.Calls.{IsServiceOf}
 use Rattle.worker_crew.specs.Holds.{HoldSeen, new_hold, workers_in, IsPublished}
 use Rattle.worker_crew.specs.Passes.{PassSeen, in_hold}
 use Rattle.worker_crew.specs.Workers.{MeSeen}
-use Rattle.worker_turns.specs.Launches.{Serves, ArePlaces, AreFound, look_events, answer_events, serve_events}
+use Rattle.worker_turns.specs.Launches.{ExecutesPieces, ArePlaces, AreFound, look_events, answer_events, serve_events}
 
 -- the hold is that just after a win: no look, no call taken, nothing published
 abbrev pub IsNewHold : HoldSeen → Type 0
@@ -70,5 +70,5 @@ pub record ServesBatch (book : List (List Entry)) (calls : List Call) (after : L
     events = old.pass.events ++ serve_events (length book) batch;
   }
   pub looks : old.pass.stop_looks ≤ new.pass.stop_looks
-  pub desk : Serves posted old.desk new.desk
+  pub desk : ExecutesPieces posted old.desk new.desk
   pub core : new.core ≡ old.core

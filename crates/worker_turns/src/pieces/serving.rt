@@ -9,13 +9,13 @@ ghost use Rattle.piece_board.specs.Boards.{desk_view};
 ghost use Rattle.two_deques.specs.Hands.{held};
 ghost use Rattle.worker_crew.specs.declared.crew.Stop.TheVariants.{Memory};
 ghost use Rattle.worker_crew.specs.Workers.{IsMeOf};
-ghost use Rattle.worker_turns.specs.Pieces.{Works, after_posts, with_place};
-ghost use Rattle.worker_turns.specs.Launches.{Serves};
+ghost use Rattle.worker_turns.specs.Pieces.{DrainsRow, after_posts, with_place};
+ghost use Rattle.worker_turns.specs.Launches.{ExecutesPieces};
 ghost use Rattle.worker_turns.specs.Stops.{HasOnlyLooked, IsStop};
 
-use crate::found::Tried;
-use crate::pieces::{other_piece, own_piece};
-use crate::rest::rest_after;
+use crate::attempts::PieceAttempt;
+use crate::back_off::back_off;
+use crate::pieces::{pop_own_piece, steal_other_piece};
 use bt_io::Pause;
 use crossbeam_utils::Backoff;
 use launch_batch::{PieceIn, PieceOut};
@@ -73,13 +73,13 @@ fn run_own<T: Table, G: Pause>(
     requires me { IsMeOf (T.gave crew.now.table) T.seen crew.now.decks crew.now.board me.old }
     ensures me { IfOk result (λ _.
         IsMeOf (T.gave crew.now.table) T.seen crew.now.decks crew.now.board me.new) }
-    ensures desk { IfOk result (λ _. Works 0 (desk_view me.old.desk) (desk_view me.new.desk)) }
+    ensures desk { IfOk result (λ _. DrainsRow 0 (desk_view me.old.desk) (desk_view me.new.desk)) }
     ensures core { IfOk result (λ _. (held me.new.hand).core ≡ (held me.old.hand).core) }
     ensures pass { me.new.pass ≡ me.old.pass }
     ensures failed { IfErr result (λ stop. stop ≡ Memory) }
 {
     for _ in 0..64u32 {
-        if let Tried::Dry = own_piece(alloc, crew, me)? {
+        if let PieceAttempt::Empty = pop_own_piece(alloc, crew, me)? {
             return Ok(());
         }
     }
@@ -104,7 +104,7 @@ fn collect_one<T: Table, G: Pause, R: Wait>(
         IsMeOf (T.gave crew.now.table) T.seen crew.now.decks crew.now.board me.new) }
     ensures meets { IfOk result (λ out. (input : Input) (rest : List (ℕ × Input))
         → (desk_view me.old.desk).posted ≡ (place, input) ∷ rest → Meets input out) }
-    ensures desk { IfOk result (λ _. Works 1 (desk_view me.old.desk) (desk_view me.new.desk)) }
+    ensures desk { IfOk result (λ _. DrainsRow 1 (desk_view me.old.desk) (desk_view me.new.desk)) }
     ensures core { IfOk result (λ _. (held me.new.hand).core ≡ (held me.old.hand).core) }
     ensures seen { IfOk result (λ _. HasOnlyLooked (T.seen me.old.pass) (T.seen me.new.pass)) }
     ensures stopped { IfErr result (λ stop. IsStop stop (T.seen me.old.pass) (T.seen me.new.pass)) }
@@ -117,8 +117,8 @@ fn collect_one<T: Table, G: Pause, R: Wait>(
         if crew.table.stopped(&mut me.pass) {
             return Err(Stop::Stopped);
         }
-        let other = other_piece(rt, alloc, crew, me)?;
-        rest_after(&backoff, !matches!(other, Tried::Ran(_)));
+        let other = steal_other_piece(rt, alloc, crew, me)?;
+        back_off(&backoff, !matches!(other, PieceAttempt::Ran(_)));
     }
     unreachable!()
 }
@@ -141,7 +141,7 @@ fn collect_all<T: Table, G: Pause, R: Wait>(
     ensures meet { IfOk result (λ outs. (ins : List Input)
         → (desk_view me.old.desk).posted ≡ map with_place ins → AllMeet Meets ins outs.items) }
     ensures desk { IfOk result (λ _.
-        Works (length places.now) (desk_view me.old.desk) (desk_view me.new.desk)) }
+        DrainsRow (length places.now) (desk_view me.old.desk) (desk_view me.new.desk)) }
     ensures core { IfOk result (λ _. (held me.new.hand).core ≡ (held me.old.hand).core) }
     ensures seen { IfOk result (λ _. HasOnlyLooked (T.seen me.old.pass) (T.seen me.new.pass)) }
     ensures stopped { IfErr result (λ stop. IsStop stop (T.seen me.old.pass) (T.seen me.new.pass)) }
@@ -171,7 +171,7 @@ pub(crate) fn serve_pieces<T: Table, G: Pause, R: Wait>(
         IsMeOf (T.gave crew.now.table) T.seen crew.now.decks crew.now.board me.new) }
     ensures meet { IfOk result (λ outs. AllMeet Meets ins.items outs.items) }
     ensures desk { IfOk result (λ _.
-        Serves (map place_of ins.items) (desk_view me.old.desk) (desk_view me.new.desk)) }
+        ExecutesPieces (map place_of ins.items) (desk_view me.old.desk) (desk_view me.new.desk)) }
     ensures core { IfOk result (λ _. (held me.new.hand).core ≡ (held me.old.hand).core) }
     ensures seen { IfOk result (λ _. HasOnlyLooked (T.seen me.old.pass) (T.seen me.new.pass)) }
     ensures stopped { IfErr result (λ stop. IsStop stop (T.seen me.old.pass) (T.seen me.new.pass)) }

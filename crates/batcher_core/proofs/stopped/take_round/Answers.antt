@@ -51,14 +51,14 @@ loop-worker-preserved c =
     let among : c.loop-worker.worker < c.loop-worker.core.workers = subst (λ n. c.loop-worker.worker < n) (sym same.1) below in
     let fits = c.invariant_holds.ensures c.loop-worker.invariant.unspent in
     record {
-      job = same_since c.args.core.now c.loop-worker.core c.moves.new.core same c.in_ok-moved.ensures.job;
+      job = same_since c.args.core.now c.loop-worker.core c.try_turn.new.core same c.in_ok-moved.ensures.job;
       unspent = c.in_ok-moved.ensures.spent;
       drives = λ last drives. c.loop-worker.invariant.drives last
-          (turn_before c.args.core.now c.loop-worker.core c.moves.new.core live same (sym c.is_over.ensures ∙ c.if-is_over.false) c.loop-worker.invariant.unspent c.loop-worker.worker below
+          (turn_before c.args.core.now c.loop-worker.core c.try_turn.new.core live same (sym c.is_over.ensures ∙ c.if-is_over.false) c.loop-worker.invariant.unspent c.loop-worker.worker below
           c.if-not-live-worker.false c.in_ok-moved.ensures.turn last drives);
-      fewer = lowers_after c.args.core.now c.loop-worker.core c.moves.new.core live c.loop-worker.worker same fits among c.in_ok-moved.ensures.turn c.in_ok-moved.field-0 c.in_ok-moved.ensures.moved
+      fewer = lowers_after c.args.core.now c.loop-worker.core c.try_turn.new.core live c.loop-worker.worker same fits among c.in_ok-moved.ensures.turn c.in_ok-moved.field-0 c.in_ok-moved.ensures.moved
           c.loop-worker.moved c.loop-worker.invariant.fewer;
-      rests = rests_after c.args.core.now c.loop-worker.core c.moves.new.core live c.loop-worker.worker same fits among c.in_ok-moved.ensures.turn c.in_ok-moved.field-0 c.in_ok-moved.ensures.moved
+      rests = rests_after c.args.core.now c.loop-worker.core c.try_turn.new.core live c.loop-worker.worker same fits among c.in_ok-moved.ensures.turn c.in_ok-moved.field-0 c.in_ok-moved.ensures.moved
           c.loop-worker.moved c.loop-worker.invariant.rests;
     }
 

@@ -15,6 +15,6 @@ loop-preserved g c =
     let empty : desk_view c.collect.new.desk ≡ after_empty_collect (desk_view c.loop.me.desk) = search rules in record {
       me = c.in_ok-other.ensures.me;
       core = other_core _ _ _ path ∙ i.core;
-      seen = looked_more _ _ _ _ i.seen (c.stopped.ensures.unset c.if-stopped.false) (ap g.T.Table.seen c.other_piece.ensures.pass);
+      seen = looked_more _ _ _ _ i.seen (c.stopped.ensures.unset c.if-stopped.false) (ap g.T.Table.seen c.steal_other_piece.ensures.pass);
       desk = works_more 0 0 _ _ _ (works_more 0 0 _ _ _ i.desk (works_empty _ _ empty) 0 refl) (other_works _ _ _ path) 0 refl;
     }

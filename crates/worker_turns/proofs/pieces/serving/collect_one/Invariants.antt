@@ -3,7 +3,7 @@ use Rattle.two_deques.specs.Hands.{held}
 use Rattle.piece_board.specs.Boards.{desk_view}
 use Rattle.worker_crew.specs.Workers.{IsMeOf}
 use Rattle.worker_turns.specs.Stops.{HasOnlyLooked}
-use Rattle.worker_turns.specs.Pieces.{Works}
+use Rattle.worker_turns.specs.Pieces.{DrainsRow}
 use Rattle.worker_turns.proofs.pieces.serving.collect_one.Given as goal
 
 abbrev pub invariant-loop : goal.invariant-loop
@@ -11,5 +11,5 @@ invariant-loop g l = record {
   me : IsMeOf (g.T.Table.gave l.crew.table) g.T.Table.seen l.crew.decks l.crew.board l.me;
   core : (held l.me.hand).core ≡ (held l.initial.me.hand).core;
   seen : HasOnlyLooked (g.T.Table.seen l.initial.me.pass) (g.T.Table.seen l.me.pass);
-  desk : Works 0 (desk_view l.initial.me.desk) (desk_view l.me.desk);
+  desk : DrainsRow 0 (desk_view l.initial.me.desk) (desk_view l.me.desk);
 }

@@ -8,9 +8,9 @@ loop-init g c = record { me = c.requires.me; core = refl; pass = refl; desk = wo
 pub loop-preserved : goal.loop-preserved
 loop-preserved g c =
     let i = c.loop.invariant in
-    let path = c.in_ok-own_piece.ensures.path in record {
-      me = c.in_ok-own_piece.ensures.me;
+    let path = c.in_ok-pop_own_piece.ensures.path in record {
+      me = c.in_ok-pop_own_piece.ensures.me;
       core = own_core _ _ _ path ∙ i.core;
-      pass = c.own_piece.ensures.pass ∙ i.pass;
+      pass = c.pop_own_piece.ensures.pass ∙ i.pass;
       desk = works_more 0 0 _ _ _ i.desk (own_works _ _ _ path) 0 refl;
     }

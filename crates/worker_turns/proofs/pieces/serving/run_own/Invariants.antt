@@ -2,7 +2,7 @@ use Rattle.std.proofs.Common.{◌≡◌}
 use Rattle.two_deques.specs.Hands.{held}
 use Rattle.piece_board.specs.Boards.{desk_view}
 use Rattle.worker_crew.specs.Workers.{IsMeOf}
-use Rattle.worker_turns.specs.Pieces.{Works}
+use Rattle.worker_turns.specs.Pieces.{DrainsRow}
 use Rattle.worker_turns.proofs.pieces.serving.run_own.Given as goal
 
 abbrev pub invariant-loop : goal.invariant-loop
@@ -10,5 +10,5 @@ invariant-loop g l = record {
   me : IsMeOf (g.T.Table.gave l.crew.table) g.T.Table.seen l.crew.decks l.crew.board l.me;
   core : (held l.me.hand).core ≡ (held l.initial.me.hand).core;
   pass : l.me.pass ≡ l.initial.me.pass;
-  desk : Works 0 (desk_view l.initial.me.desk) (desk_view l.me.desk);
+  desk : DrainsRow 0 (desk_view l.initial.me.desk) (desk_view l.me.desk);
 }

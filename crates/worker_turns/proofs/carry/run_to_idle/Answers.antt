@@ -1,5 +1,5 @@
 use Rattle.worker_turns.proofs.CarryLemmas.Steps.{carried_none}
-use Rattle.worker_turns.proofs.carry.carry_on.Goals as goal
+use Rattle.worker_turns.proofs.carry.run_to_idle.Goals as goal
 
 pub loop-init : goal.loop-init
 loop-init g c = record {

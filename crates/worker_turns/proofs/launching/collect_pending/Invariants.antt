@@ -2,7 +2,7 @@ use Rattle.std.proofs.Common.{◌≤◌}
 use Rattle.worker_crew.specs.Holds.{AreFit}
 use Rattle.worker_crew.specs.Passes.{Holds}
 use Rattle.worker_turns.specs.Code.Serving.{HasLooked}
-use Rattle.worker_turns.proofs.launching.take_all.Given as goal
+use Rattle.worker_turns.proofs.launching.collect_pending.Given as goal
 
 abbrev pub invariant-loop-u : goal.invariant-loop-u
 invariant-loop-u g l = record {

@@ -2,13 +2,13 @@ use Rattle.std.proofs.Common.{◌≡◌, []}
 use Rattle.piece_board.specs.Boards.{desk_view}
 use Rattle.worker_crew.specs.Passes.{IsFree}
 use Rattle.worker_crew.specs.Workers.{IsMeOf, me_seen}
-use Rattle.worker_turns.specs.Free.{Carried}
-use Rattle.worker_turns.proofs.carry.carry_on.Given as goal
+use Rattle.worker_turns.specs.Free.{RanToIdle}
+use Rattle.worker_turns.proofs.carry.run_to_idle.Given as goal
 
 abbrev pub invariant-loop : goal.invariant-loop
 invariant-loop g l = record {
   me : IsMeOf (g.T.Table.gave l.crew.table) g.T.Table.seen l.crew.decks l.crew.board l.me;
   free_pass : IsFree (g.T.Table.seen l.me.pass);
   free : (desk_view l.me.desk).posted ≡ [];
-  carried : Carried (me_seen g.T.Table.seen l.initial.me) (me_seen g.T.Table.seen l.me);
+  carried : RanToIdle (me_seen g.T.Table.seen l.initial.me) (me_seen g.T.Table.seen l.me);
 }

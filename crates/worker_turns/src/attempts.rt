@@ -4,18 +4,18 @@ use two_deques::Spot;
 
 /// The outcome of a pop or steal at a deque of pieces, and of the claim on the board.
 #[derive(Clone, Copy)]
-pub enum Tried {
+pub enum PieceAttempt {
     /// The deque gave this spot, and its piece was claimed and run.
     Ran(Spot),
     /// The deque gave this spot, and the board refused its claim.
-    Dropped(Spot),
+    Stale(Spot),
     /// The deque gave nothing, or none was tried.
-    Dry,
+    Empty,
 }
 
 /// The outcome of a pop or steal at a deque of nodes, and of the claim on the table.
 #[derive(Clone, Copy)]
-pub enum Found {
+pub enum NodeAttempt {
     /// The deque gave this node, and it was claimed.
     Claimed(u32),
     /// The deque gave this node, and the table refused its claim.
@@ -26,11 +26,11 @@ pub enum Found {
 
 /// The outcome of the one steal of a free worker's turn.
 #[derive(Clone, Copy)]
-pub enum Other {
+pub enum StealAttempt {
     /// There is no other worker, and so no steal.
-    Alone,
+    NoVictim,
     /// The steal was at a deque of nodes.
-    Node(Found),
+    Node(NodeAttempt),
     /// The steal was at a deque of pieces.
-    Piece(Tried),
+    Piece(PieceAttempt),
 }

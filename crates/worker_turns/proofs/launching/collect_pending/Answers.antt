@@ -1,8 +1,8 @@
 use Rattle.std.proofs.Common.{rules, ◌≡◌, List, ◌∷◌, ◌++◌, [], arith}
 use Rattle.seq_objects.specs.declared.call.Call.{Call}
 use Rattle.worker_turns.proofs.LaunchLemmas.Looking.{looked_take, looked_else, fit_take, fit_else}
-use Rattle.worker_turns.proofs.launching.take_all.Goals.{in-Ok+in_ok-push, in_default}
-use Rattle.worker_turns.proofs.launching.take_all.Goals as goal
+use Rattle.worker_turns.proofs.launching.collect_pending.Goals.{in-Ok+in_ok-push, in_default}
+use Rattle.worker_turns.proofs.launching.collect_pending.Goals as goal
 
 pub loop-u-preserved : goal.loop-u-preserved
 loop-u-preserved g c =

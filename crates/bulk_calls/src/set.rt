@@ -70,7 +70,7 @@ impl BulkSet {
 
     /// Serves a batch, and returns the replies in the order of its calls. The set is dropped when memory runs out.
     ///
-    /// It joins the threads that it starts: by `threads_for` two from 1,024 keys in all on, and three at 2,048.
+    /// It joins the threads that it starts: by `threads_for` a second one at 2,048 keys, the most of a batch.
     pub fn batch<R: Threads + Sync>(
         self,
         rt: &R,

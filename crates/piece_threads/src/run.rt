@@ -13,10 +13,10 @@ use std::thread::Threads;
 const MOST_THREADS: usize = 16;
 
 /// The number of keys that pay for one more thread.
-const KEYS_A_THREAD: usize = 1024;
+const KEYS_A_THREAD: usize = 2048;
 
 /// In how many threads the pieces of a batch are worth running, where `keys` is how many keys or items all its pieces
-/// handle: 1 below 1,024 keys, and at most 16.
+/// handle: 1 below 2,048 keys, and at most 16.
 pub fn threads_for(keys: usize) -> usize
     ensures count { result ≡ threads_for keys }
     ensures some { 0 < result }

@@ -2,9 +2,10 @@
 //!
 //! `specs/` defines the rules by which workers share the nodes of a job and gather their calls into batches, over plain
 //! mathematical states, together with their invariant. `laws` states the theorems about all runs. `setting` holds a job
-//! with its plan and the number of workers, and `next` tells the next act of a worker from its task and its call. The crates above implement the stored state of a core and the table that
-//! threads share, and prove that both follow these rules. The nodes of a job come from `sp_order`, the book from
-//! `batch_history`, and acts, operations and replies from `seq_objects`.
+//! with its plan and the number of workers, and `next` tells the next act of a worker from its task and its call. The
+//! crates above implement the stored state of a core and the table that threads share, and prove that both follow these
+//! rules. The nodes of a job come from `sp_order`, the book from `batch_history`, and acts, operations and replies from
+//! `seq_objects`.
 #![tactic(auto)]
 
 pub mod event;

@@ -3,7 +3,7 @@ use Rattle.std.specs.Prelude.{◌≡◌, ◌⊎◌, true}
 use Rattle.core_table.specs.declared.table.Pass.{Pass}
 use Rattle.core_table.specs.Passes.{view}
 use Rattle.worker_crew.specs.Opening.{seat_seen}
-use Rattle.worker_turns.specs.Launches.{KnowsStop}
+use Rattle.worker_turns.specs.Stops.{KnowsStop}
 
 -- the worker of this pass has seen the root done, or has set the stop word or found it set
 abbrev pub HasEnded : Pass → Type 0

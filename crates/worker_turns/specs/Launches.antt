@@ -8,7 +8,6 @@ use Rattle.launch_batch.specs.Calls.{AreSame}
 use Rattle.launch_batch.specs.Places.{places}
 use Rattle.worker_crew.specs.Words.{Event}
 use Rattle.worker_crew.specs.Holds.{HoldSeen, TookNone, ServedAll}
-use Rattle.worker_crew.specs.Passes.{PassSeen}
 use Rattle.worker_crew.specs.Workers.{MeSeen}
 use Rattle.worker_turns.specs.Pieces.{Desk}
 

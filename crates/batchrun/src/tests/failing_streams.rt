@@ -69,8 +69,8 @@ fn each_call_of_the_shelf_fails_in_turn(rt: HostRuntime) -> Result<(), Fail> {
     Ok(())
 }
 
-/// Whether a run wrote as much of these lines as it could, where the writes before the one that was to fail take so many
-/// bytes: all of them, or a front with a write fault.
+/// Whether a run wrote as much of these lines as it could: all of them, or a front with a write fault. The writes before
+/// the one that was to fail take `before` bytes.
 fn wrote(lines: &[u8], ran: &Ran, before: usize) -> bool {
     let number = ran.outcome.status.number();
     let out = ran.out.bytes();

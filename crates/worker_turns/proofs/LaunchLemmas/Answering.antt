@@ -9,7 +9,6 @@ use Rattle.worker_crew.specs.Passes.{PassSeen, Holds, IsHeld, in_hold, answering
 use Rattle.core_model.specs.declared.event.Event.TheVariants.{Answer}
 use Rattle.worker_turns.specs.Launches.{answer_events}
 use Rattle.worker_turns.specs.Code.Serving.{after_answers, answered_all, IsAnswerable}
-use Rattle.worker_turns.proofs.PieceLemmas.Collecting.{map_at}
 
 none_in : (number : ℕ) (batch : List Entry) (h : Option HoldSeen) → Holds (IsAnswerable number batch) h → h ≡ in_hold (after_answers []) h
 none_in number batch None due = absurd due

@@ -1,5 +1,5 @@
 -- The release of a launch, and what it leaves.
-use Rattle.std.proofs.Common.{◌≡◌, ◌≢◌, ◌≤◌, ℕ, true, None, Some, List, [], ◌∷◌, ◌++◌, length, inl, inr, sym, refl, ap, ◌∙◌, subst, arith, append-nil, append_assoc}
+use Rattle.std.proofs.Common.{◌≡◌, ◌≢◌, ℕ, true, None, Some, List, [], ◌∷◌, ◌++◌, length, inl, inr, sym, refl, ap, ◌∙◌, subst, arith, append-nil, append_assoc}
 use Rattle.seq_objects.specs.declared.call.Call.{Call}
 use Rattle.core_model.specs.Words.{Entry}
 use Rattle.core_model.specs.declared.event.Event.TheVariants.{Release}
@@ -8,7 +8,7 @@ use Rattle.worker_crew.specs.Words.{Event}
 use Rattle.worker_crew.specs.Holds.{HoldSeen, new_hold, AreFit, IsReleaseDue}
 use Rattle.worker_crew.specs.Passes.{PassSeen, Holds, IsHeld, is_trapped, in_hold, releasing}
 use Rattle.worker_crew.specs.Workers.{MeSeen}
-use Rattle.worker_turns.specs.Launches.{Launches, AreFound, look_events, serve_events, launch_events}
+use Rattle.worker_turns.specs.Launches.{Launches, look_events, serve_events, launch_events}
 use Rattle.worker_turns.specs.Code.Serving.{after_looks, looked, taken_hold, after_service, HasLooked, HasTaken, ServesBatch}
 
 -- the hold after the looks

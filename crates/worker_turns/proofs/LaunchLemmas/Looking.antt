@@ -1,9 +1,8 @@
 -- The looks of a launch.
-use Rattle.std.proofs.Common.{◌≡◌, ◌≢◌, ℕ, suc, ◌+◌, ◌==◌, if◌then◌else◌, Bool, true, false, Option, None, Some, Result, Ok, Err, IfErr, List, [], ◌∷◌, ◌++◌, length, map, arith, sym, refl, ap, ◌∙◌, subst, append_assoc, append-nil, length-append}
+use Rattle.std.proofs.Common.{◌≡◌, ◌≢◌, ℕ, suc, ◌+◌, ◌==◌, if◌then◌else◌, Bool, true, false, Option, None, Some, Result, Ok, Err, IfErr, List, [], ◌∷◌, ◌++◌, length, arith, sym, refl, ap, ◌∙◌, subst, append_assoc, append-nil, length-append}
 use Rattle.std.proofs.lemmas.List.{map-append}
 use Rattle.seq_objects.specs.declared.call.Call.{Call}
 use Rattle.core_model.specs.declared.event.Event.TheVariants.{Take}
-use Rattle.worker_crew.specs.Words.{Event}
 use Rattle.worker_crew.specs.Holds.{HoldSeen, AreFit, StayFit, IsLooking, after_take, after_pass}
 use Rattle.worker_crew.specs.Passes.{PassSeen, Holds, IsHeld, in_hold, taking, passing}
 use Rattle.worker_crew.proofs.SeatLemmas.Taken.{if_no}

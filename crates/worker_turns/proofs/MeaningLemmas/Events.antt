@@ -1,5 +1,5 @@
 -- What is read off the paths of the events that a turn made, and of its looks at the stop word.
-use Rattle.std.proofs.Common.{◌≡◌, ◌<◌, ◌≤◌, ℕ, ◌+◌, List, [], ◌∷◌, ◌++◌, refl, ap, ◌∙◌, inl, inr, arith, append_assoc}
+use Rattle.std.proofs.Common.{◌≡◌, ◌<◌, ◌≤◌, ℕ, List, [], ◌∷◌, ◌++◌, ap, ◌∙◌, inl, inr, arith, append_assoc}
 use Rattle.core_model.specs.declared.event.Event.TheVariants as made
 use Rattle.core_model.specs.Words.{Entry}
 use Rattle.worker_turns.specs.declared.attempts.PieceAttempt.{PieceAttempt}
@@ -12,13 +12,13 @@ use Rattle.worker_turns.specs.declared.trapped.Trapped.{Trapped}
 use Rattle.worker_turns.specs.declared.trapped.Trapped.TheVariants.{Left, Piece, Launched, Nothing}
 use Rattle.worker_turns.specs.declared.free.Did.{Did}
 use Rattle.worker_turns.specs.declared.free.Did.TheVariants as did
-use Rattle.worker_crew.specs.Words.{Receipt, Event}
+use Rattle.worker_crew.specs.Words.{Event}
 use Rattle.worker_crew.specs.Holds.{HoldSeen}
-use Rattle.worker_crew.specs.Passes.{PassSeen, finding_none, losing, staying, winning}
+use Rattle.worker_crew.specs.Passes.{PassSeen, finding_none, losing, staying}
 use Rattle.worker_crew.specs.Workers.{MeSeen}
 use Rattle.worker_turns.specs.Stops.{unstopped}
 use Rattle.worker_turns.specs.Pieces.{IsOwnPiece, IsOtherPiece}
-use Rattle.worker_turns.specs.Launches.{Collects, Launches, launch_events}
+use Rattle.worker_turns.specs.Launches.{Collects, launch_events}
 use Rattle.worker_turns.specs.Trapped.{IsTrappedTurn, refused_both}
 use Rattle.worker_turns.specs.Free.{IsOther, IsOwnNode, StoleNothing, RanToIdle, IsFreeTurn, pass_after}
 use Rattle.worker_turns.specs.Meanings.Events.{AreServed, HasTrappedEvents, HasFreeEvents}

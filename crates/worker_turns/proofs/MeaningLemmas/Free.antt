@@ -17,7 +17,8 @@ use Rattle.worker_turns.specs.Meanings.Gains.{Took, Gained, HasAllEnds}
 use Rattle.worker_turns.specs.Meanings.Free.{next_worker, TryWasFruitless, CameBy, DidRun, DidRunPiece, DidFindNothing}
 use Rattle.worker_turns.proofs.MeaningLemmas.Gains.{popped, took_none, took_from, stole, fruitless_rose, try_below}
 
--- the worker after its look at the stop word, and after its own deque of nodes gave nothing, and after that of pieces did too
+-- the worker after its look at the stop word and an empty pop of its own deque of nodes; and after an empty pop of its
+-- own deque of pieces too
 abbrev pub no_node : MeSeen → MeSeen
 no_node m = record m { pass = finding_none m.pass; core = after_empty_pop m.core }
 

@@ -5,7 +5,7 @@ use Rattle.two_deques.specs.Ends.{HeldEnds}
 use Rattle.core_model.specs.Words.{Entry}
 use Rattle.worker_turns.specs.declared.trapped.Trapped.TheVariants.{Launched}
 use Rattle.worker_crew.specs.Passes.{PassSeen}
-use Rattle.worker_crew.specs.Holds.{HoldSeen, TookNone, ServedAll}
+use Rattle.worker_crew.specs.Holds.{HoldSeen}
 use Rattle.worker_crew.specs.Workers.{MeSeen}
 use Rattle.worker_turns.specs.Pieces.{Desk, spot_of}
 use Rattle.worker_crew.specs.Words.{Event}

@@ -1,5 +1,5 @@
 -- What is read off the paths of what a turn, or a launch, leaves as it was.
-use Rattle.std.proofs.Common.{◌≡◌, ◌≤◌, ℕ, ◌+◌, true, Option, None, Some, List, [], ◌∷◌, ◌++◌, sym, refl, ap, ◌∙◌, subst, inl, inr, append_assoc, append-nil, arith}
+use Rattle.std.proofs.Common.{◌≡◌, ◌≤◌, ℕ, ◌+◌, true, Option, None, Some, List, [], ◌∷◌, ◌++◌, sym, refl, ap, ◌∙◌, subst, inl, inr, append_assoc, arith}
 use Rattle.core_model.specs.Words.{Entry}
 use Rattle.core_model.specs.declared.event.Event.TheVariants as made
 use Rattle.worker_crew.specs.Words.{Event, Receipt, CallState, Got}
@@ -26,8 +26,8 @@ use Rattle.worker_turns.proofs.PieceLemmas.Working.{works_tried}
 use Rattle.worker_turns.proofs.CarryLemmas.Steps.{front_none, helps_none, helps_then, helps_works}
 use Rattle.worker_turns.proofs.MeaningLemmas.Trapped.{not_ran_desk}
 
--- a pass that has only come on with its tries to leave and to win, with its holds, its looks at the stop word and its events, and
--- with what it has seen of the book
+-- the pass after more tries to leave and to win, holds, looks at the stop word and events, and with more of the book
+-- seen; the rest is unchanged
 abbrev come_on : ℕ → ℕ → ℕ → ℕ → Option HoldSeen → List (List Entry) → List Event → PassSeen → PassSeen
 come_on leaves wins refused looks last book events p = record p {
   hold = None;

@@ -1,5 +1,5 @@
 -- Looks at the stop word, one after another.
-use Rattle.std.proofs.Common.{◌≡◌, ◌≤◌, ℕ, ◌+◌, refl, sym, ap, ◌∙◌, arith}
+use Rattle.std.proofs.Common.{◌≡◌, refl, sym, ap, ◌∙◌, arith}
 use Rattle.worker_crew.specs.Passes.{PassSeen, finding_none}
 use Rattle.worker_turns.specs.Stops.{HasOnlyLooked}
 

@@ -1,6 +1,5 @@
-use Rattle.std.proofs.Common.{[], ◌∷◌, ◌++◌, refl, ap}
-use Rattle.core_model.specs.declared.event.Event.TheVariants.{Post, Leave}
-use Rattle.worker_turns.proofs.CarryLemmas.Steps.{carried_step, carried_call, carried_open, carried_arrival, front_called}
+use Rattle.std.proofs.Common.{[], ◌∷◌, refl}
+use Rattle.worker_turns.proofs.CarryLemmas.Steps.{carried_step, carried_call, carried_arrival, front_called}
 use Rattle.worker_turns.proofs.carry.make_step.Goals as goal
 
 pub returns-in-Start-clause-carried : goal.returns-in-Start-clause-carried

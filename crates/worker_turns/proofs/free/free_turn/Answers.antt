@@ -1,4 +1,4 @@
-use Rattle.std.proofs.Common.{rules, ◌≡◌, ap, ◌∙◌, subst, inl, inr}
+use Rattle.std.proofs.Common.{rules, subst, inr}
 use Rattle.worker_turns.specs.declared.attempts.PieceAttempt.{PieceAttempt}
 use Rattle.worker_turns.specs.declared.attempts.NodeAttempt.TheVariants.{NoNode}
 use Rattle.worker_crew.specs.Passes.{PassSeen}

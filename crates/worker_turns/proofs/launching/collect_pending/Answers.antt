@@ -1,5 +1,4 @@
-use Rattle.std.proofs.Common.{rules, ◌≡◌, List, ◌∷◌, ◌++◌, [], arith}
-use Rattle.seq_objects.specs.declared.call.Call.{Call}
+use Rattle.std.proofs.Common.{rules, arith}
 use Rattle.worker_turns.proofs.LaunchLemmas.Looking.{looked_take, looked_else, fit_take, fit_else}
 use Rattle.worker_turns.proofs.launching.collect_pending.Goals.{in-Ok+in_ok-push, in_default}
 use Rattle.worker_turns.proofs.launching.collect_pending.Goals as goal

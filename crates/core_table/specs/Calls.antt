@@ -24,7 +24,7 @@ use Rattle.table_rule.specs.Steps.{Steps, Makes, Stays, TryMakes, ArrivalMakes, 
 
 -- the view is one of worker k's pass at a table of this setting, after it has enrolled
 pub record IsViewOf (key : Setting) (k : ℕ) (v : View) : Type 0 where
-  pub from : v.from ≡ k
+  pub worker : v.own.worker ≡ k
   pub to : v.to ≡ k + 1
   pub workers : v.workers ≡ key.workers
   pub nodes : v.nodes ≡ (job_of key).plan.count
@@ -36,7 +36,7 @@ pub record IsViewOf (key : Setting) (k : ℕ) (v : View) : Type 0 where
 -- call what its step writes, what it tells the seat, and which event or stutter it makes of any state shown before.
 pub record CallsAreEvents (key : Setting) (slots id k : ℕ) (v : View) (xs : List (ℕ × Slot)) : Type 0 where
   -- the job side: a claim is the event `Claim` if it finds the node ready (1), else a stutter
-  pub claim : (n : ℕ) → n < (job_of key).plan.count → v.task ≡ Idle → v.call ≢ Out
+  pub claim : (n : ℕ) → n < (job_of key).plan.count → v.own.task ≡ Idle → v.own.call ≢ Out
       → Steps (job_of key) (room_of key) slots id (v, xs) (node_at key.workers n) (λ y. either (eqb y 1) 2 y)
       (plays.claimed (step slots (node_at key.workers n) 1 2 none) (v, xs)) (TryMakes 1 (Makes (job_of key) k (Claim n)))
   -- a claim past the last node is a stutter; its step on word 0 names the number
@@ -44,78 +44,78 @@ pub record CallsAreEvents (key : Setting) (slots id k : ℕ) (v : View) (xs : Li
       → Steps (job_of key) (room_of key) slots id (v, xs) 0 (λ y. either (eqb y (4 + n)) 0 y)
       (plays.strayed (step slots 0 (4 + n) 0 none) (v, xs)) Stays
   -- a tick starts or ends the task's leaf
-  pub tick : IsTickDue (job_of key) v.task → v.call ≢ Out
+  pub tick : IsTickDue (job_of key) v.own.task → v.own.call ≢ Out
       → Steps (job_of key) (room_of key) slots id (v, xs) (tick_at key.workers) (λ y. (y + 1) % 2 ^ 64)
-      (plays.drawn (step slots (tick_at key.workers) 1 0 none) (v, xs)) (λ before found after. DrawMakes (job_of key) k v.task before after)
+      (plays.drawn (step slots (tick_at key.workers) 1 0 none) (v, xs)) (λ before found after. DrawMakes (job_of key) k v.own.task before after)
   -- the four opens
-  pub open_right : (p l r : ℕ) → v.task ≡ Run p → (job_of key).plan.kind p ≡ Some (ParNode l r) → v.call ≢ Out
+  pub open_right : (p l r : ℕ) → v.own.task ≡ Run p → (job_of key).plan.kind p ≡ Some (ParNode l r) → v.own.call ≢ Out
       → Steps (job_of key) (room_of key) slots id (v, xs) (node_at key.workers r) (λ y. 1)
       (λ y. plays.half_opened (step slots (node_at key.workers r) 1 0 none) (v, xs) 1) (λ before found after. Makes (job_of key) k (OpenParRight p l r) before after)
-  pub open_left : (p l r : ℕ) → v.task ≡ Half p → (job_of key).plan.kind p ≡ Some (ParNode l r) → v.call ≢ Out
+  pub open_left : (p l r : ℕ) → v.own.task ≡ Half p → (job_of key).plan.kind p ≡ Some (ParNode l r) → v.own.call ≢ Out
       → Steps (job_of key) (room_of key) slots id (v, xs) (node_at key.workers l) (λ y. 1)
       (λ y. plays.opened (step slots (node_at key.workers l) 1 0 none) (v, xs) 1) (λ before found after. Makes (job_of key) k (OpenParLeft p l r) before after)
-  pub open_first : (p l r : ℕ) → v.task ≡ Run p → (job_of key).plan.kind p ≡ Some (SeqNode l r) → v.call ≢ Out
+  pub open_first : (p l r : ℕ) → v.own.task ≡ Run p → (job_of key).plan.kind p ≡ Some (SeqNode l r) → v.own.call ≢ Out
       → Steps (job_of key) (room_of key) slots id (v, xs) (node_at key.workers l) (λ y. 1)
       (λ y. plays.opened (step slots (node_at key.workers l) 1 0 none) (v, xs) 1) (λ before found after. Makes (job_of key) k (OpenSeqLeft p l r) before after)
-  pub open_second : (p l r : ℕ) → v.task ≡ Whole l → (job_of key).plan.kind p ≡ Some (SeqNode l r) → v.call ≢ Out
+  pub open_second : (p l r : ℕ) → v.own.task ≡ Whole l → (job_of key).plan.kind p ≡ Some (SeqNode l r) → v.own.call ≢ Out
       → Steps (job_of key) (room_of key) slots id (v, xs) (node_at key.workers r) (λ y. 1)
       (λ y. plays.opened (step slots (node_at key.workers r) 1 0 none) (v, xs) 1) (λ before found after. Makes (job_of key) k (OpenSeqRight p l r) before after)
   -- a keep of the value that the act and the call determine
-  pub keep : (n start x : ℕ) → v.task ≡ Started n start → n < (job_of key).plan.count
-      → value_in ((job_of key).act (leaf_of ((job_of key).plan.kind n))) v.call ≡ Some x → v.call ≢ Out
+  pub keep : (n start x : ℕ) → v.own.task ≡ Started n start → n < (job_of key).plan.count
+      → value_in ((job_of key).act (leaf_of ((job_of key).plan.kind n))) v.own.call ≡ Some x → v.own.call ≢ Out
       → Steps (job_of key) (room_of key) slots id (v, xs) (value_at key.workers (job_of key).plan.count n) (λ y. x)
       (λ y. plays.kept (step slots (value_at key.workers (job_of key).plan.count n) x 0 none) (v, xs) x)
       (λ before found after. Makes (job_of key) k (Keep n start x) before after)
   -- the three finishes
-  pub finish_leaf : (n start end : ℕ) → v.task ≡ Ended n start end → n < (job_of key).plan.count → v.call ≢ Out
+  pub finish_leaf : (n start end : ℕ) → v.own.task ≡ Ended n start end → n < (job_of key).plan.count → v.own.call ≢ Out
       → Steps (job_of key) (room_of key) slots id (v, xs) (node_at key.workers n) (λ y. progress_code (Ran k start end))
       (λ y. plays.finished (step slots (node_at key.workers n) (progress_code (Ran k start end)) 0 none) (v, xs) (progress_code (Ran k start end)))
       (λ before found after. Makes (job_of key) k (FinishLeaf n start end) before after)
-  pub finish_series : (p l r : ℕ) → v.task ≡ Whole r → (job_of key).plan.kind p ≡ Some (SeqNode l r) → p < (job_of key).plan.count → v.call ≢ Out
+  pub finish_series : (p l r : ℕ) → v.own.task ≡ Whole r → (job_of key).plan.kind p ≡ Some (SeqNode l r) → p < (job_of key).plan.count → v.own.call ≢ Out
       → Steps (job_of key) (room_of key) slots id (v, xs) (node_at key.workers p) (λ y. 3)
       (λ y. plays.finished (step slots (node_at key.workers p) 3 0 none) (v, xs) 3) (λ before found after. Makes (job_of key) k (FinishSeq p l r) before after)
-  pub finish_block : (p l r : ℕ) → v.task ≡ Handed p → (job_of key).plan.kind p ≡ Some (ParNode l r) → p < (job_of key).plan.count → v.call ≢ Out
+  pub finish_block : (p l r : ℕ) → v.own.task ≡ Handed p → (job_of key).plan.kind p ≡ Some (ParNode l r) → p < (job_of key).plan.count → v.own.call ≢ Out
       → Steps (job_of key) (room_of key) slots id (v, xs) (node_at key.workers p) (λ y. 3)
       (λ y. plays.finished (step slots (node_at key.workers p) 3 0 none) (v, xs) 3) (λ before found after. Makes (job_of key) k (FinishPar p l r) before after)
   -- an arrival is the first if it finds the mark at 0, else the second
-  pub arrive : (p l r n : ℕ) → v.task ≡ Whole n → (job_of key).plan.kind p ≡ Some (ParNode l r) → IsSide (job_of key).plan p n
-      → p < (job_of key).plan.count → v.call ≢ Out
+  pub arrive : (p l r n : ℕ) → v.own.task ≡ Whole n → (job_of key).plan.kind p ≡ Some (ParNode l r) → IsSide (job_of key).plan p n
+      → p < (job_of key).plan.count → v.own.call ≢ Out
       → Steps (job_of key) (room_of key) slots id (v, xs) (mark_at key.workers (job_of key).plan.count p) (λ y. (y + 1) % 2 ^ 64)
       (plays.arrived (step slots (mark_at key.workers (job_of key).plan.count p) 1 0 none) (v, xs))
       (ArrivalMakes (Makes (job_of key) k (ArriveFirst p l r n)) (Makes (job_of key) k (ArriveSecond p l r n)))
   -- the gate: a post returns the record slot to the table, with the call in it
-  pub post : (call : OpRecord) → (is : IsPostDue (job_of key) v.task call) → v.call ≡ NotCalled
+  pub post : (call : OpRecord) → (is : IsPostDue (job_of key) v.own.task call) → v.own.call ≡ NotCalled
       → Steps (job_of key) (room_of key) slots id (v, (k, Slots.Record call) ∷ xs) k (λ y. 1)
       (λ y. plays.posted (step slots k 1 0 none) (v, (k, Slots.Record call) ∷ xs) 1) (λ before found after. Makes (job_of key) k (Post is.0 is.1) before after)
   -- a win is an event if it finds the flag free (0), else a stutter
-  pub win : v.call ≡ Out
+  pub win : v.own.call ≡ Out
       → Steps (job_of key) (room_of key) slots id (v, xs) (flag_at key.workers) (λ y. either (eqb y 0) (k + 1) y)
       (plays.won (step slots (flag_at key.workers) 0 (k + 1) none) (v, xs)) (TryMakes 0 (Makes (job_of key) k Win))
   -- a look at a worker is the event `Take`, whether or not it takes a call
-  pub take : (h : HoldView) (u : ℕ) → v.hold ≡ Some h → u ≡ h.looks → u < key.workers
+  pub take : (h : HoldView) (u : ℕ) → v.own.hold ≡ Some h → u ≡ h.looks → u < key.workers
       → Steps (job_of key) (room_of key) slots id (v, xs) u (λ y. either (eqb y 1) 2 y)
       (plays.took (step slots u 1 2 none) (v, xs)) (λ before found after. Makes (job_of key) k (Take u) before after)
-  pub publish : (h : HoldView) (batch : List Entry) → v.hold ≡ Some h → IsPublishDue key.workers h batch → length h.book < 2 ^ 32
+  pub publish : (h : HoldView) (batch : List Entry) → v.own.hold ≡ Some h → IsPublishDue key.workers h batch → length h.book < 2 ^ 32
       → Steps (job_of key) (room_of key) slots id (v, (count_at key.workers, Slots.Book (reserved (h.book ++ batch ∷ []) (room_of key))) ∷ xs) (count_at key.workers) (λ y. (y + 1) % 2 ^ 64)
       (plays.published (step slots (count_at key.workers) 1 0 none) (v, (count_at key.workers, Slots.Book (reserved (h.book ++ batch ∷ []) (room_of key))) ∷ xs))
       (λ before found after. Makes (job_of key) k Publish before after)
-  pub answer : (h : HoldView) (u : ℕ) (call : OpRecord) (r : Receipt) → v.hold ≡ Some h → u < key.workers → h.published ≡ true
+  pub answer : (h : HoldView) (u : ℕ) (call : OpRecord) (r : Receipt) → v.own.hold ≡ Some h → u < key.workers → h.published ≡ true
       → record_in h.taken u ≡ Some call → among h.answered u ≡ false → IsReceipt (place_of h.book call.leaf) r
       → Steps (job_of key) (room_of key) slots id (v, (u, Slots.Receipt r) ∷ xs) u (λ y. 3)
       (λ y. plays.answered (step slots u 3 0 none) (v, (u, Slots.Receipt r) ∷ xs) 3) (λ before found after. Makes (job_of key) k (Answer u r) before after)
   -- a release returns the shop after a publish, and the shop and the book if nothing was published
-  pub release : (h : HoldView) → v.hold ≡ Some h → IsReleaseDue key.workers h → h.published ≡ true
+  pub release : (h : HoldView) → v.own.hold ≡ Some h → IsReleaseDue key.workers h → h.published ≡ true
       → Steps (job_of key) (room_of key) slots id (v, (flag_at key.workers, Slots.Shop h.book) ∷ xs) (flag_at key.workers) (λ y. 0)
       (λ y. plays.released_shop (step slots (flag_at key.workers) 0 0 none) (v, (flag_at key.workers, Slots.Shop h.book) ∷ xs) 0)
       (λ before found after. Makes (job_of key) k Release before after)
-  pub release_unserved : (h : HoldView) → v.hold ≡ Some h → IsReleaseDue key.workers h
+  pub release_unserved : (h : HoldView) → v.own.hold ≡ Some h → IsReleaseDue key.workers h
       → Steps (job_of key) (room_of key) slots id
       (v, (flag_at key.workers, Slots.Shop h.book) ∷ (flag_at key.workers + 1, Slots.Book (reserved h.book (room_of key))) ∷ xs) (flag_at key.workers) (λ y. 0)
       (λ y. plays.released_both (step slots (flag_at key.workers) 0 0 none)
       (v, (flag_at key.workers, Slots.Shop h.book) ∷ (flag_at key.workers + 1, Slots.Book (reserved h.book (room_of key))) ∷ xs) 0)
       (λ before found after. Makes (job_of key) k Release before after)
   -- a leave is an event if it finds its own status served (3), else a stutter
-  pub leave : v.call ≡ Out → v.hold ≡ None
+  pub leave : v.own.call ≡ Out → v.own.hold ≡ None
       → Steps (job_of key) (room_of key) slots id (v, xs) k (λ y. either (eqb y 3) 0 y)
       (plays.left (step slots k 3 0 none) (v, xs)) (TryMakes 3 (LeaveMakes (job_of key) k))
   -- the looks, the stop and the look before a publish are stutters

@@ -13,6 +13,7 @@ use Rattle.core_model.specs.declared.setting.Setting.{Setting}
 use Rattle.core_table.specs.declared.table.CoreTable.{CoreTable}
 use Rattle.core_table.specs.declared.table.Pass.{Pass}
 use Rattle.table_rule.specs.Shows.{job_of, room_of}
+use Rattle.table_rule.specs.Passes.{unused}
 use Rattle.table_rule.specs.Views.{first_view}
 use Rattle.table_rule.specs.Carries.{Carries}
 use Rattle.table_rule.specs.Remembers.{Remembers}
@@ -30,7 +31,7 @@ job_in table = job_of (setting_in table)
 
 -- the view of worker w's pass on a new table
 abbrev pub opening_view : CoreTable → ℕ → View
-opening_view table w = record (first_view table.setting) { from = w; to = w + 1; enrolled = true }
+opening_view table w = record (first_view table.setting) { own = unused w; to = w + 1; enrolled = true }
 
 -- the view of a pass: what it knows and has done
 abbrev pub view : Pass → View
@@ -38,17 +39,17 @@ view pass = pass.seat.me.0
 
 -- the pass's call is outstanding: posted, and not left
 abbrev pub IsTrapped : Pass → Type 0
-IsTrapped pass = (view pass).call ≡ Out
+IsTrapped pass = (view pass).own.call ≡ Out
 
 abbrev pub IsNotTrapped : Pass → Type 0
-IsNotTrapped pass = (view pass).call ≢ Out
+IsNotTrapped pass = (view pass).own.call ≢ Out
 
 -- The seat is `worker`'s at this table: its view has the table's counts and plan, and agrees with its slots and fields.
 abbrev pub IsSeatOf : Setting → TableId → ℕ → Seat Slot View → List ℕ → Bool → Type 0
 IsSeatOf setting table worker seat owed published =
     (seat.table_id ≡ table) × (worker < setting.workers) × (seat.me.0.workers ≡ setting.workers)
     × (seat.me.0.nodes ≡ (job_of setting).plan.count) × (seat.me.0.enrolled ≡ true)
-    × TaskHere (job_of setting) seat.me.0.task × (seat.me.0.room ≡ room_of setting) × Carries worker seat.me
+    × TaskHere (job_of setting) seat.me.0.own.task × (seat.me.0.room ≡ room_of setting) × Carries worker seat.me
     × Remembers seat.me.0 owed published × (nodes_of seat.me.0.plan ≡ (job_of setting).plan)
 
 -- the pass belongs to this table

@@ -89,9 +89,9 @@ impl CoreTable {
             × ((id : ℕ) × (get_elem? t.views id ≡ some (view pass)))) }
         ensures run { IfOk result (λ report.
             (run : IsRunFrom (job_in self) (leaves (job_tree (planned_in self))) opening_core report)
-            × (events_by (view pass).from run.trace ≡ (view pass).events)) }
+            × (events_by (view pass).own.worker run.trace ≡ (view pass).own.events)) }
         ensures model { IfOk result (IsRunReport (planned_in self) (job_in self).workers) }
-        ensures seen { IfOk result (λ report. IsFront (view pass).book_seen report.history) }
+        ensures seen { IfOk result (λ report. IsFront (view pass).own.book_seen report.history) }
     {
         laws_hold();
         done_leaves_have_run();

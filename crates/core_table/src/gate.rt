@@ -1,7 +1,7 @@
 //! The gate side: posting a call, winning the flag, taking, publishing and answering a batch, and leaving.
 ghost use Rattle.std.specs.Prelude.{List, ◌≡◌, ◌≢◌, ℕ, ◌+◌, ◌<◌, ◌≤◌, ◌^◌, ◌∷◌, [], true, false, None, Some, IfSome, IfNone, IfOk, IfErr, length};
 ghost use Rattle.batch_history.specs.declared.batch.Entry.{Entry};
-ghost use Rattle.table_rule.specs.CoreWords.{NotCalled, Started, Post as PostOf, Win as WinOf, Take as TakeOf, Publish as PublishOf, Answer as AnswerOf, Release as ReleaseOf, Leave as LeaveOf};
+ghost use Rattle.table_rule.specs.CoreWords.{NotCalled, Started, Post as PostOf};
 ghost use Rattle.core_model.specs.Measure.{call_count};
 ghost use Rattle.core_model.specs.Operations.{place_of, IsReceipt};
 ghost use Rattle.table_rule.specs.declared.view.HoldView.{HoldView};
@@ -10,7 +10,8 @@ ghost use Rattle.table_rule.specs.Shows.{IsPostDue, record_in, among, entry_of, 
 ghost use Rattle.core_model.specs.Entries.{StandsAt};
 ghost use Rattle.core_table.specs.Passes.{IsPassOf, job_in, view, IsTrapped};
 ghost use Rattle.table_rule.specs.Batches.{IsPublishDue, IsReleaseDue};
-ghost use Rattle.table_rule.specs.Views.{with_event, posting, winning, losing, leaving, staying, releasing, with_hold, taken_view, passing, published_view, answered_view};
+ghost use Rattle.table_rule.specs.Passes.{call_by, winning, losing, leaving, staying, releasing, taking, passing, publishing, answering};
+ghost use Rattle.table_rule.specs.Views.{with_step, with_found, with_post};
 ghost use Rattle.table_rule.specs.Plays.{IsNewCall};
 
 use crate::table::{CoreTable, Pass};
@@ -26,11 +27,11 @@ impl CoreTable {
     /// Posts the call of the started leaf. The pass is trapped from then until its `leave` succeeds.
     pub fn post(&self, pass: &mut Pass, call: OpRecord)
         requires pass { IsPassOf self.now pass.old }
-        requires free { (view pass.old).call ≡ NotCalled }
-        requires due { IsPostDue (job_in self.now) (view pass.old).task call }
+        requires free { (view pass.old).own.call ≡ NotCalled }
+        requires due { IsPostDue (job_in self.now) (view pass.old).own.task call }
         ensures pass { IsPassOf self.now pass.new }
-        ensures posted { (node : ℕ) × (start : ℕ) × ((view pass.old).task ≡ Started node start)
-            × (view pass.new ≡ with_event (posting (view pass.old) call) (PostOf node start)) }
+        ensures posted { (node : ℕ) × (start : ℕ) × ((view pass.old).own.task ≡ Started node start)
+            × (view pass.new ≡ with_post call (PostOf node start) (view pass.old)) }
     {
         laws_hold();
         let shared = &self.table.shared;
@@ -46,10 +47,10 @@ impl CoreTable {
         requires trapped { IsTrapped pass.old }
         ensures pass { IsPassOf self.now pass.new }
         ensures won { IfSome result (λ shop.
-            (view pass.new ≡ with_event (winning (view pass.old) shop) WinOf)
-            × IsFront (view pass.old).book_seen shop) }
+            (view pass.new ≡ with_step (winning shop) (view pass.old))
+            × IsFront (view pass.old).own.book_seen shop) }
         ensures lost { IfNone result ((seen : ℕ) × (seen ≢ 0)
-            × (view pass.new ≡ losing (view pass.old) seen)) }
+            × (view pass.new ≡ with_found seen losing (view pass.old))) }
     {
         laws_hold();
         let shared = &self.table.shared;
@@ -71,19 +72,19 @@ impl CoreTable {
     pub fn leave(&self, pass: &mut Pass) -> Result<Receipt, u64>
         requires pass { IsPassOf self.now pass.old }
         requires trapped { IsTrapped pass.old }
-        requires idle { (view pass.old).hold ≡ None }
+        requires idle { (view pass.old).own.hold ≡ None }
         ensures pass { IsPassOf self.now pass.new }
         ensures left { IfOk result (λ receipt.
-            (call : CallRecord) × ((view pass.old).posted ≡ Some call)
+            (call : CallRecord) × ((view pass.old).own.posted ≡ Some call)
             × (book : List (List Entry)) × (view pass.new
-            ≡ with_event (leaving (view pass.old) call receipt book) (LeaveOf receipt))
-            × IsFront (view pass.old).book_seen book
+            ≡ with_step (leaving call receipt book) (view pass.old))
+            × IsFront (view pass.old).own.book_seen book
             × StandsAt book receipt.batch receipt.place
-            (entry_of (view pass.new).from (record { call = call; receipt = receipt }))
-            × ((view pass.old).before ≤ receipt.batch)
-            × ((since : ℕ) → (view pass.old).after ≡ Some since → receipt.batch ≤ since + 1)) }
+            (entry_of (view pass.new).own.worker (record { call = call; receipt = receipt }))
+            × ((view pass.old).own.before ≤ receipt.batch)
+            × ((since : ℕ) → (view pass.old).own.after ≡ Some since → receipt.batch ≤ since + 1)) }
         ensures stays { IfErr result (λ seen. (seen ≢ 3)
-            × (view pass.new ≡ staying (view pass.old) seen)) }
+            × (view pass.new ≡ with_found seen staying (view pass.old))) }
     {
         laws_hold();
         let shared = &self.table.shared;
@@ -103,16 +104,14 @@ impl CoreTable {
     pub fn take(&self, pass: &mut Pass, u: u32) -> Result<OpRecord, u64>
         requires pass { IsPassOf self.now pass.old }
         requires low { u < (job_in self.now).workers }
-        requires next { (h : HoldView) × ((view pass.old).hold ≡ Some h) × (u ≡ h.looks) }
+        requires next { (h : HoldView) × ((view pass.old).own.hold ≡ Some h) × (u ≡ h.looks) }
         ensures pass { IsPassOf self.now pass.new }
         ensures took { IfOk result (λ call.
-            (h : HoldView) × ((view pass.old).hold ≡ Some h)
+            (h : HoldView) × ((view pass.old).own.hold ≡ Some h)
             × IsNewCall (call_count (job_in self.now)) h call
-            × (view pass.new
-            ≡ with_event (with_hold (view pass.old) (taken_view h u call)) (TakeOf u))) }
+            × (view pass.new ≡ with_step (taking (call_by u call)) (view pass.old))) }
         ensures passed { IfErr result (λ seen. (seen ≢ 1)
-            × ((h : HoldView) × ((view pass.old).hold ≡ Some h)
-            × (view pass.new ≡ with_event (passing (view pass.old) h seen) (TakeOf u)))) }
+            × (view pass.new ≡ with_found seen (passing u seen) (view pass.old))) }
     {
         laws_hold();
         let shared = &self.table.shared;
@@ -132,12 +131,10 @@ impl CoreTable {
     /// Appends the batch to the book and increments the batch count. The book returns to its slot.
     pub fn publish(&self, pass: &mut Pass, batch: Batch)
         requires pass { IsPassOf self.now pass.old }
-        requires due { (h : HoldView) × ((view pass.old).hold ≡ Some h)
+        requires due { (h : HoldView) × ((view pass.old).own.hold ≡ Some h)
             × IsPublishDue (job_in self.now).workers h batch }
         ensures pass { IsPassOf self.now pass.new }
-        ensures published { (h : HoldView) × ((view pass.old).hold ≡ Some h)
-            × (view pass.new
-            ≡ with_event (with_hold (view pass.old) (published_view h batch)) PublishOf) }
+        ensures published { view pass.new ≡ with_step (publishing batch) (view pass.old) }
     {
         laws_hold();
         let shared = &self.table.shared;
@@ -157,13 +154,11 @@ impl CoreTable {
     pub fn answer(&self, pass: &mut Pass, u: u32, receipt: Receipt)
         requires pass { IsPassOf self.now pass.old }
         requires low { u < (job_in self.now).workers }
-        requires due { (h : HoldView) × (call : CallRecord) × ((view pass.old).hold ≡ Some h)
+        requires due { (h : HoldView) × (call : CallRecord) × ((view pass.old).own.hold ≡ Some h)
             × (h.published ≡ true) × (record_in h.taken u ≡ Some call) × (among h.answered u ≡ false)
             × IsReceipt (place_of h.book call.leaf) receipt }
         ensures pass { IsPassOf self.now pass.new }
-        ensures answered { (h : HoldView) × ((view pass.old).hold ≡ Some h)
-            × (view pass.new
-            ≡ with_event (with_hold (view pass.old) (answered_view h u)) (AnswerOf u receipt)) }
+        ensures answered { view pass.new ≡ with_step (answering u receipt) (view pass.old) }
     {
         laws_hold();
         let shared = &self.table.shared;
@@ -179,10 +174,10 @@ impl CoreTable {
     /// Releases the flag, after a look at every worker and an answer to every call taken.
     pub fn release(&self, pass: &mut Pass, shop: Shop)
         requires pass { IsPassOf self.now pass.old }
-        requires due { (h : HoldView) × ((view pass.old).hold ≡ Some h)
+        requires due { (h : HoldView) × ((view pass.old).own.hold ≡ Some h)
             × IsReleaseDue (job_in self.now).workers h × (shop ≡ h.book) }
         ensures pass { IsPassOf self.now pass.new }
-        ensures released { view pass.new ≡ with_event (releasing (view pass.old)) ReleaseOf }
+        ensures released { view pass.new ≡ with_step releasing (view pass.old) }
     {
         if pass.published {
             self.release_shop(pass, shop)
@@ -195,10 +190,10 @@ impl CoreTable {
     fn release_shop(&self, pass: &mut Pass, shop: Shop)
         requires pass { IsPassOf self.now pass.old }
         requires published { pass.old.published ≡ true }
-        requires due { (h : HoldView) × ((view pass.old).hold ≡ Some h)
+        requires due { (h : HoldView) × ((view pass.old).own.hold ≡ Some h)
             × IsReleaseDue (job_in self.now).workers h × (shop ≡ h.book) }
         ensures pass { IsPassOf self.now pass.new }
-        ensures released { view pass.new ≡ with_event (releasing (view pass.old)) ReleaseOf }
+        ensures released { view pass.new ≡ with_step releasing (view pass.old) }
     {
         laws_hold();
         let shared = &self.table.shared;
@@ -211,10 +206,10 @@ impl CoreTable {
     fn release_both(&self, pass: &mut Pass, shop: Shop)
         requires pass { IsPassOf self.now pass.old }
         requires unpublished { pass.old.published ≡ false }
-        requires due { (h : HoldView) × ((view pass.old).hold ≡ Some h)
+        requires due { (h : HoldView) × ((view pass.old).own.hold ≡ Some h)
             × IsReleaseDue (job_in self.now).workers h × (shop ≡ h.book) }
         ensures pass { IsPassOf self.now pass.new }
-        ensures released { view pass.new ≡ with_event (releasing (view pass.old)) ReleaseOf }
+        ensures released { view pass.new ≡ with_step releasing (view pass.old) }
     {
         laws_hold();
         let shared = &self.table.shared;

@@ -1,13 +1,14 @@
 //! The job side (claim, tick, open, keep, finish, arrive), and the calls on the root, batch count and stop word.
 ghost use Rattle.std.specs.Prelude.{◌≡◌, ◌≢◌, ℕ, ◌+◌, ◌%◌, ◌<◌, ◌≤◌, ◌∷◌, Some, IsTrue, IsFalse};
 ghost use Rattle.core_model.specs.Words.{Arrive as ArriveAt};
-ghost use Rattle.table_rule.specs.CoreWords.{Event, Idle, Run, Half, Started, Ended, Whole, Handed, Claim as ClaimOf, Keep as KeepOf, FinishLeaf, ArriveFirst, ArriveSecond};
+ghost use Rattle.table_rule.specs.CoreWords.{Event, Idle, Run, Half, Started, Ended, Whole, Handed, FinishLeaf, ArriveFirst, ArriveSecond};
 ghost use Rattle.table_rule.specs.JobEvents.{IsTickEvent, IsOpenEvent, IsFinishEvent, IsArrival};
 ghost use Rattle.core_model.specs.Operations.{leaf_of};
 ghost use Rattle.core_model.specs.Events.{value_in, task_after as next_task};
 ghost use Rattle.core_table.specs.Passes.{IsPassOf, job_in, view, IsNotTrapped};
 ghost use Rattle.table_rule.specs.DueTasks.{IsTickDue, IsOpenDue, IsFinishDue, IsFinished, IsArriveDue, opened_task};
-ghost use Rattle.table_rule.specs.Views.{with_event, with_task, claiming, refusing, ticked, opening, keeping, seeing_done, seeing_undone, hearing, stopping, finding_stop, finding_none};
+ghost use Rattle.table_rule.specs.Passes.{with_task, claiming, refusing, opening, keeping, stopping, finding_stop, finding_none};
+ghost use Rattle.table_rule.specs.Views.{with_step, with_found, with_since, ticked, seeing_done, seeing_undone};
 
 use crate::table::{CoreTable, Pass};
 use core_model::{CallState, Task};
@@ -49,13 +50,13 @@ impl CoreTable {
     pub fn claim(&self, pass: &mut Pass, node: u32) -> bool
         requires pass { IsPassOf self.now pass.old }
         requires free { IsNotTrapped pass.old }
-        requires idle { (view pass.old).task ≡ Idle }
+        requires idle { (view pass.old).own.task ≡ Idle }
         ensures pass { IsPassOf self.now pass.new }
         ensures claimed { IsTrue result → view pass.new
-            ≡ with_event (claiming (view pass.old) node) (ClaimOf node) }
+            ≡ with_step (claiming node) (view pass.old) }
         ensures refused { IsFalse result → (seen : ℕ)
             × (node < (job_in self.now).plan.count → seen ≢ 1)
-            × (view pass.new ≡ refusing (view pass.old) node seen) }
+            × (view pass.new ≡ with_found seen (refusing node) (view pass.old)) }
     {
         laws_hold();
         let shared = &self.table.shared;
@@ -75,11 +76,11 @@ impl CoreTable {
     pub fn tick(&self, pass: &mut Pass) -> u64
         requires pass { IsPassOf self.now pass.old }
         requires free { IsNotTrapped pass.old }
-        requires due { IsTickDue (job_in self.now) (view pass.old).task }
+        requires due { IsTickDue (job_in self.now) (view pass.old).own.task }
         ensures pass { IsPassOf self.now pass.new }
-        ensures drawn { (event : Event) × IsTickEvent (view pass.old).task event
+        ensures drawn { (event : Event) × IsTickEvent (view pass.old).own.task event
             × (view pass.new
-            ≡ with_event (with_task (view pass.old) (ticked (view pass.old).task result)) event) }
+            ≡ with_step (with_task event (ticked (view pass.old).own.task result)) (view pass.old)) }
     {
         laws_hold();
         let at = self.layout().tick();
@@ -92,12 +93,12 @@ impl CoreTable {
     pub fn open_node(&self, pass: &mut Pass) -> u32
         requires pass { IsPassOf self.now pass.old }
         requires free { IsNotTrapped pass.old }
-        requires due { IsOpenDue (job_in self.now) (view pass.old).task }
+        requires due { IsOpenDue (job_in self.now) (view pass.old).own.task }
         ensures pass { IsPassOf self.now pass.new }
         ensures opened { (event : Event)
-            × IsOpenEvent (job_in self.now).plan (view pass.old).task result event
-            × (view pass.new ≡ with_event (opening (view pass.old) result
-            (opened_task (job_in self.now) (view pass.old).task)) event) }
+            × IsOpenEvent (job_in self.now).plan (view pass.old).own.task result event
+            × (view pass.new ≡ with_step (opening result event
+            (opened_task (job_in self.now) (view pass.old).own.task)) (view pass.old)) }
     {
         match pass.task {
             Task::Run(node) => self.open_block(pass, node),
@@ -110,12 +111,12 @@ impl CoreTable {
     fn open_block(&self, pass: &mut Pass, node: u32) -> u32
         requires pass { IsPassOf self.now pass.old }
         requires free { IsNotTrapped pass.old }
-        requires run { (view pass.old).task ≡ Run node }
+        requires run { (view pass.old).own.task ≡ Run node }
         requires due { IsOpenDue (job_in self.now) (Run node) }
         ensures pass { IsPassOf self.now pass.new }
         ensures opened { (event : Event) × IsOpenEvent (job_in self.now).plan (Run node) result event
-            × (view pass.new ≡ with_event (opening (view pass.old) result
-            (opened_task (job_in self.now) (Run node))) event) }
+            × (view pass.new ≡ with_step (opening result event
+            (opened_task (job_in self.now) (Run node))) (view pass.old)) }
     {
         laws_hold();
         let shared = &self.table.shared;
@@ -138,10 +139,10 @@ impl CoreTable {
     fn open_left(&self, pass: &mut Pass, node: u32) -> u32
         requires pass { IsPassOf self.now pass.old }
         requires free { IsNotTrapped pass.old }
-        requires half { (view pass.old).task ≡ Half node }
+        requires half { (view pass.old).own.task ≡ Half node }
         ensures pass { IsPassOf self.now pass.new }
         ensures opened { (event : Event) × IsOpenEvent (job_in self.now).plan (Half node) result event
-            × (view pass.new ≡ with_event (opening (view pass.old) result Idle) event) }
+            × (view pass.new ≡ with_step (opening result event Idle) (view pass.old)) }
     {
         laws_hold();
         let Kind::ParNode(left, _right) = self.setting.job.kind(node) else {
@@ -156,11 +157,11 @@ impl CoreTable {
     fn open_second(&self, pass: &mut Pass, node: u32) -> u32
         requires pass { IsPassOf self.now pass.old }
         requires free { IsNotTrapped pass.old }
-        requires whole { (view pass.old).task ≡ Whole node }
+        requires whole { (view pass.old).own.task ≡ Whole node }
         requires due { IsOpenDue (job_in self.now) (Whole node) }
         ensures pass { IsPassOf self.now pass.new }
         ensures opened { (event : Event) × IsOpenEvent (job_in self.now).plan (Whole node) result event
-            × (view pass.new ≡ with_event (opening (view pass.old) result Idle) event) }
+            × (view pass.new ≡ with_step (opening result event Idle) (view pass.old)) }
     {
         laws_hold();
         let Move::OpenSecond(parent) = self.setting.job.after(node) else {
@@ -179,12 +180,12 @@ impl CoreTable {
     pub fn keep(&self, pass: &mut Pass, value: u64)
         requires pass { IsPassOf self.now pass.old }
         requires free { IsNotTrapped pass.old }
-        requires due { (n : ℕ) × (start : ℕ) × ((view pass.old).task ≡ Started n start)
+        requires due { (n : ℕ) × (start : ℕ) × ((view pass.old).own.task ≡ Started n start)
             × (value_in ((job_in self.now).act (leaf_of ((job_in self.now).plan.kind n)))
-            (view pass.old).call ≡ Some value) }
+            (view pass.old).own.call ≡ Some value) }
         ensures pass { IsPassOf self.now pass.new }
-        ensures kept { (n : ℕ) × (start : ℕ) × ((view pass.old).task ≡ Started n start)
-            × (view pass.new ≡ with_event (keeping (view pass.old) n start) (KeepOf n start value)) }
+        ensures kept { (n : ℕ) × (start : ℕ) × ((view pass.old).own.task ≡ Started n start)
+            × (view pass.new ≡ with_step (keeping n start value) (view pass.old)) }
     {
         laws_hold();
         let Task::Started { node, start } = pass.task else {
@@ -200,12 +201,12 @@ impl CoreTable {
     pub fn finish(&self, pass: &mut Pass)
         requires pass { IsPassOf self.now pass.old }
         requires free { IsNotTrapped pass.old }
-        requires due { IsFinishDue (job_in self.now) (view pass.old).task }
+        requires due { IsFinishDue (job_in self.now) (view pass.old).own.task }
         ensures pass { IsPassOf self.now pass.new }
         ensures finished { (n : ℕ) × (event : Event)
-            × IsFinished (job_in self.now) (view pass.old).task n
-            × IsFinishEvent (job_in self.now).plan (view pass.old).task n event
-            × (view pass.new ≡ with_event (with_task (view pass.old) (next_task n)) event) }
+            × IsFinished (job_in self.now) (view pass.old).own.task n
+            × IsFinishEvent (job_in self.now).plan (view pass.old).own.task n event
+            × (view pass.new ≡ with_step (with_task event (next_task n)) (view pass.old)) }
     {
         match pass.task {
             Task::Ended { node, start, end } => self.finish_leaf(pass, node, start, end),
@@ -218,10 +219,10 @@ impl CoreTable {
     fn finish_leaf(&self, pass: &mut Pass, node: u32, start: u64, end: u64)
         requires pass { IsPassOf self.now pass.old }
         requires free { IsNotTrapped pass.old }
-        requires ended { (view pass.old).task ≡ Ended node start end }
+        requires ended { (view pass.old).own.task ≡ Ended node start end }
         ensures pass { IsPassOf self.now pass.new }
         ensures finished { view pass.new
-            ≡ with_event (with_task (view pass.old) (next_task node)) (FinishLeaf node start end) }
+            ≡ with_step (with_task (FinishLeaf node start end) (next_task node)) (view pass.old) }
     {
         laws_hold();
         let at = self.layout().node(node);
@@ -234,12 +235,12 @@ impl CoreTable {
     fn finish_series(&self, pass: &mut Pass, node: u32)
         requires pass { IsPassOf self.now pass.old }
         requires free { IsNotTrapped pass.old }
-        requires whole { (view pass.old).task ≡ Whole node }
+        requires whole { (view pass.old).own.task ≡ Whole node }
         requires due { IsFinishDue (job_in self.now) (Whole node) }
         ensures pass { IsPassOf self.now pass.new }
         ensures finished { (n : ℕ) × (event : Event) × IsFinished (job_in self.now) (Whole node) n
             × IsFinishEvent (job_in self.now).plan (Whole node) n event
-            × (view pass.new ≡ with_event (with_task (view pass.old) (next_task n)) event) }
+            × (view pass.new ≡ with_step (with_task event (next_task n)) (view pass.old)) }
     {
         laws_hold();
         let Move::FinishParent(parent) = self.setting.job.after(node) else {
@@ -253,11 +254,11 @@ impl CoreTable {
     fn finish_block(&self, pass: &mut Pass, node: u32)
         requires pass { IsPassOf self.now pass.old }
         requires free { IsNotTrapped pass.old }
-        requires handed { (view pass.old).task ≡ Handed node }
+        requires handed { (view pass.old).own.task ≡ Handed node }
         ensures pass { IsPassOf self.now pass.new }
         ensures finished { (event : Event)
             × IsFinishEvent (job_in self.now).plan (Handed node) node event
-            × (view pass.new ≡ with_event (with_task (view pass.old) (next_task node)) event) }
+            × (view pass.new ≡ with_step (with_task event (next_task node)) (view pass.old)) }
     {
         laws_hold();
         let Kind::ParNode(_left, _right) = self.setting.job.kind(node) else {
@@ -272,16 +273,16 @@ impl CoreTable {
     pub fn arrive(&self, pass: &mut Pass) -> bool
         requires pass { IsPassOf self.now pass.old }
         requires free { IsNotTrapped pass.old }
-        requires due { IsArriveDue (job_in self.now) (view pass.old).task }
+        requires due { IsArriveDue (job_in self.now) (view pass.old).own.task }
         ensures pass { IsPassOf self.now pass.new }
         ensures first { IsFalse result → (n : ℕ) × (p : ℕ) × (l : ℕ) × (r : ℕ)
             × ((job_in self.now).plan.after n ≡ ArriveAt p)
-            × IsArrival (job_in self.now).plan (view pass.old).task p l r n
-            × (view pass.new ≡ with_event (with_task (view pass.old) Idle) (ArriveFirst p l r n)) }
+            × IsArrival (job_in self.now).plan (view pass.old).own.task p l r n
+            × (view pass.new ≡ with_step (with_task (ArriveFirst p l r n) Idle) (view pass.old)) }
         ensures second { IsTrue result → (n : ℕ) × (p : ℕ) × (l : ℕ) × (r : ℕ)
             × ((job_in self.now).plan.after n ≡ ArriveAt p)
-            × IsArrival (job_in self.now).plan (view pass.old).task p l r n
-            × (view pass.new ≡ with_event (with_task (view pass.old) (Handed p)) (ArriveSecond p l r n)) }
+            × IsArrival (job_in self.now).plan (view pass.old).own.task p l r n
+            × (view pass.new ≡ with_step (with_task (ArriveSecond p l r n) (Handed p)) (view pass.old)) }
     {
         laws_hold();
         let Task::Whole(node) = pass.task else {
@@ -306,7 +307,7 @@ impl CoreTable {
         ensures pass { IsPassOf self.now pass.new }
         ensures done { IsTrue result → view pass.new ≡ seeing_done (view pass.old) }
         ensures undone { IsFalse result → (seen : ℕ) × (seen % 4 ≢ 3)
-            × (view pass.new ≡ seeing_undone (view pass.old) seen) }
+            × (view pass.new ≡ seeing_undone seen (view pass.old)) }
     {
         laws_hold();
         let at = self.layout().node(0);
@@ -317,7 +318,7 @@ impl CoreTable {
     pub fn since(&self, pass: &mut Pass) -> u64
         requires pass { IsPassOf self.now pass.old }
         ensures pass { IsPassOf self.now pass.new }
-        ensures told { view pass.new ≡ hearing (view pass.old) result }
+        ensures told { view pass.new ≡ with_since result (view pass.old) }
     {
         laws_hold();
         let at = self.layout().batch_count();
@@ -328,7 +329,7 @@ impl CoreTable {
     pub fn stop(&self, pass: &mut Pass)
         requires pass { IsPassOf self.now pass.old }
         ensures pass { IsPassOf self.now pass.new }
-        ensures stopped { view pass.new ≡ stopping (view pass.old) }
+        ensures stopped { view pass.new ≡ with_step stopping (view pass.old) }
     {
         laws_hold();
         let at = self.layout().stop();
@@ -339,9 +340,9 @@ impl CoreTable {
     pub fn stopped(&self, pass: &mut Pass) -> bool
         requires pass { IsPassOf self.now pass.old }
         ensures pass { IsPassOf self.now pass.new }
-        ensures set { IsTrue result → view pass.new ≡ finding_stop (view pass.old) }
+        ensures set { IsTrue result → view pass.new ≡ with_step finding_stop (view pass.old) }
         ensures unset { IsFalse result → (seen : ℕ) × (seen ≢ 1)
-            × (view pass.new ≡ finding_none (view pass.old) seen) }
+            × (view pass.new ≡ with_found seen finding_none (view pass.old)) }
     {
         laws_hold();
         let at = self.layout().stop();

@@ -41,8 +41,8 @@ pub struct Pass {
     pub(crate) owed: Vec<u32>,
     /// Whether the present hold of the flag has published its batch.
     pub(crate) published: bool,
-    ghost number: { (seat.me.0.from ≡ worker) × (seat.me.0.to ≡ worker + 1) },
-    ghost own: { (seat.me.0.task ≡ task) × (seat.me.0.call ≡ call) },
+    ghost number: { (seat.me.0.own.worker ≡ worker) × (seat.me.0.to ≡ worker + 1) },
+    ghost own: { (seat.me.0.own.task ≡ task) × (seat.me.0.own.call ≡ call) },
     ghost room: { (32 ≤ vec_capacity owed) × (vec_len owed ≡ length owed.items) },
 }
 
@@ -84,21 +84,21 @@ impl Pass {
 
     /// The worker's number. Memory: none.
     pub fn worker(&self) -> u32
-        ensures { result ≡ (view self.now).from }
+        ensures { result ≡ (view self.now).own.worker }
     {
         self.worker
     }
 
     /// The worker's present task. Memory: none.
     pub fn task(&self) -> Task
-        ensures { result ≡ (view self.now).task }
+        ensures { result ≡ (view self.now).own.task }
     {
         self.task
     }
 
     /// The state of the worker's call: not called, outstanding, or answered. Memory: none.
     pub fn call(&self) -> CallState
-        ensures { result ≡ (view self.now).call }
+        ensures { result ≡ (view self.now).own.call }
     {
         self.call
     }

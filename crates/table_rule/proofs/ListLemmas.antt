@@ -1,3 +1,4 @@
+pub mod Last
 pub mod Lists
 pub mod CallCounts
 pub mod Standing

@@ -18,6 +18,6 @@ HolderCarries true v h xs = xs ≡ vacant h.owed ++ (v.workers, Slots.Vacant) �
 
 pub record Carries (w : ℕ) (me : Sat) : Type 0 where
   -- a pass without an outstanding call has no hold and carries its own record slot; a trapped one without a hold, none
-  pub free : me.0.call ≢ Out → (me.0.hold ≡ None) × (me.1 ≡ (w, Slots.Vacant) ∷ [])
-  pub trapped : me.0.call ≡ Out → me.0.hold ≡ None → me.1 ≡ []
-  pub holds : (h : HoldView) → me.0.hold ≡ Some h → HolderCarries h.published me.0 h me.1
+  pub free : me.0.own.call ≢ Out → (me.0.own.hold ≡ None) × (me.1 ≡ (w, Slots.Vacant) ∷ [])
+  pub trapped : me.0.own.call ≡ Out → me.0.own.hold ≡ None → me.1 ≡ []
+  pub holds : (h : HoldView) → me.0.own.hold ≡ Some h → HolderCarries h.published me.0 h me.1

@@ -1,5 +1,6 @@
 pub mod CoreWords
 pub mod Words
+pub mod Passes
 pub mod Shows
 pub mod OneState
 pub mod Views

@@ -4,7 +4,7 @@ use Rattle.atomic_table.specs.Table.{Me, Step, rest}
 use Rattle.batch_history.specs.Book.{flat, IsHistory}
 use Rattle.sp_order.specs.Preorder.{nodes_of}
 use Rattle.core_model.specs.Words.{Entry, ParNode}
-use Rattle.table_rule.specs.CoreWords.{Event, Receipt, Idle, Run, Half, Started, Handed, Claim, OpenParRight, Post, Win, Take, Publish, Answer, Release, Leave, Keep, ArriveFirst, ArriveSecond}
+use Rattle.table_rule.specs.CoreWords.{Event, Receipt, Idle, Run, Half, Started, Handed, OpenParRight, Post, ArriveFirst, ArriveSecond}
 use Rattle.core_model.specs.Events.{task_after}
 use Rattle.core_model.specs.Operations.{place_of}
 use Rattle.table_rule.specs.declared.slot.OpRecord.{OpRecord}
@@ -17,7 +17,8 @@ use Rattle.table_rule.specs.Batches.{IsPublishDue}
 use Rattle.core_model.specs.Entries.{StandsAt}
 use Rattle.table_rule.specs.Shows.{record_in, entry_of, reserved, IsFront}
 use Rattle.table_rule.specs.JobEvents.{IsTickEvent, IsOpenEvent, IsFinishEvent, IsArrival}
-use Rattle.table_rule.specs.Views.{with_event, with_task, claiming, refusing, ticked, opening, keeping, seeing_done, seeing_undone, hearing, enrolling, posting, winning, losing, taken_view, passing, published_view, answered_view, with_hold, releasing, leaving, staying, stopping, finding_stop, finding_none}
+use Rattle.table_rule.specs.Passes.{call_by, claiming, refusing, with_task, opening, keeping, stopping, finding_stop, finding_none, winning, losing, taking, passing, publishing, answering, releasing, leaving, staying}
+use Rattle.table_rule.specs.Views.{with_step, with_found, with_post, with_since, ticked, seeing_done, seeing_undone, enrolling}
 
 -- a seat: its view and the slots that it carries
 abbrev pub Sat : Type 0
@@ -29,74 +30,74 @@ Play = Step Slot → Sat → ℕ → Sat → Type 0
 -- the claim succeeds exactly if the node's word was 1 (ready)
 abbrev pub claimed : Play
 claimed st m r n =
-    (node : ℕ) × (st.word ≡ node_at m.0.workers node) × (r ≡ 1 → n ≡ (with_event (claiming m.0 node) (Claim node), m.1)) × (r ≢ 1 → n ≡ (refusing m.0 node r, m.1))
+    (node : ℕ) × (st.word ≡ node_at m.0.workers node) × (r ≡ 1 → n ≡ (with_step (claiming node) m.0, m.1)) × (r ≢ 1 → n ≡ (with_found r (refusing node) m.0, m.1))
 
 -- a claim past the last node is refused; the step's first argument names the number, plus 4
 abbrev pub strayed : Play
-strayed st m r n = (node : ℕ) × (st.first ≡ 4 + node) × (n ≡ (refusing m.0 node r, m.1)) × (m.0.nodes ≤ node)
+strayed st m r n = (node : ℕ) × (st.first ≡ 4 + node) × (n ≡ (with_found r (refusing node) m.0, m.1)) × (m.0.nodes ≤ node)
 
 abbrev pub drawn : Play
-drawn st m r n = (r < 80000) × (event : Event) × IsTickEvent m.0.task event × (n ≡ (with_event (with_task m.0 (ticked m.0.task r)) event, m.1))
+drawn st m r n = (r < 80000) × (event : Event) × IsTickEvent m.0.own.task event × (n ≡ (with_step (with_task event (ticked m.0.own.task r)) m.0, m.1))
 
 -- `half_opened` opens the right side of a parallel block, and `opened` any other side
 abbrev pub half_opened : Play
 half_opened st m r n =
-    (node : ℕ) × (p : ℕ) × (l : ℕ) × (st.word ≡ node_at m.0.workers node) × (m.0.task ≡ Run p) × ((nodes_of m.0.plan).kind p ≡ Some (ParNode l node))
-    × (n ≡ (with_event (opening m.0 node (Half p)) (OpenParRight p l node), m.1))
+    (node : ℕ) × (p : ℕ) × (l : ℕ) × (st.word ≡ node_at m.0.workers node) × (m.0.own.task ≡ Run p) × ((nodes_of m.0.plan).kind p ≡ Some (ParNode l node))
+    × (n ≡ (with_step (opening node (OpenParRight p l node) (Half p)) m.0, m.1))
 
 abbrev pub opened : Play
 opened st m r n =
-    (node : ℕ) × (event : Event) × (st.word ≡ node_at m.0.workers node) × IsOpenEvent (nodes_of m.0.plan) m.0.task node event
-    × (n ≡ (with_event (opening m.0 node Idle) event, m.1))
+    (node : ℕ) × (event : Event) × (st.word ≡ node_at m.0.workers node) × IsOpenEvent (nodes_of m.0.plan) m.0.own.task node event
+    × (n ≡ (with_step (opening node event Idle) m.0, m.1))
 
 abbrev pub kept : Play
 kept st m r n =
-    (node : ℕ) × (start : ℕ) × (m.0.task ≡ Started node start) × (n ≡ (with_event (keeping m.0 node start) (Keep node start st.first), m.1))
+    (node : ℕ) × (start : ℕ) × (m.0.own.task ≡ Started node start) × (n ≡ (with_step (keeping node start st.first) m.0, m.1))
 
 abbrev pub finished : Play
 finished st m r n =
-    (node : ℕ) × (event : Event) × (st.word ≡ node_at m.0.workers node) × IsFinishEvent (nodes_of m.0.plan) m.0.task node event
-    × (n ≡ (with_event (with_task m.0 (task_after node)) event, m.1))
+    (node : ℕ) × (event : Event) × (st.word ≡ node_at m.0.workers node) × IsFinishEvent (nodes_of m.0.plan) m.0.own.task node event
+    × (n ≡ (with_step (with_task event (task_after node)) m.0, m.1))
 
 -- the first arrival found the mark at 0, the second did not
 abbrev pub arrived : Play
 arrived st m r n =
     (node : ℕ) × (left : ℕ) × (right : ℕ) × (side : ℕ) × (st.word ≡ mark_at m.0.workers m.0.nodes node)
-    × IsArrival (nodes_of m.0.plan) m.0.task node left right side
-    × (r ≡ 0 → n ≡ (with_event (with_task m.0 Idle) (ArriveFirst node left right side), m.1))
-    × (r ≢ 0 → n ≡ (with_event (with_task m.0 (Handed node)) (ArriveSecond node left right side), m.1))
+    × IsArrival (nodes_of m.0.plan) m.0.own.task node left right side
+    × (r ≡ 0 → n ≡ (with_step (with_task (ArriveFirst node left right side) Idle) m.0, m.1))
+    × (r ≢ 0 → n ≡ (with_step (with_task (ArriveSecond node left right side) (Handed node)) m.0, m.1))
 
 abbrev pub looked_at_root : Play
 looked_at_root st m r n =
-    (r % 4 ≡ 3 → n ≡ (seeing_done m.0, m.1)) × (r % 4 ≢ 3 → n ≡ (seeing_undone m.0 r, m.1)) × (st.word ≡ node_at m.0.workers 0)
+    (r % 4 ≡ 3 → n ≡ (seeing_done m.0, m.1)) × (r % 4 ≢ 3 → n ≡ (seeing_undone r m.0, m.1)) × (st.word ≡ node_at m.0.workers 0)
 
 abbrev pub heard : Play
-heard st m r n = (n ≡ (hearing m.0 r, m.1)) × (st.word ≡ count_at m.0.workers)
+heard st m r n = (n ≡ (with_since r m.0, m.1)) × (st.word ≡ count_at m.0.workers)
 
 -- the stop word is set to 1
 abbrev pub stopped_all : Play
-stopped_all st m r n = (n ≡ (stopping m.0, m.1)) × (st.word ≡ stop_at m.0.workers) × (st.first ≡ 1)
+stopped_all st m r n = (n ≡ (with_step stopping m.0, m.1)) × (st.word ≡ stop_at m.0.workers) × (st.first ≡ 1)
 
 abbrev pub looked_at_stop : Play
 looked_at_stop st m r n =
-    (r ≡ 1 → n ≡ (finding_stop m.0, m.1)) × (r ≢ 1 → n ≡ (finding_none m.0 r, m.1)) × (st.word ≡ stop_at m.0.workers)
+    (r ≡ 1 → n ≡ (with_step finding_stop m.0, m.1)) × (r ≢ 1 → n ≡ (with_found r finding_none m.0, m.1)) × (st.word ≡ stop_at m.0.workers)
 
 -- the pass takes its own record slot
 abbrev pub enrolled : Play
-enrolled st m r n = n ≡ (enrolling m.0, (m.0.from, Slots.Vacant) ∷ m.1)
+enrolled st m r n = n ≡ (enrolling m.0, (m.0.own.worker, Slots.Vacant) ∷ m.1)
 
 abbrev pub posted : Play
 posted st m r n =
     (call : OpRecord) → m.1 ≡ (st.word, Slots.Record call) ∷ rest m.1
-    → (node : ℕ) × (start : ℕ) × (m.0.task ≡ Started node start) × (n ≡ (with_event (posting m.0 call) (Post node start), rest m.1))
+    → (node : ℕ) × (start : ℕ) × (m.0.own.task ≡ Started node start) × (n ≡ (with_post call (Post node start) m.0, rest m.1))
 
 -- The winner gets the shop and the book. Both have the same batches, and what the pass has seen is a prefix of them.
 abbrev pub won : Play
 won st m r n =
-    (r ≡ 0 → (m.0.hold ≡ None) × (book : List (List Entry))
-    × (n ≡ (with_event (winning m.0 book) Win, (st.word, Slots.Shop book) ∷ (st.word + 1, Slots.Book (reserved book m.0.room)) ∷ m.1))
-    × IsFront m.0.book_seen book)
-    × (r ≢ 0 → n ≡ (losing m.0 r, m.1)) × (st.word ≡ flag_at m.0.workers)
+    (r ≡ 0 → (m.0.own.hold ≡ None) × (book : List (List Entry))
+    × (n ≡ (with_step (winning book) m.0, (st.word, Slots.Shop book) ∷ (st.word + 1, Slots.Book (reserved book m.0.room)) ∷ m.1))
+    × IsFront m.0.own.book_seen book)
+    × (r ≢ 0 → n ≡ (with_found r losing m.0, m.1)) × (st.word ≡ flag_at m.0.workers)
 
 -- The call's leaf is neither in the book nor that of a call taken before. The book's entries, the calls taken before
 -- and this one are together at most `room`.
@@ -107,44 +108,44 @@ pub record IsNewCall (room : ℕ) (h : HoldView) (call : OpRecord) : Type 0 wher
 
 abbrev pub took : Play
 took st m r n =
-    (h : HoldView) × (m.0.hold ≡ Some h) × (h.published ≡ false)
-    × (r ≡ 1 → (call : OpRecord) × IsNewCall m.0.room h call × (n ≡ (with_event (with_hold m.0 (taken_view h st.word call)) (Take st.word), (st.word, Slots.Record call) ∷ m.1)))
-    × (r ≢ 1 → n ≡ (with_event (passing m.0 h r) (Take st.word), m.1))
+    (h : HoldView) × (m.0.own.hold ≡ Some h) × (h.published ≡ false)
+    × (r ≡ 1 → (call : OpRecord) × IsNewCall m.0.room h call × (n ≡ (with_step (taking (call_by st.word call)) m.0, (st.word, Slots.Record call) ∷ m.1)))
+    × (r ≢ 1 → n ≡ (with_found r (passing st.word r) m.0, m.1))
     × (st.word ≡ h.looks)
 
 -- the view stays; the book has room for any batch that is due, and stays a history with it
 abbrev pub admitted : Play
 admitted st m r n =
     (n ≡ m)
-    × ((h : HoldView) (batch : List Entry) → m.0.hold ≡ Some h → IsPublishDue m.0.workers h batch
+    × ((h : HoldView) (batch : List Entry) → m.0.own.hold ≡ Some h → IsPublishDue m.0.workers h batch
     → IsHistory (h.book ++ batch ∷ []) × (length h.book < m.0.room))
 
 -- the book returns to the table with one more batch
 abbrev pub published : Play
 published st m r n =
-    (h : HoldView) (batch : List Entry) → m.0.hold ≡ Some h
+    (h : HoldView) (batch : List Entry) → m.0.own.hold ≡ Some h
     → m.1 ≡ (st.word, Slots.Book (reserved (h.book ++ batch ∷ []) m.0.room)) ∷ rest m.1
-    → n ≡ (with_event (with_hold m.0 (published_view h batch)) Publish, rest m.1)
+    → n ≡ (with_step (publishing batch) m.0, rest m.1)
 
 abbrev pub answered : Play
 answered st m r n =
-    (h : HoldView) × (m.0.hold ≡ Some h)
+    (h : HoldView) × (m.0.own.hold ≡ Some h)
     × ((receipt : Receipt) → m.1 ≡ (st.word, Slots.Receipt receipt) ∷ rest m.1
-    → n ≡ (with_event (with_hold m.0 (answered_view h st.word)) (Answer st.word receipt), rest m.1))
+    → n ≡ (with_step (answering st.word receipt) m.0, rest m.1))
 
 -- `released_shop` returns the shop to the table, and `released_both` the shop and the book
 abbrev pub released_shop : Play
-released_shop st m r n = n ≡ (with_event (releasing m.0) Release, rest m.1)
+released_shop st m r n = n ≡ (with_step releasing m.0, rest m.1)
 
 abbrev pub released_both : Play
-released_both st m r n = n ≡ (with_event (releasing m.0) Release, rest (rest m.1))
+released_both st m r n = n ≡ (with_step releasing m.0, rest (rest m.1))
 
 -- The receipt is of the call posted last; its batch is from `before` to `after` + 1 (if any); the book has its entry.
 abbrev pub left : Play
 left st m r n =
-    (r ≡ 3 → (call : OpRecord) × (receipt : Receipt) × (m.0.posted ≡ Some call) × (m.0.before ≤ receipt.batch)
-    × ((since : ℕ) → m.0.after ≡ Some since → receipt.batch ≤ since + 1)
-    × ((book : List (List Entry)) × IsFront m.0.book_seen book
-    × StandsAt book receipt.batch receipt.place (entry_of m.0.from (record { call = call; receipt = receipt }))
-    × (n ≡ (with_event (leaving m.0 call receipt book) (Leave receipt), (st.word, Slots.Receipt receipt) ∷ m.1))))
-    × (r ≢ 3 → n ≡ (staying m.0 r, m.1)) × (st.word ≡ m.0.from)
+    (r ≡ 3 → (call : OpRecord) × (receipt : Receipt) × (m.0.own.posted ≡ Some call) × (m.0.own.before ≤ receipt.batch)
+    × ((since : ℕ) → m.0.own.after ≡ Some since → receipt.batch ≤ since + 1)
+    × ((book : List (List Entry)) × IsFront m.0.own.book_seen book
+    × StandsAt book receipt.batch receipt.place (entry_of m.0.own.worker (record { call = call; receipt = receipt }))
+    × (n ≡ (with_step (leaving call receipt book) m.0, (st.word, Slots.Receipt receipt) ∷ m.1))))
+    × (r ≢ 3 → n ≡ (with_found r staying m.0, m.1)) × (st.word ≡ m.0.own.worker)

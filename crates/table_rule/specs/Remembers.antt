@@ -16,5 +16,5 @@ pub record Owes (h : HoldView) : Type 0 where
   pub early : h.published ≡ false → h.answered ≡ []
 
 pub record Remembers (v : View) (owed : List ℕ) (published : Bool) : Type 0 where
-  pub none : v.hold ≡ None → owed ≡ []
-  pub holds : (h : HoldView) → v.hold ≡ Some h → (owed ≡ h.owed) × (published ≡ h.published) × Owes h
+  pub none : v.own.hold ≡ None → owed ≡ []
+  pub holds : (h : HoldView) → v.own.hold ≡ Some h → (owed ≡ h.owed) × (published ≡ h.published) × Owes h

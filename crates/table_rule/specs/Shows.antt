@@ -17,14 +17,15 @@ use Rattle.core_model.specs.Measure.{call_count}
 use Rattle.core_model.specs.Tasks.{is_done}
 use Rattle.core_model.specs.Invariant.{Parts}
 use Rattle.core_model.specs.Waits.{WaitsSince, task_place}
+use Rattle.seq_objects.specs.declared.call.Call.{Call}
 use Rattle.table_rule.specs.declared.slot.OpRecord.{OpRecord}
 use Rattle.table_rule.specs.declared.slot.Slot.{Slot}
 use Rattle.table_rule.specs.declared.slot.Slot.TheVariants as Slots
-use Rattle.table_rule.specs.declared.view.TakenCall.{TakenCall}
 use Rattle.table_rule.specs.declared.view.HoldView.{HoldView}
 use Rattle.table_rule.specs.declared.view.LeftCall.{LeftCall}
 use Rattle.table_rule.specs.declared.view.View.{View}
 use Rattle.core_model.specs.declared.setting.Setting.{Setting}
+use Rattle.table_rule.specs.Passes.{record_of}
 use Rattle.table_rule.specs.Words.{stop_at, slot_count, WordsShow}
 pub use Rattle.core_model.specs.Settings.{job_of}
 
@@ -90,13 +91,13 @@ pub record SlotsShow (job : CoreJob) (room : ℕ) (homes : List (Option Slot)) (
   pub batches : BookAt room hold book (get_elem? homes (job.workers + 1))
 
 -- whether a worker's call was taken, and which call it is
-abbrev pub took_in : List TakenCall → ℕ → Bool
+abbrev pub took_in : List Call → ℕ → Bool
 took_in [] u = false
 took_in (t ∷ taken) u = if u == t.worker then true else took_in taken u
 
-abbrev pub record_in : List TakenCall → ℕ → Maybe OpRecord
+abbrev pub record_in : List Call → ℕ → Maybe OpRecord
 record_in [] u = None
-record_in (t ∷ taken) u = if u == t.worker then Some t.call else record_in taken u
+record_in (t ∷ taken) u = if u == t.worker then Some (record_of t) else record_in taken u
 
 abbrev pub among : List ℕ → ℕ → Bool
 among [] u = false
@@ -132,11 +133,11 @@ present (Got receipt) place = []
 -- What the view of worker w says of the number of batches. `greatest` is at most the book's length, and bounds `before`
 -- and `after`. The batch of an outstanding call is not below `before`; its wait is counted from `after`.
 pub record SinceKnown (job : CoreJob) (s : State) (v : View) (w : ℕ) : Type 0 where
-  pub most : v.greatest ≤ length s.book
-  pub early : v.before ≤ v.greatest
-  pub late : (since : ℕ) → v.after ≡ Some since → since ≤ v.greatest
-  pub placed : (place : Place) → s.call w ≡ Out → task_place job s.book (s.task w) ≡ Some place → v.before ≤ place.batch
-  pub waits : (since : ℕ) → v.after ≡ Some since → s.call w ≡ Out → WaitsSince job s w since
+  pub most : v.own.greatest ≤ length s.book
+  pub early : v.own.before ≤ v.own.greatest
+  pub late : (since : ℕ) → v.own.after ≡ Some since → since ≤ v.own.greatest
+  pub placed : (place : Place) → s.call w ≡ Out → task_place job s.book (s.task w) ≡ Some place → v.own.before ≤ place.batch
+  pub waits : (since : ℕ) → v.own.after ≡ Some since → s.call w ≡ Out → WaitsSince job s w since
 
 -- xs is a prefix of ys
 abbrev pub IsFront : {A : Type 0} → List A → List A → Type 0
@@ -147,46 +148,46 @@ IsFront {A} xs ys = (more : List A) × (ys ≡ xs ++ more)
 pub record Mine (job : CoreJob) (s : State) (home : Home) (seat id : ℕ) (v : View) (w : ℕ) : Type 0 where
   pub sits : seat ≡ id
   -- the state's task and call of the worker are those of the view
-  pub task : s.task w ≡ v.task
-  pub call : s.call w ≡ v.call
+  pub task : s.task w ≡ v.own.task
+  pub call : s.call w ≡ v.own.call
   -- an outstanding call is the one that the pass posted last
-  pub posted : s.call w ≡ Out → (call : OpRecord) × (v.posted ≡ Some call) × IsRecordOf job s.book (s.task w) call
-  pub hold : HoldKnown job s v.hold w
+  pub posted : s.call w ≡ Out → (call : OpRecord) × (v.own.posted ≡ Some call) × IsRecordOf job s.book (s.task w) call
+  pub hold : HoldKnown job s v.own.hold w
   -- the worker's entries in the book: those of the calls that the pass has left, in order, then that of its
   -- outstanding call, if the book has it
-  pub entries : entries_of w (flat s.book) ≡ map (entry_of w) v.left ++ present (s.call w) (task_place job s.book (s.task w))
+  pub entries : entries_of w (flat s.book) ≡ map (entry_of w) v.own.left ++ present (s.call w) (task_place job s.book (s.task w))
   -- A worker whose pass has not enrolled is idle and has neither call nor left calls. Its record slot is vacant, in
   -- the table.
-  pub new : v.enrolled ≡ false → (home ≡ some (some Slots.Vacant)) × (v.task ≡ Idle) × (v.call ≡ NotCalled) × (v.left ≡ [])
+  pub new : v.enrolled ≡ false → (home ≡ some (some Slots.Vacant)) × (v.own.task ≡ Idle) × (v.own.call ≡ NotCalled) × (v.own.left ≡ [])
   pub done : v.saw_done ≡ true → is_done (s.node 0) ≡ true
   pub since : SinceKnown job s v w
   -- the book that the pass has seen is a prefix of the book
-  pub seen : IsFront v.book_seen s.book
+  pub seen : IsFront v.own.book_seen s.book
 
 -- worker w is in the range of this seat's view
 abbrev pub HasSeat : List View → ℕ → ℕ → Type 0
-HasSeat views seat w = (v : View) × (get_elem? views seat ≡ some v) × (v.from ≤ w) × (w < v.to)
+HasSeat views seat w = (v : View) × (get_elem? views seat ≡ some v) × (v.own.worker ≤ w) × (w < v.to)
 
--- the events of worker w in a trace, the latest first; a trace lists its earliest step first
+-- the events of worker w in a trace, the oldest first
 abbrev pub event_if : ℕ → Step → List Event
 event_if w step = if step.worker == w then step.event ∷ [] else []
 
 abbrev pub events_by : ℕ → List Step → List Event
 events_by w [] = []
-events_by w (step ∷ steps) = events_by w steps ++ event_if w step
+events_by w (step ∷ steps) = event_if w step ++ events_by w steps
 
 -- The views agree with a trace: for each worker in a view's range, the view's events are the worker's events in the
 -- trace. The first seat has several workers until their passes are split off, and no events.
 abbrev pub EventsAgree : List View → List Step → Type 0
 EventsAgree views steps =
-    (id : ℕ) (v : View) (w : ℕ) → get_elem? views id ≡ some v → v.from ≤ w → w < v.to → events_by w steps ≡ v.events
+    (id : ℕ) (v : View) (w : ℕ) → get_elem? views id ≡ some v → v.own.worker ≤ w → w < v.to → events_by w steps ≡ v.own.events
 
 -- The stop word is 0 or 1. It is 1 exactly if some pass has set it, and it is 1 if any look has ever found it set.
 pub record StopShows (word : ℕ) (views : List View) : Type 0 where
   pub known : (word ≡ 0) ⊎ (word ≡ 1)
-  pub set : (id : ℕ) (v : View) → get_elem? views id ≡ some v → 0 < v.stops → word ≡ 1
-  pub by : word ≡ 1 → (id : ℕ) × (v : View) × (get_elem? views id ≡ some v) × (0 < v.stops)
-  pub found : (id : ℕ) (v : View) → get_elem? views id ≡ some v → 0 < v.stops_found → word ≡ 1
+  pub set : (id : ℕ) (v : View) → get_elem? views id ≡ some v → 0 < v.own.stops → word ≡ 1
+  pub by : word ≡ 1 → (id : ℕ) × (v : View) × (get_elem? views id ≡ some v) × (0 < v.own.stops)
+  pub found : (id : ℕ) (v : View) → get_elem? views id ≡ some v → 0 < v.own.stops_found → word ≡ 1
 
 -- The table shows a state that has the eight parts of the invariant. Each worker is in the range of exactly one seat;
 -- the first seat has all workers not yet split off. A trace leads from the opening state to the state, and each
@@ -198,7 +199,7 @@ pub record Shows (job : CoreJob) (room : ℕ) (t : St) : Type 0 where
   pub parts : Parts job state
   pub words : WordsShow job.workers job.plan.count t.words state.node state.mark state.value state.status state.hold state.tick (length state.book)
   pub slots : SlotsShow job room t.homes state.task state.status state.hold state.book
-  pub views : (id : ℕ) (v : View) (w : ℕ) → get_elem? t.views id ≡ some v → v.from ≤ w → w < v.to
+  pub views : (id : ℕ) (v : View) (w : ℕ) → get_elem? t.views id ≡ some v → v.own.worker ≤ w → w < v.to
       → (w < job.workers) × Mine job state (get_elem? t.homes w) (seat w) id v w
   pub seats : (w : ℕ) → w < job.workers → HasSeat t.views (seat w) w
   pub trace : List Step

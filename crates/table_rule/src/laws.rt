@@ -71,7 +71,7 @@ pub fn entries_stay_where_they_stand()
 pub fn tables_without_events_show_the_opening_state()
     ensures { (key : Setting) (t : TableState) (shown : Shown key t)
         → ((w : ℕ) → w < key.workers → (id : ℕ) × (v : View) × (get_elem? t.views id ≡ some v)
-        × (v.from ≤ w) × (w < v.to) × (v.events ≡ []))
+        × (v.own.worker ≤ w) × (w < v.to) × (v.own.events ≡ []))
         → shown.state ≡ opening_state }
 {}
 
@@ -79,13 +79,13 @@ pub fn tables_without_events_show_the_opening_state()
 pub fn the_stop_word_is_set_by_a_pass()
     ensures found { (key : Setting) (t : TableState) (shown : Shown key t) (id : ℕ) (v : View)
         → get_elem? t.views id ≡ some v
-        → 0 < v.stops_found
-        → (by : ℕ) × (u : View) × (get_elem? t.views by ≡ some u) × (0 < u.stops) }
+        → 0 < v.own.stops_found
+        → (by : ℕ) × (u : View) × (get_elem? t.views by ≡ some u) × (0 < u.own.stops) }
     ensures stays { (key : Setting) (t : TableState) (shown : Shown key t) (id : ℕ) (v : View)
         → get_elem? t.views id ≡ some v
-        → 0 < v.stops
+        → 0 < v.own.stops
         → slice_index t.words (stop_at key.workers) ≡ 1 }
     ensures unset { (key : Setting) (t : TableState) (shown : Shown key t)
-        → ((id : ℕ) (v : View) → get_elem? t.views id ≡ some v → v.stops ≡ 0)
+        → ((id : ℕ) (v : View) → get_elem? t.views id ≡ some v → v.own.stops ≡ 0)
         → slice_index t.words (stop_at key.workers) ≡ 0 }
 {}

@@ -29,12 +29,12 @@ pub record Last (job : CoreJob) (room : ℕ) (v : View) (ws : List ℕ) (xs : Li
   pub over : is_done (state.node 0) ≡ true
   pub words : WordsShow job.workers job.plan.count ws state.node state.mark state.value state.status state.hold state.tick (length state.book)
   pub there : get_elem? xs (job.workers + 1) ≡ some (Slots.Book (reserved state.book room))
-  pub seen : IsFront v.book_seen state.book
+  pub seen : IsFront v.own.book_seen state.book
   pub seat : ℕ
   pub at : get_elem? table.views seat ≡ some v
-  pub own : events_by v.from shown.trace ≡ v.events
+  pub own : events_by v.own.worker shown.trace ≡ v.own.events
 
-pub closes : (job : CoreJob) (room id k : ℕ) (laws : Laws job) (v : View) (ws : List ℕ) (xs : List Slot) → Final (Seen (Shows job room) id v) ws xs → v.from ≡ k → v.to ≡ k + 1 → v.saw_done ≡ true → Last job room v ws xs
+pub closes : (job : CoreJob) (room id k : ℕ) (laws : Laws job) (v : View) (ws : List ℕ) (xs : List Slot) → Final (Seen (Shows job room) id v) ws xs → v.own.worker ≡ k → v.to ≡ k + 1 → v.saw_done ≡ true → Last job room v ws xs
 closes job room id k laws v ws xs f from to saw =
     let t = f.0 in
     let o = f.1.0 in
@@ -55,5 +55,5 @@ closes job room id k laws v ws xs f from to saw =
       seen = mine.seen;
       seat = id;
       at = f.1.1;
-      own = o.events id v v.from f.1.1 (omega arith) (omega arith);
+      own = o.events id v v.own.worker f.1.1 (omega arith) (omega arith);
     }

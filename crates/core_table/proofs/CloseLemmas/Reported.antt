@@ -33,9 +33,9 @@ pub record Reported (key : Setting) (v : View) (report : Report) : Type 0 where
   pub seat : ℕ
   pub at : get_elem? table.views seat ≡ some v
   pub run : IsRunFrom (job_of key) (leaves (job_tree key.job)) opening_core report
-  pub own : events_by v.from run.trace ≡ v.events
+  pub own : events_by v.own.worker run.trace ≡ v.own.events
   pub parts : Parts (job_of key) run.last.state
-  pub seen : IsFront v.book_seen report.history
+  pub seen : IsFront v.own.book_seen report.history
 
 pub reported_last : (key : Setting) (v : View) (ws : List ℕ) (xs : List Slot) (laws : Laws (job_of key)) → Last (job_of key) (room_of key) v ws xs
     → key.workers ≤ 32 → (got : Slot) (book : ReservedView) (history : List (List Entry)) (rows : List Row)
@@ -79,10 +79,10 @@ reported_last key v ws xs laws last few got book history rows there is told_hist
       };
       own = last.own;
       parts = parts;
-      seen = subst (IsFront v.book_seen) (sym (told_history ∙ ap (λ (b : ReservedView). b.batches) (sym own))) last.seen;
+      seen = subst (IsFront v.own.book_seen) (sym (told_history ∙ ap (λ (b : ReservedView). b.batches) (sym own))) last.seen;
     }
 
-pub reported : (key : Setting) (id k : ℕ) (v : View) (ws : List ℕ) (xs : List Slot) (laws : Laws (job_of key)) → Final (Seen (Shown key) id v) ws xs → v.from ≡ k → v.to ≡ k + 1 → v.saw_done ≡ true
+pub reported : (key : Setting) (id k : ℕ) (v : View) (ws : List ℕ) (xs : List Slot) (laws : Laws (job_of key)) → Final (Seen (Shown key) id v) ws xs → v.own.worker ≡ k → v.to ≡ k + 1 → v.saw_done ≡ true
     → key.workers ≤ 32 → (got : Slot) (book : ReservedView) (history : List (List Entry)) (rows : List Row)
     → get_elem? xs (key.workers + 1) ≡ some got → got ≡ Slots.Book book → history ≡ book.batches
     → map (λ row. row.leaf) rows ≡ range_with_len 0 (leaves (job_tree key.job))

@@ -10,21 +10,16 @@ use Rattle.batch_history.specs.declared.batch.Entry.{Entry}
 use Rattle.table_rule.specs.declared.slot.OpRecord.{OpRecord}
 use Rattle.table_rule.specs.declared.slot.Slot.{Slot}
 use Rattle.table_rule.specs.declared.slot.Slot.TheVariants as Slots
-use Rattle.table_rule.specs.declared.view.TakenCall.{TakenCall}
+use Rattle.seq_objects.specs.declared.call.Call.{Call}
 use Rattle.table_rule.specs.declared.view.HoldView.{HoldView}
 use Rattle.table_rule.specs.declared.view.View.{View}
 use Rattle.table_rule.specs.Shows.{took_in, among}
-use Rattle.table_rule.specs.Views.{without_first, new_view, taken_view, passed_view, published_view, answered_view}
+use Rattle.table_rule.specs.Passes.{call_by, without_first, new_hold, after_take, after_pass, after_publish, after_answer}
 use Rattle.table_rule.specs.Carries.{vacant}
 use Rattle.table_rule.specs.Remembers.{Owes, Remembers}
 use Rattle.core_table.specs.Code.Turns.{turns, IsFirstAt}
-use Rattle.table_rule.proofs.ListLemmas.Lists.{each_so, each_append}
-
-if_no : {A : Type 0} (a b : ℕ) (p q : A) → a ≢ b → (if a == b then p else q) ≡ q
-if_no a b p q e = grind (arith, nat_tests)
-
-if_yes : {A : Type 0} (a b : ℕ) (p q : A) → a ≡ b → (if a == b then p else q) ≡ p
-if_yes a b p q e = grind (arith, nat_tests)
+use Rattle.table_rule.proofs.ListLemmas.Lists.{each_so}
+use Rattle.table_rule.proofs.ListLemmas.Last.{if_yes, if_no, took_put, among_put, distinct_last}
 
 true_false : (b : Bool) → b ≡ true → b ≡ false → ⊥
 true_false b e f = absurd (cc)
@@ -88,10 +83,6 @@ distinct_without (x ∷ xs) u h = elim (cases_eq x u) [
   | inr other ↦ rw (if_no x u xs (x ∷ without_first u xs) other) (each_without (λ y. x ≢ y) xs u h.0, distinct_without xs u h.1)
 ]
 
-distinct_last : (xs : List ℕ) (u : ℕ) → AreDistinct xs → AllByRecursion (λ y. y ≢ u) xs → AreDistinct (xs ++ u ∷ [])
-distinct_last [] u h new = (tt, tt)
-distinct_last (x ∷ xs) u h new = (each_append (λ y. x ≢ y) xs (u ∷ []) h.0 (new.0, tt), distinct_last xs u h.1 new.1)
-
 later : (y x : ℕ) (xs : List ℕ) → among xs y ≡ true → among (x ∷ xs) y ≡ true
 later y x xs e = grind (arith, nat_tests)
 
@@ -107,7 +98,7 @@ fewer (x ∷ xs) u = elim (cases_eq x u) [
 ]
 
 -- a hold just won owes no receipt
-pub owes_new : (book : List (List Entry)) → Owes (new_view book)
+pub owes_new : (book : List (List Entry)) → Owes (new_hold book)
 owes_new book = record {
   each = λ u e f. absurd (true_false false e refl);
   only = λ u e. absurd (true_false false e refl);
@@ -117,48 +108,49 @@ owes_new book = record {
   early = λ e. refl;
 }
 
-took_either : (u v : ℕ) (call : OpRecord) (taken : List TakenCall) → took_in (record { worker = u; call = call } ∷ taken) v ≡ true → v ≢ u → took_in taken v ≡ true
-took_either u v call taken e ne = sym (if_no v u true (took_in taken v) ne) ∙ e
+took_either : (v : ℕ) (call : Call) (taken : List Call) → took_in (taken ++ call ∷ []) v ≡ true → v ≢ call.worker → took_in taken v ≡ true
+took_either v call taken e ne = sym (if_no v call.worker true (took_in taken v) ne) ∙ (sym (took_put taken call v) ∙ e)
 
 -- after a take it owes one more
-pub owes_taken : (h : HoldView) (call : OpRecord) → h.published ≡ false → Owes h → Owes (taken_view h h.looks call)
+pub owes_taken : (h : HoldView) (call : OpRecord) → h.published ≡ false → Owes h → Owes (after_take (call_by h.looks call) h)
 owes_taken h call unpublished o =
     let u = h.looks in
+    let mine = call_by u call in
     let long = length-append h.owed (u ∷ []) in record {
       each = λ v took yet. elim (cases_eq v u) [
         | inl is ↦ subst (λ y. among (h.owed ++ u ∷ []) y ≡ true) (sym is) (among_last h.owed u)
-        | inr ne ↦ among_front h.owed (u ∷ []) v (o.each v (took_either u v call h.taken took ne) yet)
+        | inr ne ↦ among_front h.owed (u ∷ []) v (o.each v (took_either v mine h.taken took ne) yet)
       ];
       only = λ v e. elim (cases_eq v u) [
-        | inl is ↦ (if_yes v u true (took_in h.taken v) is, rw (o.early unpublished) refl)
-        | inr ne ↦ let was = o.only v (among_either h.owed u v e ne) in (if_no v u true (took_in h.taken v) ne ∙ was.0, was.1)
+        | inl is ↦ (took_put h.taken mine v ∙ if_yes v u true (took_in h.taken v) is, rw (o.early unpublished) refl)
+        | inr ne ↦ let was = o.only v (among_either h.owed u v e ne) in (took_put h.taken mine v ∙ (if_no v u true (took_in h.taken v) ne ∙ was.0), was.1)
       ];
       distinct = distinct_last h.owed u o.distinct (each_among (λ y. y ≢ u) h.owed (λ y e is. let low = o.below y (o.only y e).0 in absurd (omega (arith, low, is))));
       few = omega (arith, long, o.few);
       below = λ v took. elim (cases_eq v u) [
         | inl is ↦ omega (arith, is)
-        | inr ne ↦ let low = o.below v (took_either u v call h.taken took ne) in omega (arith, low)
+        | inr ne ↦ let low = o.below v (took_either v mine h.taken took ne) in omega (arith, low)
       ];
       early = o.early;
     }
 
-pub owes_passed : (h : HoldView) (status : ℕ) → Owes h → Owes (passed_view h status)
+pub owes_passed : (h : HoldView) (status : ℕ) → Owes h → Owes (after_pass status h)
 owes_passed h status o = record { each = o.each; only = o.only; distinct = o.distinct; few = omega (arith, o.few); below = λ v took. let low = o.below v took in omega (arith, low); early = o.early }
 
-pub owes_published : (h : HoldView) (batch : List Entry) → Owes h → Owes (published_view h batch)
+pub owes_published : (h : HoldView) (batch : List Entry) → Owes h → Owes (after_publish batch h)
 owes_published h batch o = record { each = o.each; only = o.only; distinct = o.distinct; few = o.few; below = o.below; early = λ e. absurd (true_false true refl e) }
 
 -- after an answer it owes one less
-pub owes_answered : (h : HoldView) (u : ℕ) → h.published ≡ true → Owes h → Owes (answered_view h u)
+pub owes_answered : (h : HoldView) (u : ℕ) → h.published ≡ true → Owes h → Owes (after_answer u h)
 owes_answered h u published o =
     let less = fewer h.owed u in record {
       each = λ v took yet. elim (cases_eq v u) [
-        | inl is ↦ absurd (true_false (if v == u then true else among h.answered v) (if_yes v u true (among h.answered v) is) yet)
-        | inr ne ↦ among_without h.owed u v ne (o.each v took (sym (if_no v u true (among h.answered v) ne) ∙ yet))
+        | inl is ↦ absurd (true_false (among (h.answered ++ u ∷ []) v) (among_put h.answered u v ∙ if_yes v u true (among h.answered v) is) yet)
+        | inr ne ↦ among_without h.owed u v ne (o.each v took (sym (if_no v u true (among h.answered v) ne) ∙ (sym (among_put h.answered u v) ∙ yet)))
       ];
       only = λ v e. elim (cases_eq v u) [
         | inl is ↦ absurd (true_false (among (without_first u h.owed) u) (subst (λ y. among (without_first u h.owed) y ≡ true) is e) (gone h.owed u o.distinct))
-        | inr ne ↦ let was = o.only v (within h.owed u v e) in (was.0, if_no v u true (among h.answered v) ne ∙ was.1)
+        | inr ne ↦ let was = o.only v (within h.owed u v e) in (was.0, among_put h.answered u v ∙ (if_no v u true (among h.answered v) ne ∙ was.1))
       ];
       distinct = distinct_without h.owed u o.distinct;
       few = omega (arith, less, o.few);
@@ -181,18 +173,18 @@ held_some : (a : Maybe HoldView) (h : HoldView) → a ≡ Some h → a ≡ None 
 held_some a h e f = absurd (cc)
 
 -- `Remembers` after a call that does not change the hold
-pub remembers_kept : (v w : View) (owed : List ℕ) (published : Bool) → w.hold ≡ v.hold → Remembers v owed published → Remembers w owed published
+pub remembers_kept : (v w : View) (owed : List ℕ) (published : Bool) → w.own.hold ≡ v.own.hold → Remembers v owed published → Remembers w owed published
 remembers_kept v w owed published same m = record { none = λ e. m.none (sym same ∙ e); holds = λ h e. m.holds h (sym same ∙ e) }
 
 -- after one that sets the hold, and after one that clears it
-pub remembers_hold : (w : View) (owed : List ℕ) (published : Bool) (h : HoldView) → w.hold ≡ Some h → owed ≡ h.owed → published ≡ h.published → Owes h → Remembers w owed published
+pub remembers_hold : (w : View) (owed : List ℕ) (published : Bool) (h : HoldView) → w.own.hold ≡ Some h → owed ≡ h.owed → published ≡ h.published → Owes h → Remembers w owed published
 remembers_hold w owed published h holds same told o = record {
-  none = λ e. absurd (held_some w.hold h holds e);
+  none = λ e. absurd (held_some w.own.hold h holds e);
   holds = λ g e. subst (λ (z : HoldView). (owed ≡ z.owed) × (published ≡ z.published) × Owes z) (some_hold h g (sym holds ∙ e)) (same, told, o);
 }
 
-pub remembers_none : (w : View) (owed : List ℕ) (published : Bool) → w.hold ≡ None → owed ≡ [] → Remembers w owed published
-remembers_none w owed published nothing empty = record { none = λ _. empty; holds = λ h e. absurd (held_some w.hold h e nothing) }
+pub remembers_none : (w : View) (owed : List ℕ) (published : Bool) → w.own.hold ≡ None → owed ≡ [] → Remembers w owed published
+remembers_none w owed published nothing empty = record { none = λ _. empty; holds = λ h e. absurd (held_some w.own.hold h e nothing) }
 
 -- rotation
 turned_last : (x : ℕ × Slot) (xs ys : List (ℕ × Slot)) → turned ((x ∷ xs) ++ ys) ≡ xs ++ (ys ++ x ∷ [])

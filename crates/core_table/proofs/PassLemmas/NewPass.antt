@@ -40,7 +40,7 @@ new_pass setting table k seat low same is = (
   ap (λ (m : Sat). m.0.workers) is,
   ap (λ (m : Sat). m.0.nodes) is,
   ap (λ (m : Sat). m.0.enrolled) is,
-  subst (TaskHere (job_of setting)) (sym (ap (λ (m : Sat). m.0.task) is)) tt,
+  subst (TaskHere (job_of setting)) (sym (ap (λ (m : Sat). m.0.own.task) is)) tt,
   ap (λ (m : Sat). m.0.room) is,
   subst (Carries k) (sym is) (carries_new k setting),
   subst (λ (m : Sat). Remembers m.0 [] false) (sym is) (remembers_none (fresh k setting) [] false refl refl),

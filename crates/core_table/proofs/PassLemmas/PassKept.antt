@@ -1,5 +1,5 @@
 -- A pass still belongs to its table after each kind of call.
-use Rattle.std.proofs.Common.{ℕ, ◌≡◌, ◌≢◌, ◌+◌, Bool, true, false, None, Some, List, [], ◌∷◌, ◌++◌, get_or, refl, sym, ap, ◌∙◌, subst}
+use Rattle.std.proofs.Common.{ℕ, ◌≡◌, ◌≢◌, ◌+◌, Bool, true, false, Option as Maybe, None, Some, List, [], ◌∷◌, ◌++◌, get_or, refl, sym, ap, ◌∙◌, subst}
 use Rattle.std.proofs.lemmas.List.{map-append}
 use Rattle.sp_order.specs.Preorder.{nodes_of}
 use Rattle.atomic_table.specs.Table.{turned, rest}
@@ -17,8 +17,9 @@ use Rattle.batch_history.specs.Reserved.{ReservedView}
 use Rattle.table_rule.specs.declared.slot.OpRecord.{OpRecord}
 use Rattle.batch_history.specs.declared.batch.Entry.{Entry}
 use Rattle.table_rule.specs.Plays.{Sat}
-use Rattle.table_rule.specs.CoreWords.{Event, Receipt, Win, Take, Publish, Answer, Release}
-use Rattle.table_rule.specs.Views.{with_event, without_first, posting, winning, with_hold, taken_view, passed_view, passing, published_view, answered_view, releasing}
+use Rattle.table_rule.specs.CoreWords.{Event, Receipt}
+use Rattle.table_rule.specs.Passes.{call_by, without_first, winning, in_hold, after_take, after_pass, after_publish, after_answer, taking, passing, publishing, answering, releasing}
+use Rattle.table_rule.specs.Views.{with_step, with_found, with_post}
 use Rattle.table_rule.specs.Carries.{vacant, HolderCarries, Carries}
 use Rattle.table_rule.specs.Remembers.{Remembers}
 use Rattle.core_table.proofs.ListLemmas.Owed.{remembers_kept}
@@ -29,7 +30,7 @@ holder_kept : (b : Bool) (v w : View) (h : HoldView) (xs : List (ℕ × Slot)) �
 holder_kept false v w h xs a b m = rw (a, b) m
 holder_kept true v w h xs a b m = rw a m
 
-pub carries_kept : (k : ℕ) (v w : View) (xs : List (ℕ × Slot)) → w.workers ≡ v.workers → w.room ≡ v.room → w.call ≡ v.call → w.hold ≡ v.hold → Carries k (v, xs) → Carries k (w, xs)
+pub carries_kept : (k : ℕ) (v w : View) (xs : List (ℕ × Slot)) → w.workers ≡ v.workers → w.room ≡ v.room → w.own.call ≡ v.own.call → w.own.hold ≡ v.own.hold → Carries k (v, xs) → Carries k (w, xs)
 carries_kept k v w xs workers room call hold m = record {
   free = λ ne. let t = m.free (λ e. ne (call ∙ e)) in (hold ∙ t.0, t.1);
   trapped = λ out none_held. m.trapped (sym call ∙ out) (sym hold ∙ none_held);
@@ -38,7 +39,7 @@ carries_kept k v w xs workers room call hold m = record {
 
 -- the views of a pass before and after a step that is not of the gate
 pub pass_kept : {owed : List ℕ} {published : Bool} (setting : Setting) (table : TableId) (k : ℕ) (old new : Seat Slot View) (w : View) → new.table_id ≡ old.table_id → new.me ≡ (w, old.me.1)
-    → w.workers ≡ old.me.0.workers → w.nodes ≡ old.me.0.nodes → w.room ≡ old.me.0.room → w.enrolled ≡ old.me.0.enrolled → w.task ≡ old.me.0.task → w.call ≡ old.me.0.call → w.hold ≡ old.me.0.hold → w.plan ≡ old.me.0.plan
+    → w.workers ≡ old.me.0.workers → w.nodes ≡ old.me.0.nodes → w.room ≡ old.me.0.room → w.enrolled ≡ old.me.0.enrolled → w.own.task ≡ old.me.0.own.task → w.own.call ≡ old.me.0.own.call → w.own.hold ≡ old.me.0.own.hold → w.plan ≡ old.me.0.plan
     → IsSeatOf setting table k old owed published → IsSeatOf setting table k new owed published
 pass_kept {owed} {published} setting table k old new w same is workers nodes room enrolled task call hold plan p = (
   same ∙ p.0,
@@ -46,16 +47,16 @@ pass_kept {owed} {published} setting table k old new w same is workers nodes roo
   ap (λ (m : Sat). m.0.workers) is ∙ (workers ∙ p.2),
   ap (λ (m : Sat). m.0.nodes) is ∙ (nodes ∙ p.3),
   ap (λ (m : Sat). m.0.enrolled) is ∙ (enrolled ∙ p.4),
-  subst (TaskHere (job_of setting)) (sym (ap (λ (m : Sat). m.0.task) is ∙ task)) p.5,
+  subst (TaskHere (job_of setting)) (sym (ap (λ (m : Sat). m.0.own.task) is ∙ task)) p.5,
   ap (λ (m : Sat). m.0.room) is ∙ (room ∙ p.6),
   subst (Carries k) (sym is) (carries_kept k old.me.0 w old.me.1 workers room call hold p.7),
-  remembers_kept old.me.0 new.me.0 owed published (ap (λ (m : Sat). m.0.hold) is ∙ hold) p.8,
+  remembers_kept old.me.0 new.me.0 owed published (ap (λ (m : Sat). m.0.own.hold) is ∙ hold) p.8,
   ap nodes_of (ap (λ (m : Sat). m.0.plan) is ∙ plan) ∙ p.9,
 )
 
 -- a pass after a gate call, from its new view and slots
 pub pass_made : {owed owed' : List ℕ} {published published' : Bool} (setting : Setting) (table : TableId) (k : ℕ) (old new : Seat Slot View) (w : View) (xs : List (ℕ × Slot)) → new.table_id ≡ old.table_id → new.me ≡ (w, xs)
-    → w.workers ≡ old.me.0.workers → w.nodes ≡ old.me.0.nodes → w.room ≡ old.me.0.room → w.enrolled ≡ old.me.0.enrolled → w.task ≡ old.me.0.task → w.plan ≡ old.me.0.plan → Carries k (w, xs) → Remembers w owed' published'
+    → w.workers ≡ old.me.0.workers → w.nodes ≡ old.me.0.nodes → w.room ≡ old.me.0.room → w.enrolled ≡ old.me.0.enrolled → w.own.task ≡ old.me.0.own.task → w.plan ≡ old.me.0.plan → Carries k (w, xs) → Remembers w owed' published'
     → IsSeatOf setting table k old owed published → IsSeatOf setting table k new owed' published'
 pass_made {owed} {owed'} {published} {published'} setting table k old new w xs same is workers nodes room enrolled task plan carries remembers p = (
   same ∙ p.0,
@@ -63,7 +64,7 @@ pass_made {owed} {owed'} {published} {published'} setting table k old new w xs s
   ap (λ (m : Sat). m.0.workers) is ∙ (workers ∙ p.2),
   ap (λ (m : Sat). m.0.nodes) is ∙ (nodes ∙ p.3),
   ap (λ (m : Sat). m.0.enrolled) is ∙ (enrolled ∙ p.4),
-  subst (TaskHere (job_of setting)) (sym (ap (λ (m : Sat). m.0.task) is ∙ task)) p.5,
+  subst (TaskHere (job_of setting)) (sym (ap (λ (m : Sat). m.0.own.task) is ∙ task)) p.5,
   ap (λ (m : Sat). m.0.room) is ∙ (room ∙ p.6),
   subst (Carries k) (sym is) carries,
   subst (λ (m : Sat). Remembers m.0 owed' published') (sym is) remembers,
@@ -88,8 +89,15 @@ none_out a e = cc
 pub same_hold : (a b : HoldView) → Some a ≡ Some b → a ≡ b
 same_hold a b e = cc
 
+-- the hold after a step of it
+hold_after : (f : HoldView → HoldView) (o : Maybe HoldView) (h g : HoldView) → o ≡ Some h → in_hold f o ≡ Some g → f h ≡ g
+hold_after f o h g is e = same_hold (f h) g (sym (ap (in_hold f) is) ∙ e)
+
+some_after : (f : HoldView → HoldView) (o : Maybe HoldView) (h : HoldView) → o ≡ Some h → in_hold f o ≡ None → ⊥
+some_after f o h is e = none_out (f h) (sym e ∙ ap (in_hold f) is)
+
 -- a pass that has just posted
-pub carries_posted : (k : ℕ) (v : View) (call : OpRecord) (event : Event) → v.hold ≡ None → Carries k (with_event (posting v call) event, [])
+pub carries_posted : (k : ℕ) (v : View) (call : OpRecord) (event : Event) → v.own.hold ≡ None → Carries k (with_post call event v, [])
 carries_posted k v call event nothing = record {
   free = λ ne. absurd (ne refl);
   trapped = λ _ _. refl;
@@ -97,47 +105,50 @@ carries_posted k v call event nothing = record {
 }
 
 -- a pass that has just won
-pub carries_won : (k workers : ℕ) (v : View) (history : List (List Entry)) → v.call ≡ Out → v.workers ≡ workers
-    → Carries k (with_event (winning v history) Win, (workers + 1, Slots.Book (reserved history v.room)) ∷ (workers, Slots.Vacant) ∷ [])
+pub carries_won : (k workers : ℕ) (v : View) (history : List (List Entry)) → v.own.call ≡ Out → v.workers ≡ workers
+    → Carries k (with_step (winning history) v, (workers + 1, Slots.Book (reserved history v.room)) ∷ (workers, Slots.Vacant) ∷ [])
 carries_won k workers v history out wide = record {
   free = λ ne. absurd (ne out);
   trapped = λ _ e. absurd (cc);
-  holds = λ h is. subst (λ (z : HoldView). HolderCarries z.published (with_event (winning v history) Win) z ((workers + 1, Slots.Book (reserved history v.room)) ∷ (workers, Slots.Vacant) ∷ [])) (same_hold _ h is)
+  holds = λ h is. subst (λ (z : HoldView). HolderCarries z.published (with_step (winning history) v) z ((workers + 1, Slots.Book (reserved history v.room)) ∷ (workers, Slots.Vacant) ∷ [])) (same_hold _ h is)
       (rw wide refl);
 }
 
 -- a holder that has taken one more
-pub carries_took : (k u : ℕ) (v : View) (h : HoldView) (call : OpRecord) (xs : List (ℕ × Slot)) → v.call ≡ Out → v.hold ≡ Some h → h.published ≡ false → Carries k (v, xs) → Carries k (with_event (with_hold v (taken_view h u call)) (Take u), xs ++ (u, Slots.Vacant) ∷ [])
+pub carries_took : (k u : ℕ) (v : View) (h : HoldView) (call : OpRecord) (xs : List (ℕ × Slot)) → v.own.call ≡ Out → v.own.hold ≡ Some h → h.published ≡ false → Carries k (v, xs) → Carries k (with_step (taking (call_by u call)) v, xs ++ (u, Slots.Vacant) ∷ [])
 carries_took k u v h call xs out is early m =
-    let w : View = with_event (with_hold v (taken_view h u call)) (Take u) in
+    let f = after_take (call_by u call) in
+    let w : View = with_step (taking (call_by u call)) v in
     let was : HolderCarries false v h xs = subst (λ (b : Bool). HolderCarries b v h xs) early (m.holds h is) in record {
       free = λ ne. absurd (ne out);
-      trapped = λ _ e. absurd (cc);
-      holds = λ g f. subst (λ (z : HoldView). HolderCarries z.published w z (xs ++ (u, Slots.Vacant) ∷ [])) (same_hold _ g f)
-          (subst (λ (b : Bool). HolderCarries b w (taken_view h u call) (xs ++ (u, Slots.Vacant) ∷ [])) (sym early)
+      trapped = λ _ e. absurd (some_after f v.own.hold h is e);
+      holds = λ g e. subst (λ (z : HoldView). HolderCarries z.published w z (xs ++ (u, Slots.Vacant) ∷ [])) (hold_after f v.own.hold h g is e)
+          (subst (λ (b : Bool). HolderCarries b w (f h) (xs ++ (u, Slots.Vacant) ∷ [])) (sym early)
           (ap (λ l. l ++ (u, Slots.Vacant) ∷ []) was ∙ rw map-append refl));
     }
 
-pub carries_passed : (k u : ℕ) (v : View) (h : HoldView) (status : ℕ) (xs : List (ℕ × Slot)) → v.call ≡ Out → v.hold ≡ Some h → Carries k (v, xs) → Carries k (with_event (passing v h status) (Take u), xs)
+pub carries_passed : (k u : ℕ) (v : View) (h : HoldView) (status : ℕ) (xs : List (ℕ × Slot)) → v.own.call ≡ Out → v.own.hold ≡ Some h → Carries k (v, xs) → Carries k (with_found status (passing u status) v, xs)
 carries_passed k u v h status xs out is m =
-    let w : View = with_event (passing v h status) (Take u) in record {
+    let f = after_pass status in
+    let w : View = with_found status (passing u status) v in record {
       free = λ ne. absurd (ne out);
-      trapped = λ _ e. absurd (cc);
-      holds = λ g f. subst (λ (z : HoldView). HolderCarries z.published w z xs) (same_hold _ g f) (elim h.published as (λ (b : Bool). HolderCarries b v h xs → HolderCarries b w (passed_view h status) xs) [ false ↦ λ y. y | true ↦ λ y. y ] (m.holds h is));
+      trapped = λ _ e. absurd (some_after f v.own.hold h is e);
+      holds = λ g e. subst (λ (z : HoldView). HolderCarries z.published w z xs) (hold_after f v.own.hold h g is e) (elim h.published as (λ (b : Bool). HolderCarries b v h xs → HolderCarries b w (f h) xs) [ false ↦ λ y. y | true ↦ λ y. y ] (m.holds h is));
     }
 
 -- a holder that has published
-pub carries_published : (k workers : ℕ) (v : View) (h : HoldView) (batch : List Entry) → v.call ≡ Out → v.workers ≡ workers
-    → Carries k (with_event (with_hold v (published_view h batch)) Publish, vacant h.owed ++ (workers, Slots.Vacant) ∷ [])
-carries_published k workers v h batch out wide =
-    let w : View = with_event (with_hold v (published_view h batch)) Publish in record {
+pub carries_published : (k workers : ℕ) (v : View) (h : HoldView) (batch : List Entry) → v.own.call ≡ Out → v.own.hold ≡ Some h → v.workers ≡ workers
+    → Carries k (with_step (publishing batch) v, vacant h.owed ++ (workers, Slots.Vacant) ∷ [])
+carries_published k workers v h batch out is wide =
+    let f = after_publish batch in
+    let w : View = with_step (publishing batch) v in record {
       free = λ ne. absurd (ne out);
-      trapped = λ _ e. absurd (cc);
-      holds = λ g f. subst (λ (z : HoldView). HolderCarries z.published w z (vacant h.owed ++ (workers, Slots.Vacant) ∷ [])) (same_hold _ g f) (rw wide refl);
+      trapped = λ _ e. absurd (some_after f v.own.hold h is e);
+      holds = λ g e. subst (λ (z : HoldView). HolderCarries z.published w z (vacant h.owed ++ (workers, Slots.Vacant) ∷ [])) (hold_after f v.own.hold h g is e) (rw wide refl);
     }
 
 -- the list of a holder that has not published
-pub holder_list : (k workers room : ℕ) (me : Sat) (h : HoldView) → me.0.hold ≡ Some h → h.published ≡ false → me.0.workers ≡ workers → me.0.room ≡ room → Carries k me
+pub holder_list : (k workers room : ℕ) (me : Sat) (h : HoldView) → me.0.own.hold ≡ Some h → h.published ≡ false → me.0.workers ≡ workers → me.0.room ≡ room → Carries k me
     → me ≡ (me.0, (workers + 1, Slots.Book (reserved h.book room)) ∷ (workers, Slots.Vacant) ∷ vacant h.owed)
 holder_list k workers room me h is early wide roomy m =
     let t : HolderCarries false me.0 h me.1 = subst (λ (b : Bool). HolderCarries b me.0 h me.1) early (m.holds h is) in
@@ -157,23 +168,24 @@ out_by NotCalled out = absurd (out (λ e. cc))
 out_by Out out = refl
 out_by (Got receipt) out = absurd (out (λ e. cc))
 
-pub held_out : (k : ℕ) (me : Sat) (h : HoldView) → Carries k me → me.0.hold ≡ Some h → me.0.call ≡ Out
-held_out k me h carries holds = out_by me.0.call (λ ne. let clash : Some h ≡ None = sym holds ∙ (carries.free ne).0 in absurd (cc))
+pub held_out : (k : ℕ) (me : Sat) (h : HoldView) → Carries k me → me.0.own.hold ≡ Some h → me.0.own.call ≡ Out
+held_out k me h carries holds = out_by me.0.own.call (λ ne. let clash : Some h ≡ None = sym holds ∙ (carries.free ne).0 in absurd (cc))
 
 -- the list of a holder that has published
-pub holder_after : (k workers : ℕ) (me : Sat) (h : HoldView) (owed : List ℕ) → me.0.hold ≡ Some h → h.published ≡ true → h.owed ≡ owed → me.0.workers ≡ workers → Carries k me → me ≡ (me.0, vacant owed ++ (workers, Slots.Vacant) ∷ [])
+pub holder_after : (k workers : ℕ) (me : Sat) (h : HoldView) (owed : List ℕ) → me.0.own.hold ≡ Some h → h.published ≡ true → h.owed ≡ owed → me.0.workers ≡ workers → Carries k me → me ≡ (me.0, vacant owed ++ (workers, Slots.Vacant) ∷ [])
 holder_after k workers me h owed is there same wide m =
     let t : HolderCarries true me.0 h me.1 = subst (λ (b : Bool). HolderCarries b me.0 h me.1) there (m.holds h is) in
     let l = t ∙ (ap (λ (o : List ℕ). vacant o ++ (me.0.workers, Slots.Vacant) ∷ []) same ∙ ap (λ (n : ℕ). vacant owed ++ (n, Slots.Vacant) ∷ []) wide) in λ i. (me.0, l i)
 
-pub carries_answered : (k workers u : ℕ) (v : View) (h : HoldView) (receipt : Receipt) → v.call ≡ Out → v.workers ≡ workers → h.published ≡ true
-    → Carries k (with_event (with_hold v (answered_view h u)) (Answer u receipt), vacant (without_first u h.owed) ++ (workers, Slots.Vacant) ∷ [])
-carries_answered k workers u v h receipt out wide there =
-    let w : View = with_event (with_hold v (answered_view h u)) (Answer u receipt) in let xs = vacant (without_first u h.owed) ++ (workers, Slots.Vacant) ∷ [] in record {
+pub carries_answered : (k workers u : ℕ) (v : View) (h : HoldView) (receipt : Receipt) → v.own.call ≡ Out → v.own.hold ≡ Some h → v.workers ≡ workers → h.published ≡ true
+    → Carries k (with_step (answering u receipt) v, vacant (without_first u h.owed) ++ (workers, Slots.Vacant) ∷ [])
+carries_answered k workers u v h receipt out is wide there =
+    let f = after_answer u in
+    let w : View = with_step (answering u receipt) v in let xs = vacant (without_first u h.owed) ++ (workers, Slots.Vacant) ∷ [] in record {
       free = λ ne. absurd (ne out);
-      trapped = λ _ e. absurd (cc);
-      holds = λ g f. subst (λ (z : HoldView). HolderCarries z.published w z xs) (same_hold _ g f) (subst (λ (b : Bool). HolderCarries b w (answered_view h u) xs) (sym there) (rw wide refl));
+      trapped = λ _ e. absurd (some_after f v.own.hold h is e);
+      holds = λ g e. subst (λ (z : HoldView). HolderCarries z.published w z xs) (hold_after f v.own.hold h g is e) (subst (λ (b : Bool). HolderCarries b w (f h) xs) (sym there) (rw wide refl));
     }
 
-pub carries_released : (k : ℕ) (v : View) → v.call ≡ Out → Carries k (with_event (releasing v) Release, [])
+pub carries_released : (k : ℕ) (v : View) → v.own.call ≡ Out → Carries k (with_step releasing v, [])
 carries_released k v out = record { free = λ ne. absurd (ne out); trapped = λ _ _. refl; holds = λ g f. absurd (cc) }

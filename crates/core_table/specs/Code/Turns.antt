@@ -2,7 +2,7 @@
 use Rattle.std.specs.Prelude.{ℕ, zero, suc, ◌≡◌, ◌<◌, List, ◌∷◌, ◌++◌, length, take, drop}
 use Rattle.atomic_table.specs.Table.{turned}
 use Rattle.table_rule.specs.declared.slot.Slot.{Slot}
-use Rattle.table_rule.specs.Views.{without_first}
+use Rattle.table_rule.specs.Passes.{without_first}
 
 -- the list after its head is moved to the back n times
 abbrev pub turns : ℕ → List (ℕ × Slot) → List (ℕ × Slot)

@@ -1,5 +1,5 @@
 -- The steps of the gate side.
-use Rattle.std.proofs.Common.{ℕ, ◌≡◌, ◌≢◌, ◌<◌, ◌≤◌, ◌+◌, Bool, true, false, if◌then◌else◌, ◌==◌, Option as Maybe, None, Some, List, [], ◌∷◌, map, length, get_or, set, eqb, arith, refl, sym, ap, ◌∙◌, subst, inl, inr, length-set, get_or-set_other}
+use Rattle.std.proofs.Common.{ℕ, ◌≡◌, ◌≢◌, ◌<◌, ◌≤◌, ◌+◌, Bool, true, false, if◌then◌else◌, ◌==◌, Option as Maybe, None, Some, List, [], ◌∷◌, ◌++◌, map, length, get_or, set, eqb, arith, refl, sym, ap, ◌∙◌, subst, inl, inr, ⊎_elim, length-set, get_or-set_other}
 use Rattle.std.proofs.lemmas.List.{length-map, map-append, append-nil}
 use Rattle.std.proofs.lemmas.Bool.Decides.{nat_tests}
 use Rattle.std.proofs.lemmas.Bool.{cases_eq}
@@ -33,7 +33,7 @@ use Rattle.core_model.specs.Invariant.Statuses.{is_taken_by}
 use Rattle.core_model.specs.Invariant.{Parts}
 use Rattle.core_model.specs.Waits.{WaitsSince, task_place}
 use Rattle.table_rule.specs.declared.slot.OpRecord.{OpRecord}
-use Rattle.table_rule.specs.declared.view.TakenCall.{TakenCall}
+use Rattle.seq_objects.specs.declared.call.Call.{Call}
 use Rattle.table_rule.specs.declared.view.HoldView.{HoldView}
 use Rattle.table_rule.specs.declared.view.View.{View}
 use Rattle.table_rule.specs.declared.slot.Slot.{Slot}
@@ -42,12 +42,14 @@ use Rattle.table_rule.specs.Words.{stop_at, flag_at, status_code, flag_code, Wor
 use Rattle.table_rule.specs.Laws.{Laws}
 use Rattle.table_rule.specs.Steps.{ShowsOne, Steps, TryMakes, Makes, LeaveMakes}
 use Rattle.table_rule.specs.Shows.{reserved, St, Home, IsFront, IsPostDue, IsRecordOf, RecordAt, ShopAt, IsBookHome, BookIf, BookAt, took_in, record_in, among, hold_of, HoldKnown, entry_of, Shows}
+use Rattle.table_rule.specs.Passes as W
 use Rattle.table_rule.specs.Views as V
 use Rattle.table_rule.specs.Plays as G
 use Rattle.table_rule.proofs.TableLemmas.Words.{put_at, put_other, set_status, set_flag, flag_same}
 use Rattle.table_rule.proofs.TableLemmas.Facts.{is_free, is_trapped, is_executing, not_in_book, is_call}
 use Rattle.table_rule.proofs.TableLemmas.Moved.{mine_of, moved, looked, found, missed, true_false, record_took, free_untaken}
 use Rattle.core_model.specs.Entries.{StandsAt}
+use Rattle.table_rule.proofs.ListLemmas.Last.{took_put, among_put, record_last, workers_last}
 use Rattle.table_rule.proofs.StepLemmas.TakeOk.{pending_is_new, taken_is_new}
 use Rattle.table_rule.proofs.TableLemmas.Through.{SameTold, told_again, reseen, through, hold_others, hold_won, hold_gone, hold_same, slots_record}
 
@@ -136,30 +138,38 @@ if_false : (a b : ℕ) (x : Bool) → (if a == b then true else x) ≡ false →
 if_false a b x e = ((λ f. grind (arith, nat_tests)), grind (arith, nat_tests))
 
 -- a look that finds nothing pending
-take_passes : (s : State) (k u : ℕ) (h : HoldView) (status : ℕ) → s.hold ≡ Some (hold_of k h) → is_pending (s.status u) ≡ false → record s { hold = Some (hold_of k (V.passed_view h status)) } ≡ made s k (Take u)
+take_passes : (s : State) (k u : ℕ) (h : HoldView) (status : ℕ) → s.hold ≡ Some (hold_of k h) → is_pending (s.status u) ≡ false → record s { hold = Some (hold_of k (W.after_pass status h)) } ≡ made s k (Take u)
 take_passes s k u h status held p = rw (p, held) refl
 
 -- and one that takes a call
-take_takes : (s : State) (k u : ℕ) (h : HoldView) (call : OpRecord) → s.hold ≡ Some (hold_of k h) → s.status u ≡ Pending → record s { status = put s.status u Executing; hold = Some (hold_of k (V.taken_view h u call)) } ≡ made s k (Take u)
-take_takes s k u h call held p = rw (p, held) refl
+take_takes : (s : State) (k u : ℕ) (h : HoldView) (call : OpRecord) → s.hold ≡ Some (hold_of k h) → s.status u ≡ Pending → record s { status = put s.status u Executing; hold = Some (hold_of k (W.after_take (W.call_by u call) h)) } ≡ made s k (Take u)
+take_takes s k u h call held p =
+    let last : record s { status = put s.status u Executing; hold = Some (record (hold_of k h) { looks = h.looks + 1; taken = put (took_in h.taken) u true }) } ≡ made s k (Take u) = rw (p, held) refl in
+    (λ i. record s { status = put s.status u Executing; hold = Some (record (hold_of k h) { looks = h.looks + 1; taken = λ x. took_put h.taken (W.call_by u call) x i }) }) ∙ last
+
+-- an answer
+answer_tells : (s : State) (k u : ℕ) (h : HoldView) (r : Receipt) → s.hold ≡ Some (hold_of k h) → record s { status = put s.status u (Served r); hold = Some (hold_of k (W.after_answer u h)) } ≡ made s k (Answer u r)
+answer_tells s k u h r held =
+    let last : record s { status = put s.status u (Served r); hold = Some (record (hold_of k h) { answered = put (among h.answered) u true }) } ≡ made s k (Answer u r) = rw held refl in
+    (λ i. record s { status = put s.status u (Served r); hold = Some (record (hold_of k h) { answered = λ x. among_put h.answered u x i }) }) ∙ last
 
 -- what the holder knows, once it has taken one more call
 took_more : (job : CoreJob) (s : State) (u : ℕ) (call : OpRecord) (h : HoldView) → IsRecordOf job s.book (s.task u) call
     → ((x : ℕ) (c : OpRecord) → record_in h.taken x ≡ Some c → among h.answered x ≡ false → IsRecordOf job s.book (s.task x) c)
-    → (x : ℕ) (c : OpRecord) → record_in (record { worker = u; call = call } ∷ h.taken) x ≡ Some c → among h.answered x ≡ false → IsRecordOf job s.book (s.task x) c
-took_more job s u call h is old x c e yet = elim (cases_eq x u) [
-  | inl same ↦ let e' : Some call ≡ Some c = grind (arith, nat_tests) in let f : call ≡ c = cc in subst (λ (y : ℕ). IsRecordOf job s.book (s.task y) c) (sym same) (subst (IsRecordOf job s.book (s.task u)) f is)
-  | inr ne ↦ let e' : record_in h.taken x ≡ Some c = grind (arith, nat_tests) in old x c e' yet
-]
+    → (x : ℕ) (c : OpRecord) → record_in (h.taken ++ W.call_by u call ∷ []) x ≡ Some c → among h.answered x ≡ false → IsRecordOf job s.book (s.task x) c
+took_more job s u call h is old x c e yet = ⊎_elim
+    (λ f. old x c f yet)
+    (λ f. subst (λ (y : ℕ). IsRecordOf job s.book (s.task y) c) (sym f.0) (subst (IsRecordOf job s.book (s.task u)) f.1 is))
+    (record_last h.taken (W.call_by u call) x c e)
 
-took_later : (t : TakenCall) (taken : List TakenCall) (x : ℕ) → took_in taken x ≡ true → took_in (t ∷ taken) x ≡ true
+took_later : (t : Call) (taken : List Call) (x : ℕ) → took_in taken x ≡ true → took_in (t ∷ taken) x ≡ true
 took_later t taken x e = grind (arith, nat_tests)
 
-took_first : (t : TakenCall) (taken : List TakenCall) → took_in (t ∷ taken) t.worker ≡ true
+took_first : (t : Call) (taken : List Call) → took_in (t ∷ taken) t.worker ≡ true
 took_first t taken = grind (arith, nat_tests)
 
 -- a property of every taken worker holds of all on the list
-each_taken : (P : ℕ → Type 0) (taken : List TakenCall) → ((x : ℕ) → took_in taken x ≡ true → P x) → AllByRecursion P (map (λ (t : TakenCall). t.worker) taken)
+each_taken : (P : ℕ → Type 0) (taken : List Call) → ((x : ℕ) → took_in taken x ≡ true → P x) → AllByRecursion P (map (λ (t : Call). t.worker) taken)
 each_taken P [] h = tt
 each_taken P (t ∷ taken) h = (h t.worker (took_first t taken), each_taken P taken (λ x e. h x (took_later t taken x e)))
 
@@ -174,21 +184,21 @@ left_with : (job : CoreJob) (room : ℕ) {t : St} (s : State) (k : ℕ) (r : Rec
 left_with job room s k r h = (h.0, (r, h.1))
 
 -- no worker that was taken before is the next one
-others_before : (taken : List TakenCall) (u : ℕ) → ((x : ℕ) → took_in taken x ≡ true → x < u) → AllByRecursion (λ y. u ≢ y) (map (λ (t : TakenCall). t.worker) taken)
+others_before : (taken : List Call) (u : ℕ) → ((x : ℕ) → took_in taken x ≡ true → x < u) → AllByRecursion (λ y. u ≢ y) (map (λ (t : Call). t.worker) taken)
 others_before taken u low = each_taken (λ y. u ≢ y) taken (λ x e is. let below = low x e in absurd (omega (arith, below, is)))
 
 -- the book has room for the calls taken before and the one taken now
 taken_fit : (job : CoreJob) (laws : Laws job) (s : State) (k u : ℕ) (h : HoldView) → Parts job s → s.hold ≡ Some (hold_of k h) → h.published ≡ false → s.status u ≡ Pending
-    → AllByRecursion (λ y. u ≢ y) (map (λ (t : TakenCall). t.worker) h.taken) → AreDistinct (map (λ (t : TakenCall). t.worker) h.taken) → ((x : ℕ) → among h.answered x ≡ false)
+    → AllByRecursion (λ y. u ≢ y) (map (λ (t : Call). t.worker) h.taken) → AreDistinct (map (λ (t : Call). t.worker) h.taken) → ((x : ℕ) → among h.answered x ≡ false)
     → length (flat s.book) + length h.taken + 1 ≤ call_count job
 taken_fit job laws s k u h parts held early pending new distinct none_told =
-    let workers = map (λ (t : TakenCall). t.worker) h.taken in
+    let workers = map (λ (t : Call). t.worker) h.taken in
     let unserved : AllByRecursion (IsUnserved s) workers = each_taken (IsUnserved s) h.taken (λ x took. inr (is_executing job s x parts (taken_is s k x h held took (none_told x)), rw held early)) in
     let all = laws.room s (u ∷ workers) parts (new, distinct) (inl pending, unserved) in
-    let long : length workers ≡ length h.taken = length-map h.taken (λ (t : TakenCall). t.worker) in
+    let long : length workers ≡ length h.taken = length-map h.taken (λ (t : Call). t.worker) in
     omega (arith, all, long)
 
-module _ (job : CoreJob) (room : ℕ) (laws : Laws job) (slots id : ℕ) (v : View) (xs : List (ℕ × Slot)) (k : ℕ) (from : v.from ≡ k) (to : v.to ≡ k + 1) where
+module _ (job : CoreJob) (room : ℕ) (laws : Laws job) (slots id : ℕ) (v : View) (xs : List (ℕ × Slot)) (k : ℕ) (from : v.own.worker ≡ k) (to : v.to ≡ k + 1) where
   abbrev P : ℕ
   P = job.workers
 
@@ -202,7 +212,7 @@ module _ (job : CoreJob) (room : ℕ) (laws : Laws job) (slots id : ℕ) (v : Vi
   same_receipt n x r e = let h = ap (λ (l : List (ℕ × Slot)). (get_or l 0 (n, Slots.Receipt x)).1) e in cc
 
   -- a post
-  pub posts : (call : OpRecord) → v.enrolled ≡ true → (is : IsPostDue job v.task call) → v.call ≡ NotCalled
+  pub posts : (call : OpRecord) → v.enrolled ≡ true → (is : IsPostDue job v.own.task call) → v.own.call ≡ NotCalled
       → Steps job room slots id (v, (k, Slots.Record call) ∷ xs) k (λ y. 1) (λ y. G.posted (step slots k 1 0 none) (v, (k, Slots.Record call) ∷ xs) 1) (λ before found after. Makes job k (Post is.0 is.1) before after)
   posts call enrolled is called t o wide me fits =
       let s = o.state in
@@ -214,7 +224,7 @@ module _ (job : CoreJob) (room : ℕ) (laws : Laws job) (slots id : ℕ) (v : Vi
       let nowhere : task_place job s.book (s.task k) ≡ None = started_place job s.book (s.task k) is.0 is.1 call.leaf task is.3 ∙ unbooked job s k is.0 is.1 call.leaf o.parts task is.3 calls free not_called in
       let new : State = record s { status = put s.status k Pending; call = put s.call k Out } in
       let happens : Happens job s k (Post is.0 is.1) new = record { worker_in = m.0; needs = (free, task, leaf_is job is.0 call.leaf is.3 calls, not_called); does = refl } in
-      let w : View = V.with_event (V.posting v call) (Post is.0 is.1) in (
+      let w : View = V.with_post call (Post is.0 is.1) v in (
         w,
         gives,
         tt,
@@ -226,7 +236,7 @@ module _ (job : CoreJob) (room : ℕ) (laws : Laws job) (slots id : ℕ) (v : Vi
               task = own.task;
               call = put_at s.call k k Out refl;
               posted = λ _. (call, refl, (is.0, is.1, task, is.3, (is.4 s.book)));
-              hold = hold_same job s new k refl refl (λ u. refl) v.hold own.hold;
+              hold = hold_same job s new k refl refl (λ u. refl) v.own.hold own.hold;
               entries = rw (put_at s.call k k Out refl, nowhere) (rw not_called at own.entries);
               new = λ e. absurd (true_false (sym enrolled ∙ e));
               done = own.done;
@@ -240,16 +250,16 @@ module _ (job : CoreJob) (room : ℕ) (laws : Laws job) (slots id : ℕ) (v : Vi
               };
             })
             (λ i x u low ne h. through job laws s new k x (Post is.0 is.1) u u (get_elem? t.homes x) (get_elem? (set t.homes k (some (Slots.Record call))) x) (o.seat x) i o.parts happens
-            refl (put_other s.call k x Out ne) refl (λ d. d) (λ e _. set_else t.homes k x (some (Slots.Record call)) ne ∙ e) (told_again u) (hold_same job s new x refl refl (λ u. refl) u.hold h.hold) h),
-        λ x e. (is.0, is.1, is.2, ap (λ (y : OpRecord). (V.with_event (V.posting v y) (Post is.0 is.1), xs)) (same_call k call x e)),
+            refl (put_other s.call k x Out ne) refl (λ d. d) (λ e _. set_else t.homes k x (some (Slots.Record call)) ne ∙ e) (told_again u) (hold_same job s new x refl refl (λ u. refl) u.own.hold h.hold) h),
+        λ x e. (is.0, is.1, is.2, ap (λ (y : OpRecord). (V.with_post y (Post is.0 is.1) v, xs)) (same_call k call x e)),
       )
 
-  pub posts_at : (m : G.Sat) (call : OpRecord) → m ≡ (v, (k, Slots.Record call) ∷ xs) → v.enrolled ≡ true → (is : IsPostDue job v.task call) → v.call ≡ NotCalled
+  pub posts_at : (m : G.Sat) (call : OpRecord) → m ≡ (v, (k, Slots.Record call) ∷ xs) → v.enrolled ≡ true → (is : IsPostDue job v.own.task call) → v.own.call ≡ NotCalled
       → Steps job room slots id m k (λ y. 1) (λ y. G.posted (step slots k 1 0 none) m 1) (λ before found after. Makes job k (Post is.0 is.1) before after)
   posts_at m call e enrolled is called = subst (λ (m : G.Sat). Steps job room slots id m k (λ y. 1) (λ y. G.posted (step slots k 1 0 none) m 1) (λ before found after. Makes job k (Post is.0 is.1) before after)) (sym e) (posts call enrolled is called)
 
   -- a trapped pass tries for the flag
-  pub wins : v.workers ≡ P → v.call ≡ Out → v.room ≡ room → Steps job room slots id (v, xs) (flag_at P) (λ y. either (eqb y 0) (k + 1) y) (G.won (step slots (flag_at P) 0 (k + 1) none) (v, xs)) (TryMakes 0 (Makes job k Win))
+  pub wins : v.workers ≡ P → v.own.call ≡ Out → v.room ≡ room → Steps job room slots id (v, xs) (flag_at P) (λ y. either (eqb y 0) (k + 1) y) (G.won (step slots (flag_at P) 0 (k + 1) none) (v, xs)) (TryMakes 0 (Makes job k Win))
   wins sized out roomy t o wide me fits =
       let s = o.state in
       let word = get_or t.words P 0 in
@@ -263,7 +273,7 @@ module _ (job : CoreJob) (room : ℕ) (laws : Laws job) (slots id : ℕ) (v : Vi
       let new : State = record s { hold = Some h } in
       let out' : s.call k ≡ Out = m.1.call ∙ out in
       let happens : Happens job s k Win new = record { worker_in = m.0; needs = (is_trapped job s k o.parts out', out', open_); does = refl } in
-      let w : View = V.with_event (V.winning v s.book) Win in
+      let w : View = V.with_step (W.winning s.book) v in
       let homes = set (set t.homes (P + 1) none) P none in
       let far : (x : ℕ) → x < P → get_elem? homes x ≡ get_elem? t.homes x = λ x low. set_else (set t.homes (P + 1) none) P x none (λ e. omega arith) ∙ set_else t.homes (P + 1) x none (λ e. omega arith) in (
         w,
@@ -281,20 +291,20 @@ module _ (job : CoreJob) (room : ℕ) (laws : Laws job) (slots id : ℕ) (v : Vi
             record { task = refl; call = refl; posted = refl; left = refl; enrolled = refl; saw_done = refl; greatest = refl; before = refl; after = refl; book_seen = refl }
             (refl, refl, (λ u call is yet. absurd (cc)), tt) own)
             (λ i x u low ne other. through job laws s new k x Win u u (get_elem? t.homes x) (get_elem? homes x) (o.seat x) i o.parts happens refl refl refl (λ d. d)
-            (λ e _. far x low ∙ e) (told_again u) (hold_won job s new k x h ne open_ refl refl u.hold other.hold) other)),
-        ((λ _. (none_held job s k v.hold m.1.hold open_, s.book, ap (λ (r : ℕ). (V.with_event (V.winning v s.book) Win, (P, Slots.Shop s.book) ∷ (P + 1, Slots.Book (reserved s.book r)) ∷ xs)) (sym roomy), m.1.seen)), (λ ne. absurd (ne zero)), ap flag_at (sym sized)),
+            (λ e _. far x low ∙ e) (told_again u) (hold_won job s new k x h ne open_ refl refl u.own.hold other.hold) other)),
+        ((λ _. (none_held job s k v.own.hold m.1.hold open_, s.book, ap (λ (r : ℕ). (V.with_step (W.winning s.book) v, (P, Slots.Shop s.book) ∷ (P + 1, Slots.Book (reserved s.book r)) ∷ xs)) (sym roomy), m.1.seen)), (λ ne. absurd (ne zero)), ap flag_at (sym sized)),
       ))
       (λ ne. (
-        V.losing v word,
+        V.with_found word W.losing v,
         keeps,
         tt,
-        missed word 0 (Makes job k Win) ne (looked job room t o id k P v (V.losing v word) me from to from to refl refl (λ h. inl h)
+        missed word 0 (Makes job k Win) ne (looked job room t o id k P v (V.with_found word W.losing v) me from to from to refl refl (λ h. inl h)
             (λ own. record { sits = own.sits; task = own.task; call = own.call; posted = own.posted; entries = own.entries; hold = own.hold; new = own.new; done = own.done; seen = own.seen; since = record { most = own.since.most; early = own.since.early; late = own.since.late; placed = own.since.placed; waits = own.since.waits } })),
         ((λ zero. absurd (ne zero)), (λ _. refl), ap flag_at (sym sized)),
       ))
 
   -- a trapped pass without the flag tries to leave
-  pub leaves : v.enrolled ≡ true → v.call ≡ Out → v.hold ≡ None → Steps job room slots id (v, xs) k (λ y. either (eqb y 3) 0 y) (G.left (step slots k 3 0 none) (v, xs)) (TryMakes 3 (LeaveMakes job k))
+  pub leaves : v.enrolled ≡ true → v.own.call ≡ Out → v.own.hold ≡ None → Steps job room slots id (v, xs) k (λ y. either (eqb y 3) 0 y) (G.left (step slots k 3 0 none) (v, xs)) (TryMakes 3 (LeaveMakes job k))
   leaves enrolled out idle t o wide me fits =
       let s = o.state in
       let word = get_or t.words k 0 in
@@ -310,7 +320,7 @@ module _ (job : CoreJob) (room : ℕ) (laws : Laws job) (slots id : ℕ) (v : Vi
       let home : get_elem? t.homes k ≡ some (some (Slots.Receipt r)) = subst (λ (z : Status). RecordAt job s.book (s.task k) z (get_elem? t.homes k)) st.1 (o.slots.records k m.0) in
       let new : State = record s { status = put s.status k Free; call = put s.call k (Got r) } in
       let happens : Happens job s k (Leave r) new = record { worker_in = m.0; needs = (st.1, subst (λ (z : Maybe HoldView). HoldKnown job s z k) idle m.1.hold); does = refl } in
-      let w : View = V.with_event (V.leaving v call r s.book) (Leave r) in
+      let w : View = V.with_step (W.leaving call r s.book) v in
       let still : put s.call k (Got r) k ≢ Out = rw (put_at s.call k k (Got r) refl) (λ e. cc) in (
         w,
         takes k (Slots.Receipt r),
@@ -323,7 +333,7 @@ module _ (job : CoreJob) (room : ℕ) (laws : Laws job) (slots id : ℕ) (v : Vi
               task = own.task;
               call = put_at s.call k k (Got r) refl;
               posted = λ e. absurd (still e);
-              hold = hold_same job s new k refl refl (λ u. refl) v.hold own.hold;
+              hold = hold_same job s new k refl refl (λ u. refl) v.own.hold own.hold;
               entries = let was = rw (out', served.at, served.entry) at own.entries in rw (put_at s.call k k (Got r) refl, map-append, append-nil) was;
               new = λ e. absurd (true_false (sym enrolled ∙ e));
               done = own.done;
@@ -337,13 +347,13 @@ module _ (job : CoreJob) (room : ℕ) (laws : Laws job) (slots id : ℕ) (v : Vi
               };
             })
             (λ i x u low ne h. through job laws s new k x (Leave r) u u (get_elem? t.homes x) (get_elem? (set t.homes k none) x) (o.seat x) i o.parts happens
-            refl (put_other s.call k x (Got r) ne) refl (λ d. d) (λ e _. set_else t.homes k x none ne ∙ e) (told_again u) (hold_same job s new x refl refl (λ u. refl) u.hold h.hold) h))),
+            refl (put_other s.call k x (Got r) ne) refl (λ d. d) (λ e _. set_else t.homes k x none ne ∙ e) (told_again u) (hold_same job s new x refl refl (λ u. refl) u.own.hold h.hold) h))),
         (
           (λ _. (
             call,
             r,
             what.1,
-            subst (λ (z : Receipt). v.before ≤ z.batch) (sym served.receipt) (m.1.since.placed served.place out' served.at),
+            subst (λ (z : Receipt). v.own.before ≤ z.batch) (sym served.receipt) (m.1.since.placed served.place out' served.at),
             (λ since told. subst (λ (z : Receipt). z.batch ≤ since + 1) (sym served.receipt) (told_by job s k since r served.place st.1 served.at (m.1.since.waits since told out'))),
             (s.book, m.1.seen, subst (λ (x : ℕ). StandsAt s.book r.batch r.place (entry_of x (record { call = call; receipt = r }))) (sym from) served.stands, refl),
           )),
@@ -352,22 +362,26 @@ module _ (job : CoreJob) (room : ℕ) (laws : Laws job) (slots id : ℕ) (v : Vi
         ),
       ))
       (λ ne. (
-        V.staying v word,
+        V.with_found word W.staying v,
         keeps,
         tt,
-        missed word 3 (LeaveMakes job k) ne (looked job room t o id k k v (V.staying v word) me from to from to refl refl (λ h. inl h)
+        missed word 3 (LeaveMakes job k) ne (looked job room t o id k k v (V.with_found word W.staying v) me from to from to refl refl (λ h. inl h)
             (λ own. record { sits = own.sits; task = own.task; call = own.call; posted = own.posted; entries = own.entries; hold = own.hold; new = own.new; done = own.done; seen = own.seen; since = record { most = own.since.most; early = own.since.early; late = own.since.late; placed = own.since.placed; waits = own.since.waits } })),
         ((λ three. absurd (ne three)), (λ _. refl), sym from),
       ))
 
-  holding : (t : St) (o : Shows job room t) (h : HoldView) → get_elem? t.views id ≡ some v → v.hold ≡ Some h → HoldKnown job o.state (Some h) k
+  holding : (t : St) (o : Shows job room t) (h : HoldView) → get_elem? t.views id ≡ some v → v.own.hold ≡ Some h → HoldKnown job o.state (Some h) k
   holding t o h me is = subst (λ (z : Maybe HoldView). HoldKnown job o.state z k) is (mine_of job room t o id k v me from to).1.hold
 
-  again : (h : HoldView) (event : Event) → SameTold v (V.with_event (V.with_hold v h) event)
-  again h event = record { task = refl; call = refl; posted = refl; left = refl; enrolled = refl; saw_done = refl; greatest = refl; before = refl; after = refl; book_seen = refl }
+  again : (event : Event) (f : HoldView → HoldView) → SameTold v (V.with_step (W.with_hold event f) v)
+  again event f = record { task = refl; call = refl; posted = refl; left = refl; enrolled = refl; saw_done = refl; greatest = refl; before = refl; after = refl; book_seen = refl }
+
+  -- the hold that the view tells after this step
+  now_holds : (h : HoldView) (f : HoldView → HoldView) → v.own.hold ≡ Some h → (s : State) → HoldKnown job s (Some (f h)) k → HoldKnown job s (W.in_hold f v.own.hold) k
+  now_holds h f holds s known = subst (λ (z : Maybe HoldView). HoldKnown job s (W.in_hold f z) k) (sym holds) known
 
   -- the holder looks at the next worker
-  pub looks : (h : HoldView) (u : ℕ) → v.room ≡ call_count job → v.hold ≡ Some h → u ≡ h.looks → u < job.workers
+  pub looks : (h : HoldView) (u : ℕ) → v.room ≡ call_count job → v.own.hold ≡ Some h → u ≡ h.looks → u < job.workers
       → Steps job room slots id (v, xs) u (λ y. either (eqb y 1) 2 y) (G.took (step slots u 1 2 none) (v, xs)) (λ before found after. Makes job k (Take u) before after)
   looks h u roomy holds next low t o wide me fits =
       let s = o.state in
@@ -382,8 +396,9 @@ module _ (job : CoreJob) (room : ℕ) (laws : Laws job) (slots id : ℕ) (v : Vi
       let pending : s.status u ≡ Pending = pending_word (s.status u) (sym (o.words.statuses u low) ∙ one) in
       let what = subst (λ (z : Status). RecordAt job s.book (s.task u) z (get_elem? t.homes u)) pending (o.slots.records u low) in
       let call = what.0 in
-      let h' = V.taken_view h u call in
-      let w : View = V.with_event (V.with_hold v h') (Take u) in
+      let f = W.after_take (W.call_by u call) in
+      let h' = f h in
+      let w : View = V.with_step (W.taking (W.call_by u call)) v in
       let new : State = record s { status = put s.status u Executing; hold = Some (hold_of k h') } in
       let happens : Happens job s k (Take u) new = record { worker_in = m.0; needs = (hold_of k h, (held, refl), next, low); does = take_takes s k u h call held pending } in
       let here : (x : ℕ) → get_elem? t.homes x ≡ some (some Slots.Vacant) → get_elem? (set t.homes u none) x ≡ some (some Slots.Vacant) = λ x e. elim (cases_eq x u) [
@@ -399,10 +414,10 @@ module _ (job : CoreJob) (room : ℕ) (laws : Laws job) (slots id : ℕ) (v : Vi
             (set_status P N t.words s.node s.mark s.value s.status s.hold s.tick (length s.book) o.words u Executing low)))
             (slots_record job room t.homes s.task s.status s.hold (Some (hold_of k h')) s.book u Executing none o.slots low refl
             (λ home g. subst (λ (z : Maybe Hold). ShopAt z s.book home) held g) (λ home g. subst (λ (z : Maybe Hold). BookAt room z s.book home) held g))
-            (λ own. through job laws s new k k (Take u) v w (get_elem? t.homes k) (get_elem? (set t.homes u none) k) (o.seat k) id o.parts happens refl refl refl (λ d. d) (λ e _. here k e) (again h' (Take u))
-            (refl, known.1, took_more job s u call h what.2 known.2, (others_before h.taken u (λ x e. let low' = stands.2 x e in omega (arith, low', next)), known.3)) own)
+            (λ own. through job laws s new k k (Take u) v w (get_elem? t.homes k) (get_elem? (set t.homes u none) k) (o.seat k) id o.parts happens refl refl refl (λ d. d) (λ e _. here k e) (again (Take u) f)
+            (now_holds h f holds new (refl, known.1, took_more job s u call h what.2 known.2, workers_last h.taken (W.call_by u call) known.3 (others_before h.taken u (λ x e. let low' = stands.2 x e in omega (arith, low', next))))) own)
             (λ i x y low' ne other. through job laws s new k x (Take u) y y (get_elem? t.homes x) (get_elem? (set t.homes u none) x) (o.seat x) i o.parts happens refl refl refl (λ d. d) (λ e _. here x e) (told_again y)
-            (hold_others job s new k x (hold_of k h) (hold_of k h') ne held refl refl refl y.hold other.hold) other),
+            (hold_others job s new k x (hold_of k h) (hold_of k h') ne held refl refl refl y.own.hold other.hold) other),
         (
           h,
           holds,
@@ -422,8 +437,9 @@ module _ (job : CoreJob) (room : ℕ) (laws : Laws job) (slots id : ℕ) (v : Vi
       ))
       (λ ne.
       let other_status : is_pending (s.status u) ≡ false = other_word (s.status u) (λ e. ne (o.words.statuses u low ∙ e)) in
-      let h' = V.passed_view h word in
-      let w : View = V.with_event (V.passing v h word) (Take u) in
+      let f = W.after_pass word in
+      let h' = f h in
+      let w : View = V.with_found word (W.passing u word) v in
       let new : State = record s { hold = Some (hold_of k h') } in
       let happens : Happens job s k (Take u) new = record { worker_in = m.0; needs = (hold_of k h, (held, refl), next, low); does = take_passes s k u h word held other_status } in (
         w,
@@ -438,9 +454,9 @@ module _ (job : CoreJob) (room : ℕ) (laws : Laws job) (slots id : ℕ) (v : Vi
               shop = subst (λ (z : Maybe Hold). ShopAt z s.book (get_elem? t.homes P)) held o.slots.shop;
               batches = subst (λ (z : Maybe Hold). BookAt room z s.book (get_elem? t.homes (P + 1))) held o.slots.batches;
             }
-            (λ own. through job laws s new k k (Take u) v w (get_elem? t.homes k) (get_elem? t.homes k) (o.seat k) id o.parts happens refl refl refl (λ d. d) (λ e _. e) record { task = refl; call = refl; posted = refl; left = refl; enrolled = refl; saw_done = refl; greatest = refl; before = refl; after = refl; book_seen = refl } (refl, known.1, known.2, known.3) own)
+            (λ own. through job laws s new k k (Take u) v w (get_elem? t.homes k) (get_elem? t.homes k) (o.seat k) id o.parts happens refl refl refl (λ d. d) (λ e _. e) record { task = refl; call = refl; posted = refl; left = refl; enrolled = refl; saw_done = refl; greatest = refl; before = refl; after = refl; book_seen = refl } (now_holds h f holds new (refl, known.1, known.2, known.3)) own)
             (λ i x y low' ne' other. through job laws s new k x (Take u) y y (get_elem? t.homes x) (get_elem? t.homes x) (o.seat x) i o.parts happens refl refl refl (λ d. d) (λ e _. e) (told_again y)
-            (hold_others job s new k x (hold_of k h) (hold_of k h') ne' held refl refl refl y.hold other.hold) other),
+            (hold_others job s new k x (hold_of k h) (hold_of k h') ne' held refl refl refl y.own.hold other.hold) other),
         (h, holds, unpublished, (λ one. absurd (ne one)), (λ _. refl), next),
       ))
 
@@ -449,7 +465,7 @@ module _ (job : CoreJob) (room : ℕ) (laws : Laws job) (slots id : ℕ) (v : Vi
       free_untaken job s u k h call kept (subst (λ (y : ℕ). s.status y ≡ Free) same (is_free job s x kept (rw not_called (λ e. cc)))) held is yet
 
   -- the holder hands a worker its receipt
-  pub answers : (h : HoldView) (u : ℕ) (call : OpRecord) (r : Receipt) → v.hold ≡ Some h → u < job.workers → h.published ≡ true → record_in h.taken u ≡ Some call → among h.answered u ≡ false → IsReceipt (place_of h.book call.leaf) r
+  pub answers : (h : HoldView) (u : ℕ) (call : OpRecord) (r : Receipt) → v.own.hold ≡ Some h → u < job.workers → h.published ≡ true → record_in h.taken u ≡ Some call → among h.answered u ≡ false → IsReceipt (place_of h.book call.leaf) r
       → Steps job room slots id (v, (u, Slots.Receipt r) ∷ xs) u (λ y. 3) (λ y. G.answered (step slots u 3 0 none) (v, (u, Slots.Receipt r) ∷ xs) 3) (λ before found after. Makes job k (Answer u r) before after)
   answers h u call r holds low there is yet receipt t o wide me fits =
       let s = o.state in
@@ -457,14 +473,15 @@ module _ (job : CoreJob) (room : ℕ) (laws : Laws job) (slots id : ℕ) (v : Vi
       let known = holding t o h me holds in
       let held : s.hold ≡ Some (hold_of k h) = known.0 in
       let what = known.2 u call is yet in
-      let h' = V.answered_view h u in
-      let w : View = V.with_event (V.with_hold v h') (Answer u r) in
+      let f = W.after_answer u in
+      let h' = f h in
+      let w : View = V.with_step (W.answering u r) v in
       let new : State = record s { status = put s.status u (Served r); hold = Some (hold_of k h') } in
       let receipt' : IsReceipt (place_of s.book call.leaf) r = subst (λ (b : List (List Entry)). IsReceipt (place_of b call.leaf) r) (sym known.1) receipt in
       let happens : Happens job s k (Answer u r) new = record {
         worker_in = m.0;
         needs = (hold_of k h, (held, refl), there, record_took h.taken u call is, yet, (what.0, call.leaf, (what.3, what.1, what.2), receipt'));
-        does = rw held refl;
+        does = answer_tells s k u h r held;
       } in
       let homes = set t.homes u (some (Slots.Receipt r)) in
       let here : (x : ℕ) → s.call x ≡ NotCalled → get_elem? t.homes x ≡ some (some Slots.Vacant) → get_elem? homes x ≡ some (some Slots.Vacant) = λ x not_called e. elim (cases_eq x u) [
@@ -479,40 +496,40 @@ module _ (job : CoreJob) (room : ℕ) (laws : Laws job) (slots id : ℕ) (v : Vi
             (set_status P N t.words s.node s.mark s.value s.status s.hold s.tick (length s.book) o.words u (Served r) low))
             (slots_record job room t.homes s.task s.status s.hold (Some (hold_of k h')) s.book u (Served r) (some (Slots.Receipt r)) o.slots low refl
             (λ home g. subst (λ (z : Maybe Hold). ShopAt z s.book home) held g) (λ home g. subst (λ (z : Maybe Hold). BookAt room z s.book home) held g))
-            (λ own. through job laws s new k k (Answer u r) v w (get_elem? t.homes k) (get_elem? homes k) (o.seat k) id o.parts happens refl refl refl (λ d. d) (λ e c. here k (own.call ∙ c) e) (again h' (Answer u r))
-            (refl, known.1, (λ x c e f. let g = if_false x u (among h.answered x) f in known.2 x c e g.1), known.3) own)
+            (λ own. through job laws s new k k (Answer u r) v w (get_elem? t.homes k) (get_elem? homes k) (o.seat k) id o.parts happens refl refl refl (λ d. d) (λ e c. here k (own.call ∙ c) e) (again (Answer u r) f)
+            (now_holds h f holds new (refl, known.1, (λ x c e yet'. let g = if_false x u (among h.answered x) (sym (among_put h.answered u x) ∙ yet') in known.2 x c e g.1), known.3)) own)
             (λ i x y low' ne other. through job laws s new k x (Answer u r) y y (get_elem? t.homes x) (get_elem? homes x) (o.seat x) i o.parts happens refl refl refl (λ d. d) (λ e c. here x (other.call ∙ c) e) (told_again y)
-            (hold_others job s new k x (hold_of k h) (hold_of k h') ne held refl refl refl y.hold other.hold) other),
-        (h, holds, (λ q e. ap (λ (z : Receipt). (V.with_event (V.with_hold v h') (Answer u z), xs)) (same_receipt u r q e))),
+            (hold_others job s new k x (hold_of k h) (hold_of k h') ne held refl refl refl y.own.hold other.hold) other),
+        (h, holds, (λ q e. ap (λ (z : Receipt). (V.with_step (W.answering u z) v, xs)) (same_receipt u r q e))),
       )
 
   -- a release returns the shop to the table, and the book too if nothing was published
-  let_go : (h : HoldView) (homes : List (Option Slot)) → v.hold ≡ Some h → h.looks ≡ job.workers → ((u : ℕ) → took_in h.taken u ≡ true → among h.answered u ≡ true)
+  let_go : (h : HoldView) (homes : List (Option Slot)) → v.own.hold ≡ Some h → h.looks ≡ job.workers → ((u : ℕ) → took_in h.taken u ≡ true → among h.answered u ≡ true)
       → (t : St) (o : Shows job room t) → get_elem? t.views id ≡ some v → length homes ≡ length t.homes → ((x : ℕ) → x < job.workers → get_elem? homes x ≡ get_elem? t.homes x)
       → ShopAt None o.state.book (get_elem? homes job.workers) → BookAt room None o.state.book (get_elem? homes (job.workers + 1))
-      → ShowsOne job room (Happens job o.state k Release) record { words = set t.words (flag_at P) 0; homes = homes; views = set t.views id (V.with_event (V.releasing v) Release) }
+      → ShowsOne job room (Happens job o.state k Release) record { words = set t.words (flag_at P) 0; homes = homes; views = set t.views id (V.with_step W.releasing v) }
   let_go h homes holds looked_all all t o me wide far shop batches =
       let s = o.state in
       let m = mine_of job room t o id k v me from to in
       let known = holding t o h me holds in
       let held : s.hold ≡ Some (hold_of k h) = known.0 in
-      let w : View = V.with_event (V.releasing v) Release in
-      let told : View = record w { book_seen = v.book_seen } in
-      let front : IsFront (V.book_after v.hold v.book_seen) s.book = subst (λ (z : Maybe HoldView). IsFront (V.book_after z v.book_seen) s.book) (sym holds) ([], known.1 ∙ sym (append-nil h.book)) in
+      let w : View = V.with_step W.releasing v in
+      let told : View = record w { own = record w.own { book_seen = v.own.book_seen } } in
+      let front : IsFront (W.book_after v.own.hold v.own.book_seen) s.book = subst (λ (z : Maybe HoldView). IsFront (W.book_after z v.own.book_seen) s.book) (sym holds) ([], known.1 ∙ sym (append-nil h.book)) in
       let gone : Maybe Hold = None in
       let new : State = record s { hold = gone } in
       let happens : Happens job s k Release new = record { worker_in = m.0; needs = (hold_of k h, (held, refl), looked_all, all); does = refl } in
       moved job room laws t o id k v w (set t.words (flag_at P) 0) homes Release new happens me from to from to record { events = refl; stops = refl; found = refl } (get_or-set_other t.words (flag_at P) (stop_at P) 0 0 (λ e. omega arith))
       (set_flag P N t.words s.node s.mark s.value s.status s.hold s.tick (length s.book) o.words gone)
       record { wide = wide ∙ o.slots.wide; records = λ u low. rw (far u low) (o.slots.records u low); shop = shop; batches = batches }
-      (λ own. reseen job new (get_elem? homes k) (o.seat k) id told k (V.book_after v.hold v.book_seen) front
+      (λ own. reseen job new (get_elem? homes k) (o.seat k) id told k (W.book_after v.own.hold v.own.book_seen) front
       (through job laws s new k k Release v told (get_elem? t.homes k) (get_elem? homes k) (o.seat k) id o.parts happens refl refl refl (λ d. d) (λ e c. far k m.0 ∙ e)
       record { task = refl; call = refl; posted = refl; left = refl; enrolled = refl; saw_done = refl; greatest = refl; before = refl; after = refl; book_seen = refl }
       (λ i e. absurd (cc)) own))
       (λ i x y low ne other. through job laws s new k x Release y y (get_elem? t.homes x) (get_elem? homes x) (o.seat x) i o.parts happens refl refl refl (λ d. d) (λ e c. far x low ∙ e) (told_again y)
-      (hold_gone job s new k x (hold_of k h) ne held refl refl y.hold other.hold) other)
+      (hold_gone job s new k x (hold_of k h) ne held refl refl y.own.hold other.hold) other)
 
-  pub releases_shop : (h : HoldView) (shop : List (List Entry)) → v.hold ≡ Some h → h.looks ≡ job.workers → h.published ≡ true → ((u : ℕ) → took_in h.taken u ≡ true → among h.answered u ≡ true) → shop ≡ h.book
+  pub releases_shop : (h : HoldView) (shop : List (List Entry)) → v.own.hold ≡ Some h → h.looks ≡ job.workers → h.published ≡ true → ((u : ℕ) → took_in h.taken u ≡ true → among h.answered u ≡ true) → shop ≡ h.book
       → Steps job room slots id (v, (flag_at P, Slots.Shop shop) ∷ xs) (flag_at P) (λ y. 0) (λ y. G.released_shop (step slots (flag_at P) 0 0 none) (v, (flag_at P, Slots.Shop shop) ∷ xs) 0) (λ before found after. Makes job k (Release) before after)
   releases_shop h shop holds looked_all there all whole t o wide me fits =
       let s = o.state in
@@ -521,7 +538,7 @@ module _ (job : CoreJob) (room : ℕ) (laws : Laws job) (slots id : ℕ) (v : Vi
       let wide' = o.slots.wide in
       let at_home : BookAt room (Some (hold_of k h)) s.book (get_elem? t.homes (P + 1)) = subst (λ (z : Maybe Hold). BookAt room z s.book (get_elem? t.homes (P + 1))) known.0 o.slots.batches in
       let at_home' : BookIf true room s.book (get_elem? t.homes (P + 1)) = subst (λ (z : Bool). BookIf z room s.book (get_elem? t.homes (P + 1))) there at_home in (
-        V.with_event (V.releasing v) Release,
+        V.with_step W.releasing v,
         gives,
         tt,
         let_go h homes holds looked_all all t o me (length-set t.homes P (some (Slots.Shop shop))) (λ x low. set_else t.homes P x (some (Slots.Shop shop)) (λ e. omega arith))
@@ -530,7 +547,7 @@ module _ (job : CoreJob) (room : ℕ) (laws : Laws job) (slots id : ℕ) (v : Vi
         refl,
       )
 
-  pub releases_both : (h : HoldView) (shop : List (List Entry)) → v.hold ≡ Some h → h.looks ≡ job.workers → ((u : ℕ) → took_in h.taken u ≡ true → among h.answered u ≡ true) → shop ≡ h.book
+  pub releases_both : (h : HoldView) (shop : List (List Entry)) → v.own.hold ≡ Some h → h.looks ≡ job.workers → ((u : ℕ) → took_in h.taken u ≡ true → among h.answered u ≡ true) → shop ≡ h.book
       → Steps job room slots id (v, (flag_at P, Slots.Shop shop) ∷ (flag_at P + 1, Slots.Book (reserved h.book room)) ∷ xs) (flag_at P) (λ y. 0)
       (λ y. G.released_both (step slots (flag_at P) 0 0 none) (v, (flag_at P, Slots.Shop shop) ∷ (flag_at P + 1, Slots.Book (reserved h.book room)) ∷ xs) 0) (λ before found after. Makes job k (Release) before after)
   releases_both h shop holds looked_all all whole t o wide me fits =
@@ -540,7 +557,7 @@ module _ (job : CoreJob) (room : ℕ) (laws : Laws job) (slots id : ℕ) (v : Vi
       let homes = set first (P + 1) (some (Slots.Book (reserved h.book room))) in
       let long = length-set t.homes P (some (Slots.Shop shop)) in
       let wide' = o.slots.wide in (
-        V.with_event (V.releasing v) Release,
+        V.with_step W.releasing v,
         chain gives gives,
         (tt, tt),
         let_go h homes holds looked_all all t o me
@@ -551,14 +568,14 @@ module _ (job : CoreJob) (room : ℕ) (laws : Laws job) (slots id : ℕ) (v : Vi
         refl,
       )
 
-  pub answers_at : (m : G.Sat) (h : HoldView) (u : ℕ) (call : OpRecord) (r : Receipt) → m ≡ (v, (u, Slots.Receipt r) ∷ xs) → v.hold ≡ Some h → u < job.workers → h.published ≡ true → record_in h.taken u ≡ Some call → among h.answered u ≡ false → IsReceipt (place_of h.book call.leaf) r
+  pub answers_at : (m : G.Sat) (h : HoldView) (u : ℕ) (call : OpRecord) (r : Receipt) → m ≡ (v, (u, Slots.Receipt r) ∷ xs) → v.own.hold ≡ Some h → u < job.workers → h.published ≡ true → record_in h.taken u ≡ Some call → among h.answered u ≡ false → IsReceipt (place_of h.book call.leaf) r
       → Steps job room slots id m u (λ y. 3) (λ y. G.answered (step slots u 3 0 none) m 3) (λ before found after. Makes job k (Answer u r) before after)
   answers_at m h u call r e holds low there is yet receipt = subst (λ (m : G.Sat). Steps job room slots id m u (λ y. 3) (λ y. G.answered (step slots u 3 0 none) m 3) (λ before found after. Makes job k (Answer u r) before after)) (sym e) (answers h u call r holds low there is yet receipt)
 
-  pub releases_shop_at : (m : G.Sat) (h : HoldView) (shop : List (List Entry)) → m ≡ (v, (flag_at P, Slots.Shop shop) ∷ xs) → v.hold ≡ Some h → h.looks ≡ job.workers → h.published ≡ true → ((u : ℕ) → took_in h.taken u ≡ true → among h.answered u ≡ true) → shop ≡ h.book
+  pub releases_shop_at : (m : G.Sat) (h : HoldView) (shop : List (List Entry)) → m ≡ (v, (flag_at P, Slots.Shop shop) ∷ xs) → v.own.hold ≡ Some h → h.looks ≡ job.workers → h.published ≡ true → ((u : ℕ) → took_in h.taken u ≡ true → among h.answered u ≡ true) → shop ≡ h.book
       → Steps job room slots id m (flag_at P) (λ y. 0) (λ y. G.released_shop (step slots (flag_at P) 0 0 none) m 0) (λ before found after. Makes job k (Release) before after)
   releases_shop_at m h shop e holds looked_all there all whole = subst (λ (m : G.Sat). Steps job room slots id m (flag_at P) (λ y. 0) (λ y. G.released_shop (step slots (flag_at P) 0 0 none) m 0) (λ before found after. Makes job k (Release) before after)) (sym e) (releases_shop h shop holds looked_all there all whole)
 
-  pub releases_both_at : (m : G.Sat) (h : HoldView) (shop : List (List Entry)) → m ≡ (v, (flag_at P, Slots.Shop shop) ∷ (flag_at P + 1, Slots.Book (reserved h.book room)) ∷ xs) → v.hold ≡ Some h → h.looks ≡ job.workers → ((u : ℕ) → took_in h.taken u ≡ true → among h.answered u ≡ true) → shop ≡ h.book
+  pub releases_both_at : (m : G.Sat) (h : HoldView) (shop : List (List Entry)) → m ≡ (v, (flag_at P, Slots.Shop shop) ∷ (flag_at P + 1, Slots.Book (reserved h.book room)) ∷ xs) → v.own.hold ≡ Some h → h.looks ≡ job.workers → ((u : ℕ) → took_in h.taken u ≡ true → among h.answered u ≡ true) → shop ≡ h.book
       → Steps job room slots id m (flag_at P) (λ y. 0) (λ y. G.released_both (step slots (flag_at P) 0 0 none) m 0) (λ before found after. Makes job k (Release) before after)
   releases_both_at m h shop e holds looked_all all whole = subst (λ (m : G.Sat). Steps job room slots id m (flag_at P) (λ y. 0) (λ y. G.released_both (step slots (flag_at P) 0 0 none) m 0) (λ before found after. Makes job k (Release) before after)) (sym e) (releases_both h shop holds looked_all all whole)

@@ -32,7 +32,8 @@ use Rattle.table_rule.specs.DueTasks.{IsTickDue}
 use Rattle.table_rule.specs.Steps.{ShowsOne, Steps, TryMakes, ArrivalMakes, Makes, DrawMakes}
 use Rattle.table_rule.specs.Shows.{St, Shows, Mine}
 use Rattle.table_rule.specs.Plays.{claimed, drawn, half_opened, opened, kept, finished, arrived}
-use Rattle.table_rule.specs.Views.{with_event, with_task, claiming, refusing, ticked, opening, keeping}
+use Rattle.table_rule.specs.Passes.{with_task, claiming, refusing, opening, keeping}
+use Rattle.table_rule.specs.Views.{with_step, with_found, ticked}
 use Rattle.table_rule.proofs.TableLemmas.Words.{put_at, put_other, set_node, set_mark, set_value, set_tick}
 use Rattle.table_rule.proofs.TableLemmas.Facts.{is_free}
 use Rattle.table_rule.proofs.TableLemmas.Moved.{mine_of, job_step, looked, found, missed, found_none, found_one, SameBut}
@@ -51,7 +52,7 @@ root_kept node n x undone done = grind (arith, nat_tests)
 root_done : (node : ℕ → Progress) (n : ℕ) (x : Progress) → is_done x ≡ true → is_done (node 0) ≡ true → is_done (put node n x 0) ≡ true
 root_done node n x is done = grind (arith, nat_tests)
 
-module _ (job : CoreJob) (room : ℕ) (laws : Laws job) (slots id : ℕ) (v : View) (xs : List (ℕ × Slot)) (k : ℕ) (from : v.from ≡ k) (to : v.to ≡ k + 1) (sized : v.workers ≡ job.workers) (enrolled : v.enrolled ≡ true) (planned : nodes_of v.plan ≡ job.plan) where
+module _ (job : CoreJob) (room : ℕ) (laws : Laws job) (slots id : ℕ) (v : View) (xs : List (ℕ × Slot)) (k : ℕ) (from : v.own.worker ≡ k) (to : v.to ≡ k + 1) (sized : v.workers ≡ job.workers) (enrolled : v.enrolled ≡ true) (planned : nodes_of v.plan ≡ job.plan) where
   abbrev P : ℕ
   P = job.workers
 
@@ -59,11 +60,11 @@ module _ (job : CoreJob) (room : ℕ) (laws : Laws job) (slots id : ℕ) (v : Vi
   N = job.plan.count
 
   -- the view after a look or a refused try
-  refused : (t : St) (o : Shows job room t) (n word : ℕ) → Mine job o.state (get_elem? t.homes k) (o.seat k) id v k → Mine job o.state (get_elem? t.homes k) (o.seat k) id (refusing v n word) k
+  refused : (t : St) (o : Shows job room t) (n word : ℕ) → Mine job o.state (get_elem? t.homes k) (o.seat k) id v k → Mine job o.state (get_elem? t.homes k) (o.seat k) id (with_found word (refusing n) v) k
   refused t o n word m = record { sits = m.sits; task = m.task; call = m.call; posted = m.posted; entries = m.entries; hold = m.hold; new = m.new; done = m.done; seen = m.seen; since = record { most = m.since.most; early = m.since.early; late = m.since.late; placed = m.since.placed; waits = m.since.waits } }
 
   -- a claim
-  pub claims : (n : ℕ) → n < job.plan.count → v.task ≡ Idle → v.call ≢ Out
+  pub claims : (n : ℕ) → n < job.plan.count → v.own.task ≡ Idle → v.own.call ≢ Out
       → Steps job room slots id (v, xs) (node_at job.workers n) (λ y. either (eqb y 1) 2 y) (claimed (step slots (node_at job.workers n) 1 2 none) (v, xs)) (TryMakes 1 (Makes job k (Claim n)))
   claims n below idle inside t o wide me fits =
       let s = o.state in
@@ -73,10 +74,10 @@ module _ (job : CoreJob) (room : ℕ) (laws : Laws job) (slots id : ℕ) (v : Vi
       exchanged word 1 2 (λ y. (w : View) × (a : Act Slot) × Valid t.homes xs a × ShowsOne job room (TryMakes 1 (Makes job k (Claim n)) s word) (stepped t (node_at job.workers n) y id xs w a) × claimed (step slots (node_at job.workers n) 1 2 none) (v, xs) word (w, carried_after xs a))
       (λ one.
       let ready : s.node n ≡ Ready = ready_word (s.node n) (sym (o.words.progress n below) ∙ one) in (
-        with_event (claiming v n) (Claim n),
+        with_step (claiming n) v,
         keeps,
         tt,
-        found word 1 (Makes job k (Claim n)) one (job_step job room laws t o id k v (with_event (claiming v n) (Claim n)) (set t.words (node_at job.workers n) 2) (Claim n) (put s.node n IsTaken) s.mark s.value s.tick s.call (Run n)
+        found word 1 (Makes job k (Claim n)) one (job_step job room laws t o id k v (with_step (claiming n) v) (set t.words (node_at job.workers n) 2) (Claim n) (put s.node n IsTaken) s.mark s.value s.tick s.call (Run n)
             record { worker_in = m.0; needs = (is_free job s k o.parts inside', m.1.task ∙ idle, ready); does = refl }
             me from to enrolled inside' inside'
             record { from = refl; to = refl; left = refl; hold = refl; enrolled = refl; saw_done = refl; greatest = refl; before = refl; after = refl; book_seen = refl }
@@ -86,21 +87,21 @@ module _ (job : CoreJob) (room : ℕ) (laws : Laws job) (slots id : ℕ) (v : Vi
         (n, ap (λ (p : ℕ). node_at p n) (sym sized), (λ _. refl), (λ ne. absurd (ne one))),
       ))
       (λ ne. (
-        refusing v n word,
+        with_found word (refusing n) v,
         keeps,
         tt,
-        missed word 1 (Makes job k (Claim n)) ne (looked job room t o id k (node_at job.workers n) v (refusing v n word) me from to from to refl refl (λ h. inl h) (refused t o n word)),
+        missed word 1 (Makes job k (Claim n)) ne (looked job room t o id k (node_at job.workers n) v (with_found word (refusing n) v) me from to from to refl refl (λ h. inl h) (refused t o n word)),
         (n, ap (λ (p : ℕ). node_at p n) (sym sized), (λ one. absurd (ne one)), (λ _. refl)),
       ))
 
-  same : (w : View) → w.from ≡ v.from → w.to ≡ v.to → w.left ≡ v.left → w.hold ≡ v.hold → w.enrolled ≡ v.enrolled → w.saw_done ≡ v.saw_done → w.greatest ≡ v.greatest → w.before ≡ v.before → w.after ≡ v.after → w.book_seen ≡ v.book_seen → SameBut v w
+  same : (w : View) → w.own.worker ≡ v.own.worker → w.to ≡ v.to → w.own.left ≡ v.own.left → w.own.hold ≡ v.own.hold → w.enrolled ≡ v.enrolled → w.saw_done ≡ v.saw_done → w.own.greatest ≡ v.own.greatest → w.own.before ≡ v.own.before → w.own.after ≡ v.own.after → w.own.book_seen ≡ v.own.book_seen → SameBut v w
   same w a b l c d e f g h i = record { from = a; to = b; left = l; hold = c; enrolled = d; saw_done = e; greatest = f; before = g; after = h; book_seen = i }
 
-  outside : (t : St) (o : Shows job room t) → get_elem? t.views id ≡ some v → v.call ≢ Out → o.state.call k ≢ Out
+  outside : (t : St) (o : Shows job room t) → get_elem? t.views id ≡ some v → v.own.call ≢ Out → o.state.call k ≢ Out
   outside t o me inside e = inside (sym (mine_of job room t o id k v me from to).1.call ∙ e)
 
   -- a draw of the tick
-  draws : (event : Event) (y : ℕ → Task) → IsTickEvent v.task event → v.call ≢ Out → ((tick : ℕ) → ticked v.task tick ≡ y tick)
+  draws : (event : Event) (y : ℕ → Task) → IsTickEvent v.own.task event → v.own.call ≢ Out → ((tick : ℕ) → ticked v.own.task tick ≡ y tick)
       → ((t : St) (o : Shows job room t) → get_elem? t.views id ≡ some v → Happens job o.state k event (record o.state { tick = o.state.tick + 1; task = put o.state.task k (y o.state.tick) }))
       → Steps job room slots id (v, xs) (tick_at P) (λ n. (n + 1) % 2 ^ 64) (drawn (step slots (tick_at P) 1 0 none) (v, xs)) (λ before found after. Makes job k (event) before after)
   draws event y is_draw inside becomes happens t o wide me fits =
@@ -109,7 +110,7 @@ module _ (job : CoreJob) (room : ℕ) (laws : Laws job) (slots id : ℕ) (v : Vi
       let most = laws.ticks s o.parts in
       let room' : word < 80000 = omega (arith, most, laws.few, o.words.ticks) in
       let next : (word + 1) % 2 ^ 64 ≡ s.tick + 1 = omega (arith, o.words.ticks, room') in
-      let w : View = with_event (with_task v (ticked v.task word)) event in
+      let w : View = with_step (with_task event (ticked v.own.task word)) v in
       let m = mine_of job room t o id k v me from to in (
         w,
         keeps,
@@ -123,16 +124,16 @@ module _ (job : CoreJob) (room : ℕ) (laws : Laws job) (slots id : ℕ) (v : Vi
         (room', event, is_draw, refl),
       )
 
-  pub starts : (n : ℕ) → v.task ≡ Run n → IsLeaf (job.plan.kind n) → v.call ≢ Out → Steps job room slots id (v, xs) (tick_at P) (λ y. (y + 1) % 2 ^ 64) (drawn (step slots (tick_at P) 1 0 none) (v, xs)) (λ before found after. Makes job k (Start n) before after)
+  pub starts : (n : ℕ) → v.own.task ≡ Run n → IsLeaf (job.plan.kind n) → v.own.call ≢ Out → Steps job room slots id (v, xs) (tick_at P) (λ y. (y + 1) % 2 ^ 64) (drawn (step slots (tick_at P) 1 0 none) (v, xs)) (λ before found after. Makes job k (Start n) before after)
   starts n task leaf inside = draws (Start n) (λ tick. Started n tick) (subst (λ (y : Task). IsTickEvent y (Start n)) (sym task) refl) inside (λ tick. ap (λ (y : Task). ticked y tick) task)
       (λ t o me. let m = mine_of job room t o id k v me from to in record { worker_in = m.0; needs = (is_free job o.state k o.parts (outside t o me inside), m.1.task ∙ task, leaf); does = refl })
 
-  pub ends : (n start : ℕ) → v.task ≡ Kept n start → v.call ≢ Out → Steps job room slots id (v, xs) (tick_at P) (λ y. (y + 1) % 2 ^ 64) (drawn (step slots (tick_at P) 1 0 none) (v, xs)) (λ before found after. Makes job k (End n start) before after)
+  pub ends : (n start : ℕ) → v.own.task ≡ Kept n start → v.own.call ≢ Out → Steps job room slots id (v, xs) (tick_at P) (λ y. (y + 1) % 2 ^ 64) (drawn (step slots (tick_at P) 1 0 none) (v, xs)) (λ before found after. Makes job k (End n start) before after)
   ends n start task inside = draws (End n start) (λ tick. Ended n start tick) (subst (λ (y : Task). IsTickEvent y (End n start)) (sym task) refl) inside (λ tick. ap (λ (y : Task). ticked y tick) task)
       (λ t o me. let m = mine_of job room t o id k v me from to in record { worker_in = m.0; needs = (is_free job o.state k o.parts (outside t o me inside), m.1.task ∙ task); does = refl })
 
   -- a node that is not the root gets this progress
-  stores : (event : Event) (n : ℕ) (x : Progress) (y : Task) (w : View) → n < N → w.task ≡ y → w.call ≡ v.call → SameBut v w → AddsEvent v w event → v.call ≢ Out
+  stores : (event : Event) (n : ℕ) (x : Progress) (y : Task) (w : View) → n < N → w.own.task ≡ y → w.own.call ≡ v.own.call → SameBut v w → AddsEvent v w event → v.own.call ≢ Out
       → (t : St) (o : Shows job room t) → get_elem? t.views id ≡ some v
       → Happens job o.state k event (record o.state { node = put o.state.node n x; task = put o.state.task k y })
       → (is_done (o.state.node 0) ≡ true → is_done (put o.state.node n x 0) ≡ true)
@@ -150,12 +151,12 @@ module _ (job : CoreJob) (room : ℕ) (laws : Laws job) (slots id : ℕ) (v : Vi
   far : (node : ℕ → Progress) (n : ℕ) (x : Progress) → n ≢ 0 → is_done (node 0) ≡ true → is_done (put node n x 0) ≡ true
   far node n x ne done = rw (put_other node n 0 x (λ e. ne (sym e))) done
 
-  pub opens_right : (p l r : ℕ) → v.task ≡ Run p → job.plan.kind p ≡ Some (ParNode l r) → v.call ≢ Out
+  pub opens_right : (p l r : ℕ) → v.own.task ≡ Run p → job.plan.kind p ≡ Some (ParNode l r) → v.own.call ≢ Out
       → Steps job room slots id (v, xs) (node_at P r) (λ y. 1) (λ y. half_opened (step slots (node_at P r) 1 0 none) (v, xs) 1) (λ before found after. Makes job k (OpenParRight p l r) before after)
   opens_right p l r task kind inside t o wide me fits =
       let m = mine_of job room t o id k v me from to in
       let side = side_in p r (ap parent_of (laws.plan.right_of_par p l r kind)) in
-      let w : View = with_event (opening v r (Half p)) (OpenParRight p l r) in (
+      let w : View = with_step (opening r (OpenParRight p l r) (Half p)) v in (
         w,
         keeps,
         tt,
@@ -164,43 +165,43 @@ module _ (job : CoreJob) (room : ℕ) (laws : Laws job) (slots id : ℕ) (v : Vi
         (r, p, l, ap (λ (q : ℕ). node_at q r) (sym sized), task, ap (λ (plan : Nodes). plan.kind p) planned ∙ kind, refl),
       )
 
-  opens_to_idle : (event : Event) (n : ℕ) → IsOpenEvent job.plan v.task n event → n < N → n ≢ 0 → v.call ≢ Out
+  opens_to_idle : (event : Event) (n : ℕ) → IsOpenEvent job.plan v.own.task n event → n < N → n ≢ 0 → v.own.call ≢ Out
       → ((t : St) (o : Shows job room t) → get_elem? t.views id ≡ some v → Happens job o.state k event (record o.state { node = put o.state.node n Ready; task = put o.state.task k Idle }))
       → Steps job room slots id (v, xs) (node_at P n) (λ y. 1) (λ y. opened (step slots (node_at P n) 1 0 none) (v, xs) 1) (λ before found after. Makes job k (event) before after)
   opens_to_idle event n is_open below ne inside happens t o wide me fits =
-      let w : View = with_event (opening v n Idle) event in (
+      let w : View = with_step (opening n event Idle) v in (
         w,
         keeps,
         tt,
         stores event n Ready Idle w below refl refl (same w refl refl refl refl refl refl refl refl refl refl) record { events = refl; stops = refl; found = refl } inside t o me (happens t o me) (far o.state.node n Ready ne),
-        (n, event, ap (λ (q : ℕ). node_at q n) (sym sized), subst (λ (plan : Nodes). IsOpenEvent plan v.task n event) (sym planned) is_open, refl),
+        (n, event, ap (λ (q : ℕ). node_at q n) (sym sized), subst (λ (plan : Nodes). IsOpenEvent plan v.own.task n event) (sym planned) is_open, refl),
       )
 
-  pub opens_left : (p l r : ℕ) → v.task ≡ Half p → job.plan.kind p ≡ Some (ParNode l r) → v.call ≢ Out
+  pub opens_left : (p l r : ℕ) → v.own.task ≡ Half p → job.plan.kind p ≡ Some (ParNode l r) → v.own.call ≢ Out
       → Steps job room slots id (v, xs) (node_at P l) (λ y. 1) (λ y. opened (step slots (node_at P l) 1 0 none) (v, xs) 1) (λ before found after. Makes job k (OpenParLeft p l r) before after)
   opens_left p l r task kind inside =
       let side = side_in p l (ap parent_of (laws.plan.left_of_par p l r kind)) in opens_to_idle (OpenParLeft p l r) l (subst (λ (y : Task). IsOpenEvent job.plan y l (OpenParLeft p l r)) (sym task) (r, kind, refl)) side.0 side.1 inside
       (λ t o me. let m = mine_of job room t o id k v me from to in record { worker_in = m.0; needs = (is_free job o.state k o.parts (outside t o me inside), m.1.task ∙ task, kind); does = refl })
 
-  pub opens_first : (p l r : ℕ) → v.task ≡ Run p → job.plan.kind p ≡ Some (SeqNode l r) → v.call ≢ Out
+  pub opens_first : (p l r : ℕ) → v.own.task ≡ Run p → job.plan.kind p ≡ Some (SeqNode l r) → v.own.call ≢ Out
       → Steps job room slots id (v, xs) (node_at P l) (λ y. 1) (λ y. opened (step slots (node_at P l) 1 0 none) (v, xs) 1) (λ before found after. Makes job k (OpenSeqLeft p l r) before after)
   opens_first p l r task kind inside =
       let side = side_in p l (ap parent_of (laws.plan.left_of_seq p l r kind)) in opens_to_idle (OpenSeqLeft p l r) l (subst (λ (y : Task). IsOpenEvent job.plan y l (OpenSeqLeft p l r)) (sym task) (inr (r, kind, refl))) side.0 side.1 inside
       (λ t o me. let m = mine_of job room t o id k v me from to in record { worker_in = m.0; needs = (is_free job o.state k o.parts (outside t o me inside), m.1.task ∙ task, kind); does = refl })
 
-  pub opens_second : (p l r : ℕ) → v.task ≡ Whole l → job.plan.kind p ≡ Some (SeqNode l r) → v.call ≢ Out
+  pub opens_second : (p l r : ℕ) → v.own.task ≡ Whole l → job.plan.kind p ≡ Some (SeqNode l r) → v.own.call ≢ Out
       → Steps job room slots id (v, xs) (node_at P r) (λ y. 1) (λ y. opened (step slots (node_at P r) 1 0 none) (v, xs) 1) (λ before found after. Makes job k (OpenSeqRight p l r) before after)
   opens_second p l r task kind inside =
       let side = side_in p r (ap parent_of (laws.plan.right_of_seq p l r kind)) in opens_to_idle (OpenSeqRight p l r) r (subst (λ (y : Task). IsOpenEvent job.plan y r (OpenSeqRight p l r)) (sym task) (p, kind, refl)) side.0 side.1 inside
       (λ t o me. let m = mine_of job room t o id k v me from to in record { worker_in = m.0; needs = (is_free job o.state k o.parts (outside t o me inside), m.1.task ∙ task, kind); does = refl })
 
   -- a value is kept
-  pub keeps_value : (i n start x : ℕ) → i ≡ value_at P N n → v.task ≡ Started n start → n < N → value_in (job.act (leaf_of (job.plan.kind n))) v.call ≡ Some x → v.call ≢ Out
+  pub keeps_value : (i n start x : ℕ) → i ≡ value_at P N n → v.own.task ≡ Started n start → n < N → value_in (job.act (leaf_of (job.plan.kind n))) v.own.call ≡ Some x → v.own.call ≢ Out
       → Steps job room slots id (v, xs) i (λ y. x) (λ y. kept (step slots i x 0 none) (v, xs) x) (λ before found after. Makes job k (Keep n start x) before after)
   keeps_value i n start x at task below is inside t o wide me fits =
       let s = o.state in
       let m = mine_of job room t o id k v me from to in
-      let w : View = with_event (keeping v n start) (Keep n start x) in
+      let w : View = with_step (keeping n start x) v in
       let inside' : put s.call k NotCalled k ≢ Out = rw (put_at s.call k k NotCalled refl) (λ e. cc) in (
         w,
         keeps,
@@ -214,29 +215,29 @@ module _ (job : CoreJob) (room : ℕ) (laws : Laws job) (slots id : ℕ) (v : Vi
         (n, start, task, refl),
       )
 
-  finishes : (event : Event) (n : ℕ) (x : Progress) → IsFinishEvent job.plan v.task n event → n < N → is_done x ≡ true → v.call ≢ Out
+  finishes : (event : Event) (n : ℕ) (x : Progress) → IsFinishEvent job.plan v.own.task n event → n < N → is_done x ≡ true → v.own.call ≢ Out
       → ((t : St) (o : Shows job room t) → get_elem? t.views id ≡ some v → Happens job o.state k event (record o.state { node = put o.state.node n x; task = put o.state.task k (task_after n) }))
       → Steps job room slots id (v, xs) (node_at P n) (λ y. progress_code x) (λ y. finished (step slots (node_at P n) (progress_code x) 0 none) (v, xs) (progress_code x)) (λ before found after. Makes job k (event) before after)
   finishes event n x is_finish below done inside happens t o wide me fits =
-      let w : View = with_event (with_task v (task_after n)) event in (
+      let w : View = with_step (with_task event (task_after n)) v in (
         w,
         keeps,
         tt,
         stores event n x (task_after n) w below refl refl (same w refl refl refl refl refl refl refl refl refl refl) record { events = refl; stops = refl; found = refl } inside t o me (happens t o me) (root_done o.state.node n x done),
-        (n, event, ap (λ (q : ℕ). node_at q n) (sym sized), subst (λ (plan : Nodes). IsFinishEvent plan v.task n event) (sym planned) is_finish, refl),
+        (n, event, ap (λ (q : ℕ). node_at q n) (sym sized), subst (λ (plan : Nodes). IsFinishEvent plan v.own.task n event) (sym planned) is_finish, refl),
       )
 
-  pub finishes_leaf : (n start end : ℕ) → v.task ≡ Ended n start end → n < N → v.call ≢ Out
+  pub finishes_leaf : (n start end : ℕ) → v.own.task ≡ Ended n start end → n < N → v.own.call ≢ Out
       → Steps job room slots id (v, xs) (node_at P n) (λ y. progress_code (Ran k start end)) (λ y. finished (step slots (node_at P n) (progress_code (Ran k start end)) 0 none) (v, xs) (progress_code (Ran k start end))) (λ before found after. Makes job k (FinishLeaf n start end) before after)
   finishes_leaf n start end task below inside = finishes (FinishLeaf n start end) n (Ran k start end) (subst (λ (y : Task). IsFinishEvent job.plan y n (FinishLeaf n start end)) (sym task) (refl, refl)) below refl inside
       (λ t o me. let m = mine_of job room t o id k v me from to in record { worker_in = m.0; needs = (is_free job o.state k o.parts (outside t o me inside), m.1.task ∙ task); does = refl })
 
-  pub finishes_seq : (p l r : ℕ) → v.task ≡ Whole r → job.plan.kind p ≡ Some (SeqNode l r) → p < N → v.call ≢ Out
+  pub finishes_seq : (p l r : ℕ) → v.own.task ≡ Whole r → job.plan.kind p ≡ Some (SeqNode l r) → p < N → v.own.call ≢ Out
       → Steps job room slots id (v, xs) (node_at P p) (λ y. 3) (λ y. finished (step slots (node_at P p) 3 0 none) (v, xs) 3) (λ before found after. Makes job k (FinishSeq p l r) before after)
   finishes_seq p l r task kind below inside = finishes (FinishSeq p l r) p Done (subst (λ (y : Task). IsFinishEvent job.plan y p (FinishSeq p l r)) (sym task) (l, kind, refl)) below refl inside
       (λ t o me. let m = mine_of job room t o id k v me from to in record { worker_in = m.0; needs = (is_free job o.state k o.parts (outside t o me inside), m.1.task ∙ task, kind); does = refl })
 
-  pub finishes_par : (p l r : ℕ) → v.task ≡ Handed p → job.plan.kind p ≡ Some (ParNode l r) → p < N → v.call ≢ Out
+  pub finishes_par : (p l r : ℕ) → v.own.task ≡ Handed p → job.plan.kind p ≡ Some (ParNode l r) → p < N → v.own.call ≢ Out
       → Steps job room slots id (v, xs) (node_at P p) (λ y. 3) (λ y. finished (step slots (node_at P p) 3 0 none) (v, xs) 3) (λ before found after. Makes job k (FinishPar p l r) before after)
   finishes_par p l r task kind below inside = finishes (FinishPar p l r) p Done (subst (λ (y : Task). IsFinishEvent job.plan y p (FinishPar p l r)) (sym task) (refl, l, r, kind, refl)) below refl inside
       (λ t o me. let m = mine_of job room t o id k v me from to in record { worker_in = m.0; needs = (is_free job o.state k o.parts (outside t o me inside), m.1.task ∙ task, kind); does = refl })
@@ -245,7 +246,7 @@ module _ (job : CoreJob) (room : ℕ) (laws : Laws job) (slots id : ℕ) (v : Vi
   arrived_word y = (y + 1) % 2 ^ 64
 
   -- a side arrives at a parallel block
-  pub arrives : (i p l r n : ℕ) → i ≡ mark_at P N p → v.task ≡ Whole n → v.nodes ≡ N → job.plan.kind p ≡ Some (ParNode l r) → IsSide job.plan p n → p < N → v.call ≢ Out
+  pub arrives : (i p l r n : ℕ) → i ≡ mark_at P N p → v.own.task ≡ Whole n → v.nodes ≡ N → job.plan.kind p ≡ Some (ParNode l r) → IsSide job.plan p n → p < N → v.own.call ≢ Out
       → Steps job room slots id (v, xs) i (λ y. (y + 1) % 2 ^ 64) (arrived (step slots i 1 0 none) (v, xs)) (ArrivalMakes (Makes job k (ArriveFirst p l r n)) (Makes job k (ArriveSecond p l r n)))
   arrives i p l r n is task nodes kind side below inside t o wide me fits =
       let s = o.state in
@@ -255,10 +256,10 @@ module _ (job : CoreJob) (room : ℕ) (laws : Laws job) (slots id : ℕ) (v : Vi
       let few = laws.mark s k p l r n o.parts (m.1.task ∙ task) kind side in
       let at : word ≡ s.mark p = ap (λ (j : ℕ). get_or t.words j 0) is ∙ o.words.marks p below in
       let named : i ≡ mark_at v.workers v.nodes p = omega (arith, is, sized, nodes) in
-      let arrival : IsArrival (nodes_of v.plan) v.task p l r n = subst (λ (plan : Nodes). IsArrival plan v.task p l r n) (sym planned) (record { has = task; kind = kind; side = side }) in
+      let arrival : IsArrival (nodes_of v.plan) v.own.task p l r n = subst (λ (plan : Nodes). IsArrival plan v.own.task p l r n) (sym planned) (record { has = task; kind = kind; side = side }) in
       let far_stop : get_or (set t.words i (arrived_word word)) (stop_at P) 0 ≡ get_or t.words (stop_at P) 0 = get_or-set_other t.words i (stop_at P) (arrived_word word) 0 (λ e. omega arith) in
-      let first : View = with_event (with_task v Idle) (ArriveFirst p l r n) in
-      let second : View = with_event (with_task v (Handed p)) (ArriveSecond p l r n) in
+      let first : View = with_step (with_task (ArriveFirst p l r n) Idle) v in
+      let second : View = with_step (with_task (ArriveSecond p l r n) (Handed p)) v in
       elim (cases_eq word 0) [
         | inl zero ↦ (
           first,
@@ -285,7 +286,7 @@ module _ (job : CoreJob) (room : ℕ) (laws : Laws job) (slots id : ℕ) (v : Vi
       ]
 
   -- a draw that is due
-  draws_by : (y : Task) → v.task ≡ y → IsTickDue job y → v.call ≢ Out → Steps job room slots id (v, xs) (tick_at P) (λ n. (n + 1) % 2 ^ 64) (drawn (step slots (tick_at P) 1 0 none) (v, xs)) (λ before found after. DrawMakes job k y before after)
+  draws_by : (y : Task) → v.own.task ≡ y → IsTickDue job y → v.own.call ≢ Out → Steps job room slots id (v, xs) (tick_at P) (λ n. (n + 1) % 2 ^ 64) (drawn (step slots (tick_at P) 1 0 none) (v, xs)) (λ before found after. DrawMakes job k y before after)
   draws_by Idle e due inside = absurd due
   draws_by (Run n) e due inside = starts n e due inside
   draws_by (Half n) e due inside = absurd due
@@ -295,5 +296,5 @@ module _ (job : CoreJob) (room : ℕ) (laws : Laws job) (slots id : ℕ) (v : Vi
   draws_by (Whole n) e due inside = absurd due
   draws_by (Handed n) e due inside = absurd due
 
-  pub draws_due : IsTickDue job v.task → v.call ≢ Out → Steps job room slots id (v, xs) (tick_at P) (λ n. (n + 1) % 2 ^ 64) (drawn (step slots (tick_at P) 1 0 none) (v, xs)) (λ before found after. DrawMakes job k v.task before after)
-  draws_due due inside = draws_by v.task refl due inside
+  pub draws_due : IsTickDue job v.own.task → v.own.call ≢ Out → Steps job room slots id (v, xs) (tick_at P) (λ n. (n + 1) % 2 ^ 64) (drawn (step slots (tick_at P) 1 0 none) (v, xs)) (λ before found after. DrawMakes job k v.own.task before after)
+  draws_due due inside = draws_by v.own.task refl due inside

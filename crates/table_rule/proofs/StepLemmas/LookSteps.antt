@@ -20,7 +20,8 @@ use Rattle.table_rule.specs.Laws.{Laws}
 use Rattle.table_rule.specs.Steps.{ShowsOne, Steps, Stays}
 use Rattle.table_rule.specs.Shows.{St, Shows, SinceKnown}
 use Rattle.table_rule.specs.Plays.{looked_at_root, heard, strayed, stopped_all, looked_at_stop}
-use Rattle.table_rule.specs.Views.{seeing_done, seeing_undone, finding_stop, finding_none, hearing, refusing, least_told, stopping}
+use Rattle.table_rule.specs.Passes.{finding_stop, finding_none, refusing, least_told, stopping}
+use Rattle.table_rule.specs.Views.{with_step, with_found, with_since, seeing_done, seeing_undone}
 use Rattle.table_rule.proofs.TableLemmas.Facts.{is_trapped}
 use Rattle.table_rule.proofs.TableLemmas.Moved.{at_below, looked, renewed}
 use Rattle.table_rule.proofs.TableLemmas.Traces.{stop_set}
@@ -45,7 +46,7 @@ told_least : (after : Maybe ℕ) (n : ℕ) (b : ℕ) → ((c : ℕ) → after �
 told_least None n b low e = inr (refl, (cc))
 told_least (Some c) n b low e = let h = low c refl in let same : min c n ≡ c = omega arith in inl (rw same at e)
 
-module _ (job : CoreJob) (room : ℕ) (laws : Laws job) (slots id : ℕ) (v : View) (xs : List (ℕ × Slot)) (k : ℕ) (from : v.from ≡ k) (to : v.to ≡ k + 1) where
+module _ (job : CoreJob) (room : ℕ) (laws : Laws job) (slots id : ℕ) (v : View) (xs : List (ℕ × Slot)) (k : ℕ) (from : v.own.worker ≡ k) (to : v.to ≡ k + 1) where
   abbrev P : ℕ
   P = job.workers
 
@@ -72,16 +73,16 @@ module _ (job : CoreJob) (room : ℕ) (laws : Laws job) (slots id : ℕ) (v : Vi
               }),
           ((λ _. refl), (λ ne. absurd (ne e)), omega (arith, is, sized)),
         )
-        | inr ne ↦ (seeing_undone v word, keeps, tt, looked job room t o id k i v (seeing_undone v word) me from to from to refl refl (λ h. inl h) (λ m. again job o.state (get_elem? t.homes k) (o.seat k) id v _ k record { task = refl; call = refl; posted = refl; left = refl; enrolled = refl; saw_done = refl; greatest = refl; before = refl; after = refl; book_seen = refl } refl m), ((λ e. absurd (ne e)), (λ _. refl), omega (arith, is, sized)))
+        | inr ne ↦ (seeing_undone word v, keeps, tt, looked job room t o id k i v (seeing_undone word v) me from to from to refl refl (λ h. inl h) (λ m. again job o.state (get_elem? t.homes k) (o.seat k) id v _ k record { task = refl; call = refl; posted = refl; left = refl; enrolled = refl; saw_done = refl; greatest = refl; before = refl; after = refl; book_seen = refl } refl m), ((λ e. absurd (ne e)), (λ _. refl), omega (arith, is, sized)))
       ]
 
-  hears_since : (t : St) (o : Shows job room t) (n : ℕ) → n ≡ length o.state.book → SinceKnown job o.state v k → SinceKnown job o.state (hearing v n) k
+  hears_since : (t : St) (o : Shows job room t) (n : ℕ) → n ≡ length o.state.book → SinceKnown job o.state v k → SinceKnown job o.state (with_since n v) k
   hears_since t o n is m = record {
     most = let a = m.most in omega arith;
     early = let a = m.early in omega arith;
-    late = λ since told. elim (told_least v.after n since (λ c e. let a = m.late c e in let b = m.most in omega arith) told) [ inl e ↦ let a = m.late since e in omega arith | inr e ↦ let a = e.1 in omega arith ];
+    late = λ since told. elim (told_least v.own.after n since (λ c e. let a = m.late c e in let b = m.most in omega arith) told) [ inl e ↦ let a = m.late since e in omega arith | inr e ↦ let a = e.1 in omega arith ];
     placed = m.placed;
-    waits = λ since told out. elim (told_least v.after n since (λ c e. let a = m.late c e in let b = m.most in omega arith) told) [
+    waits = λ since told out. elim (told_least v.own.after n since (λ c e. let a = m.late c e in let b = m.most in omega arith) told) [
       | inl e ↦ m.waits since e out
       | inr e ↦ subst (λ (y : ℕ). WaitsSince job o.state k y) (sym (e.1 ∙ is)) (laws.now o.state k o.parts (is_trapped job o.state k o.parts out))
     ];
@@ -90,10 +91,10 @@ module _ (job : CoreJob) (room : ℕ) (laws : Laws job) (slots id : ℕ) (v : Vi
   pub hears : v.workers ≡ P → Steps job room slots id (v, xs) (count_at P) (λ y. y) (heard (step slots (count_at P) 0 0 none) (v, xs)) (Stays)
   hears sized t o wide me fits =
       let word = get_or t.words (count_at P) 0 in (
-        hearing v word,
+        with_since word v,
         keeps,
         tt,
-        looked job room t o id k (count_at P) v (hearing v word) me from to from to refl refl (λ h. inl h)
+        looked job room t o id k (count_at P) v (with_since word v) me from to from to refl refl (λ h. inl h)
             (λ m. record { sits = m.sits; task = m.task; call = m.call; posted = m.posted; entries = m.entries; hold = m.hold; new = m.new; done = m.done; seen = m.seen; since = hears_since t o word o.words.batches m.since }),
         (refl, ap count_at (sym sized)),
       )
@@ -107,10 +108,10 @@ module _ (job : CoreJob) (room : ℕ) (laws : Laws job) (slots id : ℕ) (v : Vi
       exchanged word (4 + n) 0 (λ y. (w : View) × (a : Act Slot) × Valid t.homes xs a × ShowsOne job room (Stays o.state word) (stepped t 0 y id xs w a) × strayed (step slots 0 (4 + n) 0 none) (v, xs) word (w, carried_after xs a))
       (λ e. absurd (omega (arith, few, at, e)))
       (λ ne. (
-        refusing v n word,
+        with_found word (refusing n) v,
         keeps,
         tt,
-        looked job room t o id k 0 v (refusing v n word) me from to from to refl refl (λ h. inl h)
+        looked job room t o id k 0 v (with_found word (refusing n) v) me from to from to refl refl (λ h. inl h)
             (λ m. again job o.state (get_elem? t.homes k) (o.seat k) id v _ k record { task = refl; call = refl; posted = refl; left = refl; enrolled = refl; saw_done = refl; greatest = refl; before = refl; after = refl; book_seen = refl } refl m),
         (n, refl, refl, far),
       ))
@@ -119,11 +120,11 @@ module _ (job : CoreJob) (room : ℕ) (laws : Laws job) (slots id : ℕ) (v : Vi
   pub stops : v.workers ≡ P → Steps job room slots id (v, xs) (stop_at P) (λ y. 1) (λ y. stopped_all (step slots (stop_at P) 1 0 none) (v, xs) 1) (Stays)
   stops sized t o wide me fits =
       let s = o.state in (
-        stopping v,
+        with_step stopping v,
         keeps,
         tt,
-        renewed job room t o id k v (stopping v) (set t.words (stop_at P) 1) me from to from to refl
-            (stop_set t.views id v (stopping v) (get_or t.words (stop_at P) 0) (get_or (set t.words (stop_at P) 1) (stop_at P) 0) (at_below t.views id v me) me (get_or-set_same t.words (stop_at P) 1 0 (omega (arith, o.words.wide))) (omega arith) o.stop)
+        renewed job room t o id k v (with_step stopping v) (set t.words (stop_at P) 1) me from to from to refl
+            (stop_set t.views id v (with_step stopping v) (get_or t.words (stop_at P) 0) (get_or (set t.words (stop_at P) 1) (stop_at P) 0) (at_below t.views id v me) me (get_or-set_same t.words (stop_at P) 1 0 (omega (arith, o.words.wide))) (omega arith) o.stop)
             (set_stop P job.plan.count t.words s.node s.mark s.value s.status s.hold s.tick (length s.book) o.words 1)
             (λ m. again job o.state (get_elem? t.homes k) (o.seat k) id v _ k record { task = refl; call = refl; posted = refl; left = refl; enrolled = refl; saw_done = refl; greatest = refl; before = refl; after = refl; book_seen = refl } refl m),
         (refl, ap stop_at (sym sized), refl),
@@ -132,6 +133,6 @@ module _ (job : CoreJob) (room : ℕ) (laws : Laws job) (slots id : ℕ) (v : Vi
   -- and looked at
   pub looks_at_stop : v.workers ≡ P → Steps job room slots id (v, xs) (stop_at P) (λ y. y) (looked_at_stop (step slots (stop_at P) 0 0 none) (v, xs)) (Stays)
   looks_at_stop sized t o wide me fits = elim (cases_eq (get_or t.words (stop_at P) 0) 1) [
-    | inl e ↦ (finding_stop v, keeps, tt, looked job room t o id k (stop_at P) v (finding_stop v) me from to from to refl refl (λ _. inr e) (λ m. again job o.state (get_elem? t.homes k) (o.seat k) id v _ k record { task = refl; call = refl; posted = refl; left = refl; enrolled = refl; saw_done = refl; greatest = refl; before = refl; after = refl; book_seen = refl } refl m), ((λ _. refl), (λ ne. absurd (ne e)), ap stop_at (sym sized)))
-    | inr ne ↦ (finding_none v (get_or t.words (stop_at P) 0), keeps, tt, looked job room t o id k (stop_at P) v (finding_none v (get_or t.words (stop_at P) 0)) me from to from to refl refl (λ h. inl h) (λ m. again job o.state (get_elem? t.homes k) (o.seat k) id v _ k record { task = refl; call = refl; posted = refl; left = refl; enrolled = refl; saw_done = refl; greatest = refl; before = refl; after = refl; book_seen = refl } refl m), ((λ e. absurd (ne e)), (λ _. refl), ap stop_at (sym sized)))
+    | inl e ↦ (with_step finding_stop v, keeps, tt, looked job room t o id k (stop_at P) v (with_step finding_stop v) me from to from to refl refl (λ _. inr e) (λ m. again job o.state (get_elem? t.homes k) (o.seat k) id v _ k record { task = refl; call = refl; posted = refl; left = refl; enrolled = refl; saw_done = refl; greatest = refl; before = refl; after = refl; book_seen = refl } refl m), ((λ _. refl), (λ ne. absurd (ne e)), ap stop_at (sym sized)))
+    | inr ne ↦ (with_found (get_or t.words (stop_at P) 0) finding_none v, keeps, tt, looked job room t o id k (stop_at P) v (with_found (get_or t.words (stop_at P) 0) finding_none v) me from to from to refl refl (λ h. inl h) (λ m. again job o.state (get_elem? t.homes k) (o.seat k) id v _ k record { task = refl; call = refl; posted = refl; left = refl; enrolled = refl; saw_done = refl; greatest = refl; before = refl; after = refl; book_seen = refl } refl m), ((λ e. absurd (ne e)), (λ _. refl), ap stop_at (sym sized)))
   ]

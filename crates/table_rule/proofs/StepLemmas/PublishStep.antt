@@ -29,6 +29,7 @@ use Rattle.table_rule.specs.Laws.{Laws}
 use Rattle.table_rule.specs.Steps.{Steps, Stays, Makes}
 use Rattle.table_rule.specs.Shows.{reserved, Home, IsRecordOf, ShopAt, record_in, among, hold_of, HoldKnown, entry_of, present, SinceKnown, IsFront, Mine}
 use Rattle.table_rule.specs.Batches.{call_of, ServesTaken, IsPublishDue}
+use Rattle.table_rule.specs.Passes as W
 use Rattle.table_rule.specs.Views as V
 use Rattle.table_rule.specs.Plays as G
 use Rattle.table_rule.proofs.TableLemmas.Words.{set_count, flag_same}
@@ -55,16 +56,16 @@ module _ (job : CoreJob) (laws : Laws job) (s : State) (k : ℕ) (batch : List E
   later = record s { book = s.book ++ batch ∷ []; objects = served s.objects batch; hold = published s.hold }
 
   entries_after : (x : ℕ) (v : View) → Happens job s k Publish later
-      → entries_of x (flat s.book) ≡ map (entry_of x) v.left ++ present (s.call x) (task_place job s.book (s.task x))
-      → entries_of x (flat later.book) ≡ map (entry_of x) v.left ++ present (s.call x) (task_place job later.book (s.task x))
+      → entries_of x (flat s.book) ≡ map (entry_of x) v.own.left ++ present (s.call x) (task_place job s.book (s.task x))
+      → entries_of x (flat later.book) ≡ map (entry_of x) v.own.left ++ present (s.call x) (task_place job later.book (s.task x))
   entries_after x v happens old =
-      elim (is_taken_by s.hold x) as (λ (b : Bool). is_taken_by s.hold x ≡ b → entries_of x (flat later.book) ≡ map (entry_of x) v.left ++ present (s.call x) (task_place job later.book (s.task x))) [
+      elim (is_taken_by s.hold x) as (λ (b : Bool). is_taken_by s.hold x ≡ b → entries_of x (flat later.book) ≡ map (entry_of x) v.own.left ++ present (s.call x) (task_place job later.book (s.task x))) [
         | false ↦ λ untaken. let t = laws.untaken s later k parts happens x untaken in rw (t.0, t.1) old
         | true ↦ λ took.
             let t = laws.taken s later k parts happens x took in
             let out = is_out job s x parts (λ free. executing_free (s.status x) (is_executing job s x parts took) free) in
-            let old' : entries_of x (flat s.book) ≡ map (entry_of x) v.left ++ [] = rw (out, t.0) at old in
-            rw (out, t.2) (t.5 ∙ (ap (λ l. l ++ t.1.entry ∷ []) old' ∙ append_assoc (map (entry_of x) v.left) [] (t.1.entry ∷ [])))
+            let old' : entries_of x (flat s.book) ≡ map (entry_of x) v.own.left ++ [] = rw (out, t.0) at old in
+            rw (out, t.2) (t.5 ∙ (ap (λ l. l ++ t.1.entry ∷ []) old' ∙ append_assoc (map (entry_of x) v.own.left) [] (t.1.entry ∷ [])))
       ] refl
 
   since_after : (x : ℕ) (v : View) → Happens job s k Publish later → Parts job later → SinceKnown job s v x → SinceKnown job later v x
@@ -74,7 +75,7 @@ module _ (job : CoreJob) (laws : Laws job) (s : State) (k : ℕ) (batch : List E
         early = m.early;
         late = m.late;
         placed = λ place out at.
-            elim (is_taken_by s.hold x) as (λ (b : Bool). is_taken_by s.hold x ≡ b → v.before ≤ place.batch) [
+            elim (is_taken_by s.hold x) as (λ (b : Bool). is_taken_by s.hold x ≡ b → v.own.before ≤ place.batch) [
               | false ↦ λ untaken. m.placed place out (sym (laws.untaken s later k parts happens x untaken).1 ∙ at)
               | true ↦ λ took.
                   let t = laws.taken s later k parts happens x took in
@@ -85,7 +86,7 @@ module _ (job : CoreJob) (laws : Laws job) (s : State) (k : ℕ) (batch : List E
         waits = λ since told out. laws.waits s later k Publish x since parts happens (is_trapped job later x parts_later out) (m.waits since told out);
       }
 
-  mine_after : (x : ℕ) (v w : View) (home home' : Home) (seat id : ℕ) → Happens job s k Publish later → Parts job later → home' ≡ home → SameTold v w → HoldKnown job later w.hold x → Mine job s home seat id v x → Mine job later home' seat id w x
+  mine_after : (x : ℕ) (v w : View) (home home' : Home) (seat id : ℕ) → Happens job s k Publish later → Parts job later → home' ≡ home → SameTold v w → HoldKnown job later w.own.hold x → Mine job s home seat id v x → Mine job later home' seat id w x
   mine_after x v w home home' seat id happens kept_later same told hold m = record {
     sits = m.sits;
     task = m.task ∙ sym told.task;
@@ -95,7 +96,7 @@ module _ (job : CoreJob) (laws : Laws job) (s : State) (k : ℕ) (batch : List E
     entries = rw told.left (entries_after x v happens m.entries);
     new = λ e. let t = m.new (sym told.enrolled ∙ e) in (same ∙ t.0, told.task ∙ t.1, told.call ∙ t.2, told.left ∙ t.3);
     done = λ e. m.done (sym told.saw_done ∙ e);
-    seen = rw told.book_seen (longer v.book_seen s.book batch m.seen);
+    seen = rw told.book_seen (longer v.own.book_seen s.book batch m.seen);
     since = let a = since_after x v happens kept_later m.since in record {
       most = rw told.greatest a.most;
       early = rw (told.greatest, told.before) a.early;
@@ -151,10 +152,10 @@ batches_in (Slots.Book book) = book.batches
 batches_same : (a b : List (List Entry)) (r : ℕ) → Slots.Book (reserved a r) ≡ Slots.Book (reserved b r) → a ≡ b
 batches_same a b r e = ap batches_in e
 
-publish_does : (s : State) (k : ℕ) (h : HoldView) (batch : List Entry) → s.hold ≡ Some (hold_of k h) → published s.hold ≡ Some (hold_of k (V.published_view h batch))
+publish_does : (s : State) (k : ℕ) (h : HoldView) (batch : List Entry) → s.hold ≡ Some (hold_of k h) → published s.hold ≡ Some (hold_of k (W.after_publish batch h))
 publish_does s k h batch held = rw held refl
 
-module _ (job : CoreJob) (room : ℕ) (laws : Laws job) (slots id : ℕ) (v : View) (xs : List (ℕ × Slot)) (k : ℕ) (from : v.from ≡ k) (to : v.to ≡ k + 1) where
+module _ (job : CoreJob) (room : ℕ) (laws : Laws job) (slots id : ℕ) (v : View) (xs : List (ℕ × Slot)) (k : ℕ) (from : v.own.worker ≡ k) (to : v.to ≡ k + 1) where
   abbrev P : ℕ
   P = job.workers
 
@@ -208,7 +209,7 @@ module _ (job : CoreJob) (room : ℕ) (laws : Laws job) (slots id : ℕ) (v : Vi
         ),
       )
 
-  pub publishes : (h : HoldView) (batch : List Entry) → v.hold ≡ Some h → v.room ≡ room → IsPublishDue job.workers h batch → length h.book < 2 ^ 32
+  pub publishes : (h : HoldView) (batch : List Entry) → v.own.hold ≡ Some h → v.room ≡ room → IsPublishDue job.workers h batch → length h.book < 2 ^ 32
       → Steps job room slots id (v, (count_at P, Slots.Book (reserved (h.book ++ batch ∷ []) room)) ∷ xs) (count_at P) (λ y. (y + 1) % 2 ^ 64)
       (G.published (step slots (count_at P) 1 0 none) (v, (count_at P, Slots.Book (reserved (h.book ++ batch ∷ []) room)) ∷ xs)) (λ before found after. Makes job k Publish before after)
   publishes h batch holds roomy due few t o wide me fits =
@@ -222,8 +223,9 @@ module _ (job : CoreJob) (room : ℕ) (laws : Laws job) (slots id : ℕ) (v : Vi
       let early = due.early in
       let can = can_publish s h batch o.parts m.0 known due in
       let batch_of = can.of_batch in
-      let h' = V.published_view h batch in
-      let w : View = V.with_event (V.with_hold v h') Publish in
+      let f = W.after_publish batch in
+      let h' = f h in
+      let w : View = V.with_step (W.publishing batch) v in
       let new : State = record s { book = s.book ++ batch ∷ []; objects = served s.objects batch; hold = published s.hold } in
       let hold_new : published s.hold ≡ Some (hold_of k h') = publish_does s k h batch held in
       let happens : Happens job s k Publish new = can.happens in
@@ -247,18 +249,18 @@ module _ (job : CoreJob) (room : ℕ) (laws : Laws job) (slots id : ℕ) (v : Vi
             }
             (λ own. mine_after job laws s k batch o.parts k v w (get_elem? t.homes k) (get_elem? homes k) (o.seat k) id happens parts_later (far k m.0)
             record { task = refl; call = refl; posted = refl; left = refl; enrolled = refl; saw_done = refl; greatest = refl; before = refl; after = refl; book_seen = refl }
-            (hold_new, ap (λ b. b ++ batch ∷ []) known.1, known.2, known.3) own)
+            (subst (λ (z : Maybe HoldView). HoldKnown job new (W.in_hold f z) k) (sym holds) (hold_new, ap (λ b. b ++ batch ∷ []) known.1, known.2, known.3)) own)
             (λ i x y low ne other. mine_after job laws s k batch o.parts x y y (get_elem? t.homes x) (get_elem? homes x) (o.seat x) i happens parts_later (far x low) (told_again y)
-            (hold_others job s new k x hd (hold_of k h') ne held refl hold_new refl y.hold other.hold) other),
+            (hold_others job s new k x hd (hold_of k h') ne held refl hold_new refl y.own.hold other.hold) other),
         λ g c is at.
             let same_view : h ≡ g = (let e = sym holds ∙ is in cc) in
             let at' = subst (λ (r : ℕ). (count_at P, Slots.Book book) ∷ xs ≡ (count_at P, Slots.Book (reserved (g.book ++ c ∷ []) r)) ∷ xs) roomy at in
             let b' = same_book (h.book ++ batch ∷ []) (g.book ++ c ∷ []) room at' in
             let c' : batch ≡ c = last_same h.book g.book batch c b' (ap (λ (z : HoldView). z.book) same_view) in
-            λ i. (V.with_event (V.with_hold v (V.published_view (same_view i) (c' i))) Publish, xs),
+            λ i. (V.with_step (W.publishing (c' i)) v, xs),
       )
 
-  pub publishes_at : (g : G.Sat) (h : HoldView) (batch : List Entry) → g ≡ (v, (count_at P, Slots.Book (reserved (h.book ++ batch ∷ []) room)) ∷ xs) → v.hold ≡ Some h → v.room ≡ room → IsPublishDue job.workers h batch → length h.book < 2 ^ 32
+  pub publishes_at : (g : G.Sat) (h : HoldView) (batch : List Entry) → g ≡ (v, (count_at P, Slots.Book (reserved (h.book ++ batch ∷ []) room)) ∷ xs) → v.own.hold ≡ Some h → v.room ≡ room → IsPublishDue job.workers h batch → length h.book < 2 ^ 32
       → Steps job room slots id g (count_at P) (λ y. (y + 1) % 2 ^ 64) (G.published (step slots (count_at P) 1 0 none) g) (λ before found after. Makes job k Publish before after)
   publishes_at g h batch e holds roomy due few =
       subst (λ (g : G.Sat). Steps job room slots id g (count_at P) (λ y. (y + 1) % 2 ^ 64) (G.published (step slots (count_at P) 1 0 none) g) (λ before found after. Makes job k Publish before after)) (sym e) (publishes h batch holds roomy due few)

@@ -38,34 +38,34 @@ at_snoc_at [] a b (suc j) e = absurd (some-ne-none b (sym e))
 at_snoc_at (x ∷ xs) a b zero e = inl e
 at_snoc_at (x ∷ xs) a b (suc j) e = ⊎_elim (λ t. inl t) (λ t. inr (t.0, (let h = t.1 in omega arith))) (at_snoc_at xs a b j e)
 
-told_cut : (v : View) (a b : ℕ) → SameTold v (record v { from = a; to = b })
+told_cut : (v : View) (a b : ℕ) → SameTold v (record v { own = record v.own { worker = a }; to = b })
 told_cut v a b = record { task = refl; call = refl; posted = refl; left = refl; enrolled = refl; saw_done = refl; greatest = refl; before = refl; after = refl; book_seen = refl }
 
 -- after a split every worker is in the range of a seat: the pass's worker in the new one's, the others in the old
 seat_cut : (views : List View) (id x : ℕ) (seat : ℕ → ℕ) (v : View) → get_elem? views id ≡ some v → HasSeat views (seat x) x
-    → HasSeat (set views id (rest_of v) ++ pass_of v ∷ []) (put seat v.from (length views) x) x
+    → HasSeat (set views id (rest_of v) ++ pass_of v ∷ []) (put seat v.own.worker (length views) x) x
 seat_cut views id x seat v me h =
     let cut = set views id (rest_of v) in
-    let rest = pass_of v ∷ [] in elim (cases_eq x v.from) [
+    let rest = pass_of v ∷ [] in elim (cases_eq x v.own.worker) [
       | inl e ↦ (
         pass_of v,
-        ap (λ (j : ℕ). get_elem? (cut ++ rest) j) (put_at seat v.from x (length views) e) ∙ at_last cut (pass_of v) (length views) (length-set views id (rest_of v)),
+        ap (λ (j : ℕ). get_elem? (cut ++ rest) j) (put_at seat v.own.worker x (length views) e) ∙ at_last cut (pass_of v) (length views) (length-set views id (rest_of v)),
         omega arith,
         omega arith,
       )
       | inr ne ↦ elim (cases_eq (seat x) id) [
         | inl e ↦
             let same : h.0 ≡ v = some-injective _ _ (sym h.1 ∙ (ap (λ (j : ℕ). get_elem? views j) e ∙ me)) in
-            let low : v.from ≤ x = subst (λ (y : View). y.from ≤ x) same h.2 in
+            let low : v.own.worker ≤ x = subst (λ (y : View). y.own.worker ≤ x) same h.2 in
             let high : x < v.to = subst (λ (y : View). x < y.to) same h.3 in (
               rest_of v,
-              ap (λ (j : ℕ). get_elem? (cut ++ rest) j) (put_other seat v.from x (length views) ne ∙ e) ∙ at_longer cut rest id (rest_of v) (set_here views id (rest_of v) (at_below views id v me)),
+              ap (λ (j : ℕ). get_elem? (cut ++ rest) j) (put_other seat v.own.worker x (length views) ne ∙ e) ∙ at_longer cut rest id (rest_of v) (set_here views id (rest_of v) (at_below views id v me)),
               omega arith,
               high,
             )
         | inr other ↦ (
           h.0,
-          ap (λ (j : ℕ). get_elem? (cut ++ rest) j) (put_other seat v.from x (length views) ne) ∙ at_longer cut rest (seat x) h.0 (set_else views id (seat x) (rest_of v) other ∙ h.1),
+          ap (λ (j : ℕ). get_elem? (cut ++ rest) j) (put_other seat v.own.worker x (length views) ne) ∙ at_longer cut rest (seat x) h.0 (set_else views id (seat x) (rest_of v) other ∙ h.1),
           h.2,
           h.3,
         )
@@ -73,19 +73,19 @@ seat_cut views id x seat v me h =
     ]
 
 -- the events are those of each half
-agree_cut : (views : List View) (id : ℕ) (v : View) (steps : List Step) → get_elem? views id ≡ some v → v.from < v.to → EventsAgree views steps → EventsAgree (set views id (rest_of v) ++ pass_of v ∷ []) steps
+agree_cut : (views : List View) (id : ℕ) (v : View) (steps : List Step) → get_elem? views id ≡ some v → v.own.worker < v.to → EventsAgree views steps → EventsAgree (set views id (rest_of v) ++ pass_of v ∷ []) steps
 agree_cut views id v steps me some_left old i u x e lo hi = ⊎_elim
     (λ q. ⊎_elim
     (λ r.
-    let lo' : v.from + 1 ≤ x = subst (λ (y : View). y.from ≤ x) (sym r.1) lo in
+    let lo' : v.own.worker + 1 ≤ x = subst (λ (y : View). y.own.worker ≤ x) (sym r.1) lo in
     let hi' : x < v.to = subst (λ (y : View). x < y.to) (sym r.1) hi in
-    old id v x me (omega arith) hi' ∙ ap (λ (y : View). y.events) r.1)
+    old id v x me (omega arith) hi' ∙ ap (λ (y : View). y.own.events) r.1)
     (λ r. old i u x r.1 lo hi)
     (at_set views id i (rest_of v) u q))
     (λ q.
-    let lo' : v.from ≤ x = subst (λ (y : View). y.from ≤ x) (sym q.0) lo in
-    let hi' : x < v.from + 1 = subst (λ (y : View). x < y.to) (sym q.0) hi in
-    old id v x me lo' (omega arith) ∙ ap (λ (y : View). y.events) q.0)
+    let lo' : v.own.worker ≤ x = subst (λ (y : View). y.own.worker ≤ x) (sym q.0) lo in
+    let hi' : x < v.own.worker + 1 = subst (λ (y : View). x < y.to) (sym q.0) hi in
+    old id v x me lo' (omega arith) ∙ ap (λ (y : View). y.own.events) q.0)
     (at_snoc_at (set views id (rest_of v)) (pass_of v) u i e)
 
 -- and so are its sets of the stop word
@@ -94,24 +94,24 @@ stop_both views id v word me =
     stop_cut views id v (rest_of v) (pass_of v) word
     (λ i u e. ⊎_elim
     (λ q. ⊎_elim
-    (λ r. (id, v, me, ap (λ (y : View). y.stops) (sym r.1), ap (λ (y : View). y.stops_found) (sym r.1)))
+    (λ r. (id, v, me, ap (λ (y : View). y.own.stops) (sym r.1), ap (λ (y : View). y.own.stops_found) (sym r.1)))
     (λ r. (i, u, r.1, refl, refl))
     (at_set views id i (rest_of v) u q))
-    (λ q. (id, v, me, ap (λ (y : View). y.stops) (sym q.0), ap (λ (y : View). y.stops_found) (sym q.0)))
+    (λ q. (id, v, me, ap (λ (y : View). y.own.stops) (sym q.0), ap (λ (y : View). y.own.stops_found) (sym q.0)))
     (at_snoc_at (set views id (rest_of v)) (pass_of v) u i e))
     (λ i u e. elim (cases_eq i id) [
       | inl is ↦
           let same : u ≡ v = some-injective _ _ (sym e ∙ (ap (λ (j : ℕ). get_elem? views j) is ∙ me)) in
-          (id, rest_of v, at_longer (set views id (rest_of v)) (pass_of v ∷ []) id (rest_of v) (set_here views id (rest_of v) (at_below views id v me)), ap (λ (y : View). y.stops) (sym same))
+          (id, rest_of v, at_longer (set views id (rest_of v)) (pass_of v ∷ []) id (rest_of v) (set_here views id (rest_of v) (at_below views id v me)), ap (λ (y : View). y.own.stops) (sym same))
       | inr ne ↦ (i, u, at_longer (set views id (rest_of v)) (pass_of v ∷ []) i u (set_else views id i (rest_of v) ne ∙ e), refl)
     ])
 
 -- a pass is split off
-pub cuts : (job : CoreJob) (room id : ℕ) (v : View) → v.from < v.to → Splits (Shows job room) id v (rest_of v) (pass_of v)
+pub cuts : (job : CoreJob) (room id : ℕ) (v : View) → v.own.worker < v.to → Splits (Shows job room) id v (rest_of v) (pass_of v)
 cuts job room id v some_left t o me =
     let z = length t.views in
-    let seat : ℕ → ℕ = put o.seat v.from z in
-    let here = o.views id v v.from me (omega arith) some_left in record {
+    let seat : ℕ → ℕ = put o.seat v.own.worker z in
+    let here = o.views id v v.own.worker me (omega arith) some_left in record {
       state = o.state;
       seat = seat;
       parts = o.parts;
@@ -120,26 +120,26 @@ cuts job room id v some_left t o me =
       views = λ i u x e lo hi. ⊎_elim
           (λ q. ⊎_elim
           (λ r.
-          let lo' : v.from + 1 ≤ x = subst (λ (y : View). y.from ≤ x) (sym r.1) lo in
+          let lo' : v.own.worker + 1 ≤ x = subst (λ (y : View). y.own.worker ≤ x) (sym r.1) lo in
           let hi' : x < v.to = subst (λ (y : View). x < y.to) (sym r.1) hi in
           let was = o.views id v x me (omega arith) hi' in (
             was.0,
             subst (λ (y : View). Mine job o.state (get_elem? t.homes x) (seat x) i y x) r.1
-                (reseat job o.state (get_elem? t.homes x) (o.seat x) (seat x) id i v (rest_of v) x (put_other o.seat v.from x z (λ h. omega arith) ∙ (was.1.sits ∙ sym r.0)) (told_cut v (v.from + 1) v.to) refl was.1),
+                (reseat job o.state (get_elem? t.homes x) (o.seat x) (seat x) id i v (rest_of v) x (put_other o.seat v.own.worker x z (λ h. omega arith) ∙ (was.1.sits ∙ sym r.0)) (told_cut v (v.own.worker + 1) v.to) refl was.1),
           ))
           (λ r.
           let was = o.views i u x r.1 lo hi in
-          (was.0, reseat job o.state (get_elem? t.homes x) (o.seat x) (seat x) i i u u x (put_other o.seat v.from x z (λ h. r.0 (sym was.1.sits ∙ (ap o.seat h ∙ here.1.sits))) ∙ was.1.sits) (told_again u) refl was.1))
+          (was.0, reseat job o.state (get_elem? t.homes x) (o.seat x) (seat x) i i u u x (put_other o.seat v.own.worker x z (λ h. r.0 (sym was.1.sits ∙ (ap o.seat h ∙ here.1.sits))) ∙ was.1.sits) (told_again u) refl was.1))
           (at_set t.views id i (rest_of v) u q))
           (λ q.
-          let lo' : v.from ≤ x = subst (λ (y : View). y.from ≤ x) (sym q.0) lo in
-          let hi' : x < v.from + 1 = subst (λ (y : View). x < y.to) (sym q.0) hi in
-          let is : x ≡ v.from = omega arith in (
+          let lo' : v.own.worker ≤ x = subst (λ (y : View). y.own.worker ≤ x) (sym q.0) lo in
+          let hi' : x < v.own.worker + 1 = subst (λ (y : View). x < y.to) (sym q.0) hi in
+          let is : x ≡ v.own.worker = omega arith in (
             subst (λ (y : ℕ). y < job.workers) (sym is) here.0,
             subst (λ (y : View). Mine job o.state (get_elem? t.homes x) (seat x) i y x) q.0
                 (subst (λ (y : ℕ). Mine job o.state (get_elem? t.homes y) (seat y) i (pass_of v) y) (sym is)
-                (reseat job o.state (get_elem? t.homes v.from) (o.seat v.from) (seat v.from) id i v (pass_of v) v.from
-                (put_at o.seat v.from v.from z refl ∙ (sym (length-set t.views id (rest_of v)) ∙ sym q.1)) (told_cut v v.from (v.from + 1)) refl here.1)),
+                (reseat job o.state (get_elem? t.homes v.own.worker) (o.seat v.own.worker) (seat v.own.worker) id i v (pass_of v) v.own.worker
+                (put_at o.seat v.own.worker v.own.worker z refl ∙ (sym (length-set t.views id (rest_of v)) ∙ sym q.1)) (told_cut v v.own.worker (v.own.worker + 1)) refl here.1)),
           ))
           (at_snoc_at (set t.views id (rest_of v)) (pass_of v) u i e);
       seats = λ x low. seat_cut t.views id x o.seat v me (o.seats x low);
@@ -151,7 +151,7 @@ cuts job room id v some_left t o me =
     }
 
 -- a pass takes its own record slot
-pub enrols : (job : CoreJob) (room : ℕ) (slots id j : ℕ) (v : View) (xs : List (ℕ × Slot)) (k : ℕ) → v.from ≡ k → v.to ≡ k + 1 → v.enrolled ≡ false
+pub enrols : (job : CoreJob) (room : ℕ) (slots id j : ℕ) (v : View) (xs : List (ℕ × Slot)) (k : ℕ) → v.own.worker ≡ k → v.to ≡ k + 1 → v.enrolled ≡ false
     → Allows (Shows job room) slots id (v, xs) j (λ y. y) (enrolled (step slots j 0 0 none) (v, xs))
 enrols job room slots id j v xs k from to fresh t o wide me fits =
     let s = o.state in
@@ -179,7 +179,7 @@ enrols job room slots id j v xs k from to fresh t o wide me fits =
         };
         views = λ i u x e lo hi. ⊎_elim
             (λ q.
-            let lo' : w.from ≤ x = subst (λ (y : View). y.from ≤ x) (sym q.1) lo in
+            let lo' : w.own.worker ≤ x = subst (λ (y : View). y.own.worker ≤ x) (sym q.1) lo in
             let hi' : x < w.to = subst (λ (y : View). x < y.to) (sym q.1) hi in
             let is : x ≡ k = omega arith in (
               subst (λ (y : ℕ). y < job.workers) (sym is) m.0,
@@ -288,19 +288,19 @@ starts job room tree laws words are =
       trace = [];
       ready = opening_core.ready;
       reached = refl;
-      events = λ i u w e lo hi. ap (λ (y : View). y.events) (only u (newcomer tree P N room) i e).1;
+      events = λ i u w e lo hi. ap (λ (y : View). y.own.events) (only u (newcomer tree P N room) i e).1;
       stop = let unset : get_or words (stop_at P) 0 ≡ 0 = ap (λ (ws : List ℕ). get_or ws (stop_at P) 0) are
           ∙ (get_or-set_other (replicate (P + 4 + N + N + N) 0) (node_at P 0) (stop_at P) 1 0 (λ e. omega arith) ∙ zeros (P + 4 + N + N + N) (stop_at P)) in record {
             known = inl unset;
-            set = λ i u e some_stops. let same = ap (λ (y : View). y.stops) (only u (newcomer tree P N room) i e).1 in absurd (omega (arith, same, some_stops));
+            set = λ i u e some_stops. let same = ap (λ (y : View). y.own.stops) (only u (newcomer tree P N room) i e).1 in absurd (omega (arith, same, some_stops));
             by = λ one. absurd (omega (arith, one, unset));
-            found = λ i u e some_found. let same = ap (λ (y : View). y.stops_found) (only u (newcomer tree P N room) i e).1 in absurd (omega (arith, same, some_found));
+            found = λ i u e some_found. let same = ap (λ (y : View). y.own.stops_found) (only u (newcomer tree P N room) i e).1 in absurd (omega (arith, same, some_found));
           };
     }
 
-pub enrols_at : (job : CoreJob) (room : ℕ) (slots id j : ℕ) (m : View × List (ℕ × Slot)) (v : View) (xs : List (ℕ × Slot)) (k : ℕ) → m ≡ (v, xs) → v.from ≡ k → v.to ≡ k + 1 → v.enrolled ≡ false
+pub enrols_at : (job : CoreJob) (room : ℕ) (slots id j : ℕ) (m : View × List (ℕ × Slot)) (v : View) (xs : List (ℕ × Slot)) (k : ℕ) → m ≡ (v, xs) → v.own.worker ≡ k → v.to ≡ k + 1 → v.enrolled ≡ false
     → Allows (Shows job room) slots id m j (λ y. y) (enrolled (step slots j 0 0 none) m)
 enrols_at job room slots id j m v xs k e from to fresh = subst (λ (m : View × List (ℕ × Slot)). Allows (Shows job room) slots id m j (λ y. y) (enrolled (step slots j 0 0 none) m)) (sym e) (enrols job room slots id j v xs k from to fresh)
 
-pub cuts_at : (job : CoreJob) (room id : ℕ) (w v : View) → w ≡ v → v.from < v.to → Splits (Shows job room) id w (rest_of w) (pass_of w)
+pub cuts_at : (job : CoreJob) (room id : ℕ) (w v : View) → w ≡ v → v.own.worker < v.to → Splits (Shows job room) id w (rest_of w) (pass_of w)
 cuts_at job room id w v e some_left = subst (λ (w : View). Splits (Shows job room) id w (rest_of w) (pass_of w)) (sym e) (cuts job room id v some_left)

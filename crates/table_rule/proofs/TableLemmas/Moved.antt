@@ -24,7 +24,7 @@ use Rattle.core_model.specs.Tasks.{is_done}
 use Rattle.core_model.specs.Invariant.{Parts}
 use Rattle.core_model.specs.Waits.{task_place}
 use Rattle.table_rule.specs.declared.slot.OpRecord.{OpRecord}
-use Rattle.table_rule.specs.declared.view.TakenCall.{TakenCall}
+use Rattle.seq_objects.specs.declared.call.Call.{Call}
 use Rattle.table_rule.specs.declared.view.HoldView.{HoldView}
 use Rattle.table_rule.specs.declared.view.LeftCall.{LeftCall}
 use Rattle.table_rule.specs.declared.view.View.{View}
@@ -42,7 +42,7 @@ use Rattle.table_rule.proofs.TableLemmas.Traces.{AddsEvent, reached_next, agree_
 use Rattle.table_rule.proofs.TableLemmas.Words.{put_at, put_other}
 
 -- the seat id, whose range is k alone, is the seat of worker k
-pub mine_of : (job : CoreJob) (room : ℕ) (t : St) (o : Shows job room t) (id k : ℕ) (v : View) → get_elem? t.views id ≡ some v → v.from ≡ k → v.to ≡ k + 1
+pub mine_of : (job : CoreJob) (room : ℕ) (t : St) (o : Shows job room t) (id k : ℕ) (v : View) → get_elem? t.views id ≡ some v → v.own.worker ≡ k → v.to ≡ k + 1
     → (k < job.workers) × Mine job o.state (get_elem? t.homes k) (o.seat k) id v k
 mine_of job room t o id k v me from to = o.views id v k me (omega arith) (omega arith)
 
@@ -53,12 +53,12 @@ at_below (x ∷ xs) zero a e = omega arith
 at_below (x ∷ xs) (suc i) a e = let low = at_below xs i a e in omega (arith, low)
 
 -- every worker stays in the range of its seat when the view of worker k changes
-pub seat_stays : (views : List View) (id k : ℕ) (v w : View) → get_elem? views id ≡ some v → v.from ≡ k → v.to ≡ k + 1 → w.from ≡ k → w.to ≡ k + 1
+pub seat_stays : (views : List View) (id k : ℕ) (v w : View) → get_elem? views id ≡ some v → v.own.worker ≡ k → v.to ≡ k + 1 → w.own.worker ≡ k → w.to ≡ k + 1
     → (seat x : ℕ) → HasSeat views seat x → HasSeat (set views id w) seat x
 seat_stays views id k v w me from to from' to' seat x h = elim (cases_eq seat id) [
   | inl e ↦
       let same : h.0 ≡ v = some-injective _ _ (sym h.1 ∙ (ap (λ (j : ℕ). get_elem? views j) e ∙ me)) in
-      let low : v.from ≤ x = subst (λ (y : View). y.from ≤ x) same h.2 in
+      let low : v.own.worker ≤ x = subst (λ (y : View). y.own.worker ≤ x) same h.2 in
       let high : x < v.to = subst (λ (y : View). x < y.to) same h.3 in
       (w, ap (λ (j : ℕ). get_elem? (set views id w) j) e ∙ set_here views id w (at_below views id v me), omega arith, omega arith)
   | inr ne ↦ (h.0, set_else views id seat w ne ∙ h.1, h.2, h.3)
@@ -66,7 +66,7 @@ seat_stays views id k v w me from to from' to' seat x h = elim (cases_eq seat id
 
 -- a step of worker k
 pub moved : (job : CoreJob) (room : ℕ) (laws : Laws job) (t : St) (o : Shows job room t) (id k : ℕ) (v w : View) (words : List ℕ) (homes : List (Option Slot)) (event : Event) (new : State)
-    → Happens job o.state k event new → get_elem? t.views id ≡ some v → v.from ≡ k → v.to ≡ k + 1 → w.from ≡ k → w.to ≡ k + 1
+    → Happens job o.state k event new → get_elem? t.views id ≡ some v → v.own.worker ≡ k → v.to ≡ k + 1 → w.own.worker ≡ k → w.to ≡ k + 1
     → AddsEvent v w event → get_or words (stop_at job.workers) 0 ≡ get_or t.words (stop_at job.workers) 0
     → WordsShow job.workers job.plan.count words new.node new.mark new.value new.status new.hold new.tick (length new.book)
     → SlotsShow job room homes new.task new.status new.hold new.book
@@ -82,7 +82,7 @@ moved job room laws t o id k v w words homes event new happens me from to from' 
     slots = slots;
     views = λ i u x e lo hi. let m = mine_of job room t o id k v me from to in ⊎_elim
         (λ q.
-        let lo' : w.from ≤ x = subst (λ (y : View). y.from ≤ x) (sym q.1) lo in
+        let lo' : w.own.worker ≤ x = subst (λ (y : View). y.own.worker ≤ x) (sym q.1) lo in
         let hi' : x < w.to = subst (λ (y : View). x < y.to) (sym q.1) hi in
         let is : x ≡ k = omega arith in (
           subst (λ (y : ℕ). y < job.workers) (sym is) m.0,
@@ -107,12 +107,12 @@ moved job room laws t o id k v w words homes event new happens me from to from' 
 
 -- the views, when only that of worker k changes and the state stays
 views_still : (job : CoreJob) (room : ℕ) (t : St) (o : Shows job room t) (id k : ℕ) (v w : View)
-    → get_elem? t.views id ≡ some v → v.from ≡ k → v.to ≡ k + 1 → w.from ≡ k → w.to ≡ k + 1
+    → get_elem? t.views id ≡ some v → v.own.worker ≡ k → v.to ≡ k + 1 → w.own.worker ≡ k → w.to ≡ k + 1
     → (Mine job o.state (get_elem? t.homes k) (o.seat k) id v k → Mine job o.state (get_elem? t.homes k) (o.seat k) id w k)
-    → (i : ℕ) (u : View) (x : ℕ) → get_elem? (set t.views id w) i ≡ some u → u.from ≤ x → x < u.to → (x < job.workers) × Mine job o.state (get_elem? t.homes x) (o.seat x) i u x
+    → (i : ℕ) (u : View) (x : ℕ) → get_elem? (set t.views id w) i ≡ some u → u.own.worker ≤ x → x < u.to → (x < job.workers) × Mine job o.state (get_elem? t.homes x) (o.seat x) i u x
 views_still job room t o id k v w me from to from' to' own i u x e lo hi = let m = mine_of job room t o id k v me from to in ⊎_elim
     (λ q.
-    let lo' : w.from ≤ x = subst (λ (y : View). y.from ≤ x) (sym q.1) lo in
+    let lo' : w.own.worker ≤ x = subst (λ (y : View). y.own.worker ≤ x) (sym q.1) lo in
     let hi' : x < w.to = subst (λ (y : View). x < y.to) (sym q.1) hi in
     let is : x ≡ k = omega arith in (
       subst (λ (y : ℕ). y < job.workers) (sym is) m.0,
@@ -124,8 +124,8 @@ views_still job room t o id k v w me from to from' to' own i u x e lo hi = let m
 
 -- a step on a word that encodes no part of the state
 pub renewed : (job : CoreJob) (room : ℕ) (t : St) (o : Shows job room t) (id k : ℕ) (v w : View) (words : List ℕ)
-    → get_elem? t.views id ≡ some v → v.from ≡ k → v.to ≡ k + 1 → w.from ≡ k → w.to ≡ k + 1
-    → w.events ≡ v.events → StopShows (get_or words (stop_at job.workers) 0) (set t.views id w)
+    → get_elem? t.views id ≡ some v → v.own.worker ≡ k → v.to ≡ k + 1 → w.own.worker ≡ k → w.to ≡ k + 1
+    → w.own.events ≡ v.own.events → StopShows (get_or words (stop_at job.workers) 0) (set t.views id w)
     → WordsShow job.workers job.plan.count words o.state.node o.state.mark o.state.value o.state.status o.state.hold o.state.tick (length o.state.book)
     → (Mine job o.state (get_elem? t.homes k) (o.seat k) id v k → Mine job o.state (get_elem? t.homes k) (o.seat k) id w k)
     → ShowsOne job room (λ (s : State). s ≡ o.state) record { words = words; homes = t.homes; views = set t.views id w }
@@ -149,8 +149,8 @@ renewed job room t o id k v w words me from to from' to' events stop shown own =
 
 -- a look or a refused try
 pub looked : (job : CoreJob) (room : ℕ) (t : St) (o : Shows job room t) (id k j : ℕ) (v w : View)
-    → get_elem? t.views id ≡ some v → v.from ≡ k → v.to ≡ k + 1 → w.from ≡ k → w.to ≡ k + 1
-    → w.events ≡ v.events → w.stops ≡ v.stops → (0 < w.stops_found → (0 < v.stops_found) ⊎ (get_or t.words (stop_at job.workers) 0 ≡ 1))
+    → get_elem? t.views id ≡ some v → v.own.worker ≡ k → v.to ≡ k + 1 → w.own.worker ≡ k → w.to ≡ k + 1
+    → w.own.events ≡ v.own.events → w.own.stops ≡ v.own.stops → (0 < w.own.stops_found → (0 < v.own.stops_found) ⊎ (get_or t.words (stop_at job.workers) 0 ≡ 1))
     → (Mine job o.state (get_elem? t.homes k) (o.seat k) id v k → Mine job o.state (get_elem? t.homes k) (o.seat k) id w k)
     → ShowsOne job room (λ (s : State). s ≡ o.state) record { words = set t.words j (get_or t.words j 0); homes = t.homes; views = set t.views id w }
 looked job room t o id k j v w me from to from' to' events stops found own =
@@ -163,7 +163,7 @@ pub true_false : true ≡ false → ⊥
 true_false e = cc
 
 -- a worker with a record in the list was taken
-pub record_took : (taken : List TakenCall) (u : ℕ) (call : OpRecord) → record_in taken u ≡ Some call → took_in taken u ≡ true
+pub record_took : (taken : List Call) (u : ℕ) (call : OpRecord) → record_in taken u ≡ Some call → took_in taken u ≡ true
 record_took [] u call e = absurd (cc)
 record_took (t ∷ taken) u call e = let again = record_took taken u call in grind (arith, nat_tests, again)
 
@@ -193,16 +193,16 @@ hold_still job s new k x kept free same_hold same_book same_task (Some v) h = (
 
 -- the views of one pass before and after an event of the job side
 pub record SameBut (v w : View) : Type 0 where
-  pub from : w.from ≡ v.from
+  pub from : w.own.worker ≡ v.own.worker
   pub to : w.to ≡ v.to
-  pub left : w.left ≡ v.left
-  pub hold : w.hold ≡ v.hold
+  pub left : w.own.left ≡ v.own.left
+  pub hold : w.own.hold ≡ v.own.hold
   pub enrolled : w.enrolled ≡ v.enrolled
   pub saw_done : w.saw_done ≡ v.saw_done
-  pub greatest : w.greatest ≡ v.greatest
-  pub before : w.before ≡ v.before
-  pub after : w.after ≡ v.after
-  pub book_seen : w.book_seen ≡ v.book_seen
+  pub greatest : w.own.greatest ≡ v.own.greatest
+  pub before : w.own.before ≡ v.own.before
+  pub after : w.own.after ≡ v.own.after
+  pub book_seen : w.own.book_seen ≡ v.own.book_seen
 
 -- a call that is not out adds no entry
 pub present_none : (c : CallState) (place : Maybe Place) → c ≢ Out → present c place ≡ []
@@ -231,8 +231,8 @@ pub job_step : (job : CoreJob) (room : ℕ) (laws : Laws job) (t : St) (o : Show
     (node : ℕ → Progress) (mark : ℕ → ℕ) (value : ℕ → Maybe ℕ) (tick : ℕ) (call : ℕ → CallState) (y : Task)
     → let s = o.state in
     let new : State = record s { node = node; mark = mark; value = value; tick = tick; task = put s.task k y; call = call } in
-    Happens job s k event new → get_elem? t.views id ≡ some v → v.from ≡ k → v.to ≡ k + 1 → v.enrolled ≡ true → s.call k ≢ Out → call k ≢ Out
-    → SameBut v w → AddsEvent v w event → get_or words (stop_at job.workers) 0 ≡ get_or t.words (stop_at job.workers) 0 → w.task ≡ y → call k ≡ w.call → ((x : ℕ) → x ≢ k → call x ≡ s.call x) → (is_done (s.node 0) ≡ true → is_done (node 0) ≡ true)
+    Happens job s k event new → get_elem? t.views id ≡ some v → v.own.worker ≡ k → v.to ≡ k + 1 → v.enrolled ≡ true → s.call k ≢ Out → call k ≢ Out
+    → SameBut v w → AddsEvent v w event → get_or words (stop_at job.workers) 0 ≡ get_or t.words (stop_at job.workers) 0 → w.own.task ≡ y → call k ≡ w.own.call → ((x : ℕ) → x ≢ k → call x ≡ s.call x) → (is_done (s.node 0) ≡ true → is_done (node 0) ≡ true)
     → WordsShow job.workers job.plan.count words node mark value s.status s.hold tick (length s.book)
     → ShowsOne job room (Happens job o.state k event) record { words = words; homes = t.homes; views = set t.views id w }
 job_step job room laws t o id k v w words event node mark value tick call y happens me from to enrolled inside inside' same adds stop task_is call_is calls done shown =
@@ -255,14 +255,14 @@ job_step job room laws t o id k v w words event node mark value tick call y happ
       task = put_at s.task k k y refl ∙ sym task_is;
       call = call_is;
       posted = λ out. absurd (inside' out);
-      entries = own_entries (entries_of k (flat s.book)) k v.left w.left (s.call k) (call k) (task_place job s.book (s.task k)) (task_place job s.book (put s.task k y k)) inside inside' same.left m.entries;
-      hold = subst (λ (z : Maybe HoldView). HoldKnown job new z k) (sym same.hold) (hold_still job s new k k o.parts free refl refl stay v.hold m.hold);
+      entries = own_entries (entries_of k (flat s.book)) k v.own.left w.own.left (s.call k) (call k) (task_place job s.book (s.task k)) (task_place job s.book (put s.task k y k)) inside inside' same.left m.entries;
+      hold = subst (λ (z : Maybe HoldView). HoldKnown job new z k) (sym same.hold) (hold_still job s new k k o.parts free refl refl stay v.own.hold m.hold);
       new = λ e. absurd (true_false (sym enrolled ∙ (sym same.enrolled ∙ e)));
       done = λ e. done (m.done (sym same.saw_done ∙ e));
       seen = rw same.book_seen m.seen;
       since = record {
         most = subst (λ (z : ℕ). z ≤ length s.book) (sym same.greatest) m.since.most;
-        early = subst (λ (z : ℕ). w.before ≤ z) (sym same.greatest) (subst (λ (z : ℕ). z ≤ v.greatest) (sym same.before) m.since.early);
+        early = subst (λ (z : ℕ). w.own.before ≤ z) (sym same.greatest) (subst (λ (z : ℕ). z ≤ v.own.greatest) (sym same.before) m.since.early);
         late = λ since told. subst (λ (z : ℕ). since ≤ z) (sym same.greatest) (m.since.late since (sym same.after ∙ told));
         placed = λ place out is. absurd (inside' out);
         waits = λ since told out. absurd (inside' out);
@@ -274,7 +274,7 @@ job_step job room laws t o id k v w words event node mark value tick call y happ
       call = calls x ne ∙ m.call;
       posted = rw (calls x ne, stay x ne) m.posted;
       entries = rw (calls x ne, stay x ne) m.entries;
-      hold = hold_still job s new k x o.parts free refl refl stay u.hold m.hold;
+      hold = hold_still job s new k x o.parts free refl refl stay u.own.hold m.hold;
       new = m.new;
       done = λ e. done (m.done e);
       seen = m.seen;

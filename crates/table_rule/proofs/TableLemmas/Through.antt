@@ -24,22 +24,22 @@ use Rattle.table_rule.proofs.TableLemmas.Facts.{is_trapped}
 
 -- the views of a pass before and after a step that keeps its task and its call
 pub record SameTold (v w : View) : Type 0 where
-  pub task : w.task ≡ v.task
-  pub call : w.call ≡ v.call
-  pub posted : w.posted ≡ v.posted
-  pub left : w.left ≡ v.left
+  pub task : w.own.task ≡ v.own.task
+  pub call : w.own.call ≡ v.own.call
+  pub posted : w.own.posted ≡ v.own.posted
+  pub left : w.own.left ≡ v.own.left
   pub enrolled : w.enrolled ≡ v.enrolled
   pub saw_done : w.saw_done ≡ v.saw_done
-  pub greatest : w.greatest ≡ v.greatest
-  pub before : w.before ≡ v.before
-  pub after : w.after ≡ v.after
-  pub book_seen : w.book_seen ≡ v.book_seen
+  pub greatest : w.own.greatest ≡ v.own.greatest
+  pub before : w.own.before ≡ v.own.before
+  pub after : w.own.after ≡ v.own.after
+  pub book_seen : w.own.book_seen ≡ v.own.book_seen
 
 pub told_again : (v : View) → SameTold v v
 told_again v = record { task = refl; call = refl; posted = refl; left = refl; enrolled = refl; saw_done = refl; greatest = refl; before = refl; after = refl; book_seen = refl }
 
 -- `Mine` is kept for a seat of another worker
-pub reseat : (job : CoreJob) (s : State) (home : Home) (seat seat' id id' : ℕ) (v w : View) (x : ℕ) → seat' ≡ id' → SameTold v w → w.hold ≡ v.hold → Mine job s home seat id v x → Mine job s home seat' id' w x
+pub reseat : (job : CoreJob) (s : State) (home : Home) (seat seat' id id' : ℕ) (v w : View) (x : ℕ) → seat' ≡ id' → SameTold v w → w.own.hold ≡ v.own.hold → Mine job s home seat id v x → Mine job s home seat' id' w x
 reseat job s home seat seat' id id' v w x sits told hold m = record {
   sits = sits;
   task = m.task ∙ sym told.task;
@@ -60,7 +60,7 @@ reseat job s home seat seat' id id' v w x sits told hold m = record {
 }
 
 -- and for a view that has seen more of the book
-pub reseen : (job : CoreJob) (s : State) (home : Home) (seat id : ℕ) (v : View) (x : ℕ) (book : List (List Entry)) → IsFront book s.book → Mine job s home seat id v x → Mine job s home seat id (record v { book_seen = book }) x
+pub reseen : (job : CoreJob) (s : State) (home : Home) (seat id : ℕ) (v : View) (x : ℕ) (book : List (List Entry)) → IsFront book s.book → Mine job s home seat id v x → Mine job s home seat id (record v { own = record v.own { book_seen = book } }) x
 reseen job s home seat id v x book front m = record {
   sits = m.sits;
   task = m.task;
@@ -75,12 +75,12 @@ reseen job s home seat id v x book front m = record {
 }
 
 -- and for the same seat
-pub again : (job : CoreJob) (s : State) (home : Home) (seat id : ℕ) (v w : View) (x : ℕ) → SameTold v w → w.hold ≡ v.hold → Mine job s home seat id v x → Mine job s home seat id w x
+pub again : (job : CoreJob) (s : State) (home : Home) (seat id : ℕ) (v w : View) (x : ℕ) → SameTold v w → w.own.hold ≡ v.own.hold → Mine job s home seat id v x → Mine job s home seat id w x
 again job s home seat id v w x told hold m = reseat job s home seat seat id id v w x m.sits told hold m
 
 pub through : (job : CoreJob) (laws : Laws job) (s new : State) (k x : ℕ) (event : Event) (v w : View) (home home' : Home) (seat id : ℕ) → Parts job s → Happens job s k event new
     → new.task x ≡ s.task x → new.call x ≡ s.call x → new.book ≡ s.book → (is_done (s.node 0) ≡ true → is_done (new.node 0) ≡ true)
-    → (home ≡ some (some Slots.Vacant) → v.call ≡ NotCalled → home' ≡ some (some Slots.Vacant)) → SameTold v w → HoldKnown job new w.hold x
+    → (home ≡ some (some Slots.Vacant) → v.own.call ≡ NotCalled → home' ≡ some (some Slots.Vacant)) → SameTold v w → HoldKnown job new w.own.hold x
     → Mine job s home seat id v x → Mine job new home' seat id w x
 through job laws s new k x event v w home home' seat id kept happens same_task same_call same_book done here told hold m = record {
   sits = m.sits;

@@ -27,9 +27,9 @@ reached_next job steps ready old new worker event h happens =
     reached_more job opening_core steps (record { state = old; ready = ready }) (record { worker = worker; event = event }) (record { state = new; ready = ready_after worker event ready }) h
     record { happens = happens; lists = refl }
 
-pub events_more : (w : ℕ) (steps : List Step) (step : Step) → events_by w (steps ++ step ∷ []) ≡ event_if w step ++ events_by w steps
-events_more w [] step = sym (append-nil (event_if w step))
-events_more w (s ∷ steps) step = ap (λ (l : List Event). l ++ event_if w s) (events_more w steps step) ∙ append_assoc (event_if w step) (events_by w steps) (event_if w s)
+pub events_more : (w : ℕ) (steps : List Step) (step : Step) → events_by w (steps ++ step ∷ []) ≡ events_by w steps ++ event_if w step
+events_more w [] step = append-nil (event_if w step)
+events_more w (s ∷ steps) step = ap (λ (l : List Event). event_if w s ++ l) (events_more w steps step) ∙ sym (append_assoc (event_if w s) (events_by w steps) (event_if w step))
 
 own_event : (k : ℕ) (event : Event) → event_if k (record { worker = k; event = event }) ≡ event ∷ []
 own_event k event = grind (arith, nat_tests)
@@ -39,61 +39,61 @@ other_event k x event ne = grind (arith, nat_tests)
 
 -- the views before and after a step that is this event
 pub record AddsEvent (v w : View) (event : Event) : Type 0 where
-  pub events : w.events ≡ event ∷ v.events
-  pub stops : w.stops ≡ v.stops
-  pub found : w.stops_found ≡ v.stops_found
+  pub events : w.own.events ≡ v.own.events ++ event ∷ []
+  pub stops : w.own.stops ≡ v.own.stops
+  pub found : w.own.stops_found ≡ v.own.stops_found
 
-pub agree_next : (views : List View) (id k : ℕ) (v w : View) (steps : List Step) (event : Event) → get_elem? views id ≡ some v → v.from ≡ k → v.to ≡ k + 1 → w.from ≡ k → w.to ≡ k + 1
-    → w.events ≡ event ∷ v.events → ((i x : ℕ) (u : View) → get_elem? views i ≡ some u → u.from ≤ x → x < u.to → i ≢ id → x ≢ k) → EventsAgree views steps
+pub agree_next : (views : List View) (id k : ℕ) (v w : View) (steps : List Step) (event : Event) → get_elem? views id ≡ some v → v.own.worker ≡ k → v.to ≡ k + 1 → w.own.worker ≡ k → w.to ≡ k + 1
+    → w.own.events ≡ v.own.events ++ event ∷ [] → ((i x : ℕ) (u : View) → get_elem? views i ≡ some u → u.own.worker ≤ x → x < u.to → i ≢ id → x ≢ k) → EventsAgree views steps
     → EventsAgree (set views id w) (steps ++ record { worker = k; event = event } ∷ [])
 agree_next views id k v w steps event me from to from' to' events apart old i u x e lo hi =
     let step : Step = record { worker = k; event = event } in ⊎_elim
     (λ q.
-    let lo' : w.from ≤ x = subst (λ (y : View). y.from ≤ x) (sym q.1) lo in
+    let lo' : w.own.worker ≤ x = subst (λ (y : View). y.own.worker ≤ x) (sym q.1) lo in
     let hi' : x < w.to = subst (λ (y : View). x < y.to) (sym q.1) hi in
     let is : x ≡ k = omega arith in
-    let was : events_by k steps ≡ v.events = old id v k me (omega arith) (omega arith) in
+    let was : events_by k steps ≡ v.own.events = old id v k me (omega arith) (omega arith) in
     ap (λ (y : ℕ). events_by y (steps ++ step ∷ [])) is
-    ∙ (events_more k steps step ∙ (ap (λ (l : List Event). l ++ events_by k steps) (own_event k event) ∙ (ap (λ (l : List Event). event ∷ l) was ∙ (sym events ∙ ap (λ (y : View). y.events) q.1)))))
-    (λ q. events_more x steps step ∙ (ap (λ (l : List Event). l ++ events_by x steps) (other_event k x event (apart i x u q.1 lo hi q.0)) ∙ old i u x q.1 lo hi))
+    ∙ (events_more k steps step ∙ (ap (λ (l : List Event). events_by k steps ++ l) (own_event k event) ∙ (ap (λ (l : List Event). l ++ event ∷ []) was ∙ (sym events ∙ ap (λ (y : View). y.own.events) q.1)))))
+    (λ q. events_more x steps step ∙ (ap (λ (l : List Event). events_by x steps ++ l) (other_event k x event (apart i x u q.1 lo hi q.0)) ∙ (append-nil (events_by x steps) ∙ old i u x q.1 lo hi)))
     (at_set views id i w u e)
 
 -- a step that is no event
-pub agree_still : (views : List View) (id k : ℕ) (v w : View) (steps : List Step) → get_elem? views id ≡ some v → v.from ≡ k → v.to ≡ k + 1 → w.from ≡ k → w.to ≡ k + 1
-    → w.events ≡ v.events → EventsAgree views steps → EventsAgree (set views id w) steps
+pub agree_still : (views : List View) (id k : ℕ) (v w : View) (steps : List Step) → get_elem? views id ≡ some v → v.own.worker ≡ k → v.to ≡ k + 1 → w.own.worker ≡ k → w.to ≡ k + 1
+    → w.own.events ≡ v.own.events → EventsAgree views steps → EventsAgree (set views id w) steps
 agree_still views id k v w steps me from to from' to' events old i u x e lo hi = ⊎_elim
     (λ q.
-    let lo' : w.from ≤ x = subst (λ (y : View). y.from ≤ x) (sym q.1) lo in
+    let lo' : w.own.worker ≤ x = subst (λ (y : View). y.own.worker ≤ x) (sym q.1) lo in
     let hi' : x < w.to = subst (λ (y : View). x < y.to) (sym q.1) hi in
-    old id v x me (omega arith) (omega arith) ∙ (sym events ∙ ap (λ (y : View). y.events) q.1))
+    old id v x me (omega arith) (omega arith) ∙ (sym events ∙ ap (λ (y : View). y.own.events) q.1))
     (λ q. old i u x q.1 lo hi)
     (at_set views id i w u e)
 
 -- `StopShows` is kept when the stop word and a view's `stops` stay
-pub stop_still : (views : List View) (id : ℕ) (v w : View) (word word' : ℕ) → id < length views → get_elem? views id ≡ some v → word' ≡ word → w.stops ≡ v.stops
-    → (0 < w.stops_found → (0 < v.stops_found) ⊎ (word ≡ 1)) → StopShows word views → StopShows word' (set views id w)
+pub stop_still : (views : List View) (id : ℕ) (v w : View) (word word' : ℕ) → id < length views → get_elem? views id ≡ some v → word' ≡ word → w.own.stops ≡ v.own.stops
+    → (0 < w.own.stops_found → (0 < v.own.stops_found) ⊎ (word ≡ 1)) → StopShows word views → StopShows word' (set views id w)
 stop_still views id v w word word' low me same stops found h = record {
   known = subst (λ (y : ℕ). (y ≡ 0) ⊎ (y ≡ 1)) (sym same) h.known;
   set = λ i u e some_stops. ⊎_elim
-      (λ q. same ∙ h.set id v me (let a : w.stops ≡ u.stops = ap (λ (y : View). y.stops) q.1 in omega arith))
+      (λ q. same ∙ h.set id v me (let a : w.own.stops ≡ u.own.stops = ap (λ (y : View). y.own.stops) q.1 in omega arith))
       (λ q. same ∙ h.set i u q.1 some_stops)
       (at_set views id i w u e);
   by = λ one.
       let b = h.by (sym same ∙ one) in elim (cases_eq b.0 id) [
         | inl e ↦
             let is : b.1 ≡ v = some-injective _ _ (sym b.2 ∙ (ap (λ (j : ℕ). get_elem? views j) e ∙ me)) in
-            let some_stops : 0 < v.stops = subst (λ (y : View). 0 < y.stops) is b.3 in
+            let some_stops : 0 < v.own.stops = subst (λ (y : View). 0 < y.own.stops) is b.3 in
             (id, w, set_here views id w low, omega arith)
         | inr ne ↦ (b.0, b.1, set_else views id b.0 w ne ∙ b.2, b.3)
       ];
   found = λ i u e some_found. ⊎_elim
-      (λ q. ⊎_elim (λ f. same ∙ h.found id v me f) (λ one. same ∙ one) (found (subst (λ (y : View). 0 < y.stops_found) (sym q.1) some_found)))
+      (λ q. ⊎_elim (λ f. same ∙ h.found id v me f) (λ one. same ∙ one) (found (subst (λ (y : View). 0 < y.own.stops_found) (sym q.1) some_found)))
       (λ q. same ∙ h.found i u q.1 some_found)
       (at_set views id i w u e);
 }
 
 -- the word is set
-pub stop_set : (views : List View) (id : ℕ) (v w : View) (word word' : ℕ) → id < length views → get_elem? views id ≡ some v → word' ≡ 1 → 0 < w.stops
+pub stop_set : (views : List View) (id : ℕ) (v w : View) (word word' : ℕ) → id < length views → get_elem? views id ≡ some v → word' ≡ 1 → 0 < w.own.stops
     → StopShows word views → StopShows word' (set views id w)
 stop_set views id v w word word' low me one stops h = record {
   known = inr one;
@@ -103,8 +103,8 @@ stop_set views id v w word word' low me one stops h = record {
 }
 
 -- `StopShows` is kept when a seat's view is split in two
-pub stop_cut : (views : List View) (id : ℕ) (v w y : View) (word : ℕ) → ((i : ℕ) (u : View) → get_elem? (set views id w ++ y ∷ []) i ≡ some u → (j : ℕ) × (x : View) × (get_elem? views j ≡ some x) × (u.stops ≡ x.stops) × (u.stops_found ≡ x.stops_found))
-    → ((i : ℕ) (u : View) → get_elem? views i ≡ some u → (j : ℕ) × (x : View) × (get_elem? (set views id w ++ y ∷ []) j ≡ some x) × (x.stops ≡ u.stops))
+pub stop_cut : (views : List View) (id : ℕ) (v w y : View) (word : ℕ) → ((i : ℕ) (u : View) → get_elem? (set views id w ++ y ∷ []) i ≡ some u → (j : ℕ) × (x : View) × (get_elem? views j ≡ some x) × (u.own.stops ≡ x.own.stops) × (u.own.stops_found ≡ x.own.stops_found))
+    → ((i : ℕ) (u : View) → get_elem? views i ≡ some u → (j : ℕ) × (x : View) × (get_elem? (set views id w ++ y ∷ []) j ≡ some x) × (x.own.stops ≡ u.own.stops))
     → StopShows word views → StopShows word (set views id w ++ y ∷ [])
 stop_cut views id v w y word back forth h = record {
   known = h.known;

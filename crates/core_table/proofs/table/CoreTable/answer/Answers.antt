@@ -2,16 +2,15 @@ use Rattle.std.proofs.Common.{rules, ◌≡◌, ℕ, ◌+◌, List, [], ◌∷�
 use Rattle.atomic_table.specs.Table.{rest}
 use Rattle.table_rule.specs.declared.slot.Slot.{Slot}
 use Rattle.table_rule.specs.declared.slot.Slot.TheVariants as Slots
-use Rattle.table_rule.specs.declared.view.HoldView.{HoldView}
 use Rattle.core_table.specs.Code.Turns.{turns, IsFirstAt}
 use Rattle.table_rule.specs.Carries.{vacant}
 use Rattle.table_rule.specs.Plays.{Sat}
 use Rattle.table_rule.specs.Shows.{among, room_of, job_of}
-use Rattle.table_rule.specs.CoreWords.{Answer}
-use Rattle.table_rule.specs.Views.{with_event, with_hold, answered_view, without_first}
+use Rattle.table_rule.specs.Passes.{without_first, in_hold, after_answer, answering}
+use Rattle.table_rule.specs.Views.{with_step}
 use Rattle.table_rule.proofs.TableLemmas.Moved.{few_nodes, record_took}
 use Rattle.core_table.proofs.ListLemmas.Owed.{to_front, to_places, owes_answered, remembers_hold}
-use Rattle.core_table.proofs.PassLemmas.PassKept.{held_out, pass_made, first, swapped, same_hold, holder_after, carries_answered}
+use Rattle.core_table.proofs.PassLemmas.PassKept.{held_out, pass_made, first, swapped, holder_after, carries_answered}
 use Rattle.table_rule.proofs.StepLemmas.GateSteps.{answers_at}
 use Rattle.core_table.proofs.table.CoreTable.answer.Goals as goal
 
@@ -64,15 +63,14 @@ invariant_of-pass c =
     ∙ ap (λ l. (v, l)) (to_front h.owed u c.first_place-at.result last at)) in
     let put = swapped c.turn_by.new.seat.me c.exchange.new.seat.me v u Slots.Vacant (Slots.Receipt c.args.receipt) tail list c.exchange.ensures.3 in
     let t = c.store.ensures.2 in
-    let same : t.0 ≡ h = same_hold t.0 h (sym t.1 ∙ (ap (λ (m : Sat). m.0.hold) put ∙ holds)) in
-    let w = with_event (with_hold v (answered_view h u)) (Answer u c.args.receipt) in
-    let here = t.2 c.args.receipt (first _ _ _ _ _ put) ∙ (ap (λ (g : HoldView). (with_event (with_hold c.exchange.new.seat.me.0 (answered_view g u)) (Answer u c.args.receipt), rest c.exchange.new.seat.me.1)) same ∙ ap (λ (m : Sat). (with_event (with_hold m.0 (answered_view h u)) (Answer u c.args.receipt), rest m.1)) put) in
+    let w = with_step (answering u c.args.receipt) v in
+    let here = t.2 c.args.receipt (first _ _ _ _ _ put) ∙ ap (λ (m : Sat). (with_step (answering u c.args.receipt) m.0, rest m.1)) put in
     let n = c.len.result - c.first_place-at.result in
     let behind : n ≡ length h.owed - c.first_place-at.result = let a = pass.room.1 in let b = ap (λ (l : List ℕ). length l) m.0 in omega (arith, a, b, c.len.ensures) in
     let done = c.turn_by-2.ensures.me ∙ (ap (λ (s : Sat). (s.0, turns n s.1)) here ∙ ap (λ l. (w, l)) (to_places h.owed u c.first_place-at.result n last at behind)) in
     record {
-      number = (ap (λ (m : Sat). m.0.from) done ∙ pass.number.0, ap (λ (m : Sat). m.0.to) done ∙ pass.number.1);
-      own = (ap (λ (m : Sat). m.0.task) done ∙ pass.own.0, ap (λ (m : Sat). m.0.call) done ∙ pass.own.1);
+      number = (ap (λ (m : Sat). m.0.own.worker) done ∙ pass.number.0, ap (λ (m : Sat). m.0.to) done ∙ pass.number.1);
+      own = (ap (λ (m : Sat). m.0.own.task) done ∙ pass.own.0, ap (λ (m : Sat). m.0.own.call) done ∙ pass.own.1);
       room = search rules;
     }
 
@@ -88,15 +86,14 @@ returns c =
     ∙ ap (λ l. (v, l)) (to_front h.owed u c.first_place-at.result last at)) in
     let put = swapped c.turn_by.new.seat.me c.exchange.new.seat.me v u Slots.Vacant (Slots.Receipt c.args.receipt) tail list c.exchange.ensures.3 in
     let t = c.store.ensures.2 in
-    let same : t.0 ≡ h = same_hold t.0 h (sym t.1 ∙ (ap (λ (m : Sat). m.0.hold) put ∙ holds)) in
-    let w = with_event (with_hold v (answered_view h u)) (Answer u c.args.receipt) in
-    let here = t.2 c.args.receipt (first _ _ _ _ _ put) ∙ (ap (λ (g : HoldView). (with_event (with_hold c.exchange.new.seat.me.0 (answered_view g u)) (Answer u c.args.receipt), rest c.exchange.new.seat.me.1)) same ∙ ap (λ (m : Sat). (with_event (with_hold m.0 (answered_view h u)) (Answer u c.args.receipt), rest m.1)) put) in
+    let w = with_step (answering u c.args.receipt) v in
+    let here = t.2 c.args.receipt (first _ _ _ _ _ put) ∙ ap (λ (m : Sat). (with_step (answering u c.args.receipt) m.0, rest m.1)) put in
     let n = c.len.result - c.first_place-at.result in
     let behind : n ≡ length h.owed - c.first_place-at.result = let a = pass.room.1 in let b = ap (λ (l : List ℕ). length l) m.0 in omega (arith, a, b, c.len.ensures) in
     let done = c.turn_by-2.ensures.me ∙ (ap (λ (s : Sat). (s.0, turns n s.1)) here ∙ ap (λ l. (w, l)) (to_places h.owed u c.first_place-at.result n last at behind)) in
     record {
       pass = pass_made self.setting _ pass.worker old c.turn_by-2.new.seat w (vacant (without_first u h.owed) ++ last ∷ []) (c.turn_by-2.ensures.table.0 ∙ (c.store.ensures.0 ∙ (c.exchange.ensures.0 ∙ c.turn_by.ensures.table.0))) done refl refl refl refl refl refl
-          (carries_answered pass.worker workers u v h c.args.receipt (held_out pass.worker old.me h c.requires.pass.7 holds) c.requires.pass.2 there)
-          (remembers_hold w _ _ (answered_view h u) refl (c.remove.ensures.by_index.2 ∙ (ap (λ (l : List ℕ). take c.first_place-at.result l ++ drop (c.first_place-at.result + 1) l) m.0 ∙ (let next : c.first_place-at.result + 1 ≡ suc c.first_place-at.result = omega arith in ap (λ (k : ℕ). take c.first_place-at.result h.owed ++ drop k h.owed) next ∙ sym at.rest))) m.1 (owes_answered h u there m.2)) c.requires.pass;
-      answered = (h, holds, ap (λ (m : Sat). m.0) done);
+          (carries_answered pass.worker workers u v h c.args.receipt (held_out pass.worker old.me h c.requires.pass.7 holds) holds c.requires.pass.2 there)
+          (remembers_hold w _ _ (after_answer u h) (ap (in_hold (after_answer u)) holds) (c.remove.ensures.by_index.2 ∙ (ap (λ (l : List ℕ). take c.first_place-at.result l ++ drop (c.first_place-at.result + 1) l) m.0 ∙ (let next : c.first_place-at.result + 1 ≡ suc c.first_place-at.result = omega arith in ap (λ (k : ℕ). take c.first_place-at.result h.owed ++ drop k h.owed) next ∙ sym at.rest))) m.1 (owes_answered h u there m.2)) c.requires.pass;
+      answered = ap (λ (m : Sat). m.0) done;
     }

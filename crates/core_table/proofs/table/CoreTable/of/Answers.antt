@@ -48,7 +48,7 @@ pub loop-worker-preserved : goal.loop-worker-preserved
 loop-worker-preserved c =
     let i = c.loop-worker.invariant in let setting = c.args.setting in let k = c.loop-worker.worker in let table = c.in-Ok.made.0.shared.table_id in
     let cut = c.split_seat-own.ensures.4 ∙ ap (λ (m : Sat). (pass_of m.0, [])) i.seat in
-    let me = c.load.ensures.2 ∙ ap (λ (m : Sat). (enrolling m.0, (m.0.from, Slots.Vacant) ∷ m.1)) cut in
+    let me = c.load.ensures.2 ∙ ap (λ (m : Sat). (enrolling m.0, (m.0.own.worker, Slots.Vacant) ∷ m.1)) cut in
     let id = c.load.ensures.0 ∙ (c.split_seat-own.ensures.3 ∙ i.same) in record {
       key = i.key;
       words = i.words;

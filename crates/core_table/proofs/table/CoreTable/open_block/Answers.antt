@@ -2,7 +2,8 @@ use Rattle.std.proofs.Common.{ℕ, ◌≡◌, refl, sym, ap, ◌∙◌, arith, S
 use Rattle.table_rule.specs.CoreWords.{Run, Half, OpenParRight}
 use Rattle.table_rule.specs.DueTasks.{opened_task, half_if}
 use Rattle.table_rule.specs.Plays.{Sat}
-use Rattle.table_rule.specs.Views.{with_event, opening}
+use Rattle.table_rule.specs.Passes.{opening}
+use Rattle.table_rule.specs.Views.{with_step}
 use Rattle.sp_order.specs.declared.node.Kind.TheVariants.{SeqNode, ParNode}
 use Rattle.table_rule.specs.Shows.{room_of, job_of}
 use Rattle.table_rule.proofs.TableLemmas.Moved.{few_nodes}
@@ -46,4 +47,4 @@ returns-in-ParNode-clause-opened c =
     let half : Half t.1 ≡ opened_task job (Run node) = ap Half at ∙ sym (ap (λ k. half_if k node) kind) in
     let told : job.plan.kind node ≡ Some (ParNode t.2 right) =
     sym (λ i. (c.requires.pass.9 i).kind (at i)) ∙ (t.5 ∙ ap (λ (n : ℕ). Some (ParNode t.2 n)) here) in
-    (OpenParRight node t.2 right, inl (t.2, told, refl), ap (λ (m : Sat). m.0) t.6 ∙ (λ i. with_event (opening v (here i) (half i)) (OpenParRight (at i) t.2 (here i))))
+    (OpenParRight node t.2 right, inl (t.2, told, refl), ap (λ (m : Sat). m.0) t.6 ∙ (λ i. with_step (opening (here i) (OpenParRight (at i) t.2 (here i)) (half i)) v))

@@ -7,7 +7,7 @@ use Rattle.table_rule.proofs.StepLemmas.GateSteps.{posts_at}
 use Rattle.atomic_table.specs.Table.{rest}
 use Rattle.table_rule.specs.Plays.{Sat}
 use Rattle.core_table.proofs.ListLemmas.Owed.{remembers_kept}
-use Rattle.table_rule.specs.Views.{with_event, posting}
+use Rattle.table_rule.specs.Views.{with_post}
 use Rattle.table_rule.specs.CoreWords.{Post}
 use Rattle.core_table.proofs.PassLemmas.PassKept.{pass_made, first, carries_posted}
 use Rattle.core_table.proofs.table.CoreTable.post.Goals as goal
@@ -30,9 +30,9 @@ returns c =
     let put = swapped old.me c.exchange.new.seat.me v pass.worker Slots.Vacant (Slots.Record c.args.call) [] (λ i. (v, own.1 i)) c.exchange.ensures.3 in
     let t = c.store.ensures.2 c.args.call (first _ _ _ _ _ put) in
     let event = Post t.0 t.1 in
-    let told = t.3 ∙ ap (λ (m : Sat). (with_event (posting m.0 c.args.call) event, rest m.1)) put in
+    let told = t.3 ∙ ap (λ (m : Sat). (with_post c.args.call event m.0, rest m.1)) put in
     record {
-      pass = pass_made self.setting _ pass.worker old c.store.new.seat (with_event (posting v c.args.call) event) [] (c.store.ensures.0 ∙ c.exchange.ensures.0) told refl refl refl refl refl refl
-          (carries_posted pass.worker v c.args.call event own.0) (remembers_kept v (with_event (posting v c.args.call) event) _ _ refl c.requires.pass.8) c.requires.pass;
-      posted = (t.0, t.1, ap (λ (m : Sat). m.0.task) (sym put) ∙ t.2, ap (λ (m : Sat). m.0) told);
+      pass = pass_made self.setting _ pass.worker old c.store.new.seat (with_post c.args.call event v) [] (c.store.ensures.0 ∙ c.exchange.ensures.0) told refl refl refl refl refl refl
+          (carries_posted pass.worker v c.args.call event own.0) (remembers_kept v (with_post c.args.call event v) _ _ refl c.requires.pass.8) c.requires.pass;
+      posted = (t.0, t.1, ap (λ (m : Sat). m.0.own.task) (sym put) ∙ t.2, ap (λ (m : Sat). m.0) told);
     }

@@ -7,8 +7,8 @@ use Rattle.table_rule.specs.Batches.{IsPublishDue}
 use Rattle.table_rule.specs.Carries.{vacant}
 use Rattle.table_rule.specs.Plays.{Sat}
 use Rattle.table_rule.specs.Shows.{reserved, room_of, job_of}
-use Rattle.table_rule.specs.CoreWords.{Publish}
-use Rattle.table_rule.specs.Views.{with_event, with_hold, published_view}
+use Rattle.table_rule.specs.Passes.{in_hold, after_publish, publishing}
+use Rattle.table_rule.specs.Views.{with_step}
 use Rattle.table_rule.proofs.TableLemmas.Moved.{few_nodes}
 use Rattle.core_table.proofs.PassLemmas.PassKept.{held_out, pass_made, first, swapped, turned_to, carries_published, holder_list, found_book, books}
 use Rattle.core_table.proofs.ListLemmas.Owed.{remembers_hold, owes_published}
@@ -98,14 +98,14 @@ invariant_of-pass c =
     let emptied = swapped c.load.new.seat.me c.exchange.new.seat.me v at (Slots.Book book) Slots.Vacant tail list c.exchange.ensures.3 in
     let put_back = swapped c.exchange.new.seat.me c.exchange-2.new.seat.me v at Slots.Vacant (Slots.Book _) tail emptied c.exchange-2.ensures.3
     ∙ ap (λ (b : ReservedView). (v, (at, Slots.Book b) ∷ tail)) whole in
-    let told = c.fetch_add.ensures.2 h c.args.batch (ap (λ (m : Sat). m.0.hold) put_back ∙ holds)
+    let told = c.fetch_add.ensures.2 h c.args.batch (ap (λ (m : Sat). m.0.own.hold) put_back ∙ holds)
     (first _ _ _ _ _ put_back ∙ ap (λ (r : ℕ). (at, Slots.Book (reserved (h.book ++ c.args.batch ∷ []) r)) ∷ rest c.exchange-2.new.seat.me.1) (sym (ap (λ (m : Sat). m.0.room) put_back ∙ c.requires.pass.6))) in
-    let w = with_event (with_hold v (published_view h c.args.batch)) Publish in
-    let here = told ∙ ap (λ (m : Sat). (with_event (with_hold m.0 (published_view h c.args.batch)) Publish, rest m.1)) put_back in
+    let w = with_step (publishing c.args.batch) v in
+    let here = told ∙ ap (λ (m : Sat). (with_step (publishing c.args.batch) m.0, rest m.1)) put_back in
     let last = turned_to _ c.turn.new.self.me w tail here c.turn.ensures.2 in
     record {
-      number = (ap (λ (m : Sat). m.0.from) last ∙ pass.number.0, ap (λ (m : Sat). m.0.to) last ∙ pass.number.1);
-      own = (ap (λ (m : Sat). m.0.task) last ∙ pass.own.0, ap (λ (m : Sat). m.0.call) last ∙ pass.own.1);
+      number = (ap (λ (m : Sat). m.0.own.worker) last ∙ pass.number.0, ap (λ (m : Sat). m.0.to) last ∙ pass.number.1);
+      own = (ap (λ (m : Sat). m.0.own.task) last ∙ pass.own.0, ap (λ (m : Sat). m.0.own.call) last ∙ pass.own.1);
       room = pass.room;
     }
 
@@ -123,15 +123,15 @@ returns c =
     let emptied = swapped c.load.new.seat.me c.exchange.new.seat.me v at (Slots.Book book) Slots.Vacant tail list c.exchange.ensures.3 in
     let put_back = swapped c.exchange.new.seat.me c.exchange-2.new.seat.me v at Slots.Vacant (Slots.Book _) tail emptied c.exchange-2.ensures.3
     ∙ ap (λ (b : ReservedView). (v, (at, Slots.Book b) ∷ tail)) whole in
-    let told = c.fetch_add.ensures.2 h c.args.batch (ap (λ (m : Sat). m.0.hold) put_back ∙ holds)
+    let told = c.fetch_add.ensures.2 h c.args.batch (ap (λ (m : Sat). m.0.own.hold) put_back ∙ holds)
     (first _ _ _ _ _ put_back ∙ ap (λ (r : ℕ). (at, Slots.Book (reserved (h.book ++ c.args.batch ∷ []) r)) ∷ rest c.exchange-2.new.seat.me.1) (sym (ap (λ (m : Sat). m.0.room) put_back ∙ c.requires.pass.6))) in
-    let w = with_event (with_hold v (published_view h c.args.batch)) Publish in
-    let here = told ∙ ap (λ (m : Sat). (with_event (with_hold m.0 (published_view h c.args.batch)) Publish, rest m.1)) put_back in
+    let w = with_step (publishing c.args.batch) v in
+    let here = told ∙ ap (λ (m : Sat). (with_step (publishing c.args.batch) m.0, rest m.1)) put_back in
     let last = turned_to _ c.turn.new.self.me w tail here c.turn.ensures.2 in
     record {
       pass = pass_made self.setting _ pass.worker old c.turn.new.self w (vacant h.owed ++ (workers, Slots.Vacant) ∷ [])
           (c.turn.ensures.0 ∙ (c.fetch_add.ensures.0 ∙ (c.exchange-2.ensures.0 ∙ (c.exchange.ensures.0 ∙ c.load.ensures.0)))) last refl refl refl refl refl refl
-          (carries_published pass.worker workers v h c.args.batch (held_out pass.worker old.me h c.requires.pass.7 holds) c.requires.pass.2)
-          (let m = c.requires.pass.8.holds h holds in remembers_hold w _ true (published_view h c.args.batch) refl m.0 refl (owes_published h c.args.batch m.2)) c.requires.pass;
-      published = (h, holds, ap (λ (m : Sat). m.0) last);
+          (carries_published pass.worker workers v h c.args.batch (held_out pass.worker old.me h c.requires.pass.7 holds) holds c.requires.pass.2)
+          (let m = c.requires.pass.8.holds h holds in remembers_hold w _ true (after_publish c.args.batch h) (ap (in_hold (after_publish c.args.batch)) holds) m.0 refl (owes_published h c.args.batch m.2)) c.requires.pass;
+      published = ap (λ (m : Sat). m.0) last;
     }

@@ -4,8 +4,8 @@ use Rattle.table_rule.specs.declared.slot.Slot.TheVariants as Slots
 use Rattle.table_rule.specs.Carries.{vacant}
 use Rattle.table_rule.specs.Plays.{Sat}
 use Rattle.table_rule.specs.Shows.{reserved, room_of, job_of}
-use Rattle.table_rule.specs.CoreWords.{Release}
-use Rattle.table_rule.specs.Views.{with_event, releasing}
+use Rattle.table_rule.specs.Passes.{releasing}
+use Rattle.table_rule.specs.Views.{with_step}
 use Rattle.table_rule.proofs.TableLemmas.Moved.{few_nodes}
 use Rattle.core_table.proofs.ListLemmas.Owed.{owes_nobody, remembers_none}
 use Rattle.core_table.proofs.PassLemmas.PassKept.{held_out, pass_made, first, swapped, turned_to, holder_list, carries_released}
@@ -58,9 +58,9 @@ returns c =
     let after = (workers + 1, Slots.Book book) ∷ [] in
     let turned_list = turned_to old.me c.turn.new.self.me v ((workers + 1, Slots.Book book) ∷ (workers, Slots.Vacant) ∷ []) list c.turn.ensures.2 ∙ ap (λ (i : ℕ). (v, (i, Slots.Vacant) ∷ after)) (sym place) in
     let put = swapped c.turn.new.self.me c.exchange.new.seat.me v at Slots.Vacant (Slots.Shop c.args.shop) after turned_list c.exchange.ensures.3 in
-    let last = c.store.ensures.2 ∙ ap (λ (m : Sat). (with_event (releasing m.0) Release, rest (rest m.1))) put in
+    let last = c.store.ensures.2 ∙ ap (λ (m : Sat). (with_step releasing m.0, rest (rest m.1))) put in
     record {
-      pass = pass_made self.setting _ pass.worker old c.store.new.seat (with_event (releasing v) Release) [] (c.store.ensures.0 ∙ (c.exchange.ensures.0 ∙ c.turn.ensures.0)) last refl refl refl refl refl refl
-          (carries_released pass.worker v (held_out pass.worker old.me h c.requires.pass.7 holds)) (remembers_none (with_event (releasing v) Release) _ _ refl (m.0 ∙ nobody)) c.requires.pass;
+      pass = pass_made self.setting _ pass.worker old c.store.new.seat (with_step releasing v) [] (c.store.ensures.0 ∙ (c.exchange.ensures.0 ∙ c.turn.ensures.0)) last refl refl refl refl refl refl
+          (carries_released pass.worker v (held_out pass.worker old.me h c.requires.pass.7 holds)) (remembers_none (with_step releasing v) _ _ refl (m.0 ∙ nobody)) c.requires.pass;
       released = ap (λ (m : Sat). m.0) last;
     }

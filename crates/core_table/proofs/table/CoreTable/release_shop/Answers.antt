@@ -3,8 +3,8 @@ use Rattle.atomic_table.specs.Table.{rest}
 use Rattle.table_rule.specs.declared.slot.Slot.TheVariants as Slots
 use Rattle.table_rule.specs.Plays.{Sat}
 use Rattle.table_rule.specs.Shows.{room_of, job_of}
-use Rattle.table_rule.specs.CoreWords.{Release}
-use Rattle.table_rule.specs.Views.{with_event, releasing}
+use Rattle.table_rule.specs.Passes.{releasing}
+use Rattle.table_rule.specs.Views.{with_step}
 use Rattle.table_rule.proofs.TableLemmas.Moved.{few_nodes}
 use Rattle.core_table.proofs.ListLemmas.Owed.{owes_nobody, remembers_none}
 use Rattle.core_table.proofs.PassLemmas.PassKept.{held_out, pass_made, first, swapped, holder_after, carries_released}
@@ -48,9 +48,9 @@ returns c =
     let published : h.published ≡ true = sym m.1 ∙ c.requires.published in
     let list = holder_after pass.worker workers old.me h [] holds published nobody c.requires.pass.2 c.requires.pass.7 ∙ ap (λ (i : ℕ). (v, (i, Slots.Vacant) ∷ [])) (sym place) in
     let put = swapped old.me c.exchange.new.seat.me v at Slots.Vacant (Slots.Shop c.args.shop) [] list c.exchange.ensures.3 in
-    let last = c.store.ensures.2 ∙ ap (λ (m : Sat). (with_event (releasing m.0) Release, rest m.1)) put in
+    let last = c.store.ensures.2 ∙ ap (λ (m : Sat). (with_step releasing m.0, rest m.1)) put in
     record {
-      pass = pass_made self.setting _ pass.worker old c.store.new.seat (with_event (releasing v) Release) [] (c.store.ensures.0 ∙ c.exchange.ensures.0) last refl refl refl refl refl refl
-          (carries_released pass.worker v (held_out pass.worker old.me h c.requires.pass.7 holds)) (remembers_none (with_event (releasing v) Release) _ _ refl (m.0 ∙ nobody)) c.requires.pass;
+      pass = pass_made self.setting _ pass.worker old c.store.new.seat (with_step releasing v) [] (c.store.ensures.0 ∙ c.exchange.ensures.0) last refl refl refl refl refl refl
+          (carries_released pass.worker v (held_out pass.worker old.me h c.requires.pass.7 holds)) (remembers_none (with_step releasing v) _ _ refl (m.0 ∙ nobody)) c.requires.pass;
       released = ap (λ (m : Sat). m.0) last;
     }

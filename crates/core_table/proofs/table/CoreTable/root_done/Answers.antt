@@ -21,5 +21,5 @@ pub returns-clause-pass : goal.returns-clause-pass
 returns-clause-pass c =
     let old = c.args.pass.now.seat in elim (cases_eq (c.load.result % 4) 3) [
       | inl e ↦ pass_kept c.args.self.now.setting _ c.args.pass.now.worker old c.load.new.seat (seeing_done old.me.0) c.load.ensures.0 (c.load.ensures.2.0 e) refl refl refl refl refl refl refl refl c.requires.pass
-      | inr ne ↦ pass_kept c.args.self.now.setting _ c.args.pass.now.worker old c.load.new.seat (seeing_undone old.me.0 c.load.result) c.load.ensures.0 (c.load.ensures.2.1 ne) refl refl refl refl refl refl refl refl c.requires.pass
+      | inr ne ↦ pass_kept c.args.self.now.setting _ c.args.pass.now.worker old c.load.new.seat (seeing_undone c.load.result old.me.0) c.load.ensures.0 (c.load.ensures.2.1 ne) refl refl refl refl refl refl refl refl c.requires.pass
     ]

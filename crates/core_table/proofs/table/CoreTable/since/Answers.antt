@@ -3,7 +3,7 @@ use Rattle.table_rule.specs.Shows.{room_of, job_of}
 use Rattle.table_rule.proofs.TableLemmas.Moved.{few_nodes}
 use Rattle.table_rule.proofs.StepLemmas.LookSteps.{hears}
 use Rattle.std.proofs.Common.{refl}
-use Rattle.table_rule.specs.Views.{hearing}
+use Rattle.table_rule.specs.Views.{with_since}
 use Rattle.core_table.proofs.PassLemmas.PassKept.{pass_kept}
 use Rattle.core_table.proofs.table.CoreTable.since.Goals as goal
 
@@ -19,4 +19,4 @@ load-requires c =
 pub returns-clause-pass : goal.returns-clause-pass
 returns-clause-pass c =
     let old = c.args.pass.now.seat in
-    pass_kept c.args.self.now.setting _ c.args.pass.now.worker old c.load.new.seat (hearing old.me.0 c.load.result) c.load.ensures.0 c.load.ensures.2.0 refl refl refl refl refl refl refl refl c.requires.pass
+    pass_kept c.args.self.now.setting _ c.args.pass.now.worker old c.load.new.seat (with_since c.load.result old.me.0) c.load.ensures.0 c.load.ensures.2.0 refl refl refl refl refl refl refl refl c.requires.pass

@@ -1,6 +1,7 @@
 use Rattle.std.proofs.Common.{arith, refl}
 use Rattle.table_rule.specs.Shows.{room_of, job_of}
-use Rattle.table_rule.specs.Views.{stopping}
+use Rattle.table_rule.specs.Passes.{stopping}
+use Rattle.table_rule.specs.Views.{with_step}
 use Rattle.table_rule.proofs.TableLemmas.Moved.{few_nodes}
 use Rattle.table_rule.proofs.StepLemmas.LookSteps.{stops}
 use Rattle.core_table.proofs.PassLemmas.PassKept.{pass_kept}
@@ -18,4 +19,4 @@ store-requires c =
 pub returns-clause-pass : goal.returns-clause-pass
 returns-clause-pass c =
     let old = c.args.pass.now.seat in
-    pass_kept c.args.self.now.setting _ c.args.pass.now.worker old c.store.new.seat (stopping old.me.0) c.store.ensures.0 c.store.ensures.2.0 refl refl refl refl refl refl refl refl c.requires.pass
+    pass_kept c.args.self.now.setting _ c.args.pass.now.worker old c.store.new.seat (with_step stopping old.me.0) c.store.ensures.0 c.store.ensures.2.0 refl refl refl refl refl refl refl refl c.requires.pass

@@ -1,6 +1,7 @@
 use Rattle.std.proofs.Common.{arith, refl, inl, inr}
 use Rattle.std.proofs.lemmas.Bool.{cases_eq}
-use Rattle.table_rule.specs.Views.{finding_stop, finding_none}
+use Rattle.table_rule.specs.Passes.{finding_stop, finding_none}
+use Rattle.table_rule.specs.Views.{with_step, with_found}
 use Rattle.table_rule.specs.Shows.{room_of, job_of}
 use Rattle.table_rule.proofs.TableLemmas.Moved.{few_nodes}
 use Rattle.table_rule.proofs.StepLemmas.LookSteps.{looks_at_stop}
@@ -19,6 +20,6 @@ load-requires c =
 pub returns-clause-pass : goal.returns-clause-pass
 returns-clause-pass c =
     let old = c.args.pass.now.seat in elim (cases_eq c.load.result 1) [
-      | inl e ↦ pass_kept c.args.self.now.setting _ c.args.pass.now.worker old c.load.new.seat (finding_stop old.me.0) c.load.ensures.0 (c.load.ensures.2.0 e) refl refl refl refl refl refl refl refl c.requires.pass
-      | inr ne ↦ pass_kept c.args.self.now.setting _ c.args.pass.now.worker old c.load.new.seat (finding_none old.me.0 c.load.result) c.load.ensures.0 (c.load.ensures.2.1 ne) refl refl refl refl refl refl refl refl c.requires.pass
+      | inl e ↦ pass_kept c.args.self.now.setting _ c.args.pass.now.worker old c.load.new.seat (with_step finding_stop old.me.0) c.load.ensures.0 (c.load.ensures.2.0 e) refl refl refl refl refl refl refl refl c.requires.pass
+      | inr ne ↦ pass_kept c.args.self.now.setting _ c.args.pass.now.worker old c.load.new.seat (with_found c.load.result finding_none old.me.0) c.load.ensures.0 (c.load.ensures.2.1 ne) refl refl refl refl refl refl refl refl c.requires.pass
     ]

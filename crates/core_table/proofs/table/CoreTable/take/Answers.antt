@@ -8,8 +8,8 @@ use Rattle.table_rule.specs.declared.view.HoldView.{HoldView}
 use Rattle.table_rule.specs.Remembers.{Owes}
 use Rattle.core_table.proofs.ListLemmas.Owed.{remembers_hold, owes_passed, owes_taken}
 use Rattle.core_table.proofs.PassLemmas.PassKept.{same_hold}
-use Rattle.table_rule.specs.CoreWords.{Take}
-use Rattle.table_rule.specs.Views.{with_event, passing, with_hold, taken_view, passed_view}
+use Rattle.table_rule.specs.Passes.{call_by, in_hold, after_take, after_pass, taking, passing}
+use Rattle.table_rule.specs.Views.{with_step, with_found}
 use Rattle.table_rule.proofs.StepLemmas.GateSteps.{looks}
 use Rattle.core_table.proofs.table.CoreTable.take.Goals as goal
 
@@ -31,18 +31,18 @@ exchange-slot-requires c =
 pub returns-then-seen-ne1-clause-pass : goal.returns-then-seen-ne1-clause-pass
 returns-then-seen-ne1-clause-pass c =
     let old = c.args.pass.now.seat in let e = c.compare_exchange-seen.ensures.2 in
-    let w = with_event (passing old.me.0 e.0 c.compare_exchange-seen.result) (Take c.args.u) in
-    let out : old.me.0.call ≡ Out = held_out c.args.pass.now.worker old.me e.0 c.requires.pass.7 e.1 in
+    let w = with_found c.compare_exchange-seen.result (passing c.args.u c.compare_exchange-seen.result) old.me.0 in
+    let out : old.me.0.own.call ≡ Out = held_out c.args.pass.now.worker old.me e.0 c.requires.pass.7 e.1 in
     pass_made c.args.self.now.setting _ c.args.pass.now.worker old c.compare_exchange-seen.new.seat w old.me.1 c.compare_exchange-seen.ensures.0 (e.4 c.if-seen-ne1.true) refl refl refl refl refl refl
     (carries_passed c.args.pass.now.worker c.args.u old.me.0 e.0 c.compare_exchange-seen.result old.me.1 out e.1 c.requires.pass.7)
-    (let m = c.requires.pass.8.holds e.0 e.1 in remembers_hold w _ _ (passed_view e.0 c.compare_exchange-seen.result) refl m.0 m.1 (owes_passed e.0 c.compare_exchange-seen.result m.2)) c.requires.pass
+    (let m = c.requires.pass.8.holds e.0 e.1 in remembers_hold w _ _ (after_pass c.compare_exchange-seen.result e.0) (ap (in_hold (after_pass c.compare_exchange-seen.result)) e.1) m.0 m.1 (owes_passed e.0 c.compare_exchange-seen.result m.2)) c.requires.pass
 
 pub returns-clause-pass : goal.returns-clause-pass
 returns-clause-pass c =
     let old = c.args.pass.now.seat in let u = c.args.u in
     let e = c.compare_exchange-seen.ensures.2 in let t = e.3 c.if-seen-ne1.false in
-    let w = with_event (with_hold old.me.0 (taken_view e.0 u t.0)) (Take u) in
-    let out : old.me.0.call ≡ Out = held_out c.args.pass.now.worker old.me e.0 c.requires.pass.7 e.1 in
+    let w = with_step (taking (call_by u t.0)) old.me.0 in
+    let out : old.me.0.own.call ≡ Out = held_out c.args.pass.now.worker old.me e.0 c.requires.pass.7 e.1 in
     let emptied = swapped _ _ w u (Slots.Record t.0) Slots.Vacant old.me.1 t.2 c.exchange-slot.ensures.3 in
     let last = turned_to _ c.turn.new.self.me w ((u, Slots.Vacant) ∷ old.me.1) emptied c.turn.ensures.2 in
     pass_made c.args.self.now.setting _ c.args.pass.now.worker old c.turn.new.self w (old.me.1 ++ (u, Slots.Vacant) ∷ [])
@@ -51,8 +51,8 @@ returns-clause-pass c =
     (let m = c.requires.pass.8.holds e.0 e.1 in
     let next = c.requires.next in
     let at : u ≡ e.0.looks = next.2 ∙ ap (λ (h : HoldView). h.looks) (same_hold next.0 e.0 (sym next.1 ∙ e.1)) in
-    remembers_hold w _ _ (taken_view e.0 u t.0) refl (c.push_reserved.ensures.items ∙ ap (λ l. l ++ u ∷ []) m.0) m.1
-    (subst (λ (n : ℕ). Owes (taken_view e.0 n t.0)) (sym at) (owes_taken e.0 t.0 e.2 m.2))) c.requires.pass
+    remembers_hold w _ _ (after_take (call_by u t.0) e.0) (ap (in_hold (after_take (call_by u t.0))) e.1) (c.push_reserved.ensures.items ∙ ap (λ l. l ++ u ∷ []) m.0) m.1
+    (subst (λ (n : ℕ). Owes (after_take (call_by n t.0) e.0)) (sym at) (owes_taken e.0 t.0 e.2 m.2))) c.requires.pass
 
 pub push_reserved-requires : goal.push_reserved-requires
 push_reserved-requires c =

@@ -5,8 +5,8 @@ use Rattle.table_rule.specs.Shows.{reserved, room_of, job_of}
 use Rattle.table_rule.proofs.TableLemmas.Moved.{few_nodes}
 use Rattle.core_table.proofs.PassLemmas.PassKept.{pass_kept, pass_made, first, swapped, turned_to, carries_won}
 use Rattle.core_table.proofs.ListLemmas.Owed.{remembers_hold, owes_new}
-use Rattle.table_rule.specs.CoreWords.{Win}
-use Rattle.table_rule.specs.Views.{with_event, new_view, winning, losing}
+use Rattle.table_rule.specs.Passes.{new_hold, winning, losing}
+use Rattle.table_rule.specs.Views.{with_step, with_found}
 use Rattle.table_rule.proofs.StepLemmas.GateSteps.{wins}
 use Rattle.core_table.proofs.table.CoreTable.win.Goals as goal
 
@@ -22,7 +22,7 @@ compare_exchange-requires c =
 pub returns-then-compare_exchange-ne0-clause-pass : goal.returns-then-compare_exchange-ne0-clause-pass
 returns-then-compare_exchange-ne0-clause-pass c =
     let old = c.args.pass.now.seat in
-    pass_kept c.args.self.now.setting _ c.args.pass.now.worker old c.compare_exchange.new.seat (losing old.me.0 c.compare_exchange.result) c.compare_exchange.ensures.0 (c.compare_exchange.ensures.2.1 c.if-compare_exchange-ne0.true) refl refl refl refl refl refl refl refl c.requires.pass
+    pass_kept c.args.self.now.setting _ c.args.pass.now.worker old c.compare_exchange.new.seat (with_found c.compare_exchange.result losing old.me.0) c.compare_exchange.ensures.0 (c.compare_exchange.ensures.2.1 c.if-compare_exchange-ne0.true) refl refl refl refl refl refl refl refl c.requires.pass
 
 pub exchange-slot-requires : goal.exchange-slot-requires
 exchange-slot-requires c =
@@ -34,8 +34,8 @@ returns-clause-pass c =
     let old = c.args.pass.now.seat in let workers = c.args.self.now.setting.workers in
     let at = c.flag-at.result in let place = c.flag-at.ensures ∙ c.layout.ensures.workers in
     let t = c.compare_exchange.ensures.2.0 c.if-compare_exchange-ne0.false in
-    let w = with_event (winning old.me.0 t.1) Win in let book = reserved t.1 old.me.0.room in
-    let out : old.me.0.call ≡ Out = c.requires.trapped in
+    let w = with_step (winning t.1) old.me.0 in let book = reserved t.1 old.me.0.room in
+    let out : old.me.0.own.call ≡ Out = c.requires.trapped in
     let nothing : old.me.1 ≡ [] = c.requires.pass.7.trapped out t.0 in
     let won = t.2 ∙ ap (λ l. (w, (at, Slots.Shop t.1) ∷ (at + 1, Slots.Book book) ∷ l)) nothing in
     let emptied = swapped _ _ w at (Slots.Shop t.1) Slots.Vacant ((at + 1, Slots.Book book) ∷ []) won c.exchange-slot.ensures.3 in
@@ -43,4 +43,4 @@ returns-clause-pass c =
     pass_made c.args.self.now.setting _ c.args.pass.now.worker old c.turn.new.self w ((workers + 1, Slots.Book book) ∷ (workers, Slots.Vacant) ∷ [])
     (c.turn.ensures.0 ∙ (c.exchange-slot.ensures.0 ∙ c.compare_exchange.ensures.0)) last refl refl refl refl refl refl
     (carries_won c.args.pass.now.worker workers old.me.0 t.1 out c.requires.pass.2)
-    (remembers_hold w _ false (new_view t.1) refl (c.requires.pass.8.none t.0) refl (owes_new t.1)) c.requires.pass
+    (remembers_hold w _ false (new_hold t.1) refl (c.requires.pass.8.none t.0) refl (owes_new t.1)) c.requires.pass

@@ -8,6 +8,7 @@ use Rattle.table_rule.specs.DueTasks.{TaskHere}
 use Rattle.sp_order.specs.Preorder.{nodes_of}
 use Rattle.core_model.specs.State.{CoreJob}
 use Rattle.table_rule.specs.declared.slot.Slot.{Slot}
+use Rattle.table_rule.specs.declared.view.PassView.{PassView}
 use Rattle.table_rule.specs.declared.view.View.{View}
 use Rattle.core_model.specs.declared.setting.Setting.{Setting}
 use Rattle.core_table.specs.declared.table.CoreTable.{CoreTable}
@@ -33,9 +34,13 @@ job_in table = job_of (setting_in table)
 abbrev pub opening_view : CoreTable → ℕ → View
 opening_view table w = record (first_view table.setting) { own = unused w; to = w + 1; enrolled = true }
 
--- the view of a pass: what it knows and has done
+-- the view of a pass's seat
 abbrev pub view : Pass → View
 view pass = pass.seat.me.0
+
+-- what contracts see of a pass
+abbrev pub pass_view : Pass → PassView
+pass_view pass = (view pass).own
 
 -- the pass's call is outstanding: posted, and not left
 abbrev pub IsTrapped : Pass → Type 0

@@ -1,4 +1,3 @@
-pub mod Turned
 pub mod Taken
 pub mod Books
 pub mod Fits

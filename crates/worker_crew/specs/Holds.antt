@@ -1,54 +1,39 @@
--- The hold of the worker that has the flag: what it knows, and the precondition and effect of each of its steps.
-use Rattle.std.specs.Prelude.{ℕ, ◌≡◌, ◌≢◌, ◌<◌, ◌+◌, ◌⊎◌, Bool, true, false, Option, Some, List, [], ◌∷◌, ◌++◌, length, map, take, slice_get}
+-- The hold of the worker that has the flag: the precondition of each of its steps.
+use Rattle.std.specs.Prelude.{ℕ, ◌≡◌, ◌≢◌, ◌<◌, ◌⊎◌, true, false, Option, Some, List, [], ◌∷◌, ◌++◌, length, map, take, slice_get}
 use Rattle.std.specs.List.{AllByRecursion}
-use Rattle.seq_objects.specs.declared.call.Call.{Call}
 use Rattle.core_model.specs.Words.{Entry}
 use Rattle.worker_crew.specs.Words.{Receipt}
+use Rattle.table_rule.specs.declared.view.HoldView.{HoldView}
 use Rattle.launch_batch.specs.Calls.{MayServe, IsServiceOf}
-
--- What a combiner knows between its win and its release. `looks`: the number of workers looked at, from worker 0 on.
--- `found`: the status that each look found, oldest first; 1 is pending. `taken`: the calls taken, oldest first.
--- `answered`: the workers answered, oldest first. `published`: whether the batch is published. `book`: all batches.
-pub record HoldSeen : Type 0 where
-  pub looks : ℕ
-  pub found : List ℕ
-  pub taken : List Call
-  pub answered : List ℕ
-  pub published : Bool
-  pub book : List (List Entry)
-
--- the hold just after a win that found this book
-abbrev pub new_hold : List (List Entry) → HoldSeen
-new_hold book = record { looks = 0; found = []; taken = []; answered = []; published = false; book = book }
 
 -- the workers of a batch's entries, in batch order
 abbrev pub workers_in : List Entry → List ℕ
 workers_in batch = map (λ entry. entry.worker) batch
 
 -- worker u is the next to look at, and no batch is published yet
-pub record IsLooking (u : ℕ) (h : HoldSeen) : Type 0 where
+pub record IsLooking (u : ℕ) (h : HoldView) : Type 0 where
   pub next : u ≡ h.looks
   pub early : h.published ≡ false
 
 -- Each call taken is of a worker that was looked at. If there are any, they can be served as one batch after the book.
-pub record AreFit (h : HoldSeen) : Type 0 where
+pub record AreFit (h : HoldView) : Type 0 where
   pub below : AllByRecursion (λ call. call.worker < h.looks) h.taken
   pub serve : h.taken ≢ [] → MayServe h.book h.taken
 
 -- if a hold is there before and after, and is fit before, then it is fit after
-abbrev pub StayFit : Option HoldSeen → Option HoldSeen → Type 0
-StayFit old new = (h k : HoldSeen) → old ≡ Some h → new ≡ Some k → AreFit h → AreFit k
+abbrev pub StayFit : Option HoldView → Option HoldView → Type 0
+StayFit old new = (h k : HoldView) → old ≡ Some h → new ≡ Some k → AreFit h → AreFit k
 
 -- All workers were looked at, nothing is published, and the calls taken can be served as one batch after the book (so
 -- there is at least one); `batch` is that service.
-pub record IsPublishDue (workers : ℕ) (batch : List Entry) (h : HoldSeen) : Type 0 where
+pub record IsPublishDue (workers : ℕ) (batch : List Entry) (h : HoldView) : Type 0 where
   pub looked : h.looks ≡ workers
   pub early : h.published ≡ false
   pub may : MayServe h.book h.taken
   pub service : IsServiceOf h.book h.taken batch
 
 -- The calls taken were served as `batch`, which was published: the book is now `before` with `batch` behind it.
-pub record IsPublished (before : List (List Entry)) (batch : List Entry) (h : HoldSeen) : Type 0 where
+pub record IsPublished (before : List (List Entry)) (batch : List Entry) (h : HoldView) : Type 0 where
   pub published : h.published ≡ true
   pub book : h.book ≡ before ++ batch ∷ []
   pub may : MayServe before h.taken
@@ -56,7 +41,7 @@ pub record IsPublished (before : List (List Entry)) (batch : List Entry) (h : Ho
 
 -- The batch is published, its workers before the receipt's place are answered and no others, and the receipt is that of
 -- the entry at this place, whose worker is u. A batch's number is the number of batches before it.
-pub record IsAnswerDue (u : ℕ) (receipt : Receipt) (h : HoldSeen) : Type 0 where
+pub record IsAnswerDue (u : ℕ) (receipt : Receipt) (h : HoldView) : Type 0 where
   pub before : List (List Entry)
   pub batch : List Entry
   pub published : IsPublished before batch h
@@ -68,31 +53,18 @@ pub record IsAnswerDue (u : ℕ) (receipt : Receipt) (h : HoldSeen) : Type 0 whe
   pub reply : entry.reply ≡ receipt.reply
 
 -- no call was taken, and nothing is published
-pub record TookNone (h : HoldSeen) : Type 0 where
+pub record TookNone (h : HoldView) : Type 0 where
   pub none : h.taken ≡ []
   pub early : h.published ≡ false
 
 -- the calls taken were served as `batch`, which was published after `before`, and all its workers are answered
-pub record ServedAll (before : List (List Entry)) (batch : List Entry) (h : HoldSeen) : Type 0 where
+pub record ServedAll (before : List (List Entry)) (batch : List Entry) (h : HoldView) : Type 0 where
   pub published : IsPublished before batch h
   pub answered : h.answered ≡ workers_in batch
 
 -- All workers were looked at; either no call was taken, or all calls taken are served, published and answered; and the
 -- shop's book is that of the hold.
-pub record IsReleaseDue (workers : ℕ) (shop : List (List Entry)) (h : HoldSeen) : Type 0 where
+pub record IsReleaseDue (workers : ℕ) (shop : List (List Entry)) (h : HoldView) : Type 0 where
   pub looked : h.looks ≡ workers
   pub book : shop ≡ h.book
   pub done : TookNone h ⊎ ((before : List (List Entry)) × (batch : List Entry) × ServedAll before batch h)
-
--- The hold after each of its steps: a look that took a call, a look that found another status, a publish, an answer.
-abbrev pub after_take : Call → HoldSeen → HoldSeen
-after_take call h = record h { looks = h.looks + 1; found = h.found ++ 1 ∷ []; taken = h.taken ++ call ∷ [] }
-
-abbrev pub after_pass : ℕ → HoldSeen → HoldSeen
-after_pass status h = record h { looks = h.looks + 1; found = h.found ++ status ∷ [] }
-
-abbrev pub after_publish : List Entry → HoldSeen → HoldSeen
-after_publish batch h = record h { published = true; book = h.book ++ batch ∷ [] }
-
-abbrev pub after_answer : ℕ → HoldSeen → HoldSeen
-after_answer u h = record h { answered = h.answered ++ u ∷ [] }

@@ -1,5 +1,5 @@
--- The specification of a crew: the views of a pass and of a worker in contracts, the precondition and effect of each
--- step on the table, and the workers' initial states.
+-- The specification of a crew: the view of a worker in contracts, the precondition and contract of each step on the
+-- table, and the workers' initial states.
 pub mod Words
 pub mod Holds
 pub mod Passes

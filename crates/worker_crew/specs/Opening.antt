@@ -13,11 +13,9 @@ use Rattle.launch_batch.specs.declared.piece.PieceIn.{PieceIn}
 use Rattle.launch_batch.specs.declared.piece.PieceOut.{PieceOut}
 use Rattle.worker_crew.specs.declared.batch_pieces.BatchPieces.{BatchPieces}
 use Rattle.worker_crew.specs.declared.crew.Me.{Me}
-use Rattle.core_table.specs.declared.table.Pass.{Pass as Seat}
-use Rattle.core_table.specs.Passes.{view}
-use Rattle.worker_crew.specs.Seats.{pass_seen}
 use Rattle.worker_crew.specs.Words.{Idle}
-use Rattle.worker_crew.specs.Passes.{PassSeen, IsFree}
+use Rattle.table_rule.specs.declared.view.PassView.{PassView}
+use Rattle.worker_crew.specs.Passes.{IsFree}
 use Rattle.worker_crew.specs.Workers.{IsReady}
 
 -- whether the act is a call
@@ -34,17 +32,13 @@ abbrev pub opening_hand : ℕ → ℕ → Held
 opening_hand worker workers =
     if worker == 0 then with_root (fresh_hand worker workers) else fresh_hand worker workers
 
--- the view of a `CoreTable` pass, as the turns see it
-abbrev pub seat_seen : Seat → PassSeen
-seat_seen pass = pass_seen (view pass)
-
 -- the pass is that of this worker, which has no call out, no flag and no task
-pub record IsFreshPass (worker : ℕ) (pass : PassSeen) : Type 0 where
+pub record IsFreshPass (worker : ℕ) (pass : PassView) : Type 0 where
   pub worker_is : pass.worker ≡ worker
   pub free : IsFree pass
   pub idle : pass.task ≡ Idle
 
-module _ {Pass : Type 0} (gave : Pass → Type 0) (seen : Pass → PassSeen) (decks : Decks)
+module _ {Pass : Type 0} (gave : Pass → Type 0) (seen : Pass → PassView) (decks : Decks)
     (board : Board BatchPieces PieceIn PieceOut) (workers : ℕ) where
   -- `me` is this worker, ready for its first turn: its hand is the initial one, its desk and its tries are unused
   pub record IsAtStart (worker : ℕ) (me : Me Pass) : Type 0 where

@@ -13,19 +13,20 @@ use Rattle.launch_batch.specs.declared.piece.PieceOut.{PieceOut}
 use Rattle.worker_crew.specs.declared.batch_pieces.BatchPieces.{BatchPieces}
 use Rattle.worker_crew.specs.declared.crew.Me.{Me}
 use Rattle.worker_crew.specs.Words.{Idle}
-use Rattle.worker_crew.specs.Passes.{PassSeen, IsFree}
+use Rattle.table_rule.specs.declared.view.PassView.{PassView}
+use Rattle.worker_crew.specs.Passes.{IsFree}
 
 -- The view of a worker: its pass, its ends of the deques of nodes (`core`) and of the deques of pieces (`batch`), its
 -- desk, and its tries.
 pub record MeSeen : Type 0 where
-  pub pass : PassSeen
+  pub pass : PassView
   pub core : HeldEnds ℕ
   pub batch : HeldEnds Spot
   pub desk : DeskView PieceIn
   pub tries : TriesView
 
 module _ {Pass : Type 0} where
-  abbrev pub me_seen : (Pass → PassSeen) → Me Pass → MeSeen
+  abbrev pub me_seen : (Pass → PassView) → Me Pass → MeSeen
   me_seen seen me = record {
     pass = seen me.pass;
     core = (held me.hand).core;
@@ -36,7 +37,7 @@ module _ {Pass : Type 0} where
 
   -- The pass belongs to the table, the hand to these deques and the desk to this board. All of them, and the tries, are
   -- of one and the same worker number, and the tries and the deques agree on the number of workers.
-  pub record IsMeOf (gave : Pass → Type 0) (seen : Pass → PassSeen) (decks : Decks)
+  pub record IsMeOf (gave : Pass → Type 0) (seen : Pass → PassView) (decks : Decks)
       (board : Board BatchPieces PieceIn PieceOut) (me : Me Pass) : Type 0 where
     pub pass : gave me.pass
     pub hand : IsHandOf decks me.hand
@@ -48,7 +49,7 @@ module _ {Pass : Type 0} where
 
   -- The worker may take the turn of a free worker: it has no call out, no flag and no task, and all places of its row
   -- on the board are free.
-  pub record IsReady (gave : Pass → Type 0) (seen : Pass → PassSeen) (decks : Decks)
+  pub record IsReady (gave : Pass → Type 0) (seen : Pass → PassView) (decks : Decks)
       (board : Board BatchPieces PieceIn PieceOut) (me : Me Pass) : Type 0 where
     pub own : IsMeOf gave seen decks board me
     pub free : IsFree (seen me.pass)

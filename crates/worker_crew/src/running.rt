@@ -1,10 +1,10 @@
 //! `CoreTable` implements the `Table` trait.
 ghost use Rattle.std.specs.Prelude.{◌≡◌, true, Some};
 ghost use Rattle.core_model.specs.Operations.{leaf_of};
-ghost use Rattle.core_table.specs.Passes.{job_in, view};
+ghost use Rattle.core_table.specs.Passes.{job_in, pass_view, view};
 ghost use Rattle.table_rule.specs.DueTasks.{TaskHere};
 ghost use Rattle.worker_crew.specs.NextSteps.{step_run, step_started, step_whole, next_step};
-ghost use Rattle.worker_crew.specs.Seats.{pass_seen, IsSeat};
+ghost use Rattle.worker_crew.specs.Seats.{IsSeat};
 
 use crate::step::Step;
 use crate::table::Table;
@@ -92,7 +92,7 @@ fn next_step(table: &CoreTable, task: Task, call: CallState) -> Option<Step>
 impl Table for CoreTable {
     type Pass = Pass;
 
-    ghost seen = { λ pass. pass_seen (view pass) };
+    ghost seen = { λ pass. pass_view pass };
 
     ghost gave = { λ table pass. IsSeat table pass };
 

@@ -6,11 +6,12 @@ ghost use Rattle.worker_crew.specs.declared.step.Step.{Step as StepOf};
 ghost use Rattle.worker_crew.specs.declared.step.Step.TheVariants as Steps;
 ghost use Rattle.worker_crew.specs.Holds.{IsLooking, IsPublishDue, IsAnswerDue, IsReleaseDue};
 ghost use Rattle.worker_crew.specs.Holds.{StayFit};
-ghost use Rattle.worker_crew.specs.Passes.{PassSeen, IsFree, IsTrapped, IsHeld, IsTick, IsValue};
-ghost use Rattle.worker_crew.specs.Passes.{claiming, refusing, stopping, finding_stop, finding_none};
+ghost use Rattle.table_rule.specs.declared.view.PassView.{PassView};
+ghost use Rattle.table_rule.specs.Passes.{claiming, refusing, stopping, finding_stop, finding_none};
+ghost use Rattle.table_rule.specs.Passes.{hearing, staying, winning, losing, taking, passing};
+ghost use Rattle.table_rule.specs.Passes.{publishing, answering, releasing};
+ghost use Rattle.worker_crew.specs.Passes.{IsFree, IsTrapped, IsHeld, IsTick, IsValue};
 ghost use Rattle.worker_crew.specs.Passes.{HasTicked, HasOpened, HasKept, HasFinished, HasArrived, HasPosted};
-ghost use Rattle.worker_crew.specs.Passes.{hearing, staying, winning, losing, taking, passing};
-ghost use Rattle.worker_crew.specs.Passes.{publishing, answering, releasing};
 ghost use Rattle.worker_crew.specs.Passes.{IsLeft, IsDue, IsFront};
 ghost use Rattle.sp_order.specs.Plans.{Nodes};
 
@@ -27,7 +28,7 @@ pub trait Table {
     type Pass;
 
     /// The view of a pass in contracts.
-    ghost seen: { Self.Pass → PassSeen };
+    ghost seen: { Self.Pass → PassView };
 
     /// The pass belongs to this table.
     ghost gave: { Self → Self.Pass → Type 0 };

@@ -14,14 +14,14 @@ use Rattle.launch_batch.specs.declared.piece.PieceIn.{PieceIn}
 use Rattle.launch_batch.specs.declared.piece.PieceOut.{PieceOut}
 use Rattle.worker_crew.specs.declared.batch_pieces.BatchPieces.{BatchPieces}
 use Rattle.worker_crew.specs.declared.crew.Me.{Me}
-use Rattle.worker_crew.specs.Passes.{PassSeen}
+use Rattle.table_rule.specs.declared.view.PassView.{PassView}
 use Rattle.worker_crew.specs.Opening.{with_root, opening_hand, IsFreshPass, IsAtStart, AreAtStart}
 
 worker_by : (b : Bool) (h : Held) → (if b then with_root h else h).worker ≡ h.worker
 worker_by true h = refl
 worker_by false h = refl
 
-module _ {Pass : Type 0} (gave : Pass → Type 0) (seen : Pass → PassSeen) (decks : Decks)
+module _ {Pass : Type 0} (gave : Pass → Type 0) (seen : Pass → PassView) (decks : Decks)
     (board : Board BatchPieces PieceIn PieceOut) (workers : ℕ) where
   pub at_start : (worker : ℕ) (me : Me Pass) → gave me.pass × IsFreshPass worker (seen me.pass) → IsHandOf decks me.hand → held me.hand ≡ opening_hand worker workers
       → IsDeskOf board me.desk → desk_view me.desk ≡ fresh_desk worker → me.tries ≡ first_tries worker workers

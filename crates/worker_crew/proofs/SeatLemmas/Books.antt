@@ -9,7 +9,7 @@ use Rattle.core_model.specs.Operations.{Place, place_in, place_of, or_else, IsRe
 use Rattle.batch_history.proofs.BookLemmas.Books.{each_in_book, found_in_book, place_append}
 use Rattle.core_model.specs.Words.{Entry}
 use Rattle.worker_crew.specs.Words.{Receipt}
-use Rattle.worker_crew.proofs.SeatLemmas.Taken.{if_yes, if_no}
+use Rattle.table_rule.proofs.ListLemmas.Last.{if_yes, if_no}
 
 -- a leaf that is not found there is that of no entry
 pub new_leaf : (book : List (List Entry)) (leaf : ℕ) → place_of book leaf ≡ None → AllByRecursion (λ other. leaf ≢ other) (map (λ (entry : Entry). entry.leaf) (flat book))

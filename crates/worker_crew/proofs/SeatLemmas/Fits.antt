@@ -1,6 +1,5 @@
 -- A call that is taken can be served with those that were taken before.
 use Rattle.std.proofs.Common.{ℕ, ◌≡◌, ◌≢◌, ◌<◌, ◌≤◌, ◌+◌, Option, None, Some, List, [], ◌∷◌, ◌++◌, length, map, arith, refl, sym, ap, ◌∙◌, subst, length-append}
-use Rattle.std.specs.Prelude.{option_map}
 use Rattle.std.specs.List.{AllByRecursion}
 use Rattle.seq_objects.specs.Pairs.{AreDistinct}
 use Rattle.seq_objects.proofs.Elements.{each_append, each_so}
@@ -8,17 +7,15 @@ use Rattle.launch_batch.specs.Calls.{MayServe}
 use Rattle.launch_batch.proofs.ListLemmas.Elements.{each_mapped, map_append}
 use Rattle.batch_history.specs.Book.{flat}
 use Rattle.table_rule.specs.declared.slot.OpRecord.{OpRecord}
-use Rattle.table_rule.specs.declared.view.TakenCall.{TakenCall}
 use Rattle.table_rule.specs.declared.view.HoldView.{HoldView}
 use Rattle.table_rule.specs.Plays.{IsNewCall}
-use Rattle.table_rule.specs.Views.{taken_view, passed_view}
+use Rattle.table_rule.specs.Passes.{call_by, record_of, in_hold, after_take, after_pass}
+use Rattle.table_rule.proofs.ListLemmas.Last.{distinct_last}
 use Rattle.seq_objects.specs.declared.call.Call.{Call}
 use Rattle.core_model.specs.Words.{Entry}
 use Rattle.worker_crew.specs.Holds.{AreFit, StayFit}
-use Rattle.worker_crew.specs.Seats.{taken_call, hold_seen}
 use Rattle.launch_batch.proofs.ListLemmas.Among.{Among, all_among}
-use Rattle.worker_crew.proofs.SeatLemmas.Turned.{distinct_last}
-use Rattle.worker_crew.proofs.SeatLemmas.Taken.{calls_taken, worker_of, record_taken}
+use Rattle.worker_crew.proofs.SeatLemmas.Taken.{worker_of, record_taken}
 use Rattle.worker_crew.proofs.SeatLemmas.Books.{new_leaf}
 
 -- what calls that may be served are, and none at all too
@@ -55,52 +52,44 @@ one_more book calls call looks fit low is few apart new most =
       most = omega (arith, long, most);
     }
 
--- how many they are, in the one order as in the other
-turned_length : (taken : List TakenCall) → length (calls_taken taken) ≡ length taken
-turned_length [] = refl
-turned_length (t ∷ taken) = let more = turned_length taken in let long = length-append (calls_taken taken) (taken_call t ∷ []) in omega (arith, more, long)
-
 module _ (h : HoldView) (u room : ℕ) (call : OpRecord) where
   -- none of the calls that were taken before is of this leaf
-  apart_from : IsNewCall room h call → AreDistinct (map worker_of (calls_taken h.taken)) → AllByRecursion (λ (c : Call). c.leaf ≢ call.leaf) (calls_taken h.taken)
+  apart_from : IsNewCall room h call → AreDistinct (map worker_of h.taken) → AllByRecursion (λ (c : Call). c.leaf ≢ call.leaf) h.taken
   apart_from new distinct =
-      each_so (λ (c : Call). Among c (calls_taken h.taken)) (λ (c : Call). c.leaf ≢ call.leaf)
-      (λ c there. new.apart c.worker (record { leaf = c.leaf; op = c.op }) (record_taken h.taken c distinct there)) (calls_taken h.taken) (all_among (calls_taken h.taken))
+      each_so (λ (c : Call). Among c h.taken) (λ (c : Call). c.leaf ≢ call.leaf)
+      (λ c there. new.apart c.worker (record_of c) (record_taken h.taken c distinct there)) h.taken (all_among h.taken)
 
-  fit_taken : IsNewCall room h call → room ≤ 20000 → u ≡ h.looks → u < 32 → AreFit (hold_seen h) → AreFit (hold_seen (taken_view h u call))
+  fit_taken : IsNewCall room h call → room ≤ 20000 → u ≡ h.looks → u < 32 → AreFit h → AreFit (after_take (call_by u call) h)
   fit_taken new few is low fit =
-      let old = servable h.book (calls_taken h.taken) fit.serve in
-      let mine : Call = record { worker = u; leaf = call.leaf; op = call.op } in
-      let all = turned_length h.taken in
+      let old = servable h.book h.taken fit.serve in
+      let mine = call_by u call in
       let fits = new.fits in
       record {
-        below = each_append (λ (c : Call). c.worker < h.looks + 1) (calls_taken h.taken) (mine ∷ [])
-            (each_so (λ (c : Call). c.worker < h.looks) (λ (c : Call). c.worker < h.looks + 1) (λ c below. omega (arith, below)) (calls_taken h.taken) fit.below)
+        below = each_append (λ (c : Call). c.worker < h.looks + 1) h.taken (mine ∷ [])
+            (each_so (λ (c : Call). c.worker < h.looks) (λ (c : Call). c.worker < h.looks + 1) (λ c below. omega (arith, below)) h.taken fit.below)
             (omega (arith, is), tt);
-        serve = λ some. one_more h.book (calls_taken h.taken) mine h.looks old fit.below is (omega (arith, is, low))
-            (apart_from new old.workers) (new_leaf h.book call.leaf new.unbooked) (omega (arith, all, fits, few));
+        serve = λ some. one_more h.book h.taken mine h.looks old fit.below is (omega (arith, is, low))
+            (apart_from new old.workers) (new_leaf h.book call.leaf new.unbooked) (omega (arith, fits, few));
       }
 
-fit_passed : (h : HoldView) (status : ℕ) → AreFit (hold_seen h) → AreFit (hold_seen (passed_view h status))
+fit_passed : (h : HoldView) (status : ℕ) → AreFit h → AreFit (after_pass status h)
 fit_passed h status fit = record {
-  below = each_so (λ (c : Call). c.worker < h.looks) (λ (c : Call). c.worker < h.looks + 1) (λ c below. omega (arith, below)) (calls_taken h.taken) fit.below;
+  below = each_so (λ (c : Call). c.worker < h.looks) (λ (c : Call). c.worker < h.looks + 1) (λ c below. omega (arith, below)) h.taken fit.below;
   serve = fit.serve;
 }
 
-stay_by : (h k : HoldView) (old new : Option HoldView) → old ≡ Some h → new ≡ Some k → (AreFit (hold_seen h) → AreFit (hold_seen k)) → StayFit (option_map hold_seen old) (option_map hold_seen new)
-stay_by h k None new was now keeps = absurd (cc)
-stay_by h k (Some h') None was now keeps = absurd (cc)
-stay_by h k (Some h') (Some k') was now keeps = λ a b is_a is_b fit.
-    let first_is : h' ≡ h = cc in
-    let last_is : k' ≡ k = cc in
-    let first : hold_seen h' ≡ a = cc in
-    let last : hold_seen k' ≡ b = cc in
-    subst AreFit (sym (ap hold_seen last_is) ∙ last) (keeps (subst AreFit (sym first ∙ ap hold_seen first_is) fit))
+stay_by : (h k : HoldView) (old new : Option HoldView) → old ≡ Some h → new ≡ Some k → (AreFit h → AreFit k) → StayFit old new
+stay_by h k old new was now keeps = λ a b is_a is_b fit.
+    let first : Some h ≡ Some a = sym was ∙ is_a in
+    let last : Some k ≡ Some b = sym now ∙ is_b in
+    let first_is : h ≡ a = cc in
+    let last_is : k ≡ b = cc in
+    subst AreFit last_is (keeps (subst AreFit (sym first_is) fit))
 
 -- by what a look says
-pub take_fits : (h : HoldView) (u room : ℕ) (call : OpRecord) (old new : Option HoldView) → old ≡ Some h → new ≡ Some (taken_view h u call) → IsNewCall room h call → room ≤ 20000 → u ≡ h.looks → u < 32
-    → StayFit (option_map hold_seen old) (option_map hold_seen new)
-take_fits h u room call old new was now is_new few is low = stay_by h (taken_view h u call) old new was now (fit_taken h u room call is_new few is low)
+pub take_fits : (h : HoldView) (u room : ℕ) (call : OpRecord) (old new : Option HoldView) → old ≡ Some h → new ≡ in_hold (after_take (call_by u call)) old → IsNewCall room h call → room ≤ 20000 → u ≡ h.looks → u < 32 → StayFit old new
+take_fits h u room call old new was now is_new few is low =
+    stay_by h (after_take (call_by u call) h) old new was (now ∙ ap (in_hold (after_take (call_by u call))) was) (fit_taken h u room call is_new few is low)
 
-pub pass_fits : (h : HoldView) (status : ℕ) (old new : Option HoldView) → old ≡ Some h → new ≡ Some (passed_view h status) → StayFit (option_map hold_seen old) (option_map hold_seen new)
-pass_fits h status old new was now = stay_by h (passed_view h status) old new was now (fit_passed h status)
+pub pass_fits : (h : HoldView) (status : ℕ) (old new : Option HoldView) → old ≡ Some h → new ≡ in_hold (after_pass status) old → StayFit old new
+pass_fits h status old new was now = stay_by h (after_pass status h) old new was (now ∙ ap (in_hold (after_pass status)) was) (fit_passed h status)

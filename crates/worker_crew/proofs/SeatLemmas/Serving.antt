@@ -20,10 +20,8 @@ use Rattle.seq_objects.specs.declared.call.Call.{Call}
 use Rattle.core_model.specs.Words.{Entry}
 use Rattle.worker_crew.specs.Words.{Receipt}
 use Rattle.worker_crew.specs.Holds.{workers_in, IsPublishDue, IsAnswerDue, IsReleaseDue}
-use Rattle.worker_crew.specs.Seats.{hold_seen}
 use Rattle.launch_batch.proofs.ListLemmas.Among.{Among, all_among, each_among, among_same, same_among}
-use Rattle.worker_crew.proofs.SeatLemmas.Turned.{each_turned_back}
-use Rattle.worker_crew.proofs.SeatLemmas.Taken.{calls_taken, worker_of, record_taken, took_taken, taken_took, among_seen, not_among}
+use Rattle.worker_crew.proofs.SeatLemmas.Taken.{worker_of, record_taken, took_taken, taken_took, among_there, not_among}
 use Rattle.worker_crew.proofs.SeatLemmas.Books.{get_each, receipt_due}
 
 -- the workers and the leaves of entries are those of their calls
@@ -68,29 +66,29 @@ not_empty : (batch : List Entry) → 0 < length (calls_in batch) → batch ≢ [
 not_empty [] some e = absurd (omega (arith, some))
 not_empty (x ∷ batch) some e = absurd (cc)
 
-module _ (h : HoldView) (book : List (List Entry)) (batch : List Entry) (may : MayServe book (calls_taken h.taken)) (service : IsServiceOf book (calls_taken h.taken) batch) where
+module _ (h : HoldView) (book : List (List Entry)) (batch : List Entry) (may : MayServe book h.taken) (service : IsServiceOf book h.taken batch) where
   batch_workers : AreDistinct (workers_in batch)
-  batch_workers = subst AreDistinct (workers_same batch) (distinct_same worker_of (calls_taken h.taken) (calls_in batch) service.same may.workers)
+  batch_workers = subst AreDistinct (workers_same batch) (distinct_same worker_of h.taken (calls_in batch) service.same may.workers)
 
   batch_leaves : AreDistinct (map (λ (e : Entry). e.leaf) batch)
-  batch_leaves = subst AreDistinct (leaves_same batch) (distinct_same (λ (c : Call). c.leaf) (calls_taken h.taken) (calls_in batch) service.same may.leaves)
+  batch_leaves = subst AreDistinct (leaves_same batch) (distinct_same (λ (c : Call). c.leaf) h.taken (calls_in batch) service.same may.leaves)
 
   -- each entry is for the call that was taken of its worker
   entry_taken : AllByRecursion (λ (e : Entry). record_in h.taken e.worker ≡ Some (call_of e)) batch
   entry_taken = each_so (λ (e : Entry). Among (call_in e) (calls_in batch)) (λ (e : Entry). record_in h.taken e.worker ≡ Some (call_of e))
-      (λ e there. record_taken h.taken (call_in e) may.workers (same_among (calls_taken h.taken) (calls_in batch) service.same (call_in e) there)) batch (entry_among batch)
+      (λ e there. record_taken h.taken (call_in e) may.workers (same_among h.taken (calls_in batch) service.same (call_in e) there)) batch (entry_among batch)
 
   -- each worker of which a call was taken has an entry
   worker_there : (u : ℕ) → took_in h.taken u ≡ true → Among u (workers_in batch)
   worker_there u took =
       let found = took_taken h.taken u took in
-      subst (λ n. Among n (workers_in batch)) found.2 (among_workers batch found.0 (among_same (calls_taken h.taken) (calls_in batch) service.same found.0 found.1))
+      subst (λ n. Among n (workers_in batch)) found.2 (among_workers batch found.0 (among_same h.taken (calls_in batch) service.same found.0 found.1))
 
 -- a publish that is due for the turns is due on the table
-pub publish_due : (workers : ℕ) (h : HoldView) (batch : List Entry) → IsPublishDue workers batch (hold_seen h) → batches.IsPublishDue workers h batch
+pub publish_due : (workers : ℕ) (h : HoldView) (batch : List Entry) → IsPublishDue workers batch h → batches.IsPublishDue workers h batch
 publish_due workers h batch due =
-    let first = some_first (calls_taken h.taken) due.may.some in
-    let long = length_same (calls_taken h.taken) (calls_in batch) due.service.same in
+    let first = some_first h.taken due.may.some in
+    let long = length_same h.taken (calls_in batch) due.service.same in
     let some = due.may.some in
     record {
       looked = due.looked;
@@ -120,7 +118,7 @@ get_mapped f (y ∷ xs) zero x at = let same : y ≡ x = cc in ap (λ a. Some (f
 get_mapped f (y ∷ xs) (suc place) x at = get_mapped f xs place x at
 
 -- what an answer that is due needs on the table
-pub answer_due : (h : HoldView) (u : ℕ) (receipt : Receipt) → IsAnswerDue u receipt (hold_seen h)
+pub answer_due : (h : HoldView) (u : ℕ) (receipt : Receipt) → IsAnswerDue u receipt h
     → (call : OpRecord) × (h.published ≡ true) × (record_in h.taken u ≡ Some call) × (among h.answered u ≡ false) × IsReceipt (place_of h.book call.leaf) receipt
 answer_due h u receipt due =
     let may = due.published.may in
@@ -128,29 +126,29 @@ answer_due h u receipt due =
     let before = apart_before (workers_in due.batch) receipt.place due.entry.worker (batch_workers h due.before due.batch may service)
     (get_mapped (λ (e : Entry). e.worker) due.batch receipt.place due.entry due.there) in
     let others = subst (AllByRecursion (λ m. m ≢ due.entry.worker)) (sym due.answered) before in
-    let there = same_among (calls_taken h.taken) (calls_in due.batch) service.same (call_in due.entry)
+    let there = same_among h.taken (calls_in due.batch) service.same (call_in due.entry)
     (get_each (λ (e : Entry). Among (call_in e) (calls_in due.batch)) due.batch receipt.place due.entry (entry_among due.batch) due.there) in
     let IsNew = λ (leaf : ℕ). AllByRecursion (λ other. leaf ≢ other) (map (λ (e : Entry). e.leaf) (flat due.before)) in
-    let new = each_among (λ (c : Call). IsNew c.leaf) (calls_taken h.taken) (call_in due.entry) (each_unmapped (λ (c : Call). c.leaf) IsNew (calls_taken h.taken) may.new) there in (
+    let new = each_among (λ (c : Call). IsNew c.leaf) h.taken (call_in due.entry) (each_unmapped (λ (c : Call). c.leaf) IsNew h.taken may.new) there in (
       call_of due.entry,
       due.published.published,
       subst (λ w. record_in h.taken w ≡ Some (call_of due.entry)) due.worker
           (get_each (λ (e : Entry). record_in h.taken e.worker ≡ Some (call_of e)) due.batch receipt.place due.entry (entry_taken h due.before due.batch may service) due.there),
       subst (λ w. among h.answered w ≡ false) due.worker
-          (not_among h.answered due.entry.worker (each_turned_back (λ m. m ≢ due.entry.worker) h.answered others)),
+          (not_among h.answered due.entry.worker others),
       subst (λ book. IsReceipt (place_of book due.entry.leaf) receipt) (sym due.published.book)
           (receipt_due due.before due.batch receipt due.entry new (batch_leaves h due.before due.batch may service) due.number due.there due.reply),
     )
 
 -- a release that is due for the turns is due on the table
-pub release_due : (workers : ℕ) (h : HoldView) (shop : List (List Entry)) → IsReleaseDue workers shop (hold_seen h) → batches.IsReleaseDue workers h
+pub release_due : (workers : ℕ) (h : HoldView) (shop : List (List Entry)) → IsReleaseDue workers shop h → batches.IsReleaseDue workers h
 release_due workers h shop due = record {
   looked = due.looked;
   answered = λ u took. elim due.done [
     | inl none ↦ let found = took_taken h.taken u took in absurd (subst (Among found.0) none.none found.1)
     | inr served ↦
         let all = served.2 in
-        among_seen h.answered u (subst (Among u) (sym all.answered)
+        among_there h.answered u (subst (Among u) (sym all.answered)
         (worker_there h served.0 served.1 all.published.may all.published.service u took))
   ];
 }

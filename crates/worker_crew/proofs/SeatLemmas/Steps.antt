@@ -23,7 +23,7 @@ use Rattle.worker_crew.specs.declared.step.Step.TheVariants as steps
 use Rattle.worker_crew.specs.Passes.{is_trapped, IsTick, IsValue}
 use Rattle.worker_crew.specs.NextSteps.{step_run, step_started, step_whole, next_step}
 use Rattle.worker_crew.specs.Seats.{TaskFits}
-use Rattle.worker_crew.proofs.SeatLemmas.Taken.{if_yes, if_no}
+use Rattle.table_rule.proofs.ListLemmas.Last.{if_yes, if_no}
 
 -- a call that is out or not
 pub not_out : (call : CallState) → is_trapped call ≡ false → call ≢ Out

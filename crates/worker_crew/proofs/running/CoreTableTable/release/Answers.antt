@@ -1,10 +1,8 @@
-use Rattle.std.proofs.Common.{ap, ◌∙◌}
-use Rattle.core_table.specs.Passes.{view, job_in}
-use Rattle.table_rule.specs.CoreWords.{Release}
-use Rattle.table_rule.specs.Views as views
+use Rattle.core_table.specs.Passes.{view, pass_view, job_in}
+use Rattle.table_rule.specs.Passes.{releasing}
+use Rattle.table_rule.specs.Views.{with_step}
 use Rattle.worker_crew.specs.Holds.{IsReleaseDue}
-use Rattle.worker_crew.specs.Seats.{pass_seen}
-use Rattle.worker_crew.proofs.SeatLemmas.Seats.{seat_by, held, released_seen}
+use Rattle.worker_crew.proofs.SeatLemmas.Seats.{seat_by, held, own_of}
 use Rattle.worker_crew.proofs.SeatLemmas.Serving.{release_due}
 use Rattle.worker_crew.proofs.running.CoreTableTable.release.Goals as goal
 
@@ -14,12 +12,12 @@ release-requires-clause-pass c = c.requires.pass.pass_of
 pub release-requires-clause-due : goal.release-requires-clause-due
 release-requires-clause-due c =
     let workers = (job_in c.args.self.now).workers in
-    let h = held (IsReleaseDue workers c.args.shop) (view c.args.pass.now).hold c.requires.held.1 in
+    let h = held (IsReleaseDue workers c.args.shop) (pass_view c.args.pass.now).hold c.requires.held.1 in
     (h.0, h.1, release_due workers h.0 c.args.shop h.2, h.2.book)
 
 pub returns-clause-pass : goal.returns-clause-pass
 returns-clause-pass c =
-    seat_by c.args.self.now c.release.new.pass (views.with_event (views.releasing (view c.args.pass.now)) Release) c.release.ensures.pass c.release.ensures.released (c.requires.pass.task, tt)
+    seat_by c.args.self.now c.release.new.pass (with_step releasing (view c.args.pass.now)) c.release.ensures.pass c.release.ensures.released (c.requires.pass.task, tt)
 
 pub returns-clause-released : goal.returns-clause-released
-returns-clause-released c = ap pass_seen c.release.ensures.released ∙ released_seen (view c.args.pass.now)
+returns-clause-released c = own_of _ _ c.release.ensures.released

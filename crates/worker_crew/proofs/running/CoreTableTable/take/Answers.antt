@@ -1,14 +1,13 @@
 use Rattle.std.proofs.Common.{refl, ap, ◌≡◌, arith}
-use Rattle.table_rule.specs.declared.view.View.{View}
-use Rattle.core_table.specs.Passes.{view, job_in}
+use Rattle.table_rule.specs.declared.view.PassView.{PassView}
+use Rattle.core_table.specs.Passes.{view, pass_view, job_in}
 use Rattle.core_table.specs.Passes.{planned_in}
-use Rattle.table_rule.specs.CoreWords.{Take}
-use Rattle.table_rule.specs.Views as views
+use Rattle.table_rule.specs.Passes.{call_by, after_take, after_pass, taking, passing}
+use Rattle.table_rule.specs.Views.{with_step, with_found}
 use Rattle.sp_order.specs.Jobs.{job_tree}
 use Rattle.core_model.specs.Measure.{call_count}
-use Rattle.worker_crew.specs.Holds.{IsLooking, after_take, after_pass}
-use Rattle.worker_crew.specs.Seats.{taken_call}
-use Rattle.worker_crew.proofs.SeatLemmas.Seats.{seat_by, held, held_at, hold_step}
+use Rattle.worker_crew.specs.Holds.{IsLooking}
+use Rattle.worker_crew.proofs.SeatLemmas.Seats.{seat_by, held, held_at, looks_more, own_of}
 use Rattle.worker_crew.proofs.SeatLemmas.Fits.{take_fits, pass_fits}
 use Rattle.worker_crew.proofs.SeatLemmas.Room.{calls_few}
 use Rattle.worker_crew.proofs.running.CoreTableTable.take.Goals as goal
@@ -21,31 +20,21 @@ take-requires-clause-low c = c.requires.below
 
 pub take-requires-clause-next : goal.take-requires-clause-next
 take-requires-clause-next c =
-    let h = held (IsLooking c.args.u) (view c.args.pass.now).hold c.requires.held.1 in
+    let h = held (IsLooking c.args.u) (pass_view c.args.pass.now).hold c.requires.held.1 in
     (h.0, h.1, h.2.next)
 
 pub returns-in-Ok-clause-pass : goal.returns-in-Ok-clause-pass
 returns-in-Ok-clause-pass c =
-    let old = view c.args.pass.now in
-    let t = c.in-Ok.ensures.took in
-    let next : c.args.u ≡ t.0.looks = (held_at (IsLooking c.args.u) old.hold t.0 c.requires.held.1 t.1).next in
-    let below = c.requires.below in
-    seat_by c.args.self.now c.take.new.pass (views.with_event (views.with_hold old (views.taken_view t.0 c.args.u c.in-Ok.call)) (Take c.args.u)) c.take.ensures.pass t.3
-    (c.requires.pass.task, omega (arith, next, below))
+    let call = call_by c.args.u c.in-Ok.call in
+    seat_by c.args.self.now c.take.new.pass (with_step (taking call) (view c.args.pass.now)) c.take.ensures.pass c.in-Ok.ensures.took.3
+    (c.requires.pass.task, looks_more (job_in c.args.self.now).workers c.args.u (after_take call) (pass_view c.args.pass.now).hold (λ h. refl) c.requires.held.1 c.requires.below)
 
 pub returns-in-Ok-clause-took : goal.returns-in-Ok-clause-took
-returns-in-Ok-clause-took c =
-    let old = view c.args.pass.now in
-    let t = c.in-Ok.ensures.took in
-    let call = c.in-Ok.call in (
-      refl,
-      hold_step (view c.take.new.pass) old t.0 (views.taken_view t.0 c.args.u call) (Take c.args.u) (after_take (taken_call (record { worker = c.args.u; call = call })))
-          (views.with_event (views.with_hold old (views.taken_view t.0 c.args.u call)) (Take c.args.u)) t.1 refl t.3 refl,
-    )
+returns-in-Ok-clause-took c = (refl, own_of _ _ c.in-Ok.ensures.took.3)
 
 pub returns-in-Ok-clause-fit : goal.returns-in-Ok-clause-fit
 returns-in-Ok-clause-fit c =
-    let old = view c.args.pass.now in
+    let old = pass_view c.args.pass.now in
     let table = c.args.self.now in
     let t = c.in-Ok.ensures.took in
     let next : c.args.u ≡ t.0.looks = (held_at (IsLooking c.args.u) old.hold t.0 c.requires.held.1 t.1).next in
@@ -53,26 +42,19 @@ returns-in-Ok-clause-fit c =
     let few = calls_few (job_in table) (job_tree (planned_in table)) (c.plan_stands_for_tree.ensures (job_tree (planned_in table))) in
     let acts = table.acts in
     let workers = table.few in
-    take_fits t.0 c.args.u (call_count (job_in table)) c.in-Ok.call old.hold (view c.take.new.pass).hold t.1 (ap (λ (v : View). v.hold) t.3) t.2
+    take_fits t.0 c.args.u (call_count (job_in table)) c.in-Ok.call old.hold (pass_view c.take.new.pass).hold t.1 (ap (λ (p : PassView). p.hold) (own_of _ _ t.3)) t.2
     (omega (arith, few, acts.0, acts.1)) next (omega (arith, below, workers.1))
 
 pub returns-in-Err-clause-pass : goal.returns-in-Err-clause-pass
 returns-in-Err-clause-pass c =
-    let old = view c.args.pass.now in
-    let t = c.in-Err.ensures.passed.1 in
-    let next : c.args.u ≡ t.0.looks = (held_at (IsLooking c.args.u) old.hold t.0 c.requires.held.1 t.1).next in
-    let below = c.requires.below in
-    seat_by c.args.self.now c.take.new.pass (views.with_event (views.passing old t.0 c.in-Err.status) (Take c.args.u)) c.take.ensures.pass t.2
-    (c.requires.pass.task, omega (arith, next, below))
+    seat_by c.args.self.now c.take.new.pass (with_found c.in-Err.status (passing c.args.u c.in-Err.status) (view c.args.pass.now)) c.take.ensures.pass c.in-Err.ensures.passed.1
+    (c.requires.pass.task, looks_more (job_in c.args.self.now).workers c.args.u (after_pass c.in-Err.status) (pass_view c.args.pass.now).hold (λ h. refl) c.requires.held.1 c.requires.below)
 
 pub returns-in-Err-clause-passed : goal.returns-in-Err-clause-passed
-returns-in-Err-clause-passed c =
-    let old = view c.args.pass.now in
-    let t = c.in-Err.ensures.passed.1 in
-    (c.in-Err.ensures.passed.0, hold_step (view c.take.new.pass) old t.0 (views.passed_view t.0 c.in-Err.status) (Take c.args.u) (after_pass c.in-Err.status) (views.with_event (views.passing old t.0 c.in-Err.status) (Take c.args.u)) t.1 refl t.2 refl)
+returns-in-Err-clause-passed c = (c.in-Err.ensures.passed.0, own_of _ _ c.in-Err.ensures.passed.1)
 
 pub returns-in-Err-clause-fit : goal.returns-in-Err-clause-fit
 returns-in-Err-clause-fit c =
-    let old = view c.args.pass.now in
-    let t = c.in-Err.ensures.passed.1 in
-    pass_fits t.0 c.in-Err.status old.hold (view c.take.new.pass).hold t.1 (ap (λ (v : View). v.hold) t.2)
+    let old = pass_view c.args.pass.now in
+    let h = held (IsLooking c.args.u) old.hold c.requires.held.1 in
+    pass_fits h.0 c.in-Err.status old.hold (pass_view c.take.new.pass).hold h.1 (ap (λ (p : PassView). p.hold) (own_of _ _ c.in-Err.ensures.passed.1))

@@ -1,7 +1,8 @@
-use Rattle.core_table.specs.Passes.{view, job_in}
-use Rattle.table_rule.specs.Views as views
+use Rattle.core_table.specs.Passes.{view, pass_view, job_in}
+use Rattle.table_rule.specs.Passes.{with_task}
+use Rattle.table_rule.specs.Views.{with_step, ticked}
 use Rattle.worker_crew.proofs.SeatLemmas.Steps.{not_out, tick_by, step_due, ticked_fits}
-use Rattle.worker_crew.proofs.SeatLemmas.Seats.{seat_by, task_seen}
+use Rattle.worker_crew.proofs.SeatLemmas.Seats.{seat_by, own_of, task_seen}
 use Rattle.worker_crew.specs.NextSteps.{next_step}
 use Rattle.worker_crew.proofs.running.CoreTableTable.tick.Goals as goal
 
@@ -9,22 +10,22 @@ pub tick-requires-clause-pass : goal.tick-requires-clause-pass
 tick-requires-clause-pass c = c.requires.pass.pass_of
 
 pub tick-requires-clause-free : goal.tick-requires-clause-free
-tick-requires-clause-free c = not_out (view c.args.pass.now).call c.requires.free.0
+tick-requires-clause-free c = not_out (pass_view c.args.pass.now).call c.requires.free.0
 
 pub tick-requires-clause-due : goal.tick-requires-clause-due
 tick-requires-clause-due c =
-    let v = view c.args.pass.now in
+    let v = pass_view c.args.pass.now in
     let job = job_in c.args.self.now in
     tick_by job v.task v.call (next_step job v.task v.call) c.requires.due (step_due job v.task v.call c.requires.pass.task)
 
 pub returns-clause-pass : goal.returns-clause-pass
 returns-clause-pass c =
-    let v = view c.args.pass.now in
+    let v = pass_view c.args.pass.now in
     let job = job_in c.args.self.now in
-    seat_by c.args.self.now c.tick.new.pass (views.with_event (views.with_task v (views.ticked v.task c.tick.result)) c.tick.ensures.drawn.0) c.tick.ensures.pass c.tick.ensures.drawn.2
+    seat_by c.args.self.now c.tick.new.pass (with_step (with_task c.tick.ensures.drawn.0 (ticked v.task c.tick.result)) (view c.args.pass.now)) c.tick.ensures.pass c.tick.ensures.drawn.2
     (ticked_fits job v.task c.tick.result (tick_by job v.task v.call (next_step job v.task v.call) c.requires.due (step_due job v.task v.call c.requires.pass.task)), c.requires.pass.looks)
 
 pub returns-clause-ticked : goal.returns-clause-ticked
 returns-clause-ticked c =
     let drawn = c.tick.ensures.drawn in
-    (drawn.0, drawn.1, task_seen (view c.tick.new.pass) (view c.args.pass.now) (views.ticked (view c.args.pass.now).task c.tick.result) drawn.0 drawn.2)
+    (drawn.0, drawn.1, task_seen _ _ _ drawn.0 (own_of _ _ drawn.2))

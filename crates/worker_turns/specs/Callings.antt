@@ -7,7 +7,7 @@ use Rattle.core_model.specs.Words.{Op, Entry}
 use Rattle.core_model.specs.declared.event.Event.TheVariants.{Post, Leave}
 use Rattle.core_model.specs.declared.task.Task.TheVariants.{Started}
 use Rattle.worker_crew.specs.Words.{Event, Receipt}
-use Rattle.worker_crew.specs.Passes.{PassSeen}
+use Rattle.table_rule.specs.declared.view.PassView.{PassView}
 
 -- the step is the call of this leaf, with any operation
 abbrev pub IsCallDue : ℕ → Option Step → Type 0
@@ -28,9 +28,14 @@ IsServedAs due leaf worker receipt book =
     (op : Op) × (due ≡ Some (steps.Call leaf op))
     × StandsAt book receipt.batch receipt.place (record { leaf = leaf; worker = worker; op = op; reply = receipt.reply })
 
+-- the receipt of this leaf's call is the latest of those left
+abbrev pub HasLeft : ℕ → Receipt → PassView → PassView → Type 0
+HasLeft leaf receipt old new =
+    (op : Op) × (new.left ≡ old.left ++ record { call = record { leaf = leaf; op = op }; receipt = receipt } ∷ [])
+
 -- The call's first event is the post of the started leaf, and its last is the leave with the receipt. The definition
 -- leaves open the events between them.
-abbrev pub HasCalled : Receipt → PassSeen → PassSeen → Type 0
+abbrev pub HasCalled : Receipt → PassView → PassView → Type 0
 HasCalled receipt old new =
     (node : ℕ) × (start : ℕ) × (between : List Event) × (old.task ≡ Started node start)
     × (new.events ≡ old.events ++ Post node start ∷ (between ++ Leave receipt ∷ []))

@@ -11,7 +11,9 @@ use Rattle.worker_turns.specs.declared.attempts.StealAttempt.{StealAttempt}
 use Rattle.worker_turns.specs.declared.attempts.StealAttempt.TheVariants.{NoVictim, Node, Piece}
 use Rattle.worker_turns.specs.declared.free.Did.{Did}
 use Rattle.worker_turns.specs.declared.free.Did.TheVariants as did
-use Rattle.worker_crew.specs.Passes.{PassSeen, IsFront, claiming, refusing}
+use Rattle.table_rule.specs.declared.view.PassView.{PassView}
+use Rattle.table_rule.specs.Passes.{claiming, refusing}
+use Rattle.worker_crew.specs.Passes.{IsFront}
 use Rattle.worker_crew.specs.Workers.{MeSeen}
 use Rattle.worker_turns.specs.Stops.{unstopped}
 use Rattle.worker_turns.specs.Pieces.{Desk, IsPop, IsSteal, spot_of, desk_after, NotRan, IsOwnPiece}
@@ -22,7 +24,7 @@ node_of (Refused n) = Some n
 node_of NoNode = None
 
 -- the pass after the claim of this outcome, if there was one
-abbrev pub pass_after : NodeAttempt → PassSeen → PassSeen
+abbrev pub pass_after : NodeAttempt → PassView → PassView
 pass_after (Claimed n) p = claiming n p
 pass_after (Refused n) p = refusing n p
 pass_after NoNode p = p

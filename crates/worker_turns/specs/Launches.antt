@@ -7,7 +7,8 @@ use Rattle.core_model.specs.declared.event.Event.TheVariants.{Take, Publish, Ans
 use Rattle.launch_batch.specs.Calls.{AreSame}
 use Rattle.launch_batch.specs.Places.{places}
 use Rattle.worker_crew.specs.Words.{Event}
-use Rattle.worker_crew.specs.Holds.{HoldSeen, TookNone, ServedAll}
+use Rattle.table_rule.specs.declared.view.HoldView.{HoldView}
+use Rattle.worker_crew.specs.Holds.{TookNone, ServedAll}
 use Rattle.worker_crew.specs.Workers.{MeSeen}
 use Rattle.worker_turns.specs.Pieces.{Desk}
 
@@ -59,7 +60,7 @@ launch_events workers served = look_events workers ++ (served ++ Release ∷ [])
 -- Hold `done` has looked at each worker once, and has taken exactly the calls found pending. If there was none, nothing
 -- was published, no piece was posted, and `served` is empty. Otherwise the calls were served as one batch after the
 -- book, which was published, and all were answered; `posted` has the places of its pieces, and `served` those events.
-pub record Collects (workers : ℕ) (book : List (List Entry)) (posted : List ℕ) (served : List Event) (done : HoldSeen) : Type 0 where
+pub record Collects (workers : ℕ) (book : List (List Entry)) (posted : List ℕ) (served : List Event) (done : HoldView) : Type 0 where
   pub looked : done.looks ≡ workers
   pub found : AreFound workers done.found done.taken
   pub batch : (TookNone done × (done.book ≡ book) × (posted ≡ []) × (served ≡ []))
@@ -70,7 +71,7 @@ pub record Collects (workers : ℕ) (book : List (List Entry)) (posted : List �
 -- pass has seen. While the worker waited for results, it may have looked at the stop word, and found it unset. The ends
 -- of the deques of nodes are unchanged.
 pub record Launches (workers : ℕ) (book : List (List Entry)) (old new : MeSeen) : Type 0 where
-  pub done : HoldSeen
+  pub done : HoldView
   pub posted : List ℕ
   pub served : List Event
   pub gathers : Collects workers book posted served done

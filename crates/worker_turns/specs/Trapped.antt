@@ -6,7 +6,9 @@ use Rattle.worker_turns.specs.declared.attempts.PieceAttempt.{PieceAttempt}
 use Rattle.worker_turns.specs.declared.attempts.PieceAttempt.TheVariants.{Ran}
 use Rattle.worker_turns.specs.declared.trapped.Trapped.{Trapped}
 use Rattle.worker_turns.specs.declared.trapped.Trapped.TheVariants.{Left, Piece, Launched, Nothing}
-use Rattle.worker_crew.specs.Passes.{PassSeen, finding_none, staying, losing, winning, IsLeft, IsDue, IsFront}
+use Rattle.table_rule.specs.declared.view.PassView.{PassView}
+use Rattle.table_rule.specs.Passes.{finding_none, staying, losing, winning}
+use Rattle.worker_crew.specs.Passes.{IsLeft, IsDue, IsFront}
 use Rattle.worker_crew.specs.Workers.{MeSeen}
 use Rattle.worker_turns.specs.Pieces.{NotRan, IsOwnPiece, IsOtherPiece}
 use Rattle.worker_turns.specs.Stops.{unstopped}
@@ -40,7 +42,7 @@ IsTrappedTurn workers Nothing old new =
 
 -- unchanged: the worker, its task, the nodes that it claimed, was refused and opened, the number of looks that found
 -- the stop word set, and how often the worker set it
-pub record IsJobSame (old new : PassSeen) : Type 0 where
+pub record IsJobSame (old new : PassView) : Type 0 where
   pub worker : new.worker ≡ old.worker
   pub task : new.task ≡ old.task
   pub claims : new.claims ≡ old.claims
@@ -52,7 +54,7 @@ pub record IsJobSame (old new : PassSeen) : Type 0 where
 
 -- All this, the call, the latest post, the receipts and the record of what `since` answered are unchanged. The worker
 -- does not have the flag. The book seen, the events and the number of looks at the stop word have only grown.
-pub record IsCallSame (old new : PassSeen) : Type 0 where
+pub record IsCallSame (old new : PassView) : Type 0 where
   pub job : IsJobSame old new
   pub call : new.call ≡ old.call
   pub hold : new.hold ≡ None
@@ -68,7 +70,7 @@ pub record IsCallSame (old new : PassSeen) : Type 0 where
 
 -- The effect of a trapped turn on the pass, by its answer: a leave after one look at the stop word, with a receipt
 -- whose batch number is in the range that `since` allows; or no change but those of `IsCallSame`.
-abbrev pub StaysTrapped : Trapped → PassSeen → PassSeen → Type 0
+abbrev pub StaysTrapped : Trapped → PassView → PassView → Type 0
 StaysTrapped (Left receipt) old new = IsLeft receipt (finding_none old) new × IsDue receipt.batch old
 StaysTrapped Piece old new = IsCallSame old new
 StaysTrapped Launched old new = IsCallSame old new

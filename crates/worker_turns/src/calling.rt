@@ -1,11 +1,11 @@
 //! A call of a shared object, from its post to its receipt.
-ghost use Rattle.std.specs.Prelude.{◌≡◌, ◌≤◌, ◌<◌, ◌+◌, Some, [], ◌∷◌, ◌++◌, IfOk, IfErr};
+ghost use Rattle.std.specs.Prelude.{◌≡◌, ◌≤◌, ◌<◌, ◌+◌, Some, [], IfOk, IfErr};
 ghost use Rattle.worker_crew.specs.Words.{Got};
 ghost use Rattle.piece_board.specs.Boards.{desk_view};
 ghost use Rattle.two_deques.specs.Hands.{held};
 ghost use Rattle.worker_crew.specs.declared.step.Step.TheVariants as Steps;
 ghost use Rattle.worker_crew.specs.Passes.{IsFree, IsFront};
-ghost use Rattle.worker_turns.specs.Callings.{IsCallDue, IsServedAs, HasCalled};
+ghost use Rattle.worker_turns.specs.Callings.{IsCallDue, IsServedAs, HasLeft, HasCalled};
 ghost use Rattle.worker_crew.specs.Workers.{IsMeOf};
 ghost use Rattle.worker_turns.specs.Stops.{IsStop};
 ghost use Rattle.worker_turns.specs.Trapped.{IsJobSame};
@@ -69,7 +69,7 @@ pub fn call<T: Table, G: Pause, R: Wait>(
     ensures soon { IfOk result (λ called. called.receipt.batch ≤ called.since + 1) }
     ensures late { IfOk result (λ called. (T.seen me.old.pass).greatest ≤ called.receipt.batch) }
     ensures left { IfOk result (λ called.
-        ((T.seen me.new.pass).left ≡ (T.seen me.old.pass).left ++ called.receipt ∷ [])
+        HasLeft leaf called.receipt (T.seen me.old.pass) (T.seen me.new.pass)
         × ((T.seen me.new.pass).call ≡ Got called.receipt)) }
     ensures events { IfOk result (λ called.
         HasCalled called.receipt (T.seen me.old.pass) (T.seen me.new.pass)) }

@@ -3,7 +3,8 @@ ghost use Rattle.std.specs.Prelude.{◌≡◌, ◌≢◌, true, [], Some, IfOk, 
 ghost use Rattle.launch_batch.specs.Calls.{MayServe};
 ghost use Rattle.piece_board.specs.Boards.{desk_view};
 ghost use Rattle.worker_crew.specs.declared.crew.Stop.TheVariants.{Memory};
-ghost use Rattle.worker_crew.specs.Holds.{new_hold, AreFit};
+ghost use Rattle.table_rule.specs.Passes.{new_hold};
+ghost use Rattle.worker_crew.specs.Holds.{AreFit};
 ghost use Rattle.worker_crew.specs.Passes.{is_trapped, Holds, IsHeld};
 ghost use Rattle.worker_crew.specs.Workers.{me_seen, IsMeOf};
 ghost use Rattle.worker_turns.specs.Launches.{Launches};

@@ -4,7 +4,9 @@ use Rattle.core_model.specs.declared.event.Event.TheVariants.{Post, Leave}
 use Rattle.core_model.specs.declared.task.Task.TheVariants.{Started}
 use Rattle.two_deques.specs.Ends.{HeldEnds, after_push}
 use Rattle.worker_crew.specs.Words.{Event, Task, CallState, Receipt}
-use Rattle.worker_crew.specs.Passes.{PassSeen, IsFront, opening, with_task}
+use Rattle.table_rule.specs.declared.view.PassView.{PassView}
+use Rattle.table_rule.specs.Passes.{opening, with_task}
+use Rattle.worker_crew.specs.Passes.{IsFront}
 use Rattle.worker_crew.specs.Workers.{MeSeen}
 use Rattle.worker_turns.specs.Pieces.{Desk, DrainsRow}
 use Rattle.worker_turns.specs.declared.trapped.Trapped.{Trapped}
@@ -33,7 +35,7 @@ pub front_then : {A : Type 0} (xs ys zs : List A) → IsFront xs ys → IsFront 
 front_then xs ys zs p q = (p.0 ++ q.0, q.1 ∙ ap (λ l. l ++ q.0) p.1 ∙ append_assoc xs p.0 q.0)
 
 -- the job of a pass over two steps
-pub jobs_then : (a b c : PassSeen) → IsJobSame a b → IsJobSame b c → IsJobSame a c
+pub jobs_then : (a b c : PassView) → IsJobSame a b → IsJobSame b c → IsJobSame a c
 jobs_then a b c p q = record {
   worker = q.worker ∙ p.worker;
   task = q.task ∙ p.task;
@@ -46,7 +48,7 @@ jobs_then a b c p q = record {
 }
 
 -- a trapped turn that did not leave keeps the call
-pub stays_same : (turn : Trapped) (old new : PassSeen) → ((receipt : Receipt) → turn ≡ Left receipt → ⊥) → StaysTrapped turn old new → IsCallSame old new
+pub stays_same : (turn : Trapped) (old new : PassView) → ((receipt : Receipt) → turn ≡ Left receipt → ⊥) → StaysTrapped turn old new → IsCallSame old new
 stays_same (Left receipt) old new other stays = absurd (other receipt refl)
 stays_same Piece old new other stays = stays
 stays_same Launched old new other stays = stays
@@ -79,17 +81,17 @@ carried_call old new job longer looked events core desk = record {
 pub carried_step : (old new : MeSeen) (task : Task) (call : CallState) (events : List Event) → new.pass ≡ record old.pass { task = task; call = call; events = old.pass.events ++ events } → new.core ≡ old.core → new.desk ≡ old.desk → RanToIdle old new
 carried_step old new task call events is core desk = record {
   nodes = [];
-  opened = ap (λ (p : PassSeen). p.opened) is ∙ sym (append-nil _);
+  opened = ap (λ (p : PassView). p.opened) is ∙ sym (append-nil _);
   core = core_none old.core new.core core;
-  worker = ap (λ (p : PassSeen). p.worker) is;
-  claims = ap (λ (p : PassSeen). p.claims) is;
-  claimed = ap (λ (p : PassSeen). p.claimed) is;
-  refused = ap (λ (p : PassSeen). p.refused_nodes) is;
-  longer = front_none _ _ (ap (λ (p : PassSeen). p.book_seen) is);
-  found = ap (λ (p : PassSeen). p.stops_found) is;
-  stops = ap (λ (p : PassSeen). p.stops) is;
-  looks = (let l = ap (λ (p : PassSeen). p.stop_looks) is in omega (arith, l));
-  events = (events, ap (λ (p : PassSeen). p.events) is);
+  worker = ap (λ (p : PassView). p.worker) is;
+  claims = ap (λ (p : PassView). p.claims) is;
+  claimed = ap (λ (p : PassView). p.claimed) is;
+  refused = ap (λ (p : PassView). p.refused_nodes) is;
+  longer = front_none _ _ (ap (λ (p : PassView). p.book_seen) is);
+  found = ap (λ (p : PassView). p.stops_found) is;
+  stops = ap (λ (p : PassView). p.stops) is;
+  looks = (let l = ap (λ (p : PassView). p.stop_looks) is in omega (arith, l));
+  events = (events, ap (λ (p : PassView). p.events) is);
   desk = record { given = []; gave = ap (λ (d : Desk). d.given) desk ∙ sym (append-nil _); finishes = (let f = ap (λ (d : Desk). d.finishes) desk in omega (arith, f)) };
 }
 
@@ -97,17 +99,17 @@ carried_step old new task call events is core desk = record {
 pub carried_open : (old new : MeSeen) (node : ℕ) (event : Event) (task : Task) → new.pass ≡ opening node event task old.pass → new.core ≡ after_push node old.core → new.desk ≡ old.desk → RanToIdle old new
 carried_open old new node event task is core desk = record {
   nodes = node ∷ [];
-  opened = ap (λ (p : PassSeen). p.opened) is;
+  opened = ap (λ (p : PassView). p.opened) is;
   core = core;
-  worker = ap (λ (p : PassSeen). p.worker) is;
-  claims = ap (λ (p : PassSeen). p.claims) is;
-  claimed = ap (λ (p : PassSeen). p.claimed) is;
-  refused = ap (λ (p : PassSeen). p.refused_nodes) is;
-  longer = front_none _ _ (ap (λ (p : PassSeen). p.book_seen) is);
-  found = ap (λ (p : PassSeen). p.stops_found) is;
-  stops = ap (λ (p : PassSeen). p.stops) is;
-  looks = (let l = ap (λ (p : PassSeen). p.stop_looks) is in omega (arith, l));
-  events = (event ∷ [], ap (λ (p : PassSeen). p.events) is);
+  worker = ap (λ (p : PassView). p.worker) is;
+  claims = ap (λ (p : PassView). p.claims) is;
+  claimed = ap (λ (p : PassView). p.claimed) is;
+  refused = ap (λ (p : PassView). p.refused_nodes) is;
+  longer = front_none _ _ (ap (λ (p : PassView). p.book_seen) is);
+  found = ap (λ (p : PassView). p.stops_found) is;
+  stops = ap (λ (p : PassView). p.stops) is;
+  looks = (let l = ap (λ (p : PassView). p.stop_looks) is in omega (arith, l));
+  events = (event ∷ [], ap (λ (p : PassView). p.events) is);
   desk = record { given = []; gave = ap (λ (d : Desk). d.given) desk ∙ sym (append-nil _); finishes = (let f = ap (λ (d : Desk). d.finishes) desk in omega (arith, f)) };
 }
 
@@ -118,11 +120,11 @@ carried_arrival old new first second s t (inl is) core desk = carried_step old n
 carried_arrival old new first second s t (inr is) core desk = carried_step old new t old.pass.call (second ∷ []) is core desk
 
 -- a call's events follow those before it
-pub front_called : (receipt : Receipt) (old new : PassSeen) → HasCalled receipt old new → IsFront old.events new.events
+pub front_called : (receipt : Receipt) (old new : PassView) → HasCalled receipt old new → IsFront old.events new.events
 front_called receipt old new (node, start, between, task, is) = (_, is)
 
 -- a call from its post to its leave
-pub called : (receipt : Receipt) (old mid new : PassSeen) (node start : ℕ) → old.task ≡ Started node start → IsFront (old.events ++ Post node start ∷ []) mid.events
+pub called : (receipt : Receipt) (old mid new : PassView) (node start : ℕ) → old.task ≡ Started node start → IsFront (old.events ++ Post node start ∷ []) mid.events
     → new.events ≡ mid.events ++ Leave receipt ∷ [] → HasCalled receipt old new
 called receipt old mid new node start task (between, is) last = (
   node,

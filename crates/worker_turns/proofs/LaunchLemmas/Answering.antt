@@ -4,17 +4,20 @@ use Rattle.std.specs.Prelude.{slice_get}
 use Rattle.std.proofs.lemmas.List.{take_more, map-append}
 use Rattle.core_model.specs.Words.{Entry}
 use Rattle.worker_crew.specs.Words.{Receipt}
-use Rattle.worker_crew.specs.Holds.{HoldSeen, workers_in, IsAnswerDue, after_answer}
-use Rattle.worker_crew.specs.Passes.{PassSeen, Holds, IsHeld, in_hold, answering}
+use Rattle.table_rule.specs.declared.view.HoldView.{HoldView}
+use Rattle.table_rule.specs.Passes.{after_answer, in_hold, answering, without_first}
+use Rattle.worker_crew.specs.Holds.{workers_in, IsAnswerDue}
+use Rattle.table_rule.specs.declared.view.PassView.{PassView}
+use Rattle.worker_crew.specs.Passes.{Holds, IsHeld}
 use Rattle.core_model.specs.declared.event.Event.TheVariants.{Answer}
 use Rattle.worker_turns.specs.Launches.{answer_events}
-use Rattle.worker_turns.specs.Code.Serving.{after_answers, answered_all, IsAnswerable}
+use Rattle.worker_turns.specs.Code.Serving.{after_answers, answered_all, without_all, IsAnswerable}
 
-none_in : (number : ℕ) (batch : List Entry) (h : Option HoldSeen) → Holds (IsAnswerable number batch) h → h ≡ in_hold (after_answers []) h
+none_in : (number : ℕ) (batch : List Entry) (h : Option HoldView) → Holds (IsAnswerable number batch) h → h ≡ in_hold (after_answers []) h
 none_in number batch None due = absurd due
-none_in number batch (Some h) due = ap (λ (ws : List ℕ). Some (after_answers ws h)) due.none
+none_in number batch (Some h) due = λ i. Some (record h { answered = due.none i })
 
-pub none_answered : (p : PassSeen) (number : ℕ) (batch : List Entry) → IsHeld p (IsAnswerable number batch) → p ≡ answered_all number [] p
+pub none_answered : (p : PassView) (number : ℕ) (batch : List Entry) → IsHeld p (IsAnswerable number batch) → p ≡ answered_all number [] p
 none_answered p number batch held = λ i. record p { hold = none_in number batch p.hold held.1 i; events = sym (append-nil p.events) i }
 
 taken_workers : (k : ℕ) (batch : List Entry) → take k (workers_in batch) ≡ workers_in (take k batch)
@@ -22,7 +25,7 @@ taken_workers zero batch = refl
 taken_workers (suc k) [] = refl
 taken_workers (suc k) (e ∷ batch) = ap (λ l. e.worker ∷ l) (taken_workers k batch)
 
-due_in : (number k : ℕ) (batch : List Entry) (e : Entry) (receipt : Receipt) (h : Option HoldSeen) → slice_get batch k ≡ Some e
+due_in : (number k : ℕ) (batch : List Entry) (e : Entry) (receipt : Receipt) (h : Option HoldView) → slice_get batch k ≡ Some e
     → receipt ≡ record { batch = number; place = k; reply = e.reply } → Holds (IsAnswerable number batch) h
     → Holds (IsAnswerDue e.worker receipt) (in_hold (after_answers (take k (workers_in batch))) h)
 due_in number k batch e receipt None at is due = absurd due
@@ -38,18 +41,23 @@ due_in number k batch e receipt (Some h) at is due = record {
   reply = sym (ap (λ (r : Receipt). r.reply) is);
 }
 
-pub answer_due : (p q : PassSeen) (number k : ℕ) (batch : List Entry) (e : Entry) (receipt : Receipt) → slice_get batch k ≡ Some e
+pub answer_due : (p q : PassView) (number k : ℕ) (batch : List Entry) (e : Entry) (receipt : Receipt) → slice_get batch k ≡ Some e
     → receipt ≡ record { batch = number; place = k; reply = e.reply } → IsHeld p (IsAnswerable number batch)
     → q ≡ answered_all number (take k batch) p → IsHeld q (IsAnswerDue e.worker receipt)
 answer_due p q number k batch e receipt at is held now =
-    subst (λ (r : PassSeen). IsHeld r (IsAnswerDue e.worker receipt)) (sym now) (
+    subst (λ (r : PassView). IsHeld r (IsAnswerDue e.worker receipt)) (sym now) (
       held.0,
       subst (λ (ws : List ℕ). Holds (IsAnswerDue e.worker receipt) (in_hold (after_answers ws) p.hold)) (taken_workers k batch) (due_in number k batch e receipt p.hold at is held.1),
     )
 
-twice : (ws : List ℕ) (u : ℕ) (h : Option HoldSeen) → in_hold (after_answer u) (in_hold (after_answers ws) h) ≡ in_hold (after_answers (ws ++ u ∷ [])) h
+-- one more taken out of a list
+without_more : (ws : List ℕ) (u : ℕ) (xs : List ℕ) → without_first u (without_all ws xs) ≡ without_all (ws ++ u ∷ []) xs
+without_more [] u xs = refl
+without_more (w ∷ ws) u xs = without_more ws u (without_first w xs)
+
+twice : (ws : List ℕ) (u : ℕ) (h : Option HoldView) → in_hold (after_answer u) (in_hold (after_answers ws) h) ≡ in_hold (after_answers (ws ++ u ∷ [])) h
 twice ws u None = refl
-twice ws u (Some h) = refl
+twice ws u (Some h) = λ i. Some (record (after_answers (ws ++ u ∷ []) h) { owed = without_more ws u h.owed i })
 
 length_taken : (batch : List Entry) (k : ℕ) → k ≤ length batch → length (take k batch) ≡ k
 length_taken batch zero inside = refl
@@ -66,7 +74,7 @@ answer_more number first (x ∷ entries) e receipt is =
     ap (λ l. Answer x.worker (record { batch = number; place = first; reply = x.reply }) ∷ l)
     (answer_more number (first + 1) entries e receipt (is ∙ (λ i. record { batch = number; place = here i; reply = e.reply })))
 
-pub answered_more : (p q r : PassSeen) (number k : ℕ) (batch : List Entry) (e : Entry) (receipt : Receipt) → k < length batch → get_or batch k e ≡ e
+pub answered_more : (p q r : PassView) (number k : ℕ) (batch : List Entry) (e : Entry) (receipt : Receipt) → k < length batch → get_or batch k e ≡ e
     → receipt ≡ record { batch = number; place = k; reply = e.reply }
     → q ≡ answered_all number (take k batch) p → r ≡ answering e.worker receipt q → r ≡ answered_all number (take (k + 1) batch) p
 answered_more p q r number k batch e receipt inside at is was now =

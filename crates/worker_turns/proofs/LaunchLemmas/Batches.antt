@@ -7,8 +7,11 @@ use Rattle.batch_history.specs.Serving.{calls_in, call_in}
 use Rattle.launch_batch.specs.Calls.{MayServe, AreSame, IsServiceOf}
 use Rattle.seq_objects.specs.declared.call.Call.{Call}
 use Rattle.core_model.specs.Words.{Entry}
-use Rattle.worker_crew.specs.Holds.{HoldSeen, workers_in, after_publish}
-use Rattle.worker_crew.specs.Passes.{PassSeen, Holds, IsHeld, is_trapped, in_hold, publishing}
+use Rattle.table_rule.specs.declared.view.HoldView.{HoldView}
+use Rattle.table_rule.specs.Passes.{after_publish, in_hold, publishing}
+use Rattle.worker_crew.specs.Holds.{workers_in}
+use Rattle.table_rule.specs.declared.view.PassView.{PassView}
+use Rattle.worker_crew.specs.Passes.{Holds, IsHeld, is_trapped}
 use Rattle.core_model.specs.declared.event.Event.TheVariants.{Publish}
 use Rattle.worker_turns.specs.Stops.{HasOnlyLooked}
 use Rattle.worker_turns.specs.Launches.{answer_events, serve_events}
@@ -23,7 +26,7 @@ same_length (x ∷ xs) ys (before, later, split, rest) =
     let whole = ap (λ l. length l) split in
     omega (arith, n, l, m, whole)
 
-few_in : (number : ℕ) (batch : List Entry) (h : Option HoldSeen) → Holds (IsAnswerable number batch) h → length batch ≤ 20000
+few_in : (number : ℕ) (batch : List Entry) (h : Option HoldView) → Holds (IsAnswerable number batch) h → length batch ≤ 20000
 few_in number batch None due = absurd due
 few_in number batch (Some h) due =
     let same = same_length h.taken (calls_in batch) due.published.service.same in
@@ -31,17 +34,17 @@ few_in number batch (Some h) due =
     let most = due.published.may.most in
     omega (arith, same, m, most)
 
-pub few_answers : (p : PassSeen) (number : ℕ) (batch : List Entry) → IsHeld p (IsAnswerable number batch) → length batch ≤ 20000
+pub few_answers : (p : PassView) (number : ℕ) (batch : List Entry) → IsHeld p (IsAnswerable number batch) → length batch ≤ 20000
 few_answers p number batch held = few_in number batch p.hold held.1
 
 -- the batch that was published can be answered
-pub answerable : (p q r : PassSeen) (workers number : ℕ) (calls : List Call) (book : List (List Entry)) (batch entries : List Entry) → is_trapped p.call ≡ true
+pub answerable : (p q r : PassView) (workers number : ℕ) (calls : List Call) (book : List (List Entry)) (batch entries : List Entry) → is_trapped p.call ≡ true
     → HasTaken workers calls book p.hold → MayServe book calls → IsServiceOf book calls batch → HasOnlyLooked p q → r ≡ publishing batch q
     → number ≡ length book → entries ≡ batch → IsHeld r (IsAnswerable number entries)
 answerable p q r workers number calls book batch entries trapped (found, hold) may service looks now is all = let same = looks.same in (
-  ap (λ (s : PassSeen). is_trapped s.call) now ∙ ap (λ (s : PassSeen). is_trapped s.call) same ∙ trapped,
+  ap (λ (s : PassView). is_trapped s.call) now ∙ ap (λ (s : PassView). is_trapped s.call) same ∙ trapped,
   subst (λ (es : List Entry). Holds (IsAnswerable number es) r.hold) (sym all)
-      (subst (Holds (IsAnswerable number batch)) (sym (ap (λ (s : PassSeen). s.hold) now ∙ ap (λ (s : PassSeen). (publishing batch s).hold) same ∙ ap (in_hold _) hold))
+      (subst (Holds (IsAnswerable number batch)) (sym (ap (λ (s : PassView). s.hold) now ∙ ap (λ (s : PassView). (publishing batch s).hold) same ∙ ap (in_hold _) hold))
       (record { before = book; published = record { published = refl; book = refl; may = may; service = service }; numbered = is; none = refl })),
 )
 
@@ -62,11 +65,11 @@ last_at [] x d = refl
 last_at (y ∷ xs) x d = last_at xs x d
 
 -- the hold once the batch is answered
-served : (batch : List Entry) (h : Option HoldSeen) → in_hold (after_answers (workers_in batch)) (in_hold (after_publish batch) h) ≡ in_hold (after_service batch) h
+served : (batch : List Entry) (h : Option HoldView) → in_hold (after_answers (workers_in batch)) (in_hold (after_publish batch) h) ≡ in_hold (after_service batch) h
 served batch None = refl
 served batch (Some h) = refl
 
-module _ (p q r s : PassSeen) (number : ℕ) (book : List (List Entry)) (batch entries : List Entry) where
+module _ (p q r s : PassView) (number : ℕ) (book : List (List Entry)) (batch entries : List Entry) where
   pass_after : HasOnlyLooked p q → r ≡ publishing batch q → s ≡ answered_all number entries r → number ≡ length book → entries ≡ batch
       → s ≡ record p { hold = in_hold (after_service batch) p.hold; stop_looks = q.stop_looks; events = p.events ++ serve_events (length book) batch }
   pass_after looks now answered is all =
@@ -78,7 +81,7 @@ module _ (p q r s : PassSeen) (number : ℕ) (book : List (List Entry)) (batch e
       })
 
   pub pass_looks : HasOnlyLooked p q → r ≡ publishing batch q → s ≡ answered_all number entries r → s.stop_looks ≡ q.stop_looks
-  pass_looks looks now answered = ap (λ (z : PassSeen). z.stop_looks) answered ∙ ap (λ (z : PassSeen). z.stop_looks) now
+  pass_looks looks now answered = ap (λ (z : PassView). z.stop_looks) answered ∙ ap (λ (z : PassView). z.stop_looks) now
 
   pub pass_served : HasOnlyLooked p q → r ≡ publishing batch q → s ≡ answered_all number entries r → number ≡ length book → entries ≡ batch
       → s ≡ record p { hold = in_hold (after_service batch) p.hold; stop_looks = s.stop_looks; events = p.events ++ serve_events (length book) batch }

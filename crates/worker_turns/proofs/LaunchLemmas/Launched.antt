@@ -5,22 +5,25 @@ use Rattle.core_model.specs.Words.{Entry}
 use Rattle.core_model.specs.declared.event.Event.TheVariants.{Release}
 use Rattle.launch_batch.specs.Calls.{MayServe}
 use Rattle.worker_crew.specs.Words.{Event}
-use Rattle.worker_crew.specs.Holds.{HoldSeen, new_hold, AreFit, IsReleaseDue}
-use Rattle.worker_crew.specs.Passes.{PassSeen, Holds, IsHeld, is_trapped, in_hold, releasing}
+use Rattle.table_rule.specs.declared.view.HoldView.{HoldView}
+use Rattle.table_rule.specs.Passes.{new_hold, in_hold, releasing}
+use Rattle.worker_crew.specs.Holds.{AreFit, IsReleaseDue}
+use Rattle.table_rule.specs.declared.view.PassView.{PassView}
+use Rattle.worker_crew.specs.Passes.{Holds, IsHeld, is_trapped}
 use Rattle.worker_crew.specs.Workers.{MeSeen}
 use Rattle.worker_turns.specs.Launches.{Launches, look_events, serve_events, launch_events}
 use Rattle.worker_turns.specs.Code.Serving.{after_looks, looked, taken_hold, after_service, HasLooked, HasTaken, ServesBatch}
 
 -- the hold after the looks
-hold_looked : (p q : PassSeen) (workers : ℕ) (found : List ℕ) (calls : List Call) (book : List (List Entry)) → p.hold ≡ Some (new_hold book) → q ≡ looked workers found calls p
+hold_looked : (p q : PassView) (workers : ℕ) (found : List ℕ) (calls : List Call) (book : List (List Entry)) → p.hold ≡ Some (new_hold book) → q ≡ looked workers found calls p
     → q.hold ≡ Some (taken_hold workers found calls book)
-hold_looked p q workers found calls book won is = ap (λ (r : PassSeen). r.hold) is ∙ ap (in_hold (after_looks workers found calls)) won
+hold_looked p q workers found calls book won is = ap (λ (r : PassView). r.hold) is ∙ ap (in_hold (after_looks workers found calls)) won
 
-pub has_taken : (p q : PassSeen) (workers : ℕ) (calls : List Call) (book : List (List Entry)) → p.hold ≡ Some (new_hold book) → HasLooked workers calls p q → HasTaken workers calls book q.hold
+pub has_taken : (p q : PassView) (workers : ℕ) (calls : List Call) (book : List (List Entry)) → p.hold ≡ Some (new_hold book) → HasLooked workers calls p q → HasTaken workers calls book q.hold
 has_taken p q workers calls book won (found, are, is) = (found, hold_looked p q workers found calls book won is)
 
 -- the pass after a release of this hold
-released_from : (p q : PassSeen) (workers looks : ℕ) (h : HoldSeen) (served : List Event)
+released_from : (p q : PassView) (workers looks : ℕ) (h : HoldView) (served : List Event)
     → q ≡ record p { hold = Some h; stop_looks = looks; events = (p.events ++ look_events workers) ++ served }
     → releasing q ≡ record p { hold = None; last = Some h; book_seen = h.book; stop_looks = looks; events = p.events ++ launch_events workers served }
 released_from p q workers looks h served is =
@@ -34,22 +37,22 @@ released_from p q workers looks h served is =
     })
 
 -- nothing was taken
-pub none_release : (p q : PassSeen) (workers : ℕ) (calls : List Call) (book : List (List Entry)) → is_trapped p.call ≡ true → p.hold ≡ Some (new_hold book)
+pub none_release : (p q : PassView) (workers : ℕ) (calls : List Call) (book : List (List Entry)) → is_trapped p.call ≡ true → p.hold ≡ Some (new_hold book)
     → HasLooked workers calls p q → calls ≡ [] → IsHeld q (IsReleaseDue workers book)
 none_release p q workers calls book trapped won (found, are, is) none = (
-  ap (λ (r : PassSeen). is_trapped r.call) is ∙ trapped,
+  ap (λ (r : PassView). is_trapped r.call) is ∙ trapped,
   subst (Holds (IsReleaseDue workers book)) (sym (hold_looked p q workers found calls book won is))
       (record { looked = refl; book = refl; done = inl (record { none = none; early = refl }) }),
 )
 
 -- the pass of a release, by its own number of looks
-by_looks : (old : PassSeen) (new : PassSeen) (h : HoldSeen) (book : List (List Entry)) (events : List Event) (looks : ℕ)
+by_looks : (old : PassView) (new : PassView) (h : HoldView) (book : List (List Entry)) (events : List Event) (looks : ℕ)
     → new ≡ record old { hold = None; last = Some h; book_seen = book; stop_looks = looks; events = events }
     → new ≡ record old { hold = None; last = Some h; book_seen = book; stop_looks = new.stop_looks; events = events }
 by_looks old new h book events looks is =
-    is ∙ (λ i. record old { hold = None; last = Some h; book_seen = book; stop_looks = sym (ap (λ (p : PassSeen). p.stop_looks) is) i; events = events })
+    is ∙ (λ i. record old { hold = None; last = Some h; book_seen = book; stop_looks = sym (ap (λ (p : PassView). p.stop_looks) is) i; events = events })
 
-pub none_launched : (old new : MeSeen) (q : PassSeen) (workers : ℕ) (calls : List Call) (book : List (List Entry)) → old.pass.hold ≡ Some (new_hold book)
+pub none_launched : (old new : MeSeen) (q : PassView) (workers : ℕ) (calls : List Call) (book : List (List Entry)) → old.pass.hold ≡ Some (new_hold book)
     → HasLooked workers calls old.pass q → calls ≡ [] → new ≡ record old { pass = releasing q } → old.desk.posted ≡ [] → Launches workers book old new
 none_launched old new q workers calls book won (found, are, is) none now free =
     let h = taken_hold workers found calls book in
@@ -61,7 +64,7 @@ none_launched old new q workers calls book won (found, are, is) none now free =
       served = [];
       gathers = record { looked = refl; found = are; batch = inl (record { none = none; early = refl }, refl, refl, refl) };
       released = by_looks old.pass new.pass h h.book _ old.pass.stop_looks pass;
-      looks = (let l = ap (λ (p : PassSeen). p.stop_looks) pass in omega (arith, l));
+      looks = (let l = ap (λ (p : PassView). p.stop_looks) pass in omega (arith, l));
       desk = record {
         posts = ap (λ (m : MeSeen). m.desk.posts) now ∙ sym (append-nil _);
         collects = (let c = ap (λ (m : MeSeen). m.desk.collects) now in omega (arith, c));
@@ -78,26 +81,26 @@ none_launched old new q workers calls book won (found, are, is) none now free =
 pub served_release : (old new : MeSeen) (workers : ℕ) (calls : List Call) (book after : List (List Entry)) → is_trapped old.pass.call ≡ true → HasTaken workers calls book old.pass.hold
     → MayServe book calls → ServesBatch book calls after old new → IsHeld new.pass (IsReleaseDue workers after)
 served_release old new workers calls book after trapped (found, hold) may s = (
-  ap (λ (p : PassSeen). is_trapped p.call) s.pass ∙ trapped,
-  subst (Holds (IsReleaseDue workers after)) (sym (ap (λ (p : PassSeen). p.hold) s.pass ∙ ap (in_hold (after_service s.batch)) hold)) (record {
+  ap (λ (p : PassView). is_trapped p.call) s.pass ∙ trapped,
+  subst (Holds (IsReleaseDue workers after)) (sym (ap (λ (p : PassView). p.hold) s.pass ∙ ap (in_hold (after_service s.batch)) hold)) (record {
     looked = refl;
     book = s.grown;
     done = inr (book, s.batch, record { published = record { published = refl; book = refl; may = may; service = s.service }; answered = refl });
   }),
 )
 
-pub served_launched : (old new : MeSeen) (q r : PassSeen) (workers : ℕ) (calls : List Call) (book after : List (List Entry)) → old.pass.hold ≡ Some (new_hold book) → MayServe book calls
+pub served_launched : (old new : MeSeen) (q r : PassView) (workers : ℕ) (calls : List Call) (book after : List (List Entry)) → old.pass.hold ≡ Some (new_hold book) → MayServe book calls
     → HasLooked workers calls old.pass q → ServesBatch book calls after (record old { pass = q }) (record new { pass = r }) → new.pass ≡ releasing r
     → Launches workers book old new
 served_launched old new q r workers calls book after won may (found, are, is) s now =
     let taken = taken_hold workers found calls book in
-    let done : HoldSeen = after_service s.batch taken in
+    let done : HoldView = after_service s.batch taken in
     let hold = hold_looked old.pass q workers found calls book won is in
     let served = serve_events (length book) s.batch in
     let held : r ≡ record old.pass { hold = Some done; stop_looks = r.stop_looks; events = (old.pass.events ++ look_events workers) ++ served } =
     s.pass
     ∙ (λ i. record q { hold = in_hold (after_service s.batch) (hold i); stop_looks = r.stop_looks; events = q.events ++ served })
-    ∙ ap (λ (p : PassSeen). record p { hold = Some done; stop_looks = r.stop_looks; events = p.events ++ served }) is in
+    ∙ ap (λ (p : PassView). record p { hold = Some done; stop_looks = r.stop_looks; events = p.events ++ served }) is in
     let pass = now ∙ released_from old.pass r workers r.stop_looks done served held in record {
       done = done;
       posted = s.posted;
@@ -108,7 +111,7 @@ served_launched old new q r workers calls book after won may (found, are, is) s 
         batch = inr (s.batch, record { published = record { published = refl; book = refl; may = may; service = s.service }; answered = refl }, s.places, refl);
       };
       released = by_looks old.pass new.pass done done.book _ r.stop_looks pass;
-      looks = (let l = ap (λ (p : PassSeen). p.stop_looks) pass in let before = ap (λ (p : PassSeen). p.stop_looks) is in let more = s.looks in omega (arith, l, before, more));
+      looks = (let l = ap (λ (p : PassView). p.stop_looks) pass in let before = ap (λ (p : PassView). p.stop_looks) is in let more = s.looks in omega (arith, l, before, more));
       desk = s.desk;
       core = s.core;
     }
@@ -119,6 +122,6 @@ no_call [] is = refl
 no_call (call ∷ calls) is = absurd (cc)
 
 -- some call was taken, so all that were can be served
-pub taken_serve : (p q : PassSeen) (workers : ℕ) (calls : List Call) (book : List (List Entry)) → p.hold ≡ Some (new_hold book) → HasLooked workers calls p q
+pub taken_serve : (p q : PassView) (workers : ℕ) (calls : List Call) (book : List (List Entry)) → p.hold ≡ Some (new_hold book) → HasLooked workers calls p q
     → Holds AreFit q.hold → calls ≢ [] → MayServe book calls
 taken_serve p q workers calls book won (found, are, is) fit some = (subst (Holds AreFit) (hold_looked p q workers found calls book won is) fit).serve some

@@ -3,36 +3,39 @@ use Rattle.std.proofs.Common.{◌≡◌, ◌≢◌, ℕ, suc, ◌+◌, ◌==◌,
 use Rattle.std.proofs.lemmas.List.{map-append}
 use Rattle.seq_objects.specs.declared.call.Call.{Call}
 use Rattle.core_model.specs.declared.event.Event.TheVariants.{Take}
-use Rattle.worker_crew.specs.Holds.{HoldSeen, AreFit, StayFit, IsLooking, after_take, after_pass}
-use Rattle.worker_crew.specs.Passes.{PassSeen, Holds, IsHeld, in_hold, taking, passing}
-use Rattle.worker_crew.proofs.SeatLemmas.Taken.{if_no}
+use Rattle.table_rule.specs.declared.view.HoldView.{HoldView}
+use Rattle.table_rule.specs.Passes.{after_take, after_pass, in_hold, taking, passing}
+use Rattle.worker_crew.specs.Holds.{AreFit, StayFit, IsLooking}
+use Rattle.table_rule.specs.declared.view.PassView.{PassView}
+use Rattle.worker_crew.specs.Passes.{Holds, IsHeld}
+use Rattle.table_rule.proofs.ListLemmas.Last.{if_no}
 use Rattle.worker_turns.specs.Launches.{pending_in, AreFound, look_events}
 use Rattle.worker_turns.specs.Code.Serving.{IsNewHold, after_looks, looked, HasLooked}
 
-none_looked : (h : Option HoldSeen) → Holds IsNewHold h → h ≡ in_hold (after_looks 0 [] []) h
+none_looked : (h : Option HoldView) → Holds IsNewHold h → h ≡ in_hold (after_looks 0 [] []) h
 none_looked None new = absurd new
 none_looked (Some h) new = ap Some (new ∙ ap (after_looks 0 [] []) (sym new))
 
-pub none_yet : (p : PassSeen) → IsHeld p IsNewHold → HasLooked 0 [] p p
+pub none_yet : (p : PassView) → IsHeld p IsNewHold → HasLooked 0 [] p p
 none_yet p held = (
   [],
   record { each = refl; pending = refl },
   (λ i. record p { hold = none_looked p.hold held.1 i; events = sym (append-nil p.events) i }),
 )
 
-fit_at_first : (h : Option HoldSeen) → Holds IsNewHold h → Holds AreFit h
+fit_at_first : (h : Option HoldView) → Holds IsNewHold h → Holds AreFit h
 fit_at_first None new = absurd new
 fit_at_first (Some h) new = subst AreFit (sym new) (record { below = tt; serve = λ some. absurd (some refl) })
 
-pub fit_first : (p : PassSeen) → IsHeld p IsNewHold → Holds AreFit p.hold
+pub fit_first : (p : PassView) → IsHeld p IsNewHold → Holds AreFit p.hold
 fit_first p held = fit_at_first p.hold held.1
 
-next_in : (u : ℕ) (found : List ℕ) (calls : List Call) (h : Option HoldSeen) → Holds IsNewHold h → Holds (IsLooking u) (in_hold (after_looks u found calls) h)
+next_in : (u : ℕ) (found : List ℕ) (calls : List Call) (h : Option HoldView) → Holds IsNewHold h → Holds (IsLooking u) (in_hold (after_looks u found calls) h)
 next_in u found calls None new = absurd new
-next_in u found calls (Some h) new = record { next = refl; early = ap (λ (k : HoldSeen). k.published) new }
+next_in u found calls (Some h) new = record { next = refl; early = ap (λ (k : HoldView). k.published) new }
 
-pub next_look : (p q : PassSeen) (u : ℕ) (calls : List Call) → IsHeld p IsNewHold → HasLooked u calls p q → IsHeld q (IsLooking u)
-next_look p q u calls held (found, are, is) = subst (λ (r : PassSeen). IsHeld r (IsLooking u)) (sym is) (held.0, next_in u found calls p.hold held.1)
+pub next_look : (p q : PassView) (u : ℕ) (calls : List Call) → IsHeld p IsNewHold → HasLooked u calls p q → IsHeld q (IsLooking u)
+next_look p q u calls held (found, are, is) = subst (λ (r : PassView). IsHeld r (IsLooking u)) (sym is) (held.0, next_in u found calls p.hold held.1)
 
 -- one more status
 with_last : (b : Bool) (n m : ℕ) (xs ys : List ℕ) → ys ≡ xs ++ m ∷ [] → (if b then n ∷ ys else ys) ≡ (if b then n ∷ xs else xs) ++ m ∷ []
@@ -66,14 +69,14 @@ found_pass u found calls status other are = record { each = one_longer u found s
 look_more : (u : ℕ) → look_events u ++ Take u ∷ [] ≡ look_events (u + 1)
 look_more u = let more : suc u ≡ u + 1 = omega arith in ap look_events more
 
-more_events : (p : PassSeen) (u w : ℕ) → w ≡ u → (p.events ++ look_events u) ++ Take w ∷ [] ≡ p.events ++ look_events (u + 1)
+more_events : (p : PassView) (u w : ℕ) → w ≡ u → (p.events ++ look_events u) ++ Take w ∷ [] ≡ p.events ++ look_events (u + 1)
 more_events p u w is = ap (λ n. (p.events ++ look_events u) ++ Take n ∷ []) is ∙ append_assoc p.events (look_events u) (Take u ∷ []) ∙ ap (λ l. p.events ++ l) (look_more u)
 
-take_in : (u : ℕ) (found : List ℕ) (calls : List Call) (call : Call) (h : Option HoldSeen) → in_hold (after_take call) (in_hold (after_looks u found calls) h) ≡ in_hold (after_looks (u + 1) (found ++ 1 ∷ []) (calls ++ call ∷ [])) h
+take_in : (u : ℕ) (found : List ℕ) (calls : List Call) (call : Call) (h : Option HoldView) → in_hold (after_take call) (in_hold (after_looks u found calls) h) ≡ in_hold (after_looks (u + 1) (found ++ 1 ∷ []) (calls ++ call ∷ [])) h
 take_in u found calls call None = refl
-take_in u found calls call (Some h) = refl
+take_in u found calls call (Some h) = λ i. Some (record (after_looks (u + 1) (found ++ 1 ∷ []) (calls ++ call ∷ []) h) { owed = sym (map-append (λ (c : Call). c.worker) calls (call ∷ [])) i })
 
-pub looked_take : (p q r : PassSeen) (u : ℕ) (calls more : List Call) (call : Call) → HasLooked u calls p q → call.worker ≡ u → r ≡ taking call q → more ≡ calls ++ call ∷ [] → HasLooked (u + 1) more p r
+pub looked_take : (p q r : PassView) (u : ℕ) (calls more : List Call) (call : Call) → HasLooked u calls p q → call.worker ≡ u → r ≡ taking call q → more ≡ calls ++ call ∷ [] → HasLooked (u + 1) more p r
 looked_take p q r u calls more call (found, are, was) worker now pushed = (
   found ++ 1 ∷ [],
   subst (λ (l : List Call). AreFound (u + 1) (found ++ 1 ∷ []) l) (sym pushed) (found_take u found calls call worker are),
@@ -82,11 +85,11 @@ looked_take p q r u calls more call (found, are, was) worker now pushed = (
       ∙ ap (λ (l : List Call). looked (u + 1) (found ++ 1 ∷ []) l p) (sym pushed),
 )
 
-pass_in : (u : ℕ) (found : List ℕ) (calls : List Call) (status : ℕ) (h : Option HoldSeen) → in_hold (after_pass status) (in_hold (after_looks u found calls) h) ≡ in_hold (after_looks (u + 1) (found ++ status ∷ []) calls) h
+pass_in : (u : ℕ) (found : List ℕ) (calls : List Call) (status : ℕ) (h : Option HoldView) → in_hold (after_pass status) (in_hold (after_looks u found calls) h) ≡ in_hold (after_looks (u + 1) (found ++ status ∷ []) calls) h
 pass_in u found calls status None = refl
 pass_in u found calls status (Some h) = refl
 
-looked_pass : (p q r : PassSeen) (u : ℕ) (calls : List Call) (status : ℕ) → HasLooked u calls p q → status ≢ 1 → r ≡ passing u status q → HasLooked (u + 1) calls p r
+looked_pass : (p q r : PassView) (u : ℕ) (calls : List Call) (status : ℕ) → HasLooked u calls p q → status ≢ 1 → r ≡ passing u status q → HasLooked (u + 1) calls p r
 looked_pass p q r u calls status (found, are, was) other now = (
   found ++ status ∷ [],
   found_pass u found calls status other are,
@@ -94,19 +97,19 @@ looked_pass p q r u calls status (found, are, was) other now = (
 )
 
 -- a look that took no call
-pub looked_else : (p q r : PassSeen) (u : ℕ) (calls more : List Call) (result : Result Call ℕ) → HasLooked u calls p q → ((call : Call) → result ≡ Ok call → ⊥)
+pub looked_else : (p q r : PassView) (u : ℕ) (calls more : List Call) (result : Result Call ℕ) → HasLooked u calls p q → ((call : Call) → result ≡ Ok call → ⊥)
     → IfErr result (λ status. (status ≢ 1) × (r ≡ passing u status q)) → more ≡ calls → HasLooked (u + 1) more p r
 looked_else p q r u calls more (Ok call) was other now same = absurd (other call refl)
 looked_else p q r u calls more (Err status) was other now same =
     subst (λ (l : List Call). HasLooked (u + 1) l p r) (sym same) (looked_pass p q r u calls status was now.0 now.1)
 
-fit_in : (f : HoldSeen → HoldSeen) (h k : Option HoldSeen) → k ≡ in_hold f h → StayFit h k → Holds AreFit h → Holds AreFit k
+fit_in : (f : HoldView → HoldView) (h k : Option HoldView) → k ≡ in_hold f h → StayFit h k → Holds AreFit h → Holds AreFit k
 fit_in f None k is stay fit = absurd fit
 fit_in f (Some h) k is stay fit = subst (Holds AreFit) (sym is) (stay h (f h) refl is fit)
 
-pub fit_take : (q r : PassSeen) (call : Call) → r ≡ taking call q → StayFit q.hold r.hold → Holds AreFit q.hold → Holds AreFit r.hold
-fit_take q r call now stay fit = fit_in (after_take call) q.hold r.hold (ap (λ (p : PassSeen). p.hold) now) stay fit
+pub fit_take : (q r : PassView) (call : Call) → r ≡ taking call q → StayFit q.hold r.hold → Holds AreFit q.hold → Holds AreFit r.hold
+fit_take q r call now stay fit = fit_in (after_take call) q.hold r.hold (ap (λ (p : PassView). p.hold) now) stay fit
 
-pub fit_else : (q r : PassSeen) (u : ℕ) (result : Result Call ℕ) → ((call : Call) → result ≡ Ok call → ⊥) → IfErr result (λ status. (status ≢ 1) × (r ≡ passing u status q)) → StayFit q.hold r.hold → Holds AreFit q.hold → Holds AreFit r.hold
+pub fit_else : (q r : PassView) (u : ℕ) (result : Result Call ℕ) → ((call : Call) → result ≡ Ok call → ⊥) → IfErr result (λ status. (status ≢ 1) × (r ≡ passing u status q)) → StayFit q.hold r.hold → Holds AreFit q.hold → Holds AreFit r.hold
 fit_else q r u (Ok call) other now stay fit = absurd (other call refl)
-fit_else q r u (Err status) other now stay fit = fit_in (after_pass status) q.hold r.hold (ap (λ (p : PassSeen). p.hold) now.1) stay fit
+fit_else q r u (Err status) other now stay fit = fit_in (after_pass status) q.hold r.hold (ap (λ (p : PassView). p.hold) now.1) stay fit

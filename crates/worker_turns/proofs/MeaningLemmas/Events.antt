@@ -13,8 +13,9 @@ use Rattle.worker_turns.specs.declared.trapped.Trapped.TheVariants.{Left, Piece,
 use Rattle.worker_turns.specs.declared.free.Did.{Did}
 use Rattle.worker_turns.specs.declared.free.Did.TheVariants as did
 use Rattle.worker_crew.specs.Words.{Event}
-use Rattle.worker_crew.specs.Holds.{HoldSeen}
-use Rattle.worker_crew.specs.Passes.{PassSeen, finding_none, losing, staying}
+use Rattle.table_rule.specs.declared.view.HoldView.{HoldView}
+use Rattle.table_rule.specs.declared.view.PassView.{PassView}
+use Rattle.table_rule.specs.Passes.{finding_none, losing, staying}
 use Rattle.worker_crew.specs.Workers.{MeSeen}
 use Rattle.worker_turns.specs.Stops.{unstopped}
 use Rattle.worker_turns.specs.Pieces.{IsOwnPiece, IsOtherPiece}
@@ -24,7 +25,7 @@ use Rattle.worker_turns.specs.Free.{IsOther, IsOwnNode, StoleNothing, RanToIdle,
 use Rattle.worker_turns.specs.Meanings.Events.{AreServed, HasTrappedEvents, HasFreeEvents}
 use Rattle.worker_turns.proofs.MeaningLemmas.Stays.{own_pass, other_pass}
 
-are_served : (workers : ℕ) (book : List (List Entry)) (posted : List ℕ) (served : List Event) (done : HoldSeen) → Collects workers book posted served done → AreServed book done served
+are_served : (workers : ℕ) (book : List (List Entry)) (posted : List ℕ) (served : List Event) (done : HoldView) → Collects workers book posted served done → AreServed book done served
 are_served workers book posted served done g = elim g.batch [
   | inl (none, same, empty, quiet) ↦ inl (none.none, quiet)
   | inr (batch, all, are, events) ↦ inr (batch, all.published.book, events)
@@ -32,32 +33,32 @@ are_served workers book posted served done g = elim g.batch [
 
 -- the pass after its leave and its win were refused
 twice_refused : (t own : PieceAttempt) (old a new : MeSeen) → IsOwnPiece own (unstopped old) a → IsOtherPiece t (refused_both a) new → new.pass ≡ losing (staying (finding_none old.pass))
-twice_refused t own old a new p q = other_pass t (refused_both a) new q ∙ ap (λ (x : PassSeen). losing (staying x)) (own_pass own old a p)
+twice_refused t own old a new p q = other_pass t (refused_both a) new q ∙ ap (λ (x : PassView). losing (staying x)) (own_pass own old a p)
 
 pub trapped_events : (workers : ℕ) (answer : Trapped) (old new : MeSeen) → IsTrappedTurn workers answer old new → HasTrappedEvents workers answer old.pass new.pass
 trapped_events workers (Left receipt) old new (own, a, unrun, p, left, same) =
-    ap (λ (x : PassSeen). x.events) left.left ∙ ap (λ (x : PassSeen). x.events ++ made.Leave receipt ∷ []) (own_pass own old a p)
-trapped_events workers Piece old new (inl (spot, p)) = ap (λ (x : PassSeen). x.events) (own_pass (Ran spot) old new p)
-trapped_events workers Piece old new (inr (own, spot, a, unrun, p, q)) = ap (λ (x : PassSeen). x.events) (twice_refused (Ran spot) own old a new p q)
+    ap (λ (x : PassView). x.events) left.left ∙ ap (λ (x : PassView). x.events ++ made.Leave receipt ∷ []) (own_pass own old a p)
+trapped_events workers Piece old new (inl (spot, p)) = ap (λ (x : PassView). x.events) (own_pass (Ran spot) old new p)
+trapped_events workers Piece old new (inr (own, spot, a, unrun, p, q)) = ap (λ (x : PassView). x.events) (twice_refused (Ran spot) own old a new p q)
 trapped_events workers Launched old new (own, a, book, unrun, p, l, front) = (
   book,
   l.done,
   l.served,
-  ap (λ (x : PassSeen). x.last) l.released,
+  ap (λ (x : PassView). x.last) l.released,
   are_served workers book l.posted l.served l.done l.gathers,
-  ap (λ (x : PassSeen). x.events) l.released ∙ ap (λ (x : PassSeen). (x.events ++ made.Win ∷ []) ++ launch_events workers l.served) (own_pass own old a p)
+  ap (λ (x : PassView). x.events) l.released ∙ ap (λ (x : PassView). (x.events ++ made.Win ∷ []) ++ launch_events workers l.served) (own_pass own old a p)
       ∙ append_assoc old.pass.events (made.Win ∷ []) (launch_events workers l.served),
 )
-trapped_events workers Nothing old new (own, other, a, unrun, not, p, q) = ap (λ (x : PassSeen). x.events) (twice_refused other own old a new p q)
+trapped_events workers Nothing old new (own, other, a, unrun, not, p, q) = ap (λ (x : PassView). x.events) (twice_refused other own old a new p q)
 
 pub trapped_looked : (workers : ℕ) (answer : Trapped) (old new : MeSeen) → IsTrappedTurn workers answer old new → old.pass.stop_looks < new.pass.stop_looks
 trapped_looked workers (Left receipt) old new (own, a, unrun, p, left, same) =
-    let now = ap (λ (x : PassSeen). x.stop_looks) left.left in let was = ap (λ (x : PassSeen). x.stop_looks) (own_pass own old a p) in omega (arith, now, was)
-trapped_looked workers Piece old new (inl (spot, p)) = let now = ap (λ (x : PassSeen). x.stop_looks) (own_pass (Ran spot) old new p) in omega (arith, now)
-trapped_looked workers Piece old new (inr (own, spot, a, unrun, p, q)) = let now = ap (λ (x : PassSeen). x.stop_looks) (twice_refused (Ran spot) own old a new p q) in omega (arith, now)
+    let now = ap (λ (x : PassView). x.stop_looks) left.left in let was = ap (λ (x : PassView). x.stop_looks) (own_pass own old a p) in omega (arith, now, was)
+trapped_looked workers Piece old new (inl (spot, p)) = let now = ap (λ (x : PassView). x.stop_looks) (own_pass (Ran spot) old new p) in omega (arith, now)
+trapped_looked workers Piece old new (inr (own, spot, a, unrun, p, q)) = let now = ap (λ (x : PassView). x.stop_looks) (twice_refused (Ran spot) own old a new p q) in omega (arith, now)
 trapped_looked workers Launched old new (own, a, book, unrun, p, l, front) =
-    let more : a.pass.stop_looks ≤ new.pass.stop_looks = l.looks in let was = ap (λ (x : PassSeen). x.stop_looks) (own_pass own old a p) in omega (arith, more, was)
-trapped_looked workers Nothing old new (own, other, a, unrun, not, p, q) = let now = ap (λ (x : PassSeen). x.stop_looks) (twice_refused other own old a new p q) in omega (arith, now)
+    let more : a.pass.stop_looks ≤ new.pass.stop_looks = l.looks in let was = ap (λ (x : PassView). x.stop_looks) (own_pass own old a p) in omega (arith, more, was)
+trapped_looked workers Nothing old new (own, other, a, unrun, not, p, q) = let now = ap (λ (x : PassView). x.stop_looks) (twice_refused other own old a new p q) in omega (arith, now)
 
 -- the pass of a free worker after its own deque of nodes, and after that of pieces
 node_pass : (t : NodeAttempt) (old a : MeSeen) → IsOwnNode t (unstopped old) a → a.pass ≡ pass_after t (finding_none old.pass)
@@ -74,8 +75,8 @@ ran_events : (n : ℕ) (old mid new : MeSeen) → mid.pass ≡ pass_after (Claim
 ran_events n old mid new is c = (
   n,
   c.events.0,
-  c.claimed ∙ ap (λ (x : PassSeen). x.claimed) is,
-  c.events.1 ∙ ap (λ (x : PassSeen). x.events ++ c.events.0) is ∙ append_assoc old.pass.events (made.Claim n ∷ []) c.events.0,
+  c.claimed ∙ ap (λ (x : PassView). x.claimed) is,
+  c.events.1 ∙ ap (λ (x : PassView). x.events ++ c.events.0) is ∙ append_assoc old.pass.events (made.Claim n ∷ []) c.events.0,
 )
 
 -- the steal claimed no node
@@ -90,23 +91,23 @@ pub free_events : (answer : Did) (old new : MeSeen) → IsFreeTurn answer old ne
 free_events did.Ran old new (inl (n, a, p, c)) = ran_events n old a new (node_pass (Claimed n) old a p) c
 free_events did.Ran old new (inr (n, a, b, d, p, q, (deck, steal, same), c)) =
     ran_events n old d new (ap (λ (m : MeSeen). m.pass) same ∙ ap (pass_after (Claimed n)) (both_pass Empty old a b p q)) c
-free_events did.Piece old new (inl (spot, a, p, q)) = ap (λ (x : PassSeen). x.events) (both_pass (Ran spot) old a new p q)
+free_events did.Piece old new (inl (spot, a, p, q)) = ap (λ (x : PassView). x.events) (both_pass (Ran spot) old a new p q)
 free_events did.Piece old new (inr (spot, a, b, p, q, (deck, steal, same))) =
-    ap (λ (m : MeSeen). m.pass.events) same ∙ ap (λ (x : PassSeen). x.events) (both_pass Empty old a b p q)
-free_events did.Nothing old new (inl (n, p)) = ap (λ (x : PassSeen). x.events) (node_pass (Refused n) old new p)
-free_events did.Nothing old new (inr (inl (spot, a, p, q))) = ap (λ (x : PassSeen). x.events) (both_pass (Stale spot) old a new p q)
+    ap (λ (m : MeSeen). m.pass.events) same ∙ ap (λ (x : PassView). x.events) (both_pass Empty old a b p q)
+free_events did.Nothing old new (inl (n, p)) = ap (λ (x : PassView). x.events) (node_pass (Refused n) old new p)
+free_events did.Nothing old new (inr (inl (spot, a, p, q))) = ap (λ (x : PassView). x.events) (both_pass (Stale spot) old a new p q)
 free_events did.Nothing old new (inr (inr (other, a, b, unrun, p, q, o))) =
-    (nothing_stolen other b new unrun o).0 ∙ ap (λ (x : PassSeen). x.events) (both_pass Empty old a b p q)
+    (nothing_stolen other b new unrun o).0 ∙ ap (λ (x : PassView). x.events) (both_pass Empty old a b p q)
 
 pub free_looked : (answer : Did) (old new : MeSeen) → IsFreeTurn answer old new → old.pass.stop_looks < new.pass.stop_looks
 free_looked did.Ran old new (inl (n, a, p, c)) =
-    let was = ap (λ (x : PassSeen). x.stop_looks) (node_pass (Claimed n) old a p) in let more = c.looks in omega (arith, was, more)
+    let was = ap (λ (x : PassView). x.stop_looks) (node_pass (Claimed n) old a p) in let more = c.looks in omega (arith, was, more)
 free_looked did.Ran old new (inr (n, a, b, d, p, q, (deck, steal, same), c)) =
-    let was = ap (λ (m : MeSeen). m.pass.stop_looks) same ∙ ap (λ (x : PassSeen). x.stop_looks) (both_pass Empty old a b p q) in let more = c.looks in omega (arith, was, more)
-free_looked did.Piece old new (inl (spot, a, p, q)) = let was = ap (λ (x : PassSeen). x.stop_looks) (both_pass (Ran spot) old a new p q) in omega (arith, was)
+    let was = ap (λ (m : MeSeen). m.pass.stop_looks) same ∙ ap (λ (x : PassView). x.stop_looks) (both_pass Empty old a b p q) in let more = c.looks in omega (arith, was, more)
+free_looked did.Piece old new (inl (spot, a, p, q)) = let was = ap (λ (x : PassView). x.stop_looks) (both_pass (Ran spot) old a new p q) in omega (arith, was)
 free_looked did.Piece old new (inr (spot, a, b, p, q, (deck, steal, same))) =
-    let was = ap (λ (m : MeSeen). m.pass.stop_looks) same ∙ ap (λ (x : PassSeen). x.stop_looks) (both_pass Empty old a b p q) in omega (arith, was)
-free_looked did.Nothing old new (inl (n, p)) = let was = ap (λ (x : PassSeen). x.stop_looks) (node_pass (Refused n) old new p) in omega (arith, was)
-free_looked did.Nothing old new (inr (inl (spot, a, p, q))) = let was = ap (λ (x : PassSeen). x.stop_looks) (both_pass (Stale spot) old a new p q) in omega (arith, was)
+    let was = ap (λ (m : MeSeen). m.pass.stop_looks) same ∙ ap (λ (x : PassView). x.stop_looks) (both_pass Empty old a b p q) in omega (arith, was)
+free_looked did.Nothing old new (inl (n, p)) = let was = ap (λ (x : PassView). x.stop_looks) (node_pass (Refused n) old new p) in omega (arith, was)
+free_looked did.Nothing old new (inr (inl (spot, a, p, q))) = let was = ap (λ (x : PassView). x.stop_looks) (both_pass (Stale spot) old a new p q) in omega (arith, was)
 free_looked did.Nothing old new (inr (inr (other, a, b, unrun, p, q, o))) =
-    let was = (nothing_stolen other b new unrun o).1 ∙ ap (λ (x : PassSeen). x.stop_looks) (both_pass Empty old a b p q) in omega (arith, was)
+    let was = (nothing_stolen other b new unrun o).1 ∙ ap (λ (x : PassView). x.stop_looks) (both_pass Empty old a b p q) in omega (arith, was)

@@ -8,7 +8,8 @@ use Rattle.worker_turns.specs.declared.attempts.NodeAttempt.TheVariants.{Claimed
 use Rattle.worker_turns.specs.declared.attempts.StealAttempt.{StealAttempt}
 use Rattle.worker_turns.specs.declared.attempts.StealAttempt.TheVariants.{NoVictim, Node, Piece}
 use Rattle.worker_turns.specs.declared.free.Did.TheVariants as did
-use Rattle.worker_crew.specs.Passes.{PassSeen, finding_none}
+use Rattle.table_rule.specs.declared.view.PassView.{PassView}
+use Rattle.table_rule.specs.Passes.{finding_none}
 use Rattle.worker_crew.specs.Workers.{MeSeen}
 use Rattle.worker_turns.specs.Stops.{unstopped}
 use Rattle.worker_turns.specs.Pieces.{IsOwnPiece, IsSteal}
@@ -89,14 +90,14 @@ ran_other : (node : ℕ) (old mid new : MeSeen) → HasAllEnds old → IsOther (
 ran_other node old mid new ends (deck, steal, same) c =
     let took = took_one (next_worker old) node old.core mid.core (core_below old ends) steal in
     let pass = ap (λ (m : MeSeen). m.pass) same in
-    ran node old mid new (ap (λ (p : PassSeen). p.claims) pass) (ap (λ (p : PassSeen). p.claimed) pass) (ap (λ (p : PassSeen). p.refused_nodes) pass)
-    (ap (λ (p : PassSeen). p.opened) pass) (inr (sym (took.own ∙ append-nil _), took.took)) c
+    ran node old mid new (ap (λ (p : PassView). p.claims) pass) (ap (λ (p : PassView). p.claimed) pass) (ap (λ (p : PassView). p.refused_nodes) pass)
+    (ap (λ (p : PassView). p.opened) pass) (inr (sym (took.own ∙ append-nil _), took.took)) c
 
 pub ran_means : (old new : MeSeen) → HasAllEnds old → IsFreeTurn did.Ran old new → DidRun old new
 ran_means old new ends (inl (node, a, p, c)) =
     let pass = ap (λ (m : MeSeen). m.pass) p.same in
-    ran node old a new (ap (λ (q : PassSeen). q.claims) pass) (ap (λ (q : PassSeen). q.claimed) pass) (ap (λ (q : PassSeen). q.refused_nodes) pass)
-    (ap (λ (q : PassSeen). q.opened) pass) (inl (ap (λ (e : HeldEnds ℕ). e.own) p.pop, sym (ap (λ (e : HeldEnds ℕ). e.stolen) p.pop))) c
+    ran node old a new (ap (λ (q : PassView). q.claims) pass) (ap (λ (q : PassView). q.claimed) pass) (ap (λ (q : PassView). q.refused_nodes) pass)
+    (ap (λ (q : PassView). q.opened) pass) (inl (ap (λ (e : HeldEnds ℕ). e.own) p.pop, sym (ap (λ (e : HeldEnds ℕ). e.stolen) p.pop))) c
 ran_means old new ends (inr (node, a, b, d, p, q, o, c)) =
     ran_other node old d new ends (subst (λ (m : MeSeen). IsOther (Node (Claimed node)) m d) (is_none_own old a b p q) o) c
 

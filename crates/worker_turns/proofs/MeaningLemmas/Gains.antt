@@ -11,7 +11,7 @@ use Rattle.two_deques.specs.Hands.{held, workers_of, IsHandOf}
 use Rattle.two_deques.specs.Tries.{TriesView, try_of, after_try}
 use Rattle.piece_board.specs.declared.view.DeskView.{DeskView}
 use Rattle.launch_batch.specs.declared.piece.PieceIn.{PieceIn}
-use Rattle.worker_crew.specs.Passes.{PassSeen}
+use Rattle.table_rule.specs.declared.view.PassView.{PassView}
 use Rattle.worker_turns.specs.Pieces.{IsPop, IsSteal, by_deck, piece_try}
 use Rattle.worker_turns.specs.Meanings.Gains.{Took, HasAllEnds, FruitlessRose}
 
@@ -89,7 +89,7 @@ pub victim_below : (t : TriesView) → 0 < t.workers → (piece_try t).victim < 
 victim_below t some =
     below_by_deck (try_of t).deck (try_of (after_try t)) (try_of t) t.workers (try_below (after_try t) some) (try_below t some)
 
-pub has_all_ends : (decks : Decks) (hand : Hand) (pass : PassSeen) (desk : DeskView PieceIn) (tries : TriesView)
+pub has_all_ends : (decks : Decks) (hand : Hand) (pass : PassView) (desk : DeskView PieceIn) (tries : TriesView)
     → IsHandOf decks hand → tries.workers ≡ workers_of decks
     → HasAllEnds (record { pass = pass; core = (held hand).core; batch = (held hand).batch; desk = desk; tries = tries })
 has_all_ends decks hand pass desk tries is workers =

@@ -4,8 +4,8 @@ use Rattle.two_deques.specs.declared.spot.Spot.{Spot}
 use Rattle.two_deques.specs.Ends.{HeldEnds}
 use Rattle.core_model.specs.Words.{Entry}
 use Rattle.worker_turns.specs.declared.trapped.Trapped.TheVariants.{Launched}
-use Rattle.worker_crew.specs.Passes.{PassSeen}
-use Rattle.worker_crew.specs.Holds.{HoldSeen}
+use Rattle.table_rule.specs.declared.view.PassView.{PassView}
+use Rattle.table_rule.specs.declared.view.HoldView.{HoldView}
 use Rattle.worker_crew.specs.Workers.{MeSeen}
 use Rattle.worker_turns.specs.Pieces.{Desk, spot_of}
 use Rattle.worker_crew.specs.Words.{Event}
@@ -22,12 +22,12 @@ passed_none : (old new : Desk) → ExecutesPieces [] old new → PassedNone old 
 passed_none old new s = let c = s.collects in record { posts = s.posts ∙ append-nil _; collects = omega (arith, c); free = s.free }
 
 -- what a launch found, where the desk at the start is only known by its posts and collects
-abbrev LaunchFound : List (List Entry) → HoldSeen → Desk → Desk → Type 0
+abbrev LaunchFound : List (List Entry) → HoldView → Desk → Desk → Type 0
 LaunchFound book done old new =
     (FoundNone book done × PassedNone old new)
     ⊎ ((batch : List Entry) × (places : List ℕ) × Served book batch done × ArePlaces book done.taken places × Passed places old new)
 
-found_from : (book : List (List Entry)) (done : HoldSeen) (old mid new : Desk) → mid.posts ≡ old.posts → mid.collects ≡ old.collects
+found_from : (book : List (List Entry)) (done : HoldView) (old mid new : Desk) → mid.posts ≡ old.posts → mid.collects ≡ old.collects
     → LaunchFound book done mid new → LaunchFound book done old new
 found_from book done old mid new posts collects (inl (none, p)) =
     inl (none, record { posts = p.posts ∙ posts; collects = p.collects ∙ collects; free = p.free })
@@ -39,7 +39,7 @@ found_from book done old mid new posts collects (inr (batch, places, served, are
   record { posts = p.posts ∙ ap (λ l. l ++ places) posts; collects = p.collects ∙ ap (λ n. n + length places) collects; free = p.free },
 )
 
-found_of : (workers : ℕ) (book : List (List Entry)) (posted : List ℕ) (served : List Event) (done : HoldSeen) (old new : Desk) → ExecutesPieces posted old new → Collects workers book posted served done
+found_of : (workers : ℕ) (book : List (List Entry)) (posted : List ℕ) (served : List Event) (done : HoldView) (old new : Desk) → ExecutesPieces posted old new → Collects workers book posted served done
     → LaunchFound book done old new
 found_of workers book posted served done old new s g = elim g.batch [
   | inl (none, same, empty, quiet) ↦ inl (
@@ -64,11 +64,11 @@ found_of workers book posted served done old new s g = elim g.batch [
 pub launch_means : (workers : ℕ) (book : List (List Entry)) (old new : MeSeen) → Launches workers book old new → HasLaunched workers book old new
 launch_means workers book old new l = record {
   done = l.done;
-  last = ap (λ (p : PassSeen). p.last) l.released;
-  released = ap (λ (p : PassSeen). p.hold) l.released;
+  last = ap (λ (p : PassView). p.last) l.released;
+  released = ap (λ (p : PassView). p.hold) l.released;
   looks = l.gathers.looked;
   pending = l.gathers.found;
-  seen = ap (λ (p : PassSeen). p.book_seen) l.released;
+  seen = ap (λ (p : PassView). p.book_seen) l.released;
   found = found_of workers book l.posted l.served l.done old.desk new.desk l.desk l.gathers;
 }
 
@@ -76,9 +76,9 @@ did_launch : (workers : ℕ) (book : List (List Entry)) (lost : List Spot) (batc
 did_launch workers book lost batch old new l =
     let mid = won_after book (after_own lost batch old) in
     let h = launch_means workers book mid new l in record {
-      leaves = ap (λ (p : PassSeen). p.refused_leaves) l.released;
-      wins = ap (λ (p : PassSeen). p.wins) l.released;
-      refused_wins = ap (λ (p : PassSeen). p.refused_wins) l.released;
+      leaves = ap (λ (p : PassView). p.refused_leaves) l.released;
+      wins = ap (λ (p : PassView). p.wins) l.released;
+      refused_wins = ap (λ (p : PassView). p.refused_wins) l.released;
       book = book;
       launched = record {
         done = h.done;

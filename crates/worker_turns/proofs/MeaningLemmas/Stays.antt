@@ -13,8 +13,12 @@ use Rattle.worker_turns.specs.declared.trapped.Trapped.{Trapped}
 use Rattle.worker_turns.specs.declared.trapped.Trapped.TheVariants.{Left, Piece, Launched, Nothing}
 use Rattle.worker_turns.specs.declared.free.Did.{Did}
 use Rattle.worker_turns.specs.declared.free.Did.TheVariants as did
-use Rattle.worker_crew.specs.Holds.{HoldSeen}
-use Rattle.worker_crew.specs.Passes.{PassSeen, is_trapped, IsFront, IsTrapped, finding_none, leaving, losing, staying, winning}
+use Rattle.table_rule.specs.declared.view.HoldView.{HoldView}
+use Rattle.table_rule.specs.declared.slot.OpRecord.{OpRecord}
+use Rattle.table_rule.specs.declared.view.LeftCall.{LeftCall}
+use Rattle.table_rule.specs.declared.view.PassView.{PassView}
+use Rattle.table_rule.specs.Passes.{finding_none, leaving, losing, staying, winning}
+use Rattle.worker_crew.specs.Passes.{is_trapped, IsFront, IsTrapped}
 use Rattle.worker_crew.specs.Workers.{MeSeen}
 use Rattle.worker_turns.specs.Stops.{unstopped}
 use Rattle.worker_turns.specs.Pieces.{Desk, desk_after, NotRan, IsOwnPiece, IsOtherPiece}
@@ -28,7 +32,7 @@ use Rattle.worker_turns.proofs.MeaningLemmas.Trapped.{not_ran_desk}
 
 -- the pass after more tries to leave and to win, holds, looks at the stop word and events, and with more of the book
 -- seen; the rest is unchanged
-abbrev come_on : ℕ → ℕ → ℕ → ℕ → Option HoldSeen → List (List Entry) → List Event → PassSeen → PassSeen
+abbrev come_on : ℕ → ℕ → ℕ → ℕ → Option HoldView → List (List Entry) → List Event → PassView → PassView
 come_on leaves wins refused looks last book events p = record p {
   hold = None;
   last = last;
@@ -40,10 +44,10 @@ come_on leaves wins refused looks last book events p = record p {
   events = events;
 }
 
-came_on : (old new : PassSeen) (leaves wins refused looks : ℕ) (last : Option HoldSeen) (book : List (List Entry)) (events : List Event)
+came_on : (old new : PassView) (leaves wins refused looks : ℕ) (last : Option HoldView) (book : List (List Entry)) (events : List Event)
     → is_trapped old.call ≡ true → old.stop_looks ≤ looks → IsFront old.book_seen book → IsFront old.events events → new ≡ come_on leaves wins refused looks last book events old
     → IsStillTrapped old new
-came_on old new leaves wins refused looks last book events trapped more front grown is = subst (λ (p : PassSeen). IsStillTrapped old p) (sym is) (record {
+came_on old new leaves wins refused looks last book events trapped more front grown is = subst (λ (p : PassView). IsStillTrapped old p) (sym is) (record {
   trapped = (trapped, refl);
   same = record {
     job = record { worker = refl; task = refl; claims = refl; claimed = refl; refused = refl; opened = refl; found = refl; stops = refl };
@@ -62,7 +66,7 @@ came_on old new leaves wins refused looks last book events trapped more front gr
 })
 
 -- where the pass had no hold
-unheld : (p : PassSeen) → p.hold ≡ None → p ≡ record p { hold = None }
+unheld : (p : PassView) → p.hold ≡ None → p ≡ record p { hold = None }
 unheld p none = λ i. record p { hold = none i }
 
 pub own_pass : (t : PieceAttempt) (old a : MeSeen) → IsOwnPiece t (unstopped old) a → a.pass ≡ finding_none old.pass
@@ -81,21 +85,21 @@ other_desk t old new (inl alone) = ap (λ (m : MeSeen). m.desk) alone.2 ∙ ap (
 other_desk t old new (inr s) = ap (λ (m : MeSeen). m.desk) s.same
 
 -- what becomes of the call
-refused_twice : (old mid new : PassSeen) → IsTrapped old → mid ≡ finding_none old → new ≡ losing (staying mid) → IsStillTrapped old new
+refused_twice : (old mid new : PassView) → IsTrapped old → mid ≡ finding_none old → new ≡ losing (staying mid) → IsStillTrapped old new
 refused_twice old mid new trapped same is =
     came_on old new (old.refused_leaves + 1) old.wins (old.refused_wins + 1) (old.stop_looks + 1) old.last old.book_seen old.events trapped.0 (omega arith)
     (front_none old.book_seen old.book_seen refl) (front_none old.events old.events refl)
-    (is ∙ ap (λ (p : PassSeen). losing (staying p)) (same ∙ ap finding_none (unheld old trapped.1)))
+    (is ∙ ap (λ (p : PassView). losing (staying p)) (same ∙ ap finding_none (unheld old trapped.1)))
 
 -- the book of a hold that was launched begins with the book at its win
-launched_front : (workers : ℕ) (seen book : List (List Entry)) (posted : List ℕ) (served : List Event) (done : HoldSeen) → IsFront seen book → Collects workers book posted served done → IsFront seen done.book
+launched_front : (workers : ℕ) (seen book : List (List Entry)) (posted : List ℕ) (served : List Event) (done : HoldView) → IsFront seen book → Collects workers book posted served done → IsFront seen done.book
 launched_front workers seen book posted served done front g = elim g.batch [
   | inl none ↦ subst (λ l. IsFront seen l) (sym none.1) front
   | inr some ↦ (front.0 ++ some.0 ∷ [], some.1.published.book ∙ (ap (λ l. l ++ some.0 ∷ []) front.1 ∙ append_assoc seen front.0 (some.0 ∷ [])))
 ]
 
 -- a pass that won and launched, after this look at the stop word
-abbrev launched_from : List (List Entry) → HoldSeen → ℕ → List Event → PassSeen → PassSeen
+abbrev launched_from : List (List Entry) → HoldView → ℕ → List Event → PassView → PassView
 launched_from book done looks served p = record (winning book (staying p)) {
   hold = None;
   last = Some done;
@@ -104,31 +108,31 @@ launched_from book done looks served p = record (winning book (staying p)) {
   events = (winning book (staying p)).events ++ served;
 }
 
-launched_pass : (old mid new : PassSeen) (book : List (List Entry)) (done : HoldSeen) (looks : ℕ) (served : List Event) → is_trapped old.call ≡ true → IsFront mid.book_seen done.book → mid ≡ finding_none old
+launched_pass : (old mid new : PassView) (book : List (List Entry)) (done : HoldView) (looks : ℕ) (served : List Event) → is_trapped old.call ≡ true → IsFront mid.book_seen done.book → mid ≡ finding_none old
     → mid.stop_looks ≤ looks → new ≡ launched_from book done looks served mid → IsStillTrapped old new
 launched_pass old mid new book done looks served trapped front same more is =
     came_on old new (old.refused_leaves + 1) (old.wins + 1) old.refused_wins looks (Some done) done.book ((old.events ++ made.Win ∷ []) ++ served) trapped
-    (let was = ap (λ (p : PassSeen). p.stop_looks) same in omega (arith, more, was)) (subst (λ (p : PassSeen). IsFront p.book_seen done.book) same front)
+    (let was = ap (λ (p : PassView). p.stop_looks) same in omega (arith, more, was)) (subst (λ (p : PassView). IsFront p.book_seen done.book) same front)
     (made.Win ∷ served, append_assoc old.events (made.Win ∷ []) served) (is ∙ ap (launched_from book done looks served) same)
 
-answered : (receipt : Receipt) (old mid new : PassSeen) → IsTrapped old → mid ≡ finding_none old → new ≡ leaving receipt new.book_seen mid → IsAnswered receipt old new
-answered receipt old mid new trapped same is =
-    let now : new ≡ leaving receipt new.book_seen (finding_none old) = is ∙ ap (leaving receipt new.book_seen) same in
+answered : (call : OpRecord) (receipt : Receipt) (old mid new : PassView) → IsTrapped old → mid ≡ finding_none old → new ≡ leaving call receipt new.book_seen mid → IsAnswered receipt old new
+answered call receipt old mid new trapped same is =
+    let now : new ≡ leaving call receipt new.book_seen (finding_none old) = is ∙ ap (leaving call receipt new.book_seen) same in
     record {
-      free = (ap (λ (p : PassSeen). is_trapped p.call) now, ap (λ (p : PassSeen). p.hold) now ∙ trapped.1);
-      task = ap (λ (p : PassSeen). p.task) now;
-      got = ap (λ (p : PassSeen). p.call) now;
+      free = (ap (λ (p : PassView). is_trapped p.call) now, ap (λ (p : PassView). p.hold) now ∙ trapped.1);
+      task = ap (λ (p : PassView). p.task) now;
+      got = ap (λ (p : PassView). p.call) now;
       told = record {
-        greatest = ap (λ (p : PassSeen). p.greatest) now;
-        before = ap (λ (p : PassSeen). p.before) now;
-        after = ap (λ (p : PassSeen). p.after) now;
-        first = ap (λ (p : PassSeen). p.first_since) now;
+        greatest = ap (λ (p : PassView). p.greatest) now;
+        before = ap (λ (p : PassView). p.before) now;
+        after = ap (λ (p : PassView). p.after) now;
+        first = ap (λ (p : PassView). p.first_since) now;
       };
     }
 
 pub call_after : (workers : ℕ) (answer : Trapped) (old new : MeSeen) → IsTrapped old.pass → IsTrappedTurn workers answer old new → CallAfter answer old.pass new.pass
 call_after workers (Left receipt) old new trapped (own, a, unrun, p, left, same) =
-    answered receipt old.pass a.pass new.pass trapped (own_pass own old a p) left.left
+    answered left.call receipt old.pass a.pass new.pass trapped (own_pass own old a p) left.left
 call_after workers Piece old new trapped (inl (spot, p)) =
     came_on old.pass new.pass old.pass.refused_leaves old.pass.wins old.pass.refused_wins (old.pass.stop_looks + 1) old.pass.last old.pass.book_seen old.pass.events trapped.0 (omega arith)
     (front_none old.pass.book_seen old.pass.book_seen refl) (front_none old.pass.events old.pass.events refl) (own_pass (Ran spot) old new p ∙ ap finding_none (unheld old.pass trapped.1))
@@ -146,7 +150,7 @@ launched_call workers book old new trapped front l =
     (launched_front workers old.pass.book_seen book l.posted l.served l.done front l.gathers) (launch_events workers l.served, refl) l.released
 
 -- a pass whose call and hold have come on, and whose job has not
-abbrev turned : CallState → Option HoldSeen → Option HoldSeen → ℕ → ℕ → ℕ → ℕ → List Receipt → List (List Entry) → List Event → PassSeen → PassSeen
+abbrev turned : CallState → Option HoldView → Option HoldView → ℕ → ℕ → ℕ → ℕ → List LeftCall → List (List Entry) → List Event → PassView → PassView
 turned call hold last wins refused leaves looks left book events p = record p {
   call = call;
   hold = hold;
@@ -160,21 +164,21 @@ turned call hold last wins refused leaves looks left book events p = record p {
   events = events;
 }
 
-job_kept : (old new : PassSeen) (call : CallState) (hold last : Option HoldSeen) (wins refused leaves looks : ℕ) (left : List Receipt) (book : List (List Entry)) (events : List Event)
+job_kept : (old new : PassView) (call : CallState) (hold last : Option HoldView) (wins refused leaves looks : ℕ) (left : List LeftCall) (book : List (List Entry)) (events : List Event)
     → new ≡ turned call hold last wins refused leaves looks left book events old → IsJobSame old new
-job_kept old new call hold last wins refused leaves looks left book events is = subst (λ (p : PassSeen). IsJobSame old p) (sym is)
+job_kept old new call hold last wins refused leaves looks left book events is = subst (λ (p : PassView). IsJobSame old p) (sym is)
     (record { worker = refl; task = refl; claims = refl; claimed = refl; refused = refl; opened = refl; found = refl; stops = refl })
 
-refused_job : (old mid new : PassSeen) → mid ≡ finding_none old → new ≡ losing (staying mid) → IsJobSame old new
+refused_job : (old mid new : PassView) → mid ≡ finding_none old → new ≡ losing (staying mid) → IsJobSame old new
 refused_job old mid new same is =
     job_kept old new old.call old.hold old.last old.wins (old.refused_wins + 1) (old.refused_leaves + 1) (old.stop_looks + 1) old.left old.book_seen old.events
-    (is ∙ ap (λ (p : PassSeen). losing (staying p)) same)
+    (is ∙ ap (λ (p : PassView). losing (staying p)) same)
 
 pub turn_keeps : (workers : ℕ) (answer : Trapped) (old new : MeSeen) → IsTrappedTurn workers answer old new → KeepsNodes old new
 turn_keeps workers (Left receipt) old new (own, a, unrun, p, left, same) = record {
   core = ap (λ (m : MeSeen). m.core) same ∙ ap (λ (m : MeSeen). m.core) p.same;
   job = job_kept old.pass new.pass (Got receipt) old.pass.hold old.pass.last old.pass.wins old.pass.refused_wins old.pass.refused_leaves (old.pass.stop_looks + 1)
-      (old.pass.left ++ receipt ∷ []) new.pass.book_seen (old.pass.events ++ made.Leave receipt ∷ []) (left.left ∙ ap (leaving receipt new.pass.book_seen) (own_pass own old a p));
+      (old.pass.left ++ record { call = left.call; receipt = receipt } ∷ []) new.pass.book_seen (old.pass.events ++ made.Leave receipt ∷ []) (left.left ∙ ap (leaving left.call receipt new.pass.book_seen) (own_pass own old a p));
 }
 turn_keeps workers Piece old new (inl (spot, p)) = record {
   core = ap (λ (m : MeSeen). m.core) p.same;

@@ -7,7 +7,9 @@ use Rattle.worker_crew.specs.Words.{Receipt}
 use Rattle.worker_turns.specs.declared.attempts.PieceAttempt.{PieceAttempt}
 use Rattle.worker_turns.specs.declared.attempts.PieceAttempt.TheVariants.{Ran, Stale, Empty}
 use Rattle.worker_turns.specs.declared.trapped.Trapped.TheVariants.{Left, Piece, Nothing}
-use Rattle.worker_crew.specs.Passes.{PassSeen, finding_none, IsLeft}
+use Rattle.table_rule.specs.declared.view.PassView.{PassView}
+use Rattle.table_rule.specs.Passes.{finding_none}
+use Rattle.worker_crew.specs.Passes.{IsLeft}
 use Rattle.worker_crew.specs.Workers.{MeSeen}
 use Rattle.worker_turns.specs.Stops.{unstopped}
 use Rattle.worker_turns.specs.Pieces.{Desk, spot_of, desk_after, NotRan, IsPop, IsOwnPiece, IsOtherPiece}
@@ -106,7 +108,7 @@ did_nothing lost batch other old new ends p own unrun is =
       spots = both_gained _ lost _ old.batch batch new.batch p o.stole;
       dropped = grew_twice lost (listed (spot_of other)) old.desk.refused new.desk.refused (ap (λ (d : Desk). d.refused) (o.desk ∙ not_ran_desk other mid.desk unrun));
       own = gave_none_then lost old.batch batch new.batch o.stole.pops own;
-      refused = record { leaves = ap (λ (q : PassSeen). q.refused_leaves) o.pass; wins = ap (λ (q : PassSeen). q.refused_wins) o.pass };
+      refused = record { leaves = ap (λ (q : PassView). q.refused_leaves) o.pass; wins = ap (λ (q : PassView). q.refused_wins) o.pass };
       steal = steal_none_from _ lost batch old new p.fruitless (steal_gave_none other mid new unrun some each is);
     }
 
@@ -120,7 +122,7 @@ left_means workers receipt old new ends (own, a, unrun, p, left, same) =
     let batch : new.batch ≡ a.batch = ap (λ (m : MeSeen). m.batch) same in
     let pop : IsPop (spot_of own) old.batch new.batch = subst (λ (e : HeldEnds Spot). IsPop (spot_of own) old.batch e) (sym batch) p.pop in
     let lost = popped (spot_of own) old.batch new.batch pop in record {
-      left = subst (λ (q : PassSeen). IsLeft receipt q new.pass) (ap (λ (m : MeSeen). m.pass) p.same) left;
+      left = subst (λ (q : PassView). IsLeft receipt q new.pass) (ap (λ (m : MeSeen). m.pass) p.same) left;
       lost = listed (spot_of own);
       spots = record { own = lost.own; took = took_none _ old.batch new.batch lost.stolen };
       dropped = ap (λ (m : MeSeen). m.desk.refused) (same ∙ ap (λ (m : MeSeen). record m { pass = new.pass }) (own_none own old a unrun p));
@@ -147,7 +149,7 @@ stole_piece lost batch spot old new ends p own is =
       came = inr (
         refl,
         gave_none_then lost old.batch batch new.batch o.stole.pops own,
-        record { leaves = ap (λ (q : PassSeen). q.refused_leaves) o.pass; wins = ap (λ (q : PassSeen). q.refused_wins) o.pass },
+        record { leaves = ap (λ (q : PassView). q.refused_leaves) o.pass; wins = ap (λ (q : PassView). q.refused_wins) o.pass },
       );
     }
 

@@ -5,7 +5,7 @@ use Rattle.two_deques.specs.declared.tries.Deck.{Deck}
 use Rattle.two_deques.specs.declared.tries.Deck.TheVariants.{CoreDeck, BatchDeck}
 use Rattle.two_deques.specs.Ends.{HeldEnds}
 use Rattle.two_deques.specs.Tries.{try_of}
-use Rattle.worker_crew.specs.Passes.{PassSeen}
+use Rattle.table_rule.specs.declared.view.PassView.{PassView}
 use Rattle.worker_crew.specs.Workers.{MeSeen}
 use Rattle.worker_turns.specs.Meanings.Gains.{GrewBy, on_board, EmptyPopsRose, FruitlessRose, Took, Gained, GainedNone}
 
@@ -19,7 +19,7 @@ TryWasFruitless CoreDeck victim old new = FruitlessRose victim old.core new.core
 TryWasFruitless BatchDeck victim old new = FruitlessRose victim old.batch new.batch
 
 -- the worker claimed no node
-pub record ClaimedNone (old new : PassSeen) : Type 0 where
+pub record ClaimedNone (old new : PassView) : Type 0 where
   pub claims : new.claims ≡ old.claims
   pub claimed : new.claimed ≡ old.claimed
 

@@ -3,21 +3,22 @@ use Rattle.std.specs.Prelude.{ℕ, ◌≡◌, ◌+◌, ◌⊎◌, true, false, N
 use Rattle.batch_history.specs.Serving.{calls_in}
 use Rattle.launch_batch.specs.Calls.{AreSame, IsServiceOf}
 use Rattle.core_model.specs.Words.{Entry}
-use Rattle.worker_crew.specs.Holds.{HoldSeen, workers_in}
+use Rattle.table_rule.specs.declared.view.HoldView.{HoldView}
+use Rattle.worker_crew.specs.Holds.{workers_in}
 use Rattle.worker_turns.specs.Launches.{ArePlaces, AreFound}
 use Rattle.worker_turns.specs.Pieces.{Desk}
 use Rattle.worker_crew.specs.Workers.{MeSeen}
 use Rattle.worker_turns.specs.Meanings.Gains.{GrewBy}
 
 -- No call was taken, nothing was published, and the book is unchanged.
-pub record FoundNone (book : List (List Entry)) (done : HoldSeen) : Type 0 where
+pub record FoundNone (book : List (List Entry)) (done : HoldView) : Type 0 where
   pub none : done.taken ≡ []
   pub unpublished : done.published ≡ false
   pub unchanged : done.book ≡ book
 
 -- The calls taken, and no others, form the batch, which serves them after the book. It was published behind the book,
 -- and each of its calls was answered, in batch order.
-pub record Served (book : List (List Entry)) (batch : List Entry) (done : HoldSeen) : Type 0 where
+pub record Served (book : List (List Entry)) (batch : List Entry) (done : HoldView) : Type 0 where
   pub published : done.published ≡ true
   pub behind : GrewBy (batch ∷ []) book done.book
   pub exactly : AreSame done.taken (calls_in batch)
@@ -41,7 +42,7 @@ pub record PassedNone (old new : Desk) : Type 0 where
 -- Otherwise the calls found form one batch, whose pieces were posted at their places and collected. The book that the
 -- pass has seen is that of the hold, with this batch.
 pub record HasLaunched (workers : ℕ) (book : List (List Entry)) (old new : MeSeen) : Type 0 where
-  pub done : HoldSeen
+  pub done : HoldView
   pub last : new.pass.last ≡ Some done
   pub released : new.pass.hold ≡ None
   pub looks : done.looks ≡ workers

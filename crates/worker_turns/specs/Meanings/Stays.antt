@@ -3,13 +3,14 @@ use Rattle.std.specs.Prelude.{◌≡◌}
 use Rattle.worker_crew.specs.Words.{Receipt, Got}
 use Rattle.worker_turns.specs.declared.trapped.Trapped.{Trapped}
 use Rattle.worker_turns.specs.declared.trapped.Trapped.TheVariants.{Left, Piece, Launched, Nothing}
-use Rattle.worker_crew.specs.Passes.{PassSeen, IsFree, IsTrapped}
+use Rattle.table_rule.specs.declared.view.PassView.{PassView}
+use Rattle.worker_crew.specs.Passes.{IsFree, IsTrapped}
 use Rattle.worker_turns.specs.Pieces.{Desk}
 use Rattle.worker_crew.specs.Workers.{MeSeen}
 use Rattle.worker_turns.specs.Trapped.{IsJobSame, IsCallSame}
 
 -- the record of what `since` answered is unchanged
-pub record IsToldSame (old new : PassSeen) : Type 0 where
+pub record IsToldSame (old new : PassView) : Type 0 where
   pub greatest : new.greatest ≡ old.greatest
   pub before : new.before ≡ old.before
   pub after : new.after ≡ old.after
@@ -17,19 +18,19 @@ pub record IsToldSame (old new : PassSeen) : Type 0 where
 
 -- The call is still outstanding, and the worker does not have the flag. Its task, its call, its receipts and its record
 -- of what `since` answered are unchanged, and the book seen has only grown.
-pub record IsStillTrapped (old new : PassSeen) : Type 0 where
+pub record IsStillTrapped (old new : PassView) : Type 0 where
   pub trapped : IsTrapped new
   pub same : IsCallSame old new
 
 -- The worker is free, its call has this receipt, and its task and its record of what `since` answered are unchanged.
-pub record IsAnswered (receipt : Receipt) (old new : PassSeen) : Type 0 where
+pub record IsAnswered (receipt : Receipt) (old new : PassView) : Type 0 where
   pub free : IsFree new
   pub task : new.task ≡ old.task
   pub got : new.call ≡ Got receipt
   pub told : IsToldSame old new
 
 -- the state of the call after a trapped turn, by its answer
-abbrev pub CallAfter : Trapped → PassSeen → PassSeen → Type 0
+abbrev pub CallAfter : Trapped → PassView → PassView → Type 0
 CallAfter (Left receipt) old new = IsAnswered receipt old new
 CallAfter Piece old new = IsStillTrapped old new
 CallAfter Launched old new = IsStillTrapped old new

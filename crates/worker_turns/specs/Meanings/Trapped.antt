@@ -3,7 +3,9 @@ use Rattle.std.specs.Prelude.{◌≡◌, ◌+◌, ◌⊎◌, List, [], ◌∷◌
 use Rattle.two_deques.specs.declared.spot.Spot.{Spot}
 use Rattle.two_deques.specs.Ends.{HeldEnds}
 use Rattle.worker_crew.specs.Words.{Receipt}
-use Rattle.worker_crew.specs.Passes.{PassSeen, finding_none, IsLeft}
+use Rattle.table_rule.specs.declared.view.PassView.{PassView}
+use Rattle.table_rule.specs.Passes.{finding_none}
+use Rattle.worker_crew.specs.Passes.{IsLeft}
 use Rattle.worker_crew.specs.Workers.{MeSeen}
 use Rattle.worker_turns.specs.Meanings.Gains.{GrewBy, on_board, EmptyPopsRose, FruitlessRose, Gained, next_victim}
 
@@ -20,7 +22,7 @@ StealGaveNone taken old new =
     ⊎ ((spot : Spot) × (taken ≡ spot ∷ [])))
 
 -- one leave and one win were refused
-pub record RefusedBoth (old new : PassSeen) : Type 0 where
+pub record RefusedBoth (old new : PassView) : Type 0 where
   pub leaves : new.refused_leaves ≡ old.refused_leaves + 1
   pub wins : new.refused_wins ≡ old.refused_wins + 1
 

@@ -18,7 +18,7 @@ invariant-loop g l = record {
   job : IsJobSame (g.T.Table.seen l.fn.me.pass) (g.T.Table.seen l.me.pass);
   posted : (op : Op)
       × (g.T.Table.next_of l.crew.table (g.T.Table.seen l.fn.me.pass).task (g.T.Table.seen l.fn.me.pass).call ≡ Some (steps.Call l.fn.leaf op))
-      × ((g.T.Table.seen l.me.pass).posted ≡ Some (l.fn.leaf, op));
+      × ((g.T.Table.seen l.me.pass).posted ≡ Some (record { leaf = l.fn.leaf; op = op }));
   made : (node : ℕ) × (start : ℕ) × ((g.T.Table.seen l.fn.me.pass).task ≡ Started node start)
       × IsFront ((g.T.Table.seen l.fn.me.pass).events ++ Post node start ∷ []) (g.T.Table.seen l.me.pass).events;
   looks : (g.T.Table.seen l.fn.me.pass).stop_looks ≤ (g.T.Table.seen l.me.pass).stop_looks;

@@ -1,7 +1,7 @@
 use Rattle.std.proofs.Common.{rules, subst, inr}
 use Rattle.worker_turns.specs.declared.attempts.PieceAttempt.{PieceAttempt}
 use Rattle.worker_turns.specs.declared.attempts.NodeAttempt.TheVariants.{NoNode}
-use Rattle.worker_crew.specs.Passes.{PassSeen}
+use Rattle.table_rule.specs.declared.view.PassView.{PassView}
 use Rattle.worker_crew.specs.Workers.{me_seen}
 use Rattle.worker_turns.specs.Pieces.{IsOwnPiece}
 use Rattle.worker_turns.specs.Free.{IsOwnNode}
@@ -17,7 +17,7 @@ returns-in_ok-run_to_idle-in-Node-Claimed-clause-path g c =
       popped,
       tried,
       me_seen g.T.Table.seen c.steal_once.new.me,
-      subst (λ (p : PassSeen). IsOwnNode NoNode (record old { pass = p }) popped) (c.stopped.ensures.unset c.if-stopped.false) c.in-NoNode.ensures.path,
+      subst (λ (p : PassView). IsOwnNode NoNode (record old { pass = p }) popped) (c.stopped.ensures.unset c.if-stopped.false) c.in-NoNode.ensures.path,
       subst (λ (t : PieceAttempt). IsOwnPiece t popped tried) c.in-Empty.is c.in_ok-pop_own_piece.ensures.path,
       search rules,
       c.in_ok-run_to_idle-in-Node-Claimed.ensures.carried,

@@ -1,5 +1,5 @@
 use Rattle.std.proofs.Common.{rules, ℕ, ◌≡◌, ◌≢◌, [], length, ap, subst}
-use Rattle.worker_crew.specs.Passes.{PassSeen}
+use Rattle.table_rule.specs.declared.view.PassView.{PassView}
 use Rattle.worker_crew.specs.Workers.{me_seen}
 use Rattle.worker_turns.specs.Code.Serving.{HasLooked}
 use Rattle.worker_turns.proofs.LaunchLemmas.Launched.{taken_serve, none_launched, no_call, served_launched}
@@ -25,4 +25,4 @@ returns-then-is_empty-clause-launched g c =
     let mid = g.T.Table.seen c.collect_pending.new.pass in
     let is : HasLooked workers calls old.pass mid = subst (λ (n : ℕ). HasLooked n calls old.pass mid) c.requires.workers c.in_ok-calls.ensures.looked in
     let none : length calls ≡ 0 = search (rules, c.is_empty.ensures, c.if-is_empty.true) in
-    none_launched old _ mid workers calls c.args.shop c.requires.won is (no_call calls none) (ap (λ (p : PassSeen). record old { pass = p }) c.release.ensures.released) c.requires.free
+    none_launched old _ mid workers calls c.args.shop c.requires.won is (no_call calls none) (ap (λ (p : PassView). record old { pass = p }) c.release.ensures.released) c.requires.free

@@ -1,5 +1,7 @@
 use Rattle.std.proofs.Common.{rules, ◌≡◌, ap, ◌∙◌, subst}
-use Rattle.worker_crew.specs.Passes.{PassSeen, IsFront, losing, staying, winning}
+use Rattle.table_rule.specs.declared.view.PassView.{PassView}
+use Rattle.table_rule.specs.Passes.{losing, staying, winning}
+use Rattle.worker_crew.specs.Passes.{IsFront}
 use Rattle.worker_crew.specs.Workers.{MeSeen, me_seen}
 use Rattle.worker_turns.specs.Pieces.{IsOwnPiece, IsOtherPiece}
 use Rattle.worker_turns.specs.declared.trapped.Trapped.TheVariants.{Piece, Launched, Nothing}
@@ -15,9 +17,9 @@ pub returns : goal.returns
 returns g c =
     let old = me_seen g.T.Table.seen c.args.me.now in
     let tried = me_seen g.T.Table.seen c.pop_own_piece.new.me in
-    let own = subst (λ (p : PassSeen). IsOwnPiece c.in_ok-own.own (record old { pass = p }) tried) (c.stopped.ensures.unset c.if-stopped.false) c.in_ok-own.ensures.path in
+    let own = subst (λ (p : PassView). IsOwnPiece c.in_ok-own.own (record old { pass = p }) tried) (c.stopped.ensures.unset c.if-stopped.false) c.in_ok-own.ensures.path in
     let refused : g.T.Table.seen c.win.new.pass ≡ losing (staying (g.T.Table.seen c.pop_own_piece.new.me.pass)) = search rules in
-    let other = subst (λ (p : PassSeen). IsOtherPiece c.in_ok-other.other (record tried { pass = p }) (me_seen g.T.Table.seen c.steal_other_piece.new.me)) refused c.in_ok-other.ensures.path in
+    let other = subst (λ (p : PassView). IsOtherPiece c.in_ok-other.other (record tried { pass = p }) (me_seen g.T.Table.seen c.steal_other_piece.new.me)) refused c.in_ok-other.ensures.path in
     let path : IsTrappedTurn (g.T.Table.workers c.args.crew.now.table) Nothing old (me_seen g.T.Table.seen c.steal_other_piece.new.me) =
     (c.in_ok-own.own, c.in_ok-other.other, tried, search rules, search rules, own, other) in record {
       pass = search rules;
@@ -52,13 +54,13 @@ returns-in-Some g c =
     let old = me_seen g.T.Table.seen c.args.me.now in
     let tried = me_seen g.T.Table.seen c.pop_own_piece.new.me in
     let new = me_seen g.T.Table.seen c.launch.new.me in
-    let own = subst (λ (p : PassSeen). IsOwnPiece c.in_ok-own.own (record old { pass = p }) tried) (c.stopped.ensures.unset c.if-stopped.false) c.in_ok-own.ensures.path in
+    let own = subst (λ (p : PassView). IsOwnPiece c.in_ok-own.own (record old { pass = p }) tried) (c.stopped.ensures.unset c.if-stopped.false) c.in_ok-own.ensures.path in
     let shop = c.in-Some.shop in
     let stay : g.T.Table.seen c.leave.new.pass ≡ staying tried.pass = search rules in
     let won = c.in-Some.ensures.won in
     let now : g.T.Table.seen c.win.new.pass ≡ winning shop (staying tried.pass) = won.0 ∙ ap (winning shop) stay in
-    let launches : Launches workers shop (won_after shop tried) new = subst (λ (p : PassSeen). Launches workers shop (record tried { pass = p }) new) now c.in_ok-launch.ensures.launched in
-    let front : IsFront tried.pass.book_seen shop = subst (λ (p : PassSeen). IsFront p.book_seen shop) stay won.1 in
+    let launches : Launches workers shop (won_after shop tried) new = subst (λ (p : PassView). Launches workers shop (record tried { pass = p }) new) now c.in_ok-launch.ensures.launched in
+    let front : IsFront tried.pass.book_seen shop = subst (λ (p : PassView). IsFront p.book_seen shop) stay won.1 in
     let path : IsTrappedTurn workers Launched old new = (c.in_ok-own.own, tried, shop, search rules, own, launches, front) in record {
       pass = c.in_ok-launch.ensures.pass;
       me = c.in_ok-launch.ensures.me;

@@ -2,13 +2,14 @@
 ghost use Rattle.std.specs.Prelude.{◌≡◌, ◌<◌, ◌≤◌, ℕ, true, Some, IfOk, length, slice_index_or};
 ghost use Rattle.batch_history.specs.Lawful.{Lawful};
 ghost use Rattle.core_table.specs.declared.table.Pass.{Pass as PassOf};
-ghost use Rattle.core_table.specs.Passes.{planned_in, job_in, view, IsPassOf};
-ghost use Rattle.table_rule.specs.Views.{seeing_done, finding_none};
+ghost use Rattle.core_table.specs.Passes.{planned_in, job_in, view, pass_view, IsPassOf};
+ghost use Rattle.table_rule.specs.Passes.{finding_none};
+ghost use Rattle.table_rule.specs.Views.{with_found, seeing_done};
 ghost use Rattle.core_model.specs.Reports.{IsRunReport};
 ghost use Rattle.worker_crew.specs.declared.crew.Me.{Me as MeOf};
 ghost use Rattle.worker_crew.specs.Workers.{IsReady};
 ghost use Rattle.worker_crew.specs.Seats.{IsSeat};
-ghost use Rattle.worker_crew.specs.Opening.{seat_seen, AreAtStart};
+ghost use Rattle.worker_crew.specs.Opening.{AreAtStart};
 ghost use Rattle.worker_loop.specs.Ends.{HasEnded};
 
 use crate::start_barrier::wait_for_others;
@@ -44,7 +45,7 @@ trait SharedRun {
 
 impl<'a, G: Pause> SharedRun for Crew<'a, G> {
     ghost ready = { λ crew me. (crew.workers ≡ (job_in crew.table).workers)
-        × IsReady (IsSeat crew.table) seat_seen crew.decks crew.board me };
+        × IsReady (IsSeat crew.table) pass_view crew.decks crew.board me };
 
     ghost gave = { λ crew pass. IsPassOf crew.table pass };
 
@@ -92,7 +93,7 @@ fn work_as_crew<R: Threads + Wait + Sync, G: Pause + Sync>(
     mes: Vec<Me>,
 ) -> Result<Vec<Pass>, AllocError>
     requires workers { crew.now.workers ≡ (job_in crew.now.table).workers }
-    requires start { AreAtStart (IsSeat crew.now.table) seat_seen crew.now.decks crew.now.board
+    requires start { AreAtStart (IsSeat crew.now.table) pass_view crew.now.decks crew.now.board
         crew.now.workers crew.now.workers mes.items }
     ensures count { IfOk result (λ passes. length passes.items ≡ crew.now.workers) }
     ensures passes { IfOk result (λ passes. (w : ℕ) (pass : PassOf) → w < length passes.items
@@ -108,7 +109,7 @@ fn has_ended(table: &CoreTable, pass: &mut Pass) -> bool
     requires pass { IsPassOf table.now pass.old }
     ensures pass { IsPassOf table.now pass.new }
     ensures ended { result ≡ true → (seen : ℕ)
-        × (view pass.new ≡ seeing_done (finding_none (view pass.old) seen)) }
+        × (view pass.new ≡ seeing_done (with_found seen finding_none (view pass.old))) }
 {
     !table.stopped(pass) && table.root_done(pass)
 }

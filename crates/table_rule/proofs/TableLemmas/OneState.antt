@@ -143,7 +143,7 @@ same_hold job room t a b None (Some h) e f =
     let clash : 0 ≡ h.worker + 1 = rw (e, f) at word in absurd (omega (arith, clash))
 same_hold job room t a b (Some h) y e f =
     let m = both_mine job room t a b h.worker (flag_inside job a.state h a.parts e) in
-    told_hold job a.state b.state m.view.hold h.worker h e refl m.one.hold m.two.hold
+    told_hold job a.state b.state m.view.own.hold h.worker h e refl m.one.hold m.two.hold
 
 -- the worker and start of a leaf that has run fit their bits
 ran_low : (job : CoreJob) (laws : Laws job) (s : State) (n w t e : ℕ) → job.workers ≤ 32 → Parts job s → s.node n ≡ Ran w t e → (w < 32) × (t < 1048576)

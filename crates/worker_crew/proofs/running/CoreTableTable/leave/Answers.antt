@@ -1,4 +1,4 @@
-use Rattle.std.proofs.Common.{ap, subst, sym}
+use Rattle.std.proofs.Common.{◌≡◌, ap, subst, sym}
 use Rattle.core_model.specs.Entries.{StandsAt}
 use Rattle.core_table.specs.Passes.{view, pass_view}
 use Rattle.table_rule.specs.declared.view.PassView.{PassView}

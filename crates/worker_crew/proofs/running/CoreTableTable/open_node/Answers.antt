@@ -29,4 +29,4 @@ returns-clause-pass c =
 pub returns-clause-opened : goal.returns-clause-opened
 returns-clause-opened c =
     let o = c.open_node.ensures.opened in
-    (o.0, o.1, opened_seen _ _ c.open_node.result _ o.0 (own_of _ _ o.2))
+    (o.0, o.1, opened_seen (pass_view c.args.pass.now) (pass_view c.open_node.new.pass) c.open_node.result _ o.0 (own_of _ _ o.2))

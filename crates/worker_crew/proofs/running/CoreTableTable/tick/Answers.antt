@@ -28,4 +28,4 @@ returns-clause-pass c =
 pub returns-clause-ticked : goal.returns-clause-ticked
 returns-clause-ticked c =
     let drawn = c.tick.ensures.drawn in
-    (drawn.0, drawn.1, task_seen _ _ _ drawn.0 (own_of _ _ drawn.2))
+    (drawn.0, drawn.1, task_seen (pass_view c.args.pass.now) (pass_view c.tick.new.pass) _ drawn.0 (own_of _ _ drawn.2))

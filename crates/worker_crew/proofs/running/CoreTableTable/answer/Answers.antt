@@ -3,13 +3,10 @@ use Rattle.core_table.specs.Passes.{view, pass_view, job_in}
 use Rattle.table_rule.specs.Passes.{after_answer, answering}
 use Rattle.table_rule.specs.Views.{with_step}
 use Rattle.worker_crew.specs.Holds.{IsAnswerDue}
-use Rattle.worker_crew.proofs.SeatLemmas.Seats.{seat_by, held, looks_at, looks_kept, own_of}
+use Rattle.worker_crew.proofs.SeatLemmas.Seats.{seat_by, held, looks_at, looks_kept}
 use Rattle.table_rule.proofs.TableLemmas.Moved.{record_took}
 use Rattle.worker_crew.proofs.SeatLemmas.Serving.{answer_due}
 use Rattle.worker_crew.proofs.running.CoreTableTable.answer.Goals as goal
-
-pub answer-requires-clause-pass : goal.answer-requires-clause-pass
-answer-requires-clause-pass c = c.requires.pass.pass_of
 
 pub answer-requires-clause-low : goal.answer-requires-clause-low
 answer-requires-clause-low c =
@@ -30,6 +27,3 @@ pub returns-clause-pass : goal.returns-clause-pass
 returns-clause-pass c =
     seat_by c.args.self.now c.answer.new.pass (with_step (answering c.args.u c.args.receipt) (view c.args.pass.now)) c.answer.ensures.pass c.answer.ensures.answered
     (c.requires.pass.task, looks_kept (job_in c.args.self.now).workers (after_answer c.args.u) (pass_view c.args.pass.now).hold (λ h. refl) c.requires.pass.looks)
-
-pub returns-clause-answered : goal.returns-clause-answered
-returns-clause-answered c = own_of _ _ c.answer.ensures.answered

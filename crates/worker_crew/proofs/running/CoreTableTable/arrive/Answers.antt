@@ -11,7 +11,7 @@ use Rattle.table_rule.specs.Views.{with_step}
 use Rattle.core_model.specs.declared.task.Task.TheVariants.{Handed}
 use Rattle.worker_crew.specs.Passes.{HasArrived}
 use Rattle.worker_crew.specs.Seats.{IsSeat}
-use Rattle.worker_crew.proofs.SeatLemmas.Steps.{not_out, IsStepDue, step_due}
+use Rattle.worker_crew.proofs.SeatLemmas.Steps.{IsStepDue, step_due}
 use Rattle.worker_crew.proofs.SeatLemmas.Seats.{seat_by, own_of}
 use Rattle.worker_crew.proofs.running.CoreTableTable.arrive.Goals as goal
 
@@ -30,12 +30,6 @@ module _ (table : CoreTable) (old new : Pass) (P : ℕ → ℕ → Type 0) where
   seen : (b : Bool) → First b → Second b → HasArrived (job_in table).plan (pass_view old) (pass_view new)
   seen true first second = let s = second refl in (s.0, s.1, s.2, s.3, s.5, inr (own_of _ _ s.6))
   seen false first second = let s = first refl in (s.0, s.1, s.2, s.3, s.5, inl (own_of _ _ s.6))
-
-pub arrive-requires-clause-pass : goal.arrive-requires-clause-pass
-arrive-requires-clause-pass c = c.requires.pass.pass_of
-
-pub arrive-requires-clause-free : goal.arrive-requires-clause-free
-arrive-requires-clause-free c = not_out (pass_view c.args.pass.now).call c.requires.free.0
 
 pub arrive-requires-clause-due : goal.arrive-requires-clause-due
 arrive-requires-clause-due c =

@@ -5,18 +5,8 @@ use Rattle.table_rule.specs.declared.view.PassView.{PassView}
 use Rattle.table_rule.specs.Passes.{leaving, staying}
 use Rattle.table_rule.specs.Shows.{IsFront, entry_of}
 use Rattle.table_rule.specs.Views.{with_step, with_found}
-use Rattle.worker_crew.proofs.SeatLemmas.Steps.{is_out}
 use Rattle.worker_crew.proofs.SeatLemmas.Seats.{seat_by, seat_ok, fits_of, ok_so, err_so, own_of, due_by}
 use Rattle.worker_crew.proofs.running.CoreTableTable.leave.Goals as goal
-
-pub leave-requires-clause-pass : goal.leave-requires-clause-pass
-leave-requires-clause-pass c = c.requires.pass.pass_of
-
-pub leave-requires-clause-trapped : goal.leave-requires-clause-trapped
-leave-requires-clause-trapped c = is_out (pass_view c.args.pass.now).call c.requires.trapped.0
-
-pub leave-requires-clause-idle : goal.leave-requires-clause-idle
-leave-requires-clause-idle c = c.requires.trapped.1
 
 pub returns-clause-pass : goal.returns-clause-pass
 returns-clause-pass c =

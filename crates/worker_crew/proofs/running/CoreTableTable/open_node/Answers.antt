@@ -3,15 +3,9 @@ use Rattle.core_table.specs.Passes.{view, pass_view, job_in}
 use Rattle.table_rule.specs.DueTasks.{opened_task}
 use Rattle.table_rule.specs.Passes.{opening}
 use Rattle.table_rule.specs.Views.{with_step}
-use Rattle.worker_crew.proofs.SeatLemmas.Steps.{not_out, IsStepDue, step_due, opened_fits}
+use Rattle.worker_crew.proofs.SeatLemmas.Steps.{IsStepDue, step_due, opened_fits}
 use Rattle.worker_crew.proofs.SeatLemmas.Seats.{seat_by, own_of, opened_seen}
 use Rattle.worker_crew.proofs.running.CoreTableTable.open_node.Goals as goal
-
-pub open_node-requires-clause-pass : goal.open_node-requires-clause-pass
-open_node-requires-clause-pass c = c.requires.pass.pass_of
-
-pub open_node-requires-clause-free : goal.open_node-requires-clause-free
-open_node-requires-clause-free c = not_out (pass_view c.args.pass.now).call c.requires.free.0
 
 pub open_node-requires-clause-due : goal.open_node-requires-clause-due
 open_node-requires-clause-due c =

@@ -1,14 +1,10 @@
-use Rattle.std.proofs.Common.{ap, subst}
-use Rattle.table_rule.specs.declared.view.View.{View}
+use Rattle.std.proofs.Common.{subst}
 use Rattle.core_table.specs.Passes.{view, pass_view, job_in}
 use Rattle.table_rule.specs.CoreWords.{Post}
 use Rattle.table_rule.specs.Views.{with_post}
 use Rattle.worker_crew.proofs.SeatLemmas.Steps.{IsStepDue, step_due}
-use Rattle.worker_crew.proofs.SeatLemmas.Seats.{seat_by, fits_of, own_of}
+use Rattle.worker_crew.proofs.SeatLemmas.Seats.{seat_by, fits_of}
 use Rattle.worker_crew.proofs.running.CoreTableTable.post.Goals as goal
-
-pub post-requires-clause-pass : goal.post-requires-clause-pass
-post-requires-clause-pass c = c.requires.pass.pass_of
 
 pub post-requires-clause-free : goal.post-requires-clause-free
 post-requires-clause-free c =
@@ -27,9 +23,3 @@ returns-clause-pass c =
     let p = c.post.ensures.posted in
     seat_by c.args.self.now c.post.new.pass (with_post (record { leaf = c.args.leaf; op = c.args.op }) (Post p.0 p.1) (view c.args.pass.now)) c.post.ensures.pass p.3
     (fits_of c.args.self.now c.args.pass.now c.requires.pass)
-
-pub returns-clause-posted : goal.returns-clause-posted
-returns-clause-posted c = let p = c.post.ensures.posted in (p.0, p.1, p.2, own_of _ _ p.3)
-
-pub returns-clause-just_posted : goal.returns-clause-just_posted
-returns-clause-just_posted c = ap (λ (v : View). v.just_posted) c.post.ensures.posted.3

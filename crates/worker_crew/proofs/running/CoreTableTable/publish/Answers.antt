@@ -3,12 +3,9 @@ use Rattle.core_table.specs.Passes.{view, pass_view, job_in}
 use Rattle.table_rule.specs.Passes.{after_publish, publishing}
 use Rattle.table_rule.specs.Views.{with_step}
 use Rattle.worker_crew.specs.Holds.{IsPublishDue}
-use Rattle.worker_crew.proofs.SeatLemmas.Seats.{seat_by, held, looks_kept, own_of}
+use Rattle.worker_crew.proofs.SeatLemmas.Seats.{seat_by, held, looks_kept}
 use Rattle.worker_crew.proofs.SeatLemmas.Serving.{publish_due}
 use Rattle.worker_crew.proofs.running.CoreTableTable.publish.Goals as goal
-
-pub publish-requires-clause-pass : goal.publish-requires-clause-pass
-publish-requires-clause-pass c = c.requires.pass.pass_of
 
 pub publish-requires-clause-due : goal.publish-requires-clause-due
 publish-requires-clause-due c =
@@ -20,6 +17,3 @@ pub returns-clause-pass : goal.returns-clause-pass
 returns-clause-pass c =
     seat_by c.args.self.now c.publish.new.pass (with_step (publishing c.args.batch) (view c.args.pass.now)) c.publish.ensures.pass c.publish.ensures.published
     (c.requires.pass.task, looks_kept (job_in c.args.self.now).workers (after_publish c.args.batch) (pass_view c.args.pass.now).hold (λ h. refl) c.requires.pass.looks)
-
-pub returns-clause-published : goal.returns-clause-published
-returns-clause-published c = own_of _ _ c.publish.ensures.published

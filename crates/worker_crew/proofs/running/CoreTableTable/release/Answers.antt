@@ -2,12 +2,9 @@ use Rattle.core_table.specs.Passes.{view, pass_view, job_in}
 use Rattle.table_rule.specs.Passes.{releasing}
 use Rattle.table_rule.specs.Views.{with_step}
 use Rattle.worker_crew.specs.Holds.{IsReleaseDue}
-use Rattle.worker_crew.proofs.SeatLemmas.Seats.{seat_by, held, own_of}
+use Rattle.worker_crew.proofs.SeatLemmas.Seats.{seat_by, held}
 use Rattle.worker_crew.proofs.SeatLemmas.Serving.{release_due}
 use Rattle.worker_crew.proofs.running.CoreTableTable.release.Goals as goal
-
-pub release-requires-clause-pass : goal.release-requires-clause-pass
-release-requires-clause-pass c = c.requires.pass.pass_of
 
 pub release-requires-clause-due : goal.release-requires-clause-due
 release-requires-clause-due c =
@@ -18,6 +15,3 @@ release-requires-clause-due c =
 pub returns-clause-pass : goal.returns-clause-pass
 returns-clause-pass c =
     seat_by c.args.self.now c.release.new.pass (with_step releasing (view c.args.pass.now)) c.release.ensures.pass c.release.ensures.released (c.requires.pass.task, tt)
-
-pub returns-clause-released : goal.returns-clause-released
-returns-clause-released c = own_of _ _ c.release.ensures.released

@@ -1,4 +1,4 @@
-use Rattle.std.proofs.Common.{ap, ℕ, ◌%◌, ◌≢◌, Bool, true, false, ◌≡◌, refl}
+use Rattle.std.proofs.Common.{ℕ, ◌%◌, ◌≢◌, Bool, true, false, ◌≡◌, refl}
 use Rattle.std.specs.Prelude.{IsTrue, IsFalse}
 use Rattle.table_rule.specs.declared.view.View.{View}
 use Rattle.core_table.specs.Passes.{view}
@@ -10,9 +10,6 @@ seen : (new old : View) (b : Bool) → (IsTrue b → new ≡ views.seeing_done o
 seen new old true holds fails = own_of _ _ (holds refl)
 seen new old false holds fails = own_of _ _ (fails refl).2
 
-pub root_done-requires : goal.root_done-requires
-root_done-requires c = record { pass = c.requires.pass.pass_of }
-
 pub returns-clause-pass : goal.returns-clause-pass
 returns-clause-pass c =
     let old = view c.args.pass.now in
@@ -22,6 +19,3 @@ returns-clause-pass c =
 
 pub returns-clause-looked : goal.returns-clause-looked
 returns-clause-looked c = seen (view c.root_done.new.pass) (view c.args.pass.now) c.root_done.result c.root_done.ensures.done c.root_done.ensures.undone
-
-pub returns-clause-done : goal.returns-clause-done
-returns-clause-done c holds = ap (λ (v : View). v.saw_done) (c.root_done.ensures.done holds)

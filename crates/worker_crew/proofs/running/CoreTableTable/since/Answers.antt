@@ -6,9 +6,6 @@ use Rattle.table_rule.specs.Views.{with_since, told_first}
 use Rattle.worker_crew.proofs.SeatLemmas.Seats.{seat_by, fits_of, own_of}
 use Rattle.worker_crew.proofs.running.CoreTableTable.since.Goals as goal
 
-pub since-requires : goal.since-requires
-since-requires c = record { pass = c.requires.pass.pass_of }
-
 pub returns-clause-pass : goal.returns-clause-pass
 returns-clause-pass c =
     seat_by c.args.self.now c.since.new.pass (with_since c.since.result (view c.args.pass.now)) c.since.ensures.pass c.since.ensures.told

@@ -1,11 +1,8 @@
 use Rattle.core_table.specs.Passes.{view}
 use Rattle.table_rule.specs.Passes.{finding_stop, finding_none}
 use Rattle.table_rule.specs.Views.{with_step, with_found}
-use Rattle.worker_crew.proofs.SeatLemmas.Seats.{seat_found, fits_of, own_of}
+use Rattle.worker_crew.proofs.SeatLemmas.Seats.{seat_found, fits_of}
 use Rattle.worker_crew.proofs.running.CoreTableTable.stopped.Goals as goal
-
-pub stopped-requires : goal.stopped-requires
-stopped-requires c = record { pass = c.requires.pass.pass_of }
 
 pub returns-clause-pass : goal.returns-clause-pass
 returns-clause-pass c =
@@ -13,9 +10,3 @@ returns-clause-pass c =
     let fits = fits_of c.args.self.now c.args.pass.now c.requires.pass in
     seat_found c.args.self.now c.stopped.new.pass c.stopped.result (with_step finding_stop old) (λ word. with_found word finding_none old) _
     c.stopped.ensures.pass c.stopped.ensures.set c.stopped.ensures.unset fits (λ seen. fits)
-
-pub returns-clause-set : goal.returns-clause-set
-returns-clause-set c holds = own_of _ _ (c.stopped.ensures.set holds)
-
-pub returns-clause-unset : goal.returns-clause-unset
-returns-clause-unset c fails = own_of _ _ (c.stopped.ensures.unset fails).2

@@ -12,12 +12,6 @@ use Rattle.worker_crew.proofs.SeatLemmas.Fits.{take_fits, pass_fits}
 use Rattle.worker_crew.proofs.SeatLemmas.Room.{calls_few}
 use Rattle.worker_crew.proofs.running.CoreTableTable.take.Goals as goal
 
-pub take-requires-clause-pass : goal.take-requires-clause-pass
-take-requires-clause-pass c = c.requires.pass.pass_of
-
-pub take-requires-clause-low : goal.take-requires-clause-low
-take-requires-clause-low c = c.requires.below
-
 pub take-requires-clause-next : goal.take-requires-clause-next
 take-requires-clause-next c =
     let h = held (IsLooking c.args.u) (pass_view c.args.pass.now).hold c.requires.held.1 in
@@ -28,9 +22,6 @@ returns-in-Ok-clause-pass c =
     let call = call_by c.args.u c.in-Ok.call in
     seat_by c.args.self.now c.take.new.pass (with_step (taking call) (view c.args.pass.now)) c.take.ensures.pass c.in-Ok.ensures.took.3
     (c.requires.pass.task, looks_more (job_in c.args.self.now).workers c.args.u (after_take call) (pass_view c.args.pass.now).hold (λ h. refl) c.requires.held.1 c.requires.below)
-
-pub returns-in-Ok-clause-took : goal.returns-in-Ok-clause-took
-returns-in-Ok-clause-took c = (refl, own_of _ _ c.in-Ok.ensures.took.3)
 
 pub returns-in-Ok-clause-fit : goal.returns-in-Ok-clause-fit
 returns-in-Ok-clause-fit c =
@@ -49,9 +40,6 @@ pub returns-in-Err-clause-pass : goal.returns-in-Err-clause-pass
 returns-in-Err-clause-pass c =
     seat_by c.args.self.now c.take.new.pass (with_found c.in-Err.status (passing c.args.u c.in-Err.status) (view c.args.pass.now)) c.take.ensures.pass c.in-Err.ensures.passed.1
     (c.requires.pass.task, looks_more (job_in c.args.self.now).workers c.args.u (after_pass c.in-Err.status) (pass_view c.args.pass.now).hold (λ h. refl) c.requires.held.1 c.requires.below)
-
-pub returns-in-Err-clause-passed : goal.returns-in-Err-clause-passed
-returns-in-Err-clause-passed c = (c.in-Err.ensures.passed.0, own_of _ _ c.in-Err.ensures.passed.1)
 
 pub returns-in-Err-clause-fit : goal.returns-in-Err-clause-fit
 returns-in-Err-clause-fit c =

@@ -1,16 +1,10 @@
 use Rattle.core_table.specs.Passes.{view, pass_view, job_in}
 use Rattle.table_rule.specs.Passes.{with_task}
 use Rattle.table_rule.specs.Views.{with_step, ticked}
-use Rattle.worker_crew.proofs.SeatLemmas.Steps.{not_out, tick_by, step_due, ticked_fits}
+use Rattle.worker_crew.proofs.SeatLemmas.Steps.{tick_by, step_due, ticked_fits}
 use Rattle.worker_crew.proofs.SeatLemmas.Seats.{seat_by, own_of, task_seen}
 use Rattle.worker_crew.specs.NextSteps.{next_step}
 use Rattle.worker_crew.proofs.running.CoreTableTable.tick.Goals as goal
-
-pub tick-requires-clause-pass : goal.tick-requires-clause-pass
-tick-requires-clause-pass c = c.requires.pass.pass_of
-
-pub tick-requires-clause-free : goal.tick-requires-clause-free
-tick-requires-clause-free c = not_out (pass_view c.args.pass.now).call c.requires.free.0
 
 pub tick-requires-clause-due : goal.tick-requires-clause-due
 tick-requires-clause-due c =

@@ -1,16 +1,9 @@
 use Rattle.std.proofs.Common.{arith}
-use Rattle.core_table.specs.Passes.{view, pass_view}
+use Rattle.core_table.specs.Passes.{view}
 use Rattle.table_rule.specs.Passes.{winning, losing}
 use Rattle.table_rule.specs.Views.{with_step, with_found}
-use Rattle.worker_crew.proofs.SeatLemmas.Steps.{is_out}
 use Rattle.worker_crew.proofs.SeatLemmas.Seats.{seat_some, fits_of, some_so, none_so, own_of}
 use Rattle.worker_crew.proofs.running.CoreTableTable.win.Goals as goal
-
-pub win-requires-clause-pass : goal.win-requires-clause-pass
-win-requires-clause-pass c = c.requires.pass.pass_of
-
-pub win-requires-clause-trapped : goal.win-requires-clause-trapped
-win-requires-clause-trapped c = is_out (pass_view c.args.pass.now).call c.requires.trapped.0
 
 pub returns-clause-pass : goal.returns-clause-pass
 returns-clause-pass c =

@@ -3,5 +3,4 @@ pub mod Books
 pub mod Fits
 pub mod Serving
 pub mod Room
-pub mod Steps
 pub mod Seats

@@ -1,5 +1,5 @@
 -- A job has no more calls than leaves. And a worker that is not trapped has a next step, unless its task is idle.
-use Rattle.std.proofs.Common.{ℕ, ◌≡◌, ◌≢◌, ◌<◌, ◌≤◌, ◌+◌, Option, None, Some, refl, arith, ap}
+use Rattle.std.proofs.Common.{ℕ, ◌≡◌, ◌≢◌, ◌<◌, ◌≤◌, ◌+◌, true, false, Option, None, Some, refl, arith, ap}
 use Rattle.std.specs.Prelude.{IsNone}
 use Rattle.seq_objects.specs.declared.act.Act.{Act}
 use Rattle.seq_objects.specs.declared.act.Act.TheVariants as acts
@@ -18,6 +18,7 @@ use Rattle.core_model.specs.declared.task.Task.TheVariants.{Half, Started, Kept,
 use Rattle.table_rule.specs.DueTasks.{TaskHere}
 use Rattle.table_rule.proofs.ListLemmas.CallCounts.{one_at_most, total_next}
 use Rattle.worker_crew.specs.Words.{Task, Idle, Run, CallState, NotCalled, Out, Got}
+use Rattle.worker_crew.specs.Passes.{is_trapped}
 use Rattle.worker_crew.specs.NextSteps.{step_run, step_started, step_whole, next_step}
 use Rattle.worker_crew.specs.Seats.{TaskFits}
 
@@ -69,6 +70,10 @@ node_is plan tree is n low =
     let count = is.count in
     let at = stands_at plan tree 0 0 Root is.stands n (omega arith) (omega (arith, low, count)) in
     top_is plan at.tree n at.first (plan.after n) at.stands
+
+-- a call that is not out
+pub not_out : (call : CallState) → is_trapped call ≡ false → call ≢ Out
+not_out call free out = let e : is_trapped call ≡ true = ap is_trapped out in absurd (cc)
 
 run_none : (kind : Option Kind) → IsNone (step_run kind) → kind ≡ None
 run_none None none = refl

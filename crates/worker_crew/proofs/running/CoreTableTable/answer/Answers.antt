@@ -1,9 +1,7 @@
-use Rattle.std.proofs.Common.{refl, arith}
-use Rattle.core_table.specs.Passes.{view, pass_view, job_in}
-use Rattle.table_rule.specs.Passes.{after_answer, answering}
-use Rattle.table_rule.specs.Views.{with_step}
+use Rattle.std.proofs.Common.{arith}
+use Rattle.core_table.specs.Passes.{pass_view, job_in}
 use Rattle.worker_crew.specs.Holds.{IsAnswerDue}
-use Rattle.worker_crew.proofs.SeatLemmas.Seats.{seat_by, held, looks_at, looks_kept}
+use Rattle.worker_crew.proofs.SeatLemmas.Seats.{held, looks_at}
 use Rattle.table_rule.proofs.TableLemmas.Moved.{record_took}
 use Rattle.worker_crew.proofs.SeatLemmas.Serving.{answer_due}
 use Rattle.worker_crew.proofs.running.CoreTableTable.answer.Goals as goal
@@ -22,8 +20,3 @@ answer-requires-clause-due c =
     let h = held (IsAnswerDue c.args.u c.args.receipt) (pass_view c.args.pass.now).hold c.requires.held.1 in
     let due = answer_due h.0 c.args.u c.args.receipt h.2 in
     (h.0, due.0, h.1, due.1, due.2, due.3, due.4)
-
-pub returns-clause-pass : goal.returns-clause-pass
-returns-clause-pass c =
-    seat_by c.args.self.now c.answer.new.pass (with_step (answering c.args.u c.args.receipt) (view c.args.pass.now)) c.answer.ensures.pass c.answer.ensures.answered
-    (c.requires.pass.task, looks_kept (job_in c.args.self.now).workers (after_answer c.args.u) (pass_view c.args.pass.now).hold (λ h. refl) c.requires.pass.looks)

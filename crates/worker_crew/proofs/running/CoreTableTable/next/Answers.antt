@@ -1,16 +1,11 @@
-use Rattle.std.proofs.Common.{◌∙◌, sym, subst, ap}
+use Rattle.std.proofs.Common.{◌∙◌, subst, ap}
 use Rattle.std.specs.Prelude.{IsNone}
 use Rattle.sp_order.specs.Jobs.{job_tree}
 use Rattle.core_model.specs.declared.task.Task.{Task}
 use Rattle.core_table.specs.Passes.{pass_view, job_in, planned_in}
-use Rattle.table_rule.specs.DueTasks.{TaskHere}
-use Rattle.worker_crew.proofs.SeatLemmas.Steps.{not_out}
 use Rattle.worker_crew.specs.NextSteps.{next_step}
-use Rattle.worker_crew.proofs.SeatLemmas.Room.{idle_by}
+use Rattle.worker_crew.proofs.SeatLemmas.Room.{idle_by, not_out}
 use Rattle.worker_crew.proofs.running.CoreTableTable.next.Goals as goal
-
-pub next_step-requires : goal.next_step-requires
-next_step-requires c = subst (TaskHere (job_in c.args.self.now)) (sym c.task.ensures) c.requires.pass.pass_of.5
 
 pub returns-clause-next : goal.returns-clause-next
 returns-clause-next c =

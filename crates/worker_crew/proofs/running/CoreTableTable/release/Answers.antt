@@ -1,8 +1,6 @@
-use Rattle.core_table.specs.Passes.{view, pass_view, job_in}
-use Rattle.table_rule.specs.Passes.{releasing}
-use Rattle.table_rule.specs.Views.{with_step}
+use Rattle.core_table.specs.Passes.{pass_view, job_in}
 use Rattle.worker_crew.specs.Holds.{IsReleaseDue}
-use Rattle.worker_crew.proofs.SeatLemmas.Seats.{seat_by, held}
+use Rattle.worker_crew.proofs.SeatLemmas.Seats.{held}
 use Rattle.worker_crew.proofs.SeatLemmas.Serving.{release_due}
 use Rattle.worker_crew.proofs.running.CoreTableTable.release.Goals as goal
 
@@ -11,7 +9,3 @@ release-requires-clause-due c =
     let workers = (job_in c.args.self.now).workers in
     let h = held (IsReleaseDue workers c.args.shop) (pass_view c.args.pass.now).hold c.requires.held.1 in
     (h.0, h.1, release_due workers h.0 c.args.shop h.2, h.2.book)
-
-pub returns-clause-pass : goal.returns-clause-pass
-returns-clause-pass c =
-    seat_by c.args.self.now c.release.new.pass (with_step releasing (view c.args.pass.now)) c.release.ensures.pass c.release.ensures.released (c.requires.pass.task, tt)

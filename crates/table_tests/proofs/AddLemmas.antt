@@ -19,9 +19,10 @@ use Rattle.core_model.specs.declared.task.Task.{Task}
 use Rattle.core_model.specs.declared.task.Task.TheVariants.{Run, Half, Started, Kept, Ended, Whole}
 use Rattle.core_model.specs.Events.{value_in, task_after}
 use Rattle.core_model.specs.State.{CoreJob}
-use Rattle.table_rule.specs.declared.view.View.{View}
+use Rattle.table_rule.specs.declared.view.PassView.{PassView}
 use Rattle.table_rule.specs.CoreWords.{Event}
-use Rattle.table_rule.specs.Views.{with_event, keeping, with_task, ticked}
+use Rattle.table_rule.specs.Passes.{keeping, with_task}
+use Rattle.table_rule.specs.Views.{ticked}
 use Rattle.core_model.specs.Operations.{op_in, leaf_of}
 use Rattle.std.specs.Prelude.{slice_index_or}
 use Rattle.core_table.specs.declared.table.CoreTable.{CoreTable}
@@ -104,10 +105,10 @@ after_leaf : (n : ℕ) → 0 < n → task_after n ≡ Whole n
 after_leaf n some = let apart : n ≢ 0 = λ e. absurd (omega (arith, some, e)) in grind (arith, nat_tests)
 
 -- a leaf that is kept, ended and finished
-pub whole_leaf : (job : CoreJob) (n start m s tick k : ℕ) (e₁ e₂ e₃ : Event) (v v₁ v₂ v₃ : View) → 0 < n → v.task ≡ Started n start → v.task ≡ Started m s
-    → v₁ ≡ with_event (keeping v m s) e₁ → v₂ ≡ with_event (with_task v₁ (ticked v₁.task tick)) e₂ → IsFinished job v₂.task k → v₃ ≡ with_event (with_task v₂ (task_after k)) e₃ → v₃.task ≡ Whole n
-whole_leaf job n start m s tick k e₁ e₂ e₃ v v₁ v₂ v₃ some is is' kept ended fin done =
-    let a : v₁.task ≡ Kept n start = ap (λ (x : View). x.task) kept ∙ same_kept m s n start (sym is' ∙ is) in
-    let b : v₂.task ≡ Ended n start tick = ap (λ (x : View). x.task) ended ∙ ap (λ (x : Task). ticked x tick) a in
+pub whole_leaf : (job : CoreJob) (n start m s x tick k : ℕ) (e₂ e₃ : Event) (v v₁ v₂ v₃ : PassView) → 0 < n → v.task ≡ Started n start → v.task ≡ Started m s
+    → v₁ ≡ keeping m s x v → v₂ ≡ with_task e₂ (ticked v₁.task tick) v₁ → IsFinished job v₂.task k → v₃ ≡ with_task e₃ (task_after k) v₂ → v₃.task ≡ Whole n
+whole_leaf job n start m s x tick k e₂ e₃ v v₁ v₂ v₃ some is is' kept ended fin done =
+    let a : v₁.task ≡ Kept n start = ap (λ (p : PassView). p.task) kept ∙ same_kept m s n start (sym is' ∙ is) in
+    let b : v₂.task ≡ Ended n start tick = ap (λ (p : PassView). p.task) ended ∙ ap (λ (x : Task). ticked x tick) a in
     let c : k ≡ n = subst (λ (x : Task). IsFinished job x k) b fin in
-    ap (λ (x : View). x.task) done ∙ ap task_after c ∙ after_leaf n some
+    ap (λ (p : PassView). p.task) done ∙ ap task_after c ∙ after_leaf n some

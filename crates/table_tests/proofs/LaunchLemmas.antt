@@ -1,4 +1,1 @@
-pub mod Lists
-pub mod Taking
-pub mod Answering
 pub mod Flags

@@ -8,7 +8,7 @@ use Rattle.core_model.specs.declared.task.Task.TheVariants.{Started}
 use Rattle.core_model.specs.declared.status.CallState.{CallState}
 use Rattle.core_table.specs.declared.table.CoreTable.{CoreTable}
 use Rattle.core_table.specs.declared.table.Pass.{Pass}
-use Rattle.core_table.specs.Passes.{IsPassOf, planned_in, job_in, view}
+use Rattle.core_table.specs.Passes.{IsPassOf, planned_in, job_in, pass_view}
 
 -- the table is for `par { counter add 1 counter add 2 }`, and for two workers
 pub record IsTwoAdds (table : CoreTable) : Type 0 where
@@ -19,9 +19,9 @@ pub record IsTwoAdds (table : CoreTable) : Type 0 where
 -- the pass is one of the table, its task and its call are these, and it has not the flag
 pub record IsAt (table : CoreTable) (due : Task) (state : CallState) (pass : Pass) : Type 0 where
   pub own : IsPassOf table pass
-  pub task : (view pass).task ≡ due
-  pub call : (view pass).call ≡ state
-  pub hold : (view pass).hold ≡ None
+  pub task : (pass_view pass).task ≡ due
+  pub call : (pass_view pass).call ≡ state
+  pub hold : (pass_view pass).hold ≡ None
 
 -- it has started the leaf of this node, and its call is this
 abbrev pub HasStarted : CoreTable → ℕ → CallState → Pass → Type 0

@@ -6,7 +6,7 @@ use Rattle.core_table.specs.Passes.{IsPassOf, opening_view, view}
 
 -- the pass is one of the table, and has done nothing
 abbrev pub IsUnused : CoreTable → Pass → Type 0
-IsUnused table pass = IsPassOf table pass × (view pass ≡ opening_view table (view pass).from)
+IsUnused table pass = IsPassOf table pass × (view pass ≡ opening_view table (view pass).own.worker)
 
 abbrev pub AreUnused : CoreTable → List Pass → Type 0
 AreUnused table passes = (w : ℕ) → IfSome (slice_get passes w) (IsUnused table)

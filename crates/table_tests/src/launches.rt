@@ -10,7 +10,6 @@ ghost use Rattle.table_tests.specs.Launches.{HasFlag, Answers};
 
 use batch_history::{Batch, Entry};
 use core_model::Receipt;
-use core_model::laws::book::entries_are_found_at_their_places;
 use core_table::{CoreTable, Pass};
 use launch_batch::{PieceIn, PieceOut, Shop, run_piece};
 use seq_objects::Call;
@@ -55,7 +54,7 @@ pub(crate) fn win(table: &CoreTable, pass: &mut Pass, node: u32) -> Option<Shop>
 }
 
 /// Looks at worker u, and gives the status that it found: 1 where the call is pending. Then it is taken, and joins the
-/// calls at their front.
+/// calls.
 pub(crate) fn look(
     table: &CoreTable,
     pass: &mut Pass,
@@ -79,7 +78,7 @@ pub(crate) fn look(
                 leaf: call.leaf,
                 op: call.op,
             };
-            calls.insert(0, call)?;
+            calls.push(call)?;
             Ok(1)
         }
         Err(seen) => Ok(seen),
@@ -100,7 +99,6 @@ fn answer_all(
     ensures answered { (before : List (List EntryOf)) × (before ++ batch.now ∷ [] ≡ shop.now)
         × Answers table.now node before batch.now (length batch.now) pass.new }
 {
-    entries_are_found_at_their_places();
     let (_, _) = (node, shop);
     for place in 0..batch.len() {
         let entry = batch[place];

@@ -1,29 +1,37 @@
 -- What a pass that has the flag has in hand after each of its calls.
-use Rattle.std.proofs.Common.{ℕ, ◌≡◌, ◌<◌, ◌≤◌, ◌+◌, true, false, Some, List, [], ◌∷◌, ◌++◌, length, get_or, arith, sym, ap, ◌∙◌, subst}
+use Rattle.std.proofs.Common.{ℕ, zero, suc, ◌≡◌, ◌≢◌, ◌<◌, ◌≤◌, ◌+◌, true, false, Some, List, [], ◌∷◌, ◌++◌, length, map, get_or, take, arith, refl, sym, ap, ◌∙◌, subst, inr}
+use Rattle.std.specs.List.{AllByRecursion}
+use Rattle.std.proofs.lemmas.List.{take_all, length-map}
+use Rattle.std.proofs.lemmas.Option.{slice_get-get_or}
 use Rattle.sp_order.specs.Jobs.{tree_or_leaf}
 use Rattle.sp_order.specs.Precedence.{Tree}
 use Rattle.sp_order.specs.Preorder.{nodes_of}
 use Rattle.seq_objects.specs.declared.call.Call.{Call}
 use Rattle.batch_history.specs.declared.batch.Entry.{Entry}
 use Rattle.core_model.specs.Measure.{call_count}
+use Rattle.core_model.specs.Operations.{place_of, IsReceipt}
+use Rattle.core_model.specs.declared.status.Receipt.{Receipt}
 use Rattle.launch_batch.specs.Calls.{MayServe, IsServiceOf}
+use Rattle.launch_batch.proofs.ListLemmas.Among.{each_among}
 use Rattle.table_rule.specs.declared.slot.OpRecord.{OpRecord}
-use Rattle.core_table.specs.declared.table.CoreTable.{CoreTable}
-use Rattle.core_table.specs.declared.table.Pass.{Pass}
 use Rattle.table_rule.specs.declared.view.HoldView.{HoldView}
 use Rattle.table_rule.specs.declared.view.View.{View}
-use Rattle.core_model.specs.Operations.{place_in, place_of, or_else, IsReceipt}
-use Rattle.table_rule.specs.Shows.{record_in, among}
-use Rattle.table_rule.specs.Batches.{call_of, IsPublishDue, IsReleaseDue}
-use Rattle.core_table.specs.Passes.{IsPassOf, job_in, view}
+use Rattle.table_rule.specs.Batches.{IsPublishDue, IsReleaseDue}
+use Rattle.table_rule.specs.Passes.{call_by, in_hold, after_take, after_pass, after_publish, after_answer, taking, passing, publishing, answering}
 use Rattle.table_rule.specs.Plays.{IsNewCall}
-use Rattle.table_rule.specs.CoreWords.{Event}
-use Rattle.table_rule.specs.Views.{with_event, with_hold, taken_view, passing, passed_view, published_view, answered_view}
+use Rattle.table_rule.specs.Shows.{record_in, among}
+use Rattle.table_rule.specs.Views.{with_step, with_found}
 use Rattle.table_rule.proofs.ListLemmas.CallCounts.{room_few}
+use Rattle.table_rule.proofs.TableLemmas.Moved.{record_took}
+use Rattle.core_table.specs.declared.table.CoreTable.{CoreTable}
+use Rattle.core_table.specs.declared.table.Pass.{Pass}
+use Rattle.core_table.specs.Passes.{IsPassOf, job_in, view, pass_view}
+use Rattle.worker_crew.specs.Holds.{workers_in, IsAnswerDue}
+use Rattle.worker_crew.proofs.SeatLemmas.Fits.{fit_taken, fit_passed}
+use Rattle.worker_crew.proofs.SeatLemmas.Serving as serving
+use Rattle.worker_crew.proofs.SeatLemmas.Taken.{took_taken}
 use Rattle.table_tests.specs.Adds.{IsTwoAdds}
-use Rattle.table_tests.specs.Launches.{HasFlag, Answers, HasTaken}
-use Rattle.table_tests.proofs.LaunchLemmas.Taking.{taken_more, taken_same, may_serve}
-use Rattle.table_tests.proofs.LaunchLemmas.Answering.{publish_due, answered_none, next_low, next_taken, next_due, next_receipt, next_answered, release_due}
+use Rattle.table_tests.specs.Launches.{HasFlag, Answers}
 
 same_hold : (a b : HoldView) → Some a ≡ Some b → a ≡ b
 same_hold a b e = cc
@@ -35,103 +43,177 @@ few_calls t two =
     let three : (job_in t).plan.count ≡ 3 = ap (λ (tree : Tree). (nodes_of tree).count) (ap tree_or_leaf two.shape) in
     omega (arith, some, three)
 
-module _ (t : CoreTable) (node n : ℕ) (before : List (List Entry)) (calls : List Call) (p q : Pass) (f : HasFlag t node before n calls p) (own : IsPassOf t q) where
-  -- a look that takes a call
-  pub flag_took : (call : OpRecord) (items : List Call) (e : Event) → IsTwoAdds t
-      → (h : HoldView) → (view p).hold ≡ Some h → IsNewCall (call_count (job_in t)) h call → view q ≡ with_event (with_hold (view p) (taken_view h n call)) e
-      → items ≡ record { worker = n; leaf = call.leaf; op = call.op } ∷ calls → HasFlag t node before (n + 1) items q
-  flag_took call items e two h held new now put =
-      let same : h ≡ f.h = same_hold h f.h (sym held ∙ f.hold) in
-      record {
-        own = own;
-        start = f.start;
-        task = ap (λ (v : View). v.task) now ∙ f.task;
-        call = ap (λ (v : View). v.call) now ∙ f.call;
-        h = taken_view f.h n call;
-        hold = ap (λ (v : View). v.hold) now ∙ ap (λ (x : HoldView). Some (taken_view x n call)) same;
-        book = f.book;
-        taken = subst (λ (l : List Call). HasTaken (n + 1) l (taken_view f.h n call)) (sym put)
-            (taken_more (call_count (job_in t)) n calls f.h call (few_calls t two) f.taken (subst (λ (x : HoldView). IsNewCall (call_count (job_in t)) x call) same new));
-      }
+not_none : (calls : List Call) → 0 < length calls → calls ≢ []
+not_none [] some e = absurd (omega (arith, some))
+not_none (c ∷ calls) some e = absurd (cc)
 
-  -- a look that takes none
-  pub flag_passed : (seen : ℕ) (e : Event) → (h : HoldView) → (view p).hold ≡ Some h → view q ≡ with_event (passing (view p) h seen) e → HasFlag t node before (n + 1) calls q
-  flag_passed seen e h held now =
-      let same : h ≡ f.h = same_hold h f.h (sym held ∙ f.hold) in
-      record {
-        own = own;
-        start = f.start;
-        task = ap (λ (v : View). v.task) now ∙ f.task;
-        call = ap (λ (v : View). v.call) now ∙ f.call;
-        h = passed_view f.h seen;
-        hold = ap (λ (v : View). v.hold) now ∙ ap (λ (x : HoldView). Some (passed_view x seen)) same;
-        book = f.book;
-        taken = taken_same n calls f.h seen f.taken;
-      }
+module _ (t : CoreTable) (node n : ℕ) (before : List (List Entry)) (calls : List Call) (p : Pass) (f : HasFlag t node before n calls p) where
+  -- the calls that were taken can be served
+  pub flag_serves : 0 < length calls → MayServe before calls
+  flag_serves some =
+      let may = f.taken.fit.serve (λ e. not_none calls some (sym f.taken.taken ∙ e)) in
+      subst (λ b. MayServe b calls) f.book (subst (MayServe f.h.book) f.taken.taken may)
 
-  -- a publish
-  pub flag_published : (batch : List Entry) (e : Event) → 0 < length calls → IsServiceOf before calls batch → n ≡ (job_in t).workers
-      → (h : HoldView) → (view p).hold ≡ Some h → view q ≡ with_event (with_hold (view p) (published_view h batch)) e → Answers t node before batch 0 q
-  flag_published batch e some s size h held now =
-      let same : h ≡ f.h = same_hold h f.h (sym held ∙ f.hold) in
-      let s' : IsServiceOf f.h.book calls batch = subst (λ (b : List (List Entry)). IsServiceOf b calls batch) (sym f.book) s in
-      let a = answered_none n calls f.h batch f.taken some s' in
-      record {
-        own = own;
-        start = f.start;
-        task = ap (λ (v : View). v.task) now ∙ f.task;
-        call = ap (λ (v : View). v.call) now ∙ f.call;
-        h = published_view f.h batch;
-        hold = ap (λ (v : View). v.hold) now ∙ ap (λ (x : HoldView). Some (published_view x batch)) same;
-        answered = rw (sym size, sym f.book) a;
-      }
+  serves : (batch : List Entry) → IsServiceOf before calls batch → IsServiceOf f.h.book f.h.taken batch
+  serves batch s = subst (λ l. IsServiceOf f.h.book l batch) (sym f.taken.taken) (subst (λ b. IsServiceOf b calls batch) (sym f.book) s)
 
-pub flag_serves : (t : CoreTable) (node : ℕ) (before : List (List Entry)) (calls : List Call) (p : Pass) → HasFlag t node before 2 calls p → 0 < length calls → MayServe before calls
-flag_serves t node before calls p f some = may_serve 2 calls f.h before f.taken f.book (omega arith) some
+  pub flag_due : (batch : List Entry) → 0 < length calls → IsServiceOf before calls batch → n ≡ (job_in t).workers
+      → (h : HoldView) × ((pass_view p).hold ≡ Some h) × IsPublishDue (job_in t).workers h batch
+  flag_due batch some s size = (
+    f.h,
+    f.hold,
+    serving.publish_due (job_in t).workers f.h batch (record {
+      looked = f.taken.looks ∙ size;
+      early = f.taken.early;
+      may = f.taken.fit.serve (λ e. not_none calls some (sym f.taken.taken ∙ e));
+      service = serves batch s;
+    }),
+  )
 
-pub flag_due : (t : CoreTable) (node n : ℕ) (before : List (List Entry)) (calls : List Call) (batch : List Entry) (p : Pass) → HasFlag t node before n calls p → 0 < length calls
-    → IsServiceOf before calls batch → n ≡ (job_in t).workers → (h : HoldView) × ((view p).hold ≡ Some h) × IsPublishDue (job_in t).workers h batch
-flag_due t node n before calls batch p f some s size =
-    let s' : IsServiceOf f.h.book calls batch = subst (λ (b : List (List Entry)). IsServiceOf b calls batch) (sym f.book) s in
-    (f.h, f.hold, subst (λ m. IsPublishDue m f.h batch) size (publish_due n calls f.h batch f.taken some s'))
+  module _ (q : Pass) (own : IsPassOf t q) where
+    -- a look that takes a call
+    pub flag_took : (call : OpRecord) (items : List Call) → IsTwoAdds t → n < 2
+        → (h : HoldView) → (pass_view p).hold ≡ Some h → IsNewCall (call_count (job_in t)) h call → view q ≡ with_step (taking (call_by n call)) (view p)
+        → items ≡ calls ++ call_by n call ∷ [] → HasFlag t node before (n + 1) items q
+    flag_took call items two low h held new now put =
+        let g = after_take (call_by n call) in
+        let same : h ≡ f.h = same_hold h f.h (sym held ∙ f.hold) in
+        record {
+          own = own;
+          start = f.start;
+          task = ap (λ (v : View). v.own.task) now ∙ f.task;
+          call = ap (λ (v : View). v.own.call) now ∙ f.call;
+          h = g f.h;
+          hold = ap (λ (v : View). v.own.hold) now ∙ ap (in_hold g) f.hold;
+          book = f.book;
+          taken = record {
+            looks = ap (λ k. k + 1) f.taken.looks;
+            taken = ap (λ l. l ++ call_by n call ∷ []) f.taken.taken ∙ sym put;
+            fit = fit_taken f.h n (call_count (job_in t)) call (subst (λ (x : HoldView). IsNewCall (call_count (job_in t)) x call) same new) (few_calls t two) (sym f.taken.looks) (omega (arith, low)) f.taken.fit;
+            early = f.taken.early;
+            none = f.taken.none;
+          };
+        }
 
--- an answer
-pub answer_due : (t : CoreTable) (node : ℕ) (before : List (List Entry)) (batch : List Entry) (i number : ℕ) (d : Entry) (p : Pass) → Answers t node before batch i p → i < length batch
-    → ((book : List (List Entry)) (more : List Entry) (leaf : ℕ) → place_of (book ++ more ∷ []) leaf ≡ or_else (place_of book leaf) (place_in (length book) 0 more leaf))
-    → length before ≡ number
-    → (h : HoldView) × (call : OpRecord) × ((view p).hold ≡ Some h) × (h.published ≡ true) × (record_in h.taken (get_or batch i d).worker ≡ Some call)
-    × (among h.answered (get_or batch i d).worker ≡ false) × IsReceipt (place_of h.book call.leaf) (record { batch = number; place = i; reply = (get_or batch i d).reply })
-answer_due t node before batch i number d p a low longer is =
-    let size = (job_in t).workers in (
-      a.h,
-      call_of (get_or batch i d),
-      a.hold,
-      a.answered.published,
-      next_taken size before batch i d a.h a.answered low,
-      next_due size before batch i d a.h a.answered low,
-      subst (λ (n : ℕ). IsReceipt (place_of a.h.book (get_or batch i d).leaf) (record { batch = n; place = i; reply = (get_or batch i d).reply })) is
-          (next_receipt size before batch i d a.h a.answered low longer),
-    )
-
-pub answer_low : (t : CoreTable) (node : ℕ) (before : List (List Entry)) (batch : List Entry) (i : ℕ) (d : Entry) (p : Pass) → Answers t node before batch i p → i < length batch
-    → (get_or batch i d).worker < (job_in t).workers
-answer_low t node before batch i d p a low = next_low (job_in t).workers before batch i d a.h a.answered low
-
-pub one_answered : (t : CoreTable) (node : ℕ) (before : List (List Entry)) (batch : List Entry) (i : ℕ) (d : Entry) (e : Event) (p q : Pass) (a : Answers t node before batch i p) → IsPassOf t q
-    → i < length batch → (h : HoldView) → (view p).hold ≡ Some h → view q ≡ with_event (with_hold (view p) (answered_view h (get_or batch i d).worker)) e → Answers t node before batch (i + 1) q
-one_answered t node before batch i d e p q a own low h held now =
-    let same : h ≡ a.h = same_hold h a.h (sym held ∙ a.hold) in
-    let w = (get_or batch i d).worker in
-    record {
+    -- a look that takes none
+    pub flag_passed : (seen : ℕ) → view q ≡ with_found seen (passing n seen) (view p) → HasFlag t node before (n + 1) calls q
+    flag_passed seen now = record {
       own = own;
-      start = a.start;
-      task = ap (λ (v : View). v.task) now ∙ a.task;
-      call = ap (λ (v : View). v.call) now ∙ a.call;
-      h = answered_view a.h w;
-      hold = ap (λ (v : View). v.hold) now ∙ ap (λ (x : HoldView). Some (answered_view x w)) same;
-      answered = next_answered (job_in t).workers before batch i d a.h a.answered low;
+      start = f.start;
+      task = ap (λ (v : View). v.own.task) now ∙ f.task;
+      call = ap (λ (v : View). v.own.call) now ∙ f.call;
+      h = after_pass seen f.h;
+      hold = ap (λ (v : View). v.own.hold) now ∙ ap (in_hold (after_pass seen)) f.hold;
+      book = f.book;
+      taken = record {
+        looks = ap (λ k. k + 1) f.taken.looks;
+        taken = f.taken.taken;
+        fit = fit_passed f.h seen f.taken.fit;
+        early = f.taken.early;
+        none = f.taken.none;
+      };
     }
 
+    -- a publish
+    pub flag_published : (batch : List Entry) → 0 < length calls → IsServiceOf before calls batch → n ≡ (job_in t).workers
+        → view q ≡ with_step (publishing batch) (view p) → Answers t node before batch 0 q
+    flag_published batch some s size now = record {
+      own = own;
+      start = f.start;
+      task = ap (λ (v : View). v.own.task) now ∙ f.task;
+      call = ap (λ (v : View). v.own.call) now ∙ f.call;
+      h = after_publish batch f.h;
+      hold = ap (λ (v : View). v.own.hold) now ∙ ap (in_hold (after_publish batch)) f.hold;
+      answered = record {
+        looks = f.taken.looks ∙ size;
+        below = subst (λ k. AllByRecursion (λ (c : Call). c.worker < k) f.h.taken) (f.taken.looks ∙ size) f.taken.fit.below;
+        published = record {
+          published = refl;
+          book = ap (λ b. b ++ batch ∷ []) f.book;
+          may = subst (MayServe before) (sym f.taken.taken) (flag_serves some);
+          service = subst (λ l. IsServiceOf before l batch) (sym f.taken.taken) s;
+        };
+        answered = f.taken.none;
+      };
+    }
+
+-- the workers of one more entry
+workers_more : (batch : List Entry) (i : ℕ) (d : Entry) → i < length batch → take i (workers_in batch) ++ (get_or batch i d).worker ∷ [] ≡ take (i + 1) (workers_in batch)
+workers_more [] i d low = absurd (omega (arith, low))
+workers_more (e ∷ batch) zero d low = refl
+workers_more (e ∷ batch) (suc i) d low =
+    let next : suc (i + 1) ≡ suc i + 1 = omega arith in
+    ap (λ l. e.worker ∷ l) (workers_more batch i d (omega (arith, low))) ∙ ap (λ k. take k (workers_in (e ∷ batch))) next
+
+module _ (t : CoreTable) (node : ℕ) (before : List (List Entry)) (batch : List Entry) (i : ℕ) (d : Entry) (p : Pass) (a : Answers t node before batch i p) where
+  -- what an answer needs of the hold
+  abbrev Due : ℕ → Type 0
+  Due number = (call : OpRecord) × (a.h.published ≡ true) × (record_in a.h.taken (get_or batch i d).worker ≡ Some call)
+      × (among a.h.answered (get_or batch i d).worker ≡ false) × IsReceipt (place_of a.h.book call.leaf) (record { batch = number; place = i; reply = (get_or batch i d).reply })
+
+  due_now : (number : ℕ) → i < length batch → length before ≡ number → Due number
+  due_now number low is =
+      let entry = get_or batch i d in
+      let receipt : Receipt = record { batch = number; place = i; reply = entry.reply } in
+      let due : IsAnswerDue entry.worker receipt a.h = record {
+        before = before;
+        batch = batch;
+        published = a.answered.published;
+        number = sym is;
+        answered = a.answered.answered;
+        entry = entry;
+        there = slice_get-get_or batch i d low;
+        worker = refl;
+        reply = refl;
+      } in serving.answer_due a.h entry.worker receipt due
+
+  -- an answer
+  pub answer_due : (number : ℕ) → i < length batch → length before ≡ number
+      → (h : HoldView) × (call : OpRecord) × ((pass_view p).hold ≡ Some h) × (h.published ≡ true) × (record_in h.taken (get_or batch i d).worker ≡ Some call)
+      × (among h.answered (get_or batch i d).worker ≡ false) × IsReceipt (place_of h.book call.leaf) (record { batch = number; place = i; reply = (get_or batch i d).reply })
+  answer_due number low is = let r = due_now number low is in (a.h, r.0, a.hold, r.1, r.2, r.3, r.4)
+
+  pub answer_low : i < length batch → (get_or batch i d).worker < (job_in t).workers
+  answer_low low =
+      let r = due_now (length before) low refl in
+      let found = took_taken a.h.taken (get_or batch i d).worker (record_took a.h.taken (get_or batch i d).worker r.0 r.2) in
+      subst (λ u. u < (job_in t).workers) found.2 (each_among (λ (c : Call). c.worker < (job_in t).workers) a.h.taken found.0 a.answered.below found.1)
+
+  pub one_answered : (receipt : Receipt) (q : Pass) → IsPassOf t q → i < length batch → view q ≡ with_step (answering (get_or batch i d).worker receipt) (view p)
+      → Answers t node before batch (i + 1) q
+  one_answered receipt q own low now =
+      let w = (get_or batch i d).worker in
+      record {
+        own = own;
+        start = a.start;
+        task = ap (λ (v : View). v.own.task) now ∙ a.task;
+        call = ap (λ (v : View). v.own.call) now ∙ a.call;
+        h = after_answer w a.h;
+        hold = ap (λ (v : View). v.own.hold) now ∙ ap (in_hold (after_answer w)) a.hold;
+        answered = record {
+          looks = a.answered.looks;
+          below = a.answered.below;
+          published = record {
+            published = a.answered.published.published;
+            book = a.answered.published.book;
+            may = a.answered.published.may;
+            service = a.answered.published.service;
+          };
+          answered = ap (λ l. l ++ w ∷ []) a.answered.answered ∙ workers_more batch i d low;
+        };
+      }
+
 pub all_answered : (t : CoreTable) (node : ℕ) (before : List (List Entry)) (batch : List Entry) (p : Pass) → Answers t node before batch (length batch) p
-    → (h : HoldView) × ((view p).hold ≡ Some h) × IsReleaseDue (job_in t).workers h × (before ++ batch ∷ [] ≡ h.book)
-all_answered t node before batch p a = (a.h, a.hold, release_due (job_in t).workers before batch a.h a.answered, sym a.answered.book)
+    → (h : HoldView) × ((pass_view p).hold ≡ Some h) × IsReleaseDue (job_in t).workers h × (before ++ batch ∷ [] ≡ h.book)
+all_answered t node before batch p a =
+    let long = length-map batch (λ (e : Entry). e.worker) in
+    let all = a.answered.answered ∙ take_all (length batch) (workers_in batch) (omega (arith, long)) in (
+      a.h,
+      a.hold,
+      serving.release_due (job_in t).workers a.h a.h.book (record {
+        looked = a.answered.looks;
+        book = refl;
+        done = inr (before, batch, record { published = a.answered.published; answered = all });
+      }),
+      sym a.answered.published.book,
+    )

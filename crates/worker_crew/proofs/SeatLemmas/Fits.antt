@@ -59,7 +59,7 @@ module _ (h : HoldView) (u room : ℕ) (call : OpRecord) where
       each_so (λ (c : Call). Among c h.taken) (λ (c : Call). c.leaf ≢ call.leaf)
       (λ c there. new.apart c.worker (record_of c) (record_taken h.taken c distinct there)) h.taken (all_among h.taken)
 
-  fit_taken : IsNewCall room h call → room ≤ 20000 → u ≡ h.looks → u < 32 → AreFit h → AreFit (after_take (call_by u call) h)
+  pub fit_taken : IsNewCall room h call → room ≤ 20000 → u ≡ h.looks → u < 32 → AreFit h → AreFit (after_take (call_by u call) h)
   fit_taken new few is low fit =
       let old = servable h.book h.taken fit.serve in
       let mine = call_by u call in
@@ -72,7 +72,7 @@ module _ (h : HoldView) (u room : ℕ) (call : OpRecord) where
             (apart_from new old.workers) (new_leaf h.book call.leaf new.unbooked) (omega (arith, fits, few));
       }
 
-fit_passed : (h : HoldView) (status : ℕ) → AreFit h → AreFit (after_pass status h)
+pub fit_passed : (h : HoldView) (status : ℕ) → AreFit h → AreFit (after_pass status h)
 fit_passed h status fit = record {
   below = each_so (λ (c : Call). c.worker < h.looks) (λ (c : Call). c.worker < h.looks + 1) (λ c below. omega (arith, below)) h.taken fit.below;
   serve = fit.serve;

@@ -12,8 +12,8 @@ returns c =
     record {
       half = record {
         own = c.open_node.ensures.pass;
-        task = ap (λ (v : View). v.task) now ∙ half_opened c.args.table.now _ c.requires.two c.requires.run.task;
-        call = ap (λ (v : View). v.call) now ∙ c.requires.run.call;
-        hold = ap (λ (v : View). v.hold) now ∙ c.requires.run.hold;
+        task = ap (λ (v : View). v.own.task) now ∙ half_opened c.args.table.now _ c.requires.two c.requires.run.task;
+        call = ap (λ (v : View). v.own.call) now ∙ c.requires.run.call;
+        hold = ap (λ (v : View). v.own.hold) now ∙ c.requires.run.hold;
       };
     }

@@ -5,18 +5,17 @@ use Rattle.table_tests.proofs.LaunchLemmas.Flags.{flag_serves, flag_due, flag_pu
 use Rattle.table_tests.proofs.launches.end_launch.Goals as goal
 
 pub serve_calls-requires : goal.serve_calls-requires
-serve_calls-requires c = flag_serves c.args.table.now c.args.node c.args.shop c.args.calls.items c.args.pass.now c.requires.flag c.requires.some
+serve_calls-requires c = flag_serves c.args.table.now c.args.node 2 c.args.shop c.args.calls.items c.args.pass.now c.requires.flag c.requires.some
 
 pub publish-requires-clause-due : goal.publish-requires-clause-due
 publish-requires-clause-due c =
-    flag_due c.args.table.now c.args.node 2 c.args.shop c.args.calls.items c.in_ok-shop.batch c.args.pass.now c.requires.flag c.requires.some c.in_ok-shop.ensures.batch
+    flag_due c.args.table.now c.args.node 2 c.args.shop c.args.calls.items c.args.pass.now c.requires.flag c.in_ok-shop.batch c.requires.some c.in_ok-shop.ensures.batch
     (sym c.requires.two.workers)
 
 pub answer_all-requires : goal.answer_all-requires
 answer_all-requires c =
     let t = c.args.table.now in
     let batch = c.in_ok-shop.batch in
-    let now = c.publish.ensures.published in
     let all : c.as_slice.result.now ≡ batch =
     c.as_slice.ensures.value ∙ (c.in_ok-extend_from_slice.ensures.items ∙ (ap (λ (l : List Entry). l ++ c.entries.result.now) c.new-entries.ensures.items ∙ c.entries.ensures)) in
     let number = sym (ap (λ (l : List (List Entry)). length l) (c.batches-number.ensures.batches ∙ c.history.ensures)) in
@@ -26,8 +25,8 @@ answer_all-requires c =
         ap (λ (l : List Entry). c.args.shop ++ l ∷ []) all ∙ sym c.in_ok-shop.ensures.shop,
         number,
         subst (λ (l : List Entry). Answers t c.args.node c.args.shop l 0 c.publish.new.pass) (sym all)
-            (flag_published t c.args.node 2 c.args.shop c.args.calls.items c.args.pass.now c.publish.new.pass c.requires.flag c.publish.ensures.pass batch _ c.requires.some
-            c.in_ok-shop.ensures.batch (sym c.requires.two.workers) now.0 now.1 now.2),
+            (flag_published t c.args.node 2 c.args.shop c.args.calls.items c.args.pass.now c.requires.flag c.publish.new.pass c.publish.ensures.pass batch c.requires.some
+            c.in_ok-shop.ensures.batch (sym c.requires.two.workers) c.publish.ensures.published),
       );
     }
 

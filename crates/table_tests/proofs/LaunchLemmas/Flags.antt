@@ -12,7 +12,9 @@ use Rattle.core_model.specs.Measure.{call_count}
 use Rattle.core_model.specs.Operations.{place_of, IsReceipt}
 use Rattle.core_model.specs.declared.status.Receipt.{Receipt}
 use Rattle.launch_batch.specs.Calls.{MayServe, IsServiceOf}
+use Rattle.batch_history.specs.Serving.{call_in, calls_in}
 use Rattle.launch_batch.proofs.ListLemmas.Among.{each_among}
+use Rattle.launch_batch.proofs.ListLemmas.Same.{length_same}
 use Rattle.table_rule.specs.declared.slot.OpRecord.{OpRecord}
 use Rattle.table_rule.specs.declared.view.HoldView.{HoldView}
 use Rattle.table_rule.specs.declared.view.View.{View}
@@ -144,6 +146,14 @@ workers_more (e ∷ batch) zero d low = refl
 workers_more (e ∷ batch) (suc i) d low =
     let next : suc (i + 1) ≡ suc i + 1 = omega arith in
     ap (λ l. e.worker ∷ l) (workers_more batch i d (omega (arith, low))) ∙ ap (λ k. take k (workers_in (e ∷ batch))) next
+
+-- a batch has not many entries
+pub answers_few : (t : CoreTable) (node : ℕ) (before : List (List Entry)) (batch : List Entry) (i : ℕ) (p : Pass) → Answers t node before batch i p → length batch ≤ 20000
+answers_few t node before batch i p a =
+    let s = a.answered.published in
+    let many = sym (length-map batch call_in) ∙ length_same a.h.taken (calls_in batch) s.service.same in
+    let most = s.may.most in
+    omega (arith, many, most)
 
 module _ (t : CoreTable) (node : ℕ) (before : List (List Entry)) (batch : List Entry) (i : ℕ) (d : Entry) (p : Pass) (a : Answers t node before batch i p) where
   -- what an answer needs of the hold

@@ -1,4 +1,5 @@
-use Rattle.table_tests.proofs.LaunchLemmas.Flags.{answer_due, answer_low, one_answered}
+use Rattle.std.proofs.Common.{arith}
+use Rattle.table_tests.proofs.LaunchLemmas.Flags.{answers_few, answer_due, answer_low, one_answered}
 use Rattle.table_tests.proofs.launches.answer_all.Goals as goal
 
 pub answer-requires-clause-low : goal.answer-requires-clause-low
@@ -20,3 +21,10 @@ loop-place-preserved c =
       one_answered c.args.table.now c.args.node i.0 c.args.batch.now c.loop-place.place _ c.loop-place.pass i.3 _ c.answer.new.pass c.answer.ensures.pass
           c.loop-place-test.true c.answer.ensures.answered,
     )
+
+pub overflow_cast-receipt : goal.overflow_cast-receipt
+overflow_cast-receipt c =
+    let i = c.loop-place.invariant in
+    let d = c.args.batch.now in
+    let few = answers_few c.args.table.now c.args.node i.0 d c.loop-place.place c.loop-place.pass i.3 in
+    omega (arith, few, c.loop-place-test.true)

@@ -2,8 +2,7 @@
 ghost use Rattle.std.specs.Prelude.{◌≡◌, [], Some, IfOk};
 ghost use Rattle.piece_board.specs.Boards.{desk_view};
 ghost use Rattle.worker_crew.specs.Passes.{IsFree};
-ghost use Rattle.core_table.specs.Passes.{job_in};
-ghost use Rattle.worker_crew.specs.Opening.{seat_seen};
+ghost use Rattle.core_table.specs.Passes.{job_in, pass_view};
 ghost use Rattle.worker_crew.specs.Seats.{IsSeat};
 ghost use Rattle.worker_crew.specs.Workers.{IsMeOf, IsReady};
 
@@ -155,7 +154,7 @@ pub(crate) trait Team<M> {
 
 impl<'a, G: Pause> Team<Me<Pass>> for Crew<'a, CoreTable, G> {
     ghost ready = { λ crew me. (crew.workers ≡ (job_in crew.table).workers)
-        × IsReady (IsSeat crew.table) seat_seen crew.decks crew.board me };
+        × IsReady (IsSeat crew.table) pass_view crew.decks crew.board me };
 
     fn work<R: Wait>(
         &self,

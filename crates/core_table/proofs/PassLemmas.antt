@@ -1,2 +1,4 @@
 pub mod PassKept
 pub mod NewPass
+pub mod Ticks
+pub mod NoAct

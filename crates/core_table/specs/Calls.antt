@@ -4,10 +4,11 @@ use mathlib.Core.Option.{none}
 use prog.Atomic.{either}
 use Rattle.atomic_table.specs.Table.{step}
 use Rattle.sp_order.specs.Preorder.{nodes_of}
-use Rattle.core_model.specs.Events.{value_in}
-use Rattle.core_model.specs.Operations.{leaf_of, place_of, IsReceipt}
-use Rattle.core_model.specs.Words.{Entry, SeqNode, ParNode, IsSide}
-use Rattle.table_rule.specs.CoreWords.{Receipt, Claim, OpenParRight, OpenParLeft, OpenSeqLeft, OpenSeqRight, Post, Win, Take, Publish, Answer, Release, Keep, FinishLeaf, FinishSeq, FinishPar, ArriveFirst, ArriveSecond, Idle, Run, Half, Started, Ended, Whole, Handed, NotCalled, Out, Ran}
+use Rattle.core_model.specs.Next.{next_act}
+use Rattle.core_model.specs.declared.next.Next.TheVariants as acts
+use Rattle.core_model.specs.Operations.{place_of, IsReceipt}
+use Rattle.core_model.specs.Words.{Entry}
+use Rattle.table_rule.specs.CoreWords.{Event, Receipt, Task, Claim, Start, Post, Win, Take, Publish, Answer, Release, Keep, End, ArriveFirst, ArriveSecond, Idle, Started, Out}
 use Rattle.core_model.specs.declared.setting.Setting.{Setting}
 use Rattle.table_rule.specs.declared.slot.OpRecord.{OpRecord}
 use Rattle.table_rule.specs.declared.slot.Slot.{Slot}
@@ -15,14 +16,15 @@ use Rattle.table_rule.specs.declared.slot.Slot.TheVariants as Slots
 use Rattle.table_rule.specs.declared.view.HoldView.{HoldView}
 use Rattle.table_rule.specs.declared.view.View.{View}
 use Rattle.table_rule.specs.Words.{flag_at, count_at, tick_at, stop_at, node_at, mark_at, value_at, progress_code}
-use Rattle.table_rule.specs.Shows.{job_of, room_of, reserved, record_in, among, IsPostDue}
+use Rattle.table_rule.specs.Shows.{job_of, room_of, reserved, record_in, among}
 use Rattle.table_rule.specs.Batches.{IsPublishDue, IsReleaseDue}
-use Rattle.table_rule.specs.DueTasks.{IsTickDue}
+use Rattle.table_rule.specs.Tasks.{TaskHere, progress_after}
+use Rattle.table_rule.specs.DueActs.{IsKeepDue, IsPostDue}
 use Rattle.table_rule.specs.Plays as plays
 use Rattle.table_rule.specs.Plays.{Sat}
-use Rattle.table_rule.specs.Steps.{Steps, Makes, Stays, TryMakes, ArrivalMakes, DrawMakes, LeaveMakes}
+use Rattle.table_rule.specs.Steps.{Steps, Makes, Stays, TryMakes, ArrivalMakes, LeaveMakes}
 
--- the view is one of worker k's pass at a table of this setting, after it has enrolled
+-- the view is one of worker k's pass at a table of this setting, after it has enrolled, with a task that such a pass has
 pub record IsViewOf (key : Setting) (k : ℕ) (v : View) : Type 0 where
   pub worker : v.own.worker ≡ k
   pub to : v.to ≡ k + 1
@@ -31,6 +33,7 @@ pub record IsViewOf (key : Setting) (k : ℕ) (v : View) : Type 0 where
   pub room : v.room ≡ room_of key
   pub enrolled : v.enrolled ≡ true
   pub plan : nodes_of v.plan ≡ (job_of key).plan
+  pub task : TaskHere (job_of key) v.own.task
 
 -- A table has `slots` slots, and seat `id` has the view v of worker k and carries the slots xs. Each field says of one
 -- call what its step writes, what it tells the seat, and which event or stutter it makes of any state shown before.
@@ -44,49 +47,35 @@ pub record CallsAreEvents (key : Setting) (slots id k : ℕ) (v : View) (xs : Li
       → Steps (job_of key) (room_of key) slots id (v, xs) 0 (λ y. either (eqb y (4 + n)) 0 y)
       (plays.strayed (step slots 0 (4 + n) 0 none) (v, xs)) Stays
   -- a tick starts or ends the task's leaf
-  pub tick : IsTickDue (job_of key) v.own.task → v.own.call ≢ Out
+  pub start : (n leaf : ℕ) → next_act (job_of key) v.own.task v.own.call ≡ Some (acts.Start n leaf) → v.own.call ≢ Out
       → Steps (job_of key) (room_of key) slots id (v, xs) (tick_at key.workers) (λ y. (y + 1) % 2 ^ 64)
-      (plays.drawn (step slots (tick_at key.workers) 1 0 none) (v, xs)) (λ before found after. DrawMakes (job_of key) k v.own.task before after)
-  -- the four opens
-  pub open_right : (p l r : ℕ) → v.own.task ≡ Run p → (job_of key).plan.kind p ≡ Some (ParNode l r) → v.own.call ≢ Out
-      → Steps (job_of key) (room_of key) slots id (v, xs) (node_at key.workers r) (λ y. 1)
-      (λ y. plays.half_opened (step slots (node_at key.workers r) 1 0 none) (v, xs) 1) (λ before found after. Makes (job_of key) k (OpenParRight p l r) before after)
-  pub open_left : (p l r : ℕ) → v.own.task ≡ Half p → (job_of key).plan.kind p ≡ Some (ParNode l r) → v.own.call ≢ Out
-      → Steps (job_of key) (room_of key) slots id (v, xs) (node_at key.workers l) (λ y. 1)
-      (λ y. plays.opened (step slots (node_at key.workers l) 1 0 none) (v, xs) 1) (λ before found after. Makes (job_of key) k (OpenParLeft p l r) before after)
-  pub open_first : (p l r : ℕ) → v.own.task ≡ Run p → (job_of key).plan.kind p ≡ Some (SeqNode l r) → v.own.call ≢ Out
-      → Steps (job_of key) (room_of key) slots id (v, xs) (node_at key.workers l) (λ y. 1)
-      (λ y. plays.opened (step slots (node_at key.workers l) 1 0 none) (v, xs) 1) (λ before found after. Makes (job_of key) k (OpenSeqLeft p l r) before after)
-  pub open_second : (p l r : ℕ) → v.own.task ≡ Whole l → (job_of key).plan.kind p ≡ Some (SeqNode l r) → v.own.call ≢ Out
-      → Steps (job_of key) (room_of key) slots id (v, xs) (node_at key.workers r) (λ y. 1)
-      (λ y. plays.opened (step slots (node_at key.workers r) 1 0 none) (v, xs) 1) (λ before found after. Makes (job_of key) k (OpenSeqRight p l r) before after)
-  -- a keep of the value that the act and the call determine
-  pub keep : (n start x : ℕ) → v.own.task ≡ Started n start → n < (job_of key).plan.count
-      → value_in ((job_of key).act (leaf_of ((job_of key).plan.kind n))) v.own.call ≡ Some x → v.own.call ≢ Out
+      (plays.drawn (step slots (tick_at key.workers) 1 0 none) (v, xs)) (λ before found after. Makes (job_of key) k (Start n) before after)
+  pub end : (n start : ℕ) → next_act (job_of key) v.own.task v.own.call ≡ Some (acts.End n start) → v.own.call ≢ Out
+      → Steps (job_of key) (room_of key) slots id (v, xs) (tick_at key.workers) (λ y. (y + 1) % 2 ^ 64)
+      (plays.drawn (step slots (tick_at key.workers) 1 0 none) (v, xs)) (λ before found after. Makes (job_of key) k (End n start) before after)
+  -- an open makes a node ready, by one of the four events that open a side
+  pub open_side : (n : ℕ) (task : Task) (event : Event) → next_act (job_of key) v.own.task v.own.call ≡ Some (acts.Open n task event) → v.own.call ≢ Out
+      → Steps (job_of key) (room_of key) slots id (v, xs) (node_at key.workers n) (λ y. 1)
+      (λ y. plays.opened (step slots (node_at key.workers n) 1 0 none) (v, xs) 1) (λ before found after. Makes (job_of key) k event before after)
+  -- a keep of the value that is due
+  pub keep : (n start x : ℕ) → v.own.task ≡ Started n start → IsKeepDue (next_act (job_of key) v.own.task v.own.call) x → v.own.call ≢ Out
       → Steps (job_of key) (room_of key) slots id (v, xs) (value_at key.workers (job_of key).plan.count n) (λ y. x)
       (λ y. plays.kept (step slots (value_at key.workers (job_of key).plan.count n) x 0 none) (v, xs) x)
       (λ before found after. Makes (job_of key) k (Keep n start x) before after)
-  -- the three finishes
-  pub finish_leaf : (n start end : ℕ) → v.own.task ≡ Ended n start end → n < (job_of key).plan.count → v.own.call ≢ Out
-      → Steps (job_of key) (room_of key) slots id (v, xs) (node_at key.workers n) (λ y. progress_code (Ran k start end))
-      (λ y. plays.finished (step slots (node_at key.workers n) (progress_code (Ran k start end)) 0 none) (v, xs) (progress_code (Ran k start end)))
-      (λ before found after. Makes (job_of key) k (FinishLeaf n start end) before after)
-  pub finish_series : (p l r : ℕ) → v.own.task ≡ Whole r → (job_of key).plan.kind p ≡ Some (SeqNode l r) → p < (job_of key).plan.count → v.own.call ≢ Out
-      → Steps (job_of key) (room_of key) slots id (v, xs) (node_at key.workers p) (λ y. 3)
-      (λ y. plays.finished (step slots (node_at key.workers p) 3 0 none) (v, xs) 3) (λ before found after. Makes (job_of key) k (FinishSeq p l r) before after)
-  pub finish_block : (p l r : ℕ) → v.own.task ≡ Handed p → (job_of key).plan.kind p ≡ Some (ParNode l r) → p < (job_of key).plan.count → v.own.call ≢ Out
-      → Steps (job_of key) (room_of key) slots id (v, xs) (node_at key.workers p) (λ y. 3)
-      (λ y. plays.finished (step slots (node_at key.workers p) 3 0 none) (v, xs) 3) (λ before found after. Makes (job_of key) k (FinishPar p l r) before after)
+  -- a finish marks a leaf or a block as done, by one of the three events that finish a node
+  pub finish : (n : ℕ) (event : Event) → next_act (job_of key) v.own.task v.own.call ≡ Some (acts.Finish n event) → v.own.call ≢ Out
+      → Steps (job_of key) (room_of key) slots id (v, xs) (node_at key.workers n) (λ y. progress_code (progress_after k v.own.task))
+      (λ y. plays.finished (step slots (node_at key.workers n) (progress_code (progress_after k v.own.task)) 0 none) (v, xs) (progress_code (progress_after k v.own.task)))
+      (λ before found after. Makes (job_of key) k event before after)
   -- an arrival is the first if it finds the mark at 0, else the second
-  pub arrive : (p l r n : ℕ) → v.own.task ≡ Whole n → (job_of key).plan.kind p ≡ Some (ParNode l r) → IsSide (job_of key).plan p n
-      → p < (job_of key).plan.count → v.own.call ≢ Out
+  pub arrive : (p l r n : ℕ) → next_act (job_of key) v.own.task v.own.call ≡ Some (acts.Arrive p l r n) → v.own.call ≢ Out
       → Steps (job_of key) (room_of key) slots id (v, xs) (mark_at key.workers (job_of key).plan.count p) (λ y. (y + 1) % 2 ^ 64)
       (plays.arrived (step slots (mark_at key.workers (job_of key).plan.count p) 1 0 none) (v, xs))
       (ArrivalMakes (Makes (job_of key) k (ArriveFirst p l r n)) (Makes (job_of key) k (ArriveSecond p l r n)))
   -- the gate: a post returns the record slot to the table, with the call in it
-  pub post : (call : OpRecord) → (is : IsPostDue (job_of key) v.own.task call) → v.own.call ≡ NotCalled
+  pub post : (n start : ℕ) (call : OpRecord) → v.own.task ≡ Started n start → IsPostDue (next_act (job_of key) v.own.task v.own.call) call
       → Steps (job_of key) (room_of key) slots id (v, (k, Slots.Record call) ∷ xs) k (λ y. 1)
-      (λ y. plays.posted (step slots k 1 0 none) (v, (k, Slots.Record call) ∷ xs) 1) (λ before found after. Makes (job_of key) k (Post is.0 is.1) before after)
+      (λ y. plays.posted (step slots k 1 0 none) (v, (k, Slots.Record call) ∷ xs) 1) (λ before found after. Makes (job_of key) k (Post n start) before after)
   -- a win is an event if it finds the flag free (0), else a stutter
   pub win : v.own.call ≡ Out
       → Steps (job_of key) (room_of key) slots id (v, xs) (flag_at key.workers) (λ y. either (eqb y 0) (k + 1) y)

@@ -1,10 +1,13 @@
 -- What a table is made for, and when a pass belongs to a table.
-use Rattle.std.specs.Prelude.{ℕ, ◌≡◌, ◌≢◌, ◌<◌, ◌+◌, Bool, List, true}
+use Rattle.std.specs.Prelude.{ℕ, ◌≡◌, ◌≢◌, ◌<◌, ◌≤◌, ◌+◌, Bool, List, Option, None, Some, true}
 use Rattle.atomic_table.specs.Seated.{TableId}
 use Rattle.atomic_table.specs.declared.shared.Seat.{Seat}
 use Rattle.sp_order.specs.Jobs.{JobValue}
 use Rattle.table_rule.specs.CoreWords.{Out}
-use Rattle.table_rule.specs.DueTasks.{TaskHere}
+use Rattle.table_rule.specs.Tasks.{TaskHere}
+use Rattle.core_model.specs.Next.{next_act}
+use Rattle.core_model.specs.declared.next.Next.{Next}
+use Rattle.table_rule.specs.declared.view.HoldView.{HoldView}
 use Rattle.sp_order.specs.Preorder.{nodes_of}
 use Rattle.core_model.specs.State.{CoreJob}
 use Rattle.table_rule.specs.declared.slot.Slot.{Slot}
@@ -42,6 +45,10 @@ view pass = pass.seat.me.0
 abbrev pub pass_view : Pass → PassView
 pass_view pass = (view pass).own
 
+-- the next act of a pass, by its task and the state of its call
+abbrev pub next_in : CoreTable → PassView → Option Next
+next_in table pass = next_act (job_in table) pass.task pass.call
+
 -- the pass's call is outstanding: posted, and not left
 abbrev pub IsTrapped : Pass → Type 0
 IsTrapped pass = (view pass).own.call ≡ Out
@@ -49,13 +56,18 @@ IsTrapped pass = (view pass).own.call ≡ Out
 abbrev pub IsNotTrapped : Pass → Type 0
 IsNotTrapped pass = (view pass).own.call ≢ Out
 
+-- the hold, if there is one, has looked at no more workers than there are
+abbrev pub LooksFit : ℕ → Option HoldView → Type 0
+LooksFit workers None = Unit {0}
+LooksFit workers (Some h) = h.looks ≤ workers
+
 -- The seat is `worker`'s at this table: its view has the table's counts and plan, and agrees with its slots and fields.
 abbrev pub IsSeatOf : Setting → TableId → ℕ → Seat Slot View → List ℕ → Bool → Type 0
 IsSeatOf setting table worker seat owed published =
     (seat.table_id ≡ table) × (worker < setting.workers) × (seat.me.0.workers ≡ setting.workers)
     × (seat.me.0.nodes ≡ (job_of setting).plan.count) × (seat.me.0.enrolled ≡ true)
     × TaskHere (job_of setting) seat.me.0.own.task × (seat.me.0.room ≡ room_of setting) × Carries worker seat.me
-    × Remembers seat.me.0 owed published × (nodes_of seat.me.0.plan ≡ (job_of setting).plan)
+    × Remembers seat.me.0 owed published × (nodes_of seat.me.0.plan ≡ (job_of setting).plan) × LooksFit setting.workers seat.me.0.own.hold
 
 -- the pass belongs to this table
 abbrev pub IsPassOf : CoreTable → Pass → Type 0

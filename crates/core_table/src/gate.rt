@@ -1,14 +1,15 @@
 //! The gate side: posting a call, winning the flag, taking, publishing and answering a batch, and leaving.
 ghost use Rattle.std.specs.Prelude.{List, ◌≡◌, ◌≢◌, ℕ, ◌+◌, ◌<◌, ◌≤◌, ◌^◌, ◌∷◌, [], true, false, None, Some, IfSome, IfNone, IfOk, IfErr, length};
 ghost use Rattle.batch_history.specs.declared.batch.Entry.{Entry};
-ghost use Rattle.table_rule.specs.CoreWords.{NotCalled, Started, Post as PostOf};
+ghost use Rattle.table_rule.specs.CoreWords.{Started, Post as PostOf};
 ghost use Rattle.core_model.specs.Measure.{call_count};
 ghost use Rattle.core_model.specs.Operations.{place_of, IsReceipt};
 ghost use Rattle.table_rule.specs.declared.view.HoldView.{HoldView};
 ghost use Rattle.table_rule.specs.declared.slot.OpRecord.{OpRecord as CallRecord};
-ghost use Rattle.table_rule.specs.Shows.{IsPostDue, record_in, among, entry_of, IsFront};
+ghost use Rattle.table_rule.specs.DueActs.{IsPostDue};
+ghost use Rattle.table_rule.specs.Shows.{record_in, among, entry_of, IsFront};
 ghost use Rattle.core_model.specs.Entries.{StandsAt};
-ghost use Rattle.core_table.specs.Passes.{IsPassOf, job_in, view, IsTrapped};
+ghost use Rattle.core_table.specs.Passes.{IsPassOf, job_in, next_in, pass_view, view, IsTrapped};
 ghost use Rattle.table_rule.specs.Batches.{IsPublishDue, IsReleaseDue};
 ghost use Rattle.table_rule.specs.Passes.{call_by, winning, losing, leaving, staying, releasing, taking, passing, publishing, answering};
 ghost use Rattle.table_rule.specs.Views.{with_step, with_found, with_post};
@@ -27,8 +28,7 @@ impl CoreTable {
     /// Posts the call of the started leaf. The pass is trapped from then until its `leave` succeeds.
     pub fn post(&self, pass: &mut Pass, call: OpRecord)
         requires pass { IsPassOf self.now pass.old }
-        requires free { (view pass.old).own.call ≡ NotCalled }
-        requires due { IsPostDue (job_in self.now) (view pass.old).own.task call }
+        requires due { IsPostDue (next_in self.now (pass_view pass.old)) call }
         ensures pass { IsPassOf self.now pass.new }
         ensures posted { (node : ℕ) × (start : ℕ) × ((view pass.old).own.task ≡ Started node start)
             × (view pass.new ≡ with_post call (PostOf node start) (view pass.old)) }

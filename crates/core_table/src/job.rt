@@ -1,27 +1,28 @@
 //! The job side (claim, tick, open, keep, finish, arrive), and the calls on the root, batch count and stop word.
-ghost use Rattle.std.specs.Prelude.{◌≡◌, ◌≢◌, ℕ, ◌+◌, ◌%◌, ◌<◌, ◌≤◌, ◌∷◌, Some, IsTrue, IsFalse};
-ghost use Rattle.core_model.specs.Words.{Arrive as ArriveAt};
-ghost use Rattle.table_rule.specs.CoreWords.{Event, Idle, Run, Half, Started, Ended, Whole, Handed, FinishLeaf, ArriveFirst, ArriveSecond};
-ghost use Rattle.table_rule.specs.JobEvents.{IsTickEvent, IsOpenEvent, IsFinishEvent, IsArrival};
-ghost use Rattle.core_model.specs.Operations.{leaf_of};
-ghost use Rattle.core_model.specs.Events.{value_in, task_after as next_task};
-ghost use Rattle.core_table.specs.Passes.{IsPassOf, job_in, view, IsNotTrapped};
-ghost use Rattle.table_rule.specs.DueTasks.{IsTickDue, IsOpenDue, IsFinishDue, IsFinished, IsArriveDue, opened_task};
+ghost use Rattle.std.specs.Prelude.{◌≡◌, ◌≢◌, ℕ, ◌+◌, ◌%◌, ◌<◌, ◌≤◌, ◌∷◌, Some, IsTrue, IsFalse, IsNone};
+ghost use Rattle.core_model.specs.declared.next.Next.TheVariants as acts;
+ghost use Rattle.core_model.specs.Events.{task_after as next_task};
+ghost use Rattle.table_rule.specs.CoreWords.{Event, Task as TaskOf, Idle, Run, Started, Kept, Ended, Handed, Start as StartOf, End as EndOf, ArriveFirst, ArriveSecond};
+ghost use Rattle.table_rule.specs.DueActs.{IsTickDue, IsOpenDue, IsKeepDue, IsFinishDue, IsArriveDue};
+ghost use Rattle.table_rule.specs.Tasks.{progress_after};
+ghost use Rattle.table_rule.specs.Words.{progress_code};
 ghost use Rattle.table_rule.specs.Passes.{with_task, claiming, refusing, opening, keeping, stopping, finding_stop, finding_none};
-ghost use Rattle.table_rule.specs.Views.{with_step, with_found, with_since, ticked, seeing_done, seeing_undone};
+ghost use Rattle.table_rule.specs.Views.{with_step, with_found, with_since, seeing_done, seeing_undone};
+ghost use Rattle.core_table.specs.Passes.{IsPassOf, job_in, next_in, pass_view, view, IsNotTrapped};
 
 use crate::table::{CoreTable, Pass};
-use core_model::{CallState, Task};
-use sp_order::node::{Kind, Move};
-use table_rule::RanLeaf;
+use core_model::{CallState, Next, Task};
+use sp_order::laws::plan_stands_for_tree;
 use table_rule::laws::laws_hold;
 use table_rule::plays::{
-    Arrive, Claim, Draw, Finish, Hear, Keep, LookAtRoot, LookAtStop, Open, OpenHalf, Stop, Stray,
+    Arrive, Claim, Draw, Finish, Hear, Keep, LookAtRoot, LookAtStop, Open, Stop, Stray,
 };
+use table_rule::{DONE, MOST_WORKERS, RanLeaf};
 
 /// The task after its tick is drawn: `Run` becomes `Started`, and `Kept` becomes `Ended`.
 fn ticked(task: Task, tick: u64) -> Task
-    ensures { result ≡ ticked task tick }
+    ensures started { (n : ℕ) → task ≡ Run n → result ≡ Started n tick }
+    ensures ended { (n start : ℕ) → task ≡ Kept n start → result ≡ Ended n start tick }
 {
     match task {
         Task::Run(node) => Task::Started { node, start: tick },
@@ -31,6 +32,22 @@ fn ticked(task: Task, tick: u64) -> Task
             end: tick,
         },
         other => other,
+    }
+}
+
+/// The word of a node that this worker's finish with this task marks as done.
+fn done_word(worker: u32, task: Task) -> u64
+    requires worker { worker < MOST_WORKERS }
+    requires ticks { (n start end : ℕ) → task ≡ Ended n start end → (start < 80000) × (end < 80000) }
+    ensures { result ≡ progress_code (progress_after worker task) }
+{
+    match task {
+        Task::Ended {
+            node: _,
+            start,
+            end,
+        } => RanLeaf { worker, start, end }.encode(),
+        _ => DONE,
     }
 }
 
@@ -46,6 +63,17 @@ fn task_after(node: u32) -> Task
 }
 
 impl CoreTable {
+    /// What the pass does next. `None`: its task is idle, or its call is out. Memory: none.
+    pub fn next(&self, pass: &Pass) -> Option<Next>
+        requires { IsPassOf self.now pass.now }
+        ensures next { result ≡ next_in self.now (pass_view pass.now) }
+        ensures idle { IsNotTrapped pass.now → IsNone result → (view pass.now).own.task ≡ Idle }
+    {
+        laws_hold();
+        plan_stands_for_tree();
+        self.setting.next(pass.task, pass.call)
+    }
+
     /// Claims the node if it is ready. A number past the last node is refused, at the cost of one step on word 0.
     pub fn claim(&self, pass: &mut Pass, node: u32) -> bool
         requires pass { IsPassOf self.now pass.old }
@@ -76,11 +104,12 @@ impl CoreTable {
     pub fn tick(&self, pass: &mut Pass) -> u64
         requires pass { IsPassOf self.now pass.old }
         requires free { IsNotTrapped pass.old }
-        requires due { IsTickDue (job_in self.now) (view pass.old).own.task }
+        requires due { IsTickDue (next_in self.now (pass_view pass.old)) }
         ensures pass { IsPassOf self.now pass.new }
-        ensures drawn { (event : Event) × IsTickEvent (view pass.old).own.task event
-            × (view pass.new
-            ≡ with_step (with_task event (ticked (view pass.old).own.task result)) (view pass.old)) }
+        ensures started { (n leaf : ℕ) → next_in self.now (pass_view pass.old) ≡ Some (acts.Start n leaf)
+            → view pass.new ≡ with_step (with_task (StartOf n) (Started n result)) (view pass.old) }
+        ensures ended { (n start : ℕ) → next_in self.now (pass_view pass.old) ≡ Some (acts.End n start)
+            → view pass.new ≡ with_step (with_task (EndOf n start) (Ended n start result)) (view pass.old) }
     {
         laws_hold();
         let at = self.layout().tick();
@@ -93,96 +122,34 @@ impl CoreTable {
     pub fn open_node(&self, pass: &mut Pass) -> u32
         requires pass { IsPassOf self.now pass.old }
         requires free { IsNotTrapped pass.old }
-        requires due { IsOpenDue (job_in self.now) (view pass.old).own.task }
+        requires due { IsOpenDue (next_in self.now (pass_view pass.old)) }
         ensures pass { IsPassOf self.now pass.new }
-        ensures opened { (event : Event)
-            × IsOpenEvent (job_in self.now).plan (view pass.old).own.task result event
-            × (view pass.new ≡ with_step (opening result event
-            (opened_task (job_in self.now) (view pass.old).own.task)) (view pass.old)) }
-    {
-        match pass.task {
-            Task::Run(node) => self.open_block(pass, node),
-            Task::Half(node) => self.open_left(pass, node),
-            Task::Whole(node) => self.open_second(pass, node),
-            _ => unreachable!(),
-        }
-    }
-
-    fn open_block(&self, pass: &mut Pass, node: u32) -> u32
-        requires pass { IsPassOf self.now pass.old }
-        requires free { IsNotTrapped pass.old }
-        requires run { (view pass.old).own.task ≡ Run node }
-        requires due { IsOpenDue (job_in self.now) (Run node) }
-        ensures pass { IsPassOf self.now pass.new }
-        ensures opened { (event : Event) × IsOpenEvent (job_in self.now).plan (Run node) result event
-            × (view pass.new ≡ with_step (opening result event
-            (opened_task (job_in self.now) (Run node))) (view pass.old)) }
+        ensures opened { (n : ℕ) (task : TaskOf) (event : Event)
+            → next_in self.now (pass_view pass.old) ≡ Some (acts.Open n task event)
+            → (result ≡ n) × (view pass.new ≡ with_step (opening n event task) (view pass.old)) }
     {
         laws_hold();
-        let shared = &self.table.shared;
-        let layout = self.layout();
-        match self.setting.job.kind(node) {
-            Kind::ParNode(_left, right) => {
-                shared.store::<OpenHalf>(&mut pass.seat, layout.node(right), 1);
-                pass.task = Task::Half(node);
-                right
-            }
-            Kind::SeqNode(left, _right) => {
-                shared.store::<Open>(&mut pass.seat, layout.node(left), 1);
-                pass.task = Task::Idle;
-                left
-            }
-            Kind::LeafNode(_leaf) => unreachable!(),
-        }
-    }
-
-    fn open_left(&self, pass: &mut Pass, node: u32) -> u32
-        requires pass { IsPassOf self.now pass.old }
-        requires free { IsNotTrapped pass.old }
-        requires half { (view pass.old).own.task ≡ Half node }
-        ensures pass { IsPassOf self.now pass.new }
-        ensures opened { (event : Event) × IsOpenEvent (job_in self.now).plan (Half node) result event
-            × (view pass.new ≡ with_step (opening result event Idle) (view pass.old)) }
-    {
-        laws_hold();
-        let Kind::ParNode(left, _right) = self.setting.job.kind(node) else {
+        let Some(
+            Next::Open {
+                node,
+                task,
+                event: _,
+            },
+        ) = self.next(pass)
+        else {
             unreachable!()
         };
-        let at = self.layout().node(left);
+        let at = self.layout().node(node);
         self.table.shared.store::<Open>(&mut pass.seat, at, 1);
-        pass.task = Task::Idle;
-        left
-    }
-
-    fn open_second(&self, pass: &mut Pass, node: u32) -> u32
-        requires pass { IsPassOf self.now pass.old }
-        requires free { IsNotTrapped pass.old }
-        requires whole { (view pass.old).own.task ≡ Whole node }
-        requires due { IsOpenDue (job_in self.now) (Whole node) }
-        ensures pass { IsPassOf self.now pass.new }
-        ensures opened { (event : Event) × IsOpenEvent (job_in self.now).plan (Whole node) result event
-            × (view pass.new ≡ with_step (opening result event Idle) (view pass.old)) }
-    {
-        laws_hold();
-        let Move::OpenSecond(parent) = self.setting.job.after(node) else {
-            unreachable!()
-        };
-        let Kind::SeqNode(_left, right) = self.setting.job.kind(parent) else {
-            unreachable!()
-        };
-        let at = self.layout().node(right);
-        self.table.shared.store::<Open>(&mut pass.seat, at, 1);
-        pass.task = Task::Idle;
-        right
+        pass.task = task;
+        node
     }
 
     /// Stores the value of the started leaf: that of its work, or the reply that its call got.
     pub fn keep(&self, pass: &mut Pass, value: u64)
         requires pass { IsPassOf self.now pass.old }
         requires free { IsNotTrapped pass.old }
-        requires due { (n : ℕ) × (start : ℕ) × ((view pass.old).own.task ≡ Started n start)
-            × (value_in ((job_in self.now).act (leaf_of ((job_in self.now).plan.kind n)))
-            (view pass.old).own.call ≡ Some value) }
+        requires due { IsKeepDue (next_in self.now (pass_view pass.old)) value }
         ensures pass { IsPassOf self.now pass.new }
         ensures kept { (n : ℕ) × (start : ℕ) × ((view pass.old).own.task ≡ Started n start)
             × (view pass.new ≡ with_step (keeping n start value) (view pass.old)) }
@@ -201,71 +168,19 @@ impl CoreTable {
     pub fn finish(&self, pass: &mut Pass)
         requires pass { IsPassOf self.now pass.old }
         requires free { IsNotTrapped pass.old }
-        requires due { IsFinishDue (job_in self.now) (view pass.old).own.task }
+        requires due { IsFinishDue (next_in self.now (pass_view pass.old)) }
         ensures pass { IsPassOf self.now pass.new }
-        ensures finished { (n : ℕ) × (event : Event)
-            × IsFinished (job_in self.now) (view pass.old).own.task n
-            × IsFinishEvent (job_in self.now).plan (view pass.old).own.task n event
-            × (view pass.new ≡ with_step (with_task event (next_task n)) (view pass.old)) }
-    {
-        match pass.task {
-            Task::Ended { node, start, end } => self.finish_leaf(pass, node, start, end),
-            Task::Whole(node) => self.finish_series(pass, node),
-            Task::Handed(node) => self.finish_block(pass, node),
-            _ => unreachable!(),
-        }
-    }
-
-    fn finish_leaf(&self, pass: &mut Pass, node: u32, start: u64, end: u64)
-        requires pass { IsPassOf self.now pass.old }
-        requires free { IsNotTrapped pass.old }
-        requires ended { (view pass.old).own.task ≡ Ended node start end }
-        ensures pass { IsPassOf self.now pass.new }
-        ensures finished { view pass.new
-            ≡ with_step (with_task (FinishLeaf node start end) (next_task node)) (view pass.old) }
+        ensures finished { (n : ℕ) (event : Event)
+            → next_in self.now (pass_view pass.old) ≡ Some (acts.Finish n event)
+            → view pass.new ≡ with_step (with_task event (next_task n)) (view pass.old) }
     {
         laws_hold();
+        let Some(Next::Finish { node, event: _ }) = self.next(pass) else {
+            unreachable!()
+        };
         let at = self.layout().node(node);
-        let worker = pass.worker;
-        let word = RanLeaf { worker, start, end }.encode();
+        let word = done_word(pass.worker, pass.task);
         self.table.shared.store::<Finish>(&mut pass.seat, at, word);
-        pass.task = task_after(node);
-    }
-
-    fn finish_series(&self, pass: &mut Pass, node: u32)
-        requires pass { IsPassOf self.now pass.old }
-        requires free { IsNotTrapped pass.old }
-        requires whole { (view pass.old).own.task ≡ Whole node }
-        requires due { IsFinishDue (job_in self.now) (Whole node) }
-        ensures pass { IsPassOf self.now pass.new }
-        ensures finished { (n : ℕ) × (event : Event) × IsFinished (job_in self.now) (Whole node) n
-            × IsFinishEvent (job_in self.now).plan (Whole node) n event
-            × (view pass.new ≡ with_step (with_task event (next_task n)) (view pass.old)) }
-    {
-        laws_hold();
-        let Move::FinishParent(parent) = self.setting.job.after(node) else {
-            unreachable!()
-        };
-        let at = self.layout().node(parent);
-        self.table.shared.store::<Finish>(&mut pass.seat, at, 3);
-        pass.task = task_after(parent);
-    }
-
-    fn finish_block(&self, pass: &mut Pass, node: u32)
-        requires pass { IsPassOf self.now pass.old }
-        requires free { IsNotTrapped pass.old }
-        requires handed { (view pass.old).own.task ≡ Handed node }
-        ensures pass { IsPassOf self.now pass.new }
-        ensures finished { (event : Event)
-            × IsFinishEvent (job_in self.now).plan (Handed node) node event
-            × (view pass.new ≡ with_step (with_task event (next_task node)) (view pass.old)) }
-    {
-        laws_hold();
-        let Kind::ParNode(_left, _right) = self.setting.job.kind(node) else {
-            unreachable!()
-        };
-        let at = self.layout().node(node);
-        self.table.shared.store::<Finish>(&mut pass.seat, at, 3);
         pass.task = task_after(node);
     }
 
@@ -273,22 +188,25 @@ impl CoreTable {
     pub fn arrive(&self, pass: &mut Pass) -> bool
         requires pass { IsPassOf self.now pass.old }
         requires free { IsNotTrapped pass.old }
-        requires due { IsArriveDue (job_in self.now) (view pass.old).own.task }
+        requires due { IsArriveDue (next_in self.now (pass_view pass.old)) }
         ensures pass { IsPassOf self.now pass.new }
-        ensures first { IsFalse result → (n : ℕ) × (p : ℕ) × (l : ℕ) × (r : ℕ)
-            × ((job_in self.now).plan.after n ≡ ArriveAt p)
-            × IsArrival (job_in self.now).plan (view pass.old).own.task p l r n
-            × (view pass.new ≡ with_step (with_task (ArriveFirst p l r n) Idle) (view pass.old)) }
-        ensures second { IsTrue result → (n : ℕ) × (p : ℕ) × (l : ℕ) × (r : ℕ)
-            × ((job_in self.now).plan.after n ≡ ArriveAt p)
-            × IsArrival (job_in self.now).plan (view pass.old).own.task p l r n
-            × (view pass.new ≡ with_step (with_task (ArriveSecond p l r n) (Handed p)) (view pass.old)) }
+        ensures first { IsFalse result → (p l r n : ℕ)
+            → next_in self.now (pass_view pass.old) ≡ Some (acts.Arrive p l r n)
+            → view pass.new ≡ with_step (with_task (ArriveFirst p l r n) Idle) (view pass.old) }
+        ensures second { IsTrue result → (p l r n : ℕ)
+            → next_in self.now (pass_view pass.old) ≡ Some (acts.Arrive p l r n)
+            → view pass.new ≡ with_step (with_task (ArriveSecond p l r n) (Handed p)) (view pass.old) }
     {
         laws_hold();
-        let Task::Whole(node) = pass.task else {
-            unreachable!()
-        };
-        let Move::Arrive(parent) = self.setting.job.after(node) else {
+        let Some(
+            Next::Arrive {
+                parent,
+                left: _,
+                right: _,
+                side: _,
+            },
+        ) = self.next(pass)
+        else {
             unreachable!()
         };
         let at = self.layout().mark(parent);

@@ -1,6 +1,7 @@
 pub mod Starts
-pub mod JobSteps
 pub mod Sides
+pub mod NextActs
+pub mod JobSteps
 pub mod LookSteps
 pub mod GateSteps
 pub mod TakeOk

@@ -4,8 +4,8 @@ pub mod Passes
 pub mod Shows
 pub mod OneState
 pub mod Views
-pub mod JobEvents
-pub mod DueTasks
+pub mod Tasks
+pub mod DueActs
 pub mod Batches
 pub mod Plays
 pub mod Steps

@@ -2,9 +2,9 @@
 use Rattle.std.specs.Prelude.{ℕ, ◌≡◌, ◌≢◌, ◌≤◌, ◌+◌, ◌<◌, ◌%◌, None, Some, List, [], ◌∷◌, ◌++◌, false, length}
 use Rattle.atomic_table.specs.Table.{Me, Step, rest}
 use Rattle.batch_history.specs.Book.{flat, IsHistory}
-use Rattle.sp_order.specs.Preorder.{nodes_of}
-use Rattle.core_model.specs.Words.{Entry, ParNode}
-use Rattle.table_rule.specs.CoreWords.{Event, Receipt, Idle, Run, Half, Started, Handed, OpenParRight, Post, ArriveFirst, ArriveSecond}
+use Rattle.core_model.specs.Words.{Entry}
+use Rattle.core_model.specs.declared.next.Next.TheVariants as acts
+use Rattle.table_rule.specs.CoreWords.{Event, Receipt, Task, Idle, Started, Ended, Handed, Start, Post, End, ArriveFirst, ArriveSecond}
 use Rattle.core_model.specs.Events.{task_after}
 use Rattle.core_model.specs.Operations.{place_of}
 use Rattle.table_rule.specs.declared.slot.OpRecord.{OpRecord}
@@ -12,13 +12,13 @@ use Rattle.table_rule.specs.declared.slot.Slot.{Slot}
 use Rattle.table_rule.specs.declared.slot.Slot.TheVariants as Slots
 use Rattle.table_rule.specs.declared.view.HoldView.{HoldView}
 use Rattle.table_rule.specs.declared.view.View.{View}
-use Rattle.table_rule.specs.Words.{flag_at, count_at, stop_at, node_at, mark_at}
+use Rattle.table_rule.specs.Words.{flag_at, count_at, stop_at, node_at}
 use Rattle.table_rule.specs.Batches.{IsPublishDue}
 use Rattle.core_model.specs.Entries.{StandsAt}
 use Rattle.table_rule.specs.Shows.{record_in, entry_of, reserved, IsFront}
-use Rattle.table_rule.specs.JobEvents.{IsTickEvent, IsOpenEvent, IsFinishEvent, IsArrival}
+use Rattle.table_rule.specs.Tasks.{IsNext}
 use Rattle.table_rule.specs.Passes.{call_by, claiming, refusing, with_task, opening, keeping, stopping, finding_stop, finding_none, winning, losing, taking, passing, publishing, answering, releasing, leaving, staying}
-use Rattle.table_rule.specs.Views.{with_step, with_found, with_post, with_since, ticked, seeing_done, seeing_undone, enrolling}
+use Rattle.table_rule.specs.Views.{with_step, with_found, with_post, with_since, seeing_done, seeing_undone, enrolling}
 
 -- a seat: its view and the slots that it carries
 abbrev pub Sat : Type 0
@@ -37,18 +37,14 @@ abbrev pub strayed : Play
 strayed st m r n = (node : ℕ) × (st.first ≡ 4 + node) × (n ≡ (with_found r (refusing node) m.0, m.1)) × (m.0.nodes ≤ node)
 
 abbrev pub drawn : Play
-drawn st m r n = (r < 80000) × (event : Event) × IsTickEvent m.0.own.task event × (n ≡ (with_step (with_task event (ticked m.0.own.task r)) m.0, m.1))
-
--- `half_opened` opens the right side of a parallel block, and `opened` any other side
-abbrev pub half_opened : Play
-half_opened st m r n =
-    (node : ℕ) × (p : ℕ) × (l : ℕ) × (st.word ≡ node_at m.0.workers node) × (m.0.own.task ≡ Run p) × ((nodes_of m.0.plan).kind p ≡ Some (ParNode l node))
-    × (n ≡ (with_step (opening node (OpenParRight p l node) (Half p)) m.0, m.1))
+drawn st m r n =
+    (r < 80000)
+    × ((node leaf : ℕ) → IsNext m.0 (acts.Start node leaf) → n ≡ (with_step (with_task (Start node) (Started node r)) m.0, m.1))
+    × ((node start : ℕ) → IsNext m.0 (acts.End node start) → n ≡ (with_step (with_task (End node start) (Ended node start r)) m.0, m.1))
 
 abbrev pub opened : Play
 opened st m r n =
-    (node : ℕ) × (event : Event) × (st.word ≡ node_at m.0.workers node) × IsOpenEvent (nodes_of m.0.plan) m.0.own.task node event
-    × (n ≡ (with_step (opening node event Idle) m.0, m.1))
+    (node : ℕ) (task : Task) (event : Event) → IsNext m.0 (acts.Open node task event) → n ≡ (with_step (opening node event task) m.0, m.1)
 
 abbrev pub kept : Play
 kept st m r n =
@@ -56,15 +52,13 @@ kept st m r n =
 
 abbrev pub finished : Play
 finished st m r n =
-    (node : ℕ) × (event : Event) × (st.word ≡ node_at m.0.workers node) × IsFinishEvent (nodes_of m.0.plan) m.0.own.task node event
-    × (n ≡ (with_step (with_task event (task_after node)) m.0, m.1))
+    (node : ℕ) (event : Event) → IsNext m.0 (acts.Finish node event) → n ≡ (with_step (with_task event (task_after node)) m.0, m.1)
 
 -- the first arrival found the mark at 0, the second did not
 abbrev pub arrived : Play
 arrived st m r n =
-    (node : ℕ) × (left : ℕ) × (right : ℕ) × (side : ℕ) × (st.word ≡ mark_at m.0.workers m.0.nodes node)
-    × IsArrival (nodes_of m.0.plan) m.0.own.task node left right side
-    × (r ≡ 0 → n ≡ (with_step (with_task (ArriveFirst node left right side) Idle) m.0, m.1))
+    (node left right side : ℕ) → IsNext m.0 (acts.Arrive node left right side)
+    → (r ≡ 0 → n ≡ (with_step (with_task (ArriveFirst node left right side) Idle) m.0, m.1))
     × (r ≢ 0 → n ≡ (with_step (with_task (ArriveSecond node left right side) (Handed node)) m.0, m.1))
 
 abbrev pub looked_at_root : Play

@@ -47,12 +47,6 @@ IsRecordOf job book task call =
     (node : ℕ) × (start : ℕ) × (task ≡ Started node start) × (job.plan.kind node ≡ Some (LeafNode call.leaf))
     × (op_of job.act book call.leaf ≡ Some call.op)
 
--- The call may be posted: the task is `Started` at its leaf, and its operation is the leaf's under every book.
-abbrev pub IsPostDue : CoreJob → Task → OpRecord → Type 0
-IsPostDue job task call =
-    (node : ℕ) × (start : ℕ) × (task ≡ Started node start) × (job.plan.kind node ≡ Some (LeafNode call.leaf))
-    × ((book : List (List Entry)) → op_of job.act book call.leaf ≡ Some call.op)
-
 -- A worker's record slot, by its status. Pending: it is in the table, with the call. Executing: it is not in the table.
 -- Served: it is in the table, with the receipt. Free: nothing is said.
 abbrev pub RecordAt : CoreJob → List (List Entry) → Task → Status → Home → Type 0

@@ -5,7 +5,7 @@ use lib.ListN.{get_elem?}
 use Rattle.atomic_table.specs.Table.{Act, Valid, carried_after, stepped}
 use Rattle.core_model.specs.State.{CoreJob, State}
 use Rattle.core_model.specs.Events.{Happens}
-use Rattle.table_rule.specs.CoreWords.{Event, Start, End, Leave, Receipt, Task, Idle, Run, Half, Started, Kept, Ended, Whole, Handed}
+use Rattle.table_rule.specs.CoreWords.{Event, Leave, Receipt}
 use Rattle.table_rule.specs.declared.slot.Slot.{Slot}
 use Rattle.table_rule.specs.declared.view.View.{View}
 use Rattle.table_rule.specs.Shows.{St, Shows}
@@ -40,17 +40,6 @@ Makes job k event before after = Happens job before k event after
 -- a stutter: the state shown stays
 abbrev pub Stays : State → ℕ → State → Type 0
 Stays before found after = after ≡ before
-
--- the draw of a tick: the task's leaf starts or ends
-abbrev pub DrawMakes : CoreJob → ℕ → Task → State → State → Type 0
-DrawMakes job k Idle before after = ⊥
-DrawMakes job k (Run n) before after = Happens job before k (Start n) after
-DrawMakes job k (Half n) before after = ⊥
-DrawMakes job k (Started n start) before after = ⊥
-DrawMakes job k (Kept n start) before after = Happens job before k (End n start) after
-DrawMakes job k (Ended n start end) before after = ⊥
-DrawMakes job k (Whole n) before after = ⊥
-DrawMakes job k (Handed n) before after = ⊥
 
 -- the step is worker k's `Leave` with some receipt
 abbrev pub LeaveMakes : CoreJob → ℕ → State → State → Type 0

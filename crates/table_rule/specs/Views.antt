@@ -4,7 +4,7 @@ use Rattle.std.specs.Prelude.{ℕ, ◌+◌, Bool, Option as Maybe, Some, true, f
 use Rattle.sp_order.specs.Jobs.{job_tree}
 use Rattle.core_model.specs.Words.{Tree}
 use Rattle.core_model.specs.declared.setting.Setting.{Setting}
-use Rattle.table_rule.specs.CoreWords.{Event, Task, Idle, Run, Half, Started, Kept, Ended, Whole, Handed}
+use Rattle.table_rule.specs.CoreWords.{Event}
 use Rattle.table_rule.specs.declared.slot.OpRecord.{OpRecord}
 use Rattle.table_rule.specs.declared.view.PassView.{PassView}
 use Rattle.table_rule.specs.declared.view.View.{View}
@@ -54,17 +54,6 @@ with_step f v = record v { own = f v.own; just_posted = false }
 
 abbrev pub with_found : ℕ → (PassView → PassView) → View → View
 with_found word f v = record v { own = f v.own; found = word; just_posted = false }
-
--- the task after its tick is drawn; the other tasks stay
-abbrev pub ticked : Task → ℕ → Task
-ticked Idle tick = Idle
-ticked (Run n) tick = Started n tick
-ticked (Half n) tick = Half n
-ticked (Started n start) tick = Started n start
-ticked (Kept n start) tick = Ended n start tick
-ticked (Ended n start end) tick = Ended n start end
-ticked (Whole n) tick = Whole n
-ticked (Handed n) tick = Handed n
 
 -- after a post of this call, by this event
 abbrev pub with_post : OpRecord → Event → View → View

@@ -14,7 +14,7 @@ mod slot;
 mod view;
 
 pub use layout::{Layout, MOST_WORKERS};
-pub use progress::{RanLeaf, TICKS, decode_undoes_encode};
+pub use progress::{DONE, RanLeaf, TICKS, decode_undoes_encode};
 #[doc(hidden)]
 pub use slot::{OpRecord, Slot};
 pub use view::{HoldView, LeftCall, PassView, View};

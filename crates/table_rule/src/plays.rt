@@ -1,7 +1,7 @@
 //! The table's rule and one play for each kind of step: what a seat learns from that step (`specs/Plays.antt`).
 ghost use Rattle.table_rule.specs.Shows.{Shown};
 ghost use Rattle.table_rule.specs.Views.{first_view, pass_of, rest_of};
-ghost use Rattle.table_rule.specs.Plays.{claimed, strayed, drawn, half_opened, opened, kept, finished, arrived, looked_at_root, heard, enrolled, posted, won, took, admitted, published, answered, released_shop, released_both, left, stopped_all, looked_at_stop};
+ghost use Rattle.table_rule.specs.Plays.{claimed, strayed, drawn, opened, kept, finished, arrived, looked_at_root, heard, enrolled, posted, won, took, admitted, published, answered, released_shop, released_both, left, stopped_all, looked_at_stop};
 
 use crate::slot::Slot;
 use crate::view::View;
@@ -32,12 +32,6 @@ pub struct Draw;
 
 impl Play<Slot, View> for Draw {
     ghost then = { drawn };
-}
-
-pub struct OpenHalf;
-
-impl Play<Slot, View> for OpenHalf {
-    ghost then = { half_opened };
 }
 
 pub struct Open;

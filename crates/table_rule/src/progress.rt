@@ -9,7 +9,7 @@ use crate::layout::MOST_WORKERS;
 pub const TICKS: u64 = 1 << 20;
 
 /// The code of a node that is done, in the word's two lowest bits. The worker's number stands above them.
-const DONE: u64 = 3;
+pub const DONE: u64 = 3;
 
 const CODES: u64 = 4;
 

@@ -1,2 +1,3 @@
 pub mod AddLemmas
 pub mod LaunchLemmas
+pub mod LeafLemmas

@@ -44,6 +44,7 @@ pub(crate) fn open_right(table: &CoreTable, pass: &mut Pass)
 
 /// And then its left side.
 pub(crate) fn open_left(table: &CoreTable, pass: &mut Pass)
+    requires two { IsTwoAdds table.now }
     requires half { IsAt table.now (Half 0) NotCalled pass.old }
     ensures idle { IsAt table.now Idle NotCalled pass.new }
 {

@@ -1,7 +1,6 @@
 //! Runs over the running table in two threads: their reports replayed by the serial objects, and beside the receipts.
 ghost use Rattle.std.specs.Prelude.{◌≡◌, ◌<◌, ◌≤◌, ◌+◌, ◌*◌, ◌^◌, IfOk};
-ghost use Rattle.core_table.specs.Passes.{job_in, pass_view};
-ghost use Rattle.worker_crew.specs.Seats.{IsSeat};
+ghost use Rattle.core_table.specs.Passes.{job_in, pass_view, IsPassOf};
 ghost use Rattle.worker_crew.specs.Workers.{IsReady};
 
 use crate::workers::{Made, Team};
@@ -112,10 +111,10 @@ fn work_as_crew<R: Threads + Wait + Sync, G: Pause + Sync>(
     calls: usize,
 ) -> (Result<Vec<Made>, Stop>, Result<Vec<Made>, Stop>)
     requires workers { crew.now.workers ≡ (job_in crew.now.table).workers }
-    requires zero { IsReady (IsSeat crew.now.table) pass_view crew.now.decks crew.now.board zero.old }
-    requires one { IsReady (IsSeat crew.now.table) pass_view crew.now.decks crew.now.board one.old }
+    requires zero { IsReady (IsPassOf crew.now.table) pass_view crew.now.decks crew.now.board zero.old }
+    requires one { IsReady (IsPassOf crew.now.table) pass_view crew.now.decks crew.now.board one.old }
     ensures { IfOk result.1 (λ _.
-        IsReady (IsSeat crew.now.table) pass_view crew.now.decks crew.now.board one.new) }
+        IsReady (IsPassOf crew.now.table) pass_view crew.now.decks crew.now.board one.new) }
 {
     crews_go_to_threads::<G>();
     workers_go_to_threads();

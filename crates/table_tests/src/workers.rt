@@ -2,16 +2,16 @@
 ghost use Rattle.std.specs.Prelude.{◌≡◌, [], Some, IfOk};
 ghost use Rattle.piece_board.specs.Boards.{desk_view};
 ghost use Rattle.worker_crew.specs.Passes.{IsFree};
-ghost use Rattle.core_table.specs.Passes.{job_in, pass_view};
-ghost use Rattle.worker_crew.specs.Seats.{IsSeat};
+ghost use Rattle.core_table.specs.Passes.{job_in, pass_view, IsPassOf};
 ghost use Rattle.worker_crew.specs.Workers.{IsMeOf, IsReady};
 
 use bt_io::{Pause, Point};
+use core_model::Next;
 use core_table::{CoreTable, Pass};
 use seq_objects::{spin, value};
 use std::alloc::Global;
 use std::sync::Wait;
-use worker_turns::{Called, Crew, Me, Step, Stop, Table, call};
+use worker_turns::{Called, Crew, Me, Stop, Table, call};
 
 /// A call that a worker made: its leaf, and what was answered.
 #[derive(Clone, Copy)]
@@ -20,19 +20,18 @@ pub(crate) struct Made {
     pub(crate) called: Called,
 }
 
-/// Makes one step of the task.
-fn make_step<T: Table, G: Pause, R: Wait>(
+/// Makes the worker's next act.
+fn make_act<T: Table, G: Pause, R: Wait>(
     rt: &R,
     alloc: Global,
     crew: &Crew<T, G>,
     me: &mut Me<T::Pass>,
-    step: Step,
+    act: Next,
     made: &mut Vec<Made>,
 ) -> Result<(), Stop>
     requires me { IsMeOf (T.gave crew.now.table) T.seen crew.now.decks crew.now.board me.old }
     requires free_pass { IsFree (T.seen me.old.pass) }
-    requires due { T.next_of crew.now.table (T.seen me.old.pass).task (T.seen me.old.pass).call
-        ≡ Some step }
+    requires due { T.next_of crew.now.table (T.seen me.old.pass) ≡ Some act }
     requires free { (desk_view me.old.desk).posted ≡ [] }
     requires workers { crew.now.workers ≡ T.workers crew.now.table }
     ensures me { IfOk result (λ _.
@@ -40,23 +39,47 @@ fn make_step<T: Table, G: Pause, R: Wait>(
     ensures free_pass { IfOk result (λ _. IsFree (T.seen me.new.pass)) }
     ensures free { IfOk result (λ _. (desk_view me.new.desk).posted ≡ []) }
 {
-    match step {
-        Step::Start(leaf) => {
+    match act {
+        Next::Start { node: _, leaf } => {
             crew.table.tick(&mut me.pass);
             crew.pause.at(Point::LeafStart(leaf), me.hand.worker());
         }
-        Step::End => crew.table.tick(&mut me.pass),
-        Step::Open => {
+        Next::End { node: _, start: _ } => crew.table.tick(&mut me.pass),
+        Next::Open {
+            node: _,
+            task: _,
+            event: _,
+        } => {
             crew.table.open_node(&mut me.pass);
         }
-        Step::Spin(n) => crew.table.keep(&mut me.pass, u64::from(spin(n))),
-        Step::Call { leaf, op: _ } => {
+        Next::Spin {
+            node: _,
+            start: _,
+            steps,
+        } => crew.table.keep(&mut me.pass, u64::from(spin(steps))),
+        Next::Call {
+            node: _,
+            start: _,
+            leaf,
+            op: _,
+        } => {
             let called = call(rt, alloc, crew, me, leaf)?;
             made.push(Made { leaf, called })?;
         }
-        Step::Got(reply) => crew.table.keep(&mut me.pass, value(reply)),
-        Step::Finish => crew.table.finish(&mut me.pass),
-        Step::Arrive => crew.table.arrive(&mut me.pass),
+        Next::Got {
+            node: _,
+            start: _,
+            reply,
+        } => crew.table.keep(&mut me.pass, value(reply)),
+        Next::Finish { node: _, event: _ } => crew.table.finish(&mut me.pass),
+        Next::Arrive {
+            parent: _,
+            left: _,
+            right: _,
+            side: _,
+        } => {
+            crew.table.arrive(&mut me.pass);
+        }
     }
     Ok(())
 }
@@ -79,10 +102,10 @@ fn try_node<T: Table, G: Pause, R: Wait>(
         return Ok(());
     }
     for _ in rt.forever() {
-        let Some(step) = crew.table.next(&me.pass) else {
+        let Some(act) = crew.table.next(&me.pass) else {
             return Ok(());
         };
-        make_step(rt, alloc, crew, me, step, made)?;
+        make_act(rt, alloc, crew, me, act, made)?;
     }
     unreachable!()
 }
@@ -154,7 +177,7 @@ pub(crate) trait Team<M> {
 
 impl<'a, G: Pause> Team<Me<Pass>> for Crew<'a, CoreTable, G> {
     ghost ready = { λ crew me. (crew.workers ≡ (job_in crew.table).workers)
-        × IsReady (IsSeat crew.table) pass_view crew.decks crew.board me };
+        × IsReady (IsPassOf crew.table) pass_view crew.decks crew.board me };
 
     fn work<R: Wait>(
         &self,

@@ -4,6 +4,4 @@ pub mod Words
 pub mod Holds
 pub mod Passes
 pub mod Workers
-pub mod Seats
 pub mod Opening
-pub mod NextSteps

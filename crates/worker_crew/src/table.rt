@@ -1,23 +1,25 @@
 //! The interface of the shared table: what a worker's turns need of it.
 ghost use Rattle.std.specs.Prelude.{◌≡◌, ◌≢◌, ◌<◌, ℕ, true, false, Some, Option};
 ghost use Rattle.std.specs.Prelude.{IfSome, IfNone, IfOk, IfErr, IsNone};
-ghost use Rattle.worker_crew.specs.Words.{Task as TaskOf, CallState as CallOf, Idle};
-ghost use Rattle.worker_crew.specs.declared.step.Step.{Step as StepOf};
-ghost use Rattle.worker_crew.specs.declared.step.Step.TheVariants as Steps;
+ghost use Rattle.worker_crew.specs.Words.{Task as TaskOf, Idle};
+ghost use Rattle.core_model.specs.declared.event.Event.{Event};
+ghost use Rattle.core_model.specs.declared.event.Event.TheVariants as events;
+ghost use Rattle.core_model.specs.declared.next.Next.{Next as NextOf};
+ghost use Rattle.core_model.specs.declared.next.Next.TheVariants as acts;
+ghost use Rattle.core_model.specs.declared.task.Task.TheVariants.{Started, Ended, Handed};
+ghost use Rattle.core_model.specs.Events.{task_after};
 ghost use Rattle.worker_crew.specs.Holds.{IsLooking, IsPublishDue, IsAnswerDue, IsReleaseDue};
 ghost use Rattle.worker_crew.specs.Holds.{StayFit};
 ghost use Rattle.table_rule.specs.declared.view.PassView.{PassView};
-ghost use Rattle.table_rule.specs.Passes.{claiming, refusing, stopping, finding_stop, finding_none};
+ghost use Rattle.table_rule.specs.Passes.{claiming, refusing, with_task, opening, stopping, finding_stop, finding_none};
 ghost use Rattle.table_rule.specs.Passes.{hearing, staying, winning, losing, taking, passing};
 ghost use Rattle.table_rule.specs.Passes.{publishing, answering, releasing};
-ghost use Rattle.worker_crew.specs.Passes.{IsFree, IsTrapped, IsHeld, IsTick, IsValue};
-ghost use Rattle.worker_crew.specs.Passes.{HasTicked, HasOpened, HasKept, HasFinished, HasArrived, HasPosted};
+ghost use Rattle.worker_crew.specs.Passes.{IsFree, IsTrapped, IsHeld, HasKept, HasPosted};
+ghost use Rattle.table_rule.specs.DueActs.{IsTickDue, IsOpenDue, IsKeepDue, IsPostDue, IsFinishDue, IsArriveDue};
 ghost use Rattle.worker_crew.specs.Passes.{IsLeft, IsDue, IsFront};
-ghost use Rattle.sp_order.specs.Plans.{Nodes};
 
-use crate::step::Step;
 use batch_history::Batch;
-use core_model::Receipt;
+use core_model::{Next, Receipt};
 use launch_batch::Shop;
 use seq_objects::{Call, Op};
 
@@ -36,11 +38,8 @@ pub trait Table {
     /// The number of workers.
     ghost workers: { Self → ℕ };
 
-    /// The job's plan. With the task before a step it determines the step's event.
-    ghost plan: { Self → Nodes };
-
-    /// The next step of a task, given the state of its call.
-    ghost next_of: { Self → TaskOf → CallOf → Option StepOf };
+    /// The next act of a pass, by its task and the state of its call.
+    ghost next_of: { Self → PassView → Option NextOf };
 
     /// The latest step of the pass was a post.
     ghost just_posted: { Self.Pass → Type 0 };
@@ -48,11 +47,11 @@ pub trait Table {
     /// Some `root_done` of the pass has returned true.
     ghost saw_done: { Self.Pass → Type 0 };
 
-    /// The next step of a free worker's task. `None` implies that the task is idle.
-    fn next(&self, pass: &Self::Pass) -> Option<Step>
+    /// What a free worker does next. `None` implies that its task is idle.
+    fn next(&self, pass: &Self::Pass) -> Option<Next>
         requires pass { gave self.now pass.now }
         requires free { IsFree (seen pass.now) }
-        ensures next { result ≡ next_of self.now (seen pass.now).task (seen pass.now).call }
+        ensures next { result ≡ next_of self.now (seen pass.now) }
         ensures idle { IsNone result → (seen pass.now).task ≡ Idle };
 
     /// Tries to claim a node for an idle worker. True: the node is the worker's task.
@@ -68,24 +67,28 @@ pub trait Table {
     fn tick(&self, pass: &mut Self::Pass)
         requires pass { gave self.now pass.old }
         requires free { IsFree (seen pass.old) }
-        requires due { IsTick (next_of self.now (seen pass.old).task (seen pass.old).call) }
+        requires due { IsTickDue (next_of self.now (seen pass.old)) }
         ensures pass { gave self.now pass.new }
-        ensures ticked { HasTicked (seen pass.old) (seen pass.new) };
+        ensures started { (n leaf : ℕ) → next_of self.now (seen pass.old) ≡ Some (acts.Start n leaf)
+            → (tick : ℕ) × (seen pass.new ≡ with_task (events.Start n) (Started n tick) (seen pass.old)) }
+        ensures ended { (n start : ℕ) → next_of self.now (seen pass.old) ≡ Some (acts.End n start)
+            → (tick : ℕ) × (seen pass.new ≡ with_task (events.End n start) (Ended n start tick) (seen pass.old)) };
 
     /// Opens the next side of a block. Returns the node that this makes ready.
     fn open_node(&self, pass: &mut Self::Pass) -> u32
         requires pass { gave self.now pass.old }
         requires free { IsFree (seen pass.old) }
-        requires due { next_of self.now (seen pass.old).task (seen pass.old).call
-            ≡ Some Steps.Open }
+        requires due { IsOpenDue (next_of self.now (seen pass.old)) }
         ensures pass { gave self.now pass.new }
-        ensures opened { HasOpened (plan self.now) result (seen pass.old) (seen pass.new) };
+        ensures opened { (n : ℕ) (task : TaskOf) (event : Event)
+            → next_of self.now (seen pass.old) ≡ Some (acts.Open n task event)
+            → (result ≡ n) × (seen pass.new ≡ opening n event task (seen pass.old)) };
 
     /// Keeps the value of a leaf: that of its work, or that of its call's reply.
     fn keep(&self, pass: &mut Self::Pass, value: u64)
         requires pass { gave self.now pass.old }
         requires free { IsFree (seen pass.old) }
-        requires due { IsValue (next_of self.now (seen pass.old).task (seen pass.old).call) value }
+        requires due { IsKeepDue (next_of self.now (seen pass.old)) value }
         ensures pass { gave self.now pass.new }
         ensures kept { HasKept value (seen pass.old) (seen pass.new) };
 
@@ -93,20 +96,25 @@ pub trait Table {
     fn finish(&self, pass: &mut Self::Pass)
         requires pass { gave self.now pass.old }
         requires free { IsFree (seen pass.old) }
-        requires due { next_of self.now (seen pass.old).task (seen pass.old).call
-            ≡ Some Steps.Finish }
+        requires due { IsFinishDue (next_of self.now (seen pass.old)) }
         ensures pass { gave self.now pass.new }
-        ensures finished { HasFinished (plan self.now) (seen pass.old) (seen pass.new) };
+        ensures finished { (n : ℕ) (event : Event)
+            → next_of self.now (seen pass.old) ≡ Some (acts.Finish n event)
+            → seen pass.new ≡ with_task event (task_after n) (seen pass.old) };
 
-    /// Arrives at the join of a parallel block. The first arrival leaves the task idle; the second continues with the
-    /// block.
-    fn arrive(&self, pass: &mut Self::Pass)
+    /// Arrives at the join of a parallel block. The first arrival leaves the task idle; the second, `true`, continues
+    /// with the block.
+    fn arrive(&self, pass: &mut Self::Pass) -> bool
         requires pass { gave self.now pass.old }
         requires free { IsFree (seen pass.old) }
-        requires due { next_of self.now (seen pass.old).task (seen pass.old).call
-            ≡ Some Steps.Arrive }
+        requires due { IsArriveDue (next_of self.now (seen pass.old)) }
         ensures pass { gave self.now pass.new }
-        ensures arrived { HasArrived (plan self.now) (seen pass.old) (seen pass.new) };
+        ensures first { result ≡ false → (p l r n : ℕ)
+            → next_of self.now (seen pass.old) ≡ Some (acts.Arrive p l r n)
+            → seen pass.new ≡ with_task (events.ArriveFirst p l r n) Idle (seen pass.old) }
+        ensures second { result ≡ true → (p l r n : ℕ)
+            → next_of self.now (seen pass.old) ≡ Some (acts.Arrive p l r n)
+            → seen pass.new ≡ with_task (events.ArriveSecond p l r n) (Handed p) (seen pass.old) };
 
     /// Looks at the stop word. True: it is set.
     fn stopped(&self, pass: &mut Self::Pass) -> bool
@@ -132,8 +140,7 @@ pub trait Table {
     fn post(&self, pass: &mut Self::Pass, leaf: u32, op: Op)
         requires pass { gave self.now pass.old }
         requires free { IsFree (seen pass.old) }
-        requires due { next_of self.now (seen pass.old).task (seen pass.old).call
-            ≡ Some (Steps.Call leaf op) }
+        requires due { IsPostDue (next_of self.now (seen pass.old)) (record { leaf = leaf; op = op }) }
         ensures pass { gave self.now pass.new }
         ensures posted { HasPosted leaf op (seen pass.old) (seen pass.new) }
         ensures just_posted { just_posted pass.new };

@@ -8,7 +8,6 @@ ghost use Rattle.table_rule.specs.Views.{with_found, seeing_done};
 ghost use Rattle.core_model.specs.Reports.{IsRunReport};
 ghost use Rattle.worker_crew.specs.declared.crew.Me.{Me as MeOf};
 ghost use Rattle.worker_crew.specs.Workers.{IsReady};
-ghost use Rattle.worker_crew.specs.Seats.{IsSeat};
 ghost use Rattle.worker_crew.specs.Opening.{AreAtStart};
 ghost use Rattle.worker_loop.specs.Ends.{HasEnded};
 
@@ -45,7 +44,7 @@ trait SharedRun {
 
 impl<'a, G: Pause> SharedRun for Crew<'a, G> {
     ghost ready = { λ crew me. (crew.workers ≡ (job_in crew.table).workers)
-        × IsReady (IsSeat crew.table) pass_view crew.decks crew.board me };
+        × IsReady (IsPassOf crew.table) pass_view crew.decks crew.board me };
 
     ghost gave = { λ crew pass. IsPassOf crew.table pass };
 
@@ -93,7 +92,7 @@ fn work_as_crew<R: Threads + Wait + Sync, G: Pause + Sync>(
     mes: Vec<Me>,
 ) -> Result<Vec<Pass>, AllocError>
     requires workers { crew.now.workers ≡ (job_in crew.now.table).workers }
-    requires start { AreAtStart (IsSeat crew.now.table) pass_view crew.now.decks crew.now.board
+    requires start { AreAtStart (IsPassOf crew.now.table) pass_view crew.now.decks crew.now.board
         crew.now.workers crew.now.workers mes.items }
     ensures count { IfOk result (λ passes. length passes.items ≡ crew.now.workers) }
     ensures passes { IfOk result (λ passes. (w : ℕ) (pass : PassOf) → w < length passes.items

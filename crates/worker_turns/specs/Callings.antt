@@ -1,31 +1,25 @@
--- The call that a task's next step makes, its entry in the book, and its events.
-use Rattle.std.specs.Prelude.{ℕ, ◌≡◌, Option, None, Some, List, [], ◌∷◌, ◌++◌}
+-- The call that a worker's next act makes, its entry in the book, and its events.
+use Rattle.std.specs.Prelude.{ℕ, ◌≡◌, Option, Some, List, [], ◌∷◌, ◌++◌}
 use Rattle.core_model.specs.Entries.{StandsAt}
-use Rattle.worker_crew.specs.declared.step.Step.{Step}
-use Rattle.worker_crew.specs.declared.step.Step.TheVariants as steps
+use Rattle.core_model.specs.declared.next.Next.{Next}
+use Rattle.core_model.specs.declared.next.Next.TheVariants as acts
+use Rattle.table_rule.specs.DueActs.{IsPostDue}
 use Rattle.core_model.specs.Words.{Op, Entry}
 use Rattle.core_model.specs.declared.event.Event.TheVariants.{Post, Leave}
 use Rattle.core_model.specs.declared.task.Task.TheVariants.{Started}
 use Rattle.worker_crew.specs.Words.{Event, Receipt}
 use Rattle.table_rule.specs.declared.view.PassView.{PassView}
 
--- the step is the call of this leaf, with any operation
-abbrev pub IsCallDue : ℕ → Option Step → Type 0
-IsCallDue leaf None = ⊥
-IsCallDue leaf (Some (steps.Start n)) = ⊥
-IsCallDue leaf (Some steps.End) = ⊥
-IsCallDue leaf (Some steps.Open) = ⊥
-IsCallDue leaf (Some (steps.Spin n)) = ⊥
-IsCallDue leaf (Some (steps.Call n op)) = n ≡ leaf
-IsCallDue leaf (Some (steps.Got reply)) = ⊥
-IsCallDue leaf (Some steps.Finish) = ⊥
-IsCallDue leaf (Some steps.Arrive) = ⊥
+-- the next act is the call of this leaf, with any operation
+abbrev pub IsCallDue : ℕ → Option Next → Type 0
+IsCallDue leaf (Some (acts.Call n start u op)) = u ≡ leaf
+IsCallDue leaf _ = ⊥
 
 -- The call of this leaf was due, with some operation. At the receipt's batch and place, the book has the entry with
 -- this leaf, this worker, that operation and the receipt's reply.
-abbrev pub IsServedAs : Option Step → ℕ → ℕ → Receipt → List (List Entry) → Type 0
+abbrev pub IsServedAs : Option Next → ℕ → ℕ → Receipt → List (List Entry) → Type 0
 IsServedAs due leaf worker receipt book =
-    (op : Op) × (due ≡ Some (steps.Call leaf op))
+    (op : Op) × IsPostDue due (record { leaf = leaf; op = op })
     × StandsAt book receipt.batch receipt.place (record { leaf = leaf; worker = worker; op = op; reply = receipt.reply })
 
 -- the receipt of this leaf's call is the latest of those left

@@ -3,7 +3,7 @@ ghost use Rattle.std.specs.Prelude.{◌≡◌, ◌≤◌, ◌<◌, ◌+◌, Some
 ghost use Rattle.worker_crew.specs.Words.{Got};
 ghost use Rattle.piece_board.specs.Boards.{desk_view};
 ghost use Rattle.two_deques.specs.Hands.{held};
-ghost use Rattle.worker_crew.specs.declared.step.Step.TheVariants as Steps;
+ghost use Rattle.table_rule.specs.DueActs.{IsPostDue};
 ghost use Rattle.worker_crew.specs.Passes.{IsFree, IsFront};
 ghost use Rattle.worker_turns.specs.Callings.{IsCallDue, IsServedAs, HasLeft, HasCalled};
 ghost use Rattle.worker_crew.specs.Workers.{IsMeOf};
@@ -14,12 +14,12 @@ ghost use Rattle.worker_turns.specs.Free.{Helps};
 use crate::back_off::back_off;
 use crate::trapped::{Trapped, trapped_turn};
 use bt_io::{Pause, Point};
-use core_model::Receipt;
+use core_model::{Next, Receipt};
 use crossbeam_utils::Backoff;
 use seq_objects::Op;
 use std::alloc::Global;
 use std::sync::Wait;
-use worker_crew::{Crew, Me, Step, Stop, Table};
+use worker_crew::{Crew, Me, Stop, Table};
 
 /// The receipt of a call, and the number of batches published at a look just after the post.
 #[derive(Clone, Copy)]
@@ -32,13 +32,18 @@ pub struct Called {
 fn op_due<T: Table>(table: &T, pass: &T::Pass, leaf: u32) -> Op
     requires pass { T.gave table.now pass.now }
     requires free { IsFree (T.seen pass.now) }
-    requires due { IsCallDue leaf
-        (T.next_of table.now (T.seen pass.now).task (T.seen pass.now).call) }
-    ensures { T.next_of table.now (T.seen pass.now).task (T.seen pass.now).call
-        ≡ Some (Steps.Call leaf result) }
+    requires due { IsCallDue leaf (T.next_of table.now (T.seen pass.now)) }
+    ensures { IsPostDue (T.next_of table.now (T.seen pass.now)) (record { leaf = leaf; op = result }) }
 {
     match table.next(pass) {
-        Some(Step::Call { leaf: _, op }) => op,
+        Some(
+            Next::Call {
+                node: _,
+                start: _,
+                leaf: _,
+                op,
+            },
+        ) => op,
         _ => unreachable!(),
     }
 }
@@ -55,15 +60,14 @@ pub fn call<T: Table, G: Pause, R: Wait>(
 ) -> Result<Called, Stop>
     requires me { IsMeOf (T.gave crew.now.table) T.seen crew.now.decks crew.now.board me.old }
     requires free_pass { IsFree (T.seen me.old.pass) }
-    requires due { IsCallDue leaf
-        (T.next_of crew.now.table (T.seen me.old.pass).task (T.seen me.old.pass).call) }
+    requires due { IsCallDue leaf (T.next_of crew.now.table (T.seen me.old.pass)) }
     requires free { (desk_view me.old.desk).posted ≡ [] }
     requires workers { crew.now.workers ≡ T.workers crew.now.table }
     ensures pass { T.gave crew.now.table me.new.pass }
     ensures me { IfOk result (λ _.
         IsMeOf (T.gave crew.now.table) T.seen crew.now.decks crew.now.board me.new) }
     ensures stands { IfOk result (λ called. IsServedAs
-        (T.next_of crew.now.table (T.seen me.old.pass).task (T.seen me.old.pass).call)
+        (T.next_of crew.now.table (T.seen me.old.pass))
         leaf (T.seen me.old.pass).worker called.receipt (T.seen me.new.pass).book_seen) }
     ensures first { IfOk result (λ called. (T.seen me.new.pass).first_since ≡ Some called.since) }
     ensures soon { IfOk result (λ called. called.receipt.batch ≤ called.since + 1) }

@@ -9,24 +9,24 @@ ghost use Rattle.worker_turns.specs.Free.{RanToIdle};
 
 use crate::calling::call;
 use bt_io::{Pause, Point};
+use core_model::Next;
 use seq_objects::value;
 use seq_objects::work::spin;
 use std::alloc::Global;
 use std::sync::Wait;
-use worker_crew::{Crew, Me, Step, Stop, Table};
+use worker_crew::{Crew, Me, Stop, Table};
 
-/// Makes the task's next step. A `Call` step takes as long as the call.
-fn make_step<T: Table, G: Pause, R: Wait>(
+/// Makes the worker's next act. A `Call` takes as long as the call.
+fn make_act<T: Table, G: Pause, R: Wait>(
     rt: &R,
     alloc: Global,
     crew: &Crew<T, G>,
     me: &mut Me<T::Pass>,
-    step: Step,
+    act: Next,
 ) -> Result<(), Stop>
     requires me { IsMeOf (T.gave crew.now.table) T.seen crew.now.decks crew.now.board me.old }
     requires free_pass { IsFree (T.seen me.old.pass) }
-    requires due { T.next_of crew.now.table (T.seen me.old.pass).task (T.seen me.old.pass).call
-        ≡ Some step }
+    requires due { T.next_of crew.now.table (T.seen me.old.pass) ≡ Some act }
     requires free { (desk_view me.old.desk).posted ≡ [] }
     requires workers { crew.now.workers ≡ T.workers crew.now.table }
     ensures pass { T.gave crew.now.table me.new.pass }
@@ -37,30 +37,54 @@ fn make_step<T: Table, G: Pause, R: Wait>(
     ensures carried { IfOk result (λ _. RanToIdle (me_seen T.seen me.old) (me_seen T.seen me.new)) }
     ensures stopped { IfErr result (λ stop. IsStop stop (T.seen me.old.pass) (T.seen me.new.pass)) }
 {
-    match step {
-        Step::Start(leaf) => {
+    match act {
+        Next::Start { node: _, leaf } => {
             crew.table.tick(&mut me.pass);
             crew.pause.at(Point::LeafStart(leaf), me.hand.worker());
         }
-        Step::End => crew.table.tick(&mut me.pass),
-        Step::Open => {
+        Next::End { node: _, start: _ } => crew.table.tick(&mut me.pass),
+        Next::Open {
+            node: _,
+            task: _,
+            event: _,
+        } => {
             let node = crew.table.open_node(&mut me.pass);
             if crew.decks.push_core(&mut me.hand, node).is_err() {
                 return Err(Stop::Memory);
             }
         }
-        Step::Spin(n) => crew.table.keep(&mut me.pass, u64::from(spin(n))),
-        Step::Call { leaf, op: _ } => {
+        Next::Spin {
+            node: _,
+            start: _,
+            steps,
+        } => crew.table.keep(&mut me.pass, u64::from(spin(steps))),
+        Next::Call {
+            node: _,
+            start: _,
+            leaf,
+            op: _,
+        } => {
             call(rt, alloc, crew, me, leaf)?;
         }
-        Step::Got(reply) => crew.table.keep(&mut me.pass, value(reply)),
-        Step::Finish => crew.table.finish(&mut me.pass),
-        Step::Arrive => crew.table.arrive(&mut me.pass),
+        Next::Got {
+            node: _,
+            start: _,
+            reply,
+        } => crew.table.keep(&mut me.pass, value(reply)),
+        Next::Finish { node: _, event: _ } => crew.table.finish(&mut me.pass),
+        Next::Arrive {
+            parent: _,
+            left: _,
+            right: _,
+            side: _,
+        } => {
+            crew.table.arrive(&mut me.pass);
+        }
     }
     Ok(())
 }
 
-/// Makes the task's steps until it is idle. A second arrival or the last side of a series continues with the block.
+/// Makes the worker's acts until its task is idle. A second arrival or the last side of a series continues with the block.
 pub(crate) fn run_to_idle<T: Table, G: Pause, R: Wait>(
     rt: &R,
     alloc: Global,
@@ -81,10 +105,10 @@ pub(crate) fn run_to_idle<T: Table, G: Pause, R: Wait>(
     ensures stopped { IfErr result (λ stop. IsStop stop (T.seen me.old.pass) (T.seen me.new.pass)) }
 {
     for _ in rt.forever() {
-        let Some(step) = crew.table.next(&me.pass) else {
+        let Some(act) = crew.table.next(&me.pass) else {
             return Ok(());
         };
-        make_step(rt, alloc, crew, me, step)?;
+        make_act(rt, alloc, crew, me, act)?;
     }
     unreachable!()
 }

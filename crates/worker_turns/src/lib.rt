@@ -27,4 +27,4 @@ pub use free::{Did, free_turn};
 pub use launching::launch;
 pub use trapped::{Trapped, trapped_turn};
 pub use worker::work;
-pub use worker_crew::{BatchPieces, Crew, Me, Step, Stop, Table};
+pub use worker_crew::{BatchPieces, Crew, Me, Stop, Table};

@@ -13,8 +13,8 @@ use Rattle.table_rule.specs.Views.{enrolling, pass_of}
 use Rattle.table_rule.specs.Carries.{Carries}
 use Rattle.table_rule.specs.Remembers.{Remembers}
 use Rattle.core_table.proofs.ListLemmas.Owed.{remembers_none}
-use Rattle.core_table.specs.Passes.{IsSeatOf}
-use Rattle.table_rule.specs.DueTasks.{TaskHere}
+use Rattle.core_table.specs.Passes.{IsSeatOf, LooksFit}
+use Rattle.table_rule.specs.Tasks.{TaskHere}
 use Rattle.table_rule.specs.Views.{rest_from}
 
 pub each_push : {A : Type 0} (P : ℕ → A → Type 0) (l : List A) (x : A) → ((w : ℕ) → IfSome (slice_get l w) (P w)) → P (length l) x → (w : ℕ) → IfSome (slice_get (l ++ x ∷ []) w) (P w)
@@ -45,4 +45,5 @@ new_pass setting table k seat low same is = (
   subst (Carries k) (sym is) (carries_new k setting),
   subst (λ (m : Sat). Remembers m.0 [] false) (sym is) (remembers_none (fresh k setting) [] false refl refl),
   ap (λ (m : Sat). nodes_of m.0.plan) is,
+  subst (LooksFit setting.workers) (sym (ap (λ (m : Sat). m.0.own.hold) is)) tt,
 )

@@ -1,5 +1,5 @@
 -- A pass still belongs to its table after each kind of call.
-use Rattle.std.proofs.Common.{ℕ, ◌≡◌, ◌≢◌, ◌+◌, Bool, true, false, Option as Maybe, None, Some, List, [], ◌∷◌, ◌++◌, get_or, refl, sym, ap, ◌∙◌, subst}
+use Rattle.std.proofs.Common.{ℕ, ◌≡◌, ◌≢◌, ◌≤◌, ◌+◌, Bool, true, false, Option as Maybe, None, Some, List, [], ◌∷◌, ◌++◌, get_or, refl, sym, ap, ◌∙◌, subst}
 use Rattle.std.proofs.lemmas.List.{map-append}
 use Rattle.sp_order.specs.Preorder.{nodes_of}
 use Rattle.atomic_table.specs.Table.{turned, rest}
@@ -23,8 +23,8 @@ use Rattle.table_rule.specs.Views.{with_step, with_found, with_post}
 use Rattle.table_rule.specs.Carries.{vacant, HolderCarries, Carries}
 use Rattle.table_rule.specs.Remembers.{Remembers}
 use Rattle.core_table.proofs.ListLemmas.Owed.{remembers_kept}
-use Rattle.core_table.specs.Passes.{IsSeatOf}
-use Rattle.table_rule.specs.DueTasks.{TaskHere}
+use Rattle.core_table.specs.Passes.{IsSeatOf, LooksFit}
+use Rattle.table_rule.specs.Tasks.{TaskHere}
 
 holder_kept : (b : Bool) (v w : View) (h : HoldView) (xs : List (ℕ × Slot)) → w.workers ≡ v.workers → w.room ≡ v.room → HolderCarries b v h xs → HolderCarries b w h xs
 holder_kept false v w h xs a b m = rw (a, b) m
@@ -37,28 +37,36 @@ carries_kept k v w xs workers room call hold m = record {
   holds = λ h is. holder_kept h.published v w h xs workers room (m.holds h (sym hold ∙ is));
 }
 
--- the views of a pass before and after a step that is not of the gate
-pub pass_kept : {owed : List ℕ} {published : Bool} (setting : Setting) (table : TableId) (k : ℕ) (old new : Seat Slot View) (w : View) → new.table_id ≡ old.table_id → new.me ≡ (w, old.me.1)
-    → w.workers ≡ old.me.0.workers → w.nodes ≡ old.me.0.nodes → w.room ≡ old.me.0.room → w.enrolled ≡ old.me.0.enrolled → w.own.task ≡ old.me.0.own.task → w.own.call ≡ old.me.0.own.call → w.own.hold ≡ old.me.0.own.hold → w.plan ≡ old.me.0.plan
+-- a pass after a step that leaves its call, its hold and its slots
+pub pass_stepped : {owed : List ℕ} {published : Bool} (setting : Setting) (table : TableId) (k : ℕ) (old new : Seat Slot View) (w : View) → new.table_id ≡ old.table_id → new.me ≡ (w, old.me.1)
+    → w.workers ≡ old.me.0.workers → w.nodes ≡ old.me.0.nodes → w.room ≡ old.me.0.room → w.enrolled ≡ old.me.0.enrolled → TaskHere (job_of setting) w.own.task → w.own.call ≡ old.me.0.own.call → w.own.hold ≡ old.me.0.own.hold → w.plan ≡ old.me.0.plan
     → IsSeatOf setting table k old owed published → IsSeatOf setting table k new owed published
-pass_kept {owed} {published} setting table k old new w same is workers nodes room enrolled task call hold plan p = (
+pass_stepped {owed} {published} setting table k old new w same is workers nodes room enrolled task call hold plan p = (
   same ∙ p.0,
   p.1,
   ap (λ (m : Sat). m.0.workers) is ∙ (workers ∙ p.2),
   ap (λ (m : Sat). m.0.nodes) is ∙ (nodes ∙ p.3),
   ap (λ (m : Sat). m.0.enrolled) is ∙ (enrolled ∙ p.4),
-  subst (TaskHere (job_of setting)) (sym (ap (λ (m : Sat). m.0.own.task) is ∙ task)) p.5,
+  subst (TaskHere (job_of setting)) (sym (ap (λ (m : Sat). m.0.own.task) is)) task,
   ap (λ (m : Sat). m.0.room) is ∙ (room ∙ p.6),
   subst (Carries k) (sym is) (carries_kept k old.me.0 w old.me.1 workers room call hold p.7),
   remembers_kept old.me.0 new.me.0 owed published (ap (λ (m : Sat). m.0.own.hold) is ∙ hold) p.8,
   ap nodes_of (ap (λ (m : Sat). m.0.plan) is ∙ plan) ∙ p.9,
+  subst (LooksFit setting.workers) (sym (ap (λ (m : Sat). m.0.own.hold) is ∙ hold)) p.10,
 )
+
+-- the same, where the task stays too
+pub pass_kept : {owed : List ℕ} {published : Bool} (setting : Setting) (table : TableId) (k : ℕ) (old new : Seat Slot View) (w : View) → new.table_id ≡ old.table_id → new.me ≡ (w, old.me.1)
+    → w.workers ≡ old.me.0.workers → w.nodes ≡ old.me.0.nodes → w.room ≡ old.me.0.room → w.enrolled ≡ old.me.0.enrolled → w.own.task ≡ old.me.0.own.task → w.own.call ≡ old.me.0.own.call → w.own.hold ≡ old.me.0.own.hold → w.plan ≡ old.me.0.plan
+    → IsSeatOf setting table k old owed published → IsSeatOf setting table k new owed published
+pass_kept setting table k old new w same is workers nodes room enrolled task call hold plan p =
+    pass_stepped setting table k old new w same is workers nodes room enrolled (subst (TaskHere (job_of setting)) (sym task) p.5) call hold plan p
 
 -- a pass after a gate call, from its new view and slots
 pub pass_made : {owed owed' : List ℕ} {published published' : Bool} (setting : Setting) (table : TableId) (k : ℕ) (old new : Seat Slot View) (w : View) (xs : List (ℕ × Slot)) → new.table_id ≡ old.table_id → new.me ≡ (w, xs)
-    → w.workers ≡ old.me.0.workers → w.nodes ≡ old.me.0.nodes → w.room ≡ old.me.0.room → w.enrolled ≡ old.me.0.enrolled → w.own.task ≡ old.me.0.own.task → w.plan ≡ old.me.0.plan → Carries k (w, xs) → Remembers w owed' published'
+    → w.workers ≡ old.me.0.workers → w.nodes ≡ old.me.0.nodes → w.room ≡ old.me.0.room → w.enrolled ≡ old.me.0.enrolled → w.own.task ≡ old.me.0.own.task → w.plan ≡ old.me.0.plan → Carries k (w, xs) → Remembers w owed' published' → LooksFit setting.workers w.own.hold
     → IsSeatOf setting table k old owed published → IsSeatOf setting table k new owed' published'
-pass_made {owed} {owed'} {published} {published'} setting table k old new w xs same is workers nodes room enrolled task plan carries remembers p = (
+pass_made {owed} {owed'} {published} {published'} setting table k old new w xs same is workers nodes room enrolled task plan carries remembers looks p = (
   same ∙ p.0,
   p.1,
   ap (λ (m : Sat). m.0.workers) is ∙ (workers ∙ p.2),
@@ -69,7 +77,15 @@ pass_made {owed} {owed'} {published} {published'} setting table k old new w xs s
   subst (Carries k) (sym is) carries,
   subst (λ (m : Sat). Remembers m.0 owed' published') (sym is) remembers,
   ap nodes_of (ap (λ (m : Sat). m.0.plan) is ∙ plan) ∙ p.9,
+  subst (λ (m : Sat). LooksFit setting.workers m.0.own.hold) (sym is) looks,
 )
+
+pub looks_at : (workers : ℕ) (hold : Maybe HoldView) (h : HoldView) → LooksFit workers hold → hold ≡ Some h → h.looks ≤ workers
+looks_at workers hold h fits at = subst (LooksFit workers) at fits
+
+-- a hold after a step that leaves this number of looks
+pub looks_after : (workers : ℕ) (f : HoldView → HoldView) (hold : Maybe HoldView) (h : HoldView) → hold ≡ Some h → (f h).looks ≤ workers → LooksFit workers (in_hold f hold)
+looks_after workers f hold h at low = subst (λ (o : Maybe HoldView). LooksFit workers (in_hold f o)) (sym at) low
 
 -- the head of a seat's list
 pub first : (m : Sat) (v : View) (k : ℕ) (x : Slot) (xs : List (ℕ × Slot)) → m ≡ (v, (k, x) ∷ xs) → m.1 ≡ (k, x) ∷ rest m.1

@@ -41,7 +41,8 @@ use Rattle.table_rule.specs.declared.slot.Slot.TheVariants as Slots
 use Rattle.table_rule.specs.Words.{stop_at, flag_at, status_code, flag_code, WordsShow}
 use Rattle.table_rule.specs.Laws.{Laws}
 use Rattle.table_rule.specs.Steps.{ShowsOne, Steps, TryMakes, Makes, LeaveMakes}
-use Rattle.table_rule.specs.Shows.{reserved, St, Home, IsFront, IsPostDue, IsRecordOf, RecordAt, ShopAt, IsBookHome, BookIf, BookAt, took_in, record_in, among, hold_of, HoldKnown, entry_of, Shows}
+use Rattle.table_rule.proofs.StepLemmas.NextActs.{MayPost}
+use Rattle.table_rule.specs.Shows.{reserved, St, Home, IsFront, IsRecordOf, RecordAt, ShopAt, IsBookHome, BookIf, BookAt, took_in, record_in, among, hold_of, HoldKnown, entry_of, Shows}
 use Rattle.table_rule.specs.Passes as W
 use Rattle.table_rule.specs.Views as V
 use Rattle.table_rule.specs.Plays as G
@@ -212,7 +213,7 @@ module _ (job : CoreJob) (room : ℕ) (laws : Laws job) (slots id : ℕ) (v : Vi
   same_receipt n x r e = let h = ap (λ (l : List (ℕ × Slot)). (get_or l 0 (n, Slots.Receipt x)).1) e in cc
 
   -- a post
-  pub posts : (call : OpRecord) → v.enrolled ≡ true → (is : IsPostDue job v.own.task call) → v.own.call ≡ NotCalled
+  pub posts : (call : OpRecord) → v.enrolled ≡ true → (is : MayPost job v.own.task call) → v.own.call ≡ NotCalled
       → Steps job room slots id (v, (k, Slots.Record call) ∷ xs) k (λ y. 1) (λ y. G.posted (step slots k 1 0 none) (v, (k, Slots.Record call) ∷ xs) 1) (λ before found after. Makes job k (Post is.0 is.1) before after)
   posts call enrolled is called t o wide me fits =
       let s = o.state in
@@ -254,7 +255,7 @@ module _ (job : CoreJob) (room : ℕ) (laws : Laws job) (slots id : ℕ) (v : Vi
         λ x e. (is.0, is.1, is.2, ap (λ (y : OpRecord). (V.with_post y (Post is.0 is.1) v, xs)) (same_call k call x e)),
       )
 
-  pub posts_at : (m : G.Sat) (call : OpRecord) → m ≡ (v, (k, Slots.Record call) ∷ xs) → v.enrolled ≡ true → (is : IsPostDue job v.own.task call) → v.own.call ≡ NotCalled
+  pub posts_at : (m : G.Sat) (call : OpRecord) → m ≡ (v, (k, Slots.Record call) ∷ xs) → v.enrolled ≡ true → (is : MayPost job v.own.task call) → v.own.call ≡ NotCalled
       → Steps job room slots id m k (λ y. 1) (λ y. G.posted (step slots k 1 0 none) m 1) (λ before found after. Makes job k (Post is.0 is.1) before after)
   posts_at m call e enrolled is called = subst (λ (m : G.Sat). Steps job room slots id m k (λ y. 1) (λ y. G.posted (step slots k 1 0 none) m 1) (λ before found after. Makes job k (Post is.0 is.1) before after)) (sym e) (posts call enrolled is called)
 

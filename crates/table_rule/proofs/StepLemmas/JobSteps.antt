@@ -1,5 +1,5 @@
 -- The steps of the job side.
-use Rattle.std.proofs.Common.{ℕ, ◌≡◌, ◌≢◌, ◌<◌, ◌+◌, ◌%◌, ◌^◌, true, false, Some, List, length, get_or, set, eqb, arith, refl, sym, ap, ◌∙◌, subst, inl, inr, get_or-set_other}
+use Rattle.std.proofs.Common.{ℕ, ◌≡◌, ◌≢◌, ◌<◌, ◌+◌, ◌%◌, ◌^◌, true, false, Option as Maybe, None, Some, List, length, get_or, set, eqb, arith, refl, sym, ap, ◌∙◌, subst, inl, inr, get_or-set_other}
 use Rattle.std.proofs.lemmas.Bool.Decides.{nat_tests}
 use Rattle.std.proofs.lemmas.Bool.{cases_eq}
 use mathlib.Core.Option.{none, some}
@@ -10,30 +10,34 @@ use Rattle.atomic_table.proofs.Lists.{exchanged}
 use Rattle.core_model.specs.declared.progress.Progress.{Progress}
 use Rattle.core_model.specs.declared.progress.Progress.TheVariants.{Waiting, Ready, Taken as IsTaken, Done, Ran}
 use Rattle.core_model.specs.declared.task.Task.{Task}
-use Rattle.core_model.specs.declared.task.Task.TheVariants.{Idle, Run, Half, Started, Kept, Ended, Whole, Handed}
+use Rattle.core_model.specs.declared.task.Task.TheVariants.{Idle, Run, Started, Kept, Ended, Handed}
 use Rattle.core_model.specs.declared.status.CallState.TheVariants.{NotCalled, Out}
 use Rattle.core_model.specs.declared.event.Event.{Event}
-use Rattle.core_model.specs.declared.event.Event.TheVariants.{Claim, Start, OpenParRight, OpenParLeft, OpenSeqLeft, OpenSeqRight, Keep, End, FinishLeaf, FinishSeq, FinishPar, ArriveFirst, ArriveSecond}
-use Rattle.sp_order.specs.declared.node.Kind.TheVariants.{SeqNode, ParNode}
-use Rattle.sp_order.specs.Plans.{IsSide, parent_of}
+use Rattle.core_model.specs.declared.event.Event.TheVariants.{Claim, Start, Keep, End, ArriveFirst, ArriveSecond}
+use Rattle.core_model.specs.declared.next.Next.{Next}
+use Rattle.core_model.specs.declared.next.Next.TheVariants as acts
+use Rattle.core_model.specs.Next.{next_act}
+use Rattle.sp_order.specs.declared.node.Kind.TheVariants.{ParNode}
+use Rattle.sp_order.specs.Plans.{IsSide}
 use Rattle.core_model.specs.Events.{Happens, task_after, value_in}
 use Rattle.core_model.specs.State.{put, CoreJob}
 use Rattle.core_model.specs.Tasks.{is_done}
-use Rattle.core_model.specs.Operations.{leaf_of, IsLeaf}
+use Rattle.core_model.specs.Operations.{leaf_of}
 use Rattle.table_rule.specs.declared.view.View.{View}
 use Rattle.table_rule.specs.declared.slot.Slot.{Slot}
 use Rattle.sp_order.specs.Preorder.{nodes_of}
-use Rattle.sp_order.specs.Plans.{Nodes}
-use Rattle.table_rule.specs.JobEvents.{IsTickEvent, IsOpenEvent, IsFinishEvent, IsArrival}
+use Rattle.table_rule.specs.Tasks.{TaskHere, progress_after, IsNext}
+use Rattle.table_rule.specs.DueActs.{IsTickDue}
+use Rattle.table_rule.proofs.StepLemmas.NextActs.{IsPlanned, act_is, next_stands}
+use Rattle.table_rule.proofs.StepLemmas.Sides.{block_in}
 use Rattle.table_rule.proofs.TableLemmas.Traces.{AddsEvent}
 use Rattle.table_rule.specs.Words.{stop_at, node_at, mark_at, value_at, tick_at, progress_code, WordsShow}
 use Rattle.table_rule.specs.Laws.{Laws}
-use Rattle.table_rule.specs.DueTasks.{IsTickDue}
-use Rattle.table_rule.specs.Steps.{ShowsOne, Steps, TryMakes, ArrivalMakes, Makes, DrawMakes}
+use Rattle.table_rule.specs.Steps.{ShowsOne, Steps, TryMakes, ArrivalMakes, Makes}
 use Rattle.table_rule.specs.Shows.{St, Shows, Mine}
-use Rattle.table_rule.specs.Plays.{claimed, drawn, half_opened, opened, kept, finished, arrived}
+use Rattle.table_rule.specs.Plays.{claimed, drawn, opened, kept, finished, arrived}
 use Rattle.table_rule.specs.Passes.{with_task, claiming, refusing, opening, keeping}
-use Rattle.table_rule.specs.Views.{with_step, with_found, ticked}
+use Rattle.table_rule.specs.Views.{with_step, with_found}
 use Rattle.table_rule.proofs.TableLemmas.Words.{put_at, put_other, set_node, set_mark, set_value, set_tick}
 use Rattle.table_rule.proofs.TableLemmas.Facts.{is_free}
 use Rattle.table_rule.proofs.TableLemmas.Moved.{mine_of, job_step, looked, found, missed, found_none, found_one, SameBut}
@@ -100,17 +104,18 @@ module _ (job : CoreJob) (room : ℕ) (laws : Laws job) (slots id : ℕ) (v : Vi
   outside : (t : St) (o : Shows job room t) → get_elem? t.views id ≡ some v → v.own.call ≢ Out → o.state.call k ≢ Out
   outside t o me inside e = inside (sym (mine_of job room t o id k v me from to).1.call ∙ e)
 
-  -- a draw of the tick
-  draws : (event : Event) (y : ℕ → Task) → IsTickEvent v.own.task event → v.own.call ≢ Out → ((tick : ℕ) → ticked v.own.task tick ≡ y tick)
+  -- a draw of the tick, and what it tells the seat of the task that it leaves
+  draws : (event : Event) (y : ℕ → Task) → v.own.call ≢ Out
+      → ((tick : ℕ) → tick < 80000 → drawn (step slots (tick_at P) 1 0 none) (v, xs) tick (with_step (with_task event (y tick)) v, xs))
       → ((t : St) (o : Shows job room t) → get_elem? t.views id ≡ some v → Happens job o.state k event (record o.state { tick = o.state.tick + 1; task = put o.state.task k (y o.state.tick) }))
-      → Steps job room slots id (v, xs) (tick_at P) (λ n. (n + 1) % 2 ^ 64) (drawn (step slots (tick_at P) 1 0 none) (v, xs)) (λ before found after. Makes job k (event) before after)
-  draws event y is_draw inside becomes happens t o wide me fits =
+      → Steps job room slots id (v, xs) (tick_at P) (λ n. (n + 1) % 2 ^ 64) (drawn (step slots (tick_at P) 1 0 none) (v, xs)) (λ before found after. Makes job k event before after)
+  draws event y inside told happens t o wide me fits =
       let s = o.state in
       let word = get_or t.words (tick_at P) 0 in
       let most = laws.ticks s o.parts in
       let room' : word < 80000 = omega (arith, most, laws.few, o.words.ticks) in
       let next : (word + 1) % 2 ^ 64 ≡ s.tick + 1 = omega (arith, o.words.ticks, room') in
-      let w : View = with_step (with_task event (ticked v.own.task word)) v in
+      let w : View = with_step (with_task event (y word)) v in
       let m = mine_of job room t o id k v me from to in (
         w,
         keeps,
@@ -118,19 +123,57 @@ module _ (job : CoreJob) (room : ℕ) (laws : Laws job) (slots id : ℕ) (v : Vi
         job_step job room laws t o id k v w (set t.words (tick_at P) ((word + 1) % 2 ^ 64)) event s.node s.mark s.value (s.tick + 1) s.call (y s.tick)
             (happens t o me) me from to enrolled (outside t o me inside) (outside t o me inside) (same w refl refl refl refl refl refl refl refl refl refl)
             record { events = refl; stops = refl; found = refl } (get_or-set_other t.words (tick_at P) (stop_at P) ((word + 1) % 2 ^ 64) 0 (λ e. omega arith))
-            (becomes word ∙ ap y o.words.ticks) m.1.call (λ x ne. refl) (λ done. done)
+            (ap y o.words.ticks) m.1.call (λ x ne. refl) (λ done. done)
             (subst (λ (z : ℕ). WordsShow P N (set t.words (tick_at P) z) s.node s.mark s.value s.status s.hold (s.tick + 1) (length s.book)) (sym next)
             (set_tick P N t.words s.node s.mark s.value s.status s.hold s.tick (length s.book) o.words (s.tick + 1))),
-        (room', event, is_draw, refl),
+        told word room',
       )
 
-  pub starts : (n : ℕ) → v.own.task ≡ Run n → IsLeaf (job.plan.kind n) → v.own.call ≢ Out → Steps job room slots id (v, xs) (tick_at P) (λ y. (y + 1) % 2 ^ 64) (drawn (step slots (tick_at P) 1 0 none) (v, xs)) (λ before found after. Makes job k (Start n) before after)
-  starts n task leaf inside = draws (Start n) (λ tick. Started n tick) (subst (λ (y : Task). IsTickEvent y (Start n)) (sym task) refl) inside (λ tick. ap (λ (y : Task). ticked y tick) task)
-      (λ t o me. let m = mine_of job room t o id k v me from to in record { worker_in = m.0; needs = (is_free job o.state k o.parts (outside t o me inside), m.1.task ∙ task, leaf); does = refl })
+  -- an act that the plan alone determines is the one that is due
+  is_due : (one two : Next) → IsPlanned one → next_act job v.own.task v.own.call ≡ Some two → IsNext v one → one ≡ two
+  is_due one two only due is = act_is job v one two planned only due is
 
-  pub ends : (n start : ℕ) → v.own.task ≡ Kept n start → v.own.call ≢ Out → Steps job room slots id (v, xs) (tick_at P) (λ y. (y + 1) % 2 ^ 64) (drawn (step slots (tick_at P) 1 0 none) (v, xs)) (λ before found after. Makes job k (End n start) before after)
-  ends n start task inside = draws (End n start) (λ tick. Ended n start tick) (subst (λ (y : Task). IsTickEvent y (End n start)) (sym task) refl) inside (λ tick. ap (λ (y : Task). ticked y tick) task)
-      (λ t o me. let m = mine_of job room t o id k v me from to in record { worker_in = m.0; needs = (is_free job o.state k o.parts (outside t o me inside), m.1.task ∙ task); does = refl })
+  pub starts : (n leaf : ℕ) → TaskHere job v.own.task → next_act job v.own.task v.own.call ≡ Some (acts.Start n leaf) → v.own.call ≢ Out
+      → Steps job room slots id (v, xs) (tick_at P) (λ y. (y + 1) % 2 ^ 64) (drawn (step slots (tick_at P) 1 0 none) (v, xs)) (λ before found after. Makes job k (Start n) before after)
+  starts n leaf here due inside =
+      let stands = next_stands job laws v.own.call v.own.task (acts.Start n leaf) here due in
+      draws (Start n) (λ tick. Started n tick) inside
+      (λ tick low. (
+        low,
+        (λ m u next. let both = is_due (acts.Start m u) (acts.Start n leaf) tt due next in let at : n ≡ m = cc in ap (λ (x : ℕ). (with_step (with_task (Start x) (Started x tick)) v, xs)) at),
+        (λ m start next. let both = is_due (acts.End m start) (acts.Start n leaf) tt due next in absurd (cc)),
+      ))
+      (λ t o me. let m = mine_of job room t o id k v me from to in record { worker_in = m.0; needs = (is_free job o.state k o.parts (outside t o me inside), m.1.task ∙ stands.0, stands.1); does = refl })
+
+  pub ends : (n start : ℕ) → TaskHere job v.own.task → next_act job v.own.task v.own.call ≡ Some (acts.End n start) → v.own.call ≢ Out
+      → Steps job room slots id (v, xs) (tick_at P) (λ y. (y + 1) % 2 ^ 64) (drawn (step slots (tick_at P) 1 0 none) (v, xs)) (λ before found after. Makes job k (End n start) before after)
+  ends n start here due inside =
+      let stands = next_stands job laws v.own.call v.own.task (acts.End n start) here due in
+      draws (End n start) (λ tick. Ended n start tick) inside
+      (λ tick low. (
+        low,
+        (λ m u next. let both = is_due (acts.Start m u) (acts.End n start) tt due next in absurd (cc)),
+        (λ m s next. let both = is_due (acts.End m s) (acts.End n start) tt due next in let at : n ≡ m = cc in let since : start ≡ s = cc in
+            λ i. (with_step (with_task (End (at i) (since i)) (Ended (at i) (since i) tick)) v, xs)),
+      ))
+      (λ t o me. let m = mine_of job room t o id k v me from to in record { worker_in = m.0; needs = (is_free job o.state k o.parts (outside t o me inside), m.1.task ∙ stands); does = refl })
+
+  draws_by : (o : Maybe Next) → TaskHere job v.own.task → next_act job v.own.task v.own.call ≡ o → IsTickDue o → v.own.call ≢ Out
+      → Steps job room slots id (v, xs) (tick_at P) (λ y. (y + 1) % 2 ^ 64) (drawn (step slots (tick_at P) 1 0 none) (v, xs)) (λ before found after. (event : Event) × Makes job k event before after)
+  draws_by (Some (acts.Start n leaf)) here due is inside t o wide me fits = let x = starts n leaf here due inside t o wide me fits in (x.0, x.1, x.2, (x.3.0, (Start n, x.3.1)), x.4)
+  draws_by (Some (acts.End n start)) here due is inside t o wide me fits = let x = ends n start here due inside t o wide me fits in (x.0, x.1, x.2, (x.3.0, (End n start, x.3.1)), x.4)
+  draws_by None here due is inside t o wide me fits = absurd is
+  draws_by (Some (acts.Open n y event)) here due is inside t o wide me fits = absurd is
+  draws_by (Some (acts.Spin n start steps)) here due is inside t o wide me fits = absurd is
+  draws_by (Some (acts.Call n start leaf op)) here due is inside t o wide me fits = absurd is
+  draws_by (Some (acts.Got n start reply)) here due is inside t o wide me fits = absurd is
+  draws_by (Some (acts.Finish n event)) here due is inside t o wide me fits = absurd is
+  draws_by (Some (acts.Arrive p l r n)) here due is inside t o wide me fits = absurd is
+
+  -- a tick that is due, at its start or its end
+  pub draws_due : TaskHere job v.own.task → IsTickDue (next_act job v.own.task v.own.call) → v.own.call ≢ Out
+      → Steps job room slots id (v, xs) (tick_at P) (λ y. (y + 1) % 2 ^ 64) (drawn (step slots (tick_at P) 1 0 none) (v, xs)) (λ before found after. (event : Event) × Makes job k event before after)
+  draws_due here due inside = draws_by (next_act job v.own.task v.own.call) here refl due inside
 
   -- a node that is not the root gets this progress
   stores : (event : Event) (n : ℕ) (x : Progress) (y : Task) (w : View) → n < N → w.own.task ≡ y → w.own.call ≡ v.own.call → SameBut v w → AddsEvent v w event → v.own.call ≢ Out
@@ -151,49 +194,22 @@ module _ (job : CoreJob) (room : ℕ) (laws : Laws job) (slots id : ℕ) (v : Vi
   far : (node : ℕ → Progress) (n : ℕ) (x : Progress) → n ≢ 0 → is_done (node 0) ≡ true → is_done (put node n x 0) ≡ true
   far node n x ne done = rw (put_other node n 0 x (λ e. ne (sym e))) done
 
-  pub opens_right : (p l r : ℕ) → v.own.task ≡ Run p → job.plan.kind p ≡ Some (ParNode l r) → v.own.call ≢ Out
-      → Steps job room slots id (v, xs) (node_at P r) (λ y. 1) (λ y. half_opened (step slots (node_at P r) 1 0 none) (v, xs) 1) (λ before found after. Makes job k (OpenParRight p l r) before after)
-  opens_right p l r task kind inside t o wide me fits =
+  -- a side of a block opens
+  pub opens : (n : ℕ) (y : Task) (event : Event) → TaskHere job v.own.task → next_act job v.own.task v.own.call ≡ Some (acts.Open n y event) → v.own.call ≢ Out
+      → Steps job room slots id (v, xs) (node_at P n) (λ y. 1) (λ y. opened (step slots (node_at P n) 1 0 none) (v, xs) 1) (λ before found after. Makes job k event before after)
+  opens n y event here due inside t o wide me fits =
       let m = mine_of job room t o id k v me from to in
-      let side = side_in p r (ap parent_of (laws.plan.right_of_par p l r kind)) in
-      let w : View = with_step (opening r (OpenParRight p l r) (Half p)) v in (
+      let stands = next_stands job laws v.own.call v.own.task (acts.Open n y event) here due in
+      let side = side_in stands.parent n stands.side in
+      let w : View = with_step (opening n event y) v in (
         w,
         keeps,
         tt,
-        stores (OpenParRight p l r) r Ready (Half p) w side.0 refl refl (same w refl refl refl refl refl refl refl refl refl refl) record { events = refl; stops = refl; found = refl } inside t o me
-            record { worker_in = m.0; needs = (is_free job o.state k o.parts (outside t o me inside), m.1.task ∙ task, kind); does = refl } (far o.state.node r Ready side.1),
-        (r, p, l, ap (λ (q : ℕ). node_at q r) (sym sized), task, ap (λ (plan : Nodes). plan.kind p) planned ∙ kind, refl),
+        stores event n Ready y w side.0 refl refl (same w refl refl refl refl refl refl refl refl refl refl) record { events = refl; stops = refl; found = refl } inside t o me
+            (stands.happens o.state k m.0 (is_free job o.state k o.parts (outside t o me inside)) m.1.task) (far o.state.node n Ready side.1),
+        (λ a b e next. let both = is_due (acts.Open a b e) (acts.Open n y event) tt due next in let at : n ≡ a = cc in let left : y ≡ b = cc in let by : event ≡ e = cc in
+            λ i. (with_step (opening (at i) (by i) (left i)) v, xs)),
       )
-
-  opens_to_idle : (event : Event) (n : ℕ) → IsOpenEvent job.plan v.own.task n event → n < N → n ≢ 0 → v.own.call ≢ Out
-      → ((t : St) (o : Shows job room t) → get_elem? t.views id ≡ some v → Happens job o.state k event (record o.state { node = put o.state.node n Ready; task = put o.state.task k Idle }))
-      → Steps job room slots id (v, xs) (node_at P n) (λ y. 1) (λ y. opened (step slots (node_at P n) 1 0 none) (v, xs) 1) (λ before found after. Makes job k (event) before after)
-  opens_to_idle event n is_open below ne inside happens t o wide me fits =
-      let w : View = with_step (opening n event Idle) v in (
-        w,
-        keeps,
-        tt,
-        stores event n Ready Idle w below refl refl (same w refl refl refl refl refl refl refl refl refl refl) record { events = refl; stops = refl; found = refl } inside t o me (happens t o me) (far o.state.node n Ready ne),
-        (n, event, ap (λ (q : ℕ). node_at q n) (sym sized), subst (λ (plan : Nodes). IsOpenEvent plan v.own.task n event) (sym planned) is_open, refl),
-      )
-
-  pub opens_left : (p l r : ℕ) → v.own.task ≡ Half p → job.plan.kind p ≡ Some (ParNode l r) → v.own.call ≢ Out
-      → Steps job room slots id (v, xs) (node_at P l) (λ y. 1) (λ y. opened (step slots (node_at P l) 1 0 none) (v, xs) 1) (λ before found after. Makes job k (OpenParLeft p l r) before after)
-  opens_left p l r task kind inside =
-      let side = side_in p l (ap parent_of (laws.plan.left_of_par p l r kind)) in opens_to_idle (OpenParLeft p l r) l (subst (λ (y : Task). IsOpenEvent job.plan y l (OpenParLeft p l r)) (sym task) (r, kind, refl)) side.0 side.1 inside
-      (λ t o me. let m = mine_of job room t o id k v me from to in record { worker_in = m.0; needs = (is_free job o.state k o.parts (outside t o me inside), m.1.task ∙ task, kind); does = refl })
-
-  pub opens_first : (p l r : ℕ) → v.own.task ≡ Run p → job.plan.kind p ≡ Some (SeqNode l r) → v.own.call ≢ Out
-      → Steps job room slots id (v, xs) (node_at P l) (λ y. 1) (λ y. opened (step slots (node_at P l) 1 0 none) (v, xs) 1) (λ before found after. Makes job k (OpenSeqLeft p l r) before after)
-  opens_first p l r task kind inside =
-      let side = side_in p l (ap parent_of (laws.plan.left_of_seq p l r kind)) in opens_to_idle (OpenSeqLeft p l r) l (subst (λ (y : Task). IsOpenEvent job.plan y l (OpenSeqLeft p l r)) (sym task) (inr (r, kind, refl))) side.0 side.1 inside
-      (λ t o me. let m = mine_of job room t o id k v me from to in record { worker_in = m.0; needs = (is_free job o.state k o.parts (outside t o me inside), m.1.task ∙ task, kind); does = refl })
-
-  pub opens_second : (p l r : ℕ) → v.own.task ≡ Whole l → job.plan.kind p ≡ Some (SeqNode l r) → v.own.call ≢ Out
-      → Steps job room slots id (v, xs) (node_at P r) (λ y. 1) (λ y. opened (step slots (node_at P r) 1 0 none) (v, xs) 1) (λ before found after. Makes job k (OpenSeqRight p l r) before after)
-  opens_second p l r task kind inside =
-      let side = side_in p r (ap parent_of (laws.plan.right_of_seq p l r kind)) in opens_to_idle (OpenSeqRight p l r) r (subst (λ (y : Task). IsOpenEvent job.plan y r (OpenSeqRight p l r)) (sym task) (p, kind, refl)) side.0 side.1 inside
-      (λ t o me. let m = mine_of job room t o id k v me from to in record { worker_in = m.0; needs = (is_free job o.state k o.parts (outside t o me inside), m.1.task ∙ task, kind); does = refl })
 
   -- a value is kept
   pub keeps_value : (i n start x : ℕ) → i ≡ value_at P N n → v.own.task ≡ Started n start → n < N → value_in (job.act (leaf_of (job.plan.kind n))) v.own.call ≡ Some x → v.own.call ≢ Out
@@ -215,48 +231,39 @@ module _ (job : CoreJob) (room : ℕ) (laws : Laws job) (slots id : ℕ) (v : Vi
         (n, start, task, refl),
       )
 
-  finishes : (event : Event) (n : ℕ) (x : Progress) → IsFinishEvent job.plan v.own.task n event → n < N → is_done x ≡ true → v.own.call ≢ Out
-      → ((t : St) (o : Shows job room t) → get_elem? t.views id ≡ some v → Happens job o.state k event (record o.state { node = put o.state.node n x; task = put o.state.task k (task_after n) }))
-      → Steps job room slots id (v, xs) (node_at P n) (λ y. progress_code x) (λ y. finished (step slots (node_at P n) (progress_code x) 0 none) (v, xs) (progress_code x)) (λ before found after. Makes job k (event) before after)
-  finishes event n x is_finish below done inside happens t o wide me fits =
+  -- a leaf or a block is done
+  pub finishes : (n : ℕ) (event : Event) → TaskHere job v.own.task → next_act job v.own.task v.own.call ≡ Some (acts.Finish n event) → v.own.call ≢ Out
+      → Steps job room slots id (v, xs) (node_at P n) (λ y. progress_code (progress_after k v.own.task))
+      (λ y. finished (step slots (node_at P n) (progress_code (progress_after k v.own.task)) 0 none) (v, xs) (progress_code (progress_after k v.own.task))) (λ before found after. Makes job k event before after)
+  finishes n event here due inside t o wide me fits =
+      let m = mine_of job room t o id k v me from to in
+      let stands = next_stands job laws v.own.call v.own.task (acts.Finish n event) here due in
+      let x = progress_after k v.own.task in
       let w : View = with_step (with_task event (task_after n)) v in (
         w,
         keeps,
         tt,
-        stores event n x (task_after n) w below refl refl (same w refl refl refl refl refl refl refl refl refl refl) record { events = refl; stops = refl; found = refl } inside t o me (happens t o me) (root_done o.state.node n x done),
-        (n, event, ap (λ (q : ℕ). node_at q n) (sym sized), subst (λ (plan : Nodes). IsFinishEvent plan v.own.task n event) (sym planned) is_finish, refl),
+        stores event n x (task_after n) w stands.below refl refl (same w refl refl refl refl refl refl refl refl refl refl) record { events = refl; stops = refl; found = refl } inside t o me
+            (stands.happens o.state k m.0 (is_free job o.state k o.parts (outside t o me inside)) m.1.task) (root_done o.state.node n x (stands.done k)),
+        (λ a e next. let both = is_due (acts.Finish a e) (acts.Finish n event) tt due next in let at : n ≡ a = cc in let by : event ≡ e = cc in
+            λ i. (with_step (with_task (by i) (task_after (at i))) v, xs)),
       )
-
-  pub finishes_leaf : (n start end : ℕ) → v.own.task ≡ Ended n start end → n < N → v.own.call ≢ Out
-      → Steps job room slots id (v, xs) (node_at P n) (λ y. progress_code (Ran k start end)) (λ y. finished (step slots (node_at P n) (progress_code (Ran k start end)) 0 none) (v, xs) (progress_code (Ran k start end))) (λ before found after. Makes job k (FinishLeaf n start end) before after)
-  finishes_leaf n start end task below inside = finishes (FinishLeaf n start end) n (Ran k start end) (subst (λ (y : Task). IsFinishEvent job.plan y n (FinishLeaf n start end)) (sym task) (refl, refl)) below refl inside
-      (λ t o me. let m = mine_of job room t o id k v me from to in record { worker_in = m.0; needs = (is_free job o.state k o.parts (outside t o me inside), m.1.task ∙ task); does = refl })
-
-  pub finishes_seq : (p l r : ℕ) → v.own.task ≡ Whole r → job.plan.kind p ≡ Some (SeqNode l r) → p < N → v.own.call ≢ Out
-      → Steps job room slots id (v, xs) (node_at P p) (λ y. 3) (λ y. finished (step slots (node_at P p) 3 0 none) (v, xs) 3) (λ before found after. Makes job k (FinishSeq p l r) before after)
-  finishes_seq p l r task kind below inside = finishes (FinishSeq p l r) p Done (subst (λ (y : Task). IsFinishEvent job.plan y p (FinishSeq p l r)) (sym task) (l, kind, refl)) below refl inside
-      (λ t o me. let m = mine_of job room t o id k v me from to in record { worker_in = m.0; needs = (is_free job o.state k o.parts (outside t o me inside), m.1.task ∙ task, kind); does = refl })
-
-  pub finishes_par : (p l r : ℕ) → v.own.task ≡ Handed p → job.plan.kind p ≡ Some (ParNode l r) → p < N → v.own.call ≢ Out
-      → Steps job room slots id (v, xs) (node_at P p) (λ y. 3) (λ y. finished (step slots (node_at P p) 3 0 none) (v, xs) 3) (λ before found after. Makes job k (FinishPar p l r) before after)
-  finishes_par p l r task kind below inside = finishes (FinishPar p l r) p Done (subst (λ (y : Task). IsFinishEvent job.plan y p (FinishPar p l r)) (sym task) (refl, l, r, kind, refl)) below refl inside
-      (λ t o me. let m = mine_of job room t o id k v me from to in record { worker_in = m.0; needs = (is_free job o.state k o.parts (outside t o me inside), m.1.task ∙ task, kind); does = refl })
 
   abbrev arrived_word : ℕ → ℕ
   arrived_word y = (y + 1) % 2 ^ 64
 
   -- a side arrives at a parallel block
-  pub arrives : (i p l r n : ℕ) → i ≡ mark_at P N p → v.own.task ≡ Whole n → v.nodes ≡ N → job.plan.kind p ≡ Some (ParNode l r) → IsSide job.plan p n → p < N → v.own.call ≢ Out
+  pub arrives : (i p l r n : ℕ) → i ≡ mark_at P N p → TaskHere job v.own.task → next_act job v.own.task v.own.call ≡ Some (acts.Arrive p l r n) → v.own.call ≢ Out
       → Steps job room slots id (v, xs) i (λ y. (y + 1) % 2 ^ 64) (arrived (step slots i 1 0 none) (v, xs)) (ArrivalMakes (Makes job k (ArriveFirst p l r n)) (Makes job k (ArriveSecond p l r n)))
-  arrives i p l r n is task nodes kind side below inside t o wide me fits =
+  arrives i p l r n is here due inside t o wide me fits =
+      let (task, kind, side) = next_stands job laws v.own.call v.own.task (acts.Arrive p l r n) here due in
+      let below = block_in job.plan p (ParNode l r) laws.plan kind in
       let s = o.state in
       let word = get_or t.words i 0 in
       let m = mine_of job room t o id k v me from to in
       let free = is_free job s k o.parts (outside t o me inside) in
       let few = laws.mark s k p l r n o.parts (m.1.task ∙ task) kind side in
       let at : word ≡ s.mark p = ap (λ (j : ℕ). get_or t.words j 0) is ∙ o.words.marks p below in
-      let named : i ≡ mark_at v.workers v.nodes p = omega (arith, is, sized, nodes) in
-      let arrival : IsArrival (nodes_of v.plan) v.own.task p l r n = subst (λ (plan : Nodes). IsArrival plan v.own.task p l r n) (sym planned) (record { has = task; kind = kind; side = side }) in
       let far_stop : get_or (set t.words i (arrived_word word)) (stop_at P) 0 ≡ get_or t.words (stop_at P) 0 = get_or-set_other t.words i (stop_at P) (arrived_word word) 0 (λ e. omega arith) in
       let first : View = with_step (with_task (ArriveFirst p l r n) Idle) v in
       let second : View = with_step (with_task (ArriveSecond p l r n) (Handed p)) v in
@@ -270,7 +277,9 @@ module _ (job : CoreJob) (room : ℕ) (laws : Laws job) (slots id : ℕ) (v : Vi
               me from to enrolled (outside t o me inside) (outside t o me inside) (same first refl refl refl refl refl refl refl refl refl refl) record { events = refl; stops = refl; found = refl } far_stop refl m.1.call (λ z ne. refl) (λ done. done)
               (subst (λ (j : ℕ). WordsShow P N (set t.words j (arrived_word word)) s.node (put s.mark p 1) s.value s.status s.hold s.tick (length s.book)) (sym is) (subst (λ (z : ℕ). WordsShow P N (set t.words (mark_at P N p) z) s.node (put s.mark p 1) s.value s.status s.hold s.tick (length s.book)) (let one : arrived_word word ≡ 1 = omega (arith, zero) in sym one)
               (set_mark P N t.words s.node s.mark s.value s.status s.hold s.tick (length s.book) o.words p 1 below)))),
-          (p, l, r, n, named, arrival, (λ _. refl), (λ ne. absurd (ne zero))),
+          (λ a b c d next. let both = is_due (acts.Arrive a b c d) (acts.Arrive p l r n) tt due next in
+              let e1 : p ≡ a = cc in let e2 : l ≡ b = cc in let e3 : r ≡ c = cc in let e4 : n ≡ d = cc in
+              ((λ _ i. (with_step (with_task (ArriveFirst (e1 i) (e2 i) (e3 i) (e4 i)) Idle) v, xs)), (λ ne. absurd (ne zero)))),
         )
         | inr ne ↦ (
           second,
@@ -281,20 +290,8 @@ module _ (job : CoreJob) (room : ℕ) (laws : Laws job) (slots id : ℕ) (v : Vi
               me from to enrolled (outside t o me inside) (outside t o me inside) (same second refl refl refl refl refl refl refl refl refl refl) record { events = refl; stops = refl; found = refl } far_stop refl m.1.call (λ z ne'. refl) (λ done. done)
               (subst (λ (j : ℕ). WordsShow P N (set t.words j (arrived_word word)) s.node (put s.mark p 2) s.value s.status s.hold s.tick (length s.book)) (sym is) (subst (λ (z : ℕ). WordsShow P N (set t.words (mark_at P N p) z) s.node (put s.mark p 2) s.value s.status s.hold s.tick (length s.book)) (let two : arrived_word word ≡ 2 = omega (arith, at, few, ne) in sym two)
               (set_mark P N t.words s.node s.mark s.value s.status s.hold s.tick (length s.book) o.words p 2 below)))),
-          (p, l, r, n, named, arrival, (λ zero. absurd (ne zero)), (λ _. refl)),
+          (λ a b c d next. let both = is_due (acts.Arrive a b c d) (acts.Arrive p l r n) tt due next in
+              let e1 : p ≡ a = cc in let e2 : l ≡ b = cc in let e3 : r ≡ c = cc in let e4 : n ≡ d = cc in
+              ((λ zero. absurd (ne zero)), (λ _ i. (with_step (with_task (ArriveSecond (e1 i) (e2 i) (e3 i) (e4 i)) (Handed (e1 i))) v, xs)))),
         )
       ]
-
-  -- a draw that is due
-  draws_by : (y : Task) → v.own.task ≡ y → IsTickDue job y → v.own.call ≢ Out → Steps job room slots id (v, xs) (tick_at P) (λ n. (n + 1) % 2 ^ 64) (drawn (step slots (tick_at P) 1 0 none) (v, xs)) (λ before found after. DrawMakes job k y before after)
-  draws_by Idle e due inside = absurd due
-  draws_by (Run n) e due inside = starts n e due inside
-  draws_by (Half n) e due inside = absurd due
-  draws_by (Started n start) e due inside = absurd due
-  draws_by (Kept n start) e due inside = ends n start e inside
-  draws_by (Ended n start end) e due inside = absurd due
-  draws_by (Whole n) e due inside = absurd due
-  draws_by (Handed n) e due inside = absurd due
-
-  pub draws_due : IsTickDue job v.own.task → v.own.call ≢ Out → Steps job room slots id (v, xs) (tick_at P) (λ n. (n + 1) % 2 ^ 64) (drawn (step slots (tick_at P) 1 0 none) (v, xs)) (λ before found after. DrawMakes job k v.own.task before after)
-  draws_due due inside = draws_by v.own.task refl due inside

@@ -2,11 +2,10 @@
 ghost use Rattle.std.specs.Prelude.{◌≡◌, ◌*◌, ◌<◌, ◌≤◌, ℕ, length, slice_index_or, Some, IsSome, IfOk};
 ghost use Rattle.std.specs.List.{count_by};
 ghost use Rattle.sp_order.specs.Preorder.{nodes_of};
-ghost use Rattle.core_table.specs.Passes.{job_in, pass_view, planned_in};
+ghost use Rattle.core_table.specs.Passes.{IsPassOf, job_in, pass_view, planned_in};
 ghost use Rattle.two_deques.specs.Hands.{core_room_of, batch_room_of};
 ghost use Rattle.two_deques.specs.Hands.{held, workers_of, fresh_hand, IsHandOf, AreHands};
 ghost use Rattle.piece_board.specs.Boards.{workers_of as rows_of, AreDesks};
-ghost use Rattle.worker_crew.specs.Seats.{IsSeat};
 ghost use Rattle.worker_crew.specs.Opening.{is_call, opening_hand, IsFreshPass, AreAtStart};
 
 use crate::batch_pieces::BatchPieces;
@@ -105,7 +104,7 @@ impl<'a, G: Pause> Crew<'a, CoreTable, G> {
         ensures rooms { IfOk result (λ made.
             (core_room_of made.0.decks ≡ (job_in made.0.table).plan.count)
             × (batch_room_of made.0.decks ≡ 8 * count_by is_call job.now.acts)) }
-        ensures start { IfOk result (λ made. AreAtStart (IsSeat made.0.table) pass_view made.0.decks
+        ensures start { IfOk result (λ made. AreAtStart (IsPassOf made.0.table) pass_view made.0.decks
             made.0.board workers workers made.1.items) }
     {
         let (table, passes) = CoreTable::make(alloc, job, workers)?;

@@ -1,5 +1,6 @@
 -- One step after another of a task that is carried on.
-use Rattle.std.proofs.Common.{◌≡◌, ◌<◌, ◌⊎◌, ℕ, ◌+◌, List, [], ◌∷◌, ◌++◌, length, inl, inr, sym, refl, ap, ◌∙◌, arith, append_assoc, append-nil, length-append}
+use Rattle.std.proofs.Common.{◌≡◌, ◌<◌, ℕ, ◌+◌, Bool, true, false, List, [], ◌∷◌, ◌++◌, length, sym, refl, ap, ◌∙◌, arith, append_assoc, append-nil, length-append}
+use Rattle.std.specs.Prelude.{Result, Ok, Err, OnOk, is_err}
 use Rattle.core_model.specs.declared.event.Event.TheVariants.{Post, Leave}
 use Rattle.core_model.specs.declared.task.Task.TheVariants.{Started}
 use Rattle.two_deques.specs.Ends.{HeldEnds, after_push}
@@ -14,6 +15,11 @@ use Rattle.worker_turns.specs.declared.trapped.Trapped.TheVariants.{Left, Piece,
 use Rattle.worker_turns.specs.Trapped.{IsJobSame, IsCallSame, StaysTrapped}
 use Rattle.worker_turns.specs.Callings.{HasCalled}
 use Rattle.worker_turns.specs.Free.{Helps, RanToIdle}
+
+-- what holds of a result that is no error
+pub ok_by : {A E : Type 0} (r : Result A E) (P : Type 0) → OnOk r P → is_err r ≡ false → P
+ok_by (Ok a) P is fine = is
+ok_by (Err e) P is fine = absurd (cc)
 
 pub helps_none : (d : Desk) → Helps d d
 helps_none d = record { given = []; gave = sym (append-nil _); finishes = omega arith }
@@ -114,10 +120,10 @@ carried_open old new node event task is core desk = record {
 }
 
 -- an arrival, as the first side or as the second
-pub carried_arrival : (old new : MeSeen) (first second : Event) (s t : Task) → (new.pass ≡ with_task first s old.pass) ⊎ (new.pass ≡ with_task second t old.pass)
-    → new.core ≡ old.core → new.desk ≡ old.desk → RanToIdle old new
-carried_arrival old new first second s t (inl is) core desk = carried_step old new s old.pass.call (first ∷ []) is core desk
-carried_arrival old new first second s t (inr is) core desk = carried_step old new t old.pass.call (second ∷ []) is core desk
+pub arrived : (second_came : Bool) (old new : PassView) (first second : Event) (s t : Task) → (second_came ≡ false → new ≡ with_task first s old) → (second_came ≡ true → new ≡ with_task second t old)
+    → (event : Event) × (task : Task) × (new ≡ with_task event task old)
+arrived false old new first second s t one two = (first, s, one refl)
+arrived true old new first second s t one two = (second, t, two refl)
 
 -- a call's events follow those before it
 pub front_called : (receipt : Receipt) (old new : PassView) → HasCalled receipt old new → IsFront old.events new.events

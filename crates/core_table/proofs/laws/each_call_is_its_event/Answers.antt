@@ -1,4 +1,9 @@
-use Rattle.std.proofs.Common.{ℕ, ◌≤◌, refl, sym, subst}
+use Rattle.std.proofs.Common.{ℕ, ◌≡◌, ◌≤◌, Some, refl, sym, subst, ◌∙◌}
+use Rattle.sp_order.specs.declared.node.Kind.TheVariants.{LeafNode}
+use Rattle.core_model.specs.Operations.{leaf_of}
+use Rattle.core_model.specs.Events.{value_in}
+use Rattle.table_rule.proofs.StepLemmas.Sides.{started_in}
+use Rattle.table_rule.proofs.StepLemmas.NextActs.{has_value, may_post}
 use Rattle.table_rule.specs.Shows.{job_of, room_of}
 use Rattle.table_rule.proofs.StepLemmas.JobSteps as jobs
 use Rattle.table_rule.proofs.StepLemmas.LookSteps as looks
@@ -13,17 +18,22 @@ returns c key sound slots id k v xs is =
     let laws = c.laws_hold.ensures key sound.few sound.leaves sound.short in record {
       claim = λ n below idle inside. jobs.claims job room laws slots id v xs k is.worker is.to is.workers is.enrolled is.plan n below idle inside;
       claim_past_the_last = λ n past some_workers. looks.strays job room laws slots id v xs k is.worker is.to n (subst (λ (count : ℕ). count ≤ n) (sym is.nodes) past) some_workers;
-      tick = λ due inside. jobs.draws_due job room laws slots id v xs k is.worker is.to is.workers is.enrolled is.plan due inside;
-      open_right = λ p l r task kind inside. jobs.opens_right job room laws slots id v xs k is.worker is.to is.workers is.enrolled is.plan p l r task kind inside;
-      open_left = λ p l r task kind inside. jobs.opens_left job room laws slots id v xs k is.worker is.to is.workers is.enrolled is.plan p l r task kind inside;
-      open_first = λ p l r task kind inside. jobs.opens_first job room laws slots id v xs k is.worker is.to is.workers is.enrolled is.plan p l r task kind inside;
-      open_second = λ p l r task kind inside. jobs.opens_second job room laws slots id v xs k is.worker is.to is.workers is.enrolled is.plan p l r task kind inside;
-      keep = λ n start x task below value inside. jobs.keeps_value job room laws slots id v xs k is.worker is.to is.workers is.enrolled is.plan _ n start x refl task below value inside;
-      finish_leaf = λ n start end task below inside. jobs.finishes_leaf job room laws slots id v xs k is.worker is.to is.workers is.enrolled is.plan n start end task below inside;
-      finish_series = λ p l r task kind below inside. jobs.finishes_seq job room laws slots id v xs k is.worker is.to is.workers is.enrolled is.plan p l r task kind below inside;
-      finish_block = λ p l r task kind below inside. jobs.finishes_par job room laws slots id v xs k is.worker is.to is.workers is.enrolled is.plan p l r task kind below inside;
-      arrive = λ p l r n task kind side below inside. jobs.arrives job room laws slots id v xs k is.worker is.to is.workers is.enrolled is.plan _ p l r n refl task is.nodes kind side below inside;
-      post = λ call record_ called. gate.posts job room laws slots id v xs k is.worker is.to call is.enrolled record_ called;
+      start = λ n leaf due inside. jobs.starts job room laws slots id v xs k is.worker is.to is.workers is.enrolled is.plan n leaf is.task due inside;
+      end = λ n start due inside. jobs.ends job room laws slots id v xs k is.worker is.to is.workers is.enrolled is.plan n start is.task due inside;
+      open_side = λ n task event due inside. jobs.opens job room laws slots id v xs k is.worker is.to is.workers is.enrolled is.plan n task event is.task due inside;
+      keep = λ n start x task due inside.
+          let value = has_value job laws v.own.call v.own.task x is.task due in
+          let both = sym value.2 ∙ task in
+          let at : value.0 ≡ n = cc in
+          jobs.keeps_value job room laws slots id v xs k is.worker is.to is.workers is.enrolled is.plan _ n start x refl task (started_in job v.own.task n start task is.task)
+          (subst (λ (y : ℕ). value_in (job.act (leaf_of (job.plan.kind y))) v.own.call ≡ Some x) at value.3) inside;
+      finish = λ n event due inside. jobs.finishes job room laws slots id v xs k is.worker is.to is.workers is.enrolled is.plan n event is.task due inside;
+      arrive = λ p l r n due inside. jobs.arrives job room laws slots id v xs k is.worker is.to is.workers is.enrolled is.plan _ p l r n refl is.task due inside;
+      post = λ n start call task due.
+          let may = may_post job laws v.own.call v.own.task call is.task due in
+          let both = sym may.1.2 ∙ task in
+          let at : may.1.0 ≡ n = cc in
+          gate.posts job room laws slots id v xs k is.worker is.to call is.enrolled (n, start, task, subst (λ (y : ℕ). job.plan.kind y ≡ Some (LeafNode call.leaf)) at may.1.3, may.1.4) may.0;
       win = λ out. gate.wins job room laws slots id v xs k is.worker is.to is.workers out is.room;
       take = λ h u holds next low. gate.looks job room laws slots id v xs k is.worker is.to h u is.room holds next low;
       publish = λ h batch holds due few. publishing.publishes job room laws slots id v xs k is.worker is.to h batch holds is.room due few;

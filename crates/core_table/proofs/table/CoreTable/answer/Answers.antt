@@ -10,7 +10,7 @@ use Rattle.table_rule.specs.Passes.{without_first, in_hold, after_answer, answer
 use Rattle.table_rule.specs.Views.{with_step}
 use Rattle.table_rule.proofs.TableLemmas.Moved.{few_nodes, record_took}
 use Rattle.core_table.proofs.ListLemmas.Owed.{to_front, to_places, owes_answered, remembers_hold}
-use Rattle.core_table.proofs.PassLemmas.PassKept.{held_out, pass_made, first, swapped, holder_after, carries_answered}
+use Rattle.core_table.proofs.PassLemmas.PassKept.{held_out, looks_at, looks_after, pass_made, first, swapped, holder_after, carries_answered}
 use Rattle.table_rule.proofs.StepLemmas.GateSteps.{answers_at}
 use Rattle.core_table.proofs.table.CoreTable.answer.Goals as goal
 
@@ -94,6 +94,7 @@ returns c =
     record {
       pass = pass_made self.setting _ pass.worker old c.turn_by-2.new.seat w (vacant (without_first u h.owed) ++ last ∷ []) (c.turn_by-2.ensures.table.0 ∙ (c.store.ensures.0 ∙ (c.exchange.ensures.0 ∙ c.turn_by.ensures.table.0))) done refl refl refl refl refl refl
           (carries_answered pass.worker workers u v h c.args.receipt (held_out pass.worker old.me h c.requires.pass.7 holds) holds c.requires.pass.2 there)
-          (remembers_hold w _ _ (after_answer u h) (ap (in_hold (after_answer u)) holds) (c.remove.ensures.by_index.2 ∙ (ap (λ (l : List ℕ). take c.first_place-at.result l ++ drop (c.first_place-at.result + 1) l) m.0 ∙ (let next : c.first_place-at.result + 1 ≡ suc c.first_place-at.result = omega arith in ap (λ (k : ℕ). take c.first_place-at.result h.owed ++ drop k h.owed) next ∙ sym at.rest))) m.1 (owes_answered h u there m.2)) c.requires.pass;
+          (remembers_hold w _ _ (after_answer u h) (ap (in_hold (after_answer u)) holds) (c.remove.ensures.by_index.2 ∙ (ap (λ (l : List ℕ). take c.first_place-at.result l ++ drop (c.first_place-at.result + 1) l) m.0 ∙ (let next : c.first_place-at.result + 1 ≡ suc c.first_place-at.result = omega arith in ap (λ (k : ℕ). take c.first_place-at.result h.owed ++ drop k h.owed) next ∙ sym at.rest))) m.1 (owes_answered h u there m.2))
+          (looks_after workers (after_answer u) v.own.hold h holds (looks_at workers v.own.hold h c.requires.pass.10 holds)) c.requires.pass;
       answered = ap (λ (m : Sat). m.0) done;
     }

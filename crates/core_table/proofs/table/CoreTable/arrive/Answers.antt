@@ -1,20 +1,82 @@
-use Rattle.std.proofs.Common.{sym, ◌∙◌, arith}
+use Rattle.std.proofs.Common.{◌≡◌, ◌∙◌, Some, refl, sym, ap, arith}
+use Rattle.std.proofs.lemmas.Bool.Decides.{nat_tests}
+use Rattle.core_model.specs.Next.{next_act}
+use Rattle.core_model.specs.declared.next.Next.TheVariants as acts
 use Rattle.sp_order.specs.declared.node.Kind.TheVariants.{ParNode}
+use Rattle.table_rule.specs.CoreWords.{Idle, Handed, ArriveFirst, ArriveSecond}
+use Rattle.table_rule.specs.Plays.{Sat}
 use Rattle.table_rule.specs.Shows.{room_of, job_of}
+use Rattle.table_rule.specs.Passes.{with_task}
+use Rattle.table_rule.specs.Views.{with_step}
 use Rattle.table_rule.proofs.TableLemmas.Moved.{few_nodes}
 use Rattle.table_rule.proofs.StepLemmas.Sides.{block_in}
+use Rattle.table_rule.proofs.StepLemmas.NextActs.{next_stands, next_seen, handed_here}
 use Rattle.table_rule.proofs.StepLemmas.JobSteps.{arrives}
+use Rattle.core_table.proofs.PassLemmas.PassKept.{pass_stepped}
+use Rattle.core_table.proofs.table.CoreTable.arrive.Goals.{then-second, else-second}
 use Rattle.core_table.proofs.table.CoreTable.arrive.Goals as goal
 
 pub fetch_add-second-requires : goal.fetch_add-second-requires
 fetch_add-second-requires c =
     let self = c.args.self.now in let pass = c.args.pass.now in let job = job_of self.setting in let v = pass.seat.me.0 in
     let laws = c.laws_hold.ensures self.setting (few_nodes self.nodes job.plan.count self.key.1 self.few.2) self.acts.0 self.acts.1 in
-    let n = c.in-Whole.node in let p = c.in-Arrive.parent in
-    let sides = laws.arrive n p (sym c.after.ensures ∙ c.in-Arrive.is) in
-    let below = block_in job.plan p (ParNode sides.0 sides.1) laws.plan sides.2 in (
+    let act = acts.Arrive c.in-Some-Arrive.parent c.in-Some-Arrive.field-0-1 c.in-Some-Arrive.field-0-2 c.in-Some-Arrive.field-0-3 in
+    let due : next_act job v.own.task v.own.call ≡ Some act = sym c.next.ensures.next ∙ (c.in-Some-Arrive.is ∙ ap Some c.in-Some-Arrive.field-0-is) in
+    let stands = next_stands job laws v.own.call v.own.task act c.requires.pass.5 due in
+    let below = block_in job.plan c.in-Some-Arrive.parent (ParNode c.in-Some-Arrive.field-0-1 c.in-Some-Arrive.field-0-2) laws.plan stands.1 in (
       c.requires.pass.0,
       omega (arith, self.sized.0, c.mark-at.ensures, c.layout.ensures.workers, c.layout.ensures.nodes, self.key.1, below),
       rw (self.key.0, c.mark-at.ensures, c.layout.ensures.workers, c.layout.ensures.nodes) (λ a b d e f. let x = (arrives job (room_of self.setting) laws _ _ v pass.seat.me.1 pass.worker pass.number.0 pass.number.1 c.requires.pass.2 c.requires.pass.4 c.requires.pass.9
-          _ p sides.0 sides.1 n (omega (arith, self.key.1)) (pass.own.0 ∙ c.in-Whole.is) c.requires.pass.3 sides.2 sides.3 below c.requires.free) a b d e f in (x.0, x.1, x.2, x.3.0, x.4)),
+          _ c.in-Some-Arrive.parent c.in-Some-Arrive.field-0-1 c.in-Some-Arrive.field-0-2 c.in-Some-Arrive.field-0-3 (omega (arith, self.key.1)) c.requires.pass.5 due c.requires.free) a b d e f in (x.0, x.1, x.2, x.3.0, x.4)),
     )
+
+pub invariant_of-pass : goal.invariant_of-pass
+invariant_of-pass c =
+    let self = c.args.self.now in let pass = c.args.pass.now in let job = job_of self.setting in let v = pass.seat.me.0 in
+    let act = acts.Arrive c.in-Some-Arrive.parent c.in-Some-Arrive.field-0-1 c.in-Some-Arrive.field-0-2 c.in-Some-Arrive.field-0-3 in
+    let due : next_act job v.own.task v.own.call ≡ Some act = sym c.next.ensures.next ∙ (c.in-Some-Arrive.is ∙ ap Some c.in-Some-Arrive.field-0-is) in
+    let told = c.fetch_add-second.ensures.2 c.in-Some-Arrive.parent c.in-Some-Arrive.field-0-1 c.in-Some-Arrive.field-0-2 c.in-Some-Arrive.field-0-3 (next_seen job v act c.requires.pass.9 c.requires.pass.2 due) in
+    elim c.if-second.branch [
+      | then-second w ↦
+          let is = told.1 (let one = w.if-second in grind (arith, nat_tests)) in record {
+            number = (ap (λ (m : Sat). m.0.own.worker) is ∙ pass.number.0, ap (λ (m : Sat). m.0.to) is ∙ pass.number.1);
+            own = (ap (λ (m : Sat). m.0.own.task) is ∙ sym w.pass-is, ap (λ (m : Sat). m.0.own.call) is ∙ pass.own.1);
+            room = pass.room;
+          }
+      | else-second w ↦
+          let is = told.0 (let zero = w.if-second in grind (arith, nat_tests)) in record {
+            number = (ap (λ (m : Sat). m.0.own.worker) is ∙ pass.number.0, ap (λ (m : Sat). m.0.to) is ∙ pass.number.1);
+            own = (ap (λ (m : Sat). m.0.own.task) is ∙ sym w.pass-is, ap (λ (m : Sat). m.0.own.call) is ∙ pass.own.1);
+            room = pass.room;
+          }
+    ]
+
+pub returns-clause-pass : goal.returns-clause-pass
+returns-clause-pass c =
+    let self = c.args.self.now in let pass = c.args.pass.now in let job = job_of self.setting in let v = pass.seat.me.0 in
+    let laws = c.laws_hold.ensures self.setting (few_nodes self.nodes job.plan.count self.key.1 self.few.2) self.acts.0 self.acts.1 in
+    let act = acts.Arrive c.in-Some-Arrive.parent c.in-Some-Arrive.field-0-1 c.in-Some-Arrive.field-0-2 c.in-Some-Arrive.field-0-3 in
+    let due : next_act job v.own.task v.own.call ≡ Some act = sym c.next.ensures.next ∙ (c.in-Some-Arrive.is ∙ ap Some c.in-Some-Arrive.field-0-is) in
+    let stands = next_stands job laws v.own.call v.own.task act c.requires.pass.5 due in
+    let told = c.fetch_add-second.ensures.2 c.in-Some-Arrive.parent c.in-Some-Arrive.field-0-1 c.in-Some-Arrive.field-0-2 c.in-Some-Arrive.field-0-3 (next_seen job v act c.requires.pass.9 c.requires.pass.2 due) in
+    elim c.if-second.branch [
+      | then-second w ↦
+          let is = told.1 (let one = w.if-second in grind (arith, nat_tests)) in
+          pass_stepped self.setting _ pass.worker pass.seat c.fetch_add-second.new.seat (with_step (with_task (ArriveSecond c.in-Some-Arrive.parent c.in-Some-Arrive.field-0-1 c.in-Some-Arrive.field-0-2 c.in-Some-Arrive.field-0-3) (Handed c.in-Some-Arrive.parent)) v) c.fetch_add-second.ensures.0 is refl refl refl refl
+          (handed_here job laws c.in-Some-Arrive.parent c.in-Some-Arrive.field-0-1 c.in-Some-Arrive.field-0-2 stands.1) refl refl refl c.requires.pass
+      | else-second w ↦
+          let is = told.0 (let zero = w.if-second in grind (arith, nat_tests)) in
+          pass_stepped self.setting _ pass.worker pass.seat c.fetch_add-second.new.seat (with_step (with_task (ArriveFirst c.in-Some-Arrive.parent c.in-Some-Arrive.field-0-1 c.in-Some-Arrive.field-0-2 c.in-Some-Arrive.field-0-3) Idle) v) c.fetch_add-second.ensures.0 is refl refl refl refl tt refl refl refl c.requires.pass
+    ]
+
+pub returns-clause-first : goal.returns-clause-first
+returns-clause-first c first p l r n at =
+    let self = c.args.self.now in let pass = c.args.pass.now in let job = job_of self.setting in let v = pass.seat.me.0 in
+    let told = c.fetch_add-second.ensures.2 p l r n (next_seen job v (acts.Arrive p l r n) c.requires.pass.9 c.requires.pass.2 at) in
+    ap (λ (m : Sat). m.0) (told.0 (grind (arith, nat_tests)))
+
+pub returns-clause-second : goal.returns-clause-second
+returns-clause-second c second p l r n at =
+    let self = c.args.self.now in let pass = c.args.pass.now in let job = job_of self.setting in let v = pass.seat.me.0 in
+    let told = c.fetch_add-second.ensures.2 p l r n (next_seen job v (acts.Arrive p l r n) c.requires.pass.9 c.requires.pass.2 at) in
+    ap (λ (m : Sat). m.0) (told.1 (grind (arith, nat_tests)))

@@ -10,7 +10,7 @@ use Rattle.table_rule.specs.Shows.{reserved, room_of, job_of}
 use Rattle.table_rule.specs.Passes.{in_hold, after_publish, publishing}
 use Rattle.table_rule.specs.Views.{with_step}
 use Rattle.table_rule.proofs.TableLemmas.Moved.{few_nodes}
-use Rattle.core_table.proofs.PassLemmas.PassKept.{held_out, pass_made, first, swapped, turned_to, carries_published, holder_list, found_book, books}
+use Rattle.core_table.proofs.PassLemmas.PassKept.{held_out, looks_at, looks_after, pass_made, first, swapped, turned_to, carries_published, holder_list, found_book, books}
 use Rattle.core_table.proofs.ListLemmas.Owed.{remembers_hold, owes_published}
 use Rattle.table_rule.proofs.ListLemmas.CallCounts.{room_few, few_batches_in}
 use Rattle.table_rule.proofs.StepLemmas.PublishStep.{admits, publishes_at}
@@ -132,6 +132,7 @@ returns c =
       pass = pass_made self.setting _ pass.worker old c.turn.new.self w (vacant h.owed ++ (workers, Slots.Vacant) ∷ [])
           (c.turn.ensures.0 ∙ (c.fetch_add.ensures.0 ∙ (c.exchange-2.ensures.0 ∙ (c.exchange.ensures.0 ∙ c.load.ensures.0)))) last refl refl refl refl refl refl
           (carries_published pass.worker workers v h c.args.batch (held_out pass.worker old.me h c.requires.pass.7 holds) holds c.requires.pass.2)
-          (let m = c.requires.pass.8.holds h holds in remembers_hold w _ true (after_publish c.args.batch h) (ap (in_hold (after_publish c.args.batch)) holds) m.0 refl (owes_published h c.args.batch m.2)) c.requires.pass;
+          (let m = c.requires.pass.8.holds h holds in remembers_hold w _ true (after_publish c.args.batch h) (ap (in_hold (after_publish c.args.batch)) holds) m.0 refl (owes_published h c.args.batch m.2))
+          (looks_after workers (after_publish c.args.batch) v.own.hold h holds (looks_at workers v.own.hold h c.requires.pass.10 holds)) c.requires.pass;
       published = ap (λ (m : Sat). m.0) last;
     }

@@ -61,6 +61,6 @@ returns c =
     let last = c.store.ensures.2 ∙ ap (λ (m : Sat). (with_step releasing m.0, rest (rest m.1))) put in
     record {
       pass = pass_made self.setting _ pass.worker old c.store.new.seat (with_step releasing v) [] (c.store.ensures.0 ∙ (c.exchange.ensures.0 ∙ c.turn.ensures.0)) last refl refl refl refl refl refl
-          (carries_released pass.worker v (held_out pass.worker old.me h c.requires.pass.7 holds)) (remembers_none (with_step releasing v) _ _ refl (m.0 ∙ nobody)) c.requires.pass;
+          (carries_released pass.worker v (held_out pass.worker old.me h c.requires.pass.7 holds)) (remembers_none (with_step releasing v) _ _ refl (m.0 ∙ nobody)) tt c.requires.pass;
       released = ap (λ (m : Sat). m.0) last;
     }

@@ -3,7 +3,7 @@ use Rattle.core_model.specs.declared.status.CallState.TheVariants.{Out}
 use Rattle.table_rule.specs.declared.slot.Slot.TheVariants as Slots
 use Rattle.table_rule.specs.Shows.{room_of, job_of}
 use Rattle.table_rule.proofs.TableLemmas.Moved.{few_nodes}
-use Rattle.core_table.proofs.PassLemmas.PassKept.{held_out, pass_made, first, swapped, turned_to, carries_took, carries_passed}
+use Rattle.core_table.proofs.PassLemmas.PassKept.{held_out, looks_after, pass_made, first, swapped, turned_to, carries_took, carries_passed}
 use Rattle.table_rule.specs.declared.view.HoldView.{HoldView}
 use Rattle.table_rule.specs.Remembers.{Owes}
 use Rattle.core_table.proofs.ListLemmas.Owed.{remembers_hold, owes_passed, owes_taken}
@@ -35,7 +35,8 @@ returns-then-seen-ne1-clause-pass c =
     let out : old.me.0.own.call ≡ Out = held_out c.args.pass.now.worker old.me e.0 c.requires.pass.7 e.1 in
     pass_made c.args.self.now.setting _ c.args.pass.now.worker old c.compare_exchange-seen.new.seat w old.me.1 c.compare_exchange-seen.ensures.0 (e.4 c.if-seen-ne1.true) refl refl refl refl refl refl
     (carries_passed c.args.pass.now.worker c.args.u old.me.0 e.0 c.compare_exchange-seen.result old.me.1 out e.1 c.requires.pass.7)
-    (let m = c.requires.pass.8.holds e.0 e.1 in remembers_hold w _ _ (after_pass c.compare_exchange-seen.result e.0) (ap (in_hold (after_pass c.compare_exchange-seen.result)) e.1) m.0 m.1 (owes_passed e.0 c.compare_exchange-seen.result m.2)) c.requires.pass
+    (let m = c.requires.pass.8.holds e.0 e.1 in remembers_hold w _ _ (after_pass c.compare_exchange-seen.result e.0) (ap (in_hold (after_pass c.compare_exchange-seen.result)) e.1) m.0 m.1 (owes_passed e.0 c.compare_exchange-seen.result m.2))
+    (looks_after c.args.self.now.setting.workers (after_pass c.compare_exchange-seen.result) old.me.0.own.hold e.0 e.1 (let next = c.requires.next in let at = ap (λ (h : HoldView). h.looks) (same_hold next.0 e.0 (sym next.1 ∙ e.1)) in omega (arith, at, next.2, c.requires.low))) c.requires.pass
 
 pub returns-clause-pass : goal.returns-clause-pass
 returns-clause-pass c =
@@ -52,7 +53,8 @@ returns-clause-pass c =
     let next = c.requires.next in
     let at : u ≡ e.0.looks = next.2 ∙ ap (λ (h : HoldView). h.looks) (same_hold next.0 e.0 (sym next.1 ∙ e.1)) in
     remembers_hold w _ _ (after_take (call_by u t.0) e.0) (ap (in_hold (after_take (call_by u t.0))) e.1) (c.push_reserved.ensures.items ∙ ap (λ l. l ++ u ∷ []) m.0) m.1
-    (subst (λ (n : ℕ). Owes (after_take (call_by n t.0) e.0)) (sym at) (owes_taken e.0 t.0 e.2 m.2))) c.requires.pass
+    (subst (λ (n : ℕ). Owes (after_take (call_by n t.0) e.0)) (sym at) (owes_taken e.0 t.0 e.2 m.2)))
+    (looks_after c.args.self.now.setting.workers (after_take (call_by u t.0)) old.me.0.own.hold e.0 e.1 (let next = c.requires.next in let at = ap (λ (h : HoldView). h.looks) (same_hold next.0 e.0 (sym next.1 ∙ e.1)) in omega (arith, at, next.2, c.requires.low))) c.requires.pass
 
 pub push_reserved-requires : goal.push_reserved-requires
 push_reserved-requires c =

@@ -43,4 +43,4 @@ returns-clause-pass c =
     pass_made c.args.self.now.setting _ c.args.pass.now.worker old c.turn.new.self w ((workers + 1, Slots.Book book) ∷ (workers, Slots.Vacant) ∷ [])
     (c.turn.ensures.0 ∙ (c.exchange-slot.ensures.0 ∙ c.compare_exchange.ensures.0)) last refl refl refl refl refl refl
     (carries_won c.args.pass.now.worker workers old.me.0 t.1 out c.requires.pass.2)
-    (remembers_hold w _ false (new_hold t.1) refl (c.requires.pass.8.none t.0) refl (owes_new t.1)) c.requires.pass
+    (remembers_hold w _ false (new_hold t.1) refl (c.requires.pass.8.none t.0) refl (owes_new t.1)) (omega arith) c.requires.pass

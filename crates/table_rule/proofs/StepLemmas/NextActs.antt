@@ -1,0 +1,259 @@
+-- What the next act of a task says of the task, by the kind of act, and that it is the plan's alone.
+use Rattle.std.proofs.Common.{ℕ, ◌≡◌, ◌≢◌, ◌<◌, true, Option as Maybe, None, Some, List, refl, sym, ap, ◌∙◌, subst, inl, inr, arith}
+use Rattle.std.proofs.lemmas.Bool.{cases_eq}
+use Rattle.std.proofs.lemmas.Bool.Decides.{nat_tests}
+use Rattle.seq_objects.specs.Spin.{spin_of}
+use Rattle.seq_objects.specs.Objects.{value_of}
+use Rattle.seq_objects.specs.declared.act.Act.{Act}
+use Rattle.seq_objects.specs.declared.act.Act.TheVariants as kinds
+use Rattle.sp_order.specs.declared.node.Kind.{Kind}
+use Rattle.sp_order.specs.declared.node.Kind.TheVariants.{LeafNode, SeqNode, ParNode}
+use Rattle.sp_order.specs.declared.node.Move.{Move}
+use Rattle.sp_order.specs.declared.node.Move.TheVariants as moves
+use Rattle.sp_order.specs.Plans.{Nodes, IsSide, parent_of}
+use Rattle.sp_order.specs.Preorder.{nodes_of}
+use Rattle.core_model.specs.State.{CoreJob, State, put}
+use Rattle.core_model.specs.Tasks.{is_done}
+use Rattle.core_model.specs.Operations.{leaf_of, op_of, op_in, IsLeaf}
+use Rattle.core_model.specs.Events.{Happens, task_after, value_in}
+use Rattle.core_model.specs.Next.{next_act, act_of_run, act_of_half, act_of_started, act_of_second, act_of_parent, act_of_arrive, act_of_whole, act_of_handed}
+use Rattle.core_model.specs.declared.next.Next.{Next}
+use Rattle.core_model.specs.declared.next.Next.TheVariants as acts
+use Rattle.table_rule.specs.CoreWords.{Task, Idle, Run, Half, Started, Kept, Ended, Whole, Handed, Ready, Done, Free, CallState, NotCalled, Out, Got, Event}
+use Rattle.batch_history.specs.declared.batch.Entry.{Entry}
+use Rattle.table_rule.specs.declared.slot.OpRecord.{OpRecord}
+use Rattle.table_rule.specs.declared.view.View.{View}
+use Rattle.table_rule.specs.Laws.{Laws}
+use Rattle.table_rule.specs.DueActs.{IsPostDue, IsKeepDue}
+use Rattle.table_rule.specs.Tasks.{IsPar, TaskHere, progress_after, IsNext}
+use Rattle.table_rule.proofs.StepLemmas.Sides.{block_in, side_below}
+
+-- In every state where a free worker has the task, the event happens, and `changed` is the state after it.
+abbrev pub HappensFor : CoreJob → Task → Event → (State → ℕ → State) → Type 0
+HappensFor job task event changed = (s : State) (k : ℕ) → k < job.workers → s.status k ≡ Free → s.task k ≡ task → Happens job s k event (changed s k)
+
+-- n, a side of a block, is made ready, and y is the task left
+pub record Opens (job : CoreJob) (task : Task) (n : ℕ) (y : Task) (event : Event) : Type 0 where
+  pub parent : ℕ
+  pub side : IsSide job.plan parent n
+  pub below : n < job.plan.count
+  pub here : TaskHere job y
+  pub happens : HappensFor job task event (λ s k. record s { node = put s.node n Ready; task = put s.task k y })
+
+-- n is marked as done
+pub record Finishes (job : CoreJob) (task : Task) (n : ℕ) (event : Event) : Type 0 where
+  pub below : n < job.plan.count
+  pub done : (k : ℕ) → is_done (progress_after k task) ≡ true
+  pub happens : HappensFor job task event (λ s k. record s { node = put s.node n (progress_after k task); task = put s.task k (task_after n) })
+
+module _ (job : CoreJob) (task : Task) (call : CallState) where
+  -- what the act says of the task
+  abbrev pub ActStands : Maybe Next → Type 0
+  ActStands None = Unit {0}
+  ActStands (Some (acts.Start n leaf)) = (task ≡ Run n) × IsLeaf (job.plan.kind n)
+  ActStands (Some (acts.Open n y event)) = Opens job task n y event
+  ActStands (Some (acts.Spin n start steps)) = (task ≡ Started n start) × (value_in (job.act (leaf_of (job.plan.kind n))) call ≡ Some (spin_of steps))
+  ActStands (Some (acts.Call n start leaf op)) = (task ≡ Started n start) × (call ≡ NotCalled) × (job.plan.kind n ≡ Some (LeafNode leaf)) × (op_in (job.act leaf) ≡ Some op)
+  ActStands (Some (acts.Got n start reply)) = (task ≡ Started n start) × (value_in (job.act (leaf_of (job.plan.kind n))) call ≡ Some (value_of reply))
+  ActStands (Some (acts.End n start)) = task ≡ Kept n start
+  ActStands (Some (acts.Finish n event)) = Finishes job task n event
+  ActStands (Some (acts.Arrive p l r n)) = (task ≡ Whole n) × (job.plan.kind p ≡ Some (ParNode l r)) × IsSide job.plan p n
+
+-- The task is `Started` at the call's leaf, and the operation is the leaf's under every book.
+abbrev pub MayPost : CoreJob → Task → OpRecord → Type 0
+MayPost job task call =
+    (n : ℕ) × (start : ℕ) × (task ≡ Started n start) × (job.plan.kind n ≡ Some (LeafNode call.leaf))
+    × ((book : List (List Entry)) → op_of job.act book call.leaf ≡ Some call.op)
+
+-- the leaf has started, and its value is this
+abbrev pub HasValue : CoreJob → Task → CallState → ℕ → Type 0
+HasValue job task call value = (n : ℕ) × (start : ℕ) × (task ≡ Started n start) × (value_in (job.act (leaf_of (job.plan.kind n))) call ≡ Some value)
+
+module _ (job : CoreJob) (task : Task) (call : CallState) where
+  -- what a post or a keep that is due says of the task
+  post_by : (o : Maybe Next) (posted : OpRecord) → IsPostDue o posted → ActStands job task call o → (call ≡ NotCalled) × MayPost job task posted
+  post_by (Some (acts.Call n start leaf op)) posted is stands =
+      subst (λ (y : OpRecord). (call ≡ NotCalled) × MayPost job task y) (sym is) (stands.1, (n, start, stands.0, stands.2, (λ book. stands.3)))
+  post_by None posted is stands = absurd is
+  post_by (Some (acts.Start n leaf)) posted is stands = absurd is
+  post_by (Some (acts.Open n y event)) posted is stands = absurd is
+  post_by (Some (acts.Spin n start steps)) posted is stands = absurd is
+  post_by (Some (acts.Got n start reply)) posted is stands = absurd is
+  post_by (Some (acts.End n start)) posted is stands = absurd is
+  post_by (Some (acts.Finish n event)) posted is stands = absurd is
+  post_by (Some (acts.Arrive p l r n)) posted is stands = absurd is
+
+  keep_by : (o : Maybe Next) (value : ℕ) → IsKeepDue o value → ActStands job task call o → HasValue job task call value
+  keep_by (Some (acts.Spin n start steps)) value is stands = (n, start, stands.0, stands.1 ∙ ap Some (sym is))
+  keep_by (Some (acts.Got n start reply)) value is stands = (n, start, stands.0, stands.1 ∙ ap Some (sym is))
+  keep_by None value is stands = absurd is
+  keep_by (Some (acts.Start n leaf)) value is stands = absurd is
+  keep_by (Some (acts.Open n y event)) value is stands = absurd is
+  keep_by (Some (acts.Call n start leaf op)) value is stands = absurd is
+  keep_by (Some (acts.End n start)) value is stands = absurd is
+  keep_by (Some (acts.Finish n event)) value is stands = absurd is
+  keep_by (Some (acts.Arrive p l r n)) value is stands = absurd is
+
+module _ (job : CoreJob) (laws : Laws job) (call : CallState) where
+  run_stands : (n : ℕ) (kind : Maybe Kind) → job.plan.kind n ≡ kind → ActStands job (Run n) call (act_of_run kind n)
+  run_stands n None is = tt
+  run_stands n (Some (LeafNode leaf)) is = (refl, (leaf, is))
+  run_stands n (Some (SeqNode l r)) is = record {
+    parent = n;
+    side = ap parent_of (laws.plan.left_of_seq n l r is);
+    below = side_below job.plan n l laws.plan (ap parent_of (laws.plan.left_of_seq n l r is));
+    here = tt;
+    happens = λ s k low free task. record { worker_in = low; needs = (free, task, is); does = refl };
+  }
+  run_stands n (Some (ParNode l r)) is = record {
+    parent = n;
+    side = ap parent_of (laws.plan.right_of_par n l r is);
+    below = side_below job.plan n r laws.plan (ap parent_of (laws.plan.right_of_par n l r is));
+    here = (block_in job.plan n (ParNode l r) laws.plan is, subst IsPar (sym is) tt);
+    happens = λ s k low free task. record { worker_in = low; needs = (free, task, is); does = refl };
+  }
+
+  half_stands : (p : ℕ) (kind : Maybe Kind) → job.plan.kind p ≡ kind → ActStands job (Half p) call (act_of_half kind p)
+  half_stands p None is = tt
+  half_stands p (Some (LeafNode leaf)) is = tt
+  half_stands p (Some (SeqNode l r)) is = tt
+  half_stands p (Some (ParNode l r)) is = record {
+    parent = p;
+    side = ap parent_of (laws.plan.left_of_par p l r is);
+    below = side_below job.plan p l laws.plan (ap parent_of (laws.plan.left_of_par p l r is));
+    here = tt;
+    happens = λ s k low free task. record { worker_in = low; needs = (free, task, is); does = refl };
+  }
+
+  started_stands : (n start leaf : ℕ) (act : Act) → job.plan.kind n ≡ Some (LeafNode leaf) → job.act leaf ≡ act
+      → ActStands job (Started n start) call (act_of_started act call n start leaf)
+  started_stands n start leaf (kinds.Work steps) kind is = (refl, ap (λ u. value_in (job.act (leaf_of u)) call) kind ∙ ap (λ a. value_in a call) is)
+  started_stands n start leaf (kinds.Call op) kind is = elim call as (λ (c : CallState). ActStands job (Started n start) c (act_of_started (kinds.Call op) c n start leaf)) [
+    | NotCalled ↦ (refl, refl, kind, ap op_in is)
+    | Out ↦ tt
+    | Got receipt ↦ (refl, ap (λ u. value_in (job.act (leaf_of u)) (Got receipt)) kind ∙ ap (λ a. value_in a (Got receipt)) is)
+  ]
+
+  second_stands : (n p r : ℕ) → job.plan.kind p ≡ Some (SeqNode n r) → ActStands job (Whole n) call (act_of_second (job.plan.kind p) p)
+  second_stands n p r kind = subst (λ k. ActStands job (Whole n) call (act_of_second k p)) (sym kind) (record {
+    parent = p;
+    side = ap parent_of (laws.plan.right_of_seq p n r kind);
+    below = side_below job.plan p r laws.plan (ap parent_of (laws.plan.right_of_seq p n r kind));
+    here = tt;
+    happens = λ s k low free task. record { worker_in = low; needs = (free, task, kind); does = refl };
+  })
+
+  parent_stands : (n p l : ℕ) → job.plan.kind p ≡ Some (SeqNode l n) → ActStands job (Whole n) call (act_of_parent (job.plan.kind p) p)
+  parent_stands n p l kind = subst (λ k. ActStands job (Whole n) call (act_of_parent k p)) (sym kind) (record {
+    below = block_in job.plan p (SeqNode l n) laws.plan kind;
+    done = λ k. refl;
+    happens = λ s k low free task. record { worker_in = low; needs = (free, task, kind); does = refl };
+  })
+
+  arrive_stands : (n p l r : ℕ) → job.plan.kind p ≡ Some (ParNode l r) → IsSide job.plan p n → ActStands job (Whole n) call (act_of_arrive (job.plan.kind p) p n)
+  arrive_stands n p l r kind side = subst (λ k. ActStands job (Whole n) call (act_of_arrive k p n)) (sym kind) (refl, kind, side)
+
+  whole_stands : (n : ℕ) (move : Move) → job.plan.after n ≡ move → ActStands job (Whole n) call (act_of_whole job.plan move n)
+  whole_stands n moves.Root after = tt
+  whole_stands n (moves.OpenSecond p) after = let second = laws.second n p after in second_stands n p second.0 second.1
+  whole_stands n (moves.FinishParent p) after = let parent = laws.parent n p after in parent_stands n p parent.0 parent.1
+  whole_stands n (moves.Arrive p) after = let sides = laws.arrive n p after in arrive_stands n p sides.0 sides.1 sides.2 sides.3
+
+  handed_stands : (p : ℕ) (kind : Maybe Kind) → job.plan.kind p ≡ kind → ActStands job (Handed p) call (act_of_handed kind p)
+  handed_stands p None is = tt
+  handed_stands p (Some (LeafNode leaf)) is = tt
+  handed_stands p (Some (SeqNode l r)) is = tt
+  handed_stands p (Some (ParNode l r)) is = record {
+    below = block_in job.plan p (ParNode l r) laws.plan is;
+    done = λ k. refl;
+    happens = λ s k low free task. record { worker_in = low; needs = (free, task, is); does = refl };
+  }
+
+  pub act_stands : (task : Task) → TaskHere job task → ActStands job task call (next_act job task call)
+  act_stands Idle here = tt
+  act_stands (Run n) here = run_stands n (job.plan.kind n) refl
+  act_stands (Half p) here = half_stands p (job.plan.kind p) refl
+  act_stands (Started n start) here =
+      let kind : job.plan.kind n ≡ Some (LeafNode (leaf_of (job.plan.kind n))) = here.2.1 ∙ ap (λ u. Some (LeafNode u)) (sym (ap leaf_of here.2.1)) in
+      started_stands n start (leaf_of (job.plan.kind n)) (job.act (leaf_of (job.plan.kind n))) kind refl
+  act_stands (Kept n start) here = refl
+  act_stands (Ended n start end) here = record {
+    below = here.0;
+    done = λ k. refl;
+    happens = λ s k low free task. record { worker_in = low; needs = (free, task); does = refl };
+  }
+  act_stands (Whole n) here = whole_stands n (job.plan.after n) refl
+  act_stands (Handed p) here = handed_stands p (job.plan.kind p) refl
+
+  -- what this act, which is the next one, says of the task
+  pub next_stands : (task : Task) (next : Next) → TaskHere job task → next_act job task call ≡ Some next → ActStands job task call (Some next)
+  next_stands task next here is = subst (ActStands job task call) is (act_stands task here)
+
+  pub may_post : (task : Task) (posted : OpRecord) → TaskHere job task → IsPostDue (next_act job task call) posted → (call ≡ NotCalled) × MayPost job task posted
+  may_post task posted here due = post_by job task call (next_act job task call) posted due (act_stands task here)
+
+  pub has_value : (task : Task) (value : ℕ) → TaskHere job task → IsKeepDue (next_act job task call) value → HasValue job task call value
+  has_value task value here due = keep_by job task call (next_act job task call) value due (act_stands task here)
+
+-- the acts that the plan alone determines
+abbrev pub IsPlanned : Next → Type 0
+IsPlanned (acts.Spin n start steps) = ⊥
+IsPlanned (acts.Call n start leaf op) = ⊥
+IsPlanned (acts.Got n start reply) = ⊥
+IsPlanned _ = Unit {0}
+
+started_apart : (act : Act) (call : CallState) (n start leaf : ℕ) (next : Next) → IsPlanned next → act_of_started act call n start leaf ≡ Some next → ⊥
+started_apart (kinds.Work steps) call n start leaf next planned is = let same : next ≡ acts.Spin n start steps = cc in subst IsPlanned same planned
+started_apart (kinds.Call op) NotCalled n start leaf next planned is = let same : next ≡ acts.Call n start leaf op = cc in subst IsPlanned same planned
+started_apart (kinds.Call op) Out n start leaf next planned is = absurd (cc)
+started_apart (kinds.Call op) (Got receipt) n start leaf next planned is = let same : next ≡ acts.Got n start receipt.reply = cc in subst IsPlanned same planned
+
+next_same : (one two : CoreJob) (task : Task) (call : CallState) (next : Next) → one.plan ≡ two.plan → IsPlanned next → next_act one task call ≡ Some next → next_act two task call ≡ Some next
+next_same one two Idle call next same planned is = is
+next_same one two (Run n) call next same planned is = ap (λ (plan : Nodes). act_of_run (plan.kind n) n) (sym same) ∙ is
+next_same one two (Half p) call next same planned is = ap (λ (plan : Nodes). act_of_half (plan.kind p) p) (sym same) ∙ is
+next_same one two (Started n start) call next same planned is =
+    absurd (started_apart (one.act (leaf_of (one.plan.kind n))) call n start (leaf_of (one.plan.kind n)) next planned is)
+next_same one two (Kept n start) call next same planned is = is
+next_same one two (Ended n start end) call next same planned is = is
+next_same one two (Whole n) call next same planned is = ap (λ (plan : Nodes). act_of_whole plan (plan.after n) n) (sym same) ∙ is
+next_same one two (Handed p) call next same planned is = ap (λ (plan : Nodes). act_of_handed (plan.kind p) p) (sym same) ∙ is
+
+-- the next act by the view is the job's
+pub act_is : (job : CoreJob) (v : View) (one two : Next) → nodes_of v.plan ≡ job.plan → IsPlanned one → next_act job v.own.task v.own.call ≡ Some two → IsNext v one → one ≡ two
+act_is job v one two planned only due is =
+    let there = next_same (record { plan = nodes_of v.plan; act = is.0; workers = v.workers }) job v.own.task v.own.call one planned only is.1 in cc
+
+-- the job's next act is the view's
+pub next_seen : (job : CoreJob) (v : View) (next : Next) → nodes_of v.plan ≡ job.plan → v.workers ≡ job.workers → next_act job v.own.task v.own.call ≡ Some next → IsNext v next
+next_seen job v next planned sized is =
+    let same : record { plan = nodes_of v.plan; act = job.act; workers = v.workers } ≡ job = λ i. record { plan = planned i; act = job.act; workers = sized i } in
+    (job.act, subst (λ (j : CoreJob). next_act j v.own.task v.own.call ≡ Some next) (sym same) is)
+
+-- the task after a finish
+after_root : (n : ℕ) → n ≡ 0 → task_after n ≡ Idle
+after_root n is = grind (arith, nat_tests)
+
+after_other : (n : ℕ) → n ≢ 0 → task_after n ≡ Whole n
+after_other n other = grind (arith, nat_tests)
+
+pub after_here : (job : CoreJob) (n : ℕ) → n < job.plan.count → TaskHere job (task_after n)
+after_here job n below = elim (cases_eq n 0) [
+  | inl is ↦ subst (TaskHere job) (sym (after_root n is)) tt
+  | inr other ↦ subst (TaskHere job) (sym (after_other n other)) (below, other)
+]
+
+-- the task after the second arrival
+pub handed_here : (job : CoreJob) (laws : Laws job) (p l r : ℕ) → job.plan.kind p ≡ Some (ParNode l r) → TaskHere job (Handed p)
+handed_here job laws p l r kind = (block_in job.plan p (ParNode l r) laws.plan kind, subst IsPar (sym kind) tt)
+
+-- a finish with any task but `Ended` marks its node as done
+pub done_else : (k : ℕ) (task : Task) → ((n s e : ℕ) → task ≡ Ended n s e → ⊥) → progress_after k task ≡ Done
+done_else k Idle other = refl
+done_else k (Run n) other = refl
+done_else k (Half p) other = refl
+done_else k (Started n s) other = refl
+done_else k (Kept n s) other = refl
+done_else k (Ended n s e) other = absurd (other n s e refl)
+done_else k (Whole n) other = refl
+done_else k (Handed p) other = refl

@@ -9,7 +9,7 @@ use Rattle.core_model.specs.Tasks.{is_done}
 use Rattle.core_model.specs.Reports.{IsReportOf}
 use Rattle.core_model.specs.declared.setting.Setting.{Setting}
 use Rattle.table_rule.specs.Words.{node_at, value_at, worker_in, start_in, end_in}
-use Rattle.table_rule.specs.Shows.{St, Shown, job_of}
+use Rattle.table_rule.specs.Shows.{TableState, Shown, job_of}
 
 -- The row of a leaf, read from the words: worker, start and end are packed in the node's progress word (`progress_code`
 -- in `Words.antt`), and the value has a word of its own.
@@ -22,7 +22,7 @@ pub record RowInWords (workers nodes leaf_total : ℕ) (node_of : ℕ → ℕ) (
 
 -- The table shows a state whose root is done. The report's rows are read from the table's words, and the report is that
 -- of the state, so its history is the state's book.
-pub record IsReportOfTable (key : Setting) (t : St) (report : Report) : Type 0 where
+pub record IsReportOfTable (key : Setting) (t : TableState) (report : Report) : Type 0 where
   pub shown : Shown key t
   pub over : is_done (shown.state.node 0) ≡ true
   pub rows : AllByRecursion (RowInWords key.workers (job_of key).plan.count (leaves (job_tree key.job)) (job_of key).plan.node_of t.words) report.rows

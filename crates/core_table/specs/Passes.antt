@@ -19,8 +19,8 @@ use Rattle.core_table.specs.declared.table.Pass.{Pass}
 use Rattle.table_rule.specs.Shows.{job_of, room_of}
 use Rattle.table_rule.specs.Passes.{unused}
 use Rattle.table_rule.specs.Views.{first_view}
-use Rattle.table_rule.specs.Carries.{Carries}
-use Rattle.table_rule.specs.Remembers.{Remembers}
+use Rattle.table_rule.specs.HoldsSlots.{HoldsSlots}
+use Rattle.table_rule.specs.TracksHold.{TracksHold}
 
 -- the setting that a table is made for: a planned job and a number of workers
 abbrev pub setting_in : CoreTable → Setting
@@ -66,8 +66,8 @@ abbrev pub IsSeatOf : Setting → TableId → ℕ → Seat Slot View → List �
 IsSeatOf setting table worker seat owed published =
     (seat.table_id ≡ table) × (worker < setting.workers) × (seat.me.0.workers ≡ setting.workers)
     × (seat.me.0.nodes ≡ (job_of setting).plan.count) × (seat.me.0.enrolled ≡ true)
-    × TaskHere (job_of setting) seat.me.0.own.task × (seat.me.0.room ≡ room_of setting) × Carries worker seat.me
-    × Remembers seat.me.0 owed published × (nodes_of seat.me.0.plan ≡ (job_of setting).plan) × LooksFit setting.workers seat.me.0.own.hold
+    × TaskHere (job_of setting) seat.me.0.own.task × (seat.me.0.room ≡ room_of setting) × HoldsSlots worker seat.me
+    × TracksHold seat.me.0 owed published × (nodes_of seat.me.0.plan ≡ (job_of setting).plan) × LooksFit setting.workers seat.me.0.own.hold
 
 -- the pass belongs to this table
 abbrev pub IsPassOf : CoreTable → Pass → Type 0

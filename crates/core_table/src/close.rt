@@ -7,7 +7,7 @@ ghost use Rattle.sp_order.specs.Precedence.{leaves};
 ghost use Rattle.sp_order.specs.Preorder.{nodes_of};
 ghost use Rattle.batch_history.specs.Lawful.{Lawful};
 ghost use Rattle.table_rule.specs.Words.{word_count};
-ghost use Rattle.table_rule.specs.Shows.{IsFront, events_by, St as TableState};
+ghost use Rattle.table_rule.specs.Shows.{IsFront, events_by, TableState};
 ghost use Rattle.core_table.specs.Passes.{IsPassOf, job_in, planned_in, setting_in, view};
 ghost use Rattle.core_table.specs.Closing.{RowInWords, IsReportOfTable};
 ghost use Rattle.core_model.specs.Reports.{IsRunFrom, IsRunReport};

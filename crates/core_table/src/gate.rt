@@ -21,7 +21,9 @@ use batch_history::Batch;
 use core_model::{CallState, Receipt};
 use launch_batch::Shop;
 use table_rule::laws::laws_hold;
-use table_rule::plays::{Admit, Answer, Leave, Post, Publish, ReleaseBoth, ReleaseShop, Take, Win};
+use table_rule::plays::{
+    Answer, CheckRoom, Leave, Post, Publish, ReleaseBoth, ReleaseShop, Take, Win,
+};
 use table_rule::{OpRecord, Slot};
 
 impl CoreTable {
@@ -139,7 +141,7 @@ impl CoreTable {
         laws_hold();
         let shared = &self.table.shared;
         let at = self.layout().batch_count();
-        shared.load::<Admit>(&mut pass.seat, at);
+        shared.load::<CheckRoom>(&mut pass.seat, at);
         let Slot::Book(mut book) = shared.exchange(&mut pass.seat, at, Slot::Vacant) else {
             unreachable!()
         };

@@ -15,7 +15,8 @@ use core_model::{CallState, Next, Task};
 use sp_order::laws::plan_stands_for_tree;
 use table_rule::laws::laws_hold;
 use table_rule::plays::{
-    Arrive, Claim, Draw, Finish, Hear, Keep, LookAtRoot, LookAtStop, Open, Stop, Stray,
+    Arrive, Claim, ClaimOutOfRange, DrawTick, Finish, Keep, LookAtRoot, LookAtStop, Open,
+    ReadBatchCount, Stop,
 };
 use table_rule::{DONE, MOST_WORKERS, RanLeaf};
 
@@ -89,7 +90,7 @@ impl CoreTable {
         laws_hold();
         let shared = &self.table.shared;
         if node >= self.nodes {
-            shared.compare_exchange::<Stray>(&mut pass.seat, 0, 4 + node as u64, 0);
+            shared.compare_exchange::<ClaimOutOfRange>(&mut pass.seat, 0, 4 + node as u64, 0);
             return false;
         }
         let at = self.layout().node(node);
@@ -113,7 +114,10 @@ impl CoreTable {
     {
         laws_hold();
         let at = self.layout().tick();
-        let tick = self.table.shared.fetch_add::<Draw>(&mut pass.seat, at, 1);
+        let tick = self
+            .table
+            .shared
+            .fetch_add::<DrawTick>(&mut pass.seat, at, 1);
         pass.task = ticked(pass.task, tick);
         tick
     }
@@ -240,7 +244,7 @@ impl CoreTable {
     {
         laws_hold();
         let at = self.layout().batch_count();
-        self.table.shared.load::<Hear>(&mut pass.seat, at)
+        self.table.shared.load::<ReadBatchCount>(&mut pass.seat, at)
     }
 
     /// Sets the stop word to 1. A trapped pass may do so too.

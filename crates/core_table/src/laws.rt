@@ -4,7 +4,7 @@ ghost use Rattle.core_model.specs.declared.setting.Setting.{Setting};
 ghost use Rattle.table_rule.specs.declared.slot.Slot.{Slot};
 ghost use Rattle.table_rule.specs.declared.view.View.{View};
 ghost use Rattle.table_rule.specs.Laws.{IsSound};
-ghost use Rattle.core_table.specs.Calls.{IsViewOf, CallsAreEvents};
+ghost use Rattle.core_table.specs.Calls.{IsViewOf, EachCallRefines};
 
 pub use crate::sending::tables_go_to_threads;
 use table_rule::laws::laws_hold;
@@ -14,7 +14,7 @@ use table_rule::laws::laws_hold;
 pub fn each_call_is_its_event()
     ensures { (key : Setting) → IsSound key
         → (slots id k : ℕ) (v : View) (xs : List (ℕ × Slot)) → IsViewOf key k v
-        → CallsAreEvents key slots id k v xs }
+        → EachCallRefines key slots id k v xs }
 {
     laws_hold();
 }

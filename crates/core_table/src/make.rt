@@ -18,7 +18,7 @@ use sp_order::node::Kind;
 use sp_order::{Job, PlannedJob};
 use std::alloc::{AllocError, Global};
 use table_rule::laws::laws_hold;
-use table_rule::plays::{Cut, Enrol};
+use table_rule::plays::{Enrol, SplitSeat};
 use table_rule::{Layout, MOST_WORKERS, Slot};
 
 /// The words of the opening state: all are 0 but the root's, which is 1 (ready).
@@ -120,7 +120,7 @@ impl CoreTable {
         };
         let mut passes = Vec::with_capacity(alloc, workers as usize)?;
         for worker in 0..workers {
-            let mut own = table.shared.split_seat::<Cut>(&mut seat);
+            let mut own = table.shared.split_seat::<SplitSeat>(&mut seat);
             table.shared.load::<Enrol>(&mut own, 0);
             let owed = Vec::with_capacity(alloc, MOST_WORKERS as usize)?;
             passes.push_reserved(Pass {

@@ -9,6 +9,6 @@ pub mod DueActs
 pub mod Batches
 pub mod Plays
 pub mod Steps
-pub mod Carries
-pub mod Remembers
+pub mod HoldsSlots
+pub mod TracksHold
 pub mod Laws

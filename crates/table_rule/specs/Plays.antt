@@ -21,11 +21,11 @@ use Rattle.table_rule.specs.Passes.{call_by, claiming, refusing, with_task, open
 use Rattle.table_rule.specs.Views.{with_step, with_found, with_post, with_since, seeing_done, seeing_undone, enrolling}
 
 -- a seat: its view and the slots that it carries
-abbrev pub Sat : Type 0
-Sat = Me Slot View
+abbrev pub SeatState : Type 0
+SeatState = Me Slot View
 
 abbrev pub Play : Type 1
-Play = Step Slot → Sat → ℕ → Sat → Type 0
+Play = Step Slot → SeatState → ℕ → SeatState → Type 0
 
 -- the claim succeeds exactly if the node's word was 1 (ready)
 abbrev pub claimed : Play

@@ -2,7 +2,7 @@
 use Rattle.std.specs.Prelude.{ℕ, ◌≡◌, ◌≢◌, ◌⊎◌, slice_index, ◌<◌, ◌≤◌, ◌+◌, ◌==◌, Bool, true, false, if◌then◌else◌, Option as Maybe, None, Some, List, [], ◌∷◌, ◌++◌, length, map}
 use mathlib.Core.Option.{Option, none, some}
 use lib.ListN.{get_elem?}
-use Rattle.atomic_table.specs.Table.{State as TableState}
+use Rattle.atomic_table.specs.Table.{State as AtomicState}
 use Rattle.seq_objects.specs.Pairs.{AreDistinct}
 use Rattle.batch_history.specs.Book.{flat}
 use Rattle.batch_history.specs.Reserved.{ReservedView}
@@ -30,12 +30,12 @@ use Rattle.table_rule.specs.Words.{stop_at, slot_count, WordsShow}
 pub use Rattle.core_model.specs.Settings.{job_of}
 
 -- a table as plain data: its words, its slots and the view of each seat
-abbrev pub St : Type 0
-St = TableState Slot View
+abbrev pub TableState : Type 0
+TableState = AtomicState Slot View
 
 -- A look-up of a slot: `none` if there is no such slot, `some none` if a pass carries it, else its value in the table.
-abbrev pub Home : Type 0
-Home = Option (Option Slot)
+abbrev pub SlotHome : Type 0
+SlotHome = Option (Option Slot)
 
 -- the number of leaves that call, which is the number of batches that the book has room for
 abbrev pub room_of : Setting → ℕ
@@ -49,14 +49,14 @@ IsRecordOf job book task call =
 
 -- A worker's record slot, by its status. Pending: it is in the table, with the call. Executing: it is not in the table.
 -- Served: it is in the table, with the receipt. Free: nothing is said.
-abbrev pub RecordAt : CoreJob → List (List Entry) → Task → Status → Home → Type 0
+abbrev pub RecordAt : CoreJob → List (List Entry) → Task → Status → SlotHome → Type 0
 RecordAt job book task Free home = Unit {0}
 RecordAt job book task Pending home = (call : OpRecord) × (home ≡ some (some (Slots.Record call))) × IsRecordOf job book task call
 RecordAt job book task Executing home = home ≡ some none
 RecordAt job book task (Served receipt) home = home ≡ some (some (Slots.Receipt receipt))
 
 -- the shop is in the table, with the batches of the book, exactly while the flag is free
-abbrev pub ShopAt : Maybe Hold → List (List Entry) → Home → Type 0
+abbrev pub ShopAt : Maybe Hold → List (List Entry) → SlotHome → Type 0
 ShopAt None book home = home ≡ some (some (Slots.Shop book))
 ShopAt (Some h) book home = home ≡ some none
 
@@ -64,15 +64,15 @@ ShopAt (Some h) book home = home ≡ some none
 abbrev pub reserved : List (List Entry) → ℕ → ReservedView
 reserved batches capacity = record { batches = batches; capacity = capacity }
 
-abbrev pub IsBookHome : ℕ → List (List Entry) → Home → Type 0
+abbrev pub IsBookHome : ℕ → List (List Entry) → SlotHome → Type 0
 IsBookHome room book home = home ≡ some (some (Slots.Book (reserved book room)))
 
-abbrev pub BookIf : Bool → ℕ → List (List Entry) → Home → Type 0
+abbrev pub BookIf : Bool → ℕ → List (List Entry) → SlotHome → Type 0
 BookIf true room book home = IsBookHome room book home
 BookIf false room book home = home ≡ some none
 
 -- the book is in the table exactly while the flag is free or its hold has published
-abbrev pub BookAt : ℕ → Maybe Hold → List (List Entry) → Home → Type 0
+abbrev pub BookAt : ℕ → Maybe Hold → List (List Entry) → SlotHome → Type 0
 BookAt room None book home = IsBookHome room book home
 BookAt room (Some h) book home = BookIf h.published room book home
 
@@ -139,7 +139,7 @@ IsFront {A} xs ys = (more : List A) × (ys ≡ xs ++ more)
 
 -- What view v of seat `id` says of worker w, whose record slot is `home`. By `sits`, `id` is the one seat of the worker
 -- (`seat`).
-pub record Mine (job : CoreJob) (s : State) (home : Home) (seat id : ℕ) (v : View) (w : ℕ) : Type 0 where
+pub record AgreesWithView (job : CoreJob) (s : State) (home : SlotHome) (seat id : ℕ) (v : View) (w : ℕ) : Type 0 where
   pub sits : seat ≡ id
   -- the state's task and call of the worker are those of the view
   pub task : s.task w ≡ v.own.task
@@ -186,7 +186,7 @@ pub record StopShows (word : ℕ) (views : List View) : Type 0 where
 -- The table shows a state that has the eight parts of the invariant. Each worker is in the range of exactly one seat;
 -- the first seat has all workers not yet split off. A trace leads from the opening state to the state, and each
 -- worker's events in it are those in the view of its seat.
-pub record Shows (job : CoreJob) (room : ℕ) (t : St) : Type 0 where
+pub record Shows (job : CoreJob) (room : ℕ) (t : TableState) : Type 0 where
   pub state : State
   -- the seat of each worker
   pub seat : ℕ → ℕ
@@ -194,7 +194,7 @@ pub record Shows (job : CoreJob) (room : ℕ) (t : St) : Type 0 where
   pub words : WordsShow job.workers job.plan.count t.words state.node state.mark state.value state.status state.hold state.tick (length state.book)
   pub slots : SlotsShow job room t.homes state.task state.status state.hold state.book
   pub views : (id : ℕ) (v : View) (w : ℕ) → get_elem? t.views id ≡ some v → v.own.worker ≤ w → w < v.to
-      → (w < job.workers) × Mine job state (get_elem? t.homes w) (seat w) id v w
+      → (w < job.workers) × AgreesWithView job state (get_elem? t.homes w) (seat w) id v w
   pub seats : (w : ℕ) → w < job.workers → HasSeat t.views (seat w) w
   pub trace : List Step
   -- the ready list of each worker after the trace; it is in the model only, for a table has no deques
@@ -204,5 +204,5 @@ pub record Shows (job : CoreJob) (room : ℕ) (t : St) : Type 0 where
   pub stop : StopShows (slice_index t.words (stop_at job.workers)) t.views
 
 -- the rule of the table: `atomic_table` keeps it between any two steps
-abbrev pub Shown : Setting → St → Type 0
+abbrev pub Shown : Setting → TableState → Type 0
 Shown key = Shows (job_of key) (room_of key)

@@ -7,7 +7,7 @@ ghost use Rattle.sp_order.specs.Precedence.{leaves};
 ghost use Rattle.core_model.specs.declared.setting.Setting.{Setting};
 ghost use Rattle.table_rule.specs.declared.view.View.{View};
 ghost use Rattle.table_rule.specs.Laws.{IsSound, Laws};
-ghost use Rattle.table_rule.specs.Shows.{St as TableState, Shown, job_of, IsFront};
+ghost use Rattle.table_rule.specs.Shows.{TableState, Shown, job_of, IsFront};
 ghost use Rattle.table_rule.specs.OneState.{AreOne};
 ghost use Rattle.table_rule.specs.Words.{stop_at};
 ghost use Rattle.core_model.specs.Entries.{StandsAt};

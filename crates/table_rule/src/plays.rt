@@ -22,15 +22,15 @@ impl Play<Slot, View> for Claim {
     ghost then = { claimed };
 }
 
-pub struct Stray;
+pub struct ClaimOutOfRange;
 
-impl Play<Slot, View> for Stray {
+impl Play<Slot, View> for ClaimOutOfRange {
     ghost then = { strayed };
 }
 
-pub struct Draw;
+pub struct DrawTick;
 
-impl Play<Slot, View> for Draw {
+impl Play<Slot, View> for DrawTick {
     ghost then = { drawn };
 }
 
@@ -64,16 +64,16 @@ impl Play<Slot, View> for LookAtRoot {
     ghost then = { looked_at_root };
 }
 
-pub struct Hear;
+pub struct ReadBatchCount;
 
-impl Play<Slot, View> for Hear {
+impl Play<Slot, View> for ReadBatchCount {
     ghost then = { heard };
 }
 
 /// Splits the seat of the lowest worker number off the first seat.
-pub struct Cut;
+pub struct SplitSeat;
 
-impl Split<View> for Cut {
+impl Split<View> for SplitSeat {
     ghost left = { rest_of };
 
     ghost right = { pass_of };
@@ -104,9 +104,9 @@ impl Play<Slot, View> for Take {
 }
 
 /// A look at the batch count before a publish: the book has room, and stays a history with the batch.
-pub struct Admit;
+pub struct CheckRoom;
 
-impl Play<Slot, View> for Admit {
+impl Play<Slot, View> for CheckRoom {
     ghost then = { admitted };
 }
 

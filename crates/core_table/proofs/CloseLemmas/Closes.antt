@@ -11,7 +11,7 @@ use Rattle.table_rule.specs.declared.slot.Slot.{Slot}
 use Rattle.table_rule.specs.declared.slot.Slot.TheVariants as Slots
 use Rattle.table_rule.specs.Words.{WordsShow}
 use Rattle.table_rule.specs.Laws.{Laws}
-use Rattle.table_rule.specs.Shows.{St, reserved, BookAt, IsFront, events_by, Shows}
+use Rattle.table_rule.specs.Shows.{TableState, reserved, BookAt, IsFront, events_by, Shows}
 
 pub at_word : (l : List ℕ) (i a : ℕ) → get_elem? l i ≡ some a → get_or l i 0 ≡ a
 at_word [] i a e = absurd (some-ne-none a (sym e))
@@ -20,7 +20,7 @@ at_word (x ∷ xs) (suc i) a e = at_word xs i a e
 
 -- the table at the end, and the state that it shows
 pub record Last (job : CoreJob) (room : ℕ) (v : View) (ws : List ℕ) (xs : List Slot) : Type 0 where
-  pub table : St
+  pub table : TableState
   pub shown : Shows job room table
   pub same : table.words ≡ ws
   pub state : State

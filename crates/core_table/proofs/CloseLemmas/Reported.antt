@@ -19,7 +19,7 @@ use Rattle.table_rule.specs.declared.slot.Slot.{Slot}
 use Rattle.table_rule.specs.declared.slot.Slot.TheVariants as Slots
 use Rattle.core_model.specs.declared.setting.Setting.{Setting}
 use Rattle.core_model.specs.State.{opening_core}
-use Rattle.table_rule.specs.Shows.{St, Shown, IsFront, events_by, reserved, room_of, job_of}
+use Rattle.table_rule.specs.Shows.{TableState, Shown, IsFront, events_by, reserved, room_of, job_of}
 use Rattle.core_table.specs.Closing.{RowInWords, IsReportOfTable}
 use Rattle.table_rule.specs.Laws.{Laws}
 use Rattle.core_table.proofs.PassLemmas.PassKept.{books}
@@ -28,7 +28,7 @@ use Rattle.core_table.proofs.CloseLemmas.LastRows.{rows_told}
 
 -- what the report says of the table and of the trace
 pub record Reported (key : Setting) (v : View) (report : Report) : Type 0 where
-  pub table : St
+  pub table : TableState
   pub told : IsReportOfTable key table report
   pub seat : ℕ
   pub at : get_elem? table.views seat ≡ some v

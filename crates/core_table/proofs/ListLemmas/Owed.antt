@@ -15,8 +15,8 @@ use Rattle.table_rule.specs.declared.view.HoldView.{HoldView}
 use Rattle.table_rule.specs.declared.view.View.{View}
 use Rattle.table_rule.specs.Shows.{took_in, among}
 use Rattle.table_rule.specs.Passes.{call_by, without_first, new_hold, after_take, after_pass, after_publish, after_answer}
-use Rattle.table_rule.specs.Carries.{vacant}
-use Rattle.table_rule.specs.Remembers.{Owes, Remembers}
+use Rattle.table_rule.specs.HoldsSlots.{vacant}
+use Rattle.table_rule.specs.TracksHold.{Owes, TracksHold}
 use Rattle.core_table.specs.Code.Turns.{turns, IsFirstAt}
 use Rattle.table_rule.proofs.ListLemmas.Lists.{each_so}
 use Rattle.table_rule.proofs.ListLemmas.Last.{if_yes, if_no, took_put, among_put, distinct_last}
@@ -172,18 +172,18 @@ some_hold a b e = cc
 held_some : (a : Maybe HoldView) (h : HoldView) → a ≡ Some h → a ≡ None → ⊥
 held_some a h e f = absurd (cc)
 
--- `Remembers` after a call that does not change the hold
-pub remembers_kept : (v w : View) (owed : List ℕ) (published : Bool) → w.own.hold ≡ v.own.hold → Remembers v owed published → Remembers w owed published
+-- `TracksHold` after a call that does not change the hold
+pub remembers_kept : (v w : View) (owed : List ℕ) (published : Bool) → w.own.hold ≡ v.own.hold → TracksHold v owed published → TracksHold w owed published
 remembers_kept v w owed published same m = record { none = λ e. m.none (sym same ∙ e); holds = λ h e. m.holds h (sym same ∙ e) }
 
 -- after one that sets the hold, and after one that clears it
-pub remembers_hold : (w : View) (owed : List ℕ) (published : Bool) (h : HoldView) → w.own.hold ≡ Some h → owed ≡ h.owed → published ≡ h.published → Owes h → Remembers w owed published
+pub remembers_hold : (w : View) (owed : List ℕ) (published : Bool) (h : HoldView) → w.own.hold ≡ Some h → owed ≡ h.owed → published ≡ h.published → Owes h → TracksHold w owed published
 remembers_hold w owed published h holds same told o = record {
   none = λ e. absurd (held_some w.own.hold h holds e);
   holds = λ g e. subst (λ (z : HoldView). (owed ≡ z.owed) × (published ≡ z.published) × Owes z) (some_hold h g (sym holds ∙ e)) (same, told, o);
 }
 
-pub remembers_none : (w : View) (owed : List ℕ) (published : Bool) → w.own.hold ≡ None → owed ≡ [] → Remembers w owed published
+pub remembers_none : (w : View) (owed : List ℕ) (published : Bool) → w.own.hold ≡ None → owed ≡ [] → TracksHold w owed published
 remembers_none w owed published nothing empty = record { none = λ _. empty; holds = λ h e. absurd (held_some w.own.hold h e nothing) }
 
 -- rotation

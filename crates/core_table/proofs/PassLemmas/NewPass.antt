@@ -8,10 +8,10 @@ use Rattle.table_rule.specs.declared.slot.Slot.TheVariants as Slots
 use Rattle.core_model.specs.declared.setting.Setting.{Setting}
 use Rattle.sp_order.specs.Preorder.{nodes_of}
 use Rattle.table_rule.specs.Shows.{job_of}
-use Rattle.table_rule.specs.Plays.{Sat}
+use Rattle.table_rule.specs.Plays.{SeatState}
 use Rattle.table_rule.specs.Views.{enrolling, pass_of}
-use Rattle.table_rule.specs.Carries.{Carries}
-use Rattle.table_rule.specs.Remembers.{Remembers}
+use Rattle.table_rule.specs.HoldsSlots.{HoldsSlots}
+use Rattle.table_rule.specs.TracksHold.{TracksHold}
 use Rattle.core_table.proofs.ListLemmas.Owed.{remembers_none}
 use Rattle.core_table.specs.Passes.{IsSeatOf, LooksFit}
 use Rattle.table_rule.specs.Tasks.{TaskHere}
@@ -26,7 +26,7 @@ each_push P (y ∷ ys) x old new (suc w) = each_push (λ k. P (suc k)) ys x (λ 
 abbrev fresh : ℕ → Setting → View
 fresh k setting = enrolling (pass_of (rest_from k setting))
 
-carries_new : (k : ℕ) (setting : Setting) → Carries k (fresh k setting, (k, Slots.Vacant) ∷ [])
+carries_new : (k : ℕ) (setting : Setting) → HoldsSlots k (fresh k setting, (k, Slots.Vacant) ∷ [])
 carries_new k setting = record {
   free = λ ne. (refl, refl);
   trapped = λ e _. absurd (cc);
@@ -37,13 +37,13 @@ pub new_pass : (setting : Setting) (table : TableId) (k : ℕ) (seat : Seat Slot
 new_pass setting table k seat low same is = (
   same,
   low,
-  ap (λ (m : Sat). m.0.workers) is,
-  ap (λ (m : Sat). m.0.nodes) is,
-  ap (λ (m : Sat). m.0.enrolled) is,
-  subst (TaskHere (job_of setting)) (sym (ap (λ (m : Sat). m.0.own.task) is)) tt,
-  ap (λ (m : Sat). m.0.room) is,
-  subst (Carries k) (sym is) (carries_new k setting),
-  subst (λ (m : Sat). Remembers m.0 [] false) (sym is) (remembers_none (fresh k setting) [] false refl refl),
-  ap (λ (m : Sat). nodes_of m.0.plan) is,
-  subst (LooksFit setting.workers) (sym (ap (λ (m : Sat). m.0.own.hold) is)) tt,
+  ap (λ (m : SeatState). m.0.workers) is,
+  ap (λ (m : SeatState). m.0.nodes) is,
+  ap (λ (m : SeatState). m.0.enrolled) is,
+  subst (TaskHere (job_of setting)) (sym (ap (λ (m : SeatState). m.0.own.task) is)) tt,
+  ap (λ (m : SeatState). m.0.room) is,
+  subst (HoldsSlots k) (sym is) (carries_new k setting),
+  subst (λ (m : SeatState). TracksHold m.0 [] false) (sym is) (remembers_none (fresh k setting) [] false refl refl),
+  ap (λ (m : SeatState). nodes_of m.0.plan) is,
+  subst (LooksFit setting.workers) (sym (ap (λ (m : SeatState). m.0.own.hold) is)) tt,
 )

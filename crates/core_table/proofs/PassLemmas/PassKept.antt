@@ -16,12 +16,12 @@ use Rattle.table_rule.specs.Shows.{reserved, job_of}
 use Rattle.batch_history.specs.Reserved.{ReservedView}
 use Rattle.table_rule.specs.declared.slot.OpRecord.{OpRecord}
 use Rattle.batch_history.specs.declared.batch.Entry.{Entry}
-use Rattle.table_rule.specs.Plays.{Sat}
+use Rattle.table_rule.specs.Plays.{SeatState}
 use Rattle.table_rule.specs.CoreWords.{Event, Receipt}
 use Rattle.table_rule.specs.Passes.{call_by, without_first, winning, in_hold, after_take, after_pass, after_publish, after_answer, taking, passing, publishing, answering, releasing}
 use Rattle.table_rule.specs.Views.{with_step, with_found, with_post}
-use Rattle.table_rule.specs.Carries.{vacant, HolderCarries, Carries}
-use Rattle.table_rule.specs.Remembers.{Remembers}
+use Rattle.table_rule.specs.HoldsSlots.{vacant, HolderCarries, HoldsSlots}
+use Rattle.table_rule.specs.TracksHold.{TracksHold}
 use Rattle.core_table.proofs.ListLemmas.Owed.{remembers_kept}
 use Rattle.core_table.specs.Passes.{IsSeatOf, LooksFit}
 use Rattle.table_rule.specs.Tasks.{TaskHere}
@@ -30,7 +30,7 @@ holder_kept : (b : Bool) (v w : View) (h : HoldView) (xs : List (ℕ × Slot)) �
 holder_kept false v w h xs a b m = rw (a, b) m
 holder_kept true v w h xs a b m = rw a m
 
-pub carries_kept : (k : ℕ) (v w : View) (xs : List (ℕ × Slot)) → w.workers ≡ v.workers → w.room ≡ v.room → w.own.call ≡ v.own.call → w.own.hold ≡ v.own.hold → Carries k (v, xs) → Carries k (w, xs)
+pub carries_kept : (k : ℕ) (v w : View) (xs : List (ℕ × Slot)) → w.workers ≡ v.workers → w.room ≡ v.room → w.own.call ≡ v.own.call → w.own.hold ≡ v.own.hold → HoldsSlots k (v, xs) → HoldsSlots k (w, xs)
 carries_kept k v w xs workers room call hold m = record {
   free = λ ne. let t = m.free (λ e. ne (call ∙ e)) in (hold ∙ t.0, t.1);
   trapped = λ out none_held. m.trapped (sym call ∙ out) (sym hold ∙ none_held);
@@ -44,15 +44,15 @@ pub pass_stepped : {owed : List ℕ} {published : Bool} (setting : Setting) (tab
 pass_stepped {owed} {published} setting table k old new w same is workers nodes room enrolled task call hold plan p = (
   same ∙ p.0,
   p.1,
-  ap (λ (m : Sat). m.0.workers) is ∙ (workers ∙ p.2),
-  ap (λ (m : Sat). m.0.nodes) is ∙ (nodes ∙ p.3),
-  ap (λ (m : Sat). m.0.enrolled) is ∙ (enrolled ∙ p.4),
-  subst (TaskHere (job_of setting)) (sym (ap (λ (m : Sat). m.0.own.task) is)) task,
-  ap (λ (m : Sat). m.0.room) is ∙ (room ∙ p.6),
-  subst (Carries k) (sym is) (carries_kept k old.me.0 w old.me.1 workers room call hold p.7),
-  remembers_kept old.me.0 new.me.0 owed published (ap (λ (m : Sat). m.0.own.hold) is ∙ hold) p.8,
-  ap nodes_of (ap (λ (m : Sat). m.0.plan) is ∙ plan) ∙ p.9,
-  subst (LooksFit setting.workers) (sym (ap (λ (m : Sat). m.0.own.hold) is ∙ hold)) p.10,
+  ap (λ (m : SeatState). m.0.workers) is ∙ (workers ∙ p.2),
+  ap (λ (m : SeatState). m.0.nodes) is ∙ (nodes ∙ p.3),
+  ap (λ (m : SeatState). m.0.enrolled) is ∙ (enrolled ∙ p.4),
+  subst (TaskHere (job_of setting)) (sym (ap (λ (m : SeatState). m.0.own.task) is)) task,
+  ap (λ (m : SeatState). m.0.room) is ∙ (room ∙ p.6),
+  subst (HoldsSlots k) (sym is) (carries_kept k old.me.0 w old.me.1 workers room call hold p.7),
+  remembers_kept old.me.0 new.me.0 owed published (ap (λ (m : SeatState). m.0.own.hold) is ∙ hold) p.8,
+  ap nodes_of (ap (λ (m : SeatState). m.0.plan) is ∙ plan) ∙ p.9,
+  subst (LooksFit setting.workers) (sym (ap (λ (m : SeatState). m.0.own.hold) is ∙ hold)) p.10,
 )
 
 -- the same, where the task stays too
@@ -64,20 +64,20 @@ pass_kept setting table k old new w same is workers nodes room enrolled task cal
 
 -- a pass after a gate call, from its new view and slots
 pub pass_made : {owed owed' : List ℕ} {published published' : Bool} (setting : Setting) (table : TableId) (k : ℕ) (old new : Seat Slot View) (w : View) (xs : List (ℕ × Slot)) → new.table_id ≡ old.table_id → new.me ≡ (w, xs)
-    → w.workers ≡ old.me.0.workers → w.nodes ≡ old.me.0.nodes → w.room ≡ old.me.0.room → w.enrolled ≡ old.me.0.enrolled → w.own.task ≡ old.me.0.own.task → w.plan ≡ old.me.0.plan → Carries k (w, xs) → Remembers w owed' published' → LooksFit setting.workers w.own.hold
+    → w.workers ≡ old.me.0.workers → w.nodes ≡ old.me.0.nodes → w.room ≡ old.me.0.room → w.enrolled ≡ old.me.0.enrolled → w.own.task ≡ old.me.0.own.task → w.plan ≡ old.me.0.plan → HoldsSlots k (w, xs) → TracksHold w owed' published' → LooksFit setting.workers w.own.hold
     → IsSeatOf setting table k old owed published → IsSeatOf setting table k new owed' published'
 pass_made {owed} {owed'} {published} {published'} setting table k old new w xs same is workers nodes room enrolled task plan carries remembers looks p = (
   same ∙ p.0,
   p.1,
-  ap (λ (m : Sat). m.0.workers) is ∙ (workers ∙ p.2),
-  ap (λ (m : Sat). m.0.nodes) is ∙ (nodes ∙ p.3),
-  ap (λ (m : Sat). m.0.enrolled) is ∙ (enrolled ∙ p.4),
-  subst (TaskHere (job_of setting)) (sym (ap (λ (m : Sat). m.0.own.task) is ∙ task)) p.5,
-  ap (λ (m : Sat). m.0.room) is ∙ (room ∙ p.6),
-  subst (Carries k) (sym is) carries,
-  subst (λ (m : Sat). Remembers m.0 owed' published') (sym is) remembers,
-  ap nodes_of (ap (λ (m : Sat). m.0.plan) is ∙ plan) ∙ p.9,
-  subst (λ (m : Sat). LooksFit setting.workers m.0.own.hold) (sym is) looks,
+  ap (λ (m : SeatState). m.0.workers) is ∙ (workers ∙ p.2),
+  ap (λ (m : SeatState). m.0.nodes) is ∙ (nodes ∙ p.3),
+  ap (λ (m : SeatState). m.0.enrolled) is ∙ (enrolled ∙ p.4),
+  subst (TaskHere (job_of setting)) (sym (ap (λ (m : SeatState). m.0.own.task) is ∙ task)) p.5,
+  ap (λ (m : SeatState). m.0.room) is ∙ (room ∙ p.6),
+  subst (HoldsSlots k) (sym is) carries,
+  subst (λ (m : SeatState). TracksHold m.0 owed' published') (sym is) remembers,
+  ap nodes_of (ap (λ (m : SeatState). m.0.plan) is ∙ plan) ∙ p.9,
+  subst (λ (m : SeatState). LooksFit setting.workers m.0.own.hold) (sym is) looks,
 )
 
 pub looks_at : (workers : ℕ) (hold : Maybe HoldView) (h : HoldView) → LooksFit workers hold → hold ≡ Some h → h.looks ≤ workers
@@ -88,16 +88,16 @@ pub looks_after : (workers : ℕ) (f : HoldView → HoldView) (hold : Maybe Hold
 looks_after workers f hold h at low = subst (λ (o : Maybe HoldView). LooksFit workers (in_hold f o)) (sym at) low
 
 -- the head of a seat's list
-pub first : (m : Sat) (v : View) (k : ℕ) (x : Slot) (xs : List (ℕ × Slot)) → m ≡ (v, (k, x) ∷ xs) → m.1 ≡ (k, x) ∷ rest m.1
-first m v k x xs e = ap (λ (z : Sat). z.1) e ∙ ap (λ (z : Sat). (k, x) ∷ rest z.1) (sym e)
+pub first : (m : SeatState) (v : View) (k : ℕ) (x : Slot) (xs : List (ℕ × Slot)) → m ≡ (v, (k, x) ∷ xs) → m.1 ≡ (k, x) ∷ rest m.1
+first m v k x xs e = ap (λ (z : SeatState). z.1) e ∙ ap (λ (z : SeatState). (k, x) ∷ rest z.1) (sym e)
 
 -- the list after an exchange of the head
-pub swapped : (m n : Sat) (v : View) (k : ℕ) (x y : Slot) (xs : List (ℕ × Slot)) → m ≡ (v, (k, x) ∷ xs) → n ≡ (m.0, (k, y) ∷ rest m.1) → n ≡ (v, (k, y) ∷ xs)
-swapped m n v k x y xs e f = f ∙ ap (λ (z : Sat). (z.0, (k, y) ∷ rest z.1)) e
+pub swapped : (m n : SeatState) (v : View) (k : ℕ) (x y : Slot) (xs : List (ℕ × Slot)) → m ≡ (v, (k, x) ∷ xs) → n ≡ (m.0, (k, y) ∷ rest m.1) → n ≡ (v, (k, y) ∷ xs)
+swapped m n v k x y xs e f = f ∙ ap (λ (z : SeatState). (z.0, (k, y) ∷ rest z.1)) e
 
 -- the list after the head is moved to the back
-pub turned_to : (m n : Sat) (v : View) (xs : List (ℕ × Slot)) → m ≡ (v, xs) → n ≡ (m.0, turned m.1) → n ≡ (v, turned xs)
-turned_to m n v xs e f = f ∙ ap (λ (z : Sat). (z.0, turned z.1)) e
+pub turned_to : (m n : SeatState) (v : View) (xs : List (ℕ × Slot)) → m ≡ (v, xs) → n ≡ (m.0, turned m.1) → n ≡ (v, turned xs)
+turned_to m n v xs e f = f ∙ ap (λ (z : SeatState). (z.0, turned z.1)) e
 
 none_out : (a : HoldView) → None ≡ Some a → ⊥
 none_out a e = cc
@@ -113,7 +113,7 @@ some_after : (f : HoldView → HoldView) (o : Maybe HoldView) (h : HoldView) →
 some_after f o h is e = none_out (f h) (sym e ∙ ap (in_hold f) is)
 
 -- a pass that has just posted
-pub carries_posted : (k : ℕ) (v : View) (call : OpRecord) (event : Event) → v.own.hold ≡ None → Carries k (with_post call event v, [])
+pub carries_posted : (k : ℕ) (v : View) (call : OpRecord) (event : Event) → v.own.hold ≡ None → HoldsSlots k (with_post call event v, [])
 carries_posted k v call event nothing = record {
   free = λ ne. absurd (ne refl);
   trapped = λ _ _. refl;
@@ -122,7 +122,7 @@ carries_posted k v call event nothing = record {
 
 -- a pass that has just won
 pub carries_won : (k workers : ℕ) (v : View) (history : List (List Entry)) → v.own.call ≡ Out → v.workers ≡ workers
-    → Carries k (with_step (winning history) v, (workers + 1, Slots.Book (reserved history v.room)) ∷ (workers, Slots.Vacant) ∷ [])
+    → HoldsSlots k (with_step (winning history) v, (workers + 1, Slots.Book (reserved history v.room)) ∷ (workers, Slots.Vacant) ∷ [])
 carries_won k workers v history out wide = record {
   free = λ ne. absurd (ne out);
   trapped = λ _ e. absurd (cc);
@@ -131,7 +131,7 @@ carries_won k workers v history out wide = record {
 }
 
 -- a holder that has taken one more
-pub carries_took : (k u : ℕ) (v : View) (h : HoldView) (call : OpRecord) (xs : List (ℕ × Slot)) → v.own.call ≡ Out → v.own.hold ≡ Some h → h.published ≡ false → Carries k (v, xs) → Carries k (with_step (taking (call_by u call)) v, xs ++ (u, Slots.Vacant) ∷ [])
+pub carries_took : (k u : ℕ) (v : View) (h : HoldView) (call : OpRecord) (xs : List (ℕ × Slot)) → v.own.call ≡ Out → v.own.hold ≡ Some h → h.published ≡ false → HoldsSlots k (v, xs) → HoldsSlots k (with_step (taking (call_by u call)) v, xs ++ (u, Slots.Vacant) ∷ [])
 carries_took k u v h call xs out is early m =
     let f = after_take (call_by u call) in
     let w : View = with_step (taking (call_by u call)) v in
@@ -143,7 +143,7 @@ carries_took k u v h call xs out is early m =
           (ap (λ l. l ++ (u, Slots.Vacant) ∷ []) was ∙ rw map-append refl));
     }
 
-pub carries_passed : (k u : ℕ) (v : View) (h : HoldView) (status : ℕ) (xs : List (ℕ × Slot)) → v.own.call ≡ Out → v.own.hold ≡ Some h → Carries k (v, xs) → Carries k (with_found status (passing u status) v, xs)
+pub carries_passed : (k u : ℕ) (v : View) (h : HoldView) (status : ℕ) (xs : List (ℕ × Slot)) → v.own.call ≡ Out → v.own.hold ≡ Some h → HoldsSlots k (v, xs) → HoldsSlots k (with_found status (passing u status) v, xs)
 carries_passed k u v h status xs out is m =
     let f = after_pass status in
     let w : View = with_found status (passing u status) v in record {
@@ -154,7 +154,7 @@ carries_passed k u v h status xs out is m =
 
 -- a holder that has published
 pub carries_published : (k workers : ℕ) (v : View) (h : HoldView) (batch : List Entry) → v.own.call ≡ Out → v.own.hold ≡ Some h → v.workers ≡ workers
-    → Carries k (with_step (publishing batch) v, vacant h.owed ++ (workers, Slots.Vacant) ∷ [])
+    → HoldsSlots k (with_step (publishing batch) v, vacant h.owed ++ (workers, Slots.Vacant) ∷ [])
 carries_published k workers v h batch out is wide =
     let f = after_publish batch in
     let w : View = with_step (publishing batch) v in record {
@@ -164,7 +164,7 @@ carries_published k workers v h batch out is wide =
     }
 
 -- the list of a holder that has not published
-pub holder_list : (k workers room : ℕ) (me : Sat) (h : HoldView) → me.0.own.hold ≡ Some h → h.published ≡ false → me.0.workers ≡ workers → me.0.room ≡ room → Carries k me
+pub holder_list : (k workers room : ℕ) (me : SeatState) (h : HoldView) → me.0.own.hold ≡ Some h → h.published ≡ false → me.0.workers ≡ workers → me.0.room ≡ room → HoldsSlots k me
     → me ≡ (me.0, (workers + 1, Slots.Book (reserved h.book room)) ∷ (workers, Slots.Vacant) ∷ vacant h.owed)
 holder_list k workers room me h is early wide roomy m =
     let t : HolderCarries false me.0 h me.1 = subst (λ (b : Bool). HolderCarries b me.0 h me.1) early (m.holds h is) in
@@ -172,8 +172,8 @@ holder_list k workers room me h is early wide roomy m =
     ∙ ap (λ (r : ℕ). (workers + 1, Slots.Book (reserved h.book r)) ∷ (workers, Slots.Vacant) ∷ vacant h.owed) roomy) in λ i. (me.0, l i)
 
 -- the content that an exchange of the head found
-pub found_book : (m : Sat) (v : View) (k : ℕ) (x : Slot) (b : ReservedView) (xs ys : List (ℕ × Slot)) → m ≡ (v, (k, Slots.Book b) ∷ xs) → m.1 ≡ (k, x) ∷ ys → Slots.Book b ≡ x
-found_book m v k x b xs ys e f = ap (λ (l : List (ℕ × Slot)). (get_or l 0 (k, x)).1) (sym (ap (λ (z : Sat). z.1) e) ∙ f)
+pub found_book : (m : SeatState) (v : View) (k : ℕ) (x : Slot) (b : ReservedView) (xs ys : List (ℕ × Slot)) → m ≡ (v, (k, Slots.Book b) ∷ xs) → m.1 ≡ (k, x) ∷ ys → Slots.Book b ≡ x
+found_book m v k x b xs ys e f = ap (λ (l : List (ℕ × Slot)). (get_or l 0 (k, x)).1) (sym (ap (λ (z : SeatState). z.1) e) ∙ f)
 
 pub books : (a b : ReservedView) → Slots.Book a ≡ Slots.Book b → a ≡ b
 books a b e = cc
@@ -184,17 +184,17 @@ out_by NotCalled out = absurd (out (λ e. cc))
 out_by Out out = refl
 out_by (Got receipt) out = absurd (out (λ e. cc))
 
-pub held_out : (k : ℕ) (me : Sat) (h : HoldView) → Carries k me → me.0.own.hold ≡ Some h → me.0.own.call ≡ Out
+pub held_out : (k : ℕ) (me : SeatState) (h : HoldView) → HoldsSlots k me → me.0.own.hold ≡ Some h → me.0.own.call ≡ Out
 held_out k me h carries holds = out_by me.0.own.call (λ ne. let clash : Some h ≡ None = sym holds ∙ (carries.free ne).0 in absurd (cc))
 
 -- the list of a holder that has published
-pub holder_after : (k workers : ℕ) (me : Sat) (h : HoldView) (owed : List ℕ) → me.0.own.hold ≡ Some h → h.published ≡ true → h.owed ≡ owed → me.0.workers ≡ workers → Carries k me → me ≡ (me.0, vacant owed ++ (workers, Slots.Vacant) ∷ [])
+pub holder_after : (k workers : ℕ) (me : SeatState) (h : HoldView) (owed : List ℕ) → me.0.own.hold ≡ Some h → h.published ≡ true → h.owed ≡ owed → me.0.workers ≡ workers → HoldsSlots k me → me ≡ (me.0, vacant owed ++ (workers, Slots.Vacant) ∷ [])
 holder_after k workers me h owed is there same wide m =
     let t : HolderCarries true me.0 h me.1 = subst (λ (b : Bool). HolderCarries b me.0 h me.1) there (m.holds h is) in
     let l = t ∙ (ap (λ (o : List ℕ). vacant o ++ (me.0.workers, Slots.Vacant) ∷ []) same ∙ ap (λ (n : ℕ). vacant owed ++ (n, Slots.Vacant) ∷ []) wide) in λ i. (me.0, l i)
 
 pub carries_answered : (k workers u : ℕ) (v : View) (h : HoldView) (receipt : Receipt) → v.own.call ≡ Out → v.own.hold ≡ Some h → v.workers ≡ workers → h.published ≡ true
-    → Carries k (with_step (answering u receipt) v, vacant (without_first u h.owed) ++ (workers, Slots.Vacant) ∷ [])
+    → HoldsSlots k (with_step (answering u receipt) v, vacant (without_first u h.owed) ++ (workers, Slots.Vacant) ∷ [])
 carries_answered k workers u v h receipt out is wide there =
     let f = after_answer u in
     let w : View = with_step (answering u receipt) v in let xs = vacant (without_first u h.owed) ++ (workers, Slots.Vacant) ∷ [] in record {
@@ -203,5 +203,5 @@ carries_answered k workers u v h receipt out is wide there =
       holds = λ g e. subst (λ (z : HoldView). HolderCarries z.published w z xs) (hold_after f v.own.hold h g is e) (subst (λ (b : Bool). HolderCarries b w (f h) xs) (sym there) (rw wide refl));
     }
 
-pub carries_released : (k : ℕ) (v : View) → v.own.call ≡ Out → Carries k (with_step releasing v, [])
+pub carries_released : (k : ℕ) (v : View) → v.own.call ≡ Out → HoldsSlots k (with_step releasing v, [])
 carries_released k v out = record { free = λ ne. absurd (ne out); trapped = λ _ _. refl; holds = λ g f. absurd (cc) }

@@ -10,13 +10,13 @@ use Rattle.table_rule.specs.declared.slot.Slot.{Slot}
 use Rattle.table_rule.specs.declared.view.View.{View}
 use Rattle.table_rule.specs.DueActs.{IsTickDue}
 use Rattle.table_rule.specs.Laws.{Laws}
-use Rattle.table_rule.specs.Plays.{Sat}
+use Rattle.table_rule.specs.Plays.{SeatState}
 use Rattle.table_rule.specs.Tasks.{TaskHere, IsNext}
 use Rattle.table_rule.specs.Passes.{with_task}
 use Rattle.table_rule.specs.Views.{with_step}
 use Rattle.table_rule.proofs.StepLemmas.NextActs.{next_stands, next_seen}
 
-module _ (job : CoreJob) (laws : Laws job) (v : View) (xs : List (ℕ × Slot)) (tick : ℕ) (m : Sat) (was task : Task) (planned : nodes_of v.plan ≡ job.plan) (sized : v.workers ≡ job.workers) where
+module _ (job : CoreJob) (laws : Laws job) (v : View) (xs : List (ℕ × Slot)) (tick : ℕ) (m : SeatState) (was task : Task) (planned : nodes_of v.plan ≡ job.plan) (sized : v.workers ≡ job.workers) where
   -- the seat has one event more and this task, which the table may have
   abbrev IsTicked : Type 0
   IsTicked = (event : Event) × (m ≡ (with_step (with_task event task) v, xs)) × TaskHere job task

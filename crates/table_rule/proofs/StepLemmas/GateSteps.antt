@@ -40,9 +40,9 @@ use Rattle.table_rule.specs.declared.slot.Slot.{Slot}
 use Rattle.table_rule.specs.declared.slot.Slot.TheVariants as Slots
 use Rattle.table_rule.specs.Words.{stop_at, flag_at, status_code, flag_code, WordsShow}
 use Rattle.table_rule.specs.Laws.{Laws}
-use Rattle.table_rule.specs.Steps.{ShowsOne, Steps, TryMakes, Makes, LeaveMakes}
+use Rattle.table_rule.specs.Steps.{ShowsOne, Steps, TryMakes, IsEvent, LeaveMakes}
 use Rattle.table_rule.proofs.StepLemmas.NextActs.{MayPost}
-use Rattle.table_rule.specs.Shows.{reserved, St, Home, IsFront, IsRecordOf, RecordAt, ShopAt, IsBookHome, BookIf, BookAt, took_in, record_in, among, hold_of, HoldKnown, entry_of, Shows}
+use Rattle.table_rule.specs.Shows.{reserved, TableState, SlotHome, IsFront, IsRecordOf, RecordAt, ShopAt, IsBookHome, BookIf, BookAt, took_in, record_in, among, hold_of, HoldKnown, entry_of, Shows}
 use Rattle.table_rule.specs.Passes as W
 use Rattle.table_rule.specs.Views as V
 use Rattle.table_rule.specs.Plays as G
@@ -129,10 +129,10 @@ is_served job laws s k call r parts st is =
 told_by : (job : CoreJob) (s : State) (k since : ℕ) (r : Receipt) (p : Place) → s.status k ≡ Served r → task_place job s.book (s.task k) ≡ Some p → WaitsSince job s k since → p.batch ≤ since + 1
 told_by job s k since r p st at h = rw (st, at) at h
 
-vacant_record : (c : OpRecord) (home : Home) → home ≡ some (some (Slots.Record c)) → home ≡ some (some Slots.Vacant) → ⊥
+vacant_record : (c : OpRecord) (home : SlotHome) → home ≡ some (some (Slots.Record c)) → home ≡ some (some Slots.Vacant) → ⊥
 vacant_record c home e f = let g = sym e ∙ f in cc
 
-gone_vacant : (home : Home) → home ≡ some none → home ≡ some (some Slots.Vacant) → ⊥
+gone_vacant : (home : SlotHome) → home ≡ some none → home ≡ some (some Slots.Vacant) → ⊥
 gone_vacant home e f = let g = sym e ∙ f in cc
 
 if_false : (a b : ℕ) (x : Bool) → (if a == b then true else x) ≡ false → (a ≢ b) × (x ≡ false)
@@ -181,7 +181,7 @@ taken_is : (s : State) (k x : ℕ) (h : HoldView) → s.hold ≡ Some (hold_of k
 taken_is s k x h held took yet = rw held (yes_and_not (took_in h.taken x) (among h.answered x) took yet)
 
 -- the leave with this receipt is some leave
-left_with : (job : CoreJob) (room : ℕ) {t : St} (s : State) (k : ℕ) (r : Receipt) → ShowsOne job room (Happens job s k (Leave r)) t → ShowsOne job room (LeaveMakes job k s) t
+left_with : (job : CoreJob) (room : ℕ) {t : TableState} (s : State) (k : ℕ) (r : Receipt) → ShowsOne job room (Happens job s k (Leave r)) t → ShowsOne job room (LeaveMakes job k s) t
 left_with job room s k r h = (h.0, (r, h.1))
 
 -- no worker that was taken before is the next one
@@ -214,7 +214,7 @@ module _ (job : CoreJob) (room : ℕ) (laws : Laws job) (slots id : ℕ) (v : Vi
 
   -- a post
   pub posts : (call : OpRecord) → v.enrolled ≡ true → (is : MayPost job v.own.task call) → v.own.call ≡ NotCalled
-      → Steps job room slots id (v, (k, Slots.Record call) ∷ xs) k (λ y. 1) (λ y. G.posted (step slots k 1 0 none) (v, (k, Slots.Record call) ∷ xs) 1) (λ before found after. Makes job k (Post is.0 is.1) before after)
+      → Steps job room slots id (v, (k, Slots.Record call) ∷ xs) k (λ y. 1) (λ y. G.posted (step slots k 1 0 none) (v, (k, Slots.Record call) ∷ xs) 1) (λ before found after. IsEvent job k (Post is.0 is.1) before after)
   posts call enrolled is called t o wide me fits =
       let s = o.state in
       let m = mine_of job room t o id k v me from to in
@@ -255,17 +255,17 @@ module _ (job : CoreJob) (room : ℕ) (laws : Laws job) (slots id : ℕ) (v : Vi
         λ x e. (is.0, is.1, is.2, ap (λ (y : OpRecord). (V.with_post y (Post is.0 is.1) v, xs)) (same_call k call x e)),
       )
 
-  pub posts_at : (m : G.Sat) (call : OpRecord) → m ≡ (v, (k, Slots.Record call) ∷ xs) → v.enrolled ≡ true → (is : MayPost job v.own.task call) → v.own.call ≡ NotCalled
-      → Steps job room slots id m k (λ y. 1) (λ y. G.posted (step slots k 1 0 none) m 1) (λ before found after. Makes job k (Post is.0 is.1) before after)
-  posts_at m call e enrolled is called = subst (λ (m : G.Sat). Steps job room slots id m k (λ y. 1) (λ y. G.posted (step slots k 1 0 none) m 1) (λ before found after. Makes job k (Post is.0 is.1) before after)) (sym e) (posts call enrolled is called)
+  pub posts_at : (m : G.SeatState) (call : OpRecord) → m ≡ (v, (k, Slots.Record call) ∷ xs) → v.enrolled ≡ true → (is : MayPost job v.own.task call) → v.own.call ≡ NotCalled
+      → Steps job room slots id m k (λ y. 1) (λ y. G.posted (step slots k 1 0 none) m 1) (λ before found after. IsEvent job k (Post is.0 is.1) before after)
+  posts_at m call e enrolled is called = subst (λ (m : G.SeatState). Steps job room slots id m k (λ y. 1) (λ y. G.posted (step slots k 1 0 none) m 1) (λ before found after. IsEvent job k (Post is.0 is.1) before after)) (sym e) (posts call enrolled is called)
 
   -- a trapped pass tries for the flag
-  pub wins : v.workers ≡ P → v.own.call ≡ Out → v.room ≡ room → Steps job room slots id (v, xs) (flag_at P) (λ y. either (eqb y 0) (k + 1) y) (G.won (step slots (flag_at P) 0 (k + 1) none) (v, xs)) (TryMakes 0 (Makes job k Win))
+  pub wins : v.workers ≡ P → v.own.call ≡ Out → v.room ≡ room → Steps job room slots id (v, xs) (flag_at P) (λ y. either (eqb y 0) (k + 1) y) (G.won (step slots (flag_at P) 0 (k + 1) none) (v, xs)) (TryMakes 0 (IsEvent job k Win))
   wins sized out roomy t o wide me fits =
       let s = o.state in
       let word = get_or t.words P 0 in
       let m = mine_of job room t o id k v me from to in
-      exchanged word 0 (k + 1) (λ y. (w : View) × (a : Act Slot) × Valid t.homes xs a × ShowsOne job room (TryMakes 0 (Makes job k Win) s word) (stepped t P y id xs w a) × G.won (step slots P 0 (k + 1) none) (v, xs) word (w, carried_after xs a))
+      exchanged word 0 (k + 1) (λ y. (w : View) × (a : Act Slot) × Valid t.homes xs a × ShowsOne job room (TryMakes 0 (IsEvent job k Win) s word) (stepped t P y id xs w a) × G.won (step slots P 0 (k + 1) none) (v, xs) word (w, carried_after xs a))
       (λ zero.
       let open_ : s.hold ≡ None = free_flag s.hold (sym o.words.flag ∙ zero) in
       let shop = subst (λ (h : Maybe Hold). ShopAt h s.book (get_elem? t.homes P)) open_ o.slots.shop in
@@ -280,7 +280,7 @@ module _ (job : CoreJob) (room : ℕ) (laws : Laws job) (slots id : ℕ) (v : Vi
         w,
         chain (takes (P + 1) (Slots.Book (reserved s.book room))) (takes P (Slots.Shop s.book)),
         (book, set_else t.homes (P + 1) P none (λ e. omega arith) ∙ shop),
-        found word 0 (Makes job k Win) zero (moved job room laws t o id k v w (set t.words P (k + 1)) homes Win new happens me from to from to record { events = refl; stops = refl; found = refl } (get_or-set_other t.words (P) (stop_at P) (k + 1) 0 (λ e. omega arith))
+        found word 0 (IsEvent job k Win) zero (moved job room laws t o id k v w (set t.words P (k + 1)) homes Win new happens me from to from to record { events = refl; stops = refl; found = refl } (get_or-set_other t.words (P) (stop_at P) (k + 1) 0 (λ e. omega arith))
             (set_flag P N t.words s.node s.mark s.value s.status s.hold s.tick (length s.book) o.words (Some h))
             record {
               wide = length-set (set t.homes (P + 1) none) P none ∙ (length-set t.homes (P + 1) none ∙ o.slots.wide);
@@ -299,7 +299,7 @@ module _ (job : CoreJob) (room : ℕ) (laws : Laws job) (slots id : ℕ) (v : Vi
         V.with_found word W.losing v,
         keeps,
         tt,
-        missed word 0 (Makes job k Win) ne (looked job room t o id k P v (V.with_found word W.losing v) me from to from to refl refl (λ h. inl h)
+        missed word 0 (IsEvent job k Win) ne (looked job room t o id k P v (V.with_found word W.losing v) me from to from to refl refl (λ h. inl h)
             (λ own. record { sits = own.sits; task = own.task; call = own.call; posted = own.posted; entries = own.entries; hold = own.hold; new = own.new; done = own.done; seen = own.seen; since = record { most = own.since.most; early = own.since.early; late = own.since.late; placed = own.since.placed; waits = own.since.waits } })),
         ((λ zero. absurd (ne zero)), (λ _. refl), ap flag_at (sym sized)),
       ))
@@ -371,7 +371,7 @@ module _ (job : CoreJob) (room : ℕ) (laws : Laws job) (slots id : ℕ) (v : Vi
         ((λ three. absurd (ne three)), (λ _. refl), sym from),
       ))
 
-  holding : (t : St) (o : Shows job room t) (h : HoldView) → get_elem? t.views id ≡ some v → v.own.hold ≡ Some h → HoldKnown job o.state (Some h) k
+  holding : (t : TableState) (o : Shows job room t) (h : HoldView) → get_elem? t.views id ≡ some v → v.own.hold ≡ Some h → HoldKnown job o.state (Some h) k
   holding t o h me is = subst (λ (z : Maybe HoldView). HoldKnown job o.state z k) is (mine_of job room t o id k v me from to).1.hold
 
   again : (event : Event) (f : HoldView → HoldView) → SameTold v (V.with_step (W.with_hold event f) v)
@@ -383,7 +383,7 @@ module _ (job : CoreJob) (room : ℕ) (laws : Laws job) (slots id : ℕ) (v : Vi
 
   -- the holder looks at the next worker
   pub looks : (h : HoldView) (u : ℕ) → v.room ≡ call_count job → v.own.hold ≡ Some h → u ≡ h.looks → u < job.workers
-      → Steps job room slots id (v, xs) u (λ y. either (eqb y 1) 2 y) (G.took (step slots u 1 2 none) (v, xs)) (λ before found after. Makes job k (Take u) before after)
+      → Steps job room slots id (v, xs) u (λ y. either (eqb y 1) 2 y) (G.took (step slots u 1 2 none) (v, xs)) (λ before found after. IsEvent job k (Take u) before after)
   looks h u roomy holds next low t o wide me fits =
       let s = o.state in
       let word = get_or t.words u 0 in
@@ -392,7 +392,7 @@ module _ (job : CoreJob) (room : ℕ) (laws : Laws job) (slots id : ℕ) (v : Vi
       let held : s.hold ≡ Some (hold_of k h) = known.0 in
       let stands = rw held at o.parts.hold in
       let unpublished : h.published ≡ false = not_published h.published h.looks job.workers stands.3 (omega (arith, next, low)) in
-      exchanged word 1 2 (λ y. (w : View) × (a : Act Slot) × Valid t.homes xs a × ShowsOne job room (Makes job k (Take u) s) (stepped t u y id xs w a) × G.took (step slots u 1 2 none) (v, xs) word (w, carried_after xs a))
+      exchanged word 1 2 (λ y. (w : View) × (a : Act Slot) × Valid t.homes xs a × ShowsOne job room (IsEvent job k (Take u) s) (stepped t u y id xs w a) × G.took (step slots u 1 2 none) (v, xs) word (w, carried_after xs a))
       (λ one.
       let pending : s.status u ≡ Pending = pending_word (s.status u) (sym (o.words.statuses u low) ∙ one) in
       let what = subst (λ (z : Status). RecordAt job s.book (s.task u) z (get_elem? t.homes u)) pending (o.slots.records u low) in
@@ -467,7 +467,7 @@ module _ (job : CoreJob) (room : ℕ) (laws : Laws job) (slots id : ℕ) (v : Vi
 
   -- the holder hands a worker its receipt
   pub answers : (h : HoldView) (u : ℕ) (call : OpRecord) (r : Receipt) → v.own.hold ≡ Some h → u < job.workers → h.published ≡ true → record_in h.taken u ≡ Some call → among h.answered u ≡ false → IsReceipt (place_of h.book call.leaf) r
-      → Steps job room slots id (v, (u, Slots.Receipt r) ∷ xs) u (λ y. 3) (λ y. G.answered (step slots u 3 0 none) (v, (u, Slots.Receipt r) ∷ xs) 3) (λ before found after. Makes job k (Answer u r) before after)
+      → Steps job room slots id (v, (u, Slots.Receipt r) ∷ xs) u (λ y. 3) (λ y. G.answered (step slots u 3 0 none) (v, (u, Slots.Receipt r) ∷ xs) 3) (λ before found after. IsEvent job k (Answer u r) before after)
   answers h u call r holds low there is yet receipt t o wide me fits =
       let s = o.state in
       let m = mine_of job room t o id k v me from to in
@@ -506,7 +506,7 @@ module _ (job : CoreJob) (room : ℕ) (laws : Laws job) (slots id : ℕ) (v : Vi
 
   -- a release returns the shop to the table, and the book too if nothing was published
   let_go : (h : HoldView) (homes : List (Option Slot)) → v.own.hold ≡ Some h → h.looks ≡ job.workers → ((u : ℕ) → took_in h.taken u ≡ true → among h.answered u ≡ true)
-      → (t : St) (o : Shows job room t) → get_elem? t.views id ≡ some v → length homes ≡ length t.homes → ((x : ℕ) → x < job.workers → get_elem? homes x ≡ get_elem? t.homes x)
+      → (t : TableState) (o : Shows job room t) → get_elem? t.views id ≡ some v → length homes ≡ length t.homes → ((x : ℕ) → x < job.workers → get_elem? homes x ≡ get_elem? t.homes x)
       → ShopAt None o.state.book (get_elem? homes job.workers) → BookAt room None o.state.book (get_elem? homes (job.workers + 1))
       → ShowsOne job room (Happens job o.state k Release) record { words = set t.words (flag_at P) 0; homes = homes; views = set t.views id (V.with_step W.releasing v) }
   let_go h homes holds looked_all all t o me wide far shop batches =
@@ -531,7 +531,7 @@ module _ (job : CoreJob) (room : ℕ) (laws : Laws job) (slots id : ℕ) (v : Vi
       (hold_gone job s new k x (hold_of k h) ne held refl refl y.own.hold other.hold) other)
 
   pub releases_shop : (h : HoldView) (shop : List (List Entry)) → v.own.hold ≡ Some h → h.looks ≡ job.workers → h.published ≡ true → ((u : ℕ) → took_in h.taken u ≡ true → among h.answered u ≡ true) → shop ≡ h.book
-      → Steps job room slots id (v, (flag_at P, Slots.Shop shop) ∷ xs) (flag_at P) (λ y. 0) (λ y. G.released_shop (step slots (flag_at P) 0 0 none) (v, (flag_at P, Slots.Shop shop) ∷ xs) 0) (λ before found after. Makes job k (Release) before after)
+      → Steps job room slots id (v, (flag_at P, Slots.Shop shop) ∷ xs) (flag_at P) (λ y. 0) (λ y. G.released_shop (step slots (flag_at P) 0 0 none) (v, (flag_at P, Slots.Shop shop) ∷ xs) 0) (λ before found after. IsEvent job k (Release) before after)
   releases_shop h shop holds looked_all there all whole t o wide me fits =
       let s = o.state in
       let known = holding t o h me holds in
@@ -544,13 +544,13 @@ module _ (job : CoreJob) (room : ℕ) (laws : Laws job) (slots id : ℕ) (v : Vi
         tt,
         let_go h homes holds looked_all all t o me (length-set t.homes P (some (Slots.Shop shop))) (λ x low. set_else t.homes P x (some (Slots.Shop shop)) (λ e. omega arith))
             (set_here t.homes P (some (Slots.Shop shop)) (omega (arith, wide')) ∙ ap (λ b. some (some (Slots.Shop b))) (whole ∙ sym known.1))
-            (subst (λ (z : Home). IsBookHome room s.book z) (sym (set_else t.homes P (P + 1) (some (Slots.Shop shop)) (λ e. omega arith))) at_home'),
+            (subst (λ (z : SlotHome). IsBookHome room s.book z) (sym (set_else t.homes P (P + 1) (some (Slots.Shop shop)) (λ e. omega arith))) at_home'),
         refl,
       )
 
   pub releases_both : (h : HoldView) (shop : List (List Entry)) → v.own.hold ≡ Some h → h.looks ≡ job.workers → ((u : ℕ) → took_in h.taken u ≡ true → among h.answered u ≡ true) → shop ≡ h.book
       → Steps job room slots id (v, (flag_at P, Slots.Shop shop) ∷ (flag_at P + 1, Slots.Book (reserved h.book room)) ∷ xs) (flag_at P) (λ y. 0)
-      (λ y. G.released_both (step slots (flag_at P) 0 0 none) (v, (flag_at P, Slots.Shop shop) ∷ (flag_at P + 1, Slots.Book (reserved h.book room)) ∷ xs) 0) (λ before found after. Makes job k (Release) before after)
+      (λ y. G.released_both (step slots (flag_at P) 0 0 none) (v, (flag_at P, Slots.Shop shop) ∷ (flag_at P + 1, Slots.Book (reserved h.book room)) ∷ xs) 0) (λ before found after. IsEvent job k (Release) before after)
   releases_both h shop holds looked_all all whole t o wide me fits =
       let s = o.state in
       let known = holding t o h me holds in
@@ -569,14 +569,14 @@ module _ (job : CoreJob) (room : ℕ) (laws : Laws job) (slots id : ℕ) (v : Vi
         refl,
       )
 
-  pub answers_at : (m : G.Sat) (h : HoldView) (u : ℕ) (call : OpRecord) (r : Receipt) → m ≡ (v, (u, Slots.Receipt r) ∷ xs) → v.own.hold ≡ Some h → u < job.workers → h.published ≡ true → record_in h.taken u ≡ Some call → among h.answered u ≡ false → IsReceipt (place_of h.book call.leaf) r
-      → Steps job room slots id m u (λ y. 3) (λ y. G.answered (step slots u 3 0 none) m 3) (λ before found after. Makes job k (Answer u r) before after)
-  answers_at m h u call r e holds low there is yet receipt = subst (λ (m : G.Sat). Steps job room slots id m u (λ y. 3) (λ y. G.answered (step slots u 3 0 none) m 3) (λ before found after. Makes job k (Answer u r) before after)) (sym e) (answers h u call r holds low there is yet receipt)
+  pub answers_at : (m : G.SeatState) (h : HoldView) (u : ℕ) (call : OpRecord) (r : Receipt) → m ≡ (v, (u, Slots.Receipt r) ∷ xs) → v.own.hold ≡ Some h → u < job.workers → h.published ≡ true → record_in h.taken u ≡ Some call → among h.answered u ≡ false → IsReceipt (place_of h.book call.leaf) r
+      → Steps job room slots id m u (λ y. 3) (λ y. G.answered (step slots u 3 0 none) m 3) (λ before found after. IsEvent job k (Answer u r) before after)
+  answers_at m h u call r e holds low there is yet receipt = subst (λ (m : G.SeatState). Steps job room slots id m u (λ y. 3) (λ y. G.answered (step slots u 3 0 none) m 3) (λ before found after. IsEvent job k (Answer u r) before after)) (sym e) (answers h u call r holds low there is yet receipt)
 
-  pub releases_shop_at : (m : G.Sat) (h : HoldView) (shop : List (List Entry)) → m ≡ (v, (flag_at P, Slots.Shop shop) ∷ xs) → v.own.hold ≡ Some h → h.looks ≡ job.workers → h.published ≡ true → ((u : ℕ) → took_in h.taken u ≡ true → among h.answered u ≡ true) → shop ≡ h.book
-      → Steps job room slots id m (flag_at P) (λ y. 0) (λ y. G.released_shop (step slots (flag_at P) 0 0 none) m 0) (λ before found after. Makes job k (Release) before after)
-  releases_shop_at m h shop e holds looked_all there all whole = subst (λ (m : G.Sat). Steps job room slots id m (flag_at P) (λ y. 0) (λ y. G.released_shop (step slots (flag_at P) 0 0 none) m 0) (λ before found after. Makes job k (Release) before after)) (sym e) (releases_shop h shop holds looked_all there all whole)
+  pub releases_shop_at : (m : G.SeatState) (h : HoldView) (shop : List (List Entry)) → m ≡ (v, (flag_at P, Slots.Shop shop) ∷ xs) → v.own.hold ≡ Some h → h.looks ≡ job.workers → h.published ≡ true → ((u : ℕ) → took_in h.taken u ≡ true → among h.answered u ≡ true) → shop ≡ h.book
+      → Steps job room slots id m (flag_at P) (λ y. 0) (λ y. G.released_shop (step slots (flag_at P) 0 0 none) m 0) (λ before found after. IsEvent job k (Release) before after)
+  releases_shop_at m h shop e holds looked_all there all whole = subst (λ (m : G.SeatState). Steps job room slots id m (flag_at P) (λ y. 0) (λ y. G.released_shop (step slots (flag_at P) 0 0 none) m 0) (λ before found after. IsEvent job k (Release) before after)) (sym e) (releases_shop h shop holds looked_all there all whole)
 
-  pub releases_both_at : (m : G.Sat) (h : HoldView) (shop : List (List Entry)) → m ≡ (v, (flag_at P, Slots.Shop shop) ∷ (flag_at P + 1, Slots.Book (reserved h.book room)) ∷ xs) → v.own.hold ≡ Some h → h.looks ≡ job.workers → ((u : ℕ) → took_in h.taken u ≡ true → among h.answered u ≡ true) → shop ≡ h.book
-      → Steps job room slots id m (flag_at P) (λ y. 0) (λ y. G.released_both (step slots (flag_at P) 0 0 none) m 0) (λ before found after. Makes job k (Release) before after)
-  releases_both_at m h shop e holds looked_all all whole = subst (λ (m : G.Sat). Steps job room slots id m (flag_at P) (λ y. 0) (λ y. G.released_both (step slots (flag_at P) 0 0 none) m 0) (λ before found after. Makes job k (Release) before after)) (sym e) (releases_both h shop holds looked_all all whole)
+  pub releases_both_at : (m : G.SeatState) (h : HoldView) (shop : List (List Entry)) → m ≡ (v, (flag_at P, Slots.Shop shop) ∷ (flag_at P + 1, Slots.Book (reserved h.book room)) ∷ xs) → v.own.hold ≡ Some h → h.looks ≡ job.workers → ((u : ℕ) → took_in h.taken u ≡ true → among h.answered u ≡ true) → shop ≡ h.book
+      → Steps job room slots id m (flag_at P) (λ y. 0) (λ y. G.released_both (step slots (flag_at P) 0 0 none) m 0) (λ before found after. IsEvent job k (Release) before after)
+  releases_both_at m h shop e holds looked_all all whole = subst (λ (m : G.SeatState). Steps job room slots id m (flag_at P) (λ y. 0) (λ y. G.released_both (step slots (flag_at P) 0 0 none) m 0) (λ before found after. IsEvent job k (Release) before after)) (sym e) (releases_both h shop holds looked_all all whole)

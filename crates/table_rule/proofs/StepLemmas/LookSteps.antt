@@ -17,8 +17,8 @@ use Rattle.table_rule.specs.declared.view.View.{View}
 use Rattle.table_rule.specs.declared.slot.Slot.{Slot}
 use Rattle.table_rule.specs.Words.{node_at, count_at, stop_at, progress_code, status_code}
 use Rattle.table_rule.specs.Laws.{Laws}
-use Rattle.table_rule.specs.Steps.{ShowsOne, Steps, Stays}
-use Rattle.table_rule.specs.Shows.{St, Shows, SinceKnown}
+use Rattle.table_rule.specs.Steps.{ShowsOne, Steps, Stutters}
+use Rattle.table_rule.specs.Shows.{TableState, Shows, SinceKnown}
 use Rattle.table_rule.specs.Plays.{looked_at_root, heard, strayed, stopped_all, looked_at_stop}
 use Rattle.table_rule.specs.Passes.{finding_stop, finding_none, refusing, least_told, stopping}
 use Rattle.table_rule.specs.Views.{with_step, with_found, with_since, seeing_done, seeing_undone}
@@ -50,7 +50,7 @@ module _ (job : CoreJob) (room : ℕ) (laws : Laws job) (slots id : ℕ) (v : Vi
   abbrev P : ℕ
   P = job.workers
 
-  pub looks_at_root : (i : ℕ) → v.workers ≡ P → i ≡ node_at P 0 → 0 < job.plan.count → Steps job room slots id (v, xs) i (λ y. y) (looked_at_root (step slots i 0 0 none) (v, xs)) (Stays)
+  pub looks_at_root : (i : ℕ) → v.workers ≡ P → i ≡ node_at P 0 → 0 < job.plan.count → Steps job room slots id (v, xs) i (λ y. y) (looked_at_root (step slots i 0 0 none) (v, xs)) (Stutters)
   looks_at_root i sized is any t o wide me fits =
       let word = get_or t.words i 0 in
       let at = ap (λ (j : ℕ). get_or t.words j 0) is ∙ o.words.progress 0 any in elim (cases_eq (word % 4) 3) [
@@ -76,7 +76,7 @@ module _ (job : CoreJob) (room : ℕ) (laws : Laws job) (slots id : ℕ) (v : Vi
         | inr ne ↦ (seeing_undone word v, keeps, tt, looked job room t o id k i v (seeing_undone word v) me from to from to refl refl (λ h. inl h) (λ m. again job o.state (get_elem? t.homes k) (o.seat k) id v _ k record { task = refl; call = refl; posted = refl; left = refl; enrolled = refl; saw_done = refl; greatest = refl; before = refl; after = refl; book_seen = refl } refl m), ((λ e. absurd (ne e)), (λ _. refl), omega (arith, is, sized)))
       ]
 
-  hears_since : (t : St) (o : Shows job room t) (n : ℕ) → n ≡ length o.state.book → SinceKnown job o.state v k → SinceKnown job o.state (with_since n v) k
+  hears_since : (t : TableState) (o : Shows job room t) (n : ℕ) → n ≡ length o.state.book → SinceKnown job o.state v k → SinceKnown job o.state (with_since n v) k
   hears_since t o n is m = record {
     most = let a = m.most in omega arith;
     early = let a = m.early in omega arith;
@@ -88,7 +88,7 @@ module _ (job : CoreJob) (room : ℕ) (laws : Laws job) (slots id : ℕ) (v : Vi
     ];
   }
 
-  pub hears : v.workers ≡ P → Steps job room slots id (v, xs) (count_at P) (λ y. y) (heard (step slots (count_at P) 0 0 none) (v, xs)) (Stays)
+  pub hears : v.workers ≡ P → Steps job room slots id (v, xs) (count_at P) (λ y. y) (heard (step slots (count_at P) 0 0 none) (v, xs)) (Stutters)
   hears sized t o wide me fits =
       let word = get_or t.words (count_at P) 0 in (
         with_since word v,
@@ -100,12 +100,12 @@ module _ (job : CoreJob) (room : ℕ) (laws : Laws job) (slots id : ℕ) (v : Vi
       )
 
   -- a claim past the last node: a status is at most 3, so the exchange, which wants at least 4, is refused
-  pub strays : (n : ℕ) → v.nodes ≤ n → 0 < P → Steps job room slots id (v, xs) 0 (λ y. either (eqb y (4 + n)) 0 y) (strayed (step slots 0 (4 + n) 0 none) (v, xs)) (Stays)
+  pub strays : (n : ℕ) → v.nodes ≤ n → 0 < P → Steps job room slots id (v, xs) 0 (λ y. either (eqb y (4 + n)) 0 y) (strayed (step slots 0 (4 + n) 0 none) (v, xs)) (Stutters)
   strays n far any t o wide me fits =
       let word = get_or t.words 0 0 in
       let few = few_status (o.state.status 0) in
       let at = o.words.statuses 0 any in
-      exchanged word (4 + n) 0 (λ y. (w : View) × (a : Act Slot) × Valid t.homes xs a × ShowsOne job room (Stays o.state word) (stepped t 0 y id xs w a) × strayed (step slots 0 (4 + n) 0 none) (v, xs) word (w, carried_after xs a))
+      exchanged word (4 + n) 0 (λ y. (w : View) × (a : Act Slot) × Valid t.homes xs a × ShowsOne job room (Stutters o.state word) (stepped t 0 y id xs w a) × strayed (step slots 0 (4 + n) 0 none) (v, xs) word (w, carried_after xs a))
       (λ e. absurd (omega (arith, few, at, e)))
       (λ ne. (
         with_found word (refusing n) v,
@@ -117,7 +117,7 @@ module _ (job : CoreJob) (room : ℕ) (laws : Laws job) (slots id : ℕ) (v : Vi
       ))
 
   -- the stop word is set
-  pub stops : v.workers ≡ P → Steps job room slots id (v, xs) (stop_at P) (λ y. 1) (λ y. stopped_all (step slots (stop_at P) 1 0 none) (v, xs) 1) (Stays)
+  pub stops : v.workers ≡ P → Steps job room slots id (v, xs) (stop_at P) (λ y. 1) (λ y. stopped_all (step slots (stop_at P) 1 0 none) (v, xs) 1) (Stutters)
   stops sized t o wide me fits =
       let s = o.state in (
         with_step stopping v,
@@ -131,7 +131,7 @@ module _ (job : CoreJob) (room : ℕ) (laws : Laws job) (slots id : ℕ) (v : Vi
       )
 
   -- and looked at
-  pub looks_at_stop : v.workers ≡ P → Steps job room slots id (v, xs) (stop_at P) (λ y. y) (looked_at_stop (step slots (stop_at P) 0 0 none) (v, xs)) (Stays)
+  pub looks_at_stop : v.workers ≡ P → Steps job room slots id (v, xs) (stop_at P) (λ y. y) (looked_at_stop (step slots (stop_at P) 0 0 none) (v, xs)) (Stutters)
   looks_at_stop sized t o wide me fits = elim (cases_eq (get_or t.words (stop_at P) 0) 1) [
     | inl e ↦ (with_step finding_stop v, keeps, tt, looked job room t o id k (stop_at P) v (with_step finding_stop v) me from to from to refl refl (λ _. inr e) (λ m. again job o.state (get_elem? t.homes k) (o.seat k) id v _ k record { task = refl; call = refl; posted = refl; left = refl; enrolled = refl; saw_done = refl; greatest = refl; before = refl; after = refl; book_seen = refl } refl m), ((λ _. refl), (λ ne. absurd (ne e)), ap stop_at (sym sized)))
     | inr ne ↦ (with_found (get_or t.words (stop_at P) 0) finding_none v, keeps, tt, looked job room t o id k (stop_at P) v (with_found (get_or t.words (stop_at P) 0) finding_none v) me from to from to refl refl (λ h. inl h) (λ m. again job o.state (get_elem? t.homes k) (o.seat k) id v _ k record { task = refl; call = refl; posted = refl; left = refl; enrolled = refl; saw_done = refl; greatest = refl; before = refl; after = refl; book_seen = refl } refl m), ((λ e. absurd (ne e)), (λ _. refl), ap stop_at (sym sized)))

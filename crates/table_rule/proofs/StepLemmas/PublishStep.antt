@@ -26,8 +26,8 @@ use Rattle.table_rule.specs.declared.slot.Slot.{Slot}
 use Rattle.table_rule.specs.declared.slot.Slot.TheVariants as Slots
 use Rattle.table_rule.specs.Words.{stop_at, count_at, WordsShow}
 use Rattle.table_rule.specs.Laws.{Laws}
-use Rattle.table_rule.specs.Steps.{Steps, Stays, Makes}
-use Rattle.table_rule.specs.Shows.{reserved, Home, IsRecordOf, ShopAt, record_in, among, hold_of, HoldKnown, entry_of, present, SinceKnown, IsFront, Mine}
+use Rattle.table_rule.specs.Steps.{Steps, Stutters, IsEvent}
+use Rattle.table_rule.specs.Shows.{reserved, SlotHome, IsRecordOf, ShopAt, record_in, among, hold_of, HoldKnown, entry_of, present, SinceKnown, IsFront, AgreesWithView}
 use Rattle.table_rule.specs.Batches.{call_of, ServesTaken, IsPublishDue}
 use Rattle.table_rule.specs.Passes as W
 use Rattle.table_rule.specs.Views as V
@@ -50,7 +50,7 @@ place_same a b o e f = cc
 longer : (xs ys : List (List Entry)) (batch : List Entry) → IsFront xs ys → IsFront xs (ys ++ batch ∷ [])
 longer xs ys batch h = (h.0 ++ batch ∷ [], ap (λ l. l ++ batch ∷ []) h.1 ∙ append_assoc xs h.0 (batch ∷ []))
 
--- `Mine` after a batch is published
+-- `AgreesWithView` after a batch is published
 module _ (job : CoreJob) (laws : Laws job) (s : State) (k : ℕ) (batch : List Entry) (parts : Parts job s) where
   abbrev later : State
   later = record s { book = s.book ++ batch ∷ []; objects = served s.objects batch; hold = published s.hold }
@@ -86,7 +86,7 @@ module _ (job : CoreJob) (laws : Laws job) (s : State) (k : ℕ) (batch : List E
         waits = λ since told out. laws.waits s later k Publish x since parts happens (is_trapped job later x parts_later out) (m.waits since told out);
       }
 
-  mine_after : (x : ℕ) (v w : View) (home home' : Home) (seat id : ℕ) → Happens job s k Publish later → Parts job later → home' ≡ home → SameTold v w → HoldKnown job later w.own.hold x → Mine job s home seat id v x → Mine job later home' seat id w x
+  mine_after : (x : ℕ) (v w : View) (home home' : SlotHome) (seat id : ℕ) → Happens job s k Publish later → Parts job later → home' ≡ home → SameTold v w → HoldKnown job later w.own.hold x → AgreesWithView job s home seat id v x → AgreesWithView job later home' seat id w x
   mine_after x v w home home' seat id happens kept_later same told hold m = record {
     sits = m.sits;
     task = m.task ∙ sym told.task;
@@ -185,7 +185,7 @@ module _ (job : CoreJob) (room : ℕ) (laws : Laws job) (slots id : ℕ) (v : Vi
       }
 
   -- the look before a publish: the book has room for the batch, and stays a history with it
-  pub admits : (i : ℕ) → v.workers ≡ job.workers → v.room ≡ call_count job → job.workers ≤ 32 → Steps job room slots id (v, xs) i (λ y. y) (G.admitted (step slots i 0 0 none) (v, xs)) (Stays)
+  pub admits : (i : ℕ) → v.workers ≡ job.workers → v.room ≡ call_count job → job.workers ≤ 32 → Steps job room slots id (v, xs) i (λ y. y) (G.admitted (step slots i 0 0 none) (v, xs)) (Stutters)
   admits i sized roomy few t o wide me fits =
       let s = o.state in
       let m = mine_of job room t o id k v me from to in (
@@ -211,7 +211,7 @@ module _ (job : CoreJob) (room : ℕ) (laws : Laws job) (slots id : ℕ) (v : Vi
 
   pub publishes : (h : HoldView) (batch : List Entry) → v.own.hold ≡ Some h → v.room ≡ room → IsPublishDue job.workers h batch → length h.book < 2 ^ 32
       → Steps job room slots id (v, (count_at P, Slots.Book (reserved (h.book ++ batch ∷ []) room)) ∷ xs) (count_at P) (λ y. (y + 1) % 2 ^ 64)
-      (G.published (step slots (count_at P) 1 0 none) (v, (count_at P, Slots.Book (reserved (h.book ++ batch ∷ []) room)) ∷ xs)) (λ before found after. Makes job k Publish before after)
+      (G.published (step slots (count_at P) 1 0 none) (v, (count_at P, Slots.Book (reserved (h.book ++ batch ∷ []) room)) ∷ xs)) (λ before found after. IsEvent job k Publish before after)
   publishes h batch holds roomy due few t o wide me fits =
       let s = o.state in
       let book = reserved (h.book ++ batch ∷ []) room in
@@ -260,7 +260,7 @@ module _ (job : CoreJob) (room : ℕ) (laws : Laws job) (slots id : ℕ) (v : Vi
             λ i. (V.with_step (W.publishing (c' i)) v, xs),
       )
 
-  pub publishes_at : (g : G.Sat) (h : HoldView) (batch : List Entry) → g ≡ (v, (count_at P, Slots.Book (reserved (h.book ++ batch ∷ []) room)) ∷ xs) → v.own.hold ≡ Some h → v.room ≡ room → IsPublishDue job.workers h batch → length h.book < 2 ^ 32
-      → Steps job room slots id g (count_at P) (λ y. (y + 1) % 2 ^ 64) (G.published (step slots (count_at P) 1 0 none) g) (λ before found after. Makes job k Publish before after)
+  pub publishes_at : (g : G.SeatState) (h : HoldView) (batch : List Entry) → g ≡ (v, (count_at P, Slots.Book (reserved (h.book ++ batch ∷ []) room)) ∷ xs) → v.own.hold ≡ Some h → v.room ≡ room → IsPublishDue job.workers h batch → length h.book < 2 ^ 32
+      → Steps job room slots id g (count_at P) (λ y. (y + 1) % 2 ^ 64) (G.published (step slots (count_at P) 1 0 none) g) (λ before found after. IsEvent job k Publish before after)
   publishes_at g h batch e holds roomy due few =
-      subst (λ (g : G.Sat). Steps job room slots id g (count_at P) (λ y. (y + 1) % 2 ^ 64) (G.published (step slots (count_at P) 1 0 none) g) (λ before found after. Makes job k Publish before after)) (sym e) (publishes h batch holds roomy due few)
+      subst (λ (g : G.SeatState). Steps job room slots id g (count_at P) (λ y. (y + 1) % 2 ^ 64) (G.published (step slots (count_at P) 1 0 none) g) (λ before found after. IsEvent job k Publish before after)) (sym e) (publishes h batch holds roomy due few)

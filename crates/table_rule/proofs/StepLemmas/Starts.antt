@@ -23,7 +23,7 @@ use Rattle.core_model.specs.State.{opening_core}
 use Rattle.core_model.specs.Runs.{Step}
 use Rattle.table_rule.specs.Words.{stop_at}
 use Rattle.table_rule.proofs.TableLemmas.Traces.{agree_still, stop_still, stop_cut}
-use Rattle.table_rule.specs.Shows.{reserved, Home, RecordAt, Mine, HasSeat, EventsAgree, StopShows, Shows}
+use Rattle.table_rule.specs.Shows.{reserved, SlotHome, RecordAt, AgreesWithView, HasSeat, EventsAgree, StopShows, Shows}
 use Rattle.table_rule.specs.Views.{newcomer}
 use Rattle.table_rule.specs.Plays.{enrolled}
 use Rattle.table_rule.specs.Views.{enrolling, pass_of, rest_of}
@@ -124,7 +124,7 @@ cuts job room id v some_left t o me =
           let hi' : x < v.to = subst (λ (y : View). x < y.to) (sym r.1) hi in
           let was = o.views id v x me (omega arith) hi' in (
             was.0,
-            subst (λ (y : View). Mine job o.state (get_elem? t.homes x) (seat x) i y x) r.1
+            subst (λ (y : View). AgreesWithView job o.state (get_elem? t.homes x) (seat x) i y x) r.1
                 (reseat job o.state (get_elem? t.homes x) (o.seat x) (seat x) id i v (rest_of v) x (put_other o.seat v.own.worker x z (λ h. omega arith) ∙ (was.1.sits ∙ sym r.0)) (told_cut v (v.own.worker + 1) v.to) refl was.1),
           ))
           (λ r.
@@ -136,8 +136,8 @@ cuts job room id v some_left t o me =
           let hi' : x < v.own.worker + 1 = subst (λ (y : View). x < y.to) (sym q.0) hi in
           let is : x ≡ v.own.worker = omega arith in (
             subst (λ (y : ℕ). y < job.workers) (sym is) here.0,
-            subst (λ (y : View). Mine job o.state (get_elem? t.homes x) (seat x) i y x) q.0
-                (subst (λ (y : ℕ). Mine job o.state (get_elem? t.homes y) (seat y) i (pass_of v) y) (sym is)
+            subst (λ (y : View). AgreesWithView job o.state (get_elem? t.homes x) (seat x) i y x) q.0
+                (subst (λ (y : ℕ). AgreesWithView job o.state (get_elem? t.homes y) (seat y) i (pass_of v) y) (sym is)
                 (reseat job o.state (get_elem? t.homes v.own.worker) (o.seat v.own.worker) (seat v.own.worker) id i v (pass_of v) v.own.worker
                 (put_at o.seat v.own.worker v.own.worker z refl ∙ (sym (length-set t.views id (rest_of v)) ∙ sym q.1)) (told_cut v v.own.worker (v.own.worker + 1)) refl here.1)),
           ))
@@ -183,8 +183,8 @@ enrols job room slots id j v xs k from to fresh t o wide me fits =
             let hi' : x < w.to = subst (λ (y : View). x < y.to) (sym q.1) hi in
             let is : x ≡ k = omega arith in (
               subst (λ (y : ℕ). y < job.workers) (sym is) m.0,
-              subst (λ (y : ℕ). Mine job s (get_elem? homes y) (o.seat y) i u y) (sym is)
-                  (subst (λ (j : ℕ). Mine job s (get_elem? homes k) (o.seat k) j u k) (sym q.0) (subst (λ (y : View). Mine job s (get_elem? homes k) (o.seat k) id y k) q.1
+              subst (λ (y : ℕ). AgreesWithView job s (get_elem? homes y) (o.seat y) i u y) (sym is)
+                  (subst (λ (j : ℕ). AgreesWithView job s (get_elem? homes k) (o.seat k) j u k) (sym q.0) (subst (λ (y : View). AgreesWithView job s (get_elem? homes k) (o.seat k) id y k) q.1
                   record {
                     sits = m.1.sits;
                     task = m.1.task;
@@ -201,7 +201,7 @@ enrols job room slots id j v xs k from to fresh t o wide me fits =
             (λ q.
             let was = o.views i u x q.1 lo hi in
             let ne : x ≢ k = λ is. q.0 (sym was.1.sits ∙ (ap o.seat is ∙ m.1.sits)) in
-            (was.0, subst (λ (h : Home). Mine job s h (o.seat x) i u x) (sym (set_else t.homes k x none ne)) was.1))
+            (was.0, subst (λ (h : SlotHome). AgreesWithView job s h (o.seat x) i u x) (sym (set_else t.homes k x none ne)) was.1))
             (at_set t.views id i w u e);
         seats = λ x low. seat_stays t.views id k v w me from to from to (o.seat x) x (o.seats x low);
         trace = o.trace;
@@ -271,7 +271,7 @@ starts job room tree laws words are =
       views = λ i u w e lo hi. let t = only u (newcomer tree P N room) i e in
           let hi' : w < P = subst (λ (y : View). w < y.to) (sym t.1) hi in (
             hi',
-            subst (λ (y : View). Mine job opening_state (get_elem? (map some slots) w) 0 i y w) t.1 record {
+            subst (λ (y : View). AgreesWithView job opening_state (get_elem? (map some slots) w) 0 i y w) t.1 record {
               sits = t.0;
               task = refl;
               call = refl;

@@ -32,9 +32,9 @@ use Rattle.table_rule.specs.declared.slot.Slot.{Slot}
 use Rattle.table_rule.specs.Words.{WordsShow}
 use Rattle.core_model.specs.declared.setting.Setting.{Setting}
 use Rattle.table_rule.specs.Steps.{ShowsOne, TryMakes, ArrivalMakes}
-use Rattle.table_rule.specs.Plays.{Sat}
+use Rattle.table_rule.specs.Plays.{SeatState}
 use Rattle.table_rule.specs.Laws.{Laws}
-use Rattle.table_rule.specs.Shows.{St, HasSeat, IsRecordOf, RecordAt, SlotsShow, took_in, record_in, among, hold_of, HoldKnown, entry_of, present, SinceKnown, Mine, Shows, Shown, StopShows}
+use Rattle.table_rule.specs.Shows.{TableState, HasSeat, IsRecordOf, RecordAt, SlotsShow, took_in, record_in, among, hold_of, HoldKnown, entry_of, present, SinceKnown, AgreesWithView, Shows, Shown, StopShows}
 use Rattle.table_rule.proofs.TableLemmas.Facts.{is_free, is_trapped, not_taken}
 use Rattle.core_model.specs.Lists.{ready_after}
 use Rattle.table_rule.specs.Words.{stop_at}
@@ -42,8 +42,8 @@ use Rattle.table_rule.proofs.TableLemmas.Traces.{AddsEvent, reached_next, agree_
 use Rattle.table_rule.proofs.TableLemmas.Words.{put_at, put_other}
 
 -- the seat id, whose range is k alone, is the seat of worker k
-pub mine_of : (job : CoreJob) (room : ℕ) (t : St) (o : Shows job room t) (id k : ℕ) (v : View) → get_elem? t.views id ≡ some v → v.own.worker ≡ k → v.to ≡ k + 1
-    → (k < job.workers) × Mine job o.state (get_elem? t.homes k) (o.seat k) id v k
+pub mine_of : (job : CoreJob) (room : ℕ) (t : TableState) (o : Shows job room t) (id k : ℕ) (v : View) → get_elem? t.views id ≡ some v → v.own.worker ≡ k → v.to ≡ k + 1
+    → (k < job.workers) × AgreesWithView job o.state (get_elem? t.homes k) (o.seat k) id v k
 mine_of job room t o id k v me from to = o.views id v k me (omega arith) (omega arith)
 
 -- an index with a member is below the list's length
@@ -65,13 +65,13 @@ seat_stays views id k v w me from to from' to' seat x h = elim (cases_eq seat id
 ]
 
 -- a step of worker k
-pub moved : (job : CoreJob) (room : ℕ) (laws : Laws job) (t : St) (o : Shows job room t) (id k : ℕ) (v w : View) (words : List ℕ) (homes : List (Option Slot)) (event : Event) (new : State)
+pub moved : (job : CoreJob) (room : ℕ) (laws : Laws job) (t : TableState) (o : Shows job room t) (id k : ℕ) (v w : View) (words : List ℕ) (homes : List (Option Slot)) (event : Event) (new : State)
     → Happens job o.state k event new → get_elem? t.views id ≡ some v → v.own.worker ≡ k → v.to ≡ k + 1 → w.own.worker ≡ k → w.to ≡ k + 1
     → AddsEvent v w event → get_or words (stop_at job.workers) 0 ≡ get_or t.words (stop_at job.workers) 0
     → WordsShow job.workers job.plan.count words new.node new.mark new.value new.status new.hold new.tick (length new.book)
     → SlotsShow job room homes new.task new.status new.hold new.book
-    → (Mine job o.state (get_elem? t.homes k) (o.seat k) id v k → Mine job new (get_elem? homes k) (o.seat k) id w k)
-    → ((i x : ℕ) (u : View) → x < job.workers → x ≢ k → Mine job o.state (get_elem? t.homes x) (o.seat x) i u x → Mine job new (get_elem? homes x) (o.seat x) i u x)
+    → (AgreesWithView job o.state (get_elem? t.homes k) (o.seat k) id v k → AgreesWithView job new (get_elem? homes k) (o.seat k) id w k)
+    → ((i x : ℕ) (u : View) → x < job.workers → x ≢ k → AgreesWithView job o.state (get_elem? t.homes x) (o.seat x) i u x → AgreesWithView job new (get_elem? homes x) (o.seat x) i u x)
     → ShowsOne job room (Happens job o.state k event) record { words = words; homes = homes; views = set t.views id w }
 moved job room laws t o id k v w words homes event new happens me from to from' to' adds stop shown slots own others = (
   record {
@@ -86,8 +86,8 @@ moved job room laws t o id k v w words homes event new happens me from to from' 
         let hi' : x < w.to = subst (λ (y : View). x < y.to) (sym q.1) hi in
         let is : x ≡ k = omega arith in (
           subst (λ (y : ℕ). y < job.workers) (sym is) m.0,
-          subst (λ (y : ℕ). Mine job new (get_elem? homes y) (o.seat y) i u y) (sym is)
-              (subst (λ (j : ℕ). Mine job new (get_elem? homes k) (o.seat k) j u k) (sym q.0) (subst (λ (z : View). Mine job new (get_elem? homes k) (o.seat k) id z k) q.1 (own m.1))),
+          subst (λ (y : ℕ). AgreesWithView job new (get_elem? homes y) (o.seat y) i u y) (sym is)
+              (subst (λ (j : ℕ). AgreesWithView job new (get_elem? homes k) (o.seat k) j u k) (sym q.0) (subst (λ (z : View). AgreesWithView job new (get_elem? homes k) (o.seat k) id z k) q.1 (own m.1))),
         ))
         (λ q.
         let was = o.views i u x q.1 lo hi in
@@ -106,28 +106,28 @@ moved job room laws t o id k v w words homes event new happens me from to from' 
 )
 
 -- the views, when only that of worker k changes and the state stays
-views_still : (job : CoreJob) (room : ℕ) (t : St) (o : Shows job room t) (id k : ℕ) (v w : View)
+views_still : (job : CoreJob) (room : ℕ) (t : TableState) (o : Shows job room t) (id k : ℕ) (v w : View)
     → get_elem? t.views id ≡ some v → v.own.worker ≡ k → v.to ≡ k + 1 → w.own.worker ≡ k → w.to ≡ k + 1
-    → (Mine job o.state (get_elem? t.homes k) (o.seat k) id v k → Mine job o.state (get_elem? t.homes k) (o.seat k) id w k)
-    → (i : ℕ) (u : View) (x : ℕ) → get_elem? (set t.views id w) i ≡ some u → u.own.worker ≤ x → x < u.to → (x < job.workers) × Mine job o.state (get_elem? t.homes x) (o.seat x) i u x
+    → (AgreesWithView job o.state (get_elem? t.homes k) (o.seat k) id v k → AgreesWithView job o.state (get_elem? t.homes k) (o.seat k) id w k)
+    → (i : ℕ) (u : View) (x : ℕ) → get_elem? (set t.views id w) i ≡ some u → u.own.worker ≤ x → x < u.to → (x < job.workers) × AgreesWithView job o.state (get_elem? t.homes x) (o.seat x) i u x
 views_still job room t o id k v w me from to from' to' own i u x e lo hi = let m = mine_of job room t o id k v me from to in ⊎_elim
     (λ q.
     let lo' : w.own.worker ≤ x = subst (λ (y : View). y.own.worker ≤ x) (sym q.1) lo in
     let hi' : x < w.to = subst (λ (y : View). x < y.to) (sym q.1) hi in
     let is : x ≡ k = omega arith in (
       subst (λ (y : ℕ). y < job.workers) (sym is) m.0,
-      subst (λ (y : ℕ). Mine job o.state (get_elem? t.homes y) (o.seat y) i u y) (sym is)
-          (subst (λ (j : ℕ). Mine job o.state (get_elem? t.homes k) (o.seat k) j u k) (sym q.0) (subst (λ (z : View). Mine job o.state (get_elem? t.homes k) (o.seat k) id z k) q.1 (own m.1))),
+      subst (λ (y : ℕ). AgreesWithView job o.state (get_elem? t.homes y) (o.seat y) i u y) (sym is)
+          (subst (λ (j : ℕ). AgreesWithView job o.state (get_elem? t.homes k) (o.seat k) j u k) (sym q.0) (subst (λ (z : View). AgreesWithView job o.state (get_elem? t.homes k) (o.seat k) id z k) q.1 (own m.1))),
     ))
     (λ q. o.views i u x q.1 lo hi)
     (at_set t.views id i w u e)
 
 -- a step on a word that encodes no part of the state
-pub renewed : (job : CoreJob) (room : ℕ) (t : St) (o : Shows job room t) (id k : ℕ) (v w : View) (words : List ℕ)
+pub renewed : (job : CoreJob) (room : ℕ) (t : TableState) (o : Shows job room t) (id k : ℕ) (v w : View) (words : List ℕ)
     → get_elem? t.views id ≡ some v → v.own.worker ≡ k → v.to ≡ k + 1 → w.own.worker ≡ k → w.to ≡ k + 1
     → w.own.events ≡ v.own.events → StopShows (get_or words (stop_at job.workers) 0) (set t.views id w)
     → WordsShow job.workers job.plan.count words o.state.node o.state.mark o.state.value o.state.status o.state.hold o.state.tick (length o.state.book)
-    → (Mine job o.state (get_elem? t.homes k) (o.seat k) id v k → Mine job o.state (get_elem? t.homes k) (o.seat k) id w k)
+    → (AgreesWithView job o.state (get_elem? t.homes k) (o.seat k) id v k → AgreesWithView job o.state (get_elem? t.homes k) (o.seat k) id w k)
     → ShowsOne job room (λ (s : State). s ≡ o.state) record { words = words; homes = t.homes; views = set t.views id w }
 renewed job room t o id k v w words me from to from' to' events stop shown own = (
   record {
@@ -148,10 +148,10 @@ renewed job room t o id k v w words me from to from' to' events stop shown own =
 )
 
 -- a look or a refused try
-pub looked : (job : CoreJob) (room : ℕ) (t : St) (o : Shows job room t) (id k j : ℕ) (v w : View)
+pub looked : (job : CoreJob) (room : ℕ) (t : TableState) (o : Shows job room t) (id k j : ℕ) (v w : View)
     → get_elem? t.views id ≡ some v → v.own.worker ≡ k → v.to ≡ k + 1 → w.own.worker ≡ k → w.to ≡ k + 1
     → w.own.events ≡ v.own.events → w.own.stops ≡ v.own.stops → (0 < w.own.stops_found → (0 < v.own.stops_found) ⊎ (get_or t.words (stop_at job.workers) 0 ≡ 1))
-    → (Mine job o.state (get_elem? t.homes k) (o.seat k) id v k → Mine job o.state (get_elem? t.homes k) (o.seat k) id w k)
+    → (AgreesWithView job o.state (get_elem? t.homes k) (o.seat k) id v k → AgreesWithView job o.state (get_elem? t.homes k) (o.seat k) id w k)
     → ShowsOne job room (λ (s : State). s ≡ o.state) record { words = set t.words j (get_or t.words j 0); homes = t.homes; views = set t.views id w }
 looked job room t o id k j v w me from to from' to' events stops found own =
     renewed job room t o id k v w (set t.words j (get_or t.words j 0)) me from to from' to' events
@@ -227,7 +227,7 @@ out_others job laws s k x v event node mark value tick call y kept happens ne sa
     }
 
 -- an event of the job side: worker k is free before and after it
-pub job_step : (job : CoreJob) (room : ℕ) (laws : Laws job) (t : St) (o : Shows job room t) (id k : ℕ) (v w : View) (words : List ℕ) (event : Event)
+pub job_step : (job : CoreJob) (room : ℕ) (laws : Laws job) (t : TableState) (o : Shows job room t) (id k : ℕ) (v w : View) (words : List ℕ) (event : Event)
     (node : ℕ → Progress) (mark : ℕ → ℕ) (value : ℕ → Maybe ℕ) (tick : ℕ) (call : ℕ → CallState) (y : Task)
     → let s = o.state in
     let new : State = record s { node = node; mark = mark; value = value; tick = tick; task = put s.task k y; call = call } in
@@ -282,22 +282,22 @@ job_step job room laws t o id k v w words event node mark value tick call y happ
     })
 
 -- the key of a table is its setting
-pub keyed : (key setting : Setting) (slots id : ℕ) (me : Sat) (i : ℕ) (f : ℕ → ℕ) (tells : ℕ → Sat → Type 0) → key ≡ setting → Allows (Shown setting) slots id me i f tells → Allows (Shown key) slots id me i f tells
+pub keyed : (key setting : Setting) (slots id : ℕ) (me : SeatState) (i : ℕ) (f : ℕ → ℕ) (tells : ℕ → SeatState → Type 0) → key ≡ setting → Allows (Shown setting) slots id me i f tells → Allows (Shown key) slots id me i f tells
 keyed key setting slots id me i f tells e h = subst (λ (y : Setting). Allows (Shown y) slots id me i f tells) (sym e) h
 
 pub few_nodes : (nodes count : ℕ) → nodes ≡ count → nodes < 40000 → count < 40000
 few_nodes nodes count e h = omega (arith, e, h)
 
 -- `TryMakes` for a try that finds the wanted number, and for one that does not
-pub found : {job : CoreJob} {room : ℕ} {t : St} {before : State} (word wanted : ℕ) (Makes : State → State → Type 0) → word ≡ wanted → ShowsOne job room (Makes before) t → ShowsOne job room (TryMakes wanted Makes before word) t
-found word wanted Makes is h = (h.0, ((λ _. h.1), (λ ne. absurd (ne is))))
+pub found : {job : CoreJob} {room : ℕ} {t : TableState} {before : State} (word wanted : ℕ) (IsEvent : State → State → Type 0) → word ≡ wanted → ShowsOne job room (IsEvent before) t → ShowsOne job room (TryMakes wanted IsEvent before word) t
+found word wanted IsEvent is h = (h.0, ((λ _. h.1), (λ ne. absurd (ne is))))
 
-pub missed : {job : CoreJob} {room : ℕ} {t : St} {before : State} (word wanted : ℕ) (Makes : State → State → Type 0) → word ≢ wanted → ShowsOne job room (λ (s : State). s ≡ before) t → ShowsOne job room (TryMakes wanted Makes before word) t
-missed word wanted Makes ne h = (h.0, ((λ is. absurd (ne is)), (λ _. h.1)))
+pub missed : {job : CoreJob} {room : ℕ} {t : TableState} {before : State} (word wanted : ℕ) (IsEvent : State → State → Type 0) → word ≢ wanted → ShowsOne job room (λ (s : State). s ≡ before) t → ShowsOne job room (TryMakes wanted IsEvent before word) t
+missed word wanted IsEvent ne h = (h.0, ((λ is. absurd (ne is)), (λ _. h.1)))
 
 -- `ArrivalMakes` for a mark found at 0, and for another
-pub found_none : {job : CoreJob} {room : ℕ} {t : St} {before : State} (word : ℕ) (First Second : State → State → Type 0) → word ≡ 0 → ShowsOne job room (First before) t → ShowsOne job room (ArrivalMakes First Second before word) t
+pub found_none : {job : CoreJob} {room : ℕ} {t : TableState} {before : State} (word : ℕ) (First Second : State → State → Type 0) → word ≡ 0 → ShowsOne job room (First before) t → ShowsOne job room (ArrivalMakes First Second before word) t
 found_none word First Second is h = (h.0, ((λ _. h.1), (λ ne. absurd (ne is))))
 
-pub found_one : {job : CoreJob} {room : ℕ} {t : St} {before : State} (word : ℕ) (First Second : State → State → Type 0) → word ≢ 0 → ShowsOne job room (Second before) t → ShowsOne job room (ArrivalMakes First Second before word) t
+pub found_one : {job : CoreJob} {room : ℕ} {t : TableState} {before : State} (word : ℕ) (First Second : State → State → Type 0) → word ≢ 0 → ShowsOne job room (Second before) t → ShowsOne job room (ArrivalMakes First Second before word) t
 found_one word First Second ne h = (h.0, ((λ is. absurd (ne is)), (λ _. h.1)))

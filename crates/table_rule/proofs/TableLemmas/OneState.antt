@@ -20,7 +20,7 @@ use Rattle.table_rule.specs.declared.slot.Slot.TheVariants as Slots
 use Rattle.table_rule.specs.declared.view.View.{View}
 use Rattle.table_rule.specs.declared.view.HoldView.{HoldView}
 use Rattle.table_rule.specs.Words.{progress_code, worker_in, start_in, end_in, status_code, flag_code, value_at, HasValue}
-use Rattle.table_rule.specs.Shows.{St, Home, RecordAt, ShopAt, HoldKnown, Mine, Shows}
+use Rattle.table_rule.specs.Shows.{TableState, SlotHome, RecordAt, ShopAt, HoldKnown, AgreesWithView, Shows}
 use Rattle.table_rule.specs.OneState.{AreOne}
 use Rattle.table_rule.specs.Laws.{Laws}
 use Rattle.table_rule.proofs.TableLemmas.Words.{worker_of, start_of, end_of}
@@ -71,7 +71,7 @@ some_both : (a b : Slot) → some (some a) ≡ some (some b) → a ≡ b
 some_both a b e = some-injective _ _ (some-injective _ _ e)
 
 -- a worker's status word and record slot determine its status
-same_status : (job : CoreJob) (p q : List (List Entry)) (a b : Task) (x y : Status) (home : Home) → status_code x ≡ status_code y → RecordAt job p a x home → RecordAt job q b y home → x ≡ y
+same_status : (job : CoreJob) (p q : List (List Entry)) (a b : Task) (x y : Status) (home : SlotHome) → status_code x ≡ status_code y → RecordAt job p a x home → RecordAt job q b y home → x ≡ y
 same_status job p q a b Free Free home same at at' = refl
 same_status job p q a b Free Pending home same at at' = absurd (omega (arith, same))
 same_status job p q a b Free Executing home same at at' = absurd (omega (arith, same))
@@ -97,15 +97,15 @@ by_worker workers w Goal inside outside = elim (dec_le workers w) [
 ]
 
 -- what the one seat of a worker says of two states
-record BothMine (job : CoreJob) (t : St) (a b : State) (w : ℕ) : Type 0 where
+record BothMine (job : CoreJob) (t : TableState) (a b : State) (w : ℕ) : Type 0 where
   view : View
   seat : ℕ
   other : ℕ
   id : ℕ
-  one : Mine job a (get_elem? t.homes w) seat id view w
-  two : Mine job b (get_elem? t.homes w) other id view w
+  one : AgreesWithView job a (get_elem? t.homes w) seat id view w
+  two : AgreesWithView job b (get_elem? t.homes w) other id view w
 
-both_mine : (job : CoreJob) (room : ℕ) (t : St) (a b : Shows job room t) (w : ℕ) → w < job.workers → BothMine job t a.state b.state w
+both_mine : (job : CoreJob) (room : ℕ) (t : TableState) (a b : Shows job room t) (w : ℕ) → w < job.workers → BothMine job t a.state b.state w
 both_mine job room t a b w low =
     let h = a.seats w low in record {
       view = h.0;
@@ -133,7 +133,7 @@ told_hold : (job : CoreJob) (a b : State) (known : Maybe HoldView) (w : ℕ) (h 
 told_hold job a b None w h held is x y = absurd (x h held is)
 told_hold job a b (Some v) w h held is x y = record { hold = x.0 ∙ sym y.0; book = x.1 ∙ sym y.1 }
 
-same_hold : (job : CoreJob) (room : ℕ) (t : St) (a b : Shows job room t) (x y : Maybe Hold) → a.state.hold ≡ x → b.state.hold ≡ y → SameHold a.state b.state
+same_hold : (job : CoreJob) (room : ℕ) (t : TableState) (a b : Shows job room t) (x y : Maybe Hold) → a.state.hold ≡ x → b.state.hold ≡ y → SameHold a.state b.state
 same_hold job room t a b None None e f =
     let one = subst (λ (h : Maybe Hold). ShopAt h a.state.book (get_elem? t.homes job.workers)) e a.slots.shop in
     let two = subst (λ (h : Maybe Hold). ShopAt h b.state.book (get_elem? t.homes job.workers)) f b.slots.shop in
@@ -152,7 +152,7 @@ ran_low job laws s n w t e few kept ran =
     let start = kept.ticks.only (start_of_node n) t (w, e, ran) in
     let most = laws.ticks s kept in (omega (arith, worker, few), omega (arith, start, most, laws.few))
 
-same_node : (job : CoreJob) (laws : Laws job) (room : ℕ) (t : St) (a b : Shows job room t) (n : ℕ) (kind : Maybe Kind) → job.workers ≤ 32 → job.plan.kind n ≡ kind → a.state.node n ≡ b.state.node n
+same_node : (job : CoreJob) (laws : Laws job) (room : ℕ) (t : TableState) (a b : Shows job room t) (n : ℕ) (kind : Maybe Kind) → job.workers ≤ 32 → job.plan.kind n ≡ kind → a.state.node n ≡ b.state.node n
 same_node job laws room t a b n None few is = a.parts.nodes.outside n is ∙ sym (b.parts.nodes.outside n is)
 same_node job laws room t a b n (Some kind) few is =
     let low = laws.plan.within n (λ e. let f = sym is ∙ e in absurd (cc)) in
@@ -172,7 +172,7 @@ same_value x y v u word e f h g =
     let two : word ≡ u = rw f at g in
     e ∙ (ap Some (sym one ∙ two) ∙ sym f)
 
-pub one_state : (job : CoreJob) (room : ℕ) (laws : Laws job) (t : St) (a b : Shows job room t) → job.workers ≤ 32 → AreOne job a.state b.state
+pub one_state : (job : CoreJob) (room : ℕ) (laws : Laws job) (t : TableState) (a b : Shows job room t) → job.workers ≤ 32 → AreOne job a.state b.state
 one_state job room laws t a b few =
     let one = a.state in
     let two = b.state in

@@ -18,7 +18,7 @@ use Rattle.table_rule.specs.declared.view.View.{View}
 use Rattle.table_rule.specs.declared.slot.Slot.{Slot}
 use Rattle.table_rule.specs.declared.slot.Slot.TheVariants as Slots
 use Rattle.table_rule.specs.Laws.{Laws}
-use Rattle.table_rule.specs.Shows.{Home, IsFront, IsRecordOf, RecordAt, ShopAt, BookAt, SlotsShow, hold_of, HoldKnown, Mine}
+use Rattle.table_rule.specs.Shows.{SlotHome, IsFront, IsRecordOf, RecordAt, ShopAt, BookAt, SlotsShow, hold_of, HoldKnown, AgreesWithView}
 use Rattle.table_rule.proofs.TableLemmas.Words.{put_at, put_other}
 use Rattle.table_rule.proofs.TableLemmas.Facts.{is_trapped}
 
@@ -38,8 +38,8 @@ pub record SameTold (v w : View) : Type 0 where
 pub told_again : (v : View) → SameTold v v
 told_again v = record { task = refl; call = refl; posted = refl; left = refl; enrolled = refl; saw_done = refl; greatest = refl; before = refl; after = refl; book_seen = refl }
 
--- `Mine` is kept for a seat of another worker
-pub reseat : (job : CoreJob) (s : State) (home : Home) (seat seat' id id' : ℕ) (v w : View) (x : ℕ) → seat' ≡ id' → SameTold v w → w.own.hold ≡ v.own.hold → Mine job s home seat id v x → Mine job s home seat' id' w x
+-- `AgreesWithView` is kept for a seat of another worker
+pub reseat : (job : CoreJob) (s : State) (home : SlotHome) (seat seat' id id' : ℕ) (v w : View) (x : ℕ) → seat' ≡ id' → SameTold v w → w.own.hold ≡ v.own.hold → AgreesWithView job s home seat id v x → AgreesWithView job s home seat' id' w x
 reseat job s home seat seat' id id' v w x sits told hold m = record {
   sits = sits;
   task = m.task ∙ sym told.task;
@@ -60,7 +60,7 @@ reseat job s home seat seat' id id' v w x sits told hold m = record {
 }
 
 -- and for a view that has seen more of the book
-pub reseen : (job : CoreJob) (s : State) (home : Home) (seat id : ℕ) (v : View) (x : ℕ) (book : List (List Entry)) → IsFront book s.book → Mine job s home seat id v x → Mine job s home seat id (record v { own = record v.own { book_seen = book } }) x
+pub reseen : (job : CoreJob) (s : State) (home : SlotHome) (seat id : ℕ) (v : View) (x : ℕ) (book : List (List Entry)) → IsFront book s.book → AgreesWithView job s home seat id v x → AgreesWithView job s home seat id (record v { own = record v.own { book_seen = book } }) x
 reseen job s home seat id v x book front m = record {
   sits = m.sits;
   task = m.task;
@@ -75,13 +75,13 @@ reseen job s home seat id v x book front m = record {
 }
 
 -- and for the same seat
-pub again : (job : CoreJob) (s : State) (home : Home) (seat id : ℕ) (v w : View) (x : ℕ) → SameTold v w → w.own.hold ≡ v.own.hold → Mine job s home seat id v x → Mine job s home seat id w x
+pub again : (job : CoreJob) (s : State) (home : SlotHome) (seat id : ℕ) (v w : View) (x : ℕ) → SameTold v w → w.own.hold ≡ v.own.hold → AgreesWithView job s home seat id v x → AgreesWithView job s home seat id w x
 again job s home seat id v w x told hold m = reseat job s home seat seat id id v w x m.sits told hold m
 
-pub through : (job : CoreJob) (laws : Laws job) (s new : State) (k x : ℕ) (event : Event) (v w : View) (home home' : Home) (seat id : ℕ) → Parts job s → Happens job s k event new
+pub through : (job : CoreJob) (laws : Laws job) (s new : State) (k x : ℕ) (event : Event) (v w : View) (home home' : SlotHome) (seat id : ℕ) → Parts job s → Happens job s k event new
     → new.task x ≡ s.task x → new.call x ≡ s.call x → new.book ≡ s.book → (is_done (s.node 0) ≡ true → is_done (new.node 0) ≡ true)
     → (home ≡ some (some Slots.Vacant) → v.own.call ≡ NotCalled → home' ≡ some (some Slots.Vacant)) → SameTold v w → HoldKnown job new w.own.hold x
-    → Mine job s home seat id v x → Mine job new home' seat id w x
+    → AgreesWithView job s home seat id v x → AgreesWithView job new home' seat id w x
 through job laws s new k x event v w home home' seat id kept happens same_task same_call same_book done here told hold m = record {
   sits = m.sits;
   task = same_task ∙ (m.task ∙ sym told.task);
@@ -132,7 +132,7 @@ hold_same job s new x same_hold same_book same_task (Some v) m = (
 -- a record slot changes with its worker's status
 pub slots_record : (job : CoreJob) (room : ℕ) (homes : List (Option Slot)) (task : ℕ → Task) (status : ℕ → Status) (hold hold' : Maybe Hold) (book : List (List Entry)) (j : ℕ) (x : Status) (h : Option Slot)
     → SlotsShow job room homes task status hold book → j < job.workers → RecordAt job book (task j) x (some h)
-    → ((home : Home) → ShopAt hold book home → ShopAt hold' book home) → ((home : Home) → BookAt room hold book home → BookAt room hold' book home)
+    → ((home : SlotHome) → ShopAt hold book home → ShopAt hold' book home) → ((home : SlotHome) → BookAt room hold book home → BookAt room hold' book home)
     → SlotsShow job room (set homes j h) task (put status j x) hold' book
 slots_record job room homes task status hold hold' book j x h o below here shop batches = record {
   wide = length-set homes j h ∙ o.wide;

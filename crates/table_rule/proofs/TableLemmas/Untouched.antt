@@ -7,7 +7,7 @@ use Rattle.core_model.specs.declared.event.Event.{Event}
 use Rattle.core_model.specs.State.{CoreJob, CoreState, opening_state, opening_core}
 use Rattle.core_model.specs.Runs.{Step, Reaches}
 use Rattle.table_rule.specs.declared.view.View.{View}
-use Rattle.table_rule.specs.Shows.{St, event_if, events_by, Shows}
+use Rattle.table_rule.specs.Shows.{TableState, event_if, events_by, Shows}
 
 no_cons : (l : List Event) (x : Event) → x ∷ l ≡ [] → ⊥
 no_cons l x e = absurd (cc)
@@ -15,7 +15,7 @@ no_cons l x e = absurd (cc)
 step_of_own : (step : Step) → event_if step.worker step ≡ step.event ∷ []
 step_of_own step = grind (arith, nat_tests)
 
-pub no_event : (job : CoreJob) (room : ℕ) (t : St) (o : Shows job room t)
+pub no_event : (job : CoreJob) (room : ℕ) (t : TableState) (o : Shows job room t)
     → ((w : ℕ) → w < job.workers → (id : ℕ) × (v : View) × (get_elem? t.views id ≡ some v) × (v.own.worker ≤ w) × (w < v.to) × (v.own.events ≡ []))
     → (steps : List Step) → o.trace ≡ steps → Reaches job steps (record { state = o.state; ready = o.ready }) → o.state ≡ opening_state
 unfolding opening_core

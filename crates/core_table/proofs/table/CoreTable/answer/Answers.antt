@@ -3,8 +3,8 @@ use Rattle.atomic_table.specs.Table.{rest}
 use Rattle.table_rule.specs.declared.slot.Slot.{Slot}
 use Rattle.table_rule.specs.declared.slot.Slot.TheVariants as Slots
 use Rattle.core_table.specs.Code.Turns.{turns, IsFirstAt}
-use Rattle.table_rule.specs.Carries.{vacant}
-use Rattle.table_rule.specs.Plays.{Sat}
+use Rattle.table_rule.specs.HoldsSlots.{vacant}
+use Rattle.table_rule.specs.Plays.{SeatState}
 use Rattle.table_rule.specs.Shows.{among, room_of, job_of}
 use Rattle.table_rule.specs.Passes.{without_first, in_hold, after_answer, answering}
 use Rattle.table_rule.specs.Views.{with_step}
@@ -30,7 +30,7 @@ exchange-requires c =
     let at : IsFirstAt h.owed u c.first_place-at.result = subst (λ (l : List ℕ). IsFirstAt l u c.first_place-at.result) (c.as_slice.ensures.value ∙ m.0) c.first_place-at.ensures in
     let last : ℕ × Slot = (workers, Slots.Vacant) in
     let tail = (vacant (drop (suc c.first_place-at.result) h.owed) ++ last ∷ []) ++ vacant (take c.first_place-at.result h.owed) in
-    let list = c.turn_by.ensures.me ∙ (ap (λ (s : Sat). (s.0, turns c.first_place-at.result s.1)) (holder_after pass.worker workers old.me h h.owed holds there refl c.requires.pass.2 c.requires.pass.7)
+    let list = c.turn_by.ensures.me ∙ (ap (λ (s : SeatState). (s.0, turns c.first_place-at.result s.1)) (holder_after pass.worker workers old.me h h.owed holds there refl c.requires.pass.2 c.requires.pass.7)
     ∙ ap (λ l. (v, l)) (to_front h.owed u c.first_place-at.result last at)) in
     (c.turn_by.ensures.table.0 ∙ c.requires.pass.0, (Slots.Vacant, first c.turn_by.new.seat.me v u Slots.Vacant tail list))
 
@@ -42,7 +42,7 @@ store-requires c =
     let at : IsFirstAt h.owed u c.first_place-at.result = subst (λ (l : List ℕ). IsFirstAt l u c.first_place-at.result) (c.as_slice.ensures.value ∙ m.0) c.first_place-at.ensures in
     let last : ℕ × Slot = (workers, Slots.Vacant) in
     let tail = (vacant (drop (suc c.first_place-at.result) h.owed) ++ last ∷ []) ++ vacant (take c.first_place-at.result h.owed) in
-    let list = c.turn_by.ensures.me ∙ (ap (λ (s : Sat). (s.0, turns c.first_place-at.result s.1)) (holder_after pass.worker workers old.me h h.owed holds there refl c.requires.pass.2 c.requires.pass.7)
+    let list = c.turn_by.ensures.me ∙ (ap (λ (s : SeatState). (s.0, turns c.first_place-at.result s.1)) (holder_after pass.worker workers old.me h h.owed holds there refl c.requires.pass.2 c.requires.pass.7)
     ∙ ap (λ l. (v, l)) (to_front h.owed u c.first_place-at.result last at)) in
     let put = swapped c.turn_by.new.seat.me c.exchange.new.seat.me v u Slots.Vacant (Slots.Receipt c.args.receipt) tail list c.exchange.ensures.3 in
     let laws = c.laws_hold.ensures self.setting (few_nodes self.nodes job.plan.count self.key.1 self.few.2) self.acts.0 self.acts.1 in (
@@ -59,18 +59,18 @@ invariant_of-pass c =
     let at : IsFirstAt h.owed u c.first_place-at.result = subst (λ (l : List ℕ). IsFirstAt l u c.first_place-at.result) (c.as_slice.ensures.value ∙ m.0) c.first_place-at.ensures in
     let last : ℕ × Slot = (workers, Slots.Vacant) in
     let tail = (vacant (drop (suc c.first_place-at.result) h.owed) ++ last ∷ []) ++ vacant (take c.first_place-at.result h.owed) in
-    let list = c.turn_by.ensures.me ∙ (ap (λ (s : Sat). (s.0, turns c.first_place-at.result s.1)) (holder_after pass.worker workers old.me h h.owed holds there refl c.requires.pass.2 c.requires.pass.7)
+    let list = c.turn_by.ensures.me ∙ (ap (λ (s : SeatState). (s.0, turns c.first_place-at.result s.1)) (holder_after pass.worker workers old.me h h.owed holds there refl c.requires.pass.2 c.requires.pass.7)
     ∙ ap (λ l. (v, l)) (to_front h.owed u c.first_place-at.result last at)) in
     let put = swapped c.turn_by.new.seat.me c.exchange.new.seat.me v u Slots.Vacant (Slots.Receipt c.args.receipt) tail list c.exchange.ensures.3 in
     let t = c.store.ensures.2 in
     let w = with_step (answering u c.args.receipt) v in
-    let here = t.2 c.args.receipt (first _ _ _ _ _ put) ∙ ap (λ (m : Sat). (with_step (answering u c.args.receipt) m.0, rest m.1)) put in
+    let here = t.2 c.args.receipt (first _ _ _ _ _ put) ∙ ap (λ (m : SeatState). (with_step (answering u c.args.receipt) m.0, rest m.1)) put in
     let n = c.len.result - c.first_place-at.result in
     let behind : n ≡ length h.owed - c.first_place-at.result = let a = pass.room.1 in let b = ap (λ (l : List ℕ). length l) m.0 in omega (arith, a, b, c.len.ensures) in
-    let done = c.turn_by-2.ensures.me ∙ (ap (λ (s : Sat). (s.0, turns n s.1)) here ∙ ap (λ l. (w, l)) (to_places h.owed u c.first_place-at.result n last at behind)) in
+    let done = c.turn_by-2.ensures.me ∙ (ap (λ (s : SeatState). (s.0, turns n s.1)) here ∙ ap (λ l. (w, l)) (to_places h.owed u c.first_place-at.result n last at behind)) in
     record {
-      number = (ap (λ (m : Sat). m.0.own.worker) done ∙ pass.number.0, ap (λ (m : Sat). m.0.to) done ∙ pass.number.1);
-      own = (ap (λ (m : Sat). m.0.own.task) done ∙ pass.own.0, ap (λ (m : Sat). m.0.own.call) done ∙ pass.own.1);
+      number = (ap (λ (m : SeatState). m.0.own.worker) done ∙ pass.number.0, ap (λ (m : SeatState). m.0.to) done ∙ pass.number.1);
+      own = (ap (λ (m : SeatState). m.0.own.task) done ∙ pass.own.0, ap (λ (m : SeatState). m.0.own.call) done ∙ pass.own.1);
       room = search rules;
     }
 
@@ -82,19 +82,19 @@ returns c =
     let at : IsFirstAt h.owed u c.first_place-at.result = subst (λ (l : List ℕ). IsFirstAt l u c.first_place-at.result) (c.as_slice.ensures.value ∙ m.0) c.first_place-at.ensures in
     let last : ℕ × Slot = (workers, Slots.Vacant) in
     let tail = (vacant (drop (suc c.first_place-at.result) h.owed) ++ last ∷ []) ++ vacant (take c.first_place-at.result h.owed) in
-    let list = c.turn_by.ensures.me ∙ (ap (λ (s : Sat). (s.0, turns c.first_place-at.result s.1)) (holder_after pass.worker workers old.me h h.owed holds there refl c.requires.pass.2 c.requires.pass.7)
+    let list = c.turn_by.ensures.me ∙ (ap (λ (s : SeatState). (s.0, turns c.first_place-at.result s.1)) (holder_after pass.worker workers old.me h h.owed holds there refl c.requires.pass.2 c.requires.pass.7)
     ∙ ap (λ l. (v, l)) (to_front h.owed u c.first_place-at.result last at)) in
     let put = swapped c.turn_by.new.seat.me c.exchange.new.seat.me v u Slots.Vacant (Slots.Receipt c.args.receipt) tail list c.exchange.ensures.3 in
     let t = c.store.ensures.2 in
     let w = with_step (answering u c.args.receipt) v in
-    let here = t.2 c.args.receipt (first _ _ _ _ _ put) ∙ ap (λ (m : Sat). (with_step (answering u c.args.receipt) m.0, rest m.1)) put in
+    let here = t.2 c.args.receipt (first _ _ _ _ _ put) ∙ ap (λ (m : SeatState). (with_step (answering u c.args.receipt) m.0, rest m.1)) put in
     let n = c.len.result - c.first_place-at.result in
     let behind : n ≡ length h.owed - c.first_place-at.result = let a = pass.room.1 in let b = ap (λ (l : List ℕ). length l) m.0 in omega (arith, a, b, c.len.ensures) in
-    let done = c.turn_by-2.ensures.me ∙ (ap (λ (s : Sat). (s.0, turns n s.1)) here ∙ ap (λ l. (w, l)) (to_places h.owed u c.first_place-at.result n last at behind)) in
+    let done = c.turn_by-2.ensures.me ∙ (ap (λ (s : SeatState). (s.0, turns n s.1)) here ∙ ap (λ l. (w, l)) (to_places h.owed u c.first_place-at.result n last at behind)) in
     record {
       pass = pass_made self.setting _ pass.worker old c.turn_by-2.new.seat w (vacant (without_first u h.owed) ++ last ∷ []) (c.turn_by-2.ensures.table.0 ∙ (c.store.ensures.0 ∙ (c.exchange.ensures.0 ∙ c.turn_by.ensures.table.0))) done refl refl refl refl refl refl
           (carries_answered pass.worker workers u v h c.args.receipt (held_out pass.worker old.me h c.requires.pass.7 holds) holds c.requires.pass.2 there)
           (remembers_hold w _ _ (after_answer u h) (ap (in_hold (after_answer u)) holds) (c.remove.ensures.by_index.2 ∙ (ap (λ (l : List ℕ). take c.first_place-at.result l ++ drop (c.first_place-at.result + 1) l) m.0 ∙ (let next : c.first_place-at.result + 1 ≡ suc c.first_place-at.result = omega arith in ap (λ (k : ℕ). take c.first_place-at.result h.owed ++ drop k h.owed) next ∙ sym at.rest))) m.1 (owes_answered h u there m.2))
           (looks_after workers (after_answer u) v.own.hold h holds (looks_at workers v.own.hold h c.requires.pass.10 holds)) c.requires.pass;
-      answered = ap (λ (m : Sat). m.0) done;
+      answered = ap (λ (m : SeatState). m.0) done;
     }

@@ -4,7 +4,7 @@ use Rattle.core_model.specs.Next.{next_act}
 use Rattle.core_model.specs.declared.next.Next.TheVariants as acts
 use Rattle.sp_order.specs.declared.node.Kind.TheVariants.{ParNode}
 use Rattle.table_rule.specs.CoreWords.{Idle, Handed, ArriveFirst, ArriveSecond}
-use Rattle.table_rule.specs.Plays.{Sat}
+use Rattle.table_rule.specs.Plays.{SeatState}
 use Rattle.table_rule.specs.Shows.{room_of, job_of}
 use Rattle.table_rule.specs.Passes.{with_task}
 use Rattle.table_rule.specs.Views.{with_step}
@@ -39,14 +39,14 @@ invariant_of-pass c =
     elim c.if-second.branch [
       | then-second w ↦
           let is = told.1 (let one = w.if-second in grind (arith, nat_tests)) in record {
-            number = (ap (λ (m : Sat). m.0.own.worker) is ∙ pass.number.0, ap (λ (m : Sat). m.0.to) is ∙ pass.number.1);
-            own = (ap (λ (m : Sat). m.0.own.task) is ∙ sym w.pass-is, ap (λ (m : Sat). m.0.own.call) is ∙ pass.own.1);
+            number = (ap (λ (m : SeatState). m.0.own.worker) is ∙ pass.number.0, ap (λ (m : SeatState). m.0.to) is ∙ pass.number.1);
+            own = (ap (λ (m : SeatState). m.0.own.task) is ∙ sym w.pass-is, ap (λ (m : SeatState). m.0.own.call) is ∙ pass.own.1);
             room = pass.room;
           }
       | else-second w ↦
           let is = told.0 (let zero = w.if-second in grind (arith, nat_tests)) in record {
-            number = (ap (λ (m : Sat). m.0.own.worker) is ∙ pass.number.0, ap (λ (m : Sat). m.0.to) is ∙ pass.number.1);
-            own = (ap (λ (m : Sat). m.0.own.task) is ∙ sym w.pass-is, ap (λ (m : Sat). m.0.own.call) is ∙ pass.own.1);
+            number = (ap (λ (m : SeatState). m.0.own.worker) is ∙ pass.number.0, ap (λ (m : SeatState). m.0.to) is ∙ pass.number.1);
+            own = (ap (λ (m : SeatState). m.0.own.task) is ∙ sym w.pass-is, ap (λ (m : SeatState). m.0.own.call) is ∙ pass.own.1);
             room = pass.room;
           }
     ]
@@ -73,10 +73,10 @@ pub returns-clause-first : goal.returns-clause-first
 returns-clause-first c first p l r n at =
     let self = c.args.self.now in let pass = c.args.pass.now in let job = job_of self.setting in let v = pass.seat.me.0 in
     let told = c.fetch_add-second.ensures.2 p l r n (next_seen job v (acts.Arrive p l r n) c.requires.pass.9 c.requires.pass.2 at) in
-    ap (λ (m : Sat). m.0) (told.0 (grind (arith, nat_tests)))
+    ap (λ (m : SeatState). m.0) (told.0 (grind (arith, nat_tests)))
 
 pub returns-clause-second : goal.returns-clause-second
 returns-clause-second c second p l r n at =
     let self = c.args.self.now in let pass = c.args.pass.now in let job = job_of self.setting in let v = pass.seat.me.0 in
     let told = c.fetch_add-second.ensures.2 p l r n (next_seen job v (acts.Arrive p l r n) c.requires.pass.9 c.requires.pass.2 at) in
-    ap (λ (m : Sat). m.0) (told.1 (grind (arith, nat_tests)))
+    ap (λ (m : SeatState). m.0) (told.1 (grind (arith, nat_tests)))

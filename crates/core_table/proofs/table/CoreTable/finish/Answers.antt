@@ -3,7 +3,7 @@ use Rattle.core_model.specs.Next.{next_act}
 use Rattle.core_model.specs.Events.{task_after}
 use Rattle.core_model.specs.declared.next.Next.TheVariants as acts
 use Rattle.table_rule.specs.CoreWords.{Task}
-use Rattle.table_rule.specs.Plays.{Sat}
+use Rattle.table_rule.specs.Plays.{SeatState}
 use Rattle.table_rule.specs.Shows.{room_of, job_of}
 use Rattle.table_rule.specs.Tasks.{TaskHere, progress_after}
 use Rattle.table_rule.specs.Words.{progress_code}
@@ -42,8 +42,8 @@ invariant_of-pass c =
     let act = acts.Finish c.in-Some-Finish.node c.in-Some-Finish.field-0-1 in
     let due : next_act job v.own.task v.own.call ≡ Some act = sym c.next.ensures.next ∙ (c.in-Some-Finish.is ∙ ap Some c.in-Some-Finish.field-0-is) in
     let is = c.store.ensures.2 c.in-Some-Finish.node c.in-Some-Finish.field-0-1 (next_seen job v act c.requires.pass.9 c.requires.pass.2 due) in record {
-      number = (ap (λ (m : Sat). m.0.own.worker) is ∙ pass.number.0, ap (λ (m : Sat). m.0.to) is ∙ pass.number.1);
-      own = (ap (λ (m : Sat). m.0.own.task) is ∙ sym c.task_after-pass.ensures, ap (λ (m : Sat). m.0.own.call) is ∙ pass.own.1);
+      number = (ap (λ (m : SeatState). m.0.own.worker) is ∙ pass.number.0, ap (λ (m : SeatState). m.0.to) is ∙ pass.number.1);
+      own = (ap (λ (m : SeatState). m.0.own.task) is ∙ sym c.task_after-pass.ensures, ap (λ (m : SeatState). m.0.own.call) is ∙ pass.own.1);
       room = pass.room;
     }
 
@@ -61,4 +61,4 @@ pub returns-clause-finished : goal.returns-clause-finished
 returns-clause-finished c n event at =
     let self = c.args.self.now in let pass = c.args.pass.now in let job = job_of self.setting in let v = pass.seat.me.0 in
     let is = c.store.ensures.2 n event (next_seen job v (acts.Finish n event) c.requires.pass.9 c.requires.pass.2 at) in
-    ap (λ (m : Sat). m.0) is
+    ap (λ (m : SeatState). m.0) is

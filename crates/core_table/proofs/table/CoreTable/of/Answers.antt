@@ -5,7 +5,7 @@ use Rattle.table_rule.specs.declared.slot.Slot.TheVariants as Slots
 use Rattle.core_table.specs.declared.table.Pass.{Pass}
 use Rattle.table_rule.specs.Words.{node_at, word_count}
 use Rattle.table_rule.specs.Shows.{room_of, job_of}
-use Rattle.table_rule.specs.Plays.{Sat}
+use Rattle.table_rule.specs.Plays.{SeatState}
 use Rattle.table_rule.specs.Views.{enrolling, pass_of, rest_of}
 use Rattle.core_table.specs.Passes.{IsSeatOf}
 use Rattle.table_rule.specs.Views.{rest_from}
@@ -32,13 +32,13 @@ split_seat-own-requires c =
     let i = c.loop-worker.invariant in let setting = c.args.setting in (
       i.same,
       omega (arith, i.words),
-      rw i.key (cuts_at (job_of setting) (room_of setting) c.loop-worker.seat.id c.loop-worker.seat.me.0 (rest_from c.loop-worker.worker setting) (ap (λ (m : Sat). m.0) i.seat) c.loop-worker-test.true),
+      rw i.key (cuts_at (job_of setting) (room_of setting) c.loop-worker.seat.id c.loop-worker.seat.me.0 (rest_from c.loop-worker.worker setting) (ap (λ (m : SeatState). m.0) i.seat) c.loop-worker-test.true),
     )
 
 pub load-requires : goal.load-requires
 load-requires c =
     let i = c.loop-worker.invariant in let setting = c.args.setting in let k = c.loop-worker.worker in
-    let is = c.split_seat-own.ensures.4 ∙ ap (λ (m : Sat). (pass_of m.0, [])) i.seat in (
+    let is = c.split_seat-own.ensures.4 ∙ ap (λ (m : SeatState). (pass_of m.0, [])) i.seat in (
       c.split_seat-own.ensures.3 ∙ i.same,
       omega (arith, i.words),
       rw i.key (enrols_at (job_of setting) (room_of setting) _ _ 0 _ (pass_of (rest_from k setting)) [] k is refl refl refl),
@@ -47,19 +47,19 @@ load-requires c =
 pub loop-worker-preserved : goal.loop-worker-preserved
 loop-worker-preserved c =
     let i = c.loop-worker.invariant in let setting = c.args.setting in let k = c.loop-worker.worker in let table = c.in-Ok.made.0.shared.table_id in
-    let cut = c.split_seat-own.ensures.4 ∙ ap (λ (m : Sat). (pass_of m.0, [])) i.seat in
-    let me = c.load.ensures.2 ∙ ap (λ (m : Sat). (enrolling m.0, (m.0.own.worker, Slots.Vacant) ∷ m.1)) cut in
+    let cut = c.split_seat-own.ensures.4 ∙ ap (λ (m : SeatState). (pass_of m.0, [])) i.seat in
+    let me = c.load.ensures.2 ∙ ap (λ (m : SeatState). (enrolling m.0, (m.0.own.worker, Slots.Vacant) ∷ m.1)) cut in
     let id = c.load.ensures.0 ∙ (c.split_seat-own.ensures.3 ∙ i.same) in record {
       key = i.key;
       words = i.words;
       slots = i.slots;
       same = c.split_seat-own.ensures.0 ∙ i.same;
-      seat = c.split_seat-own.ensures.2 ∙ ap (λ (m : Sat). (rest_of m.0, m.1)) i.seat;
+      seat = c.split_seat-own.ensures.2 ∙ ap (λ (m : SeatState). (rest_of m.0, m.1)) i.seat;
       count = c.push_reserved.ensures.len ∙ ap (λ (n : ℕ). n + 1) i.count;
       long = ap (λ (l : List Pass). length l) c.push_reserved.ensures.items ∙ (length-append c.loop-worker.passes.items (_ ∷ []) ∙ ap (λ (n : ℕ). n + 1) i.long);
       room = omega (arith, i.room, c.push_reserved.ensures.capacity);
       each = rw c.push_reserved.ensures.items (each_push (λ (w : ℕ) (p : Pass). (p.worker ≡ w) × IsSeatOf setting table p.worker p.seat p.owed.items p.published × (p.seat.me.0 ≡ enrolling (pass_of (rest_from w setting)))) c.loop-worker.passes.items _ i.each
           (let at : length c.loop-worker.passes.items ≡ k = i.long in
           subst (λ (w : ℕ). (k ≡ w) × IsSeatOf setting table k c.load.new.seat c.in_ok-owed.owed.items false × (c.load.new.seat.me.0 ≡ enrolling (pass_of (rest_from w setting)))) (sym at)
-          (refl, subst (λ (l : List ℕ). IsSeatOf setting table k c.load.new.seat l false) (sym c.in_ok-owed.ensures.items) (new_pass setting table k c.load.new.seat c.loop-worker-test.true id me), ap (λ (m : Sat). m.0) me)));
+          (refl, subst (λ (l : List ℕ). IsSeatOf setting table k c.load.new.seat l false) (sym c.in_ok-owed.ensures.items) (new_pass setting table k c.load.new.seat c.loop-worker-test.true id me), ap (λ (m : SeatState). m.0) me)));
     }

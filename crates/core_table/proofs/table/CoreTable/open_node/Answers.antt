@@ -1,7 +1,7 @@
 use Rattle.std.proofs.Common.{◌≡◌, ◌∙◌, Some, refl, sym, ap, arith}
 use Rattle.core_model.specs.Next.{next_act}
 use Rattle.core_model.specs.declared.next.Next.TheVariants as acts
-use Rattle.table_rule.specs.Plays.{Sat}
+use Rattle.table_rule.specs.Plays.{SeatState}
 use Rattle.table_rule.specs.Shows.{room_of, job_of}
 use Rattle.table_rule.specs.Passes.{opening}
 use Rattle.table_rule.specs.Views.{with_step}
@@ -30,8 +30,8 @@ invariant_of-pass c =
     let act = acts.Open c.in-Some-Open.node c.in-Some-Open.task c.in-Some-Open.field-0-2 in
     let due : next_act job v.own.task v.own.call ≡ Some act = sym c.next.ensures.next ∙ (c.in-Some-Open.is ∙ ap Some c.in-Some-Open.field-0-is) in
     let is = c.store.ensures.2 c.in-Some-Open.node c.in-Some-Open.task c.in-Some-Open.field-0-2 (next_seen job v act c.requires.pass.9 c.requires.pass.2 due) in record {
-      number = (ap (λ (m : Sat). m.0.own.worker) is ∙ pass.number.0, ap (λ (m : Sat). m.0.to) is ∙ pass.number.1);
-      own = (ap (λ (m : Sat). m.0.own.task) is, ap (λ (m : Sat). m.0.own.call) is ∙ pass.own.1);
+      number = (ap (λ (m : SeatState). m.0.own.worker) is ∙ pass.number.0, ap (λ (m : SeatState). m.0.to) is ∙ pass.number.1);
+      own = (ap (λ (m : SeatState). m.0.own.task) is, ap (λ (m : SeatState). m.0.own.call) is ∙ pass.own.1);
       room = pass.room;
     }
 
@@ -51,4 +51,4 @@ returns-clause-opened c n task event at =
     let is = c.store.ensures.2 n task event (next_seen job v (acts.Open n task event) c.requires.pass.9 c.requires.pass.2 at) in
     let both : Some (acts.Open n task event) ≡ Some (acts.Open c.in-Some-Open.node c.in-Some-Open.task c.in-Some-Open.field-0-2) = sym at ∙ (sym c.next.ensures.next ∙ (c.in-Some-Open.is ∙ ap Some c.in-Some-Open.field-0-is)) in
     let same : c.in-Some-Open.node ≡ n = cc in
-    (same, ap (λ (m : Sat). m.0) is)
+    (same, ap (λ (m : SeatState). m.0) is)

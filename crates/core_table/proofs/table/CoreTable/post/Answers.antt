@@ -6,7 +6,7 @@ use Rattle.core_table.proofs.PassLemmas.PassKept.{pass_made, first, swapped}
 use Rattle.table_rule.proofs.StepLemmas.NextActs.{may_post}
 use Rattle.table_rule.proofs.StepLemmas.GateSteps.{posts_at}
 use Rattle.atomic_table.specs.Table.{rest}
-use Rattle.table_rule.specs.Plays.{Sat}
+use Rattle.table_rule.specs.Plays.{SeatState}
 use Rattle.core_table.proofs.ListLemmas.Owed.{remembers_kept}
 use Rattle.table_rule.specs.Views.{with_post}
 use Rattle.table_rule.specs.CoreWords.{Post}
@@ -33,9 +33,9 @@ invariant_of-pass c =
     let own = c.requires.pass.7.free (λ e. let f = sym may.0 ∙ e in absurd (cc)) in
     let put = swapped pass.seat.me c.exchange.new.seat.me v pass.worker Slots.Vacant (Slots.Record c.args.call) [] (λ i. (v, own.1 i)) c.exchange.ensures.3 in
     let t = c.store.ensures.2 c.args.call (first _ _ _ _ _ put) in
-    let told = t.3 ∙ ap (λ (m : Sat). (with_post c.args.call (Post t.0 t.1) m.0, rest m.1)) put in record {
-      number = (ap (λ (m : Sat). m.0.own.worker) told ∙ pass.number.0, ap (λ (m : Sat). m.0.to) told ∙ pass.number.1);
-      own = (ap (λ (m : Sat). m.0.own.task) told ∙ pass.own.0, ap (λ (m : Sat). m.0.own.call) told);
+    let told = t.3 ∙ ap (λ (m : SeatState). (with_post c.args.call (Post t.0 t.1) m.0, rest m.1)) put in record {
+      number = (ap (λ (m : SeatState). m.0.own.worker) told ∙ pass.number.0, ap (λ (m : SeatState). m.0.to) told ∙ pass.number.1);
+      own = (ap (λ (m : SeatState). m.0.own.task) told ∙ pass.own.0, ap (λ (m : SeatState). m.0.own.call) told);
       room = pass.room;
     }
 
@@ -48,9 +48,9 @@ returns c =
     let put = swapped old.me c.exchange.new.seat.me v pass.worker Slots.Vacant (Slots.Record c.args.call) [] (λ i. (v, own.1 i)) c.exchange.ensures.3 in
     let t = c.store.ensures.2 c.args.call (first _ _ _ _ _ put) in
     let event = Post t.0 t.1 in
-    let told = t.3 ∙ ap (λ (m : Sat). (with_post c.args.call event m.0, rest m.1)) put in
+    let told = t.3 ∙ ap (λ (m : SeatState). (with_post c.args.call event m.0, rest m.1)) put in
     record {
       pass = pass_made self.setting _ pass.worker old c.store.new.seat (with_post c.args.call event v) [] (c.store.ensures.0 ∙ c.exchange.ensures.0) told refl refl refl refl refl refl
           (carries_posted pass.worker v c.args.call event own.0) (remembers_kept v (with_post c.args.call event v) _ _ refl c.requires.pass.8) c.requires.pass.10 c.requires.pass;
-      posted = (t.0, t.1, ap (λ (m : Sat). m.0.own.task) (sym put) ∙ t.2, ap (λ (m : Sat). m.0) told);
+      posted = (t.0, t.1, ap (λ (m : SeatState). m.0.own.task) (sym put) ∙ t.2, ap (λ (m : SeatState). m.0) told);
     }

@@ -4,8 +4,8 @@ use Rattle.batch_history.specs.Reserved.{ReservedView}
 use Rattle.batch_history.specs.Book.{IsHistory}
 use Rattle.table_rule.specs.declared.slot.Slot.TheVariants as Slots
 use Rattle.table_rule.specs.Batches.{IsPublishDue}
-use Rattle.table_rule.specs.Carries.{vacant}
-use Rattle.table_rule.specs.Plays.{Sat}
+use Rattle.table_rule.specs.HoldsSlots.{vacant}
+use Rattle.table_rule.specs.Plays.{SeatState}
 use Rattle.table_rule.specs.Shows.{reserved, room_of, job_of}
 use Rattle.table_rule.specs.Passes.{in_hold, after_publish, publishing}
 use Rattle.table_rule.specs.Views.{with_step}
@@ -98,14 +98,14 @@ invariant_of-pass c =
     let emptied = swapped c.load.new.seat.me c.exchange.new.seat.me v at (Slots.Book book) Slots.Vacant tail list c.exchange.ensures.3 in
     let put_back = swapped c.exchange.new.seat.me c.exchange-2.new.seat.me v at Slots.Vacant (Slots.Book _) tail emptied c.exchange-2.ensures.3
     ∙ ap (λ (b : ReservedView). (v, (at, Slots.Book b) ∷ tail)) whole in
-    let told = c.fetch_add.ensures.2 h c.args.batch (ap (λ (m : Sat). m.0.own.hold) put_back ∙ holds)
-    (first _ _ _ _ _ put_back ∙ ap (λ (r : ℕ). (at, Slots.Book (reserved (h.book ++ c.args.batch ∷ []) r)) ∷ rest c.exchange-2.new.seat.me.1) (sym (ap (λ (m : Sat). m.0.room) put_back ∙ c.requires.pass.6))) in
+    let told = c.fetch_add.ensures.2 h c.args.batch (ap (λ (m : SeatState). m.0.own.hold) put_back ∙ holds)
+    (first _ _ _ _ _ put_back ∙ ap (λ (r : ℕ). (at, Slots.Book (reserved (h.book ++ c.args.batch ∷ []) r)) ∷ rest c.exchange-2.new.seat.me.1) (sym (ap (λ (m : SeatState). m.0.room) put_back ∙ c.requires.pass.6))) in
     let w = with_step (publishing c.args.batch) v in
-    let here = told ∙ ap (λ (m : Sat). (with_step (publishing c.args.batch) m.0, rest m.1)) put_back in
+    let here = told ∙ ap (λ (m : SeatState). (with_step (publishing c.args.batch) m.0, rest m.1)) put_back in
     let last = turned_to _ c.turn.new.self.me w tail here c.turn.ensures.2 in
     record {
-      number = (ap (λ (m : Sat). m.0.own.worker) last ∙ pass.number.0, ap (λ (m : Sat). m.0.to) last ∙ pass.number.1);
-      own = (ap (λ (m : Sat). m.0.own.task) last ∙ pass.own.0, ap (λ (m : Sat). m.0.own.call) last ∙ pass.own.1);
+      number = (ap (λ (m : SeatState). m.0.own.worker) last ∙ pass.number.0, ap (λ (m : SeatState). m.0.to) last ∙ pass.number.1);
+      own = (ap (λ (m : SeatState). m.0.own.task) last ∙ pass.own.0, ap (λ (m : SeatState). m.0.own.call) last ∙ pass.own.1);
       room = pass.room;
     }
 
@@ -123,10 +123,10 @@ returns c =
     let emptied = swapped c.load.new.seat.me c.exchange.new.seat.me v at (Slots.Book book) Slots.Vacant tail list c.exchange.ensures.3 in
     let put_back = swapped c.exchange.new.seat.me c.exchange-2.new.seat.me v at Slots.Vacant (Slots.Book _) tail emptied c.exchange-2.ensures.3
     ∙ ap (λ (b : ReservedView). (v, (at, Slots.Book b) ∷ tail)) whole in
-    let told = c.fetch_add.ensures.2 h c.args.batch (ap (λ (m : Sat). m.0.own.hold) put_back ∙ holds)
-    (first _ _ _ _ _ put_back ∙ ap (λ (r : ℕ). (at, Slots.Book (reserved (h.book ++ c.args.batch ∷ []) r)) ∷ rest c.exchange-2.new.seat.me.1) (sym (ap (λ (m : Sat). m.0.room) put_back ∙ c.requires.pass.6))) in
+    let told = c.fetch_add.ensures.2 h c.args.batch (ap (λ (m : SeatState). m.0.own.hold) put_back ∙ holds)
+    (first _ _ _ _ _ put_back ∙ ap (λ (r : ℕ). (at, Slots.Book (reserved (h.book ++ c.args.batch ∷ []) r)) ∷ rest c.exchange-2.new.seat.me.1) (sym (ap (λ (m : SeatState). m.0.room) put_back ∙ c.requires.pass.6))) in
     let w = with_step (publishing c.args.batch) v in
-    let here = told ∙ ap (λ (m : Sat). (with_step (publishing c.args.batch) m.0, rest m.1)) put_back in
+    let here = told ∙ ap (λ (m : SeatState). (with_step (publishing c.args.batch) m.0, rest m.1)) put_back in
     let last = turned_to _ c.turn.new.self.me w tail here c.turn.ensures.2 in
     record {
       pass = pass_made self.setting _ pass.worker old c.turn.new.self w (vacant h.owed ++ (workers, Slots.Vacant) ∷ [])
@@ -134,5 +134,5 @@ returns c =
           (carries_published pass.worker workers v h c.args.batch (held_out pass.worker old.me h c.requires.pass.7 holds) holds c.requires.pass.2)
           (let m = c.requires.pass.8.holds h holds in remembers_hold w _ true (after_publish c.args.batch h) (ap (in_hold (after_publish c.args.batch)) holds) m.0 refl (owes_published h c.args.batch m.2))
           (looks_after workers (after_publish c.args.batch) v.own.hold h holds (looks_at workers v.own.hold h c.requires.pass.10 holds)) c.requires.pass;
-      published = ap (λ (m : Sat). m.0) last;
+      published = ap (λ (m : SeatState). m.0) last;
     }

@@ -1,7 +1,7 @@
 use Rattle.std.proofs.Common.{◌≡◌, ℕ, [], ◌∷◌, true, sym, ap, ◌∙◌, arith, refl}
 use Rattle.atomic_table.specs.Table.{rest}
 use Rattle.table_rule.specs.declared.slot.Slot.TheVariants as Slots
-use Rattle.table_rule.specs.Plays.{Sat}
+use Rattle.table_rule.specs.Plays.{SeatState}
 use Rattle.table_rule.specs.Shows.{room_of, job_of}
 use Rattle.table_rule.specs.Passes.{releasing}
 use Rattle.table_rule.specs.Views.{with_step}
@@ -48,9 +48,9 @@ returns c =
     let published : h.published ≡ true = sym m.1 ∙ c.requires.published in
     let list = holder_after pass.worker workers old.me h [] holds published nobody c.requires.pass.2 c.requires.pass.7 ∙ ap (λ (i : ℕ). (v, (i, Slots.Vacant) ∷ [])) (sym place) in
     let put = swapped old.me c.exchange.new.seat.me v at Slots.Vacant (Slots.Shop c.args.shop) [] list c.exchange.ensures.3 in
-    let last = c.store.ensures.2 ∙ ap (λ (m : Sat). (with_step releasing m.0, rest m.1)) put in
+    let last = c.store.ensures.2 ∙ ap (λ (m : SeatState). (with_step releasing m.0, rest m.1)) put in
     record {
       pass = pass_made self.setting _ pass.worker old c.store.new.seat (with_step releasing v) [] (c.store.ensures.0 ∙ c.exchange.ensures.0) last refl refl refl refl refl refl
           (carries_released pass.worker v (held_out pass.worker old.me h c.requires.pass.7 holds)) (remembers_none (with_step releasing v) _ _ refl (m.0 ∙ nobody)) tt c.requires.pass;
-      released = ap (λ (m : Sat). m.0) last;
+      released = ap (λ (m : SeatState). m.0) last;
     }

@@ -5,7 +5,7 @@ use Rattle.table_rule.specs.Shows.{room_of, job_of}
 use Rattle.table_rule.proofs.TableLemmas.Moved.{few_nodes}
 use Rattle.core_table.proofs.PassLemmas.PassKept.{held_out, looks_after, pass_made, first, swapped, turned_to, carries_took, carries_passed}
 use Rattle.table_rule.specs.declared.view.HoldView.{HoldView}
-use Rattle.table_rule.specs.Remembers.{Owes}
+use Rattle.table_rule.specs.TracksHold.{Owes}
 use Rattle.core_table.proofs.ListLemmas.Owed.{remembers_hold, owes_passed, owes_taken}
 use Rattle.core_table.proofs.PassLemmas.PassKept.{same_hold}
 use Rattle.table_rule.specs.Passes.{call_by, in_hold, after_take, after_pass, taking, passing}

@@ -1,6 +1,6 @@
 use Rattle.std.proofs.Common.{◌∙◌, refl, ap, arith}
 use Rattle.core_model.specs.declared.next.Next.TheVariants as acts
-use Rattle.table_rule.specs.Plays.{Sat}
+use Rattle.table_rule.specs.Plays.{SeatState}
 use Rattle.table_rule.specs.Shows.{room_of, job_of}
 use Rattle.table_rule.specs.Passes.{with_task}
 use Rattle.table_rule.specs.Views.{with_step}
@@ -28,8 +28,8 @@ invariant_of-pass c =
     let laws = c.laws_hold.ensures self.setting (few_nodes self.nodes job.plan.count self.key.1 self.few.2) self.acts.0 self.acts.1 in
     let t = ticks job laws v pass.seat.me.1 c.fetch_add-tick.result c.fetch_add-tick.new.seat.me pass.task c.ticked-pass.result c.requires.pass.9 c.requires.pass.2 c.requires.pass.5 c.requires.due pass.own.0
     c.fetch_add-tick.ensures.2 c.ticked-pass.ensures.started c.ticked-pass.ensures.ended in record {
-      number = (ap (λ (m : Sat). m.0.own.worker) t.1 ∙ pass.number.0, ap (λ (m : Sat). m.0.to) t.1 ∙ pass.number.1);
-      own = (ap (λ (m : Sat). m.0.own.task) t.1, ap (λ (m : Sat). m.0.own.call) t.1 ∙ pass.own.1);
+      number = (ap (λ (m : SeatState). m.0.own.worker) t.1 ∙ pass.number.0, ap (λ (m : SeatState). m.0.to) t.1 ∙ pass.number.1);
+      own = (ap (λ (m : SeatState). m.0.own.task) t.1, ap (λ (m : SeatState). m.0.own.call) t.1 ∙ pass.own.1);
       room = pass.room;
     }
 
@@ -44,9 +44,9 @@ returns-clause-pass c =
 pub returns-clause-started : goal.returns-clause-started
 returns-clause-started c n leaf at =
     let self = c.args.self.now in let pass = c.args.pass.now in let job = job_of self.setting in let v = pass.seat.me.0 in
-    ap (λ (m : Sat). m.0) (c.fetch_add-tick.ensures.2.1 n leaf (next_seen job v (acts.Start n leaf) c.requires.pass.9 c.requires.pass.2 at))
+    ap (λ (m : SeatState). m.0) (c.fetch_add-tick.ensures.2.1 n leaf (next_seen job v (acts.Start n leaf) c.requires.pass.9 c.requires.pass.2 at))
 
 pub returns-clause-ended : goal.returns-clause-ended
 returns-clause-ended c n start at =
     let self = c.args.self.now in let pass = c.args.pass.now in let job = job_of self.setting in let v = pass.seat.me.0 in
-    ap (λ (m : Sat). m.0) (c.fetch_add-tick.ensures.2.2 n start (next_seen job v (acts.End n start) c.requires.pass.9 c.requires.pass.2 at))
+    ap (λ (m : SeatState). m.0) (c.fetch_add-tick.ensures.2.2 n start (next_seen job v (acts.End n start) c.requires.pass.9 c.requires.pass.2 at))

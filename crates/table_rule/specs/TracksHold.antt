@@ -15,6 +15,6 @@ pub record Owes (h : HoldView) : Type 0 where
   pub below : (u : ℕ) → took_in h.taken u ≡ true → u < h.looks
   pub early : h.published ≡ false → h.answered ≡ []
 
-pub record Remembers (v : View) (owed : List ℕ) (published : Bool) : Type 0 where
+pub record TracksHold (v : View) (owed : List ℕ) (published : Bool) : Type 0 where
   pub none : v.own.hold ≡ None → owed ≡ []
   pub holds : (h : HoldView) → v.own.hold ≡ Some h → (owed ≡ h.owed) × (published ≡ h.published) × Owes h

@@ -2,3 +2,4 @@ pub mod PassKept
 pub mod NewPass
 pub mod Ticks
 pub mod NoAct
+pub mod DueTasks

@@ -133,20 +133,11 @@ impl CoreTable {
             → (result ≡ n) × (view pass.new ≡ with_step (opening n event task) (view pass.old)) }
     {
         laws_hold();
-        let Some(
-            Next::Open {
-                node,
-                task,
-                event: _,
-            },
-        ) = self.next(pass)
-        else {
-            unreachable!()
-        };
-        let at = self.layout().node(node);
+        let side = self.side_due(pass);
+        let at = self.layout().node(side.node);
         self.table.shared.store::<Open>(&mut pass.seat, at, 1);
-        pass.task = task;
-        node
+        pass.task = side.task;
+        side.node
     }
 
     /// Stores the value of the started leaf: that of its work, or the reply that its call got.
@@ -179,9 +170,7 @@ impl CoreTable {
             → view pass.new ≡ with_step (with_task event (next_task n)) (view pass.old) }
     {
         laws_hold();
-        let Some(Next::Finish { node, event: _ }) = self.next(pass) else {
-            unreachable!()
-        };
+        let node = self.finish_due(pass);
         let at = self.layout().node(node);
         let word = done_word(pass.worker, pass.task);
         self.table.shared.store::<Finish>(&mut pass.seat, at, word);
@@ -202,17 +191,7 @@ impl CoreTable {
             → view pass.new ≡ with_step (with_task (ArriveSecond p l r n) (Handed p)) (view pass.old) }
     {
         laws_hold();
-        let Some(
-            Next::Arrive {
-                parent,
-                left: _,
-                right: _,
-                side: _,
-            },
-        ) = self.next(pass)
-        else {
-            unreachable!()
-        };
+        let parent = self.arrival_due(pass);
         let at = self.layout().mark(parent);
         let second = self.table.shared.fetch_add::<Arrive>(&mut pass.seat, at, 1) != 0;
         pass.task = if second {

@@ -7,6 +7,7 @@
 #![tactic(auto)]
 
 mod close;
+mod due;
 mod gate;
 mod job;
 pub mod laws;

@@ -20,22 +20,22 @@ pub fetch_add-second-requires : goal.fetch_add-second-requires
 fetch_add-second-requires c =
     let self = c.args.self.now in let pass = c.args.pass.now in let job = job_of self.setting in let v = pass.seat.me.0 in
     let laws = c.laws_hold.ensures self.setting (few_nodes self.nodes job.plan.count self.key.1 self.few.2) self.acts.0 self.acts.1 in
-    let act = acts.Arrive c.in-Some-Arrive.parent c.in-Some-Arrive.field-0-1 c.in-Some-Arrive.field-0-2 c.in-Some-Arrive.field-0-3 in
-    let due : next_act job v.own.task v.own.call ≡ Some act = sym c.next.ensures.next ∙ (c.in-Some-Arrive.is ∙ ap Some c.in-Some-Arrive.field-0-is) in
+    let act = acts.Arrive c.arrival_due-parent.result c.arrival_due-parent.ensures.0 c.arrival_due-parent.ensures.1 c.arrival_due-parent.ensures.2 in
+    let due : next_act job v.own.task v.own.call ≡ Some act = c.arrival_due-parent.ensures.3 in
     let stands = next_stands job laws v.own.call v.own.task act c.requires.pass.5 due in
-    let below = block_in job.plan c.in-Some-Arrive.parent (ParNode c.in-Some-Arrive.field-0-1 c.in-Some-Arrive.field-0-2) laws.plan stands.1 in (
+    let below = block_in job.plan c.arrival_due-parent.result (ParNode c.arrival_due-parent.ensures.0 c.arrival_due-parent.ensures.1) laws.plan stands.1 in (
       c.requires.pass.0,
       omega (arith, self.sized.0, c.mark-at.ensures, c.layout.ensures.workers, c.layout.ensures.nodes, self.key.1, below),
       rw (self.key.0, c.mark-at.ensures, c.layout.ensures.workers, c.layout.ensures.nodes) (λ a b d e f. let x = (arrives job (room_of self.setting) laws _ _ v pass.seat.me.1 pass.worker pass.number.0 pass.number.1 c.requires.pass.2 c.requires.pass.4 c.requires.pass.9
-          _ c.in-Some-Arrive.parent c.in-Some-Arrive.field-0-1 c.in-Some-Arrive.field-0-2 c.in-Some-Arrive.field-0-3 (omega (arith, self.key.1)) c.requires.pass.5 due c.requires.free) a b d e f in (x.0, x.1, x.2, x.3.0, x.4)),
+          _ c.arrival_due-parent.result c.arrival_due-parent.ensures.0 c.arrival_due-parent.ensures.1 c.arrival_due-parent.ensures.2 (omega (arith, self.key.1)) c.requires.pass.5 due c.requires.free) a b d e f in (x.0, x.1, x.2, x.3.0, x.4)),
     )
 
 pub invariant_of-pass : goal.invariant_of-pass
 invariant_of-pass c =
     let self = c.args.self.now in let pass = c.args.pass.now in let job = job_of self.setting in let v = pass.seat.me.0 in
-    let act = acts.Arrive c.in-Some-Arrive.parent c.in-Some-Arrive.field-0-1 c.in-Some-Arrive.field-0-2 c.in-Some-Arrive.field-0-3 in
-    let due : next_act job v.own.task v.own.call ≡ Some act = sym c.next.ensures.next ∙ (c.in-Some-Arrive.is ∙ ap Some c.in-Some-Arrive.field-0-is) in
-    let told = c.fetch_add-second.ensures.2 c.in-Some-Arrive.parent c.in-Some-Arrive.field-0-1 c.in-Some-Arrive.field-0-2 c.in-Some-Arrive.field-0-3 (next_seen job v act c.requires.pass.9 c.requires.pass.2 due) in
+    let act = acts.Arrive c.arrival_due-parent.result c.arrival_due-parent.ensures.0 c.arrival_due-parent.ensures.1 c.arrival_due-parent.ensures.2 in
+    let due : next_act job v.own.task v.own.call ≡ Some act = c.arrival_due-parent.ensures.3 in
+    let told = c.fetch_add-second.ensures.2 c.arrival_due-parent.result c.arrival_due-parent.ensures.0 c.arrival_due-parent.ensures.1 c.arrival_due-parent.ensures.2 (next_seen job v act c.requires.pass.9 c.requires.pass.2 due) in
     elim c.if-second.branch [
       | then-second w ↦
           let is = told.1 (let one = w.if-second in grind (arith, nat_tests)) in record {
@@ -55,18 +55,18 @@ pub returns-clause-pass : goal.returns-clause-pass
 returns-clause-pass c =
     let self = c.args.self.now in let pass = c.args.pass.now in let job = job_of self.setting in let v = pass.seat.me.0 in
     let laws = c.laws_hold.ensures self.setting (few_nodes self.nodes job.plan.count self.key.1 self.few.2) self.acts.0 self.acts.1 in
-    let act = acts.Arrive c.in-Some-Arrive.parent c.in-Some-Arrive.field-0-1 c.in-Some-Arrive.field-0-2 c.in-Some-Arrive.field-0-3 in
-    let due : next_act job v.own.task v.own.call ≡ Some act = sym c.next.ensures.next ∙ (c.in-Some-Arrive.is ∙ ap Some c.in-Some-Arrive.field-0-is) in
+    let act = acts.Arrive c.arrival_due-parent.result c.arrival_due-parent.ensures.0 c.arrival_due-parent.ensures.1 c.arrival_due-parent.ensures.2 in
+    let due : next_act job v.own.task v.own.call ≡ Some act = c.arrival_due-parent.ensures.3 in
     let stands = next_stands job laws v.own.call v.own.task act c.requires.pass.5 due in
-    let told = c.fetch_add-second.ensures.2 c.in-Some-Arrive.parent c.in-Some-Arrive.field-0-1 c.in-Some-Arrive.field-0-2 c.in-Some-Arrive.field-0-3 (next_seen job v act c.requires.pass.9 c.requires.pass.2 due) in
+    let told = c.fetch_add-second.ensures.2 c.arrival_due-parent.result c.arrival_due-parent.ensures.0 c.arrival_due-parent.ensures.1 c.arrival_due-parent.ensures.2 (next_seen job v act c.requires.pass.9 c.requires.pass.2 due) in
     elim c.if-second.branch [
       | then-second w ↦
           let is = told.1 (let one = w.if-second in grind (arith, nat_tests)) in
-          pass_stepped self.setting _ pass.worker pass.seat c.fetch_add-second.new.seat (with_step (with_task (ArriveSecond c.in-Some-Arrive.parent c.in-Some-Arrive.field-0-1 c.in-Some-Arrive.field-0-2 c.in-Some-Arrive.field-0-3) (Handed c.in-Some-Arrive.parent)) v) c.fetch_add-second.ensures.0 is refl refl refl refl
-          (handed_here job laws c.in-Some-Arrive.parent c.in-Some-Arrive.field-0-1 c.in-Some-Arrive.field-0-2 stands.1) refl refl refl c.requires.pass
+          pass_stepped self.setting _ pass.worker pass.seat c.fetch_add-second.new.seat (with_step (with_task (ArriveSecond c.arrival_due-parent.result c.arrival_due-parent.ensures.0 c.arrival_due-parent.ensures.1 c.arrival_due-parent.ensures.2) (Handed c.arrival_due-parent.result)) v) c.fetch_add-second.ensures.0 is refl refl refl refl
+          (handed_here job laws c.arrival_due-parent.result c.arrival_due-parent.ensures.0 c.arrival_due-parent.ensures.1 stands.1) refl refl refl c.requires.pass
       | else-second w ↦
           let is = told.0 (let zero = w.if-second in grind (arith, nat_tests)) in
-          pass_stepped self.setting _ pass.worker pass.seat c.fetch_add-second.new.seat (with_step (with_task (ArriveFirst c.in-Some-Arrive.parent c.in-Some-Arrive.field-0-1 c.in-Some-Arrive.field-0-2 c.in-Some-Arrive.field-0-3) Idle) v) c.fetch_add-second.ensures.0 is refl refl refl refl tt refl refl refl c.requires.pass
+          pass_stepped self.setting _ pass.worker pass.seat c.fetch_add-second.new.seat (with_step (with_task (ArriveFirst c.arrival_due-parent.result c.arrival_due-parent.ensures.0 c.arrival_due-parent.ensures.1 c.arrival_due-parent.ensures.2) Idle) v) c.fetch_add-second.ensures.0 is refl refl refl refl tt refl refl refl c.requires.pass
     ]
 
 pub returns-clause-first : goal.returns-clause-first

@@ -26,22 +26,22 @@ pub store-requires : goal.store-requires
 store-requires c =
     let self = c.args.self.now in let pass = c.args.pass.now in let job = job_of self.setting in let v = pass.seat.me.0 in
     let laws = c.laws_hold.ensures self.setting (few_nodes self.nodes job.plan.count self.key.1 self.few.2) self.acts.0 self.acts.1 in
-    let act = acts.Finish c.in-Some-Finish.node c.in-Some-Finish.field-0-1 in
-    let due : next_act job v.own.task v.own.call ≡ Some act = sym c.next.ensures.next ∙ (c.in-Some-Finish.is ∙ ap Some c.in-Some-Finish.field-0-is) in
+    let act = acts.Finish c.finish_due-node.result c.finish_due-node.ensures.0 in
+    let due : next_act job v.own.task v.own.call ≡ Some act = c.finish_due-node.ensures.1 in
     let stands = next_stands job laws v.own.call v.own.task act c.requires.pass.5 due in let below = stands.below in
     let word : c.done_word-word.result ≡ progress_code (progress_after pass.worker v.own.task) = c.done_word-word.ensures ∙ ap (λ (t : Task). progress_code (progress_after pass.worker t)) (sym pass.own.0) in (
       c.requires.pass.0,
       omega (arith, self.sized.0, c.node-at.ensures, c.layout.ensures.workers, self.key.1, below),
       rw (self.key.0, c.node-at.ensures, c.layout.ensures.workers, word) (λ a b d e f. let x = (finishes job (room_of self.setting) laws _ _ v pass.seat.me.1 pass.worker pass.number.0 pass.number.1 c.requires.pass.2 c.requires.pass.4 c.requires.pass.9
-          c.in-Some-Finish.node c.in-Some-Finish.field-0-1 c.requires.pass.5 due c.requires.free) a b d e f in (x.0, x.1, x.2, x.3.0, x.4)),
+          c.finish_due-node.result c.finish_due-node.ensures.0 c.requires.pass.5 due c.requires.free) a b d e f in (x.0, x.1, x.2, x.3.0, x.4)),
     )
 
 pub invariant_of-pass : goal.invariant_of-pass
 invariant_of-pass c =
     let self = c.args.self.now in let pass = c.args.pass.now in let job = job_of self.setting in let v = pass.seat.me.0 in
-    let act = acts.Finish c.in-Some-Finish.node c.in-Some-Finish.field-0-1 in
-    let due : next_act job v.own.task v.own.call ≡ Some act = sym c.next.ensures.next ∙ (c.in-Some-Finish.is ∙ ap Some c.in-Some-Finish.field-0-is) in
-    let is = c.store.ensures.2 c.in-Some-Finish.node c.in-Some-Finish.field-0-1 (next_seen job v act c.requires.pass.9 c.requires.pass.2 due) in record {
+    let act = acts.Finish c.finish_due-node.result c.finish_due-node.ensures.0 in
+    let due : next_act job v.own.task v.own.call ≡ Some act = c.finish_due-node.ensures.1 in
+    let is = c.store.ensures.2 c.finish_due-node.result c.finish_due-node.ensures.0 (next_seen job v act c.requires.pass.9 c.requires.pass.2 due) in record {
       number = (ap (λ (m : SeatState). m.0.own.worker) is ∙ pass.number.0, ap (λ (m : SeatState). m.0.to) is ∙ pass.number.1);
       own = (ap (λ (m : SeatState). m.0.own.task) is ∙ sym c.task_after-pass.ensures, ap (λ (m : SeatState). m.0.own.call) is ∙ pass.own.1);
       room = pass.room;
@@ -51,11 +51,11 @@ pub returns-clause-pass : goal.returns-clause-pass
 returns-clause-pass c =
     let self = c.args.self.now in let pass = c.args.pass.now in let job = job_of self.setting in let v = pass.seat.me.0 in
     let laws = c.laws_hold.ensures self.setting (few_nodes self.nodes job.plan.count self.key.1 self.few.2) self.acts.0 self.acts.1 in
-    let act = acts.Finish c.in-Some-Finish.node c.in-Some-Finish.field-0-1 in
-    let due : next_act job v.own.task v.own.call ≡ Some act = sym c.next.ensures.next ∙ (c.in-Some-Finish.is ∙ ap Some c.in-Some-Finish.field-0-is) in
+    let act = acts.Finish c.finish_due-node.result c.finish_due-node.ensures.0 in
+    let due : next_act job v.own.task v.own.call ≡ Some act = c.finish_due-node.ensures.1 in
     let stands = next_stands job laws v.own.call v.own.task act c.requires.pass.5 due in
-    let is = c.store.ensures.2 c.in-Some-Finish.node c.in-Some-Finish.field-0-1 (next_seen job v act c.requires.pass.9 c.requires.pass.2 due) in
-    pass_stepped self.setting _ pass.worker pass.seat c.store.new.seat (with_step (with_task c.in-Some-Finish.field-0-1 (task_after c.in-Some-Finish.node)) v) c.store.ensures.0 is refl refl refl refl (after_here job c.in-Some-Finish.node stands.below) refl refl refl c.requires.pass
+    let is = c.store.ensures.2 c.finish_due-node.result c.finish_due-node.ensures.0 (next_seen job v act c.requires.pass.9 c.requires.pass.2 due) in
+    pass_stepped self.setting _ pass.worker pass.seat c.store.new.seat (with_step (with_task c.finish_due-node.ensures.0 (task_after c.finish_due-node.result)) v) c.store.ensures.0 is refl refl refl refl (after_here job c.finish_due-node.result stands.below) refl refl refl c.requires.pass
 
 pub returns-clause-finished : goal.returns-clause-finished
 returns-clause-finished c n event at =

@@ -1,0 +1,133 @@
+//! Where the act that is due takes place, from the pass's task and the plan. The act's event is not built.
+ghost use Rattle.std.specs.Prelude.{◌≡◌, ℕ, Some};
+ghost use Rattle.core_model.specs.Next.{act_of_run, act_of_half, act_of_second};
+ghost use Rattle.core_model.specs.declared.next.Next.TheVariants as acts;
+ghost use Rattle.table_rule.specs.CoreWords.{Event};
+ghost use Rattle.table_rule.specs.DueActs.{IsOpenDue, IsFinishDue, IsArriveDue};
+ghost use Rattle.core_table.specs.Passes.{IsPassOf, next_in, pass_view};
+
+use crate::table::{CoreTable, Pass};
+use core_model::Task;
+use sp_order::node::{Kind, Move};
+use table_rule::laws::laws_hold;
+
+/// A side of a block that is to open, and the task that the pass has after that.
+#[derive(Clone, Copy)]
+pub(crate) struct Side {
+    pub(crate) node: u32,
+    pub(crate) task: Task,
+}
+
+/// The side that opens first: the right one of a parallel block, the left one of a series.
+#[inline(always)]
+fn first_side(kind: Kind, node: u32) -> Side
+    requires due { IsOpenDue (act_of_run (Some kind) node) }
+    ensures { (event : Event) × (act_of_run (Some kind) node ≡ Some (acts.Open result.node result.task event)) }
+{
+    match kind {
+        Kind::ParNode(_left, right) => Side {
+            node: right,
+            task: Task::Half(node),
+        },
+        Kind::SeqNode(left, _right) => Side {
+            node: left,
+            task: Task::Idle,
+        },
+        Kind::LeafNode(_leaf) => unreachable!(),
+    }
+}
+
+/// The left side of a parallel block.
+#[inline(always)]
+fn left_side(kind: Kind, parent: u32) -> Side
+    requires due { IsOpenDue (act_of_half (Some kind) parent) }
+    ensures { (event : Event) × (act_of_half (Some kind) parent ≡ Some (acts.Open result.node result.task event)) }
+{
+    let Kind::ParNode(left, _right) = kind else {
+        unreachable!()
+    };
+    Side {
+        node: left,
+        task: Task::Idle,
+    }
+}
+
+/// The right side of a series.
+#[inline(always)]
+fn right_side(kind: Kind, parent: u32) -> Side
+    requires due { IsOpenDue (act_of_second (Some kind) parent) }
+    ensures { (event : Event) × (act_of_second (Some kind) parent ≡ Some (acts.Open result.node result.task event)) }
+{
+    let Kind::SeqNode(_left, right) = kind else {
+        unreachable!()
+    };
+    Side {
+        node: right,
+        task: Task::Idle,
+    }
+}
+
+impl CoreTable {
+    /// The side that the pass opens next. Memory: none.
+    #[inline(always)]
+    pub(crate) fn side_due(&self, pass: &Pass) -> Side
+        requires pass { IsPassOf self.now pass.now }
+        requires due { IsOpenDue (next_in self.now (pass_view pass.now)) }
+        ensures { (event : Event) × (next_in self.now (pass_view pass.now)
+            ≡ Some (acts.Open result.node result.task event)) }
+    {
+        laws_hold();
+        match pass.task {
+            Task::Run(node) => first_side(self.setting.job.kind(node), node),
+            Task::Half(parent) => left_side(self.setting.job.kind(parent), parent),
+            Task::Whole(node) => {
+                let Move::OpenSecond(parent) = self.setting.job.after(node) else {
+                    unreachable!()
+                };
+                right_side(self.setting.job.kind(parent), parent)
+            }
+            _ => unreachable!(),
+        }
+    }
+
+    /// The node that the pass marks as done next. Memory: none.
+    #[inline(always)]
+    pub(crate) fn finish_due(&self, pass: &Pass) -> u32
+        requires pass { IsPassOf self.now pass.now }
+        requires due { IsFinishDue (next_in self.now (pass_view pass.now)) }
+        ensures { (event : Event) × (next_in self.now (pass_view pass.now) ≡ Some (acts.Finish result event)) }
+    {
+        match pass.task {
+            Task::Ended {
+                node,
+                start: _,
+                end: _,
+            } => node,
+            Task::Handed(parent) => parent,
+            Task::Whole(node) => {
+                let Move::FinishParent(parent) = self.setting.job.after(node) else {
+                    unreachable!()
+                };
+                parent
+            }
+            _ => unreachable!(),
+        }
+    }
+
+    /// The parallel block at which the pass arrives next. Memory: none.
+    #[inline(always)]
+    pub(crate) fn arrival_due(&self, pass: &Pass) -> u32
+        requires pass { IsPassOf self.now pass.now }
+        requires due { IsArriveDue (next_in self.now (pass_view pass.now)) }
+        ensures { (left : ℕ) × (right : ℕ) × (side : ℕ) × (next_in self.now (pass_view pass.now)
+            ≡ Some (acts.Arrive result left right side)) }
+    {
+        let Task::Whole(node) = pass.task else {
+            unreachable!()
+        };
+        let Move::Arrive(parent) = self.setting.job.after(node) else {
+            unreachable!()
+        };
+        parent
+    }
+}

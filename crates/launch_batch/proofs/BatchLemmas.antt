@@ -2,5 +2,5 @@ pub mod Serial
 pub mod Histories
 pub mod Beginning
 pub mod Ending
-pub mod Halves
+pub mod Phases
 pub mod Closing

@@ -12,12 +12,12 @@ use Rattle.batch_history.specs.declared.batch.Entry.{Entry}
 use Rattle.launch_batch.specs.declared.opened.Opened.{Opened}
 use Rattle.launch_batch.specs.declared.piece.PieceIn.{PieceIn}
 use Rattle.launch_batch.specs.Calls.{MayServe, AreSame}
-use Rattle.launch_batch.specs.Contents.{IsKept, IsNarrow}
-use Rattle.launch_batch.specs.Halves.{IsHalfContextOf}
+use Rattle.launch_batch.specs.Contents.{MatchesHistory, IsNarrow}
+use Rattle.launch_batch.specs.Phases.{IsPhaseContextOf}
 use Rattle.launch_batch.specs.ByStructure.{counter_pieces, stack_pieces, tree_pieces, queue_pieces}
 
 -- The opened batch has the history before it, and the calls in batch order; the calls may be served. The structures had
--- the contents of that history, and each was opened with its own calls, or stayed whole without any.
+-- the contents of that history, and each was opened with its own calls, or stayed closed without any.
 pub record IsContextOf (opened : Opened) (o : BatchContext (List (List Entry)) PieceIn) : Type 0 where
   pub book : opened.history ≡ o.before
   pub may : MayServe o.before o.calls
@@ -28,12 +28,12 @@ pub record IsContextOf (opened : Opened) (o : BatchContext (List (List Entry)) P
   pub view : StackView
   pub keys : List ℕ
   pub bag : List ℕ
-  pub kept : IsKept number view keys bag o.before
-  pub counter : IsHalfContextOf IsCounterContext opened.structures.value.counter
+  pub kept : MatchesHistory number view keys bag o.before
+  pub counter : IsPhaseContextOf IsCounterContext opened.structures.value.counter
       (record { before = number; calls = calls_of Counter opened.calls.items; ins = counter_pieces o.ins })
-  pub stack : IsHalfContextOf IsStackContext opened.structures.value.stack
+  pub stack : IsPhaseContextOf IsStackContext opened.structures.value.stack
       (record { before = view; calls = calls_of Stack opened.calls.items; ins = stack_pieces o.ins })
-  pub tree : IsHalfContextOf IsTreeContext opened.structures.value.tree
+  pub tree : IsPhaseContextOf IsTreeContext opened.structures.value.tree
       (record { before = keys; calls = calls_of Tree opened.calls.items; ins = tree_pieces o.ins })
-  pub queue : IsHalfContextOf IsQueueContext opened.structures.value.queue
+  pub queue : IsPhaseContextOf IsQueueContext opened.structures.value.queue
       (record { before = bag; calls = calls_of Queue opened.calls.items; ins = queue_pieces o.ins })

@@ -3,7 +3,7 @@ ghost use Rattle.std.specs.Prelude.{◌≡◌, IfOk};
 ghost use Rattle.batch_history.specs.Serving.{calls_in, replies_in};
 ghost use Rattle.launch_batch.specs.Code.Merging.{merged_replies};
 
-use crate::merge::Remaining;
+use crate::merge::ReplyCursors;
 use batch_history::Entry;
 use seq_objects::{Call, Reply};
 use std::alloc::{AllocError, Global};
@@ -12,7 +12,7 @@ use std::alloc::{AllocError, Global};
 pub(crate) fn entries_of(
     alloc: Global,
     calls: &[Call],
-    mut remaining: Remaining,
+    mut remaining: ReplyCursors,
 ) -> Result<Vec<Entry>, AllocError>
     ensures calls { IfOk result (λ v. calls_in v.items ≡ calls.now) }
     ensures replies { IfOk result (λ v. replies_in v.items ≡ merged_replies calls.now remaining) }

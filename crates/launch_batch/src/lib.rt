@@ -8,23 +8,23 @@
 //! structures, and builds on `batch_history`.
 #![tactic(auto)]
 
-mod deal;
+mod by_structure;
+mod commit;
 mod entries;
-mod finish;
-pub mod half;
 pub mod laws;
 mod merge;
 pub mod opened;
 mod order;
 mod outs;
+pub mod phase;
 pub mod piece;
 mod pieces;
 mod serving;
 pub mod shop;
 pub mod structures;
 
-pub use half::Half;
 pub use opened::Opened;
+pub use phase::Phase;
 pub use piece::{PieceIn, PieceOut, run_piece};
 pub use serving::serve;
 pub use shop::Shop;

@@ -8,12 +8,12 @@ use std::marker::Model;
 
 /// A structure's replies from `at` on, which no call has yet. Contracts see them as a list.
 #[derive(Drop)]
-pub(crate) struct Replies {
+pub(crate) struct ReplyCursor {
     all: Vec<Reply>,
     at: usize,
 }
 
-impl Model for Replies {
+impl Model for ReplyCursor {
     ghost use Rattle.std.specs.Prelude.{List, drop};
     ghost use Rattle.seq_objects.specs.declared.reply.Reply.{Reply};
 
@@ -22,11 +22,11 @@ impl Model for Replies {
     ghost view = { λ r. drop r.at r.all.items };
 }
 
-impl Replies {
-    pub(crate) fn new(all: Vec<Reply>) -> Replies
+impl ReplyCursor {
+    pub(crate) fn new(all: Vec<Reply>) -> ReplyCursor
         ensures { result ≡ all.items }
     {
-        Replies { all, at: 0 }
+        ReplyCursor { all, at: 0 }
     }
 
     fn next(&mut self) -> Option<Reply>
@@ -45,14 +45,14 @@ impl Replies {
 
 /// The remaining replies of each structure.
 #[derive(Drop)]
-pub(crate) struct Remaining {
-    pub(crate) counter: Replies,
-    pub(crate) stack: Replies,
-    pub(crate) tree: Replies,
-    pub(crate) queue: Replies,
+pub(crate) struct ReplyCursors {
+    pub(crate) counter: ReplyCursor,
+    pub(crate) stack: ReplyCursor,
+    pub(crate) tree: ReplyCursor,
+    pub(crate) queue: ReplyCursor,
 }
 
-impl Remaining {
+impl ReplyCursors {
     /// Takes the next reply of the structure that the operation belongs to.
     pub(crate) fn next(&mut self, op: Op) -> Option<Reply>
         ensures reply { result ≡ slice_get (left_of (object_of op) self.old) 0 }

@@ -8,10 +8,10 @@ ghost use Rattle.launch_batch.specs.Calls.{IsServiceOf};
 ghost use Rattle.launch_batch.specs.Contexts.{IsContextOf};
 ghost use Rattle.launch_batch.specs.Code.Outs.{HaveMet};
 
-use crate::finish::{finish, last_batch};
-use crate::half::close;
-use crate::merge::{Remaining, Replies};
+use crate::commit::{commit, last_batch};
+use crate::merge::{ReplyCursor, ReplyCursors};
 use crate::outs::{Outs, outs_of};
+use crate::phase::close;
 use crate::piece::PieceOut;
 use crate::shop::Shop;
 use crate::structures::Structures;
@@ -48,13 +48,13 @@ impl Opened {
         let stack = close(alloc, &mut inner.stack, outs.stack)?;
         let tree = close(alloc, &mut inner.tree, outs.tree)?;
         let queue = close(alloc, &mut inner.queue, outs.queue)?;
-        let replies = Remaining {
-            counter: Replies::new(counter),
-            stack: Replies::new(stack),
-            tree: Replies::new(tree),
-            queue: Replies::new(queue),
+        let replies = ReplyCursors {
+            counter: ReplyCursor::new(counter),
+            stack: ReplyCursor::new(stack),
+            tree: ReplyCursor::new(tree),
+            queue: ReplyCursor::new(queue),
         };
-        let shop = finish(alloc, structures, history, &calls, replies)?;
+        let shop = commit(alloc, structures, history, &calls, replies)?;
         Ok(shop)
     }
 

@@ -10,10 +10,10 @@ ghost use Rattle.launch_batch.specs.Pieces.{place_of};
 ghost use Rattle.launch_batch.specs.Places.{places, IsInOwnRow};
 ghost use Rattle.launch_batch.specs.Contexts.{IsContextOf};
 
-use crate::deal::Structure;
-use crate::half::{Half, open_own};
+use crate::by_structure::Structure;
 use crate::opened::Opened;
 use crate::order::in_batch_order;
+use crate::phase::{Phase, open_own};
 use crate::piece::PieceIn;
 use crate::pieces::pieces_of;
 use crate::structures::Structures;
@@ -36,13 +36,13 @@ pub struct Shop {
 impl Model for Shop {
     ghost use Rattle.std.specs.Prelude.{List};
     ghost use Rattle.batch_history.specs.declared.batch.Entry.{Entry};
-    ghost use Rattle.launch_batch.specs.Contents.{AreKept};
+    ghost use Rattle.launch_batch.specs.Contents.{ShopInvariant};
 
     ghost Value = { List (List Entry) };
 
     ghost view = { λ s. s.history };
 
-    ghost invariant = { λ s. AreKept s.structures.value s.history };
+    ghost invariant = { λ s. ShopInvariant s.structures.value s.history };
 }
 
 impl Shop {
@@ -51,10 +51,10 @@ impl Shop {
         ensures { IfOk result (λ s. s ≡ []) }
     {
         let structures = Structures {
-            counter: Half::Whole(Counter::new(alloc)?),
-            stack: Half::Whole(Stack::new(alloc)?),
-            tree: Half::Whole(TreeSet::new(alloc)?),
-            queue: Half::Whole(Queue::new(alloc)?),
+            counter: Phase::Closed(Counter::new(alloc)?),
+            stack: Phase::Closed(Stack::new(alloc)?),
+            tree: Phase::Closed(TreeSet::new(alloc)?),
+            queue: Phase::Closed(Queue::new(alloc)?),
         };
         Ok(Shop {
             structures: Box::new(alloc, structures)?,

@@ -4,7 +4,7 @@ use Rattle.launch_batch.proofs.Words.{AllByRecursion, Call, AreDistinct, Counter
 use Rattle.seq_objects.proofs.Filters.{each_filter, are_of}
 use Rattle.batched_counter.specs.Calls.{MayServe as MayAdd}
 use Rattle.launch_batch.proofs.ListLemmas.Same.{each_same, distinct_same, length_same}
-use Rattle.launch_batch.proofs.MergeLemmas.Dealing.{few_own, all_dealt}
+use Rattle.launch_batch.proofs.MergeLemmas.Dealing.{few_own, all_by_object}
 use Rattle.launch_batch.proofs.BatchLemmas.Serial.{total_small}
 
 pub some_same : (calls ordered : List Call) → AreSame calls ordered → 0 < length calls → 0 < length ordered
@@ -34,9 +34,9 @@ may_add book calls ordered number may same narrow room = record {
 }
 
 -- some object has a call
-pub some_dealt : (calls ordered : List Call) → AreSame calls ordered → 0 < length calls
+pub some_by_object : (calls ordered : List Call) → AreSame calls ordered → 0 < length calls
     → 0 < length (calls_of Counter ordered) + length (calls_of Stack ordered) + length (calls_of Tree ordered) + length (calls_of Queue ordered)
-some_dealt calls ordered same some =
+some_by_object calls ordered same some =
     let n = some_same calls ordered same some in
-    let all = all_dealt ordered in
+    let all = all_by_object ordered in
     omega (arith, n, all)

@@ -3,10 +3,10 @@ use Rattle.std.proofs.Common.{ℕ, ◌≡◌, List, [], ◌∷◌, ◌++◌, len
 use Rattle.launch_batch.proofs.Words.{AllByRecursion, Call, Objects, opening, Object, Counter, Stack, Tree, Queue, AreInBatchOrder, object_of, same_object, calls_of, after_all, replies_to_all, alone, of_counter, StackView, Entry, flat, IsHistory, served, served_book, calls_in, replies_in, AreSame, IsServiceOf, contents, IsNarrow, left_of, merged_replies}
 use Rattle.seq_objects.proofs.Filters.{each_filter}
 use Rattle.seq_objects.proofs.Apart.{each_content}
-use Rattle.launch_batch.specs.declared.merge.Remaining.{Remaining}
+use Rattle.launch_batch.specs.declared.merge.ReplyCursors.{ReplyCursors}
 use Rattle.launch_batch.specs.declared.structures.Structures.{Structures}
-use Rattle.launch_batch.specs.Contents.{AreKept}
-use Rattle.launch_batch.specs.Code.Finishing.{HaveServed}
+use Rattle.launch_batch.specs.Contents.{ShopInvariant}
+use Rattle.launch_batch.specs.Code.Committing.{HaveServed}
 use Rattle.launch_batch.proofs.MergeLemmas.Dealing.{few_own}
 use Rattle.launch_batch.proofs.MergeLemmas.Merging.{merged_serial}
 use Rattle.launch_batch.proofs.BatchLemmas.Serial.{legal_is, served_is, counter_most}
@@ -16,7 +16,7 @@ same_contents : (n n' : ℕ) (v : StackView) (items k k' b b' : List ℕ) → n 
     → contents n v k b ≡ record { counter = n'; stack = items; set = k'; bag = b' }
 same_contents n n' v items k k' b b' i j l m = rw (i, j, l, m) refl
 
-module _ (structures : Structures) (book : List (List Entry)) (ordered : List Call) (replies : Remaining) (given : List Call) (r : HaveServed structures book ordered replies given) where
+module _ (structures : Structures) (book : List (List Entry)) (ordered : List Call) (replies : ReplyCursors) (given : List Call) (r : HaveServed structures book ordered replies given) where
   abbrev before : Objects
   before = contents r.number r.view r.keys r.bag
 
@@ -50,7 +50,7 @@ module _ (structures : Structures) (book : List (List Entry)) (ordered : List Ca
         ∙ ap (λ p. after_all p ordered) (sym r.kept.contents)
 
     -- and the structures have the contents that it gives
-    pub kept : AreKept structures (book ++ entries ∷ [])
+    pub kept : ShopInvariant structures (book ++ entries ∷ [])
     kept =
         let counted : r.counter.now ≡ (after_all (of_counter r.number) (calls_of Counter ordered)).counter = ap (λ (p : Objects). p.counter) r.counter.after in
         record {
@@ -58,10 +58,10 @@ module _ (structures : Structures) (book : List (List Entry)) (ordered : List Ca
           view = r.stack.now;
           keys = r.tree.now;
           bag = r.queue.now;
-          counter = r.counter.whole;
-          stack = r.stack.whole;
-          tree = r.tree.whole;
-          queue = r.queue.whole;
+          counter = r.counter.closed;
+          stack = r.stack.closed;
+          tree = r.tree.closed;
+          queue = r.queue.closed;
           kept = record {
             contents = same_contents r.counter.now _ r.stack.now _ r.tree.now _ r.queue.now _ counted (ap (λ (p : Objects). p.stack) r.stack.after) (ap (λ (p : Objects). p.set) r.tree.after) (ap (λ (p : Objects). p.bag) r.queue.after)
                 ∙ sym (each_content before ordered)

@@ -11,9 +11,9 @@ few_own object (call ∷ calls) = step (same_object object (object_of call.op)) 
   step false rest = omega (arith, rest)
 
 -- each call belongs to one of the four objects
-pub all_dealt : (calls : List Call) → length calls ≡ length (calls_of Counter calls) + length (calls_of Stack calls) + length (calls_of Tree calls) + length (calls_of Queue calls)
-all_dealt [] = refl
-all_dealt (call ∷ calls) = step (object_of call.op) (all_dealt calls) where
+pub all_by_object : (calls : List Call) → length calls ≡ length (calls_of Counter calls) + length (calls_of Stack calls) + length (calls_of Tree calls) + length (calls_of Queue calls)
+all_by_object [] = refl
+all_by_object (call ∷ calls) = step (object_of call.op) (all_by_object calls) where
   step : (o : Object) → length calls ≡ length (calls_of Counter calls) + length (calls_of Stack calls) + length (calls_of Tree calls) + length (calls_of Queue calls)
       → length (call ∷ calls) ≡ length (cond (same_object Counter o) (call ∷ calls_of Counter calls) (calls_of Counter calls)) + length (cond (same_object Stack o) (call ∷ calls_of Stack calls) (calls_of Stack calls))
       + length (cond (same_object Tree o) (call ∷ calls_of Tree calls) (calls_of Tree calls)) + length (cond (same_object Queue o) (call ∷ calls_of Queue calls) (calls_of Queue calls))

@@ -4,18 +4,18 @@ use Rattle.launch_batch.proofs.Words.{Call, Reply, Objects, after, Object, Count
 use Rattle.seq_objects.specs.declared.reply.Reply.TheVariants.{Empty}
 use Rattle.seq_objects.proofs.Filters.{same_is}
 use Rattle.seq_objects.proofs.Apart.{own_replies, same_replies}
-use Rattle.launch_batch.specs.declared.merge.Remaining.{Remaining}
+use Rattle.launch_batch.specs.declared.merge.ReplyCursors.{ReplyCursors}
 
-pub length_merged : (calls : List Call) (remaining : Remaining) → length (merged_replies calls remaining) ≡ length calls
+pub length_merged : (calls : List Call) (remaining : ReplyCursors) → length (merged_replies calls remaining) ≡ length calls
 length_merged [] remaining = refl
 length_merged (call ∷ calls) remaining = omega (arith, length_merged calls (without_first (object_of call.op) remaining))
 
 -- the remaining replies of an object, and of the others
-own_left : (object : Object) (remaining : Remaining) → left_of object (without_first object remaining) ≡ drop 1 (left_of object remaining)
+own_left : (object : Object) (remaining : ReplyCursors) → left_of object (without_first object remaining) ≡ drop 1 (left_of object remaining)
 own_left Counter remaining = refl
 own_left _ remaining = refl
 
-other_left : (object other : Object) (remaining : Remaining) → same_object object other ≡ false → left_of object (without_first other remaining) ≡ left_of object remaining
+other_left : (object other : Object) (remaining : ReplyCursors) → same_object object other ≡ false → left_of object (without_first other remaining) ≡ left_of object remaining
 other_left Counter Counter remaining differ = absurd cc
 other_left Stack Stack remaining differ = absurd cc
 other_left Tree Tree remaining differ = absurd cc
@@ -35,14 +35,14 @@ fewer (reply ∷ replies) n is = omega (arith, is)
 
 module _ (object : Object) where
   -- an object has as many remaining replies as remaining calls, so each of its calls gets its own reply
-  pub merged_are : (calls : List Call) (remaining : Remaining) → length (left_of object remaining) ≡ length (calls_of object calls)
+  pub merged_are : (calls : List Call) (remaining : ReplyCursors) → length (left_of object remaining) ≡ length (calls_of object calls)
       → replies_of object calls (merged_replies calls remaining) ≡ left_of object remaining
   merged_are [] remaining count = none (left_of object remaining) count where
     none : (replies : List Reply) → length replies ≡ 0 → [] ≡ replies
     none [] is = refl
     none (reply ∷ replies) is = absurd (omega (arith, is))
   merged_are (call ∷ calls) remaining count = step (same_object object (object_of call.op)) refl count (merged_are calls (without_first (object_of call.op) remaining)) where
-    next : Remaining
+    next : ReplyCursors
     next = without_first (object_of call.op) remaining
 
     rest : List Reply
@@ -65,7 +65,7 @@ length_replies objects [] = refl
 length_replies objects (call ∷ calls) = omega (arith, length_replies (after objects call.op) calls)
 
 -- if each object's replies are those to its own calls alone, the merged replies are the serial ones
-pub merged_serial : (objects : Objects) (calls : List Call) (remaining : Remaining) → ((object : Object) → left_of object remaining ≡ replies_to_all (alone object objects) (calls_of object calls))
+pub merged_serial : (objects : Objects) (calls : List Call) (remaining : ReplyCursors) → ((object : Object) → left_of object remaining ≡ replies_to_all (alone object objects) (calls_of object calls))
     → merged_replies calls remaining ≡ replies_to_all objects calls
 merged_serial objects calls remaining are =
     same_replies calls (merged_replies calls remaining) (replies_to_all objects calls) (length_merged calls remaining) (length_replies objects calls)

@@ -1,7 +1,7 @@
 -- The places of the pieces are those of the batch.
 use Rattle.std.proofs.Common.{◌≡◌, ℕ, List, [], ◌∷◌, ◌++◌, length, refl, ap, ◌∙◌}
 use Rattle.std.specs.List.{range_with_len}
-use Rattle.launch_batch.proofs.Words.{Call, Objects, Counter, Stack, Tree, Queue, calls_of, of_counter, of_stack, of_set, of_bag, CounterPiece, StackPiece, StackView, TreePiece, QueuePiece, Entry, IsKept, contents}
+use Rattle.launch_batch.proofs.Words.{Call, Objects, Counter, Stack, Tree, Queue, calls_of, of_counter, of_stack, of_set, of_bag, CounterPiece, StackPiece, StackView, TreePiece, QueuePiece, Entry, MatchesHistory, contents}
 use Rattle.batched_counter.specs.Pieces.{Cut as CounterCut, piece_count as counter_count}
 use Rattle.batched_counter.proofs.PieceCount.{pieces_counted as counter_counted}
 use Rattle.batched_stack.specs.Pieces.{Cut as StackCut, piece_count as stack_count}
@@ -11,7 +11,7 @@ use Rattle.batched_tree.proofs.PieceCount.{pieces_counted as tree_counted}
 use Rattle.batched_pq.specs.Pieces.{Cut as QueueCut, piece_count as queue_count}
 use Rattle.batched_pq.proofs.PieceCount.{pieces_counted as queue_counted}
 use Rattle.launch_batch.specs.Places.{row, places}
-use Rattle.launch_batch.specs.Halves.{IsCutIfCalled}
+use Rattle.launch_batch.specs.Phases.{IsCutIfCalled}
 use Rattle.launch_batch.specs.Code.Rows.{four_rows}
 
 -- the pieces of one structure
@@ -30,7 +30,7 @@ places_by objects calls =
     ++ row 48 (calls_of Queue calls) (queue_count objects (calls_of Queue calls))
 
 pub rows_are : (book : List (List Entry)) (ordered : List Call) (number : ℕ) (view : StackView) (keys bag : List ℕ)
-    (counter : List CounterPiece) (stack : List StackPiece) (tree : List TreePiece) (queue : List QueuePiece) → IsKept number view keys bag book
+    (counter : List CounterPiece) (stack : List StackPiece) (tree : List TreePiece) (queue : List QueuePiece) → MatchesHistory number view keys bag book
     → IsCutIfCalled CounterCut (of_counter number) (calls_of Counter ordered) counter → IsCutIfCalled StackCut (of_stack view.items) (calls_of Stack ordered) stack
     → IsCutIfCalled TreeCut (of_set keys) (calls_of Tree ordered) tree → IsCutIfCalled QueueCut (of_bag bag) (calls_of Queue ordered) queue
     → four_rows (length counter) (length stack) (length tree) (length queue) ≡ places book ordered

@@ -4,9 +4,9 @@ use Rattle.seq_objects.specs.declared.call.Call.{Call}
 use Rattle.seq_objects.specs.declared.reply.Reply.{Reply}
 use Rattle.seq_objects.specs.declared.reply.Reply.TheVariants.{Empty}
 use Rattle.seq_objects.specs.Batches.{Object, Counter, Stack, Tree, Queue, object_of}
-use Rattle.launch_batch.specs.declared.deal.Structure.{Structure}
-use Rattle.launch_batch.specs.declared.deal.Structure.TheVariants as structure
-use Rattle.launch_batch.specs.declared.merge.Remaining.{Remaining}
+use Rattle.launch_batch.specs.declared.by_structure.Structure.{Structure}
+use Rattle.launch_batch.specs.declared.by_structure.Structure.TheVariants as structure
+use Rattle.launch_batch.specs.declared.merge.ReplyCursors.{ReplyCursors}
 
 -- the object that a structure implements
 abbrev pub object_served : Structure → Object
@@ -16,21 +16,21 @@ object_served structure.Tree = Tree
 object_served structure.Queue = Queue
 
 -- the remaining replies of one object
-abbrev pub left_of : Object → Remaining → List Reply
+abbrev pub left_of : Object → ReplyCursors → List Reply
 left_of Counter remaining = remaining.counter
 left_of Stack remaining = remaining.stack
 left_of Tree remaining = remaining.tree
 left_of Queue remaining = remaining.queue
 
 -- the remaining replies, without the first of one object's
-abbrev pub without_first : Object → Remaining → Remaining
+abbrev pub without_first : Object → ReplyCursors → ReplyCursors
 without_first Counter remaining = record remaining { counter = drop 1 remaining.counter }
 without_first Stack remaining = record remaining { stack = drop 1 remaining.stack }
 without_first Tree remaining = record remaining { tree = drop 1 remaining.tree }
 without_first Queue remaining = record remaining { queue = drop 1 remaining.queue }
 
 -- each call takes the next reply of its object; `Empty` if none is left
-abbrev pub merged_replies : List Call → Remaining → List Reply
+abbrev pub merged_replies : List Call → ReplyCursors → List Reply
 merged_replies [] remaining = []
 merged_replies (call ∷ calls) remaining =
     slice_index_or (left_of (object_of call.op) remaining) 0 Empty

@@ -28,8 +28,8 @@ close-requires-4-clause-met c = λ lifetimes.
     rw c.deref_mut-inner.ensures.value
     (part c.args.self c.requires.0 c.requires.1 c.requires.1.bag Queue queue_pieces, c.requires.1.queue, met.queue)
 
-pub finish-requires : goal.finish-requires
-finish-requires c =
+pub commit-requires : goal.commit-requires
+commit-requires c =
     let self = c.args.self in
     let o = c.requires.0 in
     let r = c.requires.1 in
@@ -37,7 +37,7 @@ finish-requires c =
     let inner = c.deref_mut-inner.ensures.value in
     rw c.deref.ensures.value (
       o.calls,
-      have_served self o r (record { counter = c.close.new.half; stack = c.close-2.new.half; tree = c.close-3.new.half; queue = c.close-4.new.half })
+      have_served self o r (record { counter = c.close.new.phase; stack = c.close-2.new.phase; tree = c.close-3.new.phase; queue = c.close-4.new.phase })
           (record { counter = c.new.result; stack = c.new-2.result; tree = c.new-3.result; queue = c.new-4.result })
           (rw c.new.ensures (c.in_ok-counter.ensures (part self o r r.number Counter counter_pieces) (rw inner r.counter) met.counter))
           (rw c.new-2.ensures (c.in_ok-stack.ensures (part self o r r.view Stack stack_pieces) (rw inner r.stack) met.stack))
@@ -51,7 +51,7 @@ returns c = λ o r meet.
     let met = each_meets_apart o.ins meet.outs c.args.outs meet.each meet.met in
     let inner = c.deref_mut-inner.ensures.value in
     rw (sym r.book) (c.in_ok-shop.ensures o.calls (rw c.deref.ensures.value
-    (have_served self o r (record { counter = c.close.new.half; stack = c.close-2.new.half; tree = c.close-3.new.half; queue = c.close-4.new.half })
+    (have_served self o r (record { counter = c.close.new.phase; stack = c.close-2.new.phase; tree = c.close-3.new.phase; queue = c.close-4.new.phase })
     (record { counter = c.new.result; stack = c.new-2.result; tree = c.new-3.result; queue = c.new-4.result })
     (rw c.new.ensures (c.in_ok-counter.ensures (part self o r r.number Counter counter_pieces) (rw inner r.counter) met.counter))
     (rw c.new-2.ensures (c.in_ok-stack.ensures (part self o r r.view Stack stack_pieces) (rw inner r.stack) met.stack))

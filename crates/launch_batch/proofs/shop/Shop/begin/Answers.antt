@@ -1,11 +1,11 @@
 use Rattle.std.proofs.Common.{◌∙◌, length, sym, ap, subst}
 use Rattle.std.proofs.lemmas.List.{length-map}
-use Rattle.launch_batch.proofs.Words.{Stack, Tree, Queue, place_of, IsKept}
+use Rattle.launch_batch.proofs.Words.{Stack, Tree, Queue, place_of, MatchesHistory}
 use Rattle.seq_objects.proofs.Filters.{are_of}
 use Rattle.launch_batch.specs.declared.structures.Structures.{Structures}
 use Rattle.launch_batch.proofs.PieceLemmas.Ascending.{some_and_few, length_of_four}
 use Rattle.launch_batch.proofs.PieceLemmas.Counting.{rows_are}
-use Rattle.launch_batch.proofs.BatchLemmas.Beginning.{may_add, some_dealt}
+use Rattle.launch_batch.proofs.BatchLemmas.Beginning.{may_add, some_by_object}
 use Rattle.launch_batch.proofs.shop.Shop.begin.Goals as goal
 
 pub open_own-requires-clause-may : goal.open_own-requires-clause-may
@@ -13,7 +13,7 @@ open_own-requires-clause-may c = λ lifetimes.
     let i = c.self.invariant in
     record {
       before = i.number;
-      whole = ap (λ (s : Structures). s.counter) c.deref_mut-inner.ensures.value ∙ i.counter;
+      closed = ap (λ (s : Structures). s.counter) c.deref_mut-inner.ensures.value ∙ i.counter;
       may = rw c.as_slice-all.ensures.value
           (may_add c.self.inside.history c.args.calls.items c.in_ok-calls.calls.items i.number (rw c.self.view_is c.requires) c.in_ok-calls.ensures.same c.in_ok-calls.ensures.narrow i.kept.room);
     }
@@ -21,21 +21,21 @@ open_own-requires-clause-may c = λ lifetimes.
 pub open_own-requires-2-clause-may : goal.open_own-requires-2-clause-may
 open_own-requires-2-clause-may c = λ lifetimes. record {
   before = c.self.invariant.view;
-  whole = ap (λ (s : Structures). s.stack) c.deref_mut-inner.ensures.value ∙ c.self.invariant.stack;
+  closed = ap (λ (s : Structures). s.stack) c.deref_mut-inner.ensures.value ∙ c.self.invariant.stack;
   may = are_of Stack c.as_slice-all.result.now;
 }
 
 pub open_own-requires-3-clause-may : goal.open_own-requires-3-clause-may
 open_own-requires-3-clause-may c = λ lifetimes. record {
   before = c.self.invariant.keys;
-  whole = ap (λ (s : Structures). s.tree) c.deref_mut-inner.ensures.value ∙ c.self.invariant.tree;
+  closed = ap (λ (s : Structures). s.tree) c.deref_mut-inner.ensures.value ∙ c.self.invariant.tree;
   may = are_of Tree c.as_slice-all.result.now;
 }
 
 pub open_own-requires-4-clause-may : goal.open_own-requires-4-clause-may
 open_own-requires-4-clause-may c = λ lifetimes. record {
   before = c.self.invariant.bag;
-  whole = ap (λ (s : Structures). s.queue) c.deref_mut-inner.ensures.value ∙ c.self.invariant.queue;
+  closed = ap (λ (s : Structures). s.queue) c.deref_mut-inner.ensures.value ∙ c.self.invariant.queue;
   may = are_of Queue c.as_slice-all.result.now;
 }
 
@@ -45,7 +45,7 @@ returns-clause-count c =
     c.in_ok-counter.ensures.most c.in_ok-stack.ensures.most c.in_ok-tree.ensures.most c.in_ok-queue.ensures.most
     c.in_ok-counter.ensures.some c.in_ok-stack.ensures.some c.in_ok-tree.ensures.some c.in_ok-queue.ensures.some
     (rw c.as_slice-all.ensures.value
-    (some_dealt c.args.calls.items c.in_ok-calls.calls.items c.in_ok-calls.ensures.same c.requires.some))
+    (some_by_object c.args.calls.items c.in_ok-calls.calls.items c.in_ok-calls.ensures.same c.requires.some))
 
 pub returns-clause-places : goal.returns-clause-places
 returns-clause-places c =
@@ -58,7 +58,7 @@ returns-clause-places c =
       c.in_ok-pieces.ensures.places
           ∙ rows_are c.args.self c.in_ok-calls.calls.items i.number i.view i.keys i.bag
           c.in_ok-counter.counter.items c.in_ok-stack.stack.items c.in_ok-tree.tree.items c.in_ok-queue.queue.items
-          (subst (IsKept i.number i.view i.keys i.bag) c.self.view_is i.kept)
+          (subst (MatchesHistory i.number i.view i.keys i.bag) c.self.view_is i.kept)
           (rw (sym all) (c.in_ok-counter.ensures.cut i.number (ap (λ (s : Structures). s.counter) inner ∙ i.counter)))
           (rw (sym all) (c.in_ok-stack.ensures.cut i.view (ap (λ (s : Structures). s.stack) inner ∙ i.stack)))
           (rw (sym all) (c.in_ok-tree.ensures.cut i.keys (ap (λ (s : Structures). s.tree) inner ∙ i.tree)))
@@ -80,7 +80,7 @@ returns-clause-context c =
       view = i.view;
       keys = i.keys;
       bag = i.bag;
-      kept = subst (IsKept i.number i.view i.keys i.bag) c.self.view_is i.kept;
+      kept = subst (MatchesHistory i.number i.view i.keys i.bag) c.self.view_is i.kept;
       counter = rw (c.in_ok-pieces.ensures.counter, sym all) (c.in_ok-counter.ensures.context i.number (ap (λ (s : Structures). s.counter) inner ∙ i.counter));
       stack = rw (c.in_ok-pieces.ensures.stack, sym all) (c.in_ok-stack.ensures.context i.view (ap (λ (s : Structures). s.stack) inner ∙ i.stack));
       tree = rw (c.in_ok-pieces.ensures.tree, sym all) (c.in_ok-tree.ensures.context i.keys (ap (λ (s : Structures). s.tree) inner ∙ i.tree));

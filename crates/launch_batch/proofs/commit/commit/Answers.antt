@@ -1,6 +1,6 @@
 use Rattle.std.proofs.Common.{◌∙◌, ◌++◌, ◌∷◌, [], ap}
 use Rattle.launch_batch.proofs.BatchLemmas.Ending.{service, history, kept}
-use Rattle.launch_batch.proofs.finish.finish.Goals as goal
+use Rattle.launch_batch.proofs.commit.commit.Goals as goal
 
 pub append-requires : goal.append-requires
 append-requires c =

@@ -6,16 +6,16 @@ use Rattle.seq_objects.specs.Batches.{AreInBatchOrder, Counter, Stack, Tree, Que
 use Rattle.seq_objects.specs.Serial.{of_counter, of_stack, of_set, of_bag}
 use Rattle.batched_stack.specs.Stripes.{StackView}
 use Rattle.batch_history.specs.declared.batch.Entry.{Entry}
-use Rattle.launch_batch.specs.declared.merge.Remaining.{Remaining}
+use Rattle.launch_batch.specs.declared.merge.ReplyCursors.{ReplyCursors}
 use Rattle.launch_batch.specs.declared.structures.Structures.{Structures}
 use Rattle.launch_batch.specs.Calls.{MayServe, AreSame}
-use Rattle.launch_batch.specs.Contents.{IsKept, IsNarrow}
-use Rattle.launch_batch.specs.Code.Halves.{HasServed}
+use Rattle.launch_batch.specs.Contents.{MatchesHistory, IsNarrow}
+use Rattle.launch_batch.specs.Code.Phases.{HasServed}
 
 -- `ordered` is `calls` in batch order, and `calls` may be served after the book. The structures had the contents of the
 -- book; each has served its own calls of `ordered`, with its part of the replies.
 pub record HaveServed (structures : Structures) (book : List (List Entry)) (ordered : List Call)
-    (replies : Remaining) (calls : List Call) : Type 0 where
+    (replies : ReplyCursors) (calls : List Call) : Type 0 where
   pub may : MayServe book calls
   pub same : AreSame calls ordered
   pub order : AreInBatchOrder ordered
@@ -24,7 +24,7 @@ pub record HaveServed (structures : Structures) (book : List (List Entry)) (orde
   pub view : StackView
   pub keys : List ℕ
   pub bag : List ℕ
-  pub kept : IsKept number view keys bag book
+  pub kept : MatchesHistory number view keys bag book
   pub counter : HasServed of_counter structures.counter number (calls_of Counter ordered) replies.counter
   pub stack : HasServed (λ stack. of_stack stack.items) structures.stack view (calls_of Stack ordered)
       replies.stack

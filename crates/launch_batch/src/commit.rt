@@ -3,10 +3,10 @@ ghost use Rattle.std.specs.Prelude.{◌≡◌, [], ◌∷◌, ◌++◌, List, If
 ghost use Rattle.seq_objects.specs.declared.call.Call.{Call as CallOf};
 ghost use Rattle.batch_history.specs.declared.batch.Entry.{Entry as EntryOf};
 ghost use Rattle.launch_batch.specs.Calls.{IsServiceOf};
-ghost use Rattle.launch_batch.specs.Code.Finishing.{HaveServed};
+ghost use Rattle.launch_batch.specs.Code.Committing.{HaveServed};
 
 use crate::entries::entries_of;
-use crate::merge::Remaining;
+use crate::merge::ReplyCursors;
 use crate::shop::Shop;
 use crate::structures::Structures;
 use batch_history::{Batch, History};
@@ -15,12 +15,12 @@ use std::alloc::{AllocError, Global};
 
 /// The shop after a batch, made from the structures, the history before the batch, its calls, and each structure's
 /// replies. The entries are built once, directly for the history.
-pub(crate) fn finish(
+pub(crate) fn commit(
     alloc: Global,
     structures: Box<Structures>,
     mut history: History,
     calls: &[Call],
-    replies: Remaining,
+    replies: ReplyCursors,
 ) -> Result<Shop, AllocError>
     requires { (given : List CallOf) × HaveServed structures.value history calls.now replies given }
     ensures { IfOk result (λ shop. (given : List CallOf)

@@ -1,7 +1,7 @@
 use Rattle.seq_objects.specs.Batches.{object_of, same_object}
 use Rattle.seq_objects.proofs.Filters.{some_are_a_batch}
 use Rattle.launch_batch.specs.Code.Merging.{object_served}
-use Rattle.launch_batch.proofs.half.open_own.Goals as goal
+use Rattle.launch_batch.proofs.phase.open_own.Goals as goal
 
 pub open-requires-2-clause-batch : goal.open-requires-2-clause-batch
 open-requires-2-clause-batch g c =

@@ -5,13 +5,13 @@ use Rattle.std.specs.Option.{ForSome}
 use Rattle.std.specs.List.{AllByRecursion, range_with_len}
 use Rattle.seq_objects.specs.Objects.{value_of}
 use Rattle.seq_objects.specs.Spin.{spin_of}
-use Rattle.seq_objects.specs.declared.act.Act.TheVariants.{Work, Call}
-use Rattle.seq_objects.specs.declared.op.Op.{Op}
+use Rattle.seq_objects.specs.declared.act.Act.TheVariants.{Work}
 use Rattle.sp_order.specs.Precedence.{IsBefore, leaf_count}
 use Rattle.sp_order.specs.Jobs.{JobValue}
+use Rattle.sp_order.specs.Sources.{IsCallLeaf}
 use Rattle.seq_objects.specs.Pairs.{HasEachOnce}
 use Rattle.batch_history.specs.Book.{flat, IsLegal, IsBatch}
-use Rattle.batch_history.specs.Operations.{act_of, op_of}
+use Rattle.batch_history.specs.Operations.{op_of}
 use Rattle.batch_history.specs.declared.batch.Entry.{Entry}
 use Rattle.batch_history.specs.declared.row.Row.{Row}
 use Rattle.batch_history.specs.declared.report.Report.{Report}
@@ -40,14 +40,10 @@ pub record KeepsOrder (job : JobValue) (report : Report) : Type 0 where
   pub before : (u v : ℕ) → IsBefore job.shape u v → ForRows report u v (λ row row'. row.end < row'.start)
   pub alone : (u v : ℕ) → u ≢ v → ForRows report u v (λ row row'. row.worker ≡ row'.worker → (row.end < row'.start) ⊎ (row'.end < row.start))
 
--- the leaf's act is a call
-abbrev pub IsCallLeaf : JobValue → ℕ → Type 0
-IsCallLeaf job leaf = (op : Op) × (slice_get job.acts leaf ≡ Some (Call op))
-
--- The book has each calling leaf exactly once, with the leaf's operation and the worker of its row.
+-- The book has each calling leaf exactly once, with the leaf's operation under this book and the worker of its row.
 pub record HasCalls (job : JobValue) (report : Report) : Type 0 where
-  pub leaves : HasEachOnce (IsCallLeaf job) (map (λ entry. entry.leaf) (flat report.history))
-  pub operations : AllByRecursion (λ entry. op_of (act_of job.acts) report.history entry.leaf ≡ Some entry.op) (flat report.history)
+  pub leaves : HasEachOnce (IsCallLeaf job.acts) (map (λ entry. entry.leaf) (flat report.history))
+  pub operations : AllByRecursion (λ entry. op_of job report.history entry.leaf ≡ Some entry.op) (flat report.history)
   pub workers : AllByRecursion (λ entry. ForSome (slice_get report.rows entry.leaf) (λ row. row.worker ≡ entry.worker)) (flat report.history)
 
 -- the batch with this number contains the entry

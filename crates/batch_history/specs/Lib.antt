@@ -6,13 +6,14 @@ pub use Rattle.seq_objects.specs.Spin
 pub use Rattle.seq_objects.specs.Words
 pub use Rattle.seq_objects.specs.Pairs
 pub use Rattle.sp_order.specs.Precedence
+pub use Rattle.sp_order.specs.Sources
 pub use Rattle.sp_order.specs.Jobs
 pub use Rattle.sp_order.specs.Totals
 pub use Rattle.sp_order.specs.Phases
 pub mod Book
 pub mod Reserved
-pub mod Operations
 pub mod Places
+pub mod Operations
 pub mod Serving
 pub mod Lawful
 pub mod Text

@@ -1,7 +1,8 @@
 //! The laws of summaries and replies: each is the contract of an empty function. They bound the replies of a run and
 //! fix what its calls add up to, independently of the schedule. A clause on `entries` assumes only the legality or the
-//! order that it names; a clause on a `report` assumes that the report is lawful.
-ghost use Rattle.std.specs.Prelude.{◌≡◌, ℕ, ◌-◌, ◌≤◌, ◌<◌, ◌^◌, ◌↔◌, true, List, [], length, Contains};
+//! order that it names; a clause on a `report` assumes that the report is lawful. What speaks of the acts of the job
+//! assumes that no leaf has a source, but for the bound of the replies; `FillsFirst` includes that.
+ghost use Rattle.std.specs.Prelude.{◌≡◌, ◌≢◌, ℕ, ◌-◌, ◌≤◌, ◌<◌, ◌^◌, ◌↔◌, true, List, [], ◌∷◌, ◌++◌, length, None, Option, Some, Contains};
 ghost use Rattle.std.specs.List.{AllByRecursion};
 ghost use Rattle.seq_objects.specs.Objects.{opening, has, argument_of, value_of};
 ghost use Rattle.seq_objects.specs.Orders.{StrictlyAscends};
@@ -11,26 +12,28 @@ ghost use Rattle.seq_objects.specs.declared.op.Op.{Op};
 ghost use Rattle.seq_objects.specs.declared.op.Op.TheVariants.{TreeInsert};
 ghost use Rattle.sp_order.specs.Jobs.{JobValue};
 ghost use Rattle.sp_order.specs.Totals.{added, pushes, pushed, pops, queue_inserts, queue_inserted, queue_takes, tree_inserts, tree_removes, tree_finds, finds_in, keys_inserted, count_of_act, total};
-ghost use Rattle.sp_order.specs.Phases.{ComesBefore, FillsFirst};
+ghost use Rattle.sp_order.specs.Phases.{ComesBefore, HasNoSources, FillsFirst};
 ghost use Rattle.batch_history.specs.declared.batch.Entry.{Entry};
 ghost use Rattle.batch_history.specs.declared.report.Report.{Report};
 ghost use Rattle.batch_history.specs.Book.{flat, IsLegalFrom};
+ghost use Rattle.batch_history.specs.Operations.{op_from};
+ghost use Rattle.batch_history.specs.Places.{place_of};
 ghost use Rattle.batch_history.specs.Serving.{served, served_book, acts_in};
 ghost use Rattle.batch_history.specs.Lawful.{Lawful};
 ghost use Rattle.batch_history.specs.Filling.{StandsBefore, FindsIn};
 ghost use Rattle.batch_history.specs.Tally.{last_sum, over_replies, popped, queue_taken, new_keys, keys_found, tally_of, tally_of_acts};
 ghost use Rattle.batch_history.specs.Summary.{CanBeSummed, summary_of_report, summary_of_job};
 
-/// For every count of operations, a lawful report's calls have the same total as the job's acts, and they insert the
-/// same keys. If all leaves with `early` calls precede all leaves with `late` calls in the job, the calls are in that
-/// order in the report.
+/// In a job without sources, for every count of operations, a lawful report's calls have the same total as the job's
+/// acts, and they insert the same keys. If all leaves with `early` calls precede all leaves with `late` calls in the
+/// job, the calls are in that order in the report. With sources the calls' arguments are not those of the acts.
 pub fn calls_are_the_jobs()
     ensures totals { (job : JobValue) (workers : ℕ) (report : Report) → Lawful job workers report
-        → (count : Op → ℕ) → total count (acts_in (flat report.history)) ≡ total count job.acts }
+        → HasNoSources job → (count : Op → ℕ) → total count (acts_in (flat report.history)) ≡ total count job.acts }
     ensures keys { (job : JobValue) (workers : ℕ) (report : Report) → Lawful job workers report
-        → keys_inserted (acts_in (flat report.history)) ≡ keys_inserted job.acts }
+        → HasNoSources job → keys_inserted (acts_in (flat report.history)) ≡ keys_inserted job.acts }
     ensures order { (job : JobValue) (workers : ℕ) (report : Report) → Lawful job workers report
-        → (early late : Op → ℕ) → ComesBefore job early late
+        → HasNoSources job → (early late : Op → ℕ) → ComesBefore job early late
         → StandsBefore early late (flat report.history) }
 {}
 
@@ -39,7 +42,7 @@ pub fn last_add_replies_the_sum()
     ensures entries { (entries : List Entry) → IsLegalFrom opening entries
         → last_sum 0 entries ≡ total added (acts_in entries) }
     ensures report { (job : JobValue) (workers : ℕ) (report : Report) → Lawful job workers report
-        → last_sum 0 (flat report.history) ≡ total added job.acts }
+        → HasNoSources job → last_sum 0 (flat report.history) ≡ total added job.acts }
 {}
 
 /// If all pushes come before all pops, the items left are the surplus of pushes over pops. If there is no surplus, the
@@ -53,7 +56,7 @@ pub fn pops_after_pushes_empty_the_stack()
         → total pushes (acts_in entries) ≤ total pops (acts_in entries)
         → over_replies popped entries ≡ total pushed (acts_in entries) }
     ensures report { (job : JobValue) (workers : ℕ) (report : Report) → Lawful job workers report
-        → ComesBefore job pushes pops → total pushes job.acts ≤ total pops job.acts
+        → HasNoSources job → ComesBefore job pushes pops → total pushes job.acts ≤ total pops job.acts
         → ((served_book report.history).stack ≡ [])
         × (over_replies popped (flat report.history) ≡ total pushed job.acts) }
 {}
@@ -69,7 +72,7 @@ pub fn takes_after_inserts_empty_the_queue()
         → total queue_inserts (acts_in entries) ≤ total queue_takes (acts_in entries)
         → over_replies queue_taken entries ≡ total queue_inserted (acts_in entries) }
     ensures report { (job : JobValue) (workers : ℕ) (report : Report) → Lawful job workers report
-        → ComesBefore job queue_inserts queue_takes
+        → HasNoSources job → ComesBefore job queue_inserts queue_takes
         → total queue_inserts job.acts ≤ total queue_takes job.acts
         → ((served_book report.history).bag ≡ [])
         × (over_replies queue_taken (flat report.history) ≡ total queue_inserted job.acts) }
@@ -89,7 +92,7 @@ pub fn finds_after_inserts_tell_the_inserted_keys()
         → total tree_removes (acts_in entries) ≡ 0 → StandsBefore tree_inserts tree_finds entries
         → AllByRecursion (FindsIn (keys_inserted (acts_in entries))) entries }
     ensures report { (job : JobValue) (workers : ℕ) (report : Report) → Lawful job workers report
-        → total tree_removes job.acts ≡ 0 → ComesBefore job tree_inserts tree_finds
+        → HasNoSources job → total tree_removes job.acts ≡ 0 → ComesBefore job tree_inserts tree_finds
         → AllByRecursion (FindsIn (keys_inserted job.acts)) (flat report.history)
         × (over_replies keys_found (flat report.history)
         ≡ total (finds_in (keys_inserted job.acts)) job.acts) }
@@ -130,4 +133,15 @@ pub fn replies_are_small()
         → length job.acts ≤ 2 ^ 32
         → AllByRecursion (λ act. count_of_act argument_of act < 2 ^ 32) job.acts
         → AllByRecursion (λ entry. value_of entry.reply < 2 ^ 64) (flat report.history) }
+{}
+
+/// What a leaf calls under a book stays in a longer book. A leaf with a source calls only where the book has an entry
+/// of the source, and a leaf that calls under a book has a call as its act.
+pub fn longer_book_keeps_operations()
+    ensures stays { (book : List (List Entry)) (batch : List Entry) (act : Option Op) (source : Option ℕ) (op : Op)
+        → op_from book act source ≡ Some op → op_from (book ++ batch ∷ []) act source ≡ Some op }
+    ensures source { (book : List (List Entry)) (act : Option Op) (source : ℕ) (op : Op)
+        → op_from book act (Some source) ≡ Some op → place_of book source ≢ None }
+    ensures calls { (book : List (List Entry)) (act : Option Op) (source : Option ℕ) (op : Op)
+        → op_from book act source ≡ Some op → act ≢ None }
 {}

@@ -1,3 +1,5 @@
--- What only the code and its proofs cite: how a plan is built, and the tree that is its value.
+-- What only the code and its proofs cite: how a plan is built, the tree that is its value, and
+-- how the sources of a job are kept.
 pub mod PlanBuilder
 pub mod PlanView
+pub mod SourcesView

@@ -1,5 +1,6 @@
 -- Jobs that fill each structure before they query it.
-use Rattle.std.specs.Prelude.{◌≡◌, ℕ, ◌≤◌, Some, slice_get}
+use Rattle.std.specs.Prelude.{◌≡◌, ℕ, ◌≤◌, None, Some, slice_get}
+use Rattle.std.specs.List.{AllByRecursion}
 use Rattle.seq_objects.specs.declared.op.Op.{Op}
 use Rattle.seq_objects.specs.declared.act.Act.TheVariants.{Call}
 use Rattle.sp_order.specs.Precedence.{IsBefore}
@@ -12,8 +13,13 @@ ComesBefore job early late =
     (u v : ℕ) (first second : Op) → slice_get job.acts u ≡ Some (Call first) → slice_get job.acts v ≡ Some (Call second)
     → 1 ≤ early first → 1 ≤ late second → IsBefore job.shape u v
 
+-- no leaf has a source
+abbrev pub HasNoSources : JobValue → Type 0
+HasNoSources job = AllByRecursion (λ source. source ≡ None) job.sources
+
 -- Pushes are before pops, inserts of the queue before takes, and inserts of the tree before finds. There are no fewer
--- pops than pushes, no fewer takes than inserts of the queue, and no removals from the tree.
+-- pops than pushes, no fewer takes than inserts of the queue, and no removals from the tree. No call's argument
+-- is a reply.
 pub record FillsFirst (job : JobValue) : Type 0 where
   pub stack : ComesBefore job pushes pops
   pub queue : ComesBefore job queue_inserts queue_takes
@@ -21,3 +27,4 @@ pub record FillsFirst (job : JobValue) : Type 0 where
   pub empties_stack : total pushes job.acts ≤ total pops job.acts
   pub empties_queue : total queue_inserts job.acts ≤ total queue_takes job.acts
   pub keeps_keys : total tree_removes job.acts ≡ 0
+  pub no_sources : HasNoSources job

@@ -10,9 +10,11 @@ pub mod node;
 pub mod plan;
 pub mod planned;
 pub mod shape;
+pub mod sources;
 
 pub use job::Job;
 pub use node::{Kind, Move};
 pub use plan::Plan;
 pub use planned::PlannedJob;
 pub use shape::Shape;
+pub use sources::with_argument;

@@ -7,6 +7,7 @@ ghost use Rattle.sp_order.specs.Preorder.{nodes_of};
 use crate::job::Job;
 use crate::node::{Kind, Move};
 use crate::plan::Plan;
+use crate::sources::Sources;
 use seq_objects::Act;
 use std::alloc::{AllocError, Global};
 use std::marker::Model;
@@ -16,23 +17,25 @@ use std::marker::Model;
 pub struct PlannedJob {
     plan: Plan,
     acts: Vec<Act>,
+    sources: Sources,
 }
 
 impl Model for PlannedJob {
-    ghost use Rattle.std.specs.Prelude.{Some};
+    ghost use Rattle.std.specs.Prelude.{Some, length};
+    ghost use Rattle.sp_order.specs.Code.SourcesView.{listed};
     ghost use Rattle.sp_order.specs.Jobs.{JobValue, coded_job, IsJob};
 
     ghost Value = { JobValue };
 
     ghost coded = { coded_job };
 
-    ghost view = { λ p. record { shape = Some p.plan; acts = p.acts.items } };
+    ghost view = { λ p. record { shape = Some p.plan; acts = p.acts.items; sources = listed p.sources (length p.acts.items) } };
 
-    ghost invariant = { λ p. IsJob (record { shape = Some p.plan; acts = p.acts.items }) };
+    ghost invariant = { λ p. IsJob (record { shape = Some p.plan; acts = p.acts.items; sources = listed p.sources (length p.acts.items) }) };
 }
 
 impl PlannedJob {
-    /// Plans the job: makes the plan of its shape and copies its acts, in time linear in the leaves.
+    /// Plans the job: makes the plan of its shape and copies its acts and sources, in time linear in the leaves.
     pub fn of(alloc: Global, job: &Job) -> Result<PlannedJob, AllocError>
         requires { IsSome job.now.shape }
         ensures { IfOk result (λ planned. planned ≡ job.now) }
@@ -40,7 +43,12 @@ impl PlannedJob {
         let plan = Plan::of(alloc, job)?;
         let mut acts = Vec::new(alloc);
         acts.extend_from_slice(job.acts())?;
-        Ok(PlannedJob { plan, acts })
+        let sources = job.copied_sources(alloc)?;
+        Ok(PlannedJob {
+            plan,
+            acts,
+            sources,
+        })
     }
 
     /// The number of nodes of the plan. They are numbered from 0.
@@ -91,5 +99,13 @@ impl PlannedJob {
         ensures { slice_get self.now.acts leaf ≡ Some result }
     {
         self.acts[leaf as usize]
+    }
+
+    /// The source of this leaf: the leaf whose reply is its argument, or `None` where it has none.
+    pub fn source(&self, leaf: u32) -> Option<u32>
+        requires { leaf < leaves (job_tree self.now) }
+        ensures { slice_get self.now.sources leaf ≡ Some result }
+    {
+        self.sources.of(leaf)
     }
 }

@@ -1,0 +1,60 @@
+//! The sources of a job's leaves: a leaf's source is the leaf whose reply is the argument of its call.
+ghost use Rattle.std.specs.Prelude.{◌≡◌, ℕ, ◌+◌, ◌<◌, length, Some, IfOk, slice_get};
+ghost use Rattle.sp_order.specs.Code.SourcesView.{listed};
+ghost use Rattle.sp_order.specs.Sources.{with_argument as argued};
+
+use seq_objects::Op;
+use std::alloc::{AllocError, Global};
+
+/// For each leaf its source or none. It takes memory only where some leaf may have one.
+#[derive(Drop)]
+pub(crate) enum Sources {
+    /// No leaf has a source.
+    Absent,
+    /// For each leaf, from left to right, its source or none.
+    Each(Vec<Option<u32>>),
+}
+
+impl Sources {
+    /// The source of this leaf, or `None` where it has none.
+    pub(crate) fn of(&self, leaf: u32) -> Option<u32>
+        requires { leaf < length (listed self.now (leaf + 1)) }
+        ensures { (leaves : ℕ) → leaf < leaves → slice_get (listed self.now leaves) leaf ≡ Some result }
+    {
+        match self {
+            Sources::Absent => None,
+            Sources::Each(sources) => sources[leaf as usize],
+        }
+    }
+
+    /// A copy, in time linear in the leaves.
+    pub(crate) fn copied(&self, alloc: Global) -> Result<Sources, AllocError>
+        ensures { (leaves : ℕ) → IfOk result (λ copy. listed copy leaves ≡ listed self.now leaves) }
+    {
+        match self {
+            Sources::Absent => Ok(Sources::Absent),
+            Sources::Each(sources) => {
+                let mut copy = Vec::new(alloc);
+                copy.extend_from_slice(sources.as_slice())?;
+                Ok(Sources::Each(copy))
+            }
+        }
+    }
+}
+
+/// The operation with its argument replaced by this one. A pop and a take of the queue have none, and stay.
+pub fn with_argument(op: Op, argument: u32) -> Op
+    ensures { result ≡ argued op argument }
+{
+    match op {
+        Op::CounterAdd(_) => Op::CounterAdd(argument),
+        Op::Push(_) => Op::Push(argument),
+        Op::Pop => Op::Pop,
+        Op::TreeInsert(_) => Op::TreeInsert(argument),
+        Op::TreeRemove(_) => Op::TreeRemove(argument),
+        Op::TreeFind(_) => Op::TreeFind(argument),
+        Op::TreeNext(_) => Op::TreeNext(argument),
+        Op::PqInsert(_) => Op::PqInsert(argument),
+        Op::PqTake => Op::PqTake,
+    }
+}

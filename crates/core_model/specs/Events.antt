@@ -133,7 +133,7 @@ pub record IsTakenCall (job : CoreJob) (s : State) (entry : Entry) : Type 0 wher
   pub taken : has_taken s.hold entry.worker ≡ true
   pub node : ℕ
   pub started : HasStarted job s entry.worker node entry.leaf
-  pub operation : op_of job.act s.book entry.leaf ≡ Some entry.op
+  pub operation : op_of job s.book entry.leaf ≡ Some entry.op
 
 -- the batch has the taken calls, each exactly once, in batch order, with the serial replies
 pub record IsBatchOf (job : CoreJob) (s : State) (batch : List Entry) : Type 0 where

@@ -15,6 +15,7 @@ pub use Rattle.batch_history.specs.Lawful
 pub mod Words
 pub mod State
 pub mod Operations
+pub mod LeafSources
 pub mod Settings
 pub mod Serving
 pub mod Lists

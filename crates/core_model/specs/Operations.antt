@@ -1,10 +1,10 @@
 -- Calling leaves, their operations, the places of their entries, and their receipts.
-use Rattle.batch_history.specs.Operations.{op_in}
+use Rattle.batch_history.specs.Operations.{op_in, op_from}
 use Rattle.batch_history.specs.declared.place.Place.{Place}
-use Rattle.core_model.specs.Words.{Receipt, Kind, LeafNode, ParNode, SeqNode}
+use Rattle.core_model.specs.Words.{Entry, Op, Receipt, Kind, LeafNode, ParNode, SeqNode}
 use Rattle.core_model.specs.State.{CoreJob}
-use Rattle.std.specs.Prelude.{None, Option, Some, ℕ, ◌≡◌, ◌≢◌}
-pub use Rattle.batch_history.specs.Operations.{op_in, op_of}
+use Rattle.std.specs.Prelude.{List, None, Option, Some, ℕ, ◌≡◌, ◌≢◌}
+pub use Rattle.batch_history.specs.Operations.{op_in, op_from}
 pub use Rattle.batch_history.specs.declared.place.Place.{Place}
 pub use Rattle.batch_history.specs.Places.{place_in, or_else, place_from}
 unfoldable pub use Rattle.batch_history.specs.Places.{place_of}
@@ -23,6 +23,11 @@ IsLeaf kind = (leaf : ℕ) × (kind ≡ Some (LeafNode leaf))
 -- the leaf calls
 abbrev pub IsCall : CoreJob → ℕ → Type 0
 IsCall job leaf = op_in (job.act leaf) ≢ None
+
+-- The operation that a leaf calls under a book: that of its act, and with a source that with the value of the source's
+-- reply as its argument. There is none for work, and none where the book has no entry of the source.
+abbrev pub op_of : CoreJob → List (List Entry) → ℕ → Option Op
+op_of job book leaf = op_from book (op_in (job.act leaf)) (job.source leaf)
 
 -- the receipt for the entry at a place
 abbrev pub receipt_for : Place → Receipt

@@ -2,7 +2,7 @@
 use Rattle.seq_objects.specs.Objects as objects
 use Rattle.core_model.specs.Words.{Entry, Progress, Ready, Waiting, CallState, NotCalled, Status, Free, Task, Idle, Act, Nodes}
 use Rattle.seq_objects.specs.Objects.{Objects}
-use Rattle.batch_history.specs.Operations.{act_of}
+use Rattle.batch_history.specs.Operations.{act_of, source_of}
 use Rattle.sp_order.specs.Jobs.{JobValue, job_tree}
 use Rattle.sp_order.specs.Preorder.{nodes_of}
 use Rattle.std.specs.Prelude.{Bool, List, None, Option, [], if◌then◌else◌, ℕ, ◌==◌, ◌∷◌}
@@ -11,15 +11,16 @@ use Rattle.std.specs.Prelude.{Bool, List, None, Option, [], if◌then◌else◌,
 abbrev pub put : {A : Type 0} → (ℕ → A) → ℕ → A → ℕ → A
 put f n x m = if m == n then x else f m
 
--- a job in the model: its plan, the act of each leaf, and the number of workers
+-- a job in the model: its plan, the act of each leaf and the leaf whose reply is its argument, and the number of workers
 pub record CoreJob : Type 0 where
   pub plan : Nodes
   pub act : ℕ → Act
+  pub source : ℕ → Option ℕ
   pub workers : ℕ
 
 -- the model of a job with leaves, for a number of workers
 abbrev pub core_job : JobValue → ℕ → CoreJob
-core_job job workers = record { plan = nodes_of (job_tree job); act = act_of job.acts; workers = workers }
+core_job job workers = record { plan = nodes_of (job_tree job); act = act_of job.acts; source = source_of job; workers = workers }
 
 -- the flag owner's progress: the number of workers it has looked at, the workers whose calls it took, those it
 -- answered, and whether it has published

@@ -87,7 +87,7 @@ call_at job book task w at_call at_leaf =
     let leaf = at_leaf started.0 started.1 started.2 in
     let calls : IsAtCall job (Started started.0 started.1) = subst (IsAtCall job) started.2 at_call in
     let calls_leaf : IsCall job leaf.0 = subst (λ (kind : Option Kind). IsCall job (leaf_of kind)) leaf.1 calls in
-    let op = some_op (op_of job.act book leaf.0) calls_leaf in
+    let op = some_op (op_of job book leaf.0) calls_leaf in
     (record { worker = w; leaf = leaf.0; op = op.0 }, refl, (started.0, started.1, leaf.1, started.2, op.1))
 
 -- a task that is started names a leaf

@@ -17,7 +17,7 @@ entry_is e leaf worker op r a b c d = λ i. record { leaf = a i; worker = b i; o
 one_op : (a b : Op) (o : Option Op) → o ≡ Some a → o ≡ Some b → a ≡ b
 one_op a b o e f = cc
 
-module _ (job : CoreJob) (s : State) (w n leaf : ℕ) (op : Op) (r : Receipt) (parts : Parts job s) (started : HasStarted job s w n leaf) (does : op_of job.act s.book leaf ≡ Some op) where
+module _ (job : CoreJob) (s : State) (w n leaf : ℕ) (op : Op) (r : Receipt) (parts : Parts job s) (started : HasStarted job s w n leaf) (does : op_of job s.book leaf ≡ Some op) where
   calls : IsCall job leaf
   calls none = let e = does in cc
 
@@ -37,8 +37,8 @@ module _ (job : CoreJob) (s : State) (w n leaf : ℕ) (op : Op) (r : Receipt) (p
       let p : Place = place.0 in
       let of_leaf : IsReceipt (place_of s.book leaf) r = rw (started.2, started.0) at (its_receipt is) in
       let receipt : r ≡ receipt_for p = rw place.1 at of_leaf in
-      let found = found_in_book (λ (e : Entry). op_of job.act s.book e.leaf ≡ Some e.op) s.book leaf p parts.book.operations place.1 in
-      let same : p.entry.op ≡ op = one_op p.entry.op op (op_of job.act s.book leaf) (ap (op_of job.act s.book) (sym found.1) ∙ found.0) does in (
+      let found = found_in_book (λ (e : Entry). op_of job s.book e.leaf ≡ Some e.op) s.book leaf p parts.book.operations place.1 in
+      let same : p.entry.op ≡ op = one_op p.entry.op op (op_of job s.book leaf) (ap (op_of job s.book) (sym found.1) ∙ found.0) does in (
         p,
         rw (started.2, started.0) place.1,
         place.1,

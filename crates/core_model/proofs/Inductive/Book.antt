@@ -28,7 +28,7 @@ StatusFits job book task (Served receipt) (Got other) taken = ⊥
 
 -- the entry of a leaf, at its place
 abbrev pub EntryFits : CoreJob → List (List Entry) → ℕ → Place → Type 0
-EntryFits job book leaf place = (op_of job.act book leaf ≡ Some place.entry.op) × (place.entry.worker < job.workers) × (place.batch < length book)
+EntryFits job book leaf place = (op_of job book leaf ≡ Some place.entry.op) × (place.entry.worker < job.workers) × (place.batch < length book)
 
 -- the first place, of a leaf that has an end, is in an earlier batch than the second, if there is one
 abbrev pub IsEarlier : Option Place → Option Place → Type 0
@@ -43,7 +43,7 @@ pub record InductiveBook (job : CoreJob) (book : List (List Entry)) (after : obj
   pub batches : AllByRecursion IsBatch book
   pub leaves : AreDistinct (map (λ entry. entry.leaf) (flat book))
   pub among : AllByRecursion (λ entry. entry.worker < job.workers) (flat book)
-  pub operations : AllByRecursion (λ entry. op_of job.act book entry.leaf ≡ Some entry.op) (flat book)
+  pub operations : AllByRecursion (λ entry. op_of job book entry.leaf ≡ Some entry.op) (flat book)
   pub entries : (leaf : ℕ) (place : Place) → place_of book leaf ≡ Some place → EntryFits job book leaf place
   pub in_order : (n m u v w x a b d : ℕ) (e : Option ℕ)
       → job.plan.kind n ≡ Some (LeafNode u) → job.plan.kind m ≡ Some (LeafNode v) → IsCall job u

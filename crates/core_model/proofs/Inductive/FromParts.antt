@@ -316,7 +316,7 @@ module _ (job : CoreJob) (s : State) (h : Parts job s) where
     among = h.book.among;
     operations = h.book.operations;
     entries = λ leaf place at.
-        let op = found_in_book (λ (e : Entry). op_of job.act s.book e.leaf ≡ Some e.op) s.book leaf place h.book.operations at in
+        let op = found_in_book (λ (e : Entry). op_of job s.book e.leaf ≡ Some e.op) s.book leaf place h.book.operations at in
         let among' = found_in_book (λ (e : Entry). e.worker < job.workers) s.book leaf place h.book.among at in
         (rw op.1 at op.0, among'.0, place_below s.book leaf place at);
     in_order = λ n m u v w x a b d e kind kind' call is is' less.

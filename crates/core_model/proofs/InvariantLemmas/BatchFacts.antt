@@ -23,14 +23,14 @@ started_at (Whole n) = None
 started_at (Handed n) = None
 
 -- the operation of a leaf that calls stays the same in a longer book
-pub op_kept : (job : CoreJob) (book : List (List Entry)) (b : List Entry) (u : ℕ) (op : Op) → op_of job.act book u ≡ Some op → op_of job.act (book ++ b ∷ []) u ≡ Some op
+pub op_kept : (job : CoreJob) (book : List (List Entry)) (b : List Entry) (u : ℕ) (op : Op) → op_of job book u ≡ Some op → op_of job (book ++ b ∷ []) u ≡ Some op
 op_kept job book b u op h = h
 
 -- the calls of a batch, against the tasks and the workers whose calls are taken
 pub record BatchFits (job : CoreJob) (s : State) (took : ℕ → Bool) (batch : List Entry) : Type 0 where
   pub taken : (u : ℕ) (p : Place) → place_in (length s.book) 0 batch u ≡ Some p → took p.entry.worker ≡ true
   pub started : (u : ℕ) (p : Place) → place_in (length s.book) 0 batch u ≡ Some p → started_at (s.task p.entry.worker) ≡ Some (job.plan.node_of u)
-  pub operation : (u : ℕ) (p : Place) → place_in (length s.book) 0 batch u ≡ Some p → op_of job.act s.book u ≡ Some p.entry.op
+  pub operation : (u : ℕ) (p : Place) → place_in (length s.book) 0 batch u ≡ Some p → op_of job s.book u ≡ Some p.entry.op
   pub each : (w n : ℕ) → took w ≡ true → started_at (s.task w) ≡ Some n → worker_at (place_in (length s.book) 0 batch (leaf_of (job.plan.kind n))) ≡ Some w
 
 -- a receipt stays right in a longer book

@@ -20,7 +20,7 @@ use Rattle.batch_history.proofs.BookLemmas.Books.{which_place, place_append, pla
 use Rattle.core_model.proofs.InvariantLemmas.BatchFacts.{started_at, op_kept, BatchFits, status_kept, taken_same, hold_kept, earlier_append, booked_published, entry_kept, executing, took_it, new_entry, has_place, ended_booked, batch_node, batch_each}
 
 -- a leaf with an operation calls
-calls : (job : CoreJob) (book : List (List Entry)) (u : ℕ) (op : Op) → op_of job.act book u ≡ Some op → IsCall job u
+calls : (job : CoreJob) (book : List (List Entry)) (u : ℕ) (op : Op) → op_of job book u ≡ Some op → IsCall job u
 calls job book u op e none = cc
 
 -- two taken calls of one leaf have one worker
@@ -72,7 +72,7 @@ batch_fits job s hd holder b laws holders there batch = record {
       ap started_at found.0.started.2 ∙ ap Some (laws.one_node found.0.node p.entry.leaf found.0.started.0 ∙ ap job.plan.node_of found.1);
   operation = λ u p e.
       let found = found_entry (IsTakenCall job s) (length s.book) 0 b u p batch.only e in
-      subst (λ l. op_of job.act s.book l ≡ Some p.entry.op) found.1 found.0.operation;
+      subst (λ l. op_of job s.book l ≡ Some p.entry.op) found.1 found.0.operation;
   each = λ w n took at. has_entry job s holder b w n laws holders batch (rw there took) at;
 }
 
@@ -147,9 +147,9 @@ publish_keeps job s w b laws h needs batch =
         leaves = leaves_apart job s hd b h laws there unpublished batch.only batch.is_batch.workers;
         among = rw (flat_append s.book b) (each_append (λ (e : Entry). e.worker < job.workers) (flat s.book) b h.book.among
             (each_so (IsTakenCall job s) (λ (e : Entry). e.worker < job.workers) (λ e c. omega (arith, hold.2 e.worker (rw there at c.taken), needs.2)) b batch.only));
-        operations = rw (flat_append s.book b) (each_append (λ (e : Entry). op_of job.act (s.book ++ b ∷ []) e.leaf ≡ Some e.op) (flat s.book) b
-            (each_so (λ (e : Entry). op_of job.act s.book e.leaf ≡ Some e.op) (λ (e : Entry). op_of job.act (s.book ++ b ∷ []) e.leaf ≡ Some e.op) (λ e o. op_kept job s.book b e.leaf e.op o) (flat s.book) h.book.operations)
-            (each_so (IsTakenCall job s) (λ (e : Entry). op_of job.act (s.book ++ b ∷ []) e.leaf ≡ Some e.op) (λ e c. op_kept job s.book b e.leaf e.op c.operation) b batch.only));
+        operations = rw (flat_append s.book b) (each_append (λ (e : Entry). op_of job (s.book ++ b ∷ []) e.leaf ≡ Some e.op) (flat s.book) b
+            (each_so (λ (e : Entry). op_of job s.book e.leaf ≡ Some e.op) (λ (e : Entry). op_of job (s.book ++ b ∷ []) e.leaf ≡ Some e.op) (λ e o. op_kept job s.book b e.leaf e.op o) (flat s.book) h.book.operations)
+            (each_so (IsTakenCall job s) (λ (e : Entry). op_of job (s.book ++ b ∷ []) e.leaf ≡ Some e.op) (λ e c. op_kept job s.book b e.leaf e.op c.operation) b batch.only));
         entries = λ u p e. elim (which_place (place_of s.book u) (place_in (length s.book) 0 b u) p (sym (place_append s.book b u) ∙ e)) [
           | inl e ↦ entry_kept job s b u p (h.book.entries u p e)
           | inr e ↦ new_entry job s hd b u p hold needs.2 fits e

@@ -18,9 +18,12 @@ pub record BookInvariant (job : CoreJob) (s : State) : Type 0 where
   -- each batch is not empty, in batch order and of distinct workers; all workers are workers of the job
   pub batches : AllByRecursion IsBatch s.book
   pub among : AllByRecursion (λ entry. entry.worker < job.workers) (flat s.book)
-  -- the leaves are distinct, and each is a calling leaf with its operation
+  -- the leaves are distinct, and each is a calling leaf with its operation under this book
   pub leaves : AreDistinct (map (λ entry. entry.leaf) (flat s.book))
-  pub operations : AllByRecursion (λ entry. op_of job.act s.book entry.leaf ≡ Some entry.op) (flat s.book)
+  pub operations : AllByRecursion (λ entry. op_of job s.book entry.leaf ≡ Some entry.op) (flat s.book)
+  -- the entry of a leaf's source stands in an earlier batch
+  pub sources : (leaf source : ℕ) (later : Place) → job.source leaf ≡ Some source → place_of s.book leaf ≡ Some later
+      → (earlier : Place) × (place_of s.book source ≡ Some earlier) × (earlier.batch < later.batch)
   -- real-time order: if calling leaf `u` ended before leaf `v` started and `v` has an entry, `u` has one in an earlier
   -- batch
   pub in_order : (n m u v w x a b d : ℕ) → job.plan.kind n ≡ Some (LeafNode u) → job.plan.kind m ≡ Some (LeafNode v) → IsCall job u

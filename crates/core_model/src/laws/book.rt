@@ -1,11 +1,14 @@
-//! The laws of the book: where entries are, which entries an event adds, whose entry a receipt describes, and how many
-//! entries there can be. Each law is the contract of an empty function.
+//! The laws of the book: where entries are, which entries an event adds, whose entry a receipt describes, which
+//! operation a leaf calls, and how many entries there can be. Each law is the contract of an empty function.
 ghost use Rattle.std.specs.Prelude.{◌≡◌, ◌≢◌, ℕ, ◌<◌, ◌≤◌, ◌+◌, ◌⊎◌, true, false, None, Some, List, [], ◌∷◌, ◌++◌, length, map, Contains};
 ghost use Rattle.std.specs.List.{AllByRecursion};
+ghost use Rattle.seq_objects.specs.Objects.{value_of};
 ghost use Rattle.seq_objects.specs.Pairs.{AreDistinct};
+ghost use Rattle.seq_objects.specs.declared.act.Act.TheVariants.{Call};
 ghost use Rattle.seq_objects.specs.declared.op.Op.{Op};
 ghost use Rattle.sp_order.specs.declared.node.Kind.TheVariants.{LeafNode};
-ghost use Rattle.sp_order.specs.Jobs.{JobValue, job_tree};
+ghost use Rattle.sp_order.specs.Jobs.{IsJob, JobValue, job_tree};
+ghost use Rattle.sp_order.specs.Sources.{with_value};
 ghost use Rattle.sp_order.specs.Precedence.{leaves};
 ghost use Rattle.sp_order.specs.Plans.{IsPlan};
 ghost use Rattle.batch_history.specs.Book.{flat};
@@ -19,12 +22,15 @@ ghost use Rattle.core_model.specs.Entries.{entries_of, StandsAt, IsUnserved};
 ghost use Rattle.core_model.specs.Events.{Happens, HasStarted};
 ghost use Rattle.core_model.specs.Invariant.{Parts};
 ghost use Rattle.core_model.specs.Invariant.Statuses.{is_taken_by};
+ghost use Rattle.core_model.specs.LeafSources.{HasReplied, HasSources};
 ghost use Rattle.core_model.specs.Measure.{call_count};
 ghost use Rattle.core_model.specs.Operations.{IsCall, Place, op_of, or_else, place_in, place_of, receipt_for};
 ghost use Rattle.core_model.specs.State.{CoreJob, State, core_job};
 ghost use Rattle.core_model.specs.Waits.{task_place};
 
-use sp_order::laws::{leaf_has_one_node, plan_has_sides, plan_stands_for_tree};
+use sp_order::laws::{
+    before_is_by_series, leaf_has_one_node, plan_has_sides, plan_stands_for_tree,
+};
 
 /// `place_of` finds an entry of its leaf, at the place it states. After one more batch an entry found before is found
 /// again; otherwise the new batch is searched. If the leaves are distinct, the search by its leaf finds each entry of
@@ -75,12 +81,59 @@ pub fn receipt_is_of_the_own_entry()
         → Parts job state
         → (state.status worker ≡ Served receipt) ⊎ (state.call worker ≡ Got receipt)
         → HasStarted job state worker node leaf
-        → op_of job.act state.book leaf ≡ Some op
+        → op_of job state.book leaf ≡ Some op
         → (place : Place) × (task_place job state.book (state.task worker) ≡ Some place)
         × (place_of state.book leaf ≡ Some place) × (receipt ≡ receipt_for place)
         × (place.entry ≡ record { leaf = leaf; worker = worker; op = op; reply = receipt.reply })
         × StandsAt state.book receipt.batch receipt.place place.entry }
 {}
+
+/// A longer book keeps the operation of a leaf. A leaf that has an operation under a book calls, and the book has an
+/// entry of its source, if it has one.
+pub fn operations_stay()
+    ensures longer { (job : CoreJob) (book : List (List Entry)) (batch : List Entry) (leaf : ℕ) (op : Op)
+        → op_of job book leaf ≡ Some op
+        → op_of job (book ++ batch ∷ []) leaf ≡ Some op }
+    ensures calls { (job : CoreJob) (book : List (List Entry)) (leaf : ℕ) (op : Op)
+        → op_of job book leaf ≡ Some op
+        → IsCall job leaf }
+    ensures source { (job : CoreJob) (book : List (List Entry)) (leaf source : ℕ) (op : Op)
+        → op_of job book leaf ≡ Some op
+        → job.source leaf ≡ Some source
+        → (place : Place) × (place_of book source ≡ Some place) }
+{}
+
+/// Once a leaf has started, its source has replied. So a call is never gathered into the batch that serves its source,
+/// nor into an earlier one.
+pub fn started_leaf_has_its_source()
+    ensures { (job : CoreJob) (state : State) (worker node leaf source : ℕ) → HasSources job
+        → Parts job state
+        → HasStarted job state worker node leaf
+        → job.source leaf ≡ Some source
+        → HasReplied job state source }
+{}
+
+/// The entry of a leaf's source stands in an earlier batch than the leaf's own. The leaf's entry has the operation of
+/// its act, with the low 32 bits of the value of the source's reply as its argument.
+pub fn sources_come_first()
+    ensures { (job : CoreJob) (state : State) (leaf source : ℕ) (later : Place)
+        → Parts job state
+        → job.source leaf ≡ Some source
+        → place_of state.book leaf ≡ Some later
+        → (earlier : Place) × (place_of state.book source ≡ Some earlier)
+        × (earlier.batch < later.batch)
+        × (op : Op) × (job.act leaf ≡ Call op)
+        × (later.entry.op ≡ with_value op (value_of earlier.entry.reply)) }
+{}
+
+/// A job has its sources in the model: each is a calling leaf whose node is before that of its leaf by a series.
+pub fn job_has_its_sources()
+    ensures { (job : JobValue) (workers : ℕ) → IsJob job → HasSources (core_job job workers) }
+{
+    plan_stands_for_tree();
+    leaf_has_one_node();
+    before_is_by_series();
+}
 
 /// A book has at most as many batches as entries. Its entries, together with the calls of distinct workers that no
 /// batch has served yet, number at most the calling leaves, provided that the plan has a node for each of these. The

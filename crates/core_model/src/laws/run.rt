@@ -5,6 +5,7 @@ ghost use Rattle.std.specs.List.{AllByRecursion};
 ghost use Rattle.sp_order.specs.Precedence.{Tree};
 ghost use Rattle.sp_order.specs.PlanOf.{IsPlanOf};
 ghost use Rattle.core_model.specs.declared.event.Event.{Event};
+ghost use Rattle.core_model.specs.LeafSources.{HasSources};
 ghost use Rattle.core_model.specs.State.{CoreJob, CoreState, opening_core};
 ghost use Rattle.core_model.specs.Runs.{IsStep, Step, IsReached, TurnsReach, steps_of, driven};
 ghost use Rattle.core_model.specs.Tasks.{is_done};
@@ -22,6 +23,7 @@ pub fn step_leads_to_reached()
 /// Each schedule of the job's workers drives the job of a tree to some state.
 pub fn schedule_drives_to_a_state()
     ensures { (job : CoreJob) (tree : Tree) (schedule : List ℕ) → IsPlanOf job.plan tree
+        → HasSources job
         → 0 < job.workers
         → AllByRecursion (λ worker. worker < job.workers) schedule
         → (state : CoreState) × driven job schedule state }

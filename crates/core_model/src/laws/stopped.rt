@@ -5,6 +5,7 @@ ghost use Rattle.sp_order.specs.Plans.{IsPlan};
 ghost use Rattle.sp_order.specs.PlanOf.{IsPlanOf};
 ghost use Rattle.core_model.specs.declared.task.Task.TheVariants.{Idle};
 ghost use Rattle.core_model.specs.Invariant.{Invariant};
+ghost use Rattle.core_model.specs.LeafSources.{HasSources};
 ghost use Rattle.core_model.specs.State.{CoreJob, CoreState};
 ghost use Rattle.core_model.specs.Stopped.{LiveDrive};
 ghost use Rattle.core_model.specs.Tasks.{is_done};
@@ -31,6 +32,7 @@ pub fn idle_stopped_workers_cost_nothing()
     ensures { (job : CoreJob) (tree : Tree) (live : ℕ → Bool) (first last : CoreState)
         (robin one : ℕ)
         → IsPlanOf job.plan tree
+        → HasSources job
         → Invariant job first
         → one < job.workers → live one ≡ true
         → ((w : ℕ) → w < job.workers → live w ≡ false → first.state.task w ≡ Idle)

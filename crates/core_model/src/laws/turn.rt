@@ -12,6 +12,7 @@ ghost use Rattle.core_model.specs.declared.event.Event.TheVariants.{Claim};
 ghost use Rattle.core_model.specs.State.{CoreJob, State, CoreState, opening_state, opening_core};
 ghost use Rattle.core_model.specs.Events.{Needs, Does, Happens};
 ghost use Rattle.core_model.specs.Invariant.{Parts, Invariant};
+ghost use Rattle.core_model.specs.LeafSources.{HasSources};
 ghost use Rattle.core_model.specs.Choice.{choice, LeavesAnEnd};
 ghost use Rattle.core_model.specs.Next.{next_act, IsNextEvent};
 ghost use Rattle.core_model.specs.Ranges.{IsInRange};
@@ -81,7 +82,8 @@ pub fn opening_choices()
 
 /// An event whose needs are met happens: some state results from it.
 pub fn event_with_its_needs_happens()
-    ensures { (job : CoreJob) (state : State) (worker : ℕ) (event : Event) → Parts job state
+    ensures { (job : CoreJob) (state : State) (worker : ℕ) (event : Event) → HasSources job
+        → Parts job state
         → worker < job.workers
         → Needs job state worker event
         → (new : State) × Happens job state worker event new }
@@ -98,6 +100,7 @@ pub fn event_makes_one_state()
 /// Progress: while the root is not done, the turn of some worker chooses an event, and some state results from it.
 pub fn some_turn_makes_an_event()
     ensures { (job : CoreJob) (tree : Tree) (state : CoreState) → IsPlanOf job.plan tree
+        → HasSources job
         → Invariant job state
         → is_done (state.state.node 0) ≡ false
         → (worker : ℕ) × (worker < job.workers)
@@ -112,6 +115,7 @@ pub fn some_turn_makes_an_event()
 pub fn some_live_turn_makes_an_event()
     ensures { (job : CoreJob) (tree : Tree) (state : CoreState) (live : ℕ → Bool) (one : ℕ)
         → IsPlanOf job.plan tree
+        → HasSources job
         → Invariant job state
         → is_done (state.state.node 0) ≡ false
         → one < job.workers → live one ≡ true

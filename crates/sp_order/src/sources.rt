@@ -1,7 +1,7 @@
 //! The sources of a job's leaves: a leaf's source is the leaf whose reply is the argument of its call.
 ghost use Rattle.std.specs.Prelude.{◌≡◌, ℕ, ◌+◌, ◌<◌, length, Some, IfOk, slice_get};
 ghost use Rattle.sp_order.specs.Code.SourcesView.{listed};
-ghost use Rattle.sp_order.specs.Sources.{with_argument as argued};
+ghost use Rattle.sp_order.specs.Sources.{with_argument as argued, with_value as valued};
 
 use seq_objects::Op;
 use std::alloc::{AllocError, Global};
@@ -57,4 +57,11 @@ pub fn with_argument(op: Op, argument: u32) -> Op
         Op::PqInsert(_) => Op::PqInsert(argument),
         Op::PqTake => Op::PqTake,
     }
+}
+
+/// The operation with the low 32 bits of this value as its argument.
+pub fn with_value(op: Op, value: u64) -> Op
+    ensures { result ≡ valued op value }
+{
+    with_argument(op, (value % 0x1_0000_0000) as u32)
 }

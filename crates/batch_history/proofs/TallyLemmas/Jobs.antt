@@ -7,7 +7,7 @@ use Rattle.seq_objects.specs.declared.act.Act.{Act}
 use Rattle.seq_objects.specs.declared.act.Act.TheVariants.{Work, Call}
 use Rattle.seq_objects.specs.Objects.{opening, argument_of}
 use Rattle.sp_order.specs.Jobs.{JobValue}
-use Rattle.sp_order.specs.Phases.{ComesBefore, FillsFirst}
+use Rattle.sp_order.specs.Phases.{ComesBefore, HasNoSources, FillsFirst}
 use Rattle.sp_order.specs.Totals.{added, pushes, pushed, pops, queue_inserts, queue_inserted, queue_takes, tree_inserts, tree_removes, tree_finds, finds_in, keys_inserted, count_of_act, total}
 use Rattle.batch_history.specs.Book.{flat}
 use Rattle.batch_history.specs.Lawful.{Lawful}
@@ -66,18 +66,18 @@ small_sum count less (act ∷ acts) small = step act small.0 (small_sum count le
   step (Work steps) bound rest = omega (arith, rest)
   step (Call op) bound rest = omega (arith, bound, rest, less op)
 
-module _ (job : JobValue) (workers : ℕ) (report : Report) (lawful : Lawful job workers report) where
+module _ (job : JobValue) (workers : ℕ) (report : Report) (lawful : Lawful job workers report) (none : HasNoSources job) where
   abbrev entries : List Entry
   entries = flat report.history
 
   pub totals : (count : Op → ℕ) → total count (acts_in entries) ≡ total count job.acts
-  totals = total_is job entries lawful.calls.leaves (acts_at job.acts report.history entries lawful.calls.operations)
+  totals = total_is job entries lawful.calls.leaves (acts_at job report.history entries none lawful.calls.operations)
 
   pub keys : keys_inserted (acts_in entries) ≡ keys_inserted job.acts
   keys = same_keys (acts_in entries) job.acts (λ q. totals (inserts_key q))
 
   abbrev order : (early late : Op → ℕ) → ComesBefore job early late → StandsBefore early late entries
-  order = apart job workers report lawful
+  order = apart job workers report lawful none
 
   pub counter_is : last_sum 0 entries ≡ total added job.acts
   counter_is = last_is opening entries lawful.replies ∙ omega (arith, totals added)

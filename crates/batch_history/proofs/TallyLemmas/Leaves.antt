@@ -13,9 +13,9 @@ use Rattle.seq_objects.specs.declared.act.Act.TheVariants.{Work, Call}
 use Rattle.seq_objects.specs.Orders.{one_if, copies}
 use Rattle.seq_objects.specs.Pairs.{AreDistinct, HasEachOnce}
 use Rattle.sp_order.specs.Jobs.{JobValue}
+use Rattle.sp_order.specs.Sources.{IsCallLeaf}
 use Rattle.sp_order.specs.Totals.{count_of_act, total}
 use Rattle.batch_history.specs.Serving.{acts_in}
-use Rattle.batch_history.specs.Lawful.{IsCallLeaf}
 use Rattle.batch_history.specs.declared.batch.Entry.{Entry}
 
 -- the number of a leaf, if it is below a bound
@@ -90,7 +90,11 @@ total_append : (f : Op → ℕ) (xs ys : List Act) → total f (xs ++ ys) ≡ to
 total_append f [] ys = omega arith
 total_append f (x ∷ xs) ys = omega (arith, total_append f xs ys)
 
-module _ (job : JobValue) (leaves : List ℕ) (each : HasEachOnce (IsCallLeaf job) leaves) (f : Op → ℕ) where
+-- the entry's leaf calls, and its act counts as much as the entry's operation
+abbrev pub CountsAlike : (Op → ℕ) → List Act → Entry → Type 0
+CountsAlike f acts entry = (call : Op) × ((slice_get acts entry.leaf ≡ Some (Call call)) × (f call ≡ f entry.op))
+
+module _ (job : JobValue) (leaves : List ℕ) (each : HasEachOnce (IsCallLeaf job.acts) leaves) (f : Op → ℕ) where
   abbrev at : ℕ → ℕ
   at n = count_at f (slice_get job.acts n)
 
@@ -116,18 +120,29 @@ module _ (job : JobValue) (leaves : List ℕ) (each : HasEachOnce (IsCallLeaf jo
       let same : at m ≡ count_of_act f act = ap (count_at f) is in
       rw s (rw next (omega (arith, part_more at m leaves, one_of m act is, front m (omega (arith, less)), total_append f (take m job.acts) (act ∷ []), same)))
 
-  by_leaf : (entries : List Entry) → AllByRecursion (λ (e : Entry). slice_get job.acts e.leaf ≡ Some (Call e.op)) entries
+  by_leaf : (entries : List Entry) → AllByRecursion (CountsAlike f job.acts) entries
       → total f (acts_in entries) ≡ part at (length job.acts) (map (λ (e : Entry). e.leaf) entries)
   by_leaf [] all = refl
   by_leaf (e ∷ entries) all =
-      let below = slice_get_within job.acts e.leaf (Call e.op) all.0 in
+      let below = slice_get_within job.acts e.leaf (Call all.0.0) all.0.1.0 in
       let t : nat_lt e.leaf (length job.acts) ≡ true = grind (arith, nat_tests) in
-      let same : at e.leaf ≡ f e.op = ap (count_at f) all.0 in
+      let same : at e.leaf ≡ f e.op = ap (count_at f) all.0.1.0 ∙ all.0.1.1 in
       rw (t, same) (ap (λ n. f e.op + n) (by_leaf entries all.1))
 
--- the sum over the entries is that over the acts
-pub total_is : (job : JobValue) (entries : List Entry) → HasEachOnce (IsCallLeaf job) (map (λ (e : Entry). e.leaf) entries)
-    → AllByRecursion (λ (e : Entry). slice_get job.acts e.leaf ≡ Some (Call e.op)) entries → (f : Op → ℕ) → total f (acts_in entries) ≡ total f job.acts
-total_is job entries each operations f =
+-- the sum over the entries is that over the acts, for a count that counts them alike
+pub alike_total : (job : JobValue) (entries : List Entry) → HasEachOnce (IsCallLeaf job.acts) (map (λ (e : Entry). e.leaf) entries)
+    → (f : Op → ℕ) → AllByRecursion (CountsAlike f job.acts) entries → total f (acts_in entries) ≡ total f job.acts
+alike_total job entries each f alike =
     let leaves = map (λ (e : Entry). e.leaf) entries in
-    by_leaf job leaves each f entries operations ∙ front job leaves each f (length job.acts) (omega arith) ∙ ap (total f) (take_all (length job.acts) job.acts (omega arith))
+    by_leaf job leaves each f entries alike ∙ front job leaves each f (length job.acts) (omega arith) ∙ ap (total f) (take_all (length job.acts) job.acts (omega arith))
+
+-- where the entries have the acts' operations, each count counts them alike
+same_counts : (f : Op → ℕ) (acts : List Act) (entries : List Entry) → AllByRecursion (λ (e : Entry). slice_get acts e.leaf ≡ Some (Call e.op)) entries
+    → AllByRecursion (CountsAlike f acts) entries
+same_counts f acts [] all = tt
+same_counts f acts (e ∷ entries) all = ((e.op, (all.0, refl)), same_counts f acts entries all.1)
+
+-- the sum over the entries is that over the acts
+pub total_is : (job : JobValue) (entries : List Entry) → HasEachOnce (IsCallLeaf job.acts) (map (λ (e : Entry). e.leaf) entries)
+    → AllByRecursion (λ (e : Entry). slice_get job.acts e.leaf ≡ Some (Call e.op)) entries → (f : Op → ℕ) → total f (acts_in entries) ≡ total f job.acts
+total_is job entries each operations f = alike_total job entries each f (same_counts f job.acts entries operations)

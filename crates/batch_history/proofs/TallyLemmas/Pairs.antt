@@ -11,7 +11,7 @@ use Rattle.seq_objects.specs.Pairs.{EachPair}
 use Rattle.seq_objects.proofs.Elements.{each_append}
 use Rattle.sp_order.specs.Precedence.{Tree, leaf, seq, par, leaves, leaf_count, IsBeforeFrom, IsBefore}
 use Rattle.sp_order.specs.Jobs.{JobValue}
-use Rattle.sp_order.specs.Phases.{ComesBefore}
+use Rattle.sp_order.specs.Phases.{ComesBefore, HasNoSources}
 use Rattle.batch_history.specs.declared.batch.Entry.{Entry}
 use Rattle.batch_history.specs.declared.row.Row.{Row}
 use Rattle.batch_history.specs.declared.report.Report.{Report}
@@ -80,13 +80,16 @@ length_range first (suc n) = omega (arith, length_range (first + 1) n)
 no_row : Row
 no_row = record { leaf = 0; worker = 0; start = 0; end = 0; value = 0 }
 
-module _ (job : JobValue) (workers : ℕ) (report : Report) (lawful : Lawful job workers report) where
-  pub rows_long : length report.rows ≡ leaf_count job.shape
-  rows_long = sym (length-map report.rows (λ (r : Row). r.leaf)) ∙ ap length lawful.rows.leaves ∙ length_range 0 (leaf_count job.shape)
+pub rows_long : (job : JobValue) (workers : ℕ) (report : Report) → Lawful job workers report → length report.rows ≡ leaf_count job.shape
+rows_long job workers report lawful = sym (length-map report.rows (λ (r : Row). r.leaf)) ∙ ap length lawful.rows.leaves ∙ length_range 0 (leaf_count job.shape)
+
+module _ (job : JobValue) (workers : ℕ) (report : Report) (lawful : Lawful job workers report) (none : HasNoSources job) where
+  long : length report.rows ≡ leaf_count job.shape
+  long = rows_long job workers report lawful
 
   called : (entry : Entry) (n : ℕ) → InBook report.history n entry → slice_get job.acts entry.leaf ≡ Some (Call entry.op)
   called entry n stands =
-      each_at (λ (e : Entry). slice_get job.acts e.leaf ≡ Some (Call e.op)) (flat report.history) entry (acts_at job.acts report.history (flat report.history) lawful.calls.operations)
+      each_at (λ (e : Entry). slice_get job.acts e.leaf ≡ Some (Call e.op)) (flat report.history) entry (acts_at job report.history (flat report.history) none lawful.calls.operations)
       (in_flat report.history n entry stands)
 
   -- calls counted by `early` come before calls counted by `late`
@@ -94,8 +97,8 @@ module _ (job : JobValue) (workers : ℕ) (report : Report) (lawful : Lawful job
   apart early late before = flat_pairs (λ a b. 1 ≤ late a.op → 1 ≤ early b.op → ⊥) report.history (λ i j a b le sa sb is_late is_early.
       let first = before b.leaf a.leaf b.op a.op (called b j sb) (called a i sa) is_early is_late in
       let below = before_below job.shape b.leaf a.leaf first in
-      let row_b = slice_get-get_or report.rows b.leaf no_row (omega (arith, below.0, rows_long)) in
-      let row_a = slice_get-get_or report.rows a.leaf no_row (omega (arith, below.1, rows_long)) in
+      let row_b = slice_get-get_or report.rows b.leaf no_row (omega (arith, below.0, long)) in
+      let row_a = slice_get-get_or report.rows a.leaf no_row (omega (arith, below.1, long)) in
       let ends = lawful.order.before b.leaf a.leaf first (get_or report.rows b.leaf no_row) row_b (get_or report.rows a.leaf no_row) row_a in
       let earlier : j < i = lawful.ticks j i b a sb sa (get_or report.rows b.leaf no_row) row_b (get_or report.rows a.leaf no_row) row_a ends in
       omega (arith, earlier, le))

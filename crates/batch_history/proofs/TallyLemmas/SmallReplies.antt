@@ -1,5 +1,5 @@
 -- The numbers in the replies of few calls with arguments below 2^32 are below 2^64.
-use Rattle.std.proofs.Common.{◌≡◌, ℕ, zero, suc, ◌+◌, ◌-◌, ◌*◌, ◌<◌, ◌≤◌, ◌^◌, Bool, true, false, List, [], ◌∷◌, ◌++◌, length, take, drop, Option, Some, None, refl, sym, subst, arith}
+use Rattle.std.proofs.Common.{◌≡◌, ℕ, zero, suc, ◌+◌, ◌-◌, ◌*◌, ◌<◌, ◌≤◌, ◌^◌, Bool, true, false, List, [], ◌∷◌, ◌++◌, length, take, drop, Option, Some, None, inl, inr, refl, sym, subst, arith}
 use Rattle.std.specs.Prelude.{nat_le, nat_lt, ◌==◌, not, slice_get, if◌then◌else◌, cond}
 use Rattle.std.specs.List.{AllByRecursion}
 use Rattle.key_sets.specs.Keys.{has, with_key, without_key, least_above}
@@ -16,8 +16,9 @@ use Rattle.batch_history.specs.declared.report.Report.{Report}
 use Rattle.batch_history.specs.Book.{flat, IsLegalFrom}
 use Rattle.batch_history.specs.Serving.{acts_in}
 use Rattle.batch_history.specs.Lawful.{Lawful}
-use Rattle.batch_history.proofs.TallyLemmas.Jobs.{totals}
-use Rattle.batch_history.proofs.ActLemmas.{acts_at}
+use Rattle.batch_history.specs.Operations.{op_of}
+use Rattle.batch_history.proofs.TallyLemmas.Leaves.{CountsAlike, alike_total}
+use Rattle.batch_history.proofs.ActLemmas.{IsGiven, called_as, narrow}
 
 abbrev AreSmall : List ℕ → Type 0
 AreSmall numbers = AllByRecursion (λ n. n < 2 ^ 32) numbers
@@ -107,16 +108,30 @@ all_served objects (entry ∷ entries) small legal args =
 pub small_replies : (entries : List Entry) → IsLegalFrom opening entries → AllByRecursion (λ entry. argument_of entry.op < 2 ^ 32) entries → length entries ≤ 2 ^ 32 → AllByRecursion (λ entry. value_of entry.reply < 2 ^ 64) entries
 small_replies entries legal args few = all_served opening entries (record { counter = omega (arith, few); stack = tt; set = tt; bag = tt }) legal args
 
--- the arguments of the calls are those of the job
+-- the argument of a call is that of its act, or the low bits of a value
 at_leaf : (acts : List Act) (leaf : ℕ) (op : Op) → AllByRecursion (λ act. count_of_act argument_of act < 2 ^ 32) acts → slice_get acts leaf ≡ Some (Call op) → argument_of op < 2 ^ 32
 at_leaf [] leaf op small is = cc
 at_leaf (act ∷ acts) zero op small is = let same : act ≡ Call op = cc in subst (λ (a : Act). count_of_act argument_of a < 2 ^ 32) same small.0
 at_leaf (act ∷ acts) (suc leaf) op small is = at_leaf acts leaf op small.1 is
 
-called : (acts : List Act) (entries : List Entry) → AllByRecursion (λ act. count_of_act argument_of act < 2 ^ 32) acts
-    → AllByRecursion (λ entry. slice_get acts entry.leaf ≡ Some (Call entry.op)) entries → AllByRecursion (λ entry. argument_of entry.op < 2 ^ 32) entries
-called acts [] small operations = tt
-called acts (entry ∷ entries) small operations = (at_leaf acts entry.leaf entry.op small operations.0, called acts entries small operations.1)
+given_small : (op given : Op) → argument_of given < 2 ^ 32 → IsGiven op given → argument_of op < 2 ^ 32
+given_small op given small (inl same) = subst (λ (o : Op). argument_of o < 2 ^ 32) (sym same) small
+given_small op given small (inr value) = subst (λ (o : Op). argument_of o < 2 ^ 32) (sym value.1) (narrow given value.0)
+
+called : (job : JobValue) (book : List (List Entry)) (entries : List Entry) → AllByRecursion (λ act. count_of_act argument_of act < 2 ^ 32) job.acts
+    → AllByRecursion (λ entry. op_of job book entry.leaf ≡ Some entry.op) entries → AllByRecursion (λ entry. argument_of entry.op < 2 ^ 32) entries
+called job book [] small operations = tt
+called job book (entry ∷ entries) small operations =
+    let given = called_as job book entry.leaf entry.op operations.0 in
+    (given_small entry.op given.0 (at_leaf job.acts entry.leaf given.0 small given.1.0) given.1.1, called job book entries small operations.1)
+
+-- each entry counts as one, as its act does
+count_one : (job : JobValue) (book : List (List Entry)) (entries : List Entry) → AllByRecursion (λ entry. op_of job book entry.leaf ≡ Some entry.op) entries
+    → AllByRecursion (CountsAlike (λ _. 1) job.acts) entries
+count_one job book [] operations = tt
+count_one job book (entry ∷ entries) operations =
+    let given = called_as job book entry.leaf entry.op operations.0 in
+    ((given.0, (given.1.0, refl)), count_one job book entries operations.1)
 
 -- there are no more calls than acts
 calls_counted : (entries : List Entry) → total (λ _. 1) (acts_in entries) ≡ length entries
@@ -134,5 +149,7 @@ acts_counted (act ∷ acts) = omega (arith, one_or_none act, acts_counted acts)
 pub small_replies_of : (job : JobValue) (workers : ℕ) (report : Report) → Lawful job workers report → length job.acts ≤ 2 ^ 32
     → AllByRecursion (λ act. count_of_act argument_of act < 2 ^ 32) job.acts → AllByRecursion (λ entry. value_of entry.reply < 2 ^ 64) (flat report.history)
 small_replies_of job workers report lawful few small =
-    small_replies (flat report.history) lawful.replies (called job.acts (flat report.history) small (acts_at job.acts report.history (flat report.history) lawful.calls.operations))
-    (omega (arith, few, calls_counted (flat report.history), totals job workers report lawful (λ _. 1), acts_counted job.acts))
+    let entries = flat report.history in
+    let counted = alike_total job entries lawful.calls.leaves (λ _. 1) (count_one job report.history entries lawful.calls.operations) in
+    small_replies entries lawful.replies (called job report.history entries small lawful.calls.operations)
+    (omega (arith, few, calls_counted entries, counted, acts_counted job.acts))

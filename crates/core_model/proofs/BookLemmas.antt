@@ -1,3 +1,4 @@
+pub mod Operations
 pub mod CallsIn
 pub mod LeavesIn
 pub mod Room
@@ -6,4 +7,5 @@ pub mod EntryPlaces
 pub mod Standing
 pub mod OwnEntries
 pub mod Receipts
+pub mod Sources
 pub mod UnservedCalls

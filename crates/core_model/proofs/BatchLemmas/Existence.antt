@@ -1,12 +1,15 @@
 -- The calls that are taken make a batch: they are gathered, one worker after another, and each is put at its place in
 -- batch order.
-use Rattle.std.proofs.Common.{ℕ, zero, suc, ◌≡◌, ◌≢◌, ◌<◌, ◌⊎◌, Bool, true, false, Option, Some, None, List, [], ◌∷◌, ◌++◌, arith, refl, inl, inr, subst, sym, ap}
+use Rattle.std.proofs.Common.{ℕ, zero, suc, ◌≡◌, ◌≢◌, ◌<◌, ◌⊎◌, Bool, true, false, Option, Some, List, [], ◌∷◌, ◌++◌, arith, refl, inl, inr, subst, sym, ap}
 use Rattle.std.specs.List.{AllByRecursion}
 use Rattle.std.proofs.lemmas.Bool.{cases_eq, cases_lt, cases_Bool}
 use Rattle.seq_objects.specs.Batches.{AreInBatchOrder}
 use Rattle.seq_objects.specs.declared.call.Call.{Call}
-use Rattle.core_model.proofs.Words.{Op, Kind, Entry, Publish, Task, Started, CoreJob, State}
-use Rattle.core_model.specs.Operations.{IsCall, IsLeaf, leaf_of, op_of}
+use Rattle.core_model.proofs.Words.{Op, Kind, LeafNode, Entry, Publish, Task, Started, CoreJob, State}
+use Rattle.core_model.specs.LeafSources.{HasSources}
+use Rattle.core_model.specs.Operations.{IsCall, IsLeaf, Place, leaf_of, place_of}
+use Rattle.core_model.proofs.BookLemmas.Operations.{some_op}
+use Rattle.core_model.proofs.BookLemmas.Sources.{source_replied}
 use Rattle.core_model.specs.Events.{Needs, IsBatchOf}
 use Rattle.core_model.specs.Invariant.Statuses.{IsAtCall}
 use Rattle.core_model.specs.Invariant.Tasks.{TaskFits}
@@ -75,19 +78,16 @@ place call (y ∷ ys) apart order = elim (first_or_not call.op y.op call.worker 
       }
 ]
 
-some_op : (o : Option Op) → o ≢ None → (op : Op) × (o ≡ Some op)
-some_op None some = absurd (some refl)
-some_op (Some op) some = (op, refl)
-
--- a worker that is at a call has a call
+-- a worker that is at a call has a call, where the book has the entry of the leaf's source
 call_at : (job : CoreJob) (book : List (List Entry)) (task : Task) (w : ℕ) → IsAtCall job task → ((n start : ℕ) → task ≡ Started n start → IsLeaf (job.plan.kind n))
+    → ((n start leaf source : ℕ) → task ≡ Started n start → job.plan.kind n ≡ Some (LeafNode leaf) → job.source leaf ≡ Some source → (place : Place) × (place_of book source ≡ Some place))
     → (call : Call) × (call.worker ≡ w) × IsCallOf job book task call
-call_at job book task w at_call at_leaf =
+call_at job book task w at_call at_leaf there =
     let started = at_call_started job task at_call in
     let leaf = at_leaf started.0 started.1 started.2 in
     let calls : IsAtCall job (Started started.0 started.1) = subst (IsAtCall job) started.2 at_call in
     let calls_leaf : IsCall job leaf.0 = subst (λ (kind : Option Kind). IsCall job (leaf_of kind)) leaf.1 calls in
-    let op = some_op (op_of job book leaf.0) calls_leaf in
+    let op = some_op job book leaf.0 calls_leaf (λ source is. there started.0 started.1 leaf.0 source started.2 leaf.1 is) in
     (record { worker = w; leaf = leaf.0; op = op.0 }, refl, (started.0, started.1, leaf.1, started.2, op.1))
 
 -- a task that is started names a leaf
@@ -146,10 +146,11 @@ module _ (job : CoreJob) (book : List (List Entry)) (task : ℕ → Task) (taken
   ]
 
 -- so there is a batch for a publish to serve
-pub batch_exists : (job : CoreJob) (s : State) (w : ℕ) → InductiveParts job s → Needs job s w Publish → (batch : List Entry) × IsBatchOf job s batch
-batch_exists job s w h needs =
+pub batch_exists : (job : CoreJob) (s : State) (w : ℕ) → HasSources job → InductiveParts job s → Needs job s w Publish → (batch : List Entry) × IsBatchOf job s batch
+batch_exists job s w sources h needs =
     let all = taken_up_to job s.book s.task needs.0.taken
-    (λ v took. call_at job s.book (s.task v) v (taken_at_call job s needs.0 h needs.1.0 needs.4 v took) (started_leaf job s h v)) job.workers in
+    (λ v took. call_at job s.book (s.task v) v (taken_at_call job s needs.0 h needs.1.0 needs.4 v took) (started_leaf job s h v)
+    (λ n start leaf source is kind of. let replied = source_replied job s sources h v n start leaf source is kind of in (replied.place, replied.stands))) job.workers in
     let entries = replied s.objects all.calls in
     let are = sym (replied_are s.objects all.calls) in (
       entries,

@@ -4,7 +4,8 @@ use Rattle.std.proofs.lemmas.List.{length-map}
 use Rattle.std.specs.List.{AllByRecursion}
 use Rattle.core_model.proofs.Words.{Op, LeafNode, IsPlan, Entry, CoreJob, put}
 use Rattle.seq_objects.specs.Pairs.{AreDistinct}
-use Rattle.core_model.specs.Operations.{op_in, IsCall}
+use Rattle.core_model.specs.Operations.{op_in, op_of, IsCall}
+use Rattle.core_model.proofs.BookLemmas.Operations.{is_call}
 use Rattle.core_model.specs.Measure.{total, one_if, one_if_call, call_count}
 use Rattle.core_model.proofs.InvariantLemmas.Puts.{put_at, put_other}
 use Rattle.core_model.proofs.MeasureLemmas.Jobs.{total_change}
@@ -31,10 +32,10 @@ one_counted None some = absurd (some refl)
 one_counted (Some op) some = omega arith
 
 -- the leaves of entries call
-pub each_calls : (job : CoreJob) (entries : List Entry) → AllByRecursion (λ (e : Entry). op_in (job.act e.leaf) ≡ Some e.op) entries
+pub each_calls : (job : CoreJob) (book : List (List Entry)) (entries : List Entry) → AllByRecursion (λ (e : Entry). op_of job book e.leaf ≡ Some e.op) entries
     → AllByRecursion (IsCall job) (map (λ (e : Entry). e.leaf) entries)
-each_calls job [] h = tt
-each_calls job (e ∷ es) h = (λ none. let f = h.0 in cc, each_calls job es h.1)
+each_calls job book [] h = tt
+each_calls job book (e ∷ es) h = (is_call job book e.leaf e.op h.0, each_calls job book es h.1)
 
 module _ (job : CoreJob) (laws : IsPlan job.plan) (there : (leaf : ℕ) → IsCall job leaf → (n : ℕ) × (job.plan.kind n ≡ Some (LeafNode leaf))) where
   -- a leaf that calls stands at its node

@@ -5,9 +5,10 @@ use Rattle.core_model.specs.Entries.{StandsAt}
 use Rattle.core_model.specs.Events.{HasStarted}
 use Rattle.core_model.specs.Invariant.{Parts}
 use Rattle.core_model.specs.Invariant.Statuses.{HasReceipt}
-use Rattle.core_model.specs.Operations.{IsCall, IsReceipt, op_of, Place, place_of, receipt_for}
+use Rattle.core_model.specs.Operations.{IsReceipt, op_of, Place, place_of, receipt_for}
 use Rattle.core_model.specs.Waits.{task_place}
 use Rattle.batch_history.proofs.BookLemmas.Books.{found_in_book}
+use Rattle.core_model.proofs.BookLemmas.Operations.{is_call}
 use Rattle.core_model.proofs.BookLemmas.Standing.{found_stands}
 
 entry_is : (e : Entry) (leaf worker : ℕ) (op : Op) (r : Receipt) → e.leaf ≡ leaf → e.worker ≡ worker → e.op ≡ op → r.reply ≡ e.reply
@@ -18,16 +19,13 @@ one_op : (a b : Op) (o : Option Op) → o ≡ Some a → o ≡ Some b → a ≡ 
 one_op a b o e f = cc
 
 module _ (job : CoreJob) (s : State) (w n leaf : ℕ) (op : Op) (r : Receipt) (parts : Parts job s) (started : HasStarted job s w n leaf) (does : op_of job s.book leaf ≡ Some op) where
-  calls : IsCall job leaf
-  calls none = let e = does in cc
-
   its_receipt : (s.status w ≡ Served r) ⊎ (s.call w ≡ Got r) → HasReceipt job s.book (s.task w) r
   its_receipt (inl served) = parts.statuses.served_receipt w r served
   its_receipt (inr got) = parts.statuses.got_receipt w r got
 
   its_place : (s.status w ≡ Served r) ⊎ (s.call w ≡ Got r) → (p : Place) × (place_of s.book leaf ≡ Some p) × (p.entry.worker ≡ w)
-  its_place (inl served) = parts.members.each n leaf started.0 calls w (inr (inr (inr (started.1, started.2, inr (inl (r, served))))))
-  its_place (inr got) = parts.members.each n leaf started.0 calls w (inr (inr (inr (started.1, started.2, inl (r, got)))))
+  its_place (inl served) = parts.members.each n leaf started.0 (is_call job s.book leaf op does) w (inr (inr (inr (started.1, started.2, inr (inl (r, served))))))
+  its_place (inr got) = parts.members.each n leaf started.0 (is_call job s.book leaf op does) w (inr (inr (inr (started.1, started.2, inl (r, got)))))
 
   pub own_entry : (s.status w ≡ Served r) ⊎ (s.call w ≡ Got r)
       → (p : Place) × (task_place job s.book (s.task w) ≡ Some p) × (place_of s.book leaf ≡ Some p) × (r ≡ receipt_for p)

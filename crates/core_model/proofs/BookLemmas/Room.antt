@@ -7,7 +7,8 @@ use Rattle.std.proofs.lemmas.Map.Views.{Contains-from_any}
 use Rattle.core_model.proofs.Words.{Entry, CoreJob, State}
 use Rattle.seq_objects.specs.Pairs.{AreDistinct}
 use Rattle.batch_history.specs.Book.{flat, IsBatch}
-use Rattle.core_model.specs.Operations.{op_in, IsCall}
+use Rattle.core_model.specs.Operations.{op_of, IsCall}
+use Rattle.core_model.proofs.BookLemmas.Operations.{is_call}
 use Rattle.core_model.proofs.Inductive.Parts.{InductiveParts}
 use Rattle.batch_history.proofs.BookLemmas.EntryLists.{each_so, each_mapped, each_at, distinct_tests}
 
@@ -25,7 +26,7 @@ few_batches ((e ∷ es) ∷ book) h = let more = few_batches book h.1 in omega (
 module _ (job : CoreJob) (s : State) (h : InductiveParts job s) where
   -- the leaves that are in the book call
   pub leaves_call : AllByRecursion (λ (e : Entry). IsCall job e.leaf) (flat s.book)
-  leaves_call = each_so (λ (e : Entry). op_in (job.act e.leaf) ≡ Some e.op) (λ (e : Entry). IsCall job e.leaf) (λ e is none. cc) (flat s.book) h.book.operations
+  leaves_call = each_so (λ (e : Entry). op_of job s.book e.leaf ≡ Some e.op) (λ (e : Entry). IsCall job e.leaf) (λ e is. is_call job s.book e.leaf e.op is) (flat s.book) h.book.operations
 
   -- there are no more entries than numbers of leaves that call
   pub few_entries : (most : ℕ) → ((leaf : ℕ) → IsCall job leaf → leaf < most) → length (flat s.book) ≤ most

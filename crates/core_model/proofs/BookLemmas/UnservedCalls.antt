@@ -111,7 +111,7 @@ module _ (job : CoreJob) (s : State) (laws : IsPlan job.plan) (parts : Parts job
   all_call : (workers : List ℕ) → AllByRecursion (IsUnserved s) workers → AllByRecursion (IsCall job) (leaves_with workers)
   all_call workers unserved =
       each_append (IsCall job) (map (λ (e : Entry). e.leaf) (flat s.book)) (map leaf_called workers)
-      (each_calls job (flat s.book) parts.book.operations)
+      (each_calls job s.book (flat s.book) parts.book.operations)
       (each_mapped leaf_called (IsUnserved s) (IsCall job) (λ w q. let call = waiting w q in subst (IsCall job) (sym (leaf_is w call)) call.calls) workers unserved)
 
   all_distinct : (workers : List ℕ) → AreDistinct workers → AllByRecursion (IsUnserved s) workers → AreDistinct (leaves_with workers)

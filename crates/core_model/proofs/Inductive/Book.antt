@@ -30,6 +30,12 @@ StatusFits job book task (Served receipt) (Got other) taken = ⊥
 abbrev pub EntryFits : CoreJob → List (List Entry) → ℕ → Place → Type 0
 EntryFits job book leaf place = (op_of job book leaf ≡ Some place.entry.op) × (place.entry.worker < job.workers) × (place.batch < length book)
 
+-- the entry of a leaf's source stands in an earlier batch than the leaf's own
+abbrev pub SourcesFirst : CoreJob → List (List Entry) → Type 0
+SourcesFirst job book =
+    (leaf source : ℕ) (later : Place) → job.source leaf ≡ Some source → place_of book leaf ≡ Some later
+    → (earlier : Place) × (place_of book source ≡ Some earlier) × (earlier.batch < later.batch)
+
 -- the first place, of a leaf that has an end, is in an earlier batch than the second, if there is one
 abbrev pub IsEarlier : Option Place → Option Place → Type 0
 IsEarlier place None = Unit {0}
@@ -44,6 +50,7 @@ pub record InductiveBook (job : CoreJob) (book : List (List Entry)) (after : obj
   pub leaves : AreDistinct (map (λ entry. entry.leaf) (flat book))
   pub among : AllByRecursion (λ entry. entry.worker < job.workers) (flat book)
   pub operations : AllByRecursion (λ entry. op_of job book entry.leaf ≡ Some entry.op) (flat book)
+  pub sources : SourcesFirst job book
   pub entries : (leaf : ℕ) (place : Place) → place_of book leaf ≡ Some place → EntryFits job book leaf place
   pub in_order : (n m u v w x a b d : ℕ) (e : Option ℕ)
       → job.plan.kind n ≡ Some (LeafNode u) → job.plan.kind m ≡ Some (LeafNode v) → IsCall job u

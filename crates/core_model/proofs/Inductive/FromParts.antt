@@ -315,6 +315,7 @@ module _ (job : CoreJob) (s : State) (h : Parts job s) where
     leaves = h.book.leaves;
     among = h.book.among;
     operations = h.book.operations;
+    sources = h.book.sources;
     entries = λ leaf place at.
         let op = found_in_book (λ (e : Entry). op_of job s.book e.leaf ≡ Some e.op) s.book leaf place h.book.operations at in
         let among' = found_in_book (λ (e : Entry). e.worker < job.workers) s.book leaf place h.book.among at in

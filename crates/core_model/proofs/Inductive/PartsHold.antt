@@ -91,6 +91,7 @@ book_stands job s h = record {
   among = h.book.among;
   leaves = h.book.leaves;
   operations = h.book.operations;
+  sources = h.book.sources;
   in_order = λ n m u v w x a b d kind kind' call ends starts less later at.
       let started = stamped job.plan s.node s.mark s.task h.holder h.tasks m x b starts in
       earlier_place (place_of s.book u) (place_of s.book v) later

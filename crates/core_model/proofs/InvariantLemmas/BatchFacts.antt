@@ -1,6 +1,6 @@
 -- What a published batch means for statuses, for entries and for which calls are in the book.
-use Rattle.std.proofs.Common.{ℕ, ◌≡◌, ◌≢◌, ◌<◌, Bool, true, false, if◌then◌else◌, Option, Some, None, List, [], ◌∷◌, ◌++◌, length, arith, refl, sym, ◌∙◌, ap, length-append}
-use Rattle.core_model.proofs.Words.{Op, LeafNode, Nodes, Entry, Progress, Waiting, Ready, Taken, Done, Ran, Task, Idle, Run, Half, Started, Kept, Ended, Whole, Handed, Status, Executing, CallState, Out, Receipt, CoreJob, Hold, State, names}
+use Rattle.std.proofs.Common.{ℕ, ◌≡◌, ◌≢◌, ◌<◌, Bool, true, false, if◌then◌else◌, Option, Some, None, List, [], ◌∷◌, ◌++◌, length, arith, refl, inl, inr, sym, ◌∙◌, ap, length-append}
+use Rattle.core_model.proofs.Words.{LeafNode, Nodes, Entry, Progress, Waiting, Ready, Taken, Done, Ran, Task, Idle, Run, Half, Started, Kept, Ended, Whole, Handed, Status, Executing, CallState, Out, Receipt, CoreJob, Hold, State, names}
 use Rattle.core_model.specs.Operations.{leaf_of, op_of, Place, place_in, or_else, place_of, IsReceipt}
 use Rattle.core_model.specs.Invariant.Tasks.{TaskFits}
 use Rattle.core_model.specs.Events.{published}
@@ -8,8 +8,9 @@ use Rattle.core_model.specs.Invariant.Statuses.{HasReceipt, is_taken_by}
 use Rattle.core_model.specs.Invariant.Hold.{HoldInvariant}
 use Rattle.core_model.proofs.Inductive.Nodes.{InductiveTasks}
 use Rattle.core_model.proofs.Inductive.Ticks.{stamp, stamps}
-use Rattle.core_model.proofs.Inductive.Book.{StatusFits, EntryFits, IsEarlier, is_booked, booked_by, worker_at}
-use Rattle.batch_history.proofs.BookLemmas.Books.{place_append, place_in_batch}
+use Rattle.core_model.proofs.Inductive.Book.{StatusFits, EntryFits, SourcesFirst, IsEarlier, is_booked, booked_by, worker_at}
+use Rattle.batch_history.proofs.BookLemmas.Books.{place_append, place_below, place_in_batch, which_place}
+use Rattle.core_model.proofs.BookLemmas.Operations.{op_kept, of_source}
 
 -- the node that a task has started
 abbrev pub started_at : Task → Option ℕ
@@ -21,10 +22,6 @@ started_at (Kept n t) = None
 started_at (Ended n t e) = None
 started_at (Whole n) = None
 started_at (Handed n) = None
-
--- the operation of a leaf that calls stays the same in a longer book
-pub op_kept : (job : CoreJob) (book : List (List Entry)) (b : List Entry) (u : ℕ) (op : Op) → op_of job book u ≡ Some op → op_of job (book ++ b ∷ []) u ≡ Some op
-op_kept job book b u op h = h
 
 -- the calls of a batch, against the tasks and the workers whose calls are taken
 pub record BatchFits (job : CoreJob) (s : State) (took : ℕ → Bool) (batch : List Entry) : Type 0 where
@@ -153,6 +150,20 @@ new_entry job s h b u p hold looks batch e = (
   omega (arith, hold.2 p.entry.worker (batch.taken u p e), looks),
   omega (arith, place_in_batch (length s.book) 0 b u p e, length-append s.book (b ∷ [])),
 )
+
+-- the entries of sources stand first in a longer book too
+pub source_kept : (job : CoreJob) (s : State) (h : Hold) (b : List Entry) → BatchFits job s h.taken b → SourcesFirst job s.book → SourcesFirst job (s.book ++ b ∷ [])
+source_kept job s h b batch old leaf source later is at = elim (which_place (place_of s.book leaf) (place_in (length s.book) 0 b leaf) later (sym (place_append s.book b leaf) ∙ at)) [
+  | inl first ↦
+      let stands = old leaf source later is first in
+      (stands.0, place_append s.book b source ∙ ap (λ o. or_else o (place_in (length s.book) 0 b source)) stands.1, stands.2)
+  | inr second ↦
+      let stands = of_source job s.book leaf source later.entry.op (batch.operation leaf later second) is in (
+        stands.0,
+        place_append s.book b source ∙ ap (λ o. or_else o (place_in (length s.book) 0 b source)) stands.1,
+        omega (arith, place_below s.book source stands.0 stands.1, place_in_batch (length s.book) 0 b leaf later second),
+      )
+]
 
 -- where there is a worker, there is a place
 pub has_place : (p : Option Place) (w : ℕ) → worker_at p ≡ Some w → p ≢ None

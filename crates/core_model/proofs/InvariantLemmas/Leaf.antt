@@ -10,6 +10,7 @@ use Rattle.core_model.specs.Invariant.Statuses.{IsAtCall, is_taken_by}
 use Rattle.core_model.specs.Invariant.Hold.{is_published}
 use Rattle.core_model.proofs.Inductive.Nodes.{HoldersFit}
 use Rattle.core_model.proofs.Inductive.Ticks.{Stamp, stamp, stamps, RanBefore, ComesBefore, InductiveTicks}
+use Rattle.core_model.proofs.BookLemmas.Operations.{is_call}
 use Rattle.core_model.proofs.Inductive.Book.{StatusFits, EntryFits, IsEarlier, InductiveBook, booked_by, worker_at, valued_by}
 use Rattle.core_model.proofs.Inductive.Parts.{InductiveParts}
 use Rattle.core_model.proofs.InvariantLemmas.Puts.{put_at, put_other}
@@ -105,6 +106,7 @@ start_book job s old n w h out = record {
   leaves = h.leaves;
   among = h.among;
   operations = h.operations;
+  sources = h.sources;
   entries = h.entries;
   in_order = λ k m u v x y a t d e lk lm call i j l. elim (cases_eq m n) [
     | inl q ↦ out v (rw q at lm) (place_of s.book u)
@@ -117,7 +119,7 @@ out_of_book : (job : CoreJob) (s : State) (u : ℕ) → ((p : Place) → place_o
     → (IsCall job u → worker_at (place_of s.book u) ≡ None) → worker_at (place_of s.book u) ≡ None
 out_of_book job s u entries call = elim (place_of s.book u) as (λ o. place_of s.book u ≡ o → worker_at (place_of s.book u) ≡ None) [
   | None ↦ λ e. ap worker_at e
-  | Some p ↦ λ e. call (λ f. let g = (entries p e).0 in cc)
+  | Some p ↦ λ e. call (is_call job s.book u p.entry.op (entries p e).0)
 ] refl
 
 -- the inductive invariant, after a start
@@ -176,6 +178,7 @@ end_book job s old n w t h low was = record {
   leaves = h.leaves;
   among = h.among;
   operations = h.operations;
+  sources = h.sources;
   entries = h.entries;
   in_order = λ k m u v x y a b d e lk lm call i j l. elim (cases_eq k n) [
     | inl q ↦ absurd (too_late old n w t s.tick m y b d e (low m y b) (low n w t None was) (sym (put_at old n k (Some (stamp w t (Some s.tick))) q) ∙ i) j l)

@@ -2,11 +2,11 @@
 use Rattle.std.proofs.Common.{ℕ, ◌≡◌, ◌≢◌, ◌<◌, Bool, true, false, Option, Some, None, List, [], ◌∷◌, ◌++◌, length, map, arith, refl, inl, inr, subst, sym, ◌∙◌, ap}
 use Rattle.std.proofs.lemmas.List.{map-append}
 use Rattle.std.specs.List.{AllByRecursion}
-use Rattle.core_model.proofs.Words.{Op, Act, Work, Call, LeafNode, IsPlan, Entry, Progress, Taken, Task, Started, Status, Executing, CallState, Out, Publish, CoreJob, Hold, State, names}
+use Rattle.core_model.proofs.Words.{Act, Work, Call, LeafNode, IsPlan, Entry, Progress, Taken, Task, Started, Status, Executing, CallState, Out, Publish, CoreJob, Hold, State, names}
 use Rattle.seq_objects.specs.Objects.{opening}
 use Rattle.seq_objects.specs.Pairs.{AreDistinct}
 use Rattle.batch_history.specs.Book.{flat, IsBatch}
-use Rattle.core_model.specs.Operations.{leaf_of, op_in, IsCall, op_of, Place, place_in, or_else, place_of}
+use Rattle.core_model.specs.Operations.{leaf_of, op_in, op_of, Place, place_in, or_else, place_of}
 use Rattle.core_model.specs.Serving.{served}
 use Rattle.core_model.specs.Invariant.Tasks.{TaskFits}
 use Rattle.core_model.specs.Events.{has_taken, Needs, published, IsTakenCall, IsBatchOf}
@@ -17,11 +17,8 @@ use Rattle.core_model.proofs.Inductive.Book.{StatusFits, booked_by, worker_at, v
 use Rattle.core_model.proofs.Inductive.Parts.{InductiveParts}
 use Rattle.batch_history.proofs.BookLemmas.EntryLists.{each_append, each_so, each_both, each_mapped, each_at, distinct_append, apart_by, distinct_leaves}
 use Rattle.batch_history.proofs.BookLemmas.Books.{which_place, place_append, place_in_batch, found_entry, each_found, each_in_book, flat_append, served_append, legal_append}
-use Rattle.core_model.proofs.InvariantLemmas.BatchFacts.{started_at, op_kept, BatchFits, status_kept, taken_same, hold_kept, earlier_append, booked_published, entry_kept, executing, took_it, new_entry, has_place, ended_booked, batch_node, batch_each}
-
--- a leaf with an operation calls
-calls : (job : CoreJob) (book : List (List Entry)) (u : ℕ) (op : Op) → op_of job book u ≡ Some op → IsCall job u
-calls job book u op e none = cc
+use Rattle.core_model.proofs.BookLemmas.Operations.{op_kept, is_call}
+use Rattle.core_model.proofs.InvariantLemmas.BatchFacts.{started_at, BatchFits, status_kept, taken_same, hold_kept, earlier_append, booked_published, entry_kept, executing, took_it, new_entry, source_kept, has_place, ended_booked, batch_node, batch_each}
 
 -- two taken calls of one leaf have one worker
 pub one_worker : (job : CoreJob) (s : State) (holder : ℕ → Option ℕ) → IsPlan job.plan → HoldersFit s.task holder
@@ -94,7 +91,7 @@ not_in_book job s hd e h there unpublished call =
     let fits : TaskFits job.plan s.node s.mark (Started call.node call.started.1) = rw call.started.2 at (h.tasks.fits e.worker) in
     let held : h.holder call.node ≡ Some e.worker = h.tasks.holders.named e.worker call.node (ap names call.started.2) in
     no_entry (place_of s.book e.leaf)
-    (rw unpublished at (rw there at (h.booked call.node e.leaf call.started.0 (calls job s.book e.leaf e.op call.operation)))
+    (rw unpublished at (rw there at (h.booked call.node e.leaf call.started.0 (is_call job s.book e.leaf e.op call.operation)))
     ∙ not_booked (s.node call.node) (h.holder call.node) s.task s.status s.call e.worker call.node call.started.1 fits.1 held call.started.2 ex (took_it job s hd e.worker rows ex).1)
 
 -- the leaves of the book stay distinct
@@ -154,6 +151,7 @@ publish_keeps job s w b laws h needs batch =
           | inl e ↦ entry_kept job s b u p (h.book.entries u p e)
           | inr e ↦ new_entry job s hd b u p hold needs.2 fits e
         ];
+        sources = source_kept job s hd b fits h.book.sources;
         in_order = λ n m u v v' x s' t d e ln lm call i j l. rw (place_append s.book b u, place_append s.book b v)
             (earlier_append (length s.book) (place_of s.book u) (place_of s.book v) (place_in (length s.book) 0 b u) (place_in (length s.book) 0 b v)
             (h.book.in_order n m u v v' x s' t d e ln lm call i j l)

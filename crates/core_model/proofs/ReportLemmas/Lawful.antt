@@ -11,9 +11,10 @@ use Rattle.batch_history.specs.declared.row.Row.{Row}
 use Rattle.batch_history.specs.declared.report.Report.{Report}
 use Rattle.seq_objects.specs.Pairs.{HasEachOnce}
 use Rattle.batch_history.specs.Book.{flat}
-use Rattle.batch_history.specs.Lawful.{HasRows, KeepsOrder, IsCallLeaf, HasCalls, KeepsTicks, HasValues, Lawful}
+use Rattle.batch_history.specs.Lawful.{HasRows, KeepsOrder, HasCalls, KeepsTicks, HasValues, Lawful}
 use Rattle.batch_history.specs.Operations.{act_of, op_in, op_of}
-use Rattle.batch_history.proofs.ActLemmas.{act_at}
+use Rattle.sp_order.specs.Sources.{IsCallLeaf}
+use Rattle.batch_history.proofs.ActLemmas.{called_as}
 use Rattle.core_model.specs.Reports.{IsRowOf, IsReportOf}
 use Rattle.batch_history.proofs.BookLemmas.EntryLists.{each_so, each_at, each_mapped}
 use Rattle.core_model.proofs.ReportLemmas.EndedRuns.{IsEnded}
@@ -26,20 +27,20 @@ in_some : {A : Type 0} (P : A → Type 0) (o : Option A) → IsSomeAnd o P → (
 in_some P None h = absurd h
 in_some P (Some x) h = (x, refl, h)
 
--- the job of this tree, whose leaves do these acts
-abbrev pub job_with : Tree → List Act → JobValue
-job_with tree acts = record { shape = Some tree; acts = acts }
+-- the job of this tree, whose leaves do these acts and have these sources
+abbrev pub job_with : Tree → List Act → List (Option ℕ) → JobValue
+job_with tree acts sources = record { shape = Some tree; acts = acts; sources = sources }
 
-module _ (tree : Tree) (acts : List Act) (workers : ℕ) (s : State) (report : Report) (fits : length acts ≡ leaves tree)
+module _ (tree : Tree) (acts : List Act) (sources : List (Option ℕ)) (workers : ℕ) (s : State) (report : Report) (fits : length acts ≡ leaves tree)
     (series : (u v : ℕ) → u < leaves tree → v < leaves tree → IsBefore (Some tree) u v → IsBySeries (nodes_of tree) ((nodes_of tree).node_of u) ((nodes_of tree).node_of v))
-    (h : IsEnded (core_job (job_with tree acts) workers) (leaves tree) s) (r : IsReportOf (core_job (job_with tree acts) workers) (leaves tree) s report) where
+    (h : IsEnded (core_job (job_with tree acts sources) workers) (leaves tree) s) (r : IsReportOf (core_job (job_with tree acts sources) workers) (leaves tree) s report) where
   -- the job, as reports know it
   abbrev value : JobValue
-  value = job_with tree acts
+  value = job_with tree acts sources
 
   -- and as the core does
   abbrev job : CoreJob
-  job = core_job (job_with tree acts) workers
+  job = core_job (job_with tree acts sources) workers
 
   -- the row at the place of a leaf
   row_of : (leaf : ℕ) (row : Row) → slice_get report.rows leaf ≡ Some row → IsRowAt job (leaves tree) s leaf row
@@ -68,14 +69,16 @@ module _ (tree : Tree) (acts : List Act) (workers : ℕ) (s : State) (report : R
   does leaf act is = get_or_from_slice_get acts leaf act (Work 0) is
 
   -- an entry is that of a leaf that calls
-  entry_calls : (e : Entry) → Contains (flat s.book) e → slice_get acts e.leaf ≡ Some (Call e.op)
-  entry_calls e there = act_at acts e.leaf e.op (each_at (λ (x : Entry). op_of (act_of acts) s.book x.leaf ≡ Some x.op) (flat s.book) e h.parts.book.operations there)
+  entry_calls : (e : Entry) → Contains (flat s.book) e → IsCallLeaf acts e.leaf
+  entry_calls e there =
+      let call = called_as value s.book e.leaf e.op (each_at (λ (x : Entry). op_of value s.book x.leaf ≡ Some x.op) (flat s.book) e h.parts.book.operations there) in
+      (call.0, call.1.0)
 
   -- the leaves of the book
-  calls_each_once : HasEachOnce (IsCallLeaf value) (map (λ (e : Entry). e.leaf) (flat s.book))
+  calls_each_once : HasEachOnce (IsCallLeaf acts) (map (λ (e : Entry). e.leaf) (flat s.book))
   calls_each_once = record {
     distinct = h.parts.book.leaves;
-    only = each_mapped (λ (e : Entry). e.leaf) (Contains (flat s.book)) (IsCallLeaf value) (λ e there. (e.op, entry_calls e there)) (flat s.book) (contained (flat s.book));
+    only = each_mapped (λ (e : Entry). e.leaf) (Contains (flat s.book)) (IsCallLeaf acts) entry_calls (flat s.book) (contained (flat s.book));
     each = λ leaf call.
         let low = slice_get_within acts leaf (Call call.0) call.1 in
         call_in job (leaves tree) s h leaf (rw fits at low)
@@ -107,7 +110,7 @@ module _ (tree : Tree) (acts : List Act) (workers : ℕ) (s : State) (report : R
         work_valued job (leaves tree) s h leaf steps row (does leaf (Work steps) act)
         (row_of leaf row is);
     calls = rw r.history (each_so (Contains (flat s.book)) (λ e. (row : Row) → slice_get report.rows e.leaf ≡ Some row → row.value ≡ value_of e.reply)
-        (λ e there row is. call_valued job (leaves tree) s h e row (does e.leaf (Call e.op) (entry_calls e there)) there
+        (λ e there row is. call_valued job (leaves tree) s h e (entry_calls e there).0 row (does e.leaf (Call (entry_calls e there).0) (entry_calls e there).1) there
         (row_of e.leaf row is))
         (flat s.book) (contained (flat s.book)));
   }

@@ -8,7 +8,8 @@ use Rattle.seq_objects.specs.Spin.{spin_of}
 use Rattle.core_model.proofs.Words.{Act, Work, Call, Op, Entry, Ran, CoreJob, State, is_done}
 use Rattle.batch_history.specs.Book.{flat}
 use Rattle.batch_history.specs.declared.row.Row.{Row}
-use Rattle.core_model.specs.Operations.{op_in, IsCall, Place}
+use Rattle.core_model.specs.Operations.{op_in, op_of, IsCall, Place}
+use Rattle.core_model.proofs.BookLemmas.Operations.{is_call}
 use Rattle.core_model.specs.Invariant.Values.{IsValue}
 use Rattle.core_model.specs.Invariant.Membership.{IsBooked}
 use Rattle.batch_history.proofs.BookLemmas.EntryLists.{each_at}
@@ -42,15 +43,15 @@ module _ (job : CoreJob) (total : ℕ) (s : State) (h : IsEnded job total s) whe
       let found = found_in_book (Contains (flat s.book)) s.book leaf place.0 (contained (flat s.book)) place.1 in
       subst (Contains (leaves_of (flat s.book))) found.1 (contains_leaf (flat s.book) place.0.entry found.0)
 
-  -- the operation of an entry
-  operation : (e : Entry) → Contains (flat s.book) e → op_in (job.act e.leaf) ≡ Some e.op
-  operation e there = each_at (λ (x : Entry). op_in (job.act x.leaf) ≡ Some x.op) (flat s.book) e h.parts.book.operations there
+  -- the leaf of an entry calls
+  entry_call : (e : Entry) → Contains (flat s.book) e → IsCall job e.leaf
+  entry_call e there = is_call job s.book e.leaf e.op (each_at (λ (x : Entry). op_of job s.book x.leaf ≡ Some x.op) (flat s.book) e h.parts.book.operations there)
 
   -- the worker of the row of an entry's leaf is the entry's
   pub worker_is : (e : Entry) (row : Row) → Contains (flat s.book) e → IsRowAt job total s e.leaf row → row.worker ≡ e.worker
   worker_is e row there at =
       let placed = entry_there s.book e h.parts.book.leaves there in
-      let booked = h.parts.members.only (job.plan.node_of e.leaf) e.leaf (h.kind e.leaf at.low) (calls e.leaf e.op (operation e there)) placed.1.at placed.1.is in
+      let booked = h.parts.members.only (job.plan.node_of e.leaf) e.leaf (h.kind e.leaf at.low) (entry_call e there) placed.1.at placed.1.is in
       booked_for (job.plan.node_of e.leaf) row.worker row.start row.end placed.1.at.entry.worker at.ran booked ∙ ap (λ (x : Entry). x.worker) placed.1.entry
 
   -- an entry whose leaf ended before the start of another one's stands in an earlier batch
@@ -61,7 +62,7 @@ module _ (job : CoreJob) (total : ℕ) (s : State) (h : IsEnded job total s) whe
       let placed = entry_placed s.book b batch e h.parts.book.leaves is in_b in
       let placed' = entry_placed s.book c batch' f h.parts.book.leaves is' in_c in
       let early = h.parts.book.in_order (job.plan.node_of e.leaf) (job.plan.node_of f.leaf) e.leaf f.leaf row.worker row'.worker row.start row'.start row.end
-      (h.kind e.leaf at.low) (h.kind f.leaf at'.low) (calls e.leaf e.op (operation e there)) (inl at.ran) (inl (row'.end, at'.ran)) less placed'.at placed'.is in
+      (h.kind e.leaf at.low) (h.kind f.leaf at'.low) (entry_call e there) (inl at.ran) (inl (row'.end, at'.ran)) less placed'.at placed'.is in
       let same : Some early.0 ≡ Some placed.at = sym early.1 ∙ placed.is in
       let place : early.0 ≡ placed.at = cc in
       let batch_is = ap (λ (p : Place). p.batch) place in
@@ -80,7 +81,7 @@ module _ (job : CoreJob) (total : ℕ) (s : State) (h : IsEnded job total s) whe
   work_valued leaf steps row is at = value_at leaf (Work steps) row is at
 
   -- and of one that calls
-  pub call_valued : (e : Entry) (row : Row) → job.act e.leaf ≡ Call e.op → Contains (flat s.book) e → IsRowAt job total s e.leaf row → row.value ≡ value_of e.reply
-  call_valued e row is there at =
-      let value = value_at e.leaf (Call e.op) row is at in
+  pub call_valued : (e : Entry) (own : Op) (row : Row) → job.act e.leaf ≡ Call own → Contains (flat s.book) e → IsRowAt job total s e.leaf row → row.value ≡ value_of e.reply
+  call_valued e own row is there at =
+      let value = value_at e.leaf (Call own) row is at in
       value.3 ∙ ap (λ (x : Entry). value_of x.reply) (one_entry s.book value.0 e h.parts.book.leaves value.1 there value.2)

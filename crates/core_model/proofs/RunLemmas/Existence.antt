@@ -7,6 +7,7 @@ use Rattle.core_model.proofs.Words.{Tree, IsPlan, IsPlanOf, Event, Claim, Start,
 use Rattle.core_model.specs.Choice.{choice}
 use Rattle.core_model.specs.Events.{Needs, Does, Happens, made, published}
 use Rattle.core_model.specs.Invariant.{Invariant}
+use Rattle.core_model.specs.LeafSources.{HasSources}
 use Rattle.core_model.specs.Lists.{ready_after}
 use Rattle.core_model.specs.Runs.{IsStep, IsTurnOf, IsTurn, Drives, over, by_schedule, by_robin}
 use Rattle.core_model.specs.Serving.{served}
@@ -17,43 +18,43 @@ use Rattle.core_model.proofs.ChoiceLemmas.Choices.{choice_needs}
 use Rattle.core_model.proofs.RunLemmas.Rounds.{turns_left, turns_fewer}
 
 -- an event whose needs are met makes a state
-does_some : (job : CoreJob) (s : State) (w : ℕ) (event : Event) → InductiveParts job s → Needs job s w event → (new : State) × Does job s w event new
-does_some job s w (Claim n) h needs = (made s w (Claim n), refl)
-does_some job s w (Start n) h needs = (made s w (Start n), refl)
-does_some job s w (OpenParRight p l r) h needs = (made s w (OpenParRight p l r), refl)
-does_some job s w (OpenParLeft p l r) h needs = (made s w (OpenParLeft p l r), refl)
-does_some job s w (OpenSeqLeft p l r) h needs = (made s w (OpenSeqLeft p l r), refl)
-does_some job s w (OpenSeqRight p l r) h needs = (made s w (OpenSeqRight p l r), refl)
-does_some job s w (Post n t) h needs = (made s w (Post n t), refl)
-does_some job s w Win h needs = (made s w Win, refl)
-does_some job s w (Take u) h needs = (made s w (Take u), refl)
-does_some job s w (Answer u r) h needs = (made s w (Answer u r), refl)
-does_some job s w Release h needs = (made s w Release, refl)
-does_some job s w (Leave r) h needs = (made s w (Leave r), refl)
-does_some job s w (Keep n t v) h needs = (made s w (Keep n t v), refl)
-does_some job s w (End n t) h needs = (made s w (End n t), refl)
-does_some job s w (FinishLeaf n t e) h needs = (made s w (FinishLeaf n t e), refl)
-does_some job s w (FinishSeq p l r) h needs = (made s w (FinishSeq p l r), refl)
-does_some job s w (FinishPar p l r) h needs = (made s w (FinishPar p l r), refl)
-does_some job s w (ArriveFirst p l r n) h needs = (made s w (ArriveFirst p l r n), refl)
-does_some job s w (ArriveSecond p l r n) h needs = (made s w (ArriveSecond p l r n), refl)
-does_some job s w Publish h needs =
-    let batch = batch_exists job s w h needs in
+does_some : (job : CoreJob) (s : State) (w : ℕ) (event : Event) → HasSources job → InductiveParts job s → Needs job s w event → (new : State) × Does job s w event new
+does_some job s w (Claim n) sources h needs = (made s w (Claim n), refl)
+does_some job s w (Start n) sources h needs = (made s w (Start n), refl)
+does_some job s w (OpenParRight p l r) sources h needs = (made s w (OpenParRight p l r), refl)
+does_some job s w (OpenParLeft p l r) sources h needs = (made s w (OpenParLeft p l r), refl)
+does_some job s w (OpenSeqLeft p l r) sources h needs = (made s w (OpenSeqLeft p l r), refl)
+does_some job s w (OpenSeqRight p l r) sources h needs = (made s w (OpenSeqRight p l r), refl)
+does_some job s w (Post n t) sources h needs = (made s w (Post n t), refl)
+does_some job s w Win sources h needs = (made s w Win, refl)
+does_some job s w (Take u) sources h needs = (made s w (Take u), refl)
+does_some job s w (Answer u r) sources h needs = (made s w (Answer u r), refl)
+does_some job s w Release sources h needs = (made s w Release, refl)
+does_some job s w (Leave r) sources h needs = (made s w (Leave r), refl)
+does_some job s w (Keep n t v) sources h needs = (made s w (Keep n t v), refl)
+does_some job s w (End n t) sources h needs = (made s w (End n t), refl)
+does_some job s w (FinishLeaf n t e) sources h needs = (made s w (FinishLeaf n t e), refl)
+does_some job s w (FinishSeq p l r) sources h needs = (made s w (FinishSeq p l r), refl)
+does_some job s w (FinishPar p l r) sources h needs = (made s w (FinishPar p l r), refl)
+does_some job s w (ArriveFirst p l r n) sources h needs = (made s w (ArriveFirst p l r n), refl)
+does_some job s w (ArriveSecond p l r n) sources h needs = (made s w (ArriveSecond p l r n), refl)
+does_some job s w Publish sources h needs =
+    let batch = batch_exists job s w sources h needs in
     (record s { book = s.book ++ batch.0 ∷ []; objects = served s.objects batch.0; hold = published s.hold }, (batch.0, batch.1, refl))
 
-pub happens_some : (job : CoreJob) (s : State) (w : ℕ) (event : Event) → InductiveParts job s → w < job.workers → Needs job s w event
+pub happens_some : (job : CoreJob) (s : State) (w : ℕ) (event : Event) → HasSources job → InductiveParts job s → w < job.workers → Needs job s w event
     → (new : State) × Happens job s w event new
-happens_some job s w event h among needs =
-    let new = does_some job s w event h needs in
+happens_some job s w event sources h among needs =
+    let new = does_some job s w event sources h needs in
     (new.0, record { worker_in = among; needs = needs; does = new.1 })
 
-module _ (job : CoreJob) (laws : IsPlan job.plan) where
+module _ (job : CoreJob) (laws : IsPlan job.plan) (sources : HasSources job) where
   -- the event that a turn chooses makes a state with its lists
   pub step_some : (s : CoreState) (w : ℕ) (event : Event) → w < job.workers → Invariant job s → choice job s w ≡ Some event
       → (new : CoreState) × IsStep job s w event new
   step_some s w event among inv chosen =
       let parts = parts_carried job s.state inv.parts in
-      let new = happens_some job s.state w event parts among (choice_needs job s w event laws among parts inv.lists chosen) in
+      let new = happens_some job s.state w event sources parts among (choice_needs job s w event laws among parts inv.lists chosen) in
       (record { state = new.0; ready = ready_after w event s.ready }, record { happens = new.1; lists = refl })
 
   -- and so does that of a turn that makes one

@@ -4,6 +4,7 @@ use Rattle.core_model.proofs.Words.{IsPlan, IsPlanOf, Tree, Idle, Run, Half, Sta
 use Rattle.core_model.specs.Choice.{choice}
 use Rattle.core_model.specs.Events.{Does, task_after}
 use Rattle.core_model.specs.Invariant.{Invariant}
+use Rattle.core_model.specs.LeafSources.{HasSources}
 use Rattle.core_model.specs.Runs.{IsTurnOf, IsTurn}
 use Rattle.core_model.specs.Stopped.{NoLiveEvent, LiveDrive, over, stuck, by_live, past_stopped}
 use Rattle.core_model.proofs.ChoiceLemmas.Progress.{some_live_turn}
@@ -115,7 +116,7 @@ one_live_end job live s a b robin (past_stopped going off drives) g = elim (begu
 ]
 
 -- if the stopped workers have no task, the live ones complete the root
-module _ (job : CoreJob) (tree : Tree) (laws : IsPlan job.plan) (plan : IsPlanOf job.plan tree) (live : ℕ → Bool) (one : ℕ) (below : one < job.workers) (on : live one ≡ true) where
+module _ (job : CoreJob) (tree : Tree) (laws : IsPlan job.plan) (plan : IsPlanOf job.plan tree) (sources : HasSources job) (live : ℕ → Bool) (one : ℕ) (below : one < job.workers) (on : live one ≡ true) where
   abbrev StoppedIdle : CoreState → Type 0
   StoppedIdle s = (w : ℕ) → w < job.workers → live w ≡ false → s.state.task w ≡ Idle
 
@@ -126,7 +127,7 @@ module _ (job : CoreJob) (tree : Tree) (laws : IsPlan job.plan) (plan : IsPlanOf
   never_stuck : (s : CoreState) → Invariant job s → is_done (s.state.node 0) ≡ false → StoppedIdle s → NoLiveEvent job live s → ⊥
   never_stuck s h going idle none =
       let some = some_live_turn job tree s live one laws plan (parts_carried job s.state h.parts) h.lists going below on idle in
-      let step = chosen_step job laws s some.0 (choice job s some.0) some.1 h refl some.3 in
+      let step = chosen_step job laws sources s some.0 (choice job s some.0) some.1 h refl some.3 in
       none some.0 some.2 step.0 step.2 step.3
 
   pub live_done : (s last : CoreState) (robin : ℕ) → Invariant job s → StoppedIdle s → LiveDrive job live s robin last → is_done (last.state.node 0) ≡ true

@@ -27,7 +27,7 @@ pub trait JobBrand {
 }
 
 impl JobBrand for Brand {
-    ghost job = { record { shape = None; acts = [] } };
+    ghost job = { record { shape = None; acts = []; sources = [] } };
 
     ghost workers = { 1 };
 }

@@ -5,13 +5,13 @@ use Rattle.core_model.specs.Words.{IsBySeries, LeafNode, Ran}
 use Rattle.seq_objects.specs.Objects.{value_of}
 use Rattle.std.specs.Prelude.{Some, ℕ, ◌≡◌}
 
--- `source` is a calling leaf that has a node, and some series has that node on its left side and node `n` on its right
+-- `source` is a calling leaf at a node of the plan, and by a series this node is before node `n`
 pub record IsSourceAt (job : CoreJob) (n source : ℕ) : Type 0 where
   pub calls : IsCall job source
   pub stands : job.plan.kind (job.plan.node_of source) ≡ Some (LeafNode source)
   pub before : IsBySeries job.plan (job.plan.node_of source) n
 
--- each source is a calling leaf whose node is before that of its leaf by a series of the plan
+-- each source of a leaf is a calling leaf, and by a series its node is before the leaf's
 abbrev pub HasSources : CoreJob → Type 0
 HasSources job =
     (n leaf source : ℕ) → job.plan.kind n ≡ Some (LeafNode leaf) → job.source leaf ≡ Some source → IsSourceAt job n source

@@ -24,8 +24,9 @@ IsLeaf kind = (leaf : ℕ) × (kind ≡ Some (LeafNode leaf))
 abbrev pub IsCall : CoreJob → ℕ → Type 0
 IsCall job leaf = op_in (job.act leaf) ≢ None
 
--- The operation that a leaf calls under a book: that of its act, and with a source that with the value of the source's
--- reply as its argument. There is none for work, and none where the book has no entry of the source.
+-- The operation that a leaf calls under a book. It is that of the leaf's act; where the leaf has a source, its argument
+-- is the value of the source's reply in the book. A leaf of work has none, and neither has a leaf whose source has no
+-- entry in the book.
 abbrev pub op_of : CoreJob → List (List Entry) → ℕ → Option Op
 op_of job book leaf = op_from book (op_in (job.act leaf)) (job.source leaf)
 

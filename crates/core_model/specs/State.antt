@@ -11,7 +11,8 @@ use Rattle.std.specs.Prelude.{Bool, List, None, Option, [], if◌then◌else◌,
 abbrev pub put : {A : Type 0} → (ℕ → A) → ℕ → A → ℕ → A
 put f n x m = if m == n then x else f m
 
--- a job in the model: its plan, the act of each leaf and the leaf whose reply is its argument, and the number of workers
+-- A job in the model: its plan, the act of each leaf, the source of each leaf that has one, and the number of workers.
+-- The reply of its source is the argument of a leaf's call.
 pub record CoreJob : Type 0 where
   pub plan : Nodes
   pub act : ℕ → Act

@@ -103,8 +103,8 @@ pub fn operations_stay()
         → (place : Place) × (place_of book source ≡ Some place) }
 {}
 
-/// Once a leaf has started, its source has replied. So a call is never gathered into the batch that serves its source,
-/// nor into an earlier one.
+/// Once a leaf has started, its source has replied: it is done, its entry stands in the book, and its value is that of
+/// the entry's reply. So no batch gathers a call before the book has what the call's operation depends on.
 pub fn started_leaf_has_its_source()
     ensures { (job : CoreJob) (state : State) (worker node leaf source : ℕ) → HasSources job
         → Parts job state
@@ -126,7 +126,7 @@ pub fn sources_come_first()
         × (later.entry.op ≡ with_value op (value_of earlier.entry.reply)) }
 {}
 
-/// A job has its sources in the model: each is a calling leaf whose node is before that of its leaf by a series.
+/// In the model of a job each source of a leaf is a calling leaf, and by a series its node is before the leaf's.
 pub fn job_has_its_sources()
     ensures { (job : JobValue) (workers : ℕ) → IsJob job → HasSources (core_job job workers) }
 {

@@ -3,6 +3,7 @@ use Rattle.core_state.specs.Abstraction.{core_state_of}
 use Rattle.core_model.specs.Ranges.{LeafIn}
 use Rattle.core_state.specs.Code.Sizes.{HasShop, Sizes}
 use Rattle.core_model.specs.Invariant.{Invariant}
+use Rattle.core_model.specs.LeafSources.{HasSources}
 use Rattle.core_model.specs.Operations.{IsCall}
 use Rattle.core_model.specs.State.{core_job}
 use Rattle.core_model.specs.declared.setting.Setting.{Setting}
@@ -24,6 +25,8 @@ pub record RepInvariant (job : JobValue) (workers : ℕ) (t : StoredState) : Typ
   pub leaves_in : (n : ℕ) → LeafIn (length job.acts) ((nodes_of (job_tree job)).kind n)
   -- the number of a calling leaf is below the number of nodes
   pub calls_in : (leaf : ℕ) → IsCall (core_job job workers) leaf → leaf < (nodes_of (job_tree job)).count
+  -- each leaf's source is a calling leaf before it
+  pub sources : HasSources (core_job job workers)
   pub sizes : Sizes t (nodes_of (job_tree job)).count workers
   pub few_acts : length job.acts ≤ 20000
   pub shop : HasShop t

@@ -8,6 +8,7 @@ ghost use Rattle.sp_order.specs.Jobs.{job_tree};
 ghost use Rattle.sp_order.specs.Precedence.{leaves};
 ghost use Rattle.batch_history.specs.Lawful.{Lawful};
 ghost use Rattle.core_model.specs.Invariant.{Invariant};
+ghost use Rattle.core_model.specs.LeafSources.{HasSources};
 ghost use Rattle.core_model.specs.Reports.{IsReportOf, IsRowOf};
 ghost use Rattle.sp_order.specs.Preorder.{nodes_of};
 ghost use Rattle.std.specs.List.{AllByRecursion, range_with_len};
@@ -19,6 +20,7 @@ use crate::report::rows_of;
 use crate::spun::Spun;
 use crate::turn::Turn;
 use batch_history::{History, Report, Row, Rows};
+use core_model::laws::book::job_has_its_sources;
 use core_model::laws::report::{done_leaves_have_run, done_report_is_lawful};
 use core_model::{Event, Setting};
 use core_state::{Doing, State, history_of};
@@ -84,6 +86,7 @@ impl Core {
     {
         plan_stands_for_tree();
         plan_has_sides();
+        job_has_its_sources();
         let setting = Setting::of(alloc, job, workers)?;
         let table = State::opening(alloc, setting.job.nodes(), workers)?;
         Ok(Core {
@@ -221,9 +224,12 @@ impl Core {
         self.setting.workers
     }
 
-    /// The model's invariant, for a core that is not spent. For proofs only: it does nothing.
+    /// The model's invariant, for a core that is not spent, and that each source of a leaf is before it in the plan. For
+    /// proofs only: it does nothing.
     pub fn stands(&self)
-        ensures { self.now.spent ≡ false → Invariant (job_in self.now) (state_in self.now) }
+        ensures invariant { self.now.spent ≡ false
+            → Invariant (job_in self.now) (state_in self.now) }
+        ensures sources { self.now.spent ≡ false → HasSources (job_in self.now) }
     {
         self.invariant_holds();
     }

@@ -5,6 +5,7 @@ use Rattle.sp_order.specs.Jobs.{JobValue, IsJob, job_tree}
 use Rattle.sp_order.specs.Precedence.{leaf_count}
 use Rattle.sp_order.specs.Preorder.{nodes_of}
 use Rattle.core_state.specs.declared.state.State.{State as StoredState}
+use Rattle.core_model.specs.LeafSources.{HasSources}
 use Rattle.core_model.specs.State.{opening_state, opening_core}
 use Rattle.core_state.specs.Abstraction.{state_of, ready_of, core_state_of}
 use Rattle.core_state.specs.Code.Sizes.{HasShop, Sizes}
@@ -23,9 +24,9 @@ unfolding opening_core
 shown_opening t state ready = rw (state, ready) refl
 
 pub opening_fits : (job : JobValue) (workers : ℕ) (t : StoredState) → 0 < workers → workers ≤ 32 → IsJob job → job.shape ≡ Some (job_tree job)
-    → IsPlanOf (nodes_of (job_tree job)) (job_tree job) → IsPlan (nodes_of (job_tree job)) → (nodes_of (job_tree job)).count < 40000
+    → IsPlanOf (nodes_of (job_tree job)) (job_tree job) → IsPlan (nodes_of (job_tree job)) → HasSources (core_job job workers) → (nodes_of (job_tree job)).count < 40000
     → HasShop t → Sizes t (nodes_of (job_tree job)).count workers → state_of t ≡ opening_state → ready_of t ≡ opening_core.ready → RepInvariant job workers t
-opening_fits job workers t some few is shape stands laws most shop sizes state lists =
+opening_fits job workers t some few is shape stands laws sources most shop sizes state lists =
     let tree = job_tree job in
     let all : leaves tree ≡ length job.acts = sym (ap leaf_count shape) ∙ is.leaves in
     record {
@@ -37,6 +38,7 @@ opening_fits job workers t some few is shape stands laws most shop sizes state l
       leaves = all;
       leaves_in = leaves_in (nodes_of tree) tree (length job.acts) stands all;
       calls_in = calls_in job workers stands (sym all);
+      sources = sources;
       sizes = sizes;
       few_acts = is.most;
       shop = shop;

@@ -46,6 +46,7 @@ module _ (job : JobValue) (workers : ℕ) (old new : StoredState) (w : ℕ) (eve
     leaves = h.leaves;
     leaves_in = h.leaves_in;
     calls_in = h.calls_in;
+    sources = h.sources;
     sizes = sizes_kept old new (nodes_of (job_tree job)).count workers h.sizes same;
     few_acts = h.few_acts;
     shop = same.shop_same h.shop;

@@ -22,7 +22,7 @@ invariant_of-result c =
     let workers = c.in_ok-setting.ensures.1 in (
       rw workers c.requires.some_workers,
       λ unspent. opening_fits setting.job setting.workers c.in_ok-table.table (rw workers c.requires.some_workers) (rw workers c.requires.few_workers)
-          c.nodes.ensures.job c.nodes.ensures.shape stands laws most c.in_ok-table.ensures.shop (rw (← workers) at sizes) c.in_ok-table.ensures.state c.in_ok-table.ensures.lists,
+          c.nodes.ensures.job c.nodes.ensures.shape stands laws (c.job_has_its_sources.ensures setting.job setting.workers c.nodes.ensures.job) most c.in_ok-table.ensures.shop (rw (← workers) at sizes) c.in_ok-table.ensures.state c.in_ok-table.ensures.lists,
     )
 
 pub returns-clause-opening : goal.returns-clause-opening

@@ -11,6 +11,8 @@ mod history;
 #[cfg(test)]
 mod jobs;
 #[cfg(test)]
+mod sources;
+#[cfg(test)]
 mod stopped;
 #[cfg(test)]
 mod turns;

@@ -1,7 +1,8 @@
-//! The laws of summaries and replies: each is the contract of an empty function. They bound the replies of a run and
-//! fix what its calls add up to, independently of the schedule. A clause on `entries` assumes only the legality or the
-//! order that it names; a clause on a `report` assumes that the report is lawful. What speaks of the acts of the job
-//! assumes that no leaf has a source, but for the bound of the replies; `FillsFirst` includes that.
+//! The laws of operations, summaries and replies: each is the contract of an empty function. They say that a longer
+//! book keeps the operations of leaves, bound the replies of a run, and fix what its calls add up to, independently of
+//! the schedule. A clause on `entries` assumes only the legality or the order that it names; a clause on a `report`
+//! assumes that the report is lawful. Where it relates the calls to the job's acts, it also assumes that no leaf has a
+//! source, which `FillsFirst` includes; the bound of the replies holds with sources too.
 ghost use Rattle.std.specs.Prelude.{◌≡◌, ◌≢◌, ℕ, ◌-◌, ◌≤◌, ◌<◌, ◌^◌, ◌↔◌, true, List, [], ◌∷◌, ◌++◌, length, None, Option, Some, Contains};
 ghost use Rattle.std.specs.List.{AllByRecursion};
 ghost use Rattle.seq_objects.specs.Objects.{opening, has, argument_of, value_of};
@@ -135,13 +136,14 @@ pub fn replies_are_small()
         → AllByRecursion (λ entry. value_of entry.reply < 2 ^ 64) (flat report.history) }
 {}
 
-/// What a leaf calls under a book stays in a longer book. A leaf with a source calls only where the book has an entry
-/// of the source, and a leaf that calls under a book has a call as its act.
+/// The operation that a leaf calls under a book is the same under a longer book. A leaf with a source has one only where
+/// the book has an entry of the source, and only a leaf whose act is a call has one. `given` is the operation of the
+/// leaf's act.
 pub fn longer_book_keeps_operations()
-    ensures stays { (book : List (List Entry)) (batch : List Entry) (act : Option Op) (source : Option ℕ) (op : Op)
-        → op_from book act source ≡ Some op → op_from (book ++ batch ∷ []) act source ≡ Some op }
-    ensures source { (book : List (List Entry)) (act : Option Op) (source : ℕ) (op : Op)
-        → op_from book act (Some source) ≡ Some op → place_of book source ≢ None }
-    ensures calls { (book : List (List Entry)) (act : Option Op) (source : Option ℕ) (op : Op)
-        → op_from book act source ≡ Some op → act ≢ None }
+    ensures stays { (book : List (List Entry)) (batch : List Entry) (given : Option Op) (source : Option ℕ) (op : Op)
+        → op_from book given source ≡ Some op → op_from (book ++ batch ∷ []) given source ≡ Some op }
+    ensures source { (book : List (List Entry)) (given : Option Op) (source : ℕ) (op : Op)
+        → op_from book given (Some source) ≡ Some op → place_of book source ≢ None }
+    ensures calls { (book : List (List Entry)) (given : Option Op) (source : Option ℕ) (op : Op)
+        → op_from book given source ≡ Some op → given ≢ None }
 {}

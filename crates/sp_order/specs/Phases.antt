@@ -18,8 +18,7 @@ abbrev pub HasNoSources : JobValue → Type 0
 HasNoSources job = AllByRecursion (λ source. source ≡ None) job.sources
 
 -- Pushes are before pops, inserts of the queue before takes, and inserts of the tree before finds. There are no fewer
--- pops than pushes, no fewer takes than inserts of the queue, and no removals from the tree. No call's argument
--- is a reply.
+-- pops than pushes, no fewer takes than inserts of the queue, and no removals from the tree. No leaf has a source.
 pub record FillsFirst (job : JobValue) : Type 0 where
   pub stack : ComesBefore job pushes pops
   pub queue : ComesBefore job queue_inserts queue_takes

@@ -136,9 +136,9 @@ pub fn replies_are_small()
         → AllByRecursion (λ entry. value_of entry.reply < 2 ^ 64) (flat report.history) }
 {}
 
-/// The operation that a leaf calls under a book is the same under a longer book. A leaf with a source has one only where
-/// the book has an entry of the source, and only a leaf whose act is a call has one. `given` is the operation of the
-/// leaf's act.
+/// The operation that a leaf calls under a book is the same under a longer book. A leaf with a source has one only
+/// where the book has an entry of the source, and only a leaf whose act is a call has one. `given` is the operation of
+/// the leaf's act.
 pub fn longer_book_keeps_operations()
     ensures stays { (book : List (List Entry)) (batch : List Entry) (given : Option Op) (source : Option ℕ) (op : Op)
         → op_from book given source ≡ Some op → op_from (book ++ batch ∷ []) given source ≡ Some op }

@@ -224,8 +224,8 @@ impl Core {
         self.setting.workers
     }
 
-    /// The model's invariant, for a core that is not spent, and that each source of a leaf is before it in the plan. For
-    /// proofs only: it does nothing.
+    /// For a core that is not spent the model's invariant, and that the sources of leaves are before them in the plan.
+    /// For proofs only: it does nothing.
     pub fn stands(&self)
         ensures invariant { self.now.spent ≡ false
             → Invariant (job_in self.now) (state_in self.now) }

@@ -11,8 +11,8 @@ use std::alloc::{AllocError, Global};
 use std::marker::Model;
 
 /// A shape, and the acts and sources of its leaves, from left to right: at most 20,000. A leaf with a source calls with
-/// the reply of that leaf, which is before it, as its argument. A job without leaves has no shape. Contracts see it as a
-/// `JobValue`.
+/// the reply of that leaf, which is before it, as its argument. A job without leaves has no shape. Contracts see it as
+/// a `JobValue`.
 #[derive(Drop)]
 pub struct Job {
     shape: Option<Shape>,

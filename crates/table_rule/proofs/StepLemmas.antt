@@ -5,4 +5,5 @@ pub mod JobSteps
 pub mod LookSteps
 pub mod GateSteps
 pub mod TakeOk
+pub mod ToldOps
 pub mod PublishStep

@@ -1,7 +1,9 @@
 -- Which next act each call of the job side requires, by the act that is due, if there is one.
-use Rattle.std.specs.Prelude.{ℕ, ◌≡◌, Option as Maybe, Some}
+use Rattle.std.specs.Prelude.{ℕ, ◌≡◌, Option as Maybe, None, Some}
 use Rattle.seq_objects.specs.Spin.{spin_of}
 use Rattle.seq_objects.specs.Objects.{value_of}
+use Rattle.seq_objects.specs.declared.op.Op.{Op}
+use Rattle.sp_order.specs.Sources.{with_value}
 use Rattle.core_model.specs.declared.next.Next.{Next}
 use Rattle.core_model.specs.declared.next.Next.TheVariants as acts
 use Rattle.table_rule.specs.declared.slot.OpRecord.{OpRecord}
@@ -23,10 +25,23 @@ IsKeepDue (Some (acts.Spin n start steps)) value = value ≡ spin_of steps
 IsKeepDue (Some (acts.Got n start reply)) value = value ≡ value_of reply
 IsKeepDue _ value = ⊥
 
--- a post of this call
-abbrev pub IsPostDue : Maybe Next → OpRecord → Type 0
-IsPostDue (Some (acts.Call n start leaf op)) call = call ≡ record { leaf = leaf; op = op }
-IsPostDue _ call = ⊥
+-- a look at the source of the leaf that is to call, by the source of each leaf: the leaf has one
+abbrev pub IsSourceDue : (ℕ → Maybe ℕ) → Maybe Next → Type 0
+IsSourceDue source (Some (acts.Call n start leaf op)) = (from : ℕ) × (source leaf ≡ Some from)
+IsSourceDue source _ = ⊥
+
+-- The operation of a call, from that of the leaf's act, the leaf's source and the source's value as told: a source's
+-- value is the argument, and while it is not told there is no operation.
+abbrev pub op_told : Op → Maybe ℕ → Maybe ℕ → Maybe Op
+op_told op None told = Some op
+op_told op (Some from) None = None
+op_told op (Some from) (Some value) = Some (with_value op value)
+
+-- a post of this call, from what was told of the source of its leaf
+abbrev pub IsPostDue : (ℕ → Maybe ℕ) → Maybe ℕ → Maybe Next → OpRecord → Type 0
+IsPostDue source told (Some (acts.Call n start leaf op)) call =
+    (call.leaf ≡ leaf) × (op_told op (source leaf) told ≡ Some call.op)
+IsPostDue source told _ call = ⊥
 
 -- a finish: the ended leaf or a block is done
 abbrev pub IsFinishDue : Maybe Next → Type 0

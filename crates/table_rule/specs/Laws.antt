@@ -8,22 +8,25 @@ use Rattle.batch_history.specs.Book.{flat}
 use Rattle.core_model.specs.State.{CoreJob, State, opening_state}
 use Rattle.core_model.specs.Entries.{entries_of, StandsAt, IsUnserved}
 use Rattle.core_model.specs.Events.{Happens, HasStarted}
+use Rattle.core_model.specs.LeafSources.{HasReplied, HasSources}
 use Rattle.core_model.specs.Measure.{call_count}
 use Rattle.core_model.specs.Operations.{IsCall, Place, op_of, place_of, receipt_for}
 use Rattle.core_model.specs.Tasks.{is_done}
 use Rattle.core_model.specs.Invariant.Statuses.{is_taken_by}
 use Rattle.core_model.specs.Invariant.{Parts}
 use Rattle.core_model.specs.Waits.{IsTrapped, WaitsSince, task_place}
-use Rattle.core_model.specs.Words.{IsPlan, IsSide, SeqNode, ParNode, OpenSecond, FinishParent, Arrive, Op}
+use Rattle.core_model.specs.Words.{Entry, IsPlan, IsSide, SeqNode, ParNode, OpenSecond, FinishParent, Arrive, Op}
 use Rattle.core_model.specs.Settings.{job_of}
 use Rattle.core_model.specs.declared.setting.Setting.{Setting}
 use Rattle.table_rule.specs.CoreWords.{Event, Publish, Receipt, Served, Whole}
 
--- the bounds of every setting of a table: nodes, one act for each leaf, at most 20000 acts and 32 workers
+-- what every setting of a table has: bounded nodes, one act for each leaf, at most 20000 acts, sources that are before
+-- their leaves, and at most 32 workers
 pub record IsSound (key : Setting) : Type 0 where
   pub few : (job_of key).plan.count < 40000
   pub leaves : length key.job.acts ≡ leaves (job_tree key.job)
   pub short : length key.job.acts ≤ 20000
+  pub sources : HasSources (job_of key)
   pub workers : key.workers ≤ 32
 
 -- The laws hold of the job of every such setting.
@@ -54,11 +57,17 @@ pub record Laws (job : CoreJob) : Type 0 where
       × (place.batch ≡ length old.book) × (place.entry.worker ≡ w)
       × (entries_of w (flat new.book) ≡ entries_of w (flat old.book) ++ place.entry ∷ [])
   -- the receipt of a served worker is that of its call's entry in the book
-  pub receipt : (s : State) (worker node leaf : ℕ) (op : Op) (receipt : Receipt) → Parts job s → s.status worker ≡ Served receipt → HasStarted job s worker node leaf → op_of job.act s.book leaf ≡ Some op
+  pub receipt : (s : State) (worker node leaf : ℕ) (op : Op) (receipt : Receipt) → Parts job s → s.status worker ≡ Served receipt → HasStarted job s worker node leaf → op_of job s.book leaf ≡ Some op
       → (place : Place) × (task_place job s.book (s.task worker) ≡ Some place)
       × (place_of s.book leaf ≡ Some place) × (receipt ≡ receipt_for place)
       × (place.entry ≡ record { leaf = leaf; worker = worker; op = op; reply = receipt.reply })
       × StandsAt s.book receipt.batch receipt.place place.entry
+  -- each source calls, and is before its leaf by a series; once the leaf has started, its source has replied
+  pub sources : HasSources job
+  pub source : (s : State) (worker node leaf source : ℕ) → Parts job s → HasStarted job s worker node leaf → job.source leaf ≡ Some source → HasReplied job s source
+  -- a longer book keeps the operations and the places that the book has
+  pub operations : (book : List (List Entry)) (batch : List Entry) (leaf : ℕ) (op : Op) → op_of job book leaf ≡ Some op → op_of job (book ++ batch ∷ []) leaf ≡ Some op
+  pub places : (book : List (List Entry)) (batch : List Entry) (leaf : ℕ) (place : Place) → place_of book leaf ≡ Some place → place_of (book ++ batch ∷ []) leaf ≡ Some place
   -- the number of a leaf that calls is below 2^32
   pub low : (leaf : ℕ) → IsCall job leaf → leaf < 2 ^ 32
   -- once the root is done, the flag is free

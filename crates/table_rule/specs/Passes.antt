@@ -56,6 +56,7 @@ unused w = record {
   stop_looks = 0;
   stops_found = 0;
   stops = 0;
+  told = None;
   posted = None;
   left = [];
   book_seen = [];
@@ -70,21 +71,26 @@ unused w = record {
   events = [];
 }
 
--- The pass after each step of program work. A refused claim is no event of the model.
+-- The pass after each step of program work. A new task forgets what `source_value` told. A refused claim is no event of
+-- the model.
 abbrev pub claiming : ℕ → PassView → PassView
-claiming n p = record p { task = Run n; claims = p.claims + 1; claimed = p.claimed ++ n ∷ []; events = p.events ++ made.Claim n ∷ [] }
+claiming n p = record p { task = Run n; told = None; claims = p.claims + 1; claimed = p.claimed ++ n ∷ []; events = p.events ++ made.Claim n ∷ [] }
 
 abbrev pub refusing : ℕ → PassView → PassView
 refusing n p = record p { refused_nodes = p.refused_nodes ++ n ∷ [] }
 
 abbrev pub with_task : Event → Task → PassView → PassView
-with_task event task p = record p { task = task; events = p.events ++ event ∷ [] }
+with_task event task p = record p { task = task; told = None; events = p.events ++ event ∷ [] }
 
 abbrev pub opening : ℕ → Event → Task → PassView → PassView
-opening n event task p = record p { task = task; opened = p.opened ++ n ∷ []; events = p.events ++ event ∷ [] }
+opening n event task p = record p { task = task; told = None; opened = p.opened ++ n ∷ []; events = p.events ++ event ∷ [] }
 
 abbrev pub keeping : ℕ → ℕ → ℕ → PassView → PassView
-keeping n start value p = record p { task = Kept n start; call = NotCalled; events = p.events ++ made.Keep n start value ∷ [] }
+keeping n start value p = record p { task = Kept n start; told = None; call = NotCalled; events = p.events ++ made.Keep n start value ∷ [] }
+
+-- the pass after `source_value` told it this value
+abbrev pub telling : ℕ → PassView → PassView
+telling value p = record p { told = Some value }
 
 -- the pass after it sets the stop word, after a look that found it set, and after a look that found it unset
 abbrev pub stopping : PassView → PassView

@@ -6,18 +6,18 @@ use Rattle.core_model.specs.Words.{Entry}
 use Rattle.core_model.specs.declared.next.Next.TheVariants as acts
 use Rattle.table_rule.specs.CoreWords.{Event, Receipt, Task, Idle, Started, Ended, Handed, Start, Post, End, ArriveFirst, ArriveSecond}
 use Rattle.core_model.specs.Events.{task_after}
-use Rattle.core_model.specs.Operations.{place_of}
+use Rattle.core_model.specs.Operations.{op_of, place_of}
 use Rattle.table_rule.specs.declared.slot.OpRecord.{OpRecord}
 use Rattle.table_rule.specs.declared.slot.Slot.{Slot}
 use Rattle.table_rule.specs.declared.slot.Slot.TheVariants as Slots
 use Rattle.table_rule.specs.declared.view.HoldView.{HoldView}
 use Rattle.table_rule.specs.declared.view.View.{View}
-use Rattle.table_rule.specs.Words.{flag_at, count_at, stop_at, node_at}
+use Rattle.table_rule.specs.Words.{flag_at, count_at, stop_at, node_at, value_at}
 use Rattle.table_rule.specs.Batches.{IsPublishDue}
 use Rattle.core_model.specs.Entries.{StandsAt}
 use Rattle.table_rule.specs.Shows.{record_in, entry_of, reserved, IsFront}
-use Rattle.table_rule.specs.Tasks.{IsNext}
-use Rattle.table_rule.specs.Passes.{call_by, claiming, refusing, with_task, opening, keeping, stopping, finding_stop, finding_none, winning, losing, taking, passing, publishing, answering, releasing, leaving, staying}
+use Rattle.table_rule.specs.Tasks.{IsNext, job_seen}
+use Rattle.table_rule.specs.Passes.{call_by, claiming, refusing, with_task, opening, keeping, telling, stopping, finding_stop, finding_none, winning, losing, taking, passing, publishing, answering, releasing, leaving, staying}
 use Rattle.table_rule.specs.Views.{with_step, with_found, with_post, with_since, seeing_done, seeing_undone, enrolling}
 
 -- a seat: its view and the slots that it carries
@@ -76,6 +76,11 @@ abbrev pub looked_at_stop : Play
 looked_at_stop st m r n =
     (r ≡ 1 → n ≡ (with_step finding_stop m.0, m.1)) × (r ≢ 1 → n ≡ (with_found r finding_none m.0, m.1)) × (st.word ≡ stop_at m.0.workers)
 
+-- the word is that of a node's value, and the number found is told to the pass
+abbrev pub looked_at_value : Play
+looked_at_value st m r n =
+    (node : ℕ) × (st.word ≡ value_at m.0.workers m.0.nodes node) × (n ≡ (with_step (telling r) m.0, m.1))
+
 -- the pass takes its own record slot
 abbrev pub enrolled : Play
 enrolled st m r n = n ≡ (enrolling m.0, (m.0.own.worker, Slots.Vacant) ∷ m.1)
@@ -100,10 +105,12 @@ pub record IsNewCall (room : ℕ) (h : HoldView) (call : OpRecord) : Type 0 wher
   pub apart : (x : ℕ) (other : OpRecord) → record_in h.taken x ≡ Some other → other.leaf ≢ call.leaf
   pub fits : length (flat h.book) + length h.taken + 1 ≤ room
 
+-- a look at the next worker; a call that it takes has the operation of its leaf under the hold's book
 abbrev pub took : Play
 took st m r n =
     (h : HoldView) × (m.0.own.hold ≡ Some h) × (h.published ≡ false)
-    × (r ≡ 1 → (call : OpRecord) × IsNewCall m.0.room h call × (n ≡ (with_step (taking (call_by st.word call)) m.0, (st.word, Slots.Record call) ∷ m.1)))
+    × (r ≡ 1 → (call : OpRecord) × IsNewCall m.0.room h call × (op_of (job_seen m.0) h.book call.leaf ≡ Some call.op)
+    × (n ≡ (with_step (taking (call_by st.word call)) m.0, (st.word, Slots.Record call) ∷ m.1)))
     × (r ≢ 1 → n ≡ (with_found r (passing st.word r) m.0, m.1))
     × (st.word ≡ h.looks)
 
@@ -134,12 +141,13 @@ released_shop st m r n = n ≡ (with_step releasing m.0, rest m.1)
 abbrev pub released_both : Play
 released_both st m r n = n ≡ (with_step releasing m.0, rest (rest m.1))
 
--- The receipt is of the call posted last; its batch is from `before` to `after` + 1 (if any); the book has its entry.
+-- The receipt is of the call posted last; its batch is from `before` to `after` + 1 (if any); the book has its entry,
+-- whose operation is that of the call's leaf under the book.
 abbrev pub left : Play
 left st m r n =
     (r ≡ 3 → (call : OpRecord) × (receipt : Receipt) × (m.0.own.posted ≡ Some call) × (m.0.own.before ≤ receipt.batch)
     × ((since : ℕ) → m.0.own.after ≡ Some since → receipt.batch ≤ since + 1)
-    × ((book : List (List Entry)) × IsFront m.0.own.book_seen book
+    × ((book : List (List Entry)) × IsFront m.0.own.book_seen book × (op_of (job_seen m.0) book call.leaf ≡ Some call.op)
     × StandsAt book receipt.batch receipt.place (entry_of m.0.own.worker (record { call = call; receipt = receipt }))
     × (n ≡ (with_step (leaving call receipt book) m.0, (st.word, Slots.Receipt receipt) ∷ m.1))))
     × (r ≢ 3 → n ≡ (with_found r staying m.0, m.1)) × (st.word ≡ m.0.own.worker)

@@ -3,6 +3,7 @@ use Rattle.std.specs.Prelude.{ℕ, ◌≡◌, ◌≢◌, ◌⊎◌, slice_index,
 use mathlib.Core.Option.{Option, none, some}
 use lib.ListN.{get_elem?}
 use Rattle.atomic_table.specs.Table.{State as AtomicState}
+use Rattle.seq_objects.specs.Objects.{value_of}
 use Rattle.seq_objects.specs.Pairs.{AreDistinct}
 use Rattle.batch_history.specs.Book.{flat}
 use Rattle.batch_history.specs.Reserved.{ReservedView}
@@ -11,6 +12,7 @@ use Rattle.core_model.specs.Settings.{job_of}
 use Rattle.core_model.specs.Words.{Entry, LeafNode}
 use Rattle.table_rule.specs.CoreWords.{Event, Task, Idle, Started, Status, Free, Pending, Executing, Served, CallState, NotCalled, Out, Got}
 use Rattle.core_model.specs.State.{CoreJob, Hold, State}
+use Rattle.core_model.specs.LeafSources.{HasReplied}
 use Rattle.core_model.specs.Operations.{op_of, Place}
 use Rattle.core_model.specs.Entries.{entries_of}
 use Rattle.core_model.specs.Measure.{call_count}
@@ -45,7 +47,7 @@ room_of key = call_count (job_of key)
 abbrev pub IsRecordOf : CoreJob → List (List Entry) → Task → OpRecord → Type 0
 IsRecordOf job book task call =
     (node : ℕ) × (start : ℕ) × (task ≡ Started node start) × (job.plan.kind node ≡ Some (LeafNode call.leaf))
-    × (op_of job.act book call.leaf ≡ Some call.op)
+    × (op_of job book call.leaf ≡ Some call.op)
 
 -- A worker's record slot, by its status. Pending: it is in the table, with the call. Executing: it is not in the table.
 -- Served: it is in the table, with the receipt. Free: nothing is said.
@@ -133,6 +135,13 @@ pub record SinceKnown (job : CoreJob) (s : State) (v : View) (w : ℕ) : Type 0 
   pub placed : (place : Place) → s.call w ≡ Out → task_place job s.book (s.task w) ≡ Some place → v.own.before ≤ place.batch
   pub waits : (since : ℕ) → v.own.after ≡ Some since → s.call w ≡ Out → WaitsSince job s w since
 
+-- What was told for this task: it is `Started` at a leaf that has a source, the source has replied, and the number told
+-- is its value.
+abbrev pub IsTold : CoreJob → State → Task → ℕ → Type 0
+IsTold job s task value =
+    (node : ℕ) × (start : ℕ) × (leaf : ℕ) × (source : ℕ) × (task ≡ Started node start) × (job.plan.kind node ≡ Some (LeafNode leaf))
+    × (job.source leaf ≡ Some source) × (replied : HasReplied job s source) × (value ≡ value_of replied.place.entry.reply)
+
 -- xs is a prefix of ys
 abbrev pub IsFront : {A : Type 0} → List A → List A → Type 0
 IsFront {A} xs ys = (more : List A) × (ys ≡ xs ++ more)
@@ -146,6 +155,8 @@ pub record AgreesWithView (job : CoreJob) (s : State) (home : SlotHome) (seat id
   pub call : s.call w ≡ v.own.call
   -- an outstanding call is the one that the pass posted last
   pub posted : s.call w ≡ Out → (call : OpRecord) × (v.own.posted ≡ Some call) × IsRecordOf job s.book (s.task w) call
+  -- what the pass was told of its task's source is the value of that source
+  pub told : (value : ℕ) → v.own.told ≡ Some value → IsTold job s v.own.task value
   pub hold : HoldKnown job s v.own.hold w
   -- the worker's entries in the book: those of the calls that the pass has left, in order, then that of its
   -- outstanding call, if the book has it

@@ -1,9 +1,7 @@
 -- Which tasks a pass may have, the progress that a finish leaves, and the next act of a view.
 use Rattle.std.specs.Prelude.{ℕ, ◌≡◌, ◌≢◌, ◌<◌, Option as Maybe, Some}
-use Rattle.seq_objects.specs.declared.act.Act.{Act}
-use Rattle.sp_order.specs.Preorder.{nodes_of}
 use Rattle.core_model.specs.Words.{Kind, ParNode}
-use Rattle.core_model.specs.State.{CoreJob}
+use Rattle.core_model.specs.State.{CoreJob, core_job}
 use Rattle.core_model.specs.Operations.{IsLeaf}
 use Rattle.core_model.specs.Next.{next_act}
 use Rattle.core_model.specs.declared.next.Next.{Next}
@@ -31,8 +29,10 @@ abbrev pub progress_after : ℕ → Task → Progress
 progress_after k (Ended n s e) = Ran k s e
 progress_after k _ = Done
 
--- This is the next act of the view's task, by the plan and some acts of the leaves. All but those of a started leaf are
--- the same with any acts.
+-- the job of the model that the view's pass works on
+abbrev pub job_seen : View → CoreJob
+job_seen v = core_job v.job v.workers
+
+-- this is the next act of the view's task and call
 abbrev pub IsNext : View → Next → Type 0
-IsNext v next =
-    (act : ℕ → Act) × (next_act (record { plan = nodes_of v.plan; act = act; workers = v.workers }) v.own.task v.own.call ≡ Some next)
+IsNext v next = next_act (job_seen v) v.own.task v.own.call ≡ Some next

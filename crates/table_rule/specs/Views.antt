@@ -1,8 +1,7 @@
 -- The view of a seat at the start of a table, and after each kind of step: what `Passes.antt` says of its pass, and what
 -- the table's rule needs beside it. A step changes the view of its own seat only.
 use Rattle.std.specs.Prelude.{ℕ, ◌+◌, Bool, Option as Maybe, Some, true, false}
-use Rattle.sp_order.specs.Jobs.{job_tree}
-use Rattle.core_model.specs.Words.{Tree}
+use Rattle.sp_order.specs.Jobs.{JobValue}
 use Rattle.core_model.specs.declared.setting.Setting.{Setting}
 use Rattle.table_rule.specs.CoreWords.{Event}
 use Rattle.table_rule.specs.declared.slot.OpRecord.{OpRecord}
@@ -12,14 +11,14 @@ use Rattle.table_rule.specs.Shows.{room_of, job_of}
 use Rattle.table_rule.specs.Passes.{unused, posting, hearing}
 
 -- a view without any step, whose range is all workers
-abbrev pub newcomer : Tree → ℕ → ℕ → ℕ → View
-newcomer tree workers nodes room = record {
+abbrev pub newcomer : JobValue → ℕ → ℕ → ℕ → View
+newcomer job workers nodes room = record {
   own = unused 0;
   to = workers;
   workers = workers;
   nodes = nodes;
   room = room;
-  plan = tree;
+  job = job;
   enrolled = false;
   saw_done = false;
   root_looks = 0;
@@ -30,7 +29,7 @@ newcomer tree workers nodes room = record {
 
 -- the view of a table's first seat
 abbrev pub first_view : Setting → View
-first_view key = newcomer (job_tree key.job) key.workers (job_of key).plan.count (room_of key)
+first_view key = newcomer key.job key.workers (job_of key).plan.count (room_of key)
 
 -- A split of a range: the pass gets its lowest number, and the first seat keeps the rest.
 abbrev pub pass_of : View → View

@@ -11,11 +11,13 @@ ghost use Rattle.table_rule.specs.Shows.{TableState, Shown, job_of, IsFront};
 ghost use Rattle.table_rule.specs.OneState.{AreOne};
 ghost use Rattle.table_rule.specs.Words.{stop_at};
 ghost use Rattle.core_model.specs.Entries.{StandsAt};
+ghost use Rattle.core_model.specs.LeafSources.{HasSources};
 ghost use Rattle.core_model.specs.State.{opening_state};
 ghost use Rattle.batch_history.specs.declared.batch.Entry.{Entry};
 
 use core_model::laws::book::{
-    calls_have_room, publish_adds_the_taken_call, receipt_is_of_the_own_entry,
+    calls_have_room, entries_are_found_at_their_places, operations_stay,
+    publish_adds_the_taken_call, receipt_is_of_the_own_entry, started_leaf_has_its_source,
 };
 use core_model::laws::invariant::{
     event_keeps_parts, mark_before_arrival_is_below_two, moves_tell_sides, opening_has_parts,
@@ -30,12 +32,16 @@ pub fn laws_hold()
     ensures { (key : Setting) → (job_of key).plan.count < 40000
         → length key.job.acts ≡ leaves (job_tree key.job)
         → length key.job.acts ≤ 20000
+        → HasSources (job_of key)
         → Laws (job_of key) }
 {
     event_keeps_parts();
     calls_have_room();
     publish_adds_the_taken_call();
     receipt_is_of_the_own_entry();
+    operations_stay();
+    entries_are_found_at_their_places();
+    started_leaf_has_its_source();
     tick_is_at_most_two_a_node();
     mark_before_arrival_is_below_two();
     event_keeps_waits();

@@ -3,7 +3,8 @@
 //! Between any two steps of any passes, the table shows one state of the core that satisfies the invariant
 //! (`specs/Shows.antt` is the refinement mapping). `core_model` proves that events keep the invariant; this crate only
 //! cites that law. A pass's view is what it knows and has done (`PassView`, which contracts see, within the `View` of
-//! its seat). Each kind of step has a play, which says what the step does to the view of its own pass. `core_table` has the calls that make these steps.
+//! its seat). Each kind of step has a play, which says what the step does to the view of its own pass. `core_table` has
+//! the calls that make these steps.
 #![tactic(auto)]
 
 pub mod laws;

@@ -1,7 +1,7 @@
 //! The table's rule and one play for each kind of step: what a seat learns from that step (`specs/Plays.antt`).
 ghost use Rattle.table_rule.specs.Shows.{Shown};
 ghost use Rattle.table_rule.specs.Views.{first_view, pass_of, rest_of};
-ghost use Rattle.table_rule.specs.Plays.{claimed, strayed, drawn, opened, kept, finished, arrived, looked_at_root, heard, enrolled, posted, won, took, admitted, published, answered, released_shop, released_both, left, stopped_all, looked_at_stop};
+ghost use Rattle.table_rule.specs.Plays.{claimed, strayed, drawn, opened, kept, finished, arrived, looked_at_root, heard, enrolled, posted, won, took, admitted, published, answered, released_shop, released_both, left, stopped_all, looked_at_stop, looked_at_value};
 
 use crate::slot::Slot;
 use crate::view::View;
@@ -144,6 +144,13 @@ pub struct Stop;
 
 impl Play<Slot, View> for Stop {
     ghost then = { stopped_all };
+}
+
+/// A look at the value of the source of the task's leaf.
+pub struct LookAtValue;
+
+impl Play<Slot, View> for LookAtValue {
+    ghost then = { looked_at_value };
 }
 
 pub struct LookAtStop;

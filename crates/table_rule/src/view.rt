@@ -4,7 +4,7 @@ use crate::slot::OpRecord;
 use batch_history::Entry;
 use core_model::{CallState, Event, Receipt, Task};
 use seq_objects::Call;
-use sp_order::Plan;
+use sp_order::Job;
 use std::collections::LinkedList;
 
 /// A call that a pass has left, with its receipt.
@@ -48,6 +48,8 @@ pub struct PassView {
     pub stop_looks: u64,
     pub stops_found: u64,
     pub stops: u64,
+    /// The value of the task's source that `source_value` told. A new task forgets it.
+    pub told: Option<u64>,
     /// The call posted last.
     pub posted: Option<OpRecord>,
     /// The calls left, with their receipts.
@@ -79,8 +81,8 @@ pub struct View {
     pub workers: u64,
     pub nodes: u64,
     pub room: u64,
-    /// The job's plan. With the task it determines which event a step is.
-    pub plan: Plan,
+    /// The job. With the task it determines which event a step is.
+    pub job: Job,
     /// Whether the pass has taken its worker's record slot from the table, as its first step.
     pub enrolled: bool,
     /// Whether a look has found the root done, and the number of looks at the root.

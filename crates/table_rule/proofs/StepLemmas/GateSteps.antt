@@ -12,6 +12,7 @@ use Rattle.atomic_table.proofs.Lists.{exchanged, set_here, set_else}
 use Rattle.batch_history.specs.declared.batch.Entry.{Entry}
 use Rattle.std.specs.List.{AllByRecursion}
 use Rattle.std.proofs.Common.{◌&&◌, not}
+use Rattle.seq_objects.specs.declared.op.Op.{Op}
 use Rattle.seq_objects.specs.Pairs.{AreDistinct}
 use Rattle.batch_history.specs.Book.{flat}
 use Rattle.core_model.specs.Entries.{IsUnserved}
@@ -27,7 +28,7 @@ use Rattle.core_model.specs.declared.status.CallState.TheVariants.{NotCalled, Ou
 use Rattle.core_model.specs.declared.event.Event.{Event}
 use Rattle.core_model.specs.declared.event.Event.TheVariants.{Post, Win, Take, Answer, Release, Leave}
 use Rattle.core_model.specs.State.{put, CoreJob, Hold, State}
-use Rattle.core_model.specs.Operations.{leaf_of, IsCall, Place, place_of, IsReceipt, receipt_for}
+use Rattle.core_model.specs.Operations.{leaf_of, op_from, op_of, IsCall, Place, place_of, IsReceipt, receipt_for}
 use Rattle.core_model.specs.Events.{Happens, made, is_pending, new_hold}
 use Rattle.core_model.specs.Invariant.Statuses.{is_taken_by}
 use Rattle.core_model.specs.Invariant.{Parts}
@@ -41,6 +42,7 @@ use Rattle.table_rule.specs.declared.slot.Slot.TheVariants as Slots
 use Rattle.table_rule.specs.Words.{stop_at, flag_at, status_code, flag_code, WordsShow}
 use Rattle.table_rule.specs.Laws.{Laws}
 use Rattle.table_rule.specs.Steps.{ShowsOne, Steps, TryMakes, IsEvent, LeaveMakes}
+use Rattle.table_rule.specs.Tasks.{job_seen}
 use Rattle.table_rule.proofs.StepLemmas.NextActs.{MayPost}
 use Rattle.table_rule.specs.Shows.{reserved, TableState, SlotHome, IsFront, IsRecordOf, RecordAt, ShopAt, IsBookHome, BookIf, BookAt, took_in, record_in, among, hold_of, HoldKnown, entry_of, Shows}
 use Rattle.table_rule.specs.Passes as W
@@ -52,7 +54,8 @@ use Rattle.table_rule.proofs.TableLemmas.Moved.{mine_of, moved, looked, found, m
 use Rattle.core_model.specs.Entries.{StandsAt}
 use Rattle.table_rule.proofs.ListLemmas.Last.{took_put, among_put, record_last, workers_last}
 use Rattle.table_rule.proofs.StepLemmas.TakeOk.{pending_is_new, taken_is_new}
-use Rattle.table_rule.proofs.TableLemmas.Through.{SameTold, told_again, reseen, through, hold_others, hold_won, hold_gone, hold_same, slots_record}
+use Rattle.table_rule.proofs.StepLemmas.ToldOps.{told_place, told_op}
+use Rattle.table_rule.proofs.TableLemmas.Through.{SameTold, told_again, told_kept, reseen, through, hold_others, hold_won, hold_gone, hold_same, slots_record}
 
 -- what the number found says of the flag, or of a status
 free_flag : (h : Maybe Hold) → flag_code h ≡ 0 → h ≡ None
@@ -213,7 +216,7 @@ module _ (job : CoreJob) (room : ℕ) (laws : Laws job) (slots id : ℕ) (v : Vi
   same_receipt n x r e = let h = ap (λ (l : List (ℕ × Slot)). (get_or l 0 (n, Slots.Receipt x)).1) e in cc
 
   -- a post
-  pub posts : (call : OpRecord) → v.enrolled ≡ true → (is : MayPost job v.own.task call) → v.own.call ≡ NotCalled
+  pub posts : (call : OpRecord) → v.enrolled ≡ true → (is : MayPost job v.own.told v.own.task call) → v.own.call ≡ NotCalled
       → Steps job room slots id (v, (k, Slots.Record call) ∷ xs) k (λ y. 1) (λ y. G.posted (step slots k 1 0 none) (v, (k, Slots.Record call) ∷ xs) 1) (λ before found after. IsEvent job k (Post is.0 is.1) before after)
   posts call enrolled is called t o wide me fits =
       let s = o.state in
@@ -221,7 +224,10 @@ module _ (job : CoreJob) (room : ℕ) (laws : Laws job) (slots id : ℕ) (v : Vi
       let not_called : s.call k ≡ NotCalled = m.1.call ∙ called in
       let free = is_free job s k o.parts (rw not_called (λ e. cc)) in
       let task : s.task k ≡ Started is.0 is.1 = m.1.task ∙ is.2 in
-      let calls = is_call job call.leaf call.op (is.4 s.book) in
+      let op = told_op job s.book v.own.told (job.source call.leaf) is.4.0 call.op is.4.2 (told_place job s v.own.told v.own.task is.0 is.1 call.leaf is.2 is.3 m.1.told) in
+      let op_is : op_of job s.book call.leaf ≡ Some call.op = ap (λ (x : Maybe Op). op_from s.book x (job.source call.leaf)) is.4.1 ∙ op in
+      let calls = is_call job s.book call.leaf call.op op_is in
+      let record_is : IsRecordOf job s.book (s.task k) call = (is.0, is.1, task, is.3, op_is) in
       let nowhere : task_place job s.book (s.task k) ≡ None = started_place job s.book (s.task k) is.0 is.1 call.leaf task is.3 ∙ unbooked job s k is.0 is.1 call.leaf o.parts task is.3 calls free not_called in
       let new : State = record s { status = put s.status k Pending; call = put s.call k Out } in
       let happens : Happens job s k (Post is.0 is.1) new = record { worker_in = m.0; needs = (free, task, leaf_is job is.0 call.leaf is.3 calls, not_called); does = refl } in
@@ -231,12 +237,13 @@ module _ (job : CoreJob) (room : ℕ) (laws : Laws job) (slots id : ℕ) (v : Vi
         tt,
         moved job room laws t o id k v w (set t.words k 1) (set t.homes k (some (Slots.Record call))) (Post is.0 is.1) new happens me from to from to record { events = refl; stops = refl; found = refl } (get_or-set_other t.words k (stop_at P) 1 0 (λ e. let low = m.0 in omega arith))
             (set_status P N t.words s.node s.mark s.value s.status s.hold s.tick (length s.book) o.words k Pending m.0)
-            (slots_record job room t.homes s.task s.status s.hold s.hold s.book k Pending (some (Slots.Record call)) o.slots m.0 (call, refl, (is.0, is.1, task, is.3, (is.4 s.book))) (λ home h. h) (λ home h. h))
+            (slots_record job room t.homes s.task s.status s.hold s.hold s.book k Pending (some (Slots.Record call)) o.slots m.0 (call, refl, record_is) (λ home h. h) (λ home h. h))
             (λ own. record {
               sits = own.sits;
               task = own.task;
               call = put_at s.call k k Out refl;
-              posted = λ _. (call, refl, (is.0, is.1, task, is.3, (is.4 s.book)));
+              posted = λ _. (call, refl, record_is);
+              told = λ value at. told_kept job laws s new k v.own.task v.own.task value (laws.keeps s new k (Post is.0 is.1) o.parts happens) own.task refl (λ leaf place at. at) (own.told value at);
               hold = hold_same job s new k refl refl (λ u. refl) v.own.hold own.hold;
               entries = rw (put_at s.call k k Out refl, nowhere) (rw not_called at own.entries);
               new = λ e. absurd (true_false (sym enrolled ∙ e));
@@ -255,7 +262,7 @@ module _ (job : CoreJob) (room : ℕ) (laws : Laws job) (slots id : ℕ) (v : Vi
         λ x e. (is.0, is.1, is.2, ap (λ (y : OpRecord). (V.with_post y (Post is.0 is.1) v, xs)) (same_call k call x e)),
       )
 
-  pub posts_at : (m : G.SeatState) (call : OpRecord) → m ≡ (v, (k, Slots.Record call) ∷ xs) → v.enrolled ≡ true → (is : MayPost job v.own.task call) → v.own.call ≡ NotCalled
+  pub posts_at : (m : G.SeatState) (call : OpRecord) → m ≡ (v, (k, Slots.Record call) ∷ xs) → v.enrolled ≡ true → (is : MayPost job v.own.told v.own.task call) → v.own.call ≡ NotCalled
       → Steps job room slots id m k (λ y. 1) (λ y. G.posted (step slots k 1 0 none) m 1) (λ before found after. IsEvent job k (Post is.0 is.1) before after)
   posts_at m call e enrolled is called = subst (λ (m : G.SeatState). Steps job room slots id m k (λ y. 1) (λ y. G.posted (step slots k 1 0 none) m 1) (λ before found after. IsEvent job k (Post is.0 is.1) before after)) (sym e) (posts call enrolled is called)
 
@@ -289,7 +296,7 @@ module _ (job : CoreJob) (room : ℕ) (laws : Laws job) (slots id : ℕ) (v : Vi
               batches = set_else (set t.homes (P + 1) none) P (P + 1) none (λ e. omega arith) ∙ set_here t.homes (P + 1) none (omega (arith, o.slots.wide));
             }
             (λ own. through job laws s new k k Win v w (get_elem? t.homes k) (get_elem? homes k) (o.seat k) id o.parts happens refl refl refl (λ d. d) (λ e _. far k m.0 ∙ e)
-            record { task = refl; call = refl; posted = refl; left = refl; enrolled = refl; saw_done = refl; greatest = refl; before = refl; after = refl; book_seen = refl }
+            record { task = refl; call = refl; told = refl; posted = refl; left = refl; enrolled = refl; saw_done = refl; greatest = refl; before = refl; after = refl; book_seen = refl }
             (refl, refl, (λ u call is yet. absurd (cc)), tt) own)
             (λ i x u low ne other. through job laws s new k x Win u u (get_elem? t.homes x) (get_elem? homes x) (o.seat x) i o.parts happens refl refl refl (λ d. d)
             (λ e _. far x low ∙ e) (told_again u) (hold_won job s new k x h ne open_ refl refl u.own.hold other.hold) other)),
@@ -300,13 +307,13 @@ module _ (job : CoreJob) (room : ℕ) (laws : Laws job) (slots id : ℕ) (v : Vi
         keeps,
         tt,
         missed word 0 (IsEvent job k Win) ne (looked job room t o id k P v (V.with_found word W.losing v) me from to from to refl refl (λ h. inl h)
-            (λ own. record { sits = own.sits; task = own.task; call = own.call; posted = own.posted; entries = own.entries; hold = own.hold; new = own.new; done = own.done; seen = own.seen; since = record { most = own.since.most; early = own.since.early; late = own.since.late; placed = own.since.placed; waits = own.since.waits } })),
+            (λ own. record { sits = own.sits; task = own.task; call = own.call; posted = own.posted; told = own.told; entries = own.entries; hold = own.hold; new = own.new; done = own.done; seen = own.seen; since = record { most = own.since.most; early = own.since.early; late = own.since.late; placed = own.since.placed; waits = own.since.waits } })),
         ((λ zero. absurd (ne zero)), (λ _. refl), ap flag_at (sym sized)),
       ))
 
   -- a trapped pass without the flag tries to leave
-  pub leaves : v.enrolled ≡ true → v.own.call ≡ Out → v.own.hold ≡ None → Steps job room slots id (v, xs) k (λ y. either (eqb y 3) 0 y) (G.left (step slots k 3 0 none) (v, xs)) (TryMakes 3 (LeaveMakes job k))
-  leaves enrolled out idle t o wide me fits =
+  pub leaves : v.enrolled ≡ true → v.own.call ≡ Out → v.own.hold ≡ None → job_seen v ≡ job → Steps job room slots id (v, xs) k (λ y. either (eqb y 3) 0 y) (G.left (step slots k 3 0 none) (v, xs)) (TryMakes 3 (LeaveMakes job k))
+  leaves enrolled out idle seen t o wide me fits =
       let s = o.state in
       let word = get_or t.words k 0 in
       let m = mine_of job room t o id k v me from to in
@@ -334,6 +341,7 @@ module _ (job : CoreJob) (room : ℕ) (laws : Laws job) (slots id : ℕ) (v : Vi
               task = own.task;
               call = put_at s.call k k (Got r) refl;
               posted = λ e. absurd (still e);
+              told = λ value at. told_kept job laws s new k v.own.task v.own.task value (laws.keeps s new k (Leave r) o.parts happens) own.task refl (λ leaf place at. at) (own.told value at);
               hold = hold_same job s new k refl refl (λ u. refl) v.own.hold own.hold;
               entries = let was = rw (out', served.at, served.entry) at own.entries in rw (put_at s.call k k (Got r) refl, map-append, append-nil) was;
               new = λ e. absurd (true_false (sym enrolled ∙ e));
@@ -356,7 +364,7 @@ module _ (job : CoreJob) (room : ℕ) (laws : Laws job) (slots id : ℕ) (v : Vi
             what.1,
             subst (λ (z : Receipt). v.own.before ≤ z.batch) (sym served.receipt) (m.1.since.placed served.place out' served.at),
             (λ since told. subst (λ (z : Receipt). z.batch ≤ since + 1) (sym served.receipt) (told_by job s k since r served.place st.1 served.at (m.1.since.waits since told out'))),
-            (s.book, m.1.seen, subst (λ (x : ℕ). StandsAt s.book r.batch r.place (entry_of x (record { call = call; receipt = r }))) (sym from) served.stands, refl),
+            (s.book, m.1.seen, subst (λ (j : CoreJob). op_of j s.book call.leaf ≡ Some call.op) (sym seen) what.2.4, subst (λ (x : ℕ). StandsAt s.book r.batch r.place (entry_of x (record { call = call; receipt = r }))) (sym from) served.stands, refl),
           )),
           (λ ne. absurd (ne three)),
           sym from,
@@ -367,7 +375,7 @@ module _ (job : CoreJob) (room : ℕ) (laws : Laws job) (slots id : ℕ) (v : Vi
         keeps,
         tt,
         missed word 3 (LeaveMakes job k) ne (looked job room t o id k k v (V.with_found word W.staying v) me from to from to refl refl (λ h. inl h)
-            (λ own. record { sits = own.sits; task = own.task; call = own.call; posted = own.posted; entries = own.entries; hold = own.hold; new = own.new; done = own.done; seen = own.seen; since = record { most = own.since.most; early = own.since.early; late = own.since.late; placed = own.since.placed; waits = own.since.waits } })),
+            (λ own. record { sits = own.sits; task = own.task; call = own.call; posted = own.posted; told = own.told; entries = own.entries; hold = own.hold; new = own.new; done = own.done; seen = own.seen; since = record { most = own.since.most; early = own.since.early; late = own.since.late; placed = own.since.placed; waits = own.since.waits } })),
         ((λ three. absurd (ne three)), (λ _. refl), sym from),
       ))
 
@@ -375,16 +383,16 @@ module _ (job : CoreJob) (room : ℕ) (laws : Laws job) (slots id : ℕ) (v : Vi
   holding t o h me is = subst (λ (z : Maybe HoldView). HoldKnown job o.state z k) is (mine_of job room t o id k v me from to).1.hold
 
   again : (event : Event) (f : HoldView → HoldView) → SameTold v (V.with_step (W.with_hold event f) v)
-  again event f = record { task = refl; call = refl; posted = refl; left = refl; enrolled = refl; saw_done = refl; greatest = refl; before = refl; after = refl; book_seen = refl }
+  again event f = record { task = refl; call = refl; told = refl; posted = refl; left = refl; enrolled = refl; saw_done = refl; greatest = refl; before = refl; after = refl; book_seen = refl }
 
   -- the hold that the view tells after this step
   now_holds : (h : HoldView) (f : HoldView → HoldView) → v.own.hold ≡ Some h → (s : State) → HoldKnown job s (Some (f h)) k → HoldKnown job s (W.in_hold f v.own.hold) k
   now_holds h f holds s known = subst (λ (z : Maybe HoldView). HoldKnown job s (W.in_hold f z) k) (sym holds) known
 
   -- the holder looks at the next worker
-  pub looks : (h : HoldView) (u : ℕ) → v.room ≡ call_count job → v.own.hold ≡ Some h → u ≡ h.looks → u < job.workers
+  pub looks : (h : HoldView) (u : ℕ) → v.room ≡ call_count job → job_seen v ≡ job → v.own.hold ≡ Some h → u ≡ h.looks → u < job.workers
       → Steps job room slots id (v, xs) u (λ y. either (eqb y 1) 2 y) (G.took (step slots u 1 2 none) (v, xs)) (λ before found after. IsEvent job k (Take u) before after)
-  looks h u roomy holds next low t o wide me fits =
+  looks h u roomy seen holds next low t o wide me fits =
       let s = o.state in
       let word = get_or t.words u 0 in
       let m = mine_of job room t o id k v me from to in
@@ -430,6 +438,7 @@ module _ (job : CoreJob) (room : ℕ) (laws : Laws job) (slots id : ℕ) (v : Vi
               apart = λ x c is same. taken_is_new job laws s k u x h call c o.parts held next is what.2 (known.2 x c is (none_answered (among h.answered x) h.published (stands.6 x) unpublished)) (sym same);
               fits = subst (λ (b : List (List Entry)). length (flat b) + length h.taken + 1 ≤ v.room) known.1 (rw roomy (taken_fit job laws s k u h o.parts held unpublished pending (others_before h.taken u (λ x e. let low' = stands.2 x e in omega (arith, low', next))) known.3 (λ x. none_answered (among h.answered x) h.published (stands.6 x) unpublished)));
             },
+            subst (λ (j : CoreJob). op_of j h.book call.leaf ≡ Some call.op) (sym seen) (subst (λ (b : List (List Entry)). op_of job b call.leaf ≡ Some call.op) known.1 what.2.4),
             refl,
           )),
           (λ ne. absurd (ne one)),
@@ -455,7 +464,7 @@ module _ (job : CoreJob) (room : ℕ) (laws : Laws job) (slots id : ℕ) (v : Vi
               shop = subst (λ (z : Maybe Hold). ShopAt z s.book (get_elem? t.homes P)) held o.slots.shop;
               batches = subst (λ (z : Maybe Hold). BookAt room z s.book (get_elem? t.homes (P + 1))) held o.slots.batches;
             }
-            (λ own. through job laws s new k k (Take u) v w (get_elem? t.homes k) (get_elem? t.homes k) (o.seat k) id o.parts happens refl refl refl (λ d. d) (λ e _. e) record { task = refl; call = refl; posted = refl; left = refl; enrolled = refl; saw_done = refl; greatest = refl; before = refl; after = refl; book_seen = refl } (now_holds h f holds new (refl, known.1, known.2, known.3)) own)
+            (λ own. through job laws s new k k (Take u) v w (get_elem? t.homes k) (get_elem? t.homes k) (o.seat k) id o.parts happens refl refl refl (λ d. d) (λ e _. e) record { task = refl; call = refl; told = refl; posted = refl; left = refl; enrolled = refl; saw_done = refl; greatest = refl; before = refl; after = refl; book_seen = refl } (now_holds h f holds new (refl, known.1, known.2, known.3)) own)
             (λ i x y low' ne' other. through job laws s new k x (Take u) y y (get_elem? t.homes x) (get_elem? t.homes x) (o.seat x) i o.parts happens refl refl refl (λ d. d) (λ e _. e) (told_again y)
             (hold_others job s new k x (hold_of k h) (hold_of k h') ne' held refl refl refl y.own.hold other.hold) other),
         (h, holds, unpublished, (λ one. absurd (ne one)), (λ _. refl), next),
@@ -525,7 +534,7 @@ module _ (job : CoreJob) (room : ℕ) (laws : Laws job) (slots id : ℕ) (v : Vi
       record { wide = wide ∙ o.slots.wide; records = λ u low. rw (far u low) (o.slots.records u low); shop = shop; batches = batches }
       (λ own. reseen job new (get_elem? homes k) (o.seat k) id told k (W.book_after v.own.hold v.own.book_seen) front
       (through job laws s new k k Release v told (get_elem? t.homes k) (get_elem? homes k) (o.seat k) id o.parts happens refl refl refl (λ d. d) (λ e c. far k m.0 ∙ e)
-      record { task = refl; call = refl; posted = refl; left = refl; enrolled = refl; saw_done = refl; greatest = refl; before = refl; after = refl; book_seen = refl }
+      record { task = refl; call = refl; told = refl; posted = refl; left = refl; enrolled = refl; saw_done = refl; greatest = refl; before = refl; after = refl; book_seen = refl }
       (λ i e. absurd (cc)) own))
       (λ i x y low ne other. through job laws s new k x Release y y (get_elem? t.homes x) (get_elem? homes x) (o.seat x) i o.parts happens refl refl refl (λ d. d) (λ e c. far x low ∙ e) (told_again y)
       (hold_gone job s new k x (hold_of k h) ne held refl refl y.own.hold other.hold) other)

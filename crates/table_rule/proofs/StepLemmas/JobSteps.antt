@@ -25,10 +25,9 @@ use Rattle.core_model.specs.Tasks.{is_done}
 use Rattle.core_model.specs.Operations.{leaf_of}
 use Rattle.table_rule.specs.declared.view.View.{View}
 use Rattle.table_rule.specs.declared.slot.Slot.{Slot}
-use Rattle.sp_order.specs.Preorder.{nodes_of}
-use Rattle.table_rule.specs.Tasks.{TaskHere, progress_after, IsNext}
+use Rattle.table_rule.specs.Tasks.{TaskHere, progress_after, job_seen, IsNext}
 use Rattle.table_rule.specs.DueActs.{IsTickDue}
-use Rattle.table_rule.proofs.StepLemmas.NextActs.{IsPlanned, act_is, next_stands}
+use Rattle.table_rule.proofs.StepLemmas.NextActs.{act_is, next_stands}
 use Rattle.table_rule.proofs.StepLemmas.Sides.{block_in}
 use Rattle.table_rule.proofs.TableLemmas.Traces.{AddsEvent}
 use Rattle.table_rule.specs.Words.{stop_at, node_at, mark_at, value_at, tick_at, progress_code, WordsShow}
@@ -56,7 +55,7 @@ root_kept node n x undone done = grind (arith, nat_tests)
 root_done : (node : ℕ → Progress) (n : ℕ) (x : Progress) → is_done x ≡ true → is_done (node 0) ≡ true → is_done (put node n x 0) ≡ true
 root_done node n x is done = grind (arith, nat_tests)
 
-module _ (job : CoreJob) (room : ℕ) (laws : Laws job) (slots id : ℕ) (v : View) (xs : List (ℕ × Slot)) (k : ℕ) (from : v.own.worker ≡ k) (to : v.to ≡ k + 1) (sized : v.workers ≡ job.workers) (enrolled : v.enrolled ≡ true) (planned : nodes_of v.plan ≡ job.plan) where
+module _ (job : CoreJob) (room : ℕ) (laws : Laws job) (slots id : ℕ) (v : View) (xs : List (ℕ × Slot)) (k : ℕ) (from : v.own.worker ≡ k) (to : v.to ≡ k + 1) (sized : v.workers ≡ job.workers) (enrolled : v.enrolled ≡ true) (known : job_seen v ≡ job) where
   abbrev P : ℕ
   P = job.workers
 
@@ -65,7 +64,7 @@ module _ (job : CoreJob) (room : ℕ) (laws : Laws job) (slots id : ℕ) (v : Vi
 
   -- the view after a look or a refused try
   refused : (t : TableState) (o : Shows job room t) (n word : ℕ) → AgreesWithView job o.state (get_elem? t.homes k) (o.seat k) id v k → AgreesWithView job o.state (get_elem? t.homes k) (o.seat k) id (with_found word (refusing n) v) k
-  refused t o n word m = record { sits = m.sits; task = m.task; call = m.call; posted = m.posted; entries = m.entries; hold = m.hold; new = m.new; done = m.done; seen = m.seen; since = record { most = m.since.most; early = m.since.early; late = m.since.late; placed = m.since.placed; waits = m.since.waits } }
+  refused t o n word m = record { sits = m.sits; task = m.task; call = m.call; posted = m.posted; told = m.told; entries = m.entries; hold = m.hold; new = m.new; done = m.done; seen = m.seen; since = record { most = m.since.most; early = m.since.early; late = m.since.late; placed = m.since.placed; waits = m.since.waits } }
 
   -- a claim
   pub claims : (n : ℕ) → n < job.plan.count → v.own.task ≡ Idle → v.own.call ≢ Out
@@ -84,7 +83,7 @@ module _ (job : CoreJob) (room : ℕ) (laws : Laws job) (slots id : ℕ) (v : Vi
         found word 1 (IsEvent job k (Claim n)) one (job_step job room laws t o id k v (with_step (claiming n) v) (set t.words (node_at job.workers n) 2) (Claim n) (put s.node n IsTaken) s.mark s.value s.tick s.call (Run n)
             record { worker_in = m.0; needs = (is_free job s k o.parts inside', m.1.task ∙ idle, ready); does = refl }
             me from to enrolled inside' inside'
-            record { from = refl; to = refl; left = refl; hold = refl; enrolled = refl; saw_done = refl; greatest = refl; before = refl; after = refl; book_seen = refl }
+            record { from = refl; to = refl; told = refl; left = refl; hold = refl; enrolled = refl; saw_done = refl; greatest = refl; before = refl; after = refl; book_seen = refl }
             record { events = refl; stops = refl; found = refl } (get_or-set_other t.words (node_at P n) (stop_at P) 2 0 (λ e. omega arith))
             refl m.1.call (λ x ne. refl) (root_kept s.node n IsTaken (ap is_done ready))
             (set_node P N t.words s.node s.mark s.value s.status s.hold s.tick (length s.book) o.words n IsTaken below)),
@@ -98,8 +97,8 @@ module _ (job : CoreJob) (room : ℕ) (laws : Laws job) (slots id : ℕ) (v : Vi
         (n, ap (λ (p : ℕ). node_at p n) (sym sized), (λ one. absurd (ne one)), (λ _. refl)),
       ))
 
-  same : (w : View) → w.own.worker ≡ v.own.worker → w.to ≡ v.to → w.own.left ≡ v.own.left → w.own.hold ≡ v.own.hold → w.enrolled ≡ v.enrolled → w.saw_done ≡ v.saw_done → w.own.greatest ≡ v.own.greatest → w.own.before ≡ v.own.before → w.own.after ≡ v.own.after → w.own.book_seen ≡ v.own.book_seen → SameBut v w
-  same w a b l c d e f g h i = record { from = a; to = b; left = l; hold = c; enrolled = d; saw_done = e; greatest = f; before = g; after = h; book_seen = i }
+  same : (w : View) → w.own.worker ≡ v.own.worker → w.to ≡ v.to → w.own.told ≡ None → w.own.left ≡ v.own.left → w.own.hold ≡ v.own.hold → w.enrolled ≡ v.enrolled → w.saw_done ≡ v.saw_done → w.own.greatest ≡ v.own.greatest → w.own.before ≡ v.own.before → w.own.after ≡ v.own.after → w.own.book_seen ≡ v.own.book_seen → SameBut v w
+  same w a b t l c d e f g h i = record { from = a; to = b; told = t; left = l; hold = c; enrolled = d; saw_done = e; greatest = f; before = g; after = h; book_seen = i }
 
   outside : (t : TableState) (o : Shows job room t) → get_elem? t.views id ≡ some v → v.own.call ≢ Out → o.state.call k ≢ Out
   outside t o me inside e = inside (sym (mine_of job room t o id k v me from to).1.call ∙ e)
@@ -121,7 +120,7 @@ module _ (job : CoreJob) (room : ℕ) (laws : Laws job) (slots id : ℕ) (v : Vi
         keeps,
         tt,
         job_step job room laws t o id k v w (set t.words (tick_at P) ((word + 1) % 2 ^ 64)) event s.node s.mark s.value (s.tick + 1) s.call (y s.tick)
-            (happens t o me) me from to enrolled (outside t o me inside) (outside t o me inside) (same w refl refl refl refl refl refl refl refl refl refl)
+            (happens t o me) me from to enrolled (outside t o me inside) (outside t o me inside) (same w refl refl refl refl refl refl refl refl refl refl refl)
             record { events = refl; stops = refl; found = refl } (get_or-set_other t.words (tick_at P) (stop_at P) ((word + 1) % 2 ^ 64) 0 (λ e. omega arith))
             (ap y o.words.ticks) m.1.call (λ x ne. refl) (λ done. done)
             (subst (λ (z : ℕ). WordsShow P N (set t.words (tick_at P) z) s.node s.mark s.value s.status s.hold (s.tick + 1) (length s.book)) (sym next)
@@ -129,9 +128,9 @@ module _ (job : CoreJob) (room : ℕ) (laws : Laws job) (slots id : ℕ) (v : Vi
         told word room',
       )
 
-  -- an act that the plan alone determines is the one that is due
-  is_due : (one two : Next) → IsPlanned one → next_act job v.own.task v.own.call ≡ Some two → IsNext v one → one ≡ two
-  is_due one two only due is = act_is job v one two planned only due is
+  -- the next act of the view is the one that is due
+  is_due : (one two : Next) → next_act job v.own.task v.own.call ≡ Some two → IsNext v one → one ≡ two
+  is_due one two due is = act_is job v one two known due is
 
   pub starts : (n leaf : ℕ) → TaskHere job v.own.task → next_act job v.own.task v.own.call ≡ Some (acts.Start n leaf) → v.own.call ≢ Out
       → Steps job room slots id (v, xs) (tick_at P) (λ y. (y + 1) % 2 ^ 64) (drawn (step slots (tick_at P) 1 0 none) (v, xs)) (λ before found after. IsEvent job k (Start n) before after)
@@ -140,8 +139,8 @@ module _ (job : CoreJob) (room : ℕ) (laws : Laws job) (slots id : ℕ) (v : Vi
       draws (Start n) (λ tick. Started n tick) inside
       (λ tick low. (
         low,
-        (λ m u next. let both = is_due (acts.Start m u) (acts.Start n leaf) tt due next in let at : n ≡ m = cc in ap (λ (x : ℕ). (with_step (with_task (Start x) (Started x tick)) v, xs)) at),
-        (λ m start next. let both = is_due (acts.End m start) (acts.Start n leaf) tt due next in absurd (cc)),
+        (λ m u next. let both = is_due (acts.Start m u) (acts.Start n leaf) due next in let at : n ≡ m = cc in ap (λ (x : ℕ). (with_step (with_task (Start x) (Started x tick)) v, xs)) at),
+        (λ m start next. let both = is_due (acts.End m start) (acts.Start n leaf) due next in absurd (cc)),
       ))
       (λ t o me. let m = mine_of job room t o id k v me from to in record { worker_in = m.0; needs = (is_free job o.state k o.parts (outside t o me inside), m.1.task ∙ stands.0, stands.1); does = refl })
 
@@ -152,8 +151,8 @@ module _ (job : CoreJob) (room : ℕ) (laws : Laws job) (slots id : ℕ) (v : Vi
       draws (End n start) (λ tick. Ended n start tick) inside
       (λ tick low. (
         low,
-        (λ m u next. let both = is_due (acts.Start m u) (acts.End n start) tt due next in absurd (cc)),
-        (λ m s next. let both = is_due (acts.End m s) (acts.End n start) tt due next in let at : n ≡ m = cc in let since : start ≡ s = cc in
+        (λ m u next. let both = is_due (acts.Start m u) (acts.End n start) due next in absurd (cc)),
+        (λ m s next. let both = is_due (acts.End m s) (acts.End n start) due next in let at : n ≡ m = cc in let since : start ≡ s = cc in
             λ i. (with_step (with_task (End (at i) (since i)) (Ended (at i) (since i) tick)) v, xs)),
       ))
       (λ t o me. let m = mine_of job room t o id k v me from to in record { worker_in = m.0; needs = (is_free job o.state k o.parts (outside t o me inside), m.1.task ∙ stands); does = refl })
@@ -205,9 +204,9 @@ module _ (job : CoreJob) (room : ℕ) (laws : Laws job) (slots id : ℕ) (v : Vi
         w,
         keeps,
         tt,
-        stores event n Ready y w side.0 refl refl (same w refl refl refl refl refl refl refl refl refl refl) record { events = refl; stops = refl; found = refl } inside t o me
+        stores event n Ready y w side.0 refl refl (same w refl refl refl refl refl refl refl refl refl refl refl) record { events = refl; stops = refl; found = refl } inside t o me
             (stands.happens o.state k m.0 (is_free job o.state k o.parts (outside t o me inside)) m.1.task) (far o.state.node n Ready side.1),
-        (λ a b e next. let both = is_due (acts.Open a b e) (acts.Open n y event) tt due next in let at : n ≡ a = cc in let left : y ≡ b = cc in let by : event ≡ e = cc in
+        (λ a b e next. let both = is_due (acts.Open a b e) (acts.Open n y event) due next in let at : n ≡ a = cc in let left : y ≡ b = cc in let by : event ≡ e = cc in
             λ i. (with_step (opening (at i) (by i) (left i)) v, xs)),
       )
 
@@ -224,7 +223,7 @@ module _ (job : CoreJob) (room : ℕ) (laws : Laws job) (slots id : ℕ) (v : Vi
         tt,
         job_step job room laws t o id k v w (set t.words i x) (Keep n start x) s.node s.mark (put s.value n (Some x)) s.tick (put s.call k NotCalled) (Kept n start)
             record { worker_in = m.0; needs = (is_free job s k o.parts (outside t o me inside), m.1.task ∙ task, ap (value_in (job.act (leaf_of (job.plan.kind n)))) m.1.call ∙ is); does = refl }
-            me from to enrolled (outside t o me inside) inside' (same w refl refl refl refl refl refl refl refl refl refl) record { events = refl; stops = refl; found = refl }
+            me from to enrolled (outside t o me inside) inside' (same w refl refl refl refl refl refl refl refl refl refl refl) record { events = refl; stops = refl; found = refl }
             (get_or-set_other t.words i (stop_at P) x 0 (λ e. omega arith)) refl (put_at s.call k k NotCalled refl) (λ z ne. put_other s.call k z NotCalled ne) (λ done. done)
             (subst (λ (j : ℕ). WordsShow P N (set t.words j x) s.node s.mark (put s.value n (Some x)) s.status s.hold s.tick (length s.book)) (sym at)
             (set_value P N t.words s.node s.mark s.value s.status s.hold s.tick (length s.book) o.words n x below)),
@@ -243,9 +242,9 @@ module _ (job : CoreJob) (room : ℕ) (laws : Laws job) (slots id : ℕ) (v : Vi
         w,
         keeps,
         tt,
-        stores event n x (task_after n) w stands.below refl refl (same w refl refl refl refl refl refl refl refl refl refl) record { events = refl; stops = refl; found = refl } inside t o me
+        stores event n x (task_after n) w stands.below refl refl (same w refl refl refl refl refl refl refl refl refl refl refl) record { events = refl; stops = refl; found = refl } inside t o me
             (stands.happens o.state k m.0 (is_free job o.state k o.parts (outside t o me inside)) m.1.task) (root_done o.state.node n x (stands.done k)),
-        (λ a e next. let both = is_due (acts.Finish a e) (acts.Finish n event) tt due next in let at : n ≡ a = cc in let by : event ≡ e = cc in
+        (λ a e next. let both = is_due (acts.Finish a e) (acts.Finish n event) due next in let at : n ≡ a = cc in let by : event ≡ e = cc in
             λ i. (with_step (with_task (by i) (task_after (at i))) v, xs)),
       )
 
@@ -274,10 +273,10 @@ module _ (job : CoreJob) (room : ℕ) (laws : Laws job) (slots id : ℕ) (v : Vi
           tt,
           found_none word (IsEvent job k (ArriveFirst p l r n)) (IsEvent job k (ArriveSecond p l r n)) zero (job_step job room laws t o id k v first (set t.words i (arrived_word word)) (ArriveFirst p l r n) s.node (put s.mark p 1) s.value s.tick s.call Idle
               record { worker_in = m.0; needs = (free, m.1.task ∙ task, kind, side, sym at ∙ zero); does = refl }
-              me from to enrolled (outside t o me inside) (outside t o me inside) (same first refl refl refl refl refl refl refl refl refl refl) record { events = refl; stops = refl; found = refl } far_stop refl m.1.call (λ z ne. refl) (λ done. done)
+              me from to enrolled (outside t o me inside) (outside t o me inside) (same first refl refl refl refl refl refl refl refl refl refl refl) record { events = refl; stops = refl; found = refl } far_stop refl m.1.call (λ z ne. refl) (λ done. done)
               (subst (λ (j : ℕ). WordsShow P N (set t.words j (arrived_word word)) s.node (put s.mark p 1) s.value s.status s.hold s.tick (length s.book)) (sym is) (subst (λ (z : ℕ). WordsShow P N (set t.words (mark_at P N p) z) s.node (put s.mark p 1) s.value s.status s.hold s.tick (length s.book)) (let one : arrived_word word ≡ 1 = omega (arith, zero) in sym one)
               (set_mark P N t.words s.node s.mark s.value s.status s.hold s.tick (length s.book) o.words p 1 below)))),
-          (λ a b c d next. let both = is_due (acts.Arrive a b c d) (acts.Arrive p l r n) tt due next in
+          (λ a b c d next. let both = is_due (acts.Arrive a b c d) (acts.Arrive p l r n) due next in
               let e1 : p ≡ a = cc in let e2 : l ≡ b = cc in let e3 : r ≡ c = cc in let e4 : n ≡ d = cc in
               ((λ _ i. (with_step (with_task (ArriveFirst (e1 i) (e2 i) (e3 i) (e4 i)) Idle) v, xs)), (λ ne. absurd (ne zero)))),
         )
@@ -287,10 +286,10 @@ module _ (job : CoreJob) (room : ℕ) (laws : Laws job) (slots id : ℕ) (v : Vi
           tt,
           found_one word (IsEvent job k (ArriveFirst p l r n)) (IsEvent job k (ArriveSecond p l r n)) ne (job_step job room laws t o id k v second (set t.words i (arrived_word word)) (ArriveSecond p l r n) s.node (put s.mark p 2) s.value s.tick s.call (Handed p)
               record { worker_in = m.0; needs = (free, m.1.task ∙ task, kind, side, omega (arith, at, few, ne)); does = refl }
-              me from to enrolled (outside t o me inside) (outside t o me inside) (same second refl refl refl refl refl refl refl refl refl refl) record { events = refl; stops = refl; found = refl } far_stop refl m.1.call (λ z ne'. refl) (λ done. done)
+              me from to enrolled (outside t o me inside) (outside t o me inside) (same second refl refl refl refl refl refl refl refl refl refl refl) record { events = refl; stops = refl; found = refl } far_stop refl m.1.call (λ z ne'. refl) (λ done. done)
               (subst (λ (j : ℕ). WordsShow P N (set t.words j (arrived_word word)) s.node (put s.mark p 2) s.value s.status s.hold s.tick (length s.book)) (sym is) (subst (λ (z : ℕ). WordsShow P N (set t.words (mark_at P N p) z) s.node (put s.mark p 2) s.value s.status s.hold s.tick (length s.book)) (let two : arrived_word word ≡ 2 = omega (arith, at, few, ne) in sym two)
               (set_mark P N t.words s.node s.mark s.value s.status s.hold s.tick (length s.book) o.words p 2 below)))),
-          (λ a b c d next. let both = is_due (acts.Arrive a b c d) (acts.Arrive p l r n) tt due next in
+          (λ a b c d next. let both = is_due (acts.Arrive a b c d) (acts.Arrive p l r n) due next in
               let e1 : p ≡ a = cc in let e2 : l ≡ b = cc in let e3 : r ≡ c = cc in let e4 : n ≡ d = cc in
               ((λ zero. absurd (ne zero)), (λ _ i. (with_step (with_task (ArriveSecond (e1 i) (e2 i) (e3 i) (e4 i)) (Handed (e1 i))) v, xs)))),
         )

@@ -1,4 +1,5 @@
--- The looks at the root, the batch count and the stop word, the set of the stop word, and claims past the last node.
+-- The looks at the root, the value of a source, the batch count and the stop word, the set of the stop word, and claims
+-- past the last node.
 use Rattle.std.proofs.Common.{ℕ, ◌≡◌, ◌<◌, ◌≤◌, ◌+◌, ◌%◌, ◌⊎◌, min, true, Option as Maybe, None, Some, List, length, get_or, set, eqb, arith, refl, sym, ap, ◌∙◌, subst, inl, inr, get_or-set_same}
 use Rattle.std.proofs.lemmas.Bool.{cases_eq}
 use mathlib.Core.Option.{none}
@@ -10,20 +11,24 @@ use Rattle.core_model.specs.declared.progress.Progress.{Progress}
 use Rattle.core_model.specs.declared.progress.Progress.TheVariants.{Waiting, Ready, Taken as IsTaken, Done, Ran}
 use Rattle.core_model.specs.declared.status.Status.{Status}
 use Rattle.core_model.specs.declared.status.Status.TheVariants.{Free, Pending, Executing, Served}
-use Rattle.core_model.specs.State.{CoreJob}
+use Rattle.seq_objects.specs.Objects.{value_of}
+use Rattle.sp_order.specs.declared.node.Kind.TheVariants.{LeafNode}
+use Rattle.core_model.specs.declared.task.Task.TheVariants.{Started}
+use Rattle.core_model.specs.State.{CoreJob, State}
+use Rattle.core_model.specs.Invariant.{Parts}
 use Rattle.core_model.specs.Tasks.{is_done}
 use Rattle.core_model.specs.Waits.{WaitsSince}
 use Rattle.table_rule.specs.declared.view.View.{View}
 use Rattle.table_rule.specs.declared.slot.Slot.{Slot}
-use Rattle.table_rule.specs.Words.{node_at, count_at, stop_at, progress_code, status_code}
+use Rattle.table_rule.specs.Words.{node_at, value_at, count_at, stop_at, progress_code, status_code, HasValue}
 use Rattle.table_rule.specs.Laws.{Laws}
 use Rattle.table_rule.specs.Steps.{ShowsOne, Steps, Stutters}
 use Rattle.table_rule.specs.Shows.{TableState, Shows, SinceKnown}
-use Rattle.table_rule.specs.Plays.{looked_at_root, heard, strayed, stopped_all, looked_at_stop}
-use Rattle.table_rule.specs.Passes.{finding_stop, finding_none, refusing, least_told, stopping}
+use Rattle.table_rule.specs.Plays.{looked_at_root, looked_at_value, heard, strayed, stopped_all, looked_at_stop}
+use Rattle.table_rule.specs.Passes.{finding_stop, finding_none, refusing, least_told, stopping, telling}
 use Rattle.table_rule.specs.Views.{with_step, with_found, with_since, seeing_done, seeing_undone}
 use Rattle.table_rule.proofs.TableLemmas.Facts.{is_trapped}
-use Rattle.table_rule.proofs.TableLemmas.Moved.{at_below, looked, renewed}
+use Rattle.table_rule.proofs.TableLemmas.Moved.{mine_of, at_below, looked, renewed}
 use Rattle.table_rule.proofs.TableLemmas.Traces.{stop_set}
 use Rattle.table_rule.proofs.TableLemmas.Through.{again}
 use Rattle.table_rule.proofs.TableLemmas.Words.{set_stop}
@@ -46,6 +51,10 @@ told_least : (after : Maybe ℕ) (n : ℕ) (b : ℕ) → ((c : ℕ) → after �
 told_least None n b low e = inr (refl, (cc))
 told_least (Some c) n b low e = let h = low c refl in let same : min c n ≡ c = omega arith in inl (rw same at e)
 
+-- a node that has run is one of the plan
+ran_below : (job : CoreJob) (laws : Laws job) (s : State) (n worker start end : ℕ) → Parts job s → s.node n ≡ Ran worker start end → n < job.plan.count
+ran_below job laws s n worker start end parts ran = laws.plan.within n (λ none_there. let waits = parts.nodes.outside n none_there in absurd (cc))
+
 module _ (job : CoreJob) (room : ℕ) (laws : Laws job) (slots id : ℕ) (v : View) (xs : List (ℕ × Slot)) (k : ℕ) (from : v.own.worker ≡ k) (to : v.to ≡ k + 1) where
   abbrev P : ℕ
   P = job.workers
@@ -64,6 +73,7 @@ module _ (job : CoreJob) (room : ℕ) (laws : Laws job) (slots id : ℕ) (v : Vi
                 task = m.task;
                 call = m.call;
                 posted = m.posted;
+                told = m.told;
                 entries = m.entries;
                 hold = m.hold;
                 new = m.new;
@@ -73,7 +83,7 @@ module _ (job : CoreJob) (room : ℕ) (laws : Laws job) (slots id : ℕ) (v : Vi
               }),
           ((λ _. refl), (λ ne. absurd (ne e)), omega (arith, is, sized)),
         )
-        | inr ne ↦ (seeing_undone word v, keeps, tt, looked job room t o id k i v (seeing_undone word v) me from to from to refl refl (λ h. inl h) (λ m. again job o.state (get_elem? t.homes k) (o.seat k) id v _ k record { task = refl; call = refl; posted = refl; left = refl; enrolled = refl; saw_done = refl; greatest = refl; before = refl; after = refl; book_seen = refl } refl m), ((λ e. absurd (ne e)), (λ _. refl), omega (arith, is, sized)))
+        | inr ne ↦ (seeing_undone word v, keeps, tt, looked job room t o id k i v (seeing_undone word v) me from to from to refl refl (λ h. inl h) (λ m. again job o.state (get_elem? t.homes k) (o.seat k) id v _ k record { task = refl; call = refl; told = refl; posted = refl; left = refl; enrolled = refl; saw_done = refl; greatest = refl; before = refl; after = refl; book_seen = refl } refl m), ((λ e. absurd (ne e)), (λ _. refl), omega (arith, is, sized)))
       ]
 
   hears_since : (t : TableState) (o : Shows job room t) (n : ℕ) → n ≡ length o.state.book → SinceKnown job o.state v k → SinceKnown job o.state (with_since n v) k
@@ -95,7 +105,7 @@ module _ (job : CoreJob) (room : ℕ) (laws : Laws job) (slots id : ℕ) (v : Vi
         keeps,
         tt,
         looked job room t o id k (count_at P) v (with_since word v) me from to from to refl refl (λ h. inl h)
-            (λ m. record { sits = m.sits; task = m.task; call = m.call; posted = m.posted; entries = m.entries; hold = m.hold; new = m.new; done = m.done; seen = m.seen; since = hears_since t o word o.words.batches m.since }),
+            (λ m. record { sits = m.sits; task = m.task; call = m.call; posted = m.posted; told = m.told; entries = m.entries; hold = m.hold; new = m.new; done = m.done; seen = m.seen; since = hears_since t o word o.words.batches m.since }),
         (refl, ap count_at (sym sized)),
       )
 
@@ -112,9 +122,40 @@ module _ (job : CoreJob) (room : ℕ) (laws : Laws job) (slots id : ℕ) (v : Vi
         keeps,
         tt,
         looked job room t o id k 0 v (with_found word (refusing n) v) me from to from to refl refl (λ h. inl h)
-            (λ m. again job o.state (get_elem? t.homes k) (o.seat k) id v _ k record { task = refl; call = refl; posted = refl; left = refl; enrolled = refl; saw_done = refl; greatest = refl; before = refl; after = refl; book_seen = refl } refl m),
+            (λ m. again job o.state (get_elem? t.homes k) (o.seat k) id v _ k record { task = refl; call = refl; told = refl; posted = refl; left = refl; enrolled = refl; saw_done = refl; greatest = refl; before = refl; after = refl; book_seen = refl } refl m),
         (n, refl, refl, far),
       ))
+
+  -- the value of the source of the leaf that has started is looked at
+  pub looks_at_value : (i n start leaf source : ℕ) → v.workers ≡ P → v.nodes ≡ job.plan.count → v.own.task ≡ Started n start → job.plan.kind n ≡ Some (LeafNode leaf) → job.source leaf ≡ Some source → i ≡ value_at P job.plan.count (job.plan.node_of source)
+      → Steps job room slots id (v, xs) i (λ y. y) (looked_at_value (step slots i 0 0 none) (v, xs)) (Stutters)
+  looks_at_value i n start leaf source sized long task kind has is t o wide me fits =
+      let s = o.state in
+      let word = get_or t.words i 0 in
+      let m = mine_of job room t o id k v me from to in
+      let replied = laws.source s k n leaf source o.parts (kind, start, m.1.task ∙ task) has in
+      let below = ran_below job laws s (job.plan.node_of source) replied.worker replied.start replied.end o.parts replied.ran in
+      let shown : HasValue (s.value (job.plan.node_of source)) (get_or t.words (value_at P job.plan.count (job.plan.node_of source)) 0) = o.words.values (job.plan.node_of source) below in
+      let value : word ≡ value_of replied.place.entry.reply = ap (λ (j : ℕ). get_or t.words j 0) is ∙ rw replied.value at shown in (
+        with_step (telling word) v,
+        keeps,
+        tt,
+        looked job room t o id k i v (with_step (telling word) v) me from to from to refl refl (λ h. inl h)
+            (λ own. record {
+              sits = own.sits;
+              task = own.task;
+              call = own.call;
+              posted = own.posted;
+              told = λ x told. let x_is : word ≡ x = cc in (n, start, leaf, source, task, kind, has, replied, sym x_is ∙ value);
+              entries = own.entries;
+              hold = own.hold;
+              new = own.new;
+              done = own.done;
+              seen = own.seen;
+              since = record { most = own.since.most; early = own.since.early; late = own.since.late; placed = own.since.placed; waits = own.since.waits };
+            }),
+        (job.plan.node_of source, is ∙ (λ j. value_at (sym sized j) (sym long j) (job.plan.node_of source)), refl),
+      )
 
   -- the stop word is set
   pub stops : v.workers ≡ P → Steps job room slots id (v, xs) (stop_at P) (λ y. 1) (λ y. stopped_all (step slots (stop_at P) 1 0 none) (v, xs) 1) (Stutters)
@@ -126,13 +167,13 @@ module _ (job : CoreJob) (room : ℕ) (laws : Laws job) (slots id : ℕ) (v : Vi
         renewed job room t o id k v (with_step stopping v) (set t.words (stop_at P) 1) me from to from to refl
             (stop_set t.views id v (with_step stopping v) (get_or t.words (stop_at P) 0) (get_or (set t.words (stop_at P) 1) (stop_at P) 0) (at_below t.views id v me) me (get_or-set_same t.words (stop_at P) 1 0 (omega (arith, o.words.wide))) (omega arith) o.stop)
             (set_stop P job.plan.count t.words s.node s.mark s.value s.status s.hold s.tick (length s.book) o.words 1)
-            (λ m. again job o.state (get_elem? t.homes k) (o.seat k) id v _ k record { task = refl; call = refl; posted = refl; left = refl; enrolled = refl; saw_done = refl; greatest = refl; before = refl; after = refl; book_seen = refl } refl m),
+            (λ m. again job o.state (get_elem? t.homes k) (o.seat k) id v _ k record { task = refl; call = refl; told = refl; posted = refl; left = refl; enrolled = refl; saw_done = refl; greatest = refl; before = refl; after = refl; book_seen = refl } refl m),
         (refl, ap stop_at (sym sized), refl),
       )
 
   -- and looked at
   pub looks_at_stop : v.workers ≡ P → Steps job room slots id (v, xs) (stop_at P) (λ y. y) (looked_at_stop (step slots (stop_at P) 0 0 none) (v, xs)) (Stutters)
   looks_at_stop sized t o wide me fits = elim (cases_eq (get_or t.words (stop_at P) 0) 1) [
-    | inl e ↦ (with_step finding_stop v, keeps, tt, looked job room t o id k (stop_at P) v (with_step finding_stop v) me from to from to refl refl (λ _. inr e) (λ m. again job o.state (get_elem? t.homes k) (o.seat k) id v _ k record { task = refl; call = refl; posted = refl; left = refl; enrolled = refl; saw_done = refl; greatest = refl; before = refl; after = refl; book_seen = refl } refl m), ((λ _. refl), (λ ne. absurd (ne e)), ap stop_at (sym sized)))
-    | inr ne ↦ (with_found (get_or t.words (stop_at P) 0) finding_none v, keeps, tt, looked job room t o id k (stop_at P) v (with_found (get_or t.words (stop_at P) 0) finding_none v) me from to from to refl refl (λ h. inl h) (λ m. again job o.state (get_elem? t.homes k) (o.seat k) id v _ k record { task = refl; call = refl; posted = refl; left = refl; enrolled = refl; saw_done = refl; greatest = refl; before = refl; after = refl; book_seen = refl } refl m), ((λ e. absurd (ne e)), (λ _. refl), ap stop_at (sym sized)))
+    | inl e ↦ (with_step finding_stop v, keeps, tt, looked job room t o id k (stop_at P) v (with_step finding_stop v) me from to from to refl refl (λ _. inr e) (λ m. again job o.state (get_elem? t.homes k) (o.seat k) id v _ k record { task = refl; call = refl; told = refl; posted = refl; left = refl; enrolled = refl; saw_done = refl; greatest = refl; before = refl; after = refl; book_seen = refl } refl m), ((λ _. refl), (λ ne. absurd (ne e)), ap stop_at (sym sized)))
+    | inr ne ↦ (with_found (get_or t.words (stop_at P) 0) finding_none v, keeps, tt, looked job room t o id k (stop_at P) v (with_found (get_or t.words (stop_at P) 0) finding_none v) me from to from to refl refl (λ h. inl h) (λ m. again job o.state (get_elem? t.homes k) (o.seat k) id v _ k record { task = refl; call = refl; told = refl; posted = refl; left = refl; enrolled = refl; saw_done = refl; greatest = refl; before = refl; after = refl; book_seen = refl } refl m), ((λ e. absurd (ne e)), (λ _. refl), ap stop_at (sym sized)))
   ]

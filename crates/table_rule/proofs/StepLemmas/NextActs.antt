@@ -1,31 +1,30 @@
--- What the next act of a task says of the task, by the kind of act, and that it is the plan's alone.
-use Rattle.std.proofs.Common.{ℕ, ◌≡◌, ◌≢◌, ◌<◌, true, Option as Maybe, None, Some, List, refl, sym, ap, ◌∙◌, subst, inl, inr, arith}
+-- What the next act of a task says of the task, by the kind of act.
+use Rattle.std.proofs.Common.{ℕ, ◌≡◌, ◌≢◌, ◌<◌, true, Option as Maybe, None, Some, refl, sym, ap, ◌∙◌, subst, inl, inr, arith}
 use Rattle.std.proofs.lemmas.Bool.{cases_eq}
 use Rattle.std.proofs.lemmas.Bool.Decides.{nat_tests}
 use Rattle.seq_objects.specs.Spin.{spin_of}
 use Rattle.seq_objects.specs.Objects.{value_of}
 use Rattle.seq_objects.specs.declared.act.Act.{Act}
+use Rattle.seq_objects.specs.declared.op.Op.{Op}
 use Rattle.seq_objects.specs.declared.act.Act.TheVariants as kinds
 use Rattle.sp_order.specs.declared.node.Kind.{Kind}
 use Rattle.sp_order.specs.declared.node.Kind.TheVariants.{LeafNode, SeqNode, ParNode}
 use Rattle.sp_order.specs.declared.node.Move.{Move}
 use Rattle.sp_order.specs.declared.node.Move.TheVariants as moves
-use Rattle.sp_order.specs.Plans.{Nodes, IsSide, parent_of}
-use Rattle.sp_order.specs.Preorder.{nodes_of}
+use Rattle.sp_order.specs.Plans.{IsSide, parent_of}
 use Rattle.core_model.specs.State.{CoreJob, State, put}
 use Rattle.core_model.specs.Tasks.{is_done}
-use Rattle.core_model.specs.Operations.{leaf_of, op_of, op_in, IsLeaf}
+use Rattle.core_model.specs.Operations.{leaf_of, op_in, IsLeaf}
 use Rattle.core_model.specs.Events.{Happens, task_after, value_in}
 use Rattle.core_model.specs.Next.{next_act, act_of_run, act_of_half, act_of_started, act_of_second, act_of_parent, act_of_arrive, act_of_whole, act_of_handed}
 use Rattle.core_model.specs.declared.next.Next.{Next}
 use Rattle.core_model.specs.declared.next.Next.TheVariants as acts
 use Rattle.table_rule.specs.CoreWords.{Task, Idle, Run, Half, Started, Kept, Ended, Whole, Handed, Ready, Done, Free, CallState, NotCalled, Out, Got, Event}
-use Rattle.batch_history.specs.declared.batch.Entry.{Entry}
 use Rattle.table_rule.specs.declared.slot.OpRecord.{OpRecord}
 use Rattle.table_rule.specs.declared.view.View.{View}
 use Rattle.table_rule.specs.Laws.{Laws}
-use Rattle.table_rule.specs.DueActs.{IsPostDue, IsKeepDue}
-use Rattle.table_rule.specs.Tasks.{IsPar, TaskHere, progress_after, IsNext}
+use Rattle.table_rule.specs.DueActs.{op_told, IsPostDue, IsKeepDue}
+use Rattle.table_rule.specs.Tasks.{IsPar, TaskHere, progress_after, job_seen, IsNext}
 use Rattle.table_rule.proofs.StepLemmas.Sides.{block_in, side_below}
 
 -- In every state where a free worker has the task, the event happens, and `changed` is the state after it.
@@ -59,11 +58,12 @@ module _ (job : CoreJob) (task : Task) (call : CallState) where
   ActStands (Some (acts.Finish n event)) = Finishes job task n event
   ActStands (Some (acts.Arrive p l r n)) = (task ≡ Whole n) × (job.plan.kind p ≡ Some (ParNode l r)) × IsSide job.plan p n
 
--- The task is `Started` at the call's leaf, and the operation is the leaf's under every book.
-abbrev pub MayPost : CoreJob → Task → OpRecord → Type 0
-MayPost job task call =
+-- The task is `Started` at the call's leaf, and the operation is that of the leaf's act with what was told of its
+-- source.
+abbrev pub MayPost : CoreJob → Maybe ℕ → Task → OpRecord → Type 0
+MayPost job told task call =
     (n : ℕ) × (start : ℕ) × (task ≡ Started n start) × (job.plan.kind n ≡ Some (LeafNode call.leaf))
-    × ((book : List (List Entry)) → op_of job.act book call.leaf ≡ Some call.op)
+    × ((op : Op) × (op_in (job.act call.leaf) ≡ Some op) × (op_told op (job.source call.leaf) told ≡ Some call.op))
 
 -- the leaf has started, and its value is this
 abbrev pub HasValue : CoreJob → Task → CallState → ℕ → Type 0
@@ -71,17 +71,19 @@ HasValue job task call value = (n : ℕ) × (start : ℕ) × (task ≡ Started n
 
 module _ (job : CoreJob) (task : Task) (call : CallState) where
   -- what a post or a keep that is due says of the task
-  post_by : (o : Maybe Next) (posted : OpRecord) → IsPostDue o posted → ActStands job task call o → (call ≡ NotCalled) × MayPost job task posted
-  post_by (Some (acts.Call n start leaf op)) posted is stands =
-      subst (λ (y : OpRecord). (call ≡ NotCalled) × MayPost job task y) (sym is) (stands.1, (n, start, stands.0, stands.2, (λ book. stands.3)))
-  post_by None posted is stands = absurd is
-  post_by (Some (acts.Start n leaf)) posted is stands = absurd is
-  post_by (Some (acts.Open n y event)) posted is stands = absurd is
-  post_by (Some (acts.Spin n start steps)) posted is stands = absurd is
-  post_by (Some (acts.Got n start reply)) posted is stands = absurd is
-  post_by (Some (acts.End n start)) posted is stands = absurd is
-  post_by (Some (acts.Finish n event)) posted is stands = absurd is
-  post_by (Some (acts.Arrive p l r n)) posted is stands = absurd is
+  post_by : (told : Maybe ℕ) (o : Maybe Next) (posted : OpRecord) → IsPostDue job.source told o posted → ActStands job task call o → (call ≡ NotCalled) × MayPost job told task posted
+  post_by told (Some (acts.Call n start leaf op)) posted is stands = (
+    stands.1,
+    (n, start, stands.0, stands.2 ∙ ap (λ (u : ℕ). Some (LeafNode u)) (sym is.0), (op, ap (λ (u : ℕ). op_in (job.act u)) is.0 ∙ stands.3, subst (λ (u : ℕ). op_told op (job.source u) told ≡ Some posted.op) (sym is.0) is.1)),
+  )
+  post_by told None posted is stands = absurd is
+  post_by told (Some (acts.Start n leaf)) posted is stands = absurd is
+  post_by told (Some (acts.Open n y event)) posted is stands = absurd is
+  post_by told (Some (acts.Spin n start steps)) posted is stands = absurd is
+  post_by told (Some (acts.Got n start reply)) posted is stands = absurd is
+  post_by told (Some (acts.End n start)) posted is stands = absurd is
+  post_by told (Some (acts.Finish n event)) posted is stands = absurd is
+  post_by told (Some (acts.Arrive p l r n)) posted is stands = absurd is
 
   keep_by : (o : Maybe Next) (value : ℕ) → IsKeepDue o value → ActStands job task call o → HasValue job task call value
   keep_by (Some (acts.Spin n start steps)) value is stands = (n, start, stands.0, stands.1 ∙ ap Some (sym is))
@@ -189,46 +191,18 @@ module _ (job : CoreJob) (laws : Laws job) (call : CallState) where
   pub next_stands : (task : Task) (next : Next) → TaskHere job task → next_act job task call ≡ Some next → ActStands job task call (Some next)
   next_stands task next here is = subst (ActStands job task call) is (act_stands task here)
 
-  pub may_post : (task : Task) (posted : OpRecord) → TaskHere job task → IsPostDue (next_act job task call) posted → (call ≡ NotCalled) × MayPost job task posted
-  may_post task posted here due = post_by job task call (next_act job task call) posted due (act_stands task here)
+  pub may_post : (told : Maybe ℕ) (task : Task) (posted : OpRecord) → TaskHere job task → IsPostDue job.source told (next_act job task call) posted → (call ≡ NotCalled) × MayPost job told task posted
+  may_post told task posted here due = post_by job task call told (next_act job task call) posted due (act_stands task here)
 
   pub has_value : (task : Task) (value : ℕ) → TaskHere job task → IsKeepDue (next_act job task call) value → HasValue job task call value
   has_value task value here due = keep_by job task call (next_act job task call) value due (act_stands task here)
 
--- the acts that the plan alone determines
-abbrev pub IsPlanned : Next → Type 0
-IsPlanned (acts.Spin n start steps) = ⊥
-IsPlanned (acts.Call n start leaf op) = ⊥
-IsPlanned (acts.Got n start reply) = ⊥
-IsPlanned _ = Unit {0}
+-- the next act by the view is the job's, and the other way round
+pub act_is : (job : CoreJob) (v : View) (one two : Next) → job_seen v ≡ job → next_act job v.own.task v.own.call ≡ Some two → IsNext v one → one ≡ two
+act_is job v one two known due is = let there = subst (λ (j : CoreJob). next_act j v.own.task v.own.call ≡ Some one) known is in cc
 
-started_apart : (act : Act) (call : CallState) (n start leaf : ℕ) (next : Next) → IsPlanned next → act_of_started act call n start leaf ≡ Some next → ⊥
-started_apart (kinds.Work steps) call n start leaf next planned is = let same : next ≡ acts.Spin n start steps = cc in subst IsPlanned same planned
-started_apart (kinds.Call op) NotCalled n start leaf next planned is = let same : next ≡ acts.Call n start leaf op = cc in subst IsPlanned same planned
-started_apart (kinds.Call op) Out n start leaf next planned is = absurd (cc)
-started_apart (kinds.Call op) (Got receipt) n start leaf next planned is = let same : next ≡ acts.Got n start receipt.reply = cc in subst IsPlanned same planned
-
-next_same : (one two : CoreJob) (task : Task) (call : CallState) (next : Next) → one.plan ≡ two.plan → IsPlanned next → next_act one task call ≡ Some next → next_act two task call ≡ Some next
-next_same one two Idle call next same planned is = is
-next_same one two (Run n) call next same planned is = ap (λ (plan : Nodes). act_of_run (plan.kind n) n) (sym same) ∙ is
-next_same one two (Half p) call next same planned is = ap (λ (plan : Nodes). act_of_half (plan.kind p) p) (sym same) ∙ is
-next_same one two (Started n start) call next same planned is =
-    absurd (started_apart (one.act (leaf_of (one.plan.kind n))) call n start (leaf_of (one.plan.kind n)) next planned is)
-next_same one two (Kept n start) call next same planned is = is
-next_same one two (Ended n start end) call next same planned is = is
-next_same one two (Whole n) call next same planned is = ap (λ (plan : Nodes). act_of_whole plan (plan.after n) n) (sym same) ∙ is
-next_same one two (Handed p) call next same planned is = ap (λ (plan : Nodes). act_of_handed (plan.kind p) p) (sym same) ∙ is
-
--- the next act by the view is the job's
-pub act_is : (job : CoreJob) (v : View) (one two : Next) → nodes_of v.plan ≡ job.plan → IsPlanned one → next_act job v.own.task v.own.call ≡ Some two → IsNext v one → one ≡ two
-act_is job v one two planned only due is =
-    let there = next_same (record { plan = nodes_of v.plan; act = is.0; workers = v.workers }) job v.own.task v.own.call one planned only is.1 in cc
-
--- the job's next act is the view's
-pub next_seen : (job : CoreJob) (v : View) (next : Next) → nodes_of v.plan ≡ job.plan → v.workers ≡ job.workers → next_act job v.own.task v.own.call ≡ Some next → IsNext v next
-next_seen job v next planned sized is =
-    let same : record { plan = nodes_of v.plan; act = job.act; workers = v.workers } ≡ job = λ i. record { plan = planned i; act = job.act; workers = sized i } in
-    (job.act, subst (λ (j : CoreJob). next_act j v.own.task v.own.call ≡ Some next) (sym same) is)
+pub next_seen : (job : CoreJob) (v : View) (next : Next) → job_seen v ≡ job → next_act job v.own.task v.own.call ≡ Some next → IsNext v next
+next_seen job v next known is = subst (λ (j : CoreJob). next_act j v.own.task v.own.call ≡ Some next) (sym known) is
 
 -- the task after a finish
 after_root : (n : ℕ) → n ≡ 0 → task_after n ≡ Idle

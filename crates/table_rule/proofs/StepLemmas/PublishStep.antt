@@ -6,6 +6,7 @@ use Rattle.atomic_table.specs.Table.{step, keeps, gives}
 use Rattle.atomic_table.proofs.Lists.{set_here, set_else}
 use Rattle.batch_history.specs.declared.batch.Entry.{Entry}
 use Rattle.batch_history.specs.Book.{flat, IsHistory}
+use Rattle.core_model.specs.declared.task.Task.{Task}
 use Rattle.core_model.specs.declared.status.Status.{Status}
 use Rattle.core_model.specs.declared.event.Event.TheVariants.{Publish}
 use Rattle.core_model.specs.State.{CoreJob, Hold, State}
@@ -13,7 +14,7 @@ use Rattle.core_model.specs.Operations.{op_of, Place}
 use Rattle.core_model.specs.Serving.{served}
 use Rattle.core_model.specs.Events.{Happens, published, IsTakenCall, IsBatchOf}
 use Rattle.core_model.specs.Invariant.Statuses.{is_taken_by}
-use Rattle.core_model.specs.declared.status.Status.TheVariants.{Free, Executing}
+use Rattle.core_model.specs.declared.status.Status.TheVariants.{Free, Pending, Executing, Served}
 use Rattle.core_model.specs.Invariant.{Parts}
 use Rattle.core_model.specs.Waits.{task_place}
 use Rattle.table_rule.proofs.ListLemmas.Lists.{each_so, each_mapped}
@@ -27,7 +28,7 @@ use Rattle.table_rule.specs.declared.slot.Slot.TheVariants as Slots
 use Rattle.table_rule.specs.Words.{stop_at, count_at, WordsShow}
 use Rattle.table_rule.specs.Laws.{Laws}
 use Rattle.table_rule.specs.Steps.{Steps, Stutters, IsEvent}
-use Rattle.table_rule.specs.Shows.{reserved, SlotHome, IsRecordOf, ShopAt, record_in, among, hold_of, HoldKnown, entry_of, present, SinceKnown, IsFront, AgreesWithView}
+use Rattle.table_rule.specs.Shows.{reserved, SlotHome, IsRecordOf, RecordAt, ShopAt, record_in, among, hold_of, HoldKnown, entry_of, present, SinceKnown, IsFront, AgreesWithView}
 use Rattle.table_rule.specs.Batches.{call_of, ServesTaken, IsPublishDue}
 use Rattle.table_rule.specs.Passes as W
 use Rattle.table_rule.specs.Views as V
@@ -35,7 +36,7 @@ use Rattle.table_rule.specs.Plays as G
 use Rattle.table_rule.proofs.TableLemmas.Words.{set_count, flag_same}
 use Rattle.table_rule.proofs.TableLemmas.Facts.{is_trapped, is_out, is_executing, is_call}
 use Rattle.table_rule.proofs.TableLemmas.Moved.{mine_of, moved, looked, record_took}
-use Rattle.table_rule.proofs.TableLemmas.Through.{SameTold, told_again, hold_others}
+use Rattle.table_rule.proofs.TableLemmas.Through.{SameTold, told_again, told_kept, hold_others}
 
 answers_late : (h : Bool) (b : Bool) → (h ≡ true → b ≡ true) → b ≡ false → h ≡ false
 answers_late h b f e = grind arith
@@ -49,6 +50,16 @@ place_same a b o e f = cc
 -- a prefix of a book is a prefix of a longer one
 longer : (xs ys : List (List Entry)) (batch : List Entry) → IsFront xs ys → IsFront xs (ys ++ batch ∷ [])
 longer xs ys batch h = (h.0 ++ batch ∷ [], ap (λ l. l ++ batch ∷ []) h.1 ∙ append_assoc xs h.0 (batch ∷ []))
+
+-- a call is its leaf's under a longer book too
+record_kept : (job : CoreJob) (laws : Laws job) (book : List (List Entry)) (batch : List Entry) (task : Task) (call : OpRecord) → IsRecordOf job book task call → IsRecordOf job (book ++ batch ∷ []) task call
+record_kept job laws book batch task call is = (is.0, is.1, is.2, is.3, laws.operations book batch call.leaf call.op is.4)
+
+record_at_kept : (job : CoreJob) (laws : Laws job) (book : List (List Entry)) (batch : List Entry) (task : Task) (status : Status) (home : SlotHome) → RecordAt job book task status home → RecordAt job (book ++ batch ∷ []) task status home
+record_at_kept job laws book batch task Free home at = tt
+record_at_kept job laws book batch task Pending home at = (at.0, at.1, record_kept job laws book batch task at.0 at.2)
+record_at_kept job laws book batch task Executing home at = at
+record_at_kept job laws book batch task (Served receipt) home at = at
 
 -- `AgreesWithView` after a batch is published
 module _ (job : CoreJob) (laws : Laws job) (s : State) (k : ℕ) (batch : List Entry) (parts : Parts job s) where
@@ -91,7 +102,8 @@ module _ (job : CoreJob) (laws : Laws job) (s : State) (k : ℕ) (batch : List E
     sits = m.sits;
     task = m.task ∙ sym told.task;
     call = m.call ∙ sym told.call;
-    posted = rw told.posted m.posted;
+    posted = λ out. let was = m.posted out in (was.0, told.posted ∙ was.1, record_kept job laws s.book batch (s.task x) was.0 was.2);
+    told = λ value is. told_kept job laws s later x v.own.task w.own.task value kept_later m.task (sym told.task) (λ leaf place at. laws.places s.book batch leaf place at) (m.told value (sym told.told ∙ is));
     hold = hold;
     entries = rw told.left (entries_after x v happens m.entries);
     new = λ e. let t = m.new (sym told.enrolled ∙ e) in (same ∙ t.0, told.task ∙ t.1, told.call ∙ t.2, told.left ∙ t.3);
@@ -138,7 +150,7 @@ is_history job laws s few parts = record {
   batches = parts.book.batches;
   workers = each_so (λ (e : Entry). e.worker < job.workers) (λ (e : Entry). e.worker < 32) (λ e low. omega arith) (flat s.book) parts.book.among;
   leaves = parts.book.leaves;
-  numbers = each_mapped (λ (e : Entry). e.leaf) (λ (e : Entry). op_of job.act s.book e.leaf ≡ Some e.op) (λ (l : ℕ). l < 2 ^ 32) (λ e op. laws.low e.leaf (is_call job e.leaf e.op op)) (flat s.book) parts.book.operations;
+  numbers = each_mapped (λ (e : Entry). e.leaf) (λ (e : Entry). op_of job s.book e.leaf ≡ Some e.op) (λ (l : ℕ). l < 2 ^ 32) (λ e op. laws.low e.leaf (is_call job s.book e.leaf e.op op)) (flat s.book) parts.book.operations;
 }
 
 -- the batches of a book
@@ -243,13 +255,13 @@ module _ (job : CoreJob) (room : ℕ) (laws : Laws job) (slots id : ℕ) (v : Vi
             (set_count P N t.words s.node s.mark s.value s.status s.hold s.tick (length s.book) o.words (length (s.book ++ batch ∷ [])))))
             record {
               wide = length-set t.homes (P + 1) (some (Slots.Book book)) ∙ o.slots.wide;
-              records = λ u low. rw (far u low) (o.slots.records u low);
+              records = λ u low. rw (far u low) (record_at_kept job laws s.book batch (s.task u) (s.status u) (get_elem? t.homes u) (o.slots.records u low));
               shop = rw (hold_new, set_else t.homes (P + 1) P (some (Slots.Book book)) (λ e. omega arith)) (subst (λ (z : Maybe Hold). ShopAt z s.book (get_elem? t.homes P)) held o.slots.shop);
               batches = rw hold_new (set_here t.homes (P + 1) (some (Slots.Book book)) (omega (arith, o.slots.wide)) ∙ ap (λ b. some (some (Slots.Book (reserved (b ++ batch ∷ []) room)))) (sym known.1));
             }
             (λ own. mine_after job laws s k batch o.parts k v w (get_elem? t.homes k) (get_elem? homes k) (o.seat k) id happens parts_later (far k m.0)
-            record { task = refl; call = refl; posted = refl; left = refl; enrolled = refl; saw_done = refl; greatest = refl; before = refl; after = refl; book_seen = refl }
-            (subst (λ (z : Maybe HoldView). HoldKnown job new (W.in_hold f z) k) (sym holds) (hold_new, ap (λ b. b ++ batch ∷ []) known.1, known.2, known.3)) own)
+            record { task = refl; call = refl; told = refl; posted = refl; left = refl; enrolled = refl; saw_done = refl; greatest = refl; before = refl; after = refl; book_seen = refl }
+            (subst (λ (z : Maybe HoldView). HoldKnown job new (W.in_hold f z) k) (sym holds) (hold_new, ap (λ b. b ++ batch ∷ []) known.1, (λ u call is yet. record_kept job laws s.book batch (s.task u) call (known.2 u call is yet)), known.3)) own)
             (λ i x y low ne other. mine_after job laws s k batch o.parts x y y (get_elem? t.homes x) (get_elem? homes x) (o.seat x) i happens parts_later (far x low) (told_again y)
             (hold_others job s new k x hd (hold_of k h') ne held refl hold_new refl y.own.hold other.hold) other),
         λ g c is at.

@@ -18,7 +18,7 @@ use Rattle.table_rule.specs.Words.{node_at, word_count, WordsShow}
 use Rattle.table_rule.specs.Laws.{Laws}
 use Rattle.batch_history.specs.declared.batch.Entry.{Entry}
 use Rattle.batch_history.specs.Reserved.{ReservedView}
-use Rattle.core_model.specs.Words.{Tree}
+use Rattle.sp_order.specs.Jobs.{JobValue}
 use Rattle.core_model.specs.State.{opening_core}
 use Rattle.core_model.specs.Runs.{Step}
 use Rattle.table_rule.specs.Words.{stop_at}
@@ -39,7 +39,7 @@ at_snoc_at (x ∷ xs) a b zero e = inl e
 at_snoc_at (x ∷ xs) a b (suc j) e = ⊎_elim (λ t. inl t) (λ t. inr (t.0, (let h = t.1 in omega arith))) (at_snoc_at xs a b j e)
 
 told_cut : (v : View) (a b : ℕ) → SameTold v (record v { own = record v.own { worker = a }; to = b })
-told_cut v a b = record { task = refl; call = refl; posted = refl; left = refl; enrolled = refl; saw_done = refl; greatest = refl; before = refl; after = refl; book_seen = refl }
+told_cut v a b = record { task = refl; call = refl; told = refl; posted = refl; left = refl; enrolled = refl; saw_done = refl; greatest = refl; before = refl; after = refl; book_seen = refl }
 
 -- after a split every worker is in the range of a seat: the pass's worker in the new one's, the others in the old
 seat_cut : (views : List View) (id x : ℕ) (seat : ℕ → ℕ) (v : View) → get_elem? views id ≡ some v → HasSeat views (seat x) x
@@ -190,6 +190,7 @@ enrols job room slots id j v xs k from to fresh t o wide me fits =
                     task = m.1.task;
                     call = m.1.call;
                     posted = m.1.posted;
+                    told = m.1.told;
                     hold = m.1.hold;
                     entries = m.1.entries;
                     new = λ e. absurd (cc);
@@ -248,10 +249,10 @@ blank P N =
       values = λ n low. tt;
     }
 
-pub starts : (job : CoreJob) (room : ℕ) (tree : Tree) (laws : Laws job) (words : List ℕ) → words ≡ set (replicate (word_count job.workers job.plan.count) 0) (node_at job.workers 0) 1
-    → Shows job room (opening words (replicate job.workers Slots.Vacant ++ Slots.Shop [] ∷ Slots.Book (reserved [] room) ∷ []) (newcomer tree job.workers job.plan.count room))
+pub starts : (job : CoreJob) (room : ℕ) (given : JobValue) (laws : Laws job) (words : List ℕ) → words ≡ set (replicate (word_count job.workers job.plan.count) 0) (node_at job.workers 0) 1
+    → Shows job room (opening words (replicate job.workers Slots.Vacant ++ Slots.Shop [] ∷ Slots.Book (reserved [] room) ∷ []) (newcomer given job.workers job.plan.count room))
 unfolding opening_state opening_core
-starts job room tree laws words are =
+starts job room given laws words are =
     let shop : List (List Entry) = [] in
     let book = reserved [] room in
     let P = job.workers in
@@ -268,7 +269,7 @@ starts job room tree laws words are =
         shop = fill_shop P shop book;
         batches = ap (λ (m : ℕ). get_elem? (map some slots) m) (omega arith) ∙ fill_book P shop book;
       };
-      views = λ i u w e lo hi. let t = only u (newcomer tree P N room) i e in
+      views = λ i u w e lo hi. let t = only u (newcomer given P N room) i e in
           let hi' : w < P = subst (λ (y : View). w < y.to) (sym t.1) hi in (
             hi',
             subst (λ (y : View). AgreesWithView job opening_state (get_elem? (map some slots) w) 0 i y w) t.1 record {
@@ -276,6 +277,7 @@ starts job room tree laws words are =
               task = refl;
               call = refl;
               posted = λ f. absurd (cc);
+              told = λ value f. absurd (cc);
               hold = λ h f. absurd (cc);
               entries = refl;
               new = λ f. (fill P w shop book hi', refl, refl, refl);
@@ -284,17 +286,17 @@ starts job room tree laws words are =
               since = record { most = omega arith; early = omega arith; late = λ n f. absurd (cc); placed = λ p f. absurd (cc); waits = λ n f. absurd (cc) };
             },
           );
-      seats = λ w low. (newcomer tree P N room, refl, omega arith, low);
+      seats = λ w low. (newcomer given P N room, refl, omega arith, low);
       trace = [];
       ready = opening_core.ready;
       reached = refl;
-      events = λ i u w e lo hi. ap (λ (y : View). y.own.events) (only u (newcomer tree P N room) i e).1;
+      events = λ i u w e lo hi. ap (λ (y : View). y.own.events) (only u (newcomer given P N room) i e).1;
       stop = let unset : get_or words (stop_at P) 0 ≡ 0 = ap (λ (ws : List ℕ). get_or ws (stop_at P) 0) are
           ∙ (get_or-set_other (replicate (P + 4 + N + N + N) 0) (node_at P 0) (stop_at P) 1 0 (λ e. omega arith) ∙ zeros (P + 4 + N + N + N) (stop_at P)) in record {
             known = inl unset;
-            set = λ i u e some_stops. let same = ap (λ (y : View). y.own.stops) (only u (newcomer tree P N room) i e).1 in absurd (omega (arith, same, some_stops));
+            set = λ i u e some_stops. let same = ap (λ (y : View). y.own.stops) (only u (newcomer given P N room) i e).1 in absurd (omega (arith, same, some_stops));
             by = λ one. absurd (omega (arith, one, unset));
-            found = λ i u e some_found. let same = ap (λ (y : View). y.own.stops_found) (only u (newcomer tree P N room) i e).1 in absurd (omega (arith, same, some_found));
+            found = λ i u e some_found. let same = ap (λ (y : View). y.own.stops_found) (only u (newcomer given P N room) i e).1 in absurd (omega (arith, same, some_found));
           };
     }
 

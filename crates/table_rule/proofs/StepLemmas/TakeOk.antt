@@ -28,7 +28,7 @@ pending_executing st e f = absurd (cc)
 pub pending_is_new : (job : CoreJob) (s : State) (u : ℕ) (call : OpRecord) → (kept : Parts job s) → s.status u ≡ Pending → IsRecordOf job s.book (s.task u) call → place_of s.book call.leaf ≡ None
 pending_is_new job s u call kept pending is =
     let out = is_out job s u kept (rw pending (λ e. cc)) in
-    not_in_book job s u is.0 is.1 call.leaf kept is.2 is.3 (is_call job call.leaf call.op is.4) (λ r e. out_got (s.call u) r out e) (λ r e. pending_served (s.status u) r pending e) (λ e. absurd (pending_executing (s.status u) pending e))
+    not_in_book job s u is.0 is.1 call.leaf kept is.2 is.3 (is_call job s.book call.leaf call.op is.4) (λ r e. out_got (s.call u) r out e) (λ r e. pending_served (s.status u) r pending e) (λ e. absurd (pending_executing (s.status u) pending e))
 
 -- two workers' calls have different leaves
 pub leaves_differ : (job : CoreJob) (laws : Laws job) (s : State) (u x : ℕ) (a b : OpRecord) → (kept : Parts job s) → IsRecordOf job s.book (s.task u) a → IsRecordOf job s.book (s.task x) b → a.leaf ≡ b.leaf → u ≡ x

@@ -1,5 +1,5 @@
 -- Consequences of the invariant for a worker and its call, in the form in which the steps use them.
-use Rattle.std.proofs.Common.{ℕ, ◌≡◌, ◌≢◌, Bool, true, false, Option as Maybe, None, Some, refl, sym, ap, ◌∙◌, inl, inr}
+use Rattle.std.proofs.Common.{ℕ, ◌≡◌, ◌≢◌, Bool, true, false, Option as Maybe, None, Some, List, refl, sym, ap, ◌∙◌, inl, inr}
 use Rattle.sp_order.specs.declared.node.Kind.TheVariants.{LeafNode}
 use Rattle.core_model.specs.declared.task.Task.TheVariants.{Started, Kept, Ended}
 use Rattle.core_model.specs.declared.progress.Progress.TheVariants.{Taken, Ran}
@@ -8,7 +8,8 @@ use Rattle.core_model.specs.declared.status.Status.{Status}
 use Rattle.core_model.specs.declared.status.Status.TheVariants.{Free, Pending, Executing, Served}
 use Rattle.core_model.specs.declared.status.CallState.TheVariants.{Out, Got}
 use Rattle.core_model.specs.State.{CoreJob, State}
-use Rattle.core_model.specs.Operations.{op_in, IsCall, Place, place_of}
+use Rattle.core_model.specs.Operations.{op_in, op_from, op_of, IsCall, Place, place_of}
+use Rattle.core_model.specs.Words.{Entry, Op}
 use Rattle.core_model.specs.Tasks.{names}
 use Rattle.core_model.specs.Invariant.Statuses.{is_taken_by}
 use Rattle.core_model.specs.Invariant.Hold.{is_published}
@@ -99,6 +100,12 @@ not_in_book job s w n t leaf parts task kind call not_got not_served early = no_
       ]
     ])
 
+-- an operation under a book is of a call
+from_call : (book : List (List Entry)) (own : Maybe Op) (source : Maybe ℕ) (op : Op) → op_from book own source ≡ Some op → own ≢ None
+from_call book None None op e = λ _. cc
+from_call book None (Some r) op e = λ _. cc
+from_call book (Some x) source op e = λ f. cc
+
 -- the leaf of a call
-pub is_call : (job : CoreJob) (leaf : ℕ) (op : Rattle.seq_objects.specs.declared.op.Op.Op) → op_in (job.act leaf) ≡ Some op → IsCall job leaf
-is_call job leaf op e none_there = cc
+pub is_call : (job : CoreJob) (book : List (List Entry)) (leaf : ℕ) (op : Op) → op_of job book leaf ≡ Some op → IsCall job leaf
+is_call job book leaf op e = from_call book (op_in (job.act leaf)) (job.source leaf) op e

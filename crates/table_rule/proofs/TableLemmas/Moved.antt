@@ -39,6 +39,7 @@ use Rattle.table_rule.proofs.TableLemmas.Facts.{is_free, is_trapped, not_taken}
 use Rattle.core_model.specs.Lists.{ready_after}
 use Rattle.table_rule.specs.Words.{stop_at}
 use Rattle.table_rule.proofs.TableLemmas.Traces.{AddsEvent, reached_next, agree_next, agree_still, stop_still}
+use Rattle.table_rule.proofs.TableLemmas.Through.{told_kept}
 use Rattle.table_rule.proofs.TableLemmas.Words.{put_at, put_other}
 
 -- the seat id, whose range is k alone, is the seat of worker k
@@ -186,7 +187,7 @@ hold_still job s new k x kept free same_hold same_book same_task (Some v) h = (
   same_book ∙ h.1,
   λ u call is none_yet. elim (cases_eq u k) [
     | inl e ↦ absurd (free_untaken job s k x v call kept free h.0 (ap (record_in v.taken) (sym e) ∙ is) (ap (among v.answered) (sym e) ∙ none_yet))
-    | inr ne ↦ subst (λ (y : Task). IsRecordOf job s.book y call) (sym (same_task u ne)) (h.2 u call is none_yet)
+    | inr ne ↦ subst (λ (b : List (List Entry)). IsRecordOf job b (new.task u) call) (sym same_book) (subst (λ (y : Task). IsRecordOf job s.book y call) (sym (same_task u ne)) (h.2 u call is none_yet))
   ],
   h.3,
 )
@@ -195,6 +196,7 @@ hold_still job s new k x kept free same_hold same_book same_task (Some v) h = (
 pub record SameBut (v w : View) : Type 0 where
   pub from : w.own.worker ≡ v.own.worker
   pub to : w.to ≡ v.to
+  pub told : w.own.told ≡ None
   pub left : w.own.left ≡ v.own.left
   pub hold : w.own.hold ≡ v.own.hold
   pub enrolled : w.enrolled ≡ v.enrolled
@@ -255,6 +257,7 @@ job_step job room laws t o id k v w words event node mark value tick call y happ
       task = put_at s.task k k y refl ∙ sym task_is;
       call = call_is;
       posted = λ out. absurd (inside' out);
+      told = λ value is. let none = sym same.told ∙ is in absurd (cc);
       entries = own_entries (entries_of k (flat s.book)) k v.own.left w.own.left (s.call k) (call k) (task_place job s.book (s.task k)) (task_place job s.book (put s.task k y k)) inside inside' same.left m.entries;
       hold = subst (λ (z : Maybe HoldView). HoldKnown job new z k) (sym same.hold) (hold_still job s new k k o.parts free refl refl stay v.own.hold m.hold);
       new = λ e. absurd (true_false (sym enrolled ∙ (sym same.enrolled ∙ e)));
@@ -273,6 +276,7 @@ job_step job room laws t o id k v w words event node mark value tick call y happ
       task = stay x ne ∙ m.task;
       call = calls x ne ∙ m.call;
       posted = rw (calls x ne, stay x ne) m.posted;
+      told = λ value is. told_kept job laws s new x u.own.task u.own.task value (laws.keeps s new k event o.parts happens) (stay x ne ∙ m.task) refl (λ leaf place at. at) (m.told value is);
       entries = rw (calls x ne, stay x ne) m.entries;
       hold = hold_still job s new k x o.parts free refl refl stay u.own.hold m.hold;
       new = m.new;

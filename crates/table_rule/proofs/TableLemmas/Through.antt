@@ -5,12 +5,14 @@ use mathlib.Core.Option.{Option, some}
 use lib.ListN.{get_elem?}
 use Rattle.atomic_table.proofs.Lists.{set_here, set_else}
 use Rattle.batch_history.specs.declared.batch.Entry.{Entry}
+use Rattle.seq_objects.specs.Objects.{value_of}
 use Rattle.core_model.specs.declared.task.Task.{Task}
 use Rattle.core_model.specs.declared.status.Status.{Status}
 use Rattle.core_model.specs.declared.status.CallState.TheVariants.{NotCalled}
 use Rattle.core_model.specs.declared.event.Event.{Event}
 use Rattle.core_model.specs.State.{put, CoreJob, Hold, State}
 use Rattle.core_model.specs.Events.{Happens}
+use Rattle.core_model.specs.Operations.{Place, place_of}
 use Rattle.core_model.specs.Tasks.{is_done}
 use Rattle.core_model.specs.Invariant.{Parts}
 use Rattle.table_rule.specs.declared.view.HoldView.{HoldView}
@@ -18,7 +20,7 @@ use Rattle.table_rule.specs.declared.view.View.{View}
 use Rattle.table_rule.specs.declared.slot.Slot.{Slot}
 use Rattle.table_rule.specs.declared.slot.Slot.TheVariants as Slots
 use Rattle.table_rule.specs.Laws.{Laws}
-use Rattle.table_rule.specs.Shows.{SlotHome, IsFront, IsRecordOf, RecordAt, ShopAt, BookAt, SlotsShow, hold_of, HoldKnown, AgreesWithView}
+use Rattle.table_rule.specs.Shows.{SlotHome, IsFront, IsRecordOf, IsTold, RecordAt, ShopAt, BookAt, SlotsShow, hold_of, HoldKnown, AgreesWithView}
 use Rattle.table_rule.proofs.TableLemmas.Words.{put_at, put_other}
 use Rattle.table_rule.proofs.TableLemmas.Facts.{is_trapped}
 
@@ -26,6 +28,7 @@ use Rattle.table_rule.proofs.TableLemmas.Facts.{is_trapped}
 pub record SameTold (v w : View) : Type 0 where
   pub task : w.own.task ≡ v.own.task
   pub call : w.own.call ≡ v.own.call
+  pub told : w.own.told ≡ v.own.told
   pub posted : w.own.posted ≡ v.own.posted
   pub left : w.own.left ≡ v.own.left
   pub enrolled : w.enrolled ≡ v.enrolled
@@ -36,7 +39,7 @@ pub record SameTold (v w : View) : Type 0 where
   pub book_seen : w.own.book_seen ≡ v.own.book_seen
 
 pub told_again : (v : View) → SameTold v v
-told_again v = record { task = refl; call = refl; posted = refl; left = refl; enrolled = refl; saw_done = refl; greatest = refl; before = refl; after = refl; book_seen = refl }
+told_again v = record { task = refl; call = refl; told = refl; posted = refl; left = refl; enrolled = refl; saw_done = refl; greatest = refl; before = refl; after = refl; book_seen = refl }
 
 -- `AgreesWithView` is kept for a seat of another worker
 pub reseat : (job : CoreJob) (s : State) (home : SlotHome) (seat seat' id id' : ℕ) (v w : View) (x : ℕ) → seat' ≡ id' → SameTold v w → w.own.hold ≡ v.own.hold → AgreesWithView job s home seat id v x → AgreesWithView job s home seat' id' w x
@@ -45,6 +48,7 @@ reseat job s home seat seat' id id' v w x sits told hold m = record {
   task = m.task ∙ sym told.task;
   call = m.call ∙ sym told.call;
   posted = rw told.posted m.posted;
+  told = λ value is. subst (λ (task : Task). IsTold job s task value) (sym told.task) (m.told value (sym told.told ∙ is));
   hold = rw hold m.hold;
   entries = rw told.left m.entries;
   new = λ e. let t = m.new (sym told.enrolled ∙ e) in (t.0, told.task ∙ t.1, told.call ∙ t.2, told.left ∙ t.3);
@@ -66,6 +70,7 @@ reseen job s home seat id v x book front m = record {
   task = m.task;
   call = m.call;
   posted = m.posted;
+  told = m.told;
   hold = m.hold;
   entries = m.entries;
   new = m.new;
@@ -78,6 +83,16 @@ reseen job s home seat id v x book front m = record {
 pub again : (job : CoreJob) (s : State) (home : SlotHome) (seat id : ℕ) (v w : View) (x : ℕ) → SameTold v w → w.own.hold ≡ v.own.hold → AgreesWithView job s home seat id v x → AgreesWithView job s home seat id w x
 again job s home seat id v w x told hold m = reseat job s home seat seat id id v w x m.sits told hold m
 
+-- what was told for a task is the source's value in the next state too, where the task is the worker's
+pub told_kept : (job : CoreJob) (laws : Laws job) (s new : State) (x : ℕ) (task task' : Task) (value : ℕ) → Parts job new → new.task x ≡ task → task ≡ task' → ((leaf : ℕ) (place : Place) → place_of s.book leaf ≡ Some place → place_of new.book leaf ≡ Some place)
+    → IsTold job s task value → IsTold job new task' value
+told_kept job laws s new x task task' value parts here same longer told =
+    let (node, start, leaf, source, started, kind, from, replied, is) = told in
+    let now = laws.source new x node leaf source parts (kind, start, here ∙ started) from in
+    let both : Some replied.place ≡ Some now.place = sym (longer source replied.place replied.stands) ∙ now.stands in
+    let at : replied.place ≡ now.place = cc in
+    (node, start, leaf, source, sym same ∙ started, kind, from, now, is ∙ ap (λ (p : Place). value_of p.entry.reply) at)
+
 pub through : (job : CoreJob) (laws : Laws job) (s new : State) (k x : ℕ) (event : Event) (v w : View) (home home' : SlotHome) (seat id : ℕ) → Parts job s → Happens job s k event new
     → new.task x ≡ s.task x → new.call x ≡ s.call x → new.book ≡ s.book → (is_done (s.node 0) ≡ true → is_done (new.node 0) ≡ true)
     → (home ≡ some (some Slots.Vacant) → v.own.call ≡ NotCalled → home' ≡ some (some Slots.Vacant)) → SameTold v w → HoldKnown job new w.own.hold x
@@ -86,7 +101,8 @@ through job laws s new k x event v w home home' seat id kept happens same_task s
   sits = m.sits;
   task = same_task ∙ (m.task ∙ sym told.task);
   call = same_call ∙ (m.call ∙ sym told.call);
-  posted = rw (same_call, same_task, told.posted) m.posted;
+  posted = rw (same_call, same_task, same_book, told.posted) m.posted;
+  told = λ value is. told_kept job laws s new x v.own.task w.own.task value (laws.keeps s new k event kept happens) (same_task ∙ m.task) (sym told.task) (λ leaf place at. rw same_book at) (m.told value (sym told.told ∙ is));
   hold = hold;
   entries = rw (same_call, same_task, same_book, told.left) m.entries;
   new = λ e. let t = m.new (sym told.enrolled ∙ e) in (here t.0 t.2, told.task ∙ t.1, told.call ∙ t.2, told.left ∙ t.3);
@@ -125,7 +141,7 @@ hold_same job s new x same_hold same_book same_task None m = λ i is. m i (sym s
 hold_same job s new x same_hold same_book same_task (Some v) m = (
   same_hold ∙ m.0,
   same_book ∙ m.1,
-  (λ u call is yet. subst (λ (y : Task). IsRecordOf job s.book y call) (sym (same_task u)) (m.2 u call is yet)),
+  (λ u call is yet. subst (λ (b : List (List Entry)). IsRecordOf job b (new.task u) call) (sym same_book) (subst (λ (y : Task). IsRecordOf job s.book y call) (sym (same_task u)) (m.2 u call is yet))),
   m.3,
 )
 

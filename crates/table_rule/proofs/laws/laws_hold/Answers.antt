@@ -1,13 +1,14 @@
-use Rattle.std.proofs.Common.{arith}
+use Rattle.std.proofs.Common.{◌∙◌, Option as Maybe, ap, length, arith}
 use Rattle.sp_order.specs.Jobs.{job_tree}
 use Rattle.sp_order.specs.Preorder.{nodes_of}
 use Rattle.std.proofs.Common.{inl}
+use Rattle.core_model.specs.Operations.{Place, or_else, place_in}
 use Rattle.table_rule.proofs.ListLemmas.Lists.{call_within}
 use Rattle.table_rule.specs.Shows.{job_of}
 use Rattle.table_rule.proofs.laws.laws_hold.Goals as goal
 
 pub returns : goal.returns
-returns c key few leaves short =
+returns c key few leaves short sources =
     let job = job_of key in
     let stands = c.plan_stands_for_tree.ensures (job_tree key.job) in
     let plan = c.plan_has_sides.ensures (nodes_of (job_tree key.job)) (job_tree key.job) stands in
@@ -24,6 +25,10 @@ returns c key few leaves short =
       untaken = λ old new worker parts happens. c.publish_adds_the_taken_call.ensures.untaken job old new worker plan parts happens;
       taken = λ old new worker parts happens. c.publish_adds_the_taken_call.ensures.taken job old new worker plan parts happens;
       receipt = λ s worker node leaf op receipt parts served started is. c.receipt_is_of_the_own_entry.ensures job s worker node leaf op receipt parts (inl served) started is;
+      sources = sources;
+      source = λ s worker node leaf source parts started from. c.started_leaf_has_its_source.ensures job s worker node leaf source sources parts started from;
+      operations = λ book batch leaf op is. c.operations_stay.ensures.longer job book batch leaf op is;
+      places = λ book batch leaf place at. c.entries_are_found_at_their_places.ensures.longer book batch leaf ∙ ap (λ (o : Maybe Place). or_else o (place_in (length book) 0 batch leaf)) at;
       low = λ leaf call. let within = call_within key.job.acts leaf call in omega (arith, within, short);
       ended = λ s parts done. (c.done_root_ends_all.ensures job (job_tree key.job) s stands parts done).3;
       opening = c.opening_has_parts.ensures job plan root;

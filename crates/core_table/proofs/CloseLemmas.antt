@@ -1,3 +1,4 @@
 pub mod Closes
 pub mod LastRows
 pub mod Reported
+pub mod SlotsBelow

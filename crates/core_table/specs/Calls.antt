@@ -3,11 +3,10 @@ use Rattle.std.specs.Prelude.{ℕ, ◌≡◌, ◌≢◌, ◌<◌, ◌≤◌, ◌
 use mathlib.Core.Option.{none}
 use prog.Atomic.{either}
 use Rattle.atomic_table.specs.Table.{step}
-use Rattle.sp_order.specs.Preorder.{nodes_of}
 use Rattle.core_model.specs.Next.{next_act}
 use Rattle.core_model.specs.declared.next.Next.TheVariants as acts
 use Rattle.core_model.specs.Operations.{place_of, IsReceipt}
-use Rattle.core_model.specs.Words.{Entry}
+use Rattle.core_model.specs.Words.{Entry, Op}
 use Rattle.table_rule.specs.CoreWords.{Event, Receipt, Task, Claim, Start, Post, Win, Take, Publish, Answer, Release, Keep, End, ArriveFirst, ArriveSecond, Idle, Started, Out}
 use Rattle.core_model.specs.declared.setting.Setting.{Setting}
 use Rattle.table_rule.specs.declared.slot.OpRecord.{OpRecord}
@@ -18,7 +17,7 @@ use Rattle.table_rule.specs.declared.view.View.{View}
 use Rattle.table_rule.specs.Words.{flag_at, count_at, tick_at, stop_at, node_at, mark_at, value_at, progress_code}
 use Rattle.table_rule.specs.Shows.{job_of, room_of, reserved, record_in, among}
 use Rattle.table_rule.specs.Batches.{IsPublishDue, IsReleaseDue}
-use Rattle.table_rule.specs.Tasks.{TaskHere, progress_after}
+use Rattle.table_rule.specs.Tasks.{TaskHere, progress_after, job_seen}
 use Rattle.table_rule.specs.DueActs.{IsKeepDue, IsPostDue}
 use Rattle.table_rule.specs.Plays as plays
 use Rattle.table_rule.specs.Plays.{SeatState}
@@ -32,7 +31,7 @@ pub record IsViewOf (key : Setting) (k : ℕ) (v : View) : Type 0 where
   pub nodes : v.nodes ≡ (job_of key).plan.count
   pub room : v.room ≡ room_of key
   pub enrolled : v.enrolled ≡ true
-  pub plan : nodes_of v.plan ≡ (job_of key).plan
+  pub job : job_seen v ≡ job_of key
   pub task : TaskHere (job_of key) v.own.task
 
 -- A table has `slots` slots, and seat `id` has the view v of worker k and carries the slots xs. Each field says of one
@@ -73,7 +72,7 @@ pub record EachCallRefines (key : Setting) (slots id k : ℕ) (v : View) (xs : L
       (plays.arrived (step slots (mark_at key.workers (job_of key).plan.count p) 1 0 none) (v, xs))
       (ArrivalMakes (IsEvent (job_of key) k (ArriveFirst p l r n)) (IsEvent (job_of key) k (ArriveSecond p l r n)))
   -- the gate: a post returns the record slot to the table, with the call in it
-  pub post : (n start : ℕ) (call : OpRecord) → v.own.task ≡ Started n start → IsPostDue (next_act (job_of key) v.own.task v.own.call) call
+  pub post : (n start : ℕ) (call : OpRecord) → v.own.task ≡ Started n start → IsPostDue (job_of key).source v.own.told (next_act (job_of key) v.own.task v.own.call) call
       → Steps (job_of key) (room_of key) slots id (v, (k, Slots.Record call) ∷ xs) k (λ y. 1)
       (λ y. plays.posted (step slots k 1 0 none) (v, (k, Slots.Record call) ∷ xs) 1) (λ before found after. IsEvent (job_of key) k (Post n start) before after)
   -- a win is an event if it finds the flag free (0), else a stutter
@@ -116,5 +115,8 @@ pub record EachCallRefines (key : Setting) (slots id k : ℕ) (v : View) (xs : L
       (λ y. plays.stopped_all (step slots (stop_at key.workers) 1 0 none) (v, xs) 1) Stutters
   pub stopped : Steps (job_of key) (room_of key) slots id (v, xs) (stop_at key.workers) (λ y. y)
       (plays.looked_at_stop (step slots (stop_at key.workers) 0 0 none) (v, xs)) Stutters
+  pub source_value : (n start leaf source : ℕ) (op : Op) → next_act (job_of key) v.own.task v.own.call ≡ Some (acts.Call n start leaf op) → (job_of key).source leaf ≡ Some source
+      → Steps (job_of key) (room_of key) slots id (v, xs) (value_at key.workers (job_of key).plan.count ((job_of key).plan.node_of source)) (λ y. y)
+      (plays.looked_at_value (step slots (value_at key.workers (job_of key).plan.count ((job_of key).plan.node_of source)) 0 0 none) (v, xs)) Stutters
   pub admit : Steps (job_of key) (room_of key) slots id (v, xs) (count_at key.workers) (λ y. y)
       (plays.admitted (step slots (count_at key.workers) 0 0 none) (v, xs)) Stutters

@@ -4,11 +4,10 @@ use Rattle.atomic_table.specs.Seated.{TableId}
 use Rattle.atomic_table.specs.declared.shared.Seat.{Seat}
 use Rattle.sp_order.specs.Jobs.{JobValue}
 use Rattle.table_rule.specs.CoreWords.{Out}
-use Rattle.table_rule.specs.Tasks.{TaskHere}
+use Rattle.table_rule.specs.Tasks.{TaskHere, job_seen}
 use Rattle.core_model.specs.Next.{next_act}
 use Rattle.core_model.specs.declared.next.Next.{Next}
 use Rattle.table_rule.specs.declared.view.HoldView.{HoldView}
-use Rattle.sp_order.specs.Preorder.{nodes_of}
 use Rattle.core_model.specs.State.{CoreJob}
 use Rattle.table_rule.specs.declared.slot.Slot.{Slot}
 use Rattle.table_rule.specs.declared.view.PassView.{PassView}
@@ -61,13 +60,13 @@ abbrev pub LooksFit : ℕ → Option HoldView → Type 0
 LooksFit workers None = Unit {0}
 LooksFit workers (Some h) = h.looks ≤ workers
 
--- The seat is `worker`'s at this table: its view has the table's counts and plan, and agrees with its slots and fields.
+-- The seat is `worker`'s at this table: its view has the table's counts and job, and agrees with its slots and fields.
 abbrev pub IsSeatOf : Setting → TableId → ℕ → Seat Slot View → List ℕ → Bool → Type 0
 IsSeatOf setting table worker seat owed published =
     (seat.table_id ≡ table) × (worker < setting.workers) × (seat.me.0.workers ≡ setting.workers)
     × (seat.me.0.nodes ≡ (job_of setting).plan.count) × (seat.me.0.enrolled ≡ true)
     × TaskHere (job_of setting) seat.me.0.own.task × (seat.me.0.room ≡ room_of setting) × HoldsSlots worker seat.me
-    × TracksHold seat.me.0 owed published × (nodes_of seat.me.0.plan ≡ (job_of setting).plan) × LooksFit setting.workers seat.me.0.own.hold
+    × TracksHold seat.me.0 owed published × (job_seen seat.me.0 ≡ job_of setting) × LooksFit setting.workers seat.me.0.own.hold
 
 -- the pass belongs to this table
 abbrev pub IsPassOf : CoreTable → Pass → Type 0

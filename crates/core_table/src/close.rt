@@ -23,7 +23,6 @@ use core_model::laws::report::{done_leaves_have_run, done_report_is_lawful};
 use sp_order::PlannedJob;
 use sp_order::laws::{leaf_has_one_node, plan_has_sides, plan_stands_for_tree};
 use std::alloc::{AllocError, Global};
-use table_rule::laws::laws_hold;
 use table_rule::{Layout, RanLeaf, Slot};
 
 /// One row for each leaf, in leaf order, unpacked from the words of its node (`RanLeaf`).
@@ -75,6 +74,13 @@ fn drop_slots(closed: Closed<Slot, Global>, count: usize)
 }
 
 impl CoreTable {
+    /// The number of leaves. Memory: none.
+    fn leaf_total(&self) -> u32
+        ensures { result ≡ leaves (job_tree (planned_in self.now)) }
+    {
+        self.setting.job.acts().len() as u32
+    }
+
     /// Closes a table whose root `pass` has seen done. The report has its rows from the table's words, and the table's
     /// book as its history. If memory runs out, the table is dropped.
     ///
@@ -93,13 +99,13 @@ impl CoreTable {
         ensures model { IfOk result (IsRunReport (planned_in self) (job_in self).workers) }
         ensures seen { IfOk result (λ report. IsFront (view pass).own.book_seen report.history) }
     {
-        laws_hold();
+        self.laws_hold();
         done_leaves_have_run();
         done_report_is_lawful();
         plan_stands_for_tree();
         plan_has_sides();
         leaf_has_one_node();
-        let leaf_total = self.setting.job.acts().len() as u32;
+        let leaf_total = self.leaf_total();
         let layout = self.layout();
         let rows = Vec::with_capacity(alloc, leaf_total as usize)?;
         let CoreTable {

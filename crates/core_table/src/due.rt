@@ -2,14 +2,14 @@
 ghost use Rattle.std.specs.Prelude.{◌≡◌, ℕ, Some};
 ghost use Rattle.core_model.specs.Next.{act_of_run, act_of_half, act_of_second};
 ghost use Rattle.core_model.specs.declared.next.Next.TheVariants as acts;
-ghost use Rattle.table_rule.specs.CoreWords.{Event};
-ghost use Rattle.table_rule.specs.DueActs.{IsOpenDue, IsFinishDue, IsArriveDue};
-ghost use Rattle.core_table.specs.Passes.{IsPassOf, next_in, pass_view};
+ghost use Rattle.table_rule.specs.CoreWords.{Event, Started};
+ghost use Rattle.sp_order.specs.declared.node.Kind.TheVariants.{LeafNode as LeafOf};
+ghost use Rattle.table_rule.specs.DueActs.{IsOpenDue, IsSourceDue, IsFinishDue, IsArriveDue};
+ghost use Rattle.core_table.specs.Passes.{IsPassOf, job_in, next_in, pass_view, view};
 
 use crate::table::{CoreTable, Pass};
 use core_model::Task;
 use sp_order::node::{Kind, Move};
-use table_rule::laws::laws_hold;
 
 /// A side of a block that is to open, and the task that the pass has after that.
 #[derive(Clone, Copy)]
@@ -76,7 +76,7 @@ impl CoreTable {
         ensures { (event : Event) × (next_in self.now (pass_view pass.now)
             ≡ Some (acts.Open result.node result.task event)) }
     {
-        laws_hold();
+        self.laws_hold();
         match pass.task {
             Task::Run(node) => first_side(self.setting.job.kind(node), node),
             Task::Half(parent) => left_side(self.setting.job.kind(parent), parent),
@@ -87,6 +87,26 @@ impl CoreTable {
                 right_side(self.setting.job.kind(parent), parent)
             }
             _ => unreachable!(),
+        }
+    }
+
+    /// The source of the leaf that the pass is to call for. Memory: none.
+    pub(crate) fn source_due(&self, pass: &Pass) -> u32
+        requires pass { IsPassOf self.now pass.now }
+        requires due { IsSourceDue (job_in self.now).source (next_in self.now (pass_view pass.now)) }
+        ensures { (n : ℕ) × (start : ℕ) × (leaf : ℕ) × ((view pass.now).own.task ≡ Started n start)
+            × ((job_in self.now).plan.kind n ≡ Some (LeafOf leaf)) × ((job_in self.now).source leaf ≡ Some result) }
+    {
+        self.laws_hold();
+        let Task::Started { node, start: _ } = pass.task else {
+            unreachable!()
+        };
+        let Kind::LeafNode(leaf) = self.setting.job.kind(node) else {
+            unreachable!()
+        };
+        match self.source(leaf) {
+            Some(source) => source,
+            None => unreachable!(),
         }
     }
 

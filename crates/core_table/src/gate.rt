@@ -3,7 +3,7 @@ ghost use Rattle.std.specs.Prelude.{List, ◌≡◌, ◌≢◌, ℕ, ◌+◌, �
 ghost use Rattle.batch_history.specs.declared.batch.Entry.{Entry};
 ghost use Rattle.table_rule.specs.CoreWords.{Started, Post as PostOf};
 ghost use Rattle.core_model.specs.Measure.{call_count};
-ghost use Rattle.core_model.specs.Operations.{place_of, IsReceipt};
+ghost use Rattle.core_model.specs.Operations.{op_of, place_of, IsReceipt};
 ghost use Rattle.table_rule.specs.declared.view.HoldView.{HoldView};
 ghost use Rattle.table_rule.specs.declared.slot.OpRecord.{OpRecord as CallRecord};
 ghost use Rattle.table_rule.specs.DueActs.{IsPostDue};
@@ -20,22 +20,23 @@ use crate::turns::{first_place, turn_by};
 use batch_history::Batch;
 use core_model::{CallState, Receipt};
 use launch_batch::Shop;
-use table_rule::laws::laws_hold;
 use table_rule::plays::{
     Answer, CheckRoom, Leave, Post, Publish, ReleaseBoth, ReleaseShop, Take, Win,
 };
 use table_rule::{OpRecord, Slot};
 
 impl CoreTable {
-    /// Posts the call of the started leaf. The pass is trapped from then until its `leave` succeeds.
+    /// Posts the call of the started leaf. The call of a leaf with a source has the value that `source_value` told. The
+    /// pass is trapped from then until its `leave` succeeds.
     pub fn post(&self, pass: &mut Pass, call: OpRecord)
         requires pass { IsPassOf self.now pass.old }
-        requires due { IsPostDue (next_in self.now (pass_view pass.old)) call }
+        requires due { IsPostDue (job_in self.now).source (pass_view pass.old).told
+            (next_in self.now (pass_view pass.old)) call }
         ensures pass { IsPassOf self.now pass.new }
         ensures posted { (node : ℕ) × (start : ℕ) × ((view pass.old).own.task ≡ Started node start)
             × (view pass.new ≡ with_post call (PostOf node start) (view pass.old)) }
     {
-        laws_hold();
+        self.laws_hold();
         let shared = &self.table.shared;
         let at = pass.worker as usize;
         drop(shared.exchange(&mut pass.seat, at, Slot::Record(call)));
@@ -54,7 +55,7 @@ impl CoreTable {
         ensures lost { IfNone result ((seen : ℕ) × (seen ≢ 0)
             × (view pass.new ≡ with_found seen losing (view pass.old))) }
     {
-        laws_hold();
+        self.laws_hold();
         let shared = &self.table.shared;
         let at = self.layout().flag();
         let mine = pass.worker as u64 + 1;
@@ -70,7 +71,8 @@ impl CoreTable {
         }
     }
 
-    /// Tries to leave with the receipt. `Err` is the status word found, if that is not 3 (served).
+    /// Tries to leave with the receipt, which is of the posted call, with its operation under the book that the pass
+    /// has then seen. `Err` is the status word found, if that is not 3 (served).
     pub fn leave(&self, pass: &mut Pass) -> Result<Receipt, u64>
         requires pass { IsPassOf self.now pass.old }
         requires trapped { IsTrapped pass.old }
@@ -81,6 +83,7 @@ impl CoreTable {
             × (book : List (List Entry)) × (view pass.new
             ≡ with_step (leaving call receipt book) (view pass.old))
             × IsFront (view pass.old).own.book_seen book
+            × (op_of (job_in self.now) book call.leaf ≡ Some call.op)
             × StandsAt book receipt.batch receipt.place
             (entry_of (view pass.new).own.worker (record { call = call; receipt = receipt }))
             × ((view pass.old).own.before ≤ receipt.batch)
@@ -88,7 +91,7 @@ impl CoreTable {
         ensures stays { IfErr result (λ seen. (seen ≢ 3)
             × (view pass.new ≡ with_found seen staying (view pass.old))) }
     {
-        laws_hold();
+        self.laws_hold();
         let shared = &self.table.shared;
         let at = pass.worker as usize;
         let seen = shared.compare_exchange::<Leave>(&mut pass.seat, at, 3, 0);
@@ -102,7 +105,8 @@ impl CoreTable {
         Ok(receipt)
     }
 
-    /// Looks at worker `u`, the next in order, and takes its call if one is pending. `Err` is the status word found.
+    /// Looks at worker `u`, the next in order, and takes its call if one is pending, with its operation under the
+    /// hold's book. `Err` is the status word found.
     pub fn take(&self, pass: &mut Pass, u: u32) -> Result<OpRecord, u64>
         requires pass { IsPassOf self.now pass.old }
         requires low { u < (job_in self.now).workers }
@@ -111,11 +115,12 @@ impl CoreTable {
         ensures took { IfOk result (λ call.
             (h : HoldView) × ((view pass.old).own.hold ≡ Some h)
             × IsNewCall (call_count (job_in self.now)) h call
+            × (op_of (job_in self.now) h.book call.leaf ≡ Some call.op)
             × (view pass.new ≡ with_step (taking (call_by u call)) (view pass.old))) }
         ensures passed { IfErr result (λ seen. (seen ≢ 1)
             × (view pass.new ≡ with_found seen (passing u seen) (view pass.old))) }
     {
-        laws_hold();
+        self.laws_hold();
         let shared = &self.table.shared;
         let seen = shared.compare_exchange::<Take>(&mut pass.seat, u as usize, 1, 2);
         if seen != 1 {
@@ -138,7 +143,7 @@ impl CoreTable {
         ensures pass { IsPassOf self.now pass.new }
         ensures published { view pass.new ≡ with_step (publishing batch) (view pass.old) }
     {
-        laws_hold();
+        self.laws_hold();
         let shared = &self.table.shared;
         let at = self.layout().batch_count();
         shared.load::<CheckRoom>(&mut pass.seat, at);
@@ -162,7 +167,7 @@ impl CoreTable {
         ensures pass { IsPassOf self.now pass.new }
         ensures answered { view pass.new ≡ with_step (answering u receipt) (view pass.old) }
     {
-        laws_hold();
+        self.laws_hold();
         let shared = &self.table.shared;
         let at = first_place(pass.owed.as_slice(), u);
         let behind = pass.owed.len() - at;
@@ -197,7 +202,7 @@ impl CoreTable {
         ensures pass { IsPassOf self.now pass.new }
         ensures released { view pass.new ≡ with_step releasing (view pass.old) }
     {
-        laws_hold();
+        self.laws_hold();
         let shared = &self.table.shared;
         let at = self.layout().flag();
         drop(shared.exchange(&mut pass.seat, at, Slot::Shop(shop)));
@@ -213,7 +218,7 @@ impl CoreTable {
         ensures pass { IsPassOf self.now pass.new }
         ensures released { view pass.new ≡ with_step releasing (view pass.old) }
     {
-        laws_hold();
+        self.laws_hold();
         let shared = &self.table.shared;
         let at = self.layout().flag();
         pass.seat.turn();

@@ -1,22 +1,22 @@
-//! The job side (claim, tick, open, keep, finish, arrive), and the calls on the root, batch count and stop word.
+//! The job side (claim, tick, open, source value, keep, finish, arrive), and the calls on the root, batch count and stop
+//! word.
 ghost use Rattle.std.specs.Prelude.{◌≡◌, ◌≢◌, ℕ, ◌+◌, ◌%◌, ◌<◌, ◌≤◌, ◌∷◌, Some, IsTrue, IsFalse, IsNone};
 ghost use Rattle.core_model.specs.declared.next.Next.TheVariants as acts;
 ghost use Rattle.core_model.specs.Events.{task_after as next_task};
 ghost use Rattle.table_rule.specs.CoreWords.{Event, Task as TaskOf, Idle, Run, Started, Kept, Ended, Handed, Start as StartOf, End as EndOf, ArriveFirst, ArriveSecond};
-ghost use Rattle.table_rule.specs.DueActs.{IsTickDue, IsOpenDue, IsKeepDue, IsFinishDue, IsArriveDue};
+ghost use Rattle.table_rule.specs.DueActs.{IsTickDue, IsOpenDue, IsSourceDue, IsKeepDue, IsFinishDue, IsArriveDue};
 ghost use Rattle.table_rule.specs.Tasks.{progress_after};
 ghost use Rattle.table_rule.specs.Words.{progress_code};
-ghost use Rattle.table_rule.specs.Passes.{with_task, claiming, refusing, opening, keeping, stopping, finding_stop, finding_none};
+ghost use Rattle.table_rule.specs.Passes.{with_task, claiming, refusing, opening, telling, keeping, stopping, finding_stop, finding_none};
 ghost use Rattle.table_rule.specs.Views.{with_step, with_found, with_since, seeing_done, seeing_undone};
 ghost use Rattle.core_table.specs.Passes.{IsPassOf, job_in, next_in, pass_view, view, IsNotTrapped};
 
 use crate::table::{CoreTable, Pass};
 use core_model::{CallState, Next, Task};
 use sp_order::laws::plan_stands_for_tree;
-use table_rule::laws::laws_hold;
 use table_rule::plays::{
-    Arrive, Claim, ClaimOutOfRange, DrawTick, Finish, Keep, LookAtRoot, LookAtStop, Open,
-    ReadBatchCount, Stop,
+    Arrive, Claim, ClaimOutOfRange, DrawTick, Finish, Keep, LookAtRoot, LookAtStop, LookAtValue,
+    Open, ReadBatchCount, Stop,
 };
 use table_rule::{DONE, MOST_WORKERS, RanLeaf};
 
@@ -70,7 +70,7 @@ impl CoreTable {
         ensures next { result ≡ next_in self.now (pass_view pass.now) }
         ensures idle { IsNotTrapped pass.now → IsNone result → (view pass.now).own.task ≡ Idle }
     {
-        laws_hold();
+        self.laws_hold();
         plan_stands_for_tree();
         self.setting.next(pass.task, pass.call)
     }
@@ -87,7 +87,7 @@ impl CoreTable {
             × (node < (job_in self.now).plan.count → seen ≢ 1)
             × (view pass.new ≡ with_found seen (refusing node) (view pass.old)) }
     {
-        laws_hold();
+        self.laws_hold();
         let shared = &self.table.shared;
         if node >= self.nodes {
             shared.compare_exchange::<ClaimOutOfRange>(&mut pass.seat, 0, 4 + node as u64, 0);
@@ -112,7 +112,7 @@ impl CoreTable {
         ensures ended { (n start : ℕ) → next_in self.now (pass_view pass.old) ≡ Some (acts.End n start)
             → view pass.new ≡ with_step (with_task (EndOf n start) (Ended n start result)) (view pass.old) }
     {
-        laws_hold();
+        self.laws_hold();
         let at = self.layout().tick();
         let tick = self
             .table
@@ -132,12 +132,25 @@ impl CoreTable {
             → next_in self.now (pass_view pass.old) ≡ Some (acts.Open n task event)
             → (result ≡ n) × (view pass.new ≡ with_step (opening n event task) (view pass.old)) }
     {
-        laws_hold();
+        self.laws_hold();
         let side = self.side_due(pass);
         let at = self.layout().node(side.node);
         self.table.shared.store::<Open>(&mut pass.seat, at, 1);
         pass.task = side.task;
         side.node
+    }
+
+    /// The value of the source of the leaf that is to call. The source is done. May be asked again. Memory: none.
+    pub fn source_value(&self, pass: &mut Pass) -> u64
+        requires pass { IsPassOf self.now pass.old }
+        requires due { IsSourceDue (job_in self.now).source (next_in self.now (pass_view pass.old)) }
+        ensures pass { IsPassOf self.now pass.new }
+        ensures told { view pass.new ≡ with_step (telling result) (view pass.old) }
+    {
+        self.laws_hold();
+        let source = self.source_due(pass);
+        let at = self.layout().value(self.setting.job.node_of(source));
+        self.table.shared.load::<LookAtValue>(&mut pass.seat, at)
     }
 
     /// Stores the value of the started leaf: that of its work, or the reply that its call got.
@@ -149,7 +162,7 @@ impl CoreTable {
         ensures kept { (n : ℕ) × (start : ℕ) × ((view pass.old).own.task ≡ Started n start)
             × (view pass.new ≡ with_step (keeping n start value) (view pass.old)) }
     {
-        laws_hold();
+        self.laws_hold();
         let Task::Started { node, start } = pass.task else {
             unreachable!()
         };
@@ -169,7 +182,7 @@ impl CoreTable {
             → next_in self.now (pass_view pass.old) ≡ Some (acts.Finish n event)
             → view pass.new ≡ with_step (with_task event (next_task n)) (view pass.old) }
     {
-        laws_hold();
+        self.laws_hold();
         let node = self.finish_due(pass);
         let at = self.layout().node(node);
         let word = done_word(pass.worker, pass.task);
@@ -190,7 +203,7 @@ impl CoreTable {
             → next_in self.now (pass_view pass.old) ≡ Some (acts.Arrive p l r n)
             → view pass.new ≡ with_step (with_task (ArriveSecond p l r n) (Handed p)) (view pass.old) }
     {
-        laws_hold();
+        self.laws_hold();
         let parent = self.arrival_due(pass);
         let at = self.layout().mark(parent);
         let second = self.table.shared.fetch_add::<Arrive>(&mut pass.seat, at, 1) != 0;
@@ -210,7 +223,7 @@ impl CoreTable {
         ensures undone { IsFalse result → (seen : ℕ) × (seen % 4 ≢ 3)
             × (view pass.new ≡ seeing_undone seen (view pass.old)) }
     {
-        laws_hold();
+        self.laws_hold();
         let at = self.layout().node(0);
         self.table.shared.load::<LookAtRoot>(&mut pass.seat, at) % 4 == 3
     }
@@ -221,7 +234,7 @@ impl CoreTable {
         ensures pass { IsPassOf self.now pass.new }
         ensures told { view pass.new ≡ with_since result (view pass.old) }
     {
-        laws_hold();
+        self.laws_hold();
         let at = self.layout().batch_count();
         self.table.shared.load::<ReadBatchCount>(&mut pass.seat, at)
     }
@@ -232,7 +245,7 @@ impl CoreTable {
         ensures pass { IsPassOf self.now pass.new }
         ensures stopped { view pass.new ≡ with_step stopping (view pass.old) }
     {
-        laws_hold();
+        self.laws_hold();
         let at = self.layout().stop();
         self.table.shared.store::<Stop>(&mut pass.seat, at, 1);
     }
@@ -245,7 +258,7 @@ impl CoreTable {
         ensures unset { IsFalse result → (seen : ℕ) × (seen ≢ 1)
             × (view pass.new ≡ with_found seen finding_none (view pass.old)) }
     {
-        laws_hold();
+        self.laws_hold();
         let at = self.layout().stop();
         self.table.shared.load::<LookAtStop>(&mut pass.seat, at) == 1
     }

@@ -11,6 +11,7 @@ ghost use Rattle.core_table.specs.Passes.{job_in, planned_in, setting_in, openin
 use crate::table::{CoreTable, Pass};
 use atomic_table::{Refused, Table};
 use batch_history::ReservedHistory;
+use core_model::laws::book::job_has_its_sources;
 use core_model::{CallState, Setting, Task};
 use launch_batch::Shop;
 use seq_objects::Act;
@@ -108,6 +109,7 @@ impl CoreTable {
             (λ pass. IsPassOf r.0 pass × (view pass ≡ opening_view r.0 w))) }
     {
         laws_hold();
+        job_has_its_sources();
         let nodes = setting.job.nodes();
         let workers = setting.workers;
         let layout = Layout { workers, nodes };

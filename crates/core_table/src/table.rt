@@ -8,10 +8,12 @@ ghost use Rattle.table_rule.specs.Words.{word_count, slot_count};
 ghost use Rattle.table_rule.specs.Shows.{job_of};
 
 use atomic_table::{Seat, Table};
+use core_model::laws::book::job_has_its_sources;
 use core_model::{CallState, Setting, Task};
 use seq_objects::Act;
 use sp_order::PlannedJob;
 use std::alloc::Global;
+use table_rule::laws::laws_hold;
 use table_rule::plays::Law;
 use table_rule::{Layout, Slot, View};
 
@@ -47,7 +49,9 @@ pub struct Pass {
 }
 
 impl CoreTable {
-    ghost use Rattle.core_table.specs.Passes.{job_in, planned_in};
+    ghost use Rattle.core_model.specs.declared.setting.Setting.{Setting};
+    ghost use Rattle.core_table.specs.Passes.{job_in, planned_in, setting_in};
+    ghost use Rattle.table_rule.specs.Laws.{Laws};
 
     /// Where the table's words stand. Memory: none.
     pub(crate) fn layout(&self) -> Layout
@@ -60,11 +64,31 @@ impl CoreTable {
         }
     }
 
+    /// The rule's laws hold of the table's job. For proofs only; does nothing at run time.
+    pub(crate) fn laws_hold(&self)
+        ensures { (key : Setting) → setting_in self.now ≡ key → Laws (job_of key) }
+    {
+        laws_hold();
+        job_has_its_sources();
+        let _acts = self.setting.job.acts();
+    }
+
     /// The job, with its plan. Memory: none.
     pub fn job(&self) -> &PlannedJob
         ensures { result.now ≡ planned_in self.now }
     {
         &self.setting.job
+    }
+
+    /// The source of a leaf: the leaf whose reply is the argument of its call. `None` if it has none, and for a number
+    /// past the last leaf. Memory: none.
+    pub fn source(&self, leaf: u32) -> Option<u32>
+        ensures { result ≡ (job_in self.now).source leaf }
+    {
+        if leaf as usize >= self.setting.job.acts().len() {
+            return None;
+        }
+        self.setting.job.source(leaf)
     }
 
     /// The act of a leaf; `Work(0)` for a number past the last leaf. Memory: none.

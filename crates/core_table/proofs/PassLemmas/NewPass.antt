@@ -6,7 +6,6 @@ use Rattle.table_rule.specs.declared.view.View.{View}
 use Rattle.table_rule.specs.declared.slot.Slot.{Slot}
 use Rattle.table_rule.specs.declared.slot.Slot.TheVariants as Slots
 use Rattle.core_model.specs.declared.setting.Setting.{Setting}
-use Rattle.sp_order.specs.Preorder.{nodes_of}
 use Rattle.table_rule.specs.Shows.{job_of}
 use Rattle.table_rule.specs.Plays.{SeatState}
 use Rattle.table_rule.specs.Views.{enrolling, pass_of}
@@ -14,7 +13,7 @@ use Rattle.table_rule.specs.HoldsSlots.{HoldsSlots}
 use Rattle.table_rule.specs.TracksHold.{TracksHold}
 use Rattle.core_table.proofs.ListLemmas.Owed.{remembers_none}
 use Rattle.core_table.specs.Passes.{IsSeatOf, LooksFit}
-use Rattle.table_rule.specs.Tasks.{TaskHere}
+use Rattle.table_rule.specs.Tasks.{TaskHere, job_seen}
 use Rattle.table_rule.specs.Views.{rest_from}
 
 pub each_push : {A : Type 0} (P : ℕ → A → Type 0) (l : List A) (x : A) → ((w : ℕ) → IfSome (slice_get l w) (P w)) → P (length l) x → (w : ℕ) → IfSome (slice_get (l ++ x ∷ []) w) (P w)
@@ -44,6 +43,6 @@ new_pass setting table k seat low same is = (
   ap (λ (m : SeatState). m.0.room) is,
   subst (HoldsSlots k) (sym is) (carries_new k setting),
   subst (λ (m : SeatState). TracksHold m.0 [] false) (sym is) (remembers_none (fresh k setting) [] false refl refl),
-  ap (λ (m : SeatState). nodes_of m.0.plan) is,
+  ap (λ (m : SeatState). job_seen m.0) is,
   subst (LooksFit setting.workers) (sym (ap (λ (m : SeatState). m.0.own.hold) is)) tt,
 )

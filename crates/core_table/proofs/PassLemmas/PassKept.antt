@@ -1,7 +1,7 @@
 -- A pass still belongs to its table after each kind of call.
 use Rattle.std.proofs.Common.{ℕ, ◌≡◌, ◌≢◌, ◌≤◌, ◌+◌, Bool, true, false, Option as Maybe, None, Some, List, [], ◌∷◌, ◌++◌, get_or, refl, sym, ap, ◌∙◌, subst}
 use Rattle.std.proofs.lemmas.List.{map-append}
-use Rattle.sp_order.specs.Preorder.{nodes_of}
+use Rattle.core_model.specs.State.{core_job}
 use Rattle.atomic_table.specs.Table.{turned, rest}
 use Rattle.atomic_table.specs.Seated.{TableId}
 use Rattle.atomic_table.specs.declared.shared.Seat.{Seat}
@@ -24,7 +24,7 @@ use Rattle.table_rule.specs.HoldsSlots.{vacant, HolderCarries, HoldsSlots}
 use Rattle.table_rule.specs.TracksHold.{TracksHold}
 use Rattle.core_table.proofs.ListLemmas.Owed.{remembers_kept}
 use Rattle.core_table.specs.Passes.{IsSeatOf, LooksFit}
-use Rattle.table_rule.specs.Tasks.{TaskHere}
+use Rattle.table_rule.specs.Tasks.{TaskHere, job_seen}
 
 holder_kept : (b : Bool) (v w : View) (h : HoldView) (xs : List (ℕ × Slot)) → w.workers ≡ v.workers → w.room ≡ v.room → HolderCarries b v h xs → HolderCarries b w h xs
 holder_kept false v w h xs a b m = rw (a, b) m
@@ -37,11 +37,14 @@ carries_kept k v w xs workers room call hold m = record {
   holds = λ h is. holder_kept h.published v w h xs workers room (m.holds h (sym hold ∙ is));
 }
 
+same_job : (v w : View) → w.job ≡ v.job → w.workers ≡ v.workers → job_seen w ≡ job_seen v
+same_job v w given workers = λ i. core_job (given i) (workers i)
+
 -- a pass after a step that leaves its call, its hold and its slots
 pub pass_stepped : {owed : List ℕ} {published : Bool} (setting : Setting) (table : TableId) (k : ℕ) (old new : Seat Slot View) (w : View) → new.table_id ≡ old.table_id → new.me ≡ (w, old.me.1)
-    → w.workers ≡ old.me.0.workers → w.nodes ≡ old.me.0.nodes → w.room ≡ old.me.0.room → w.enrolled ≡ old.me.0.enrolled → TaskHere (job_of setting) w.own.task → w.own.call ≡ old.me.0.own.call → w.own.hold ≡ old.me.0.own.hold → w.plan ≡ old.me.0.plan
+    → w.workers ≡ old.me.0.workers → w.nodes ≡ old.me.0.nodes → w.room ≡ old.me.0.room → w.enrolled ≡ old.me.0.enrolled → TaskHere (job_of setting) w.own.task → w.own.call ≡ old.me.0.own.call → w.own.hold ≡ old.me.0.own.hold → w.job ≡ old.me.0.job
     → IsSeatOf setting table k old owed published → IsSeatOf setting table k new owed published
-pass_stepped {owed} {published} setting table k old new w same is workers nodes room enrolled task call hold plan p = (
+pass_stepped {owed} {published} setting table k old new w same is workers nodes room enrolled task call hold given p = (
   same ∙ p.0,
   p.1,
   ap (λ (m : SeatState). m.0.workers) is ∙ (workers ∙ p.2),
@@ -51,22 +54,22 @@ pass_stepped {owed} {published} setting table k old new w same is workers nodes 
   ap (λ (m : SeatState). m.0.room) is ∙ (room ∙ p.6),
   subst (HoldsSlots k) (sym is) (carries_kept k old.me.0 w old.me.1 workers room call hold p.7),
   remembers_kept old.me.0 new.me.0 owed published (ap (λ (m : SeatState). m.0.own.hold) is ∙ hold) p.8,
-  ap nodes_of (ap (λ (m : SeatState). m.0.plan) is ∙ plan) ∙ p.9,
+  same_job old.me.0 new.me.0 (ap (λ (m : SeatState). m.0.job) is ∙ given) (ap (λ (m : SeatState). m.0.workers) is ∙ workers) ∙ p.9,
   subst (LooksFit setting.workers) (sym (ap (λ (m : SeatState). m.0.own.hold) is ∙ hold)) p.10,
 )
 
 -- the same, where the task stays too
 pub pass_kept : {owed : List ℕ} {published : Bool} (setting : Setting) (table : TableId) (k : ℕ) (old new : Seat Slot View) (w : View) → new.table_id ≡ old.table_id → new.me ≡ (w, old.me.1)
-    → w.workers ≡ old.me.0.workers → w.nodes ≡ old.me.0.nodes → w.room ≡ old.me.0.room → w.enrolled ≡ old.me.0.enrolled → w.own.task ≡ old.me.0.own.task → w.own.call ≡ old.me.0.own.call → w.own.hold ≡ old.me.0.own.hold → w.plan ≡ old.me.0.plan
+    → w.workers ≡ old.me.0.workers → w.nodes ≡ old.me.0.nodes → w.room ≡ old.me.0.room → w.enrolled ≡ old.me.0.enrolled → w.own.task ≡ old.me.0.own.task → w.own.call ≡ old.me.0.own.call → w.own.hold ≡ old.me.0.own.hold → w.job ≡ old.me.0.job
     → IsSeatOf setting table k old owed published → IsSeatOf setting table k new owed published
-pass_kept setting table k old new w same is workers nodes room enrolled task call hold plan p =
-    pass_stepped setting table k old new w same is workers nodes room enrolled (subst (TaskHere (job_of setting)) (sym task) p.5) call hold plan p
+pass_kept setting table k old new w same is workers nodes room enrolled task call hold given p =
+    pass_stepped setting table k old new w same is workers nodes room enrolled (subst (TaskHere (job_of setting)) (sym task) p.5) call hold given p
 
 -- a pass after a gate call, from its new view and slots
 pub pass_made : {owed owed' : List ℕ} {published published' : Bool} (setting : Setting) (table : TableId) (k : ℕ) (old new : Seat Slot View) (w : View) (xs : List (ℕ × Slot)) → new.table_id ≡ old.table_id → new.me ≡ (w, xs)
-    → w.workers ≡ old.me.0.workers → w.nodes ≡ old.me.0.nodes → w.room ≡ old.me.0.room → w.enrolled ≡ old.me.0.enrolled → w.own.task ≡ old.me.0.own.task → w.plan ≡ old.me.0.plan → HoldsSlots k (w, xs) → TracksHold w owed' published' → LooksFit setting.workers w.own.hold
+    → w.workers ≡ old.me.0.workers → w.nodes ≡ old.me.0.nodes → w.room ≡ old.me.0.room → w.enrolled ≡ old.me.0.enrolled → w.own.task ≡ old.me.0.own.task → w.job ≡ old.me.0.job → HoldsSlots k (w, xs) → TracksHold w owed' published' → LooksFit setting.workers w.own.hold
     → IsSeatOf setting table k old owed published → IsSeatOf setting table k new owed' published'
-pass_made {owed} {owed'} {published} {published'} setting table k old new w xs same is workers nodes room enrolled task plan carries remembers looks p = (
+pass_made {owed} {owed'} {published} {published'} setting table k old new w xs same is workers nodes room enrolled task given carries remembers looks p = (
   same ∙ p.0,
   p.1,
   ap (λ (m : SeatState). m.0.workers) is ∙ (workers ∙ p.2),
@@ -76,7 +79,7 @@ pass_made {owed} {owed'} {published} {published'} setting table k old new w xs s
   ap (λ (m : SeatState). m.0.room) is ∙ (room ∙ p.6),
   subst (HoldsSlots k) (sym is) carries,
   subst (λ (m : SeatState). TracksHold m.0 owed' published') (sym is) remembers,
-  ap nodes_of (ap (λ (m : SeatState). m.0.plan) is ∙ plan) ∙ p.9,
+  same_job old.me.0 new.me.0 (ap (λ (m : SeatState). m.0.job) is ∙ given) (ap (λ (m : SeatState). m.0.workers) is ∙ workers) ∙ p.9,
   subst (λ (m : SeatState). LooksFit setting.workers m.0.own.hold) (sym is) looks,
 )
 
@@ -172,6 +175,15 @@ holder_list k workers room me h is early wide roomy m =
     ∙ ap (λ (r : ℕ). (workers + 1, Slots.Book (reserved h.book r)) ∷ (workers, Slots.Vacant) ∷ vacant h.owed) roomy) in λ i. (me.0, l i)
 
 -- the content that an exchange of the head found
+pub found_slot : (m : SeatState) (v : View) (k : ℕ) (x y : Slot) (xs ys : List (ℕ × Slot)) → m ≡ (v, (k, y) ∷ xs) → m.1 ≡ (k, x) ∷ ys → y ≡ x
+found_slot m v k x y xs ys e f = ap (λ (l : List (ℕ × Slot)). (get_or l 0 (k, x)).1) (sym (ap (λ (z : SeatState). z.1) e) ∙ f)
+
+pub same_receipt : (r q : Receipt) → Slots.Receipt r ≡ Slots.Receipt q → r ≡ q
+same_receipt r q e = cc
+
+pub same_record : (a b : OpRecord) → Slots.Record a ≡ Slots.Record b → a ≡ b
+same_record a b e = cc
+
 pub found_book : (m : SeatState) (v : View) (k : ℕ) (x : Slot) (b : ReservedView) (xs ys : List (ℕ × Slot)) → m ≡ (v, (k, Slots.Book b) ∷ xs) → m.1 ≡ (k, x) ∷ ys → Slots.Book b ≡ x
 found_book m v k x b xs ys e f = ap (λ (l : List (ℕ × Slot)). (get_or l 0 (k, x)).1) (sym (ap (λ (z : SeatState). z.1) e) ∙ f)
 

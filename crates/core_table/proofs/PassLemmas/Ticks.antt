@@ -1,6 +1,5 @@
 -- What a tick leaves of a pass, whether it starts a leaf or ends it.
 use Rattle.std.proofs.Common.{ℕ, ◌≡◌, ◌<◌, ◌∙◌, Option, None, Some, List, refl, sym, ap, subst}
-use Rattle.sp_order.specs.Preorder.{nodes_of}
 use Rattle.core_model.specs.State.{CoreJob}
 use Rattle.core_model.specs.Next.{next_act}
 use Rattle.core_model.specs.declared.next.Next.{Next}
@@ -11,12 +10,12 @@ use Rattle.table_rule.specs.declared.view.View.{View}
 use Rattle.table_rule.specs.DueActs.{IsTickDue}
 use Rattle.table_rule.specs.Laws.{Laws}
 use Rattle.table_rule.specs.Plays.{SeatState}
-use Rattle.table_rule.specs.Tasks.{TaskHere, IsNext}
+use Rattle.table_rule.specs.Tasks.{TaskHere, IsNext, job_seen}
 use Rattle.table_rule.specs.Passes.{with_task}
 use Rattle.table_rule.specs.Views.{with_step}
 use Rattle.table_rule.proofs.StepLemmas.NextActs.{next_stands, next_seen}
 
-module _ (job : CoreJob) (laws : Laws job) (v : View) (xs : List (ℕ × Slot)) (tick : ℕ) (m : SeatState) (was task : Task) (planned : nodes_of v.plan ≡ job.plan) (sized : v.workers ≡ job.workers) where
+module _ (job : CoreJob) (laws : Laws job) (v : View) (xs : List (ℕ × Slot)) (tick : ℕ) (m : SeatState) (was task : Task) (known : job_seen v ≡ job) where
   -- the seat has one event more and this task, which the table may have
   abbrev IsTicked : Type 0
   IsTicked = (event : Event) × (m ≡ (with_step (with_task event task) v, xs)) × TaskHere job task
@@ -32,13 +31,13 @@ module _ (job : CoreJob) (laws : Laws job) (v : View) (xs : List (ℕ × Slot)) 
   ticks_by (Some (acts.Start n leaf)) here due is at low starts ends started ended =
       let stands = next_stands job laws v.own.call v.own.task (acts.Start n leaf) here due in
       let after = started n (sym at ∙ stands.0) in
-      let told = starts n leaf (next_seen job v (acts.Start n leaf) planned sized due) in
+      let told = starts n leaf (next_seen job v (acts.Start n leaf) known due) in
       let below : n < job.plan.count = subst (TaskHere job) stands.0 here in
       (Start n, told ∙ ap (λ (y : Task). (with_step (with_task (Start n) y) v, xs)) (sym after), subst (TaskHere job) (sym after) (below, low, stands.1))
   ticks_by (Some (acts.End n start)) here due is at low starts ends started ended =
       let stands = next_stands job laws v.own.call v.own.task (acts.End n start) here due in
       let after = ended n start (sym at ∙ stands) in
-      let told = ends n start (next_seen job v (acts.End n start) planned sized due) in
+      let told = ends n start (next_seen job v (acts.End n start) known due) in
       let kept : (n < job.plan.count) × (start < 80000) = subst (TaskHere job) stands here in
       (End n start, told ∙ ap (λ (y : Task). (with_step (with_task (End n start) y) v, xs)) (sym after), subst (TaskHere job) (sym after) (kept.0, kept.1, low))
   ticks_by None here due is at low starts ends started ended = absurd is

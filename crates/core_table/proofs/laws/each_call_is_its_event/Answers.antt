@@ -2,8 +2,9 @@ use Rattle.std.proofs.Common.{ℕ, ◌≡◌, ◌≤◌, Some, refl, sym, subst,
 use Rattle.sp_order.specs.declared.node.Kind.TheVariants.{LeafNode}
 use Rattle.core_model.specs.Operations.{leaf_of}
 use Rattle.core_model.specs.Events.{value_in}
+use Rattle.core_model.specs.declared.next.Next.TheVariants as acts
 use Rattle.table_rule.proofs.StepLemmas.Sides.{started_in}
-use Rattle.table_rule.proofs.StepLemmas.NextActs.{has_value, may_post}
+use Rattle.table_rule.proofs.StepLemmas.NextActs.{has_value, may_post, next_stands}
 use Rattle.table_rule.specs.Shows.{job_of, room_of}
 use Rattle.table_rule.proofs.StepLemmas.JobSteps as jobs
 use Rattle.table_rule.proofs.StepLemmas.LookSteps as looks
@@ -15,35 +16,38 @@ pub returns : goal.returns
 returns c key sound slots id k v xs is =
     let job = job_of key in
     let room = room_of key in
-    let laws = c.laws_hold.ensures key sound.few sound.leaves sound.short in record {
-      claim = λ n below idle inside. jobs.claims job room laws slots id v xs k is.worker is.to is.workers is.enrolled is.plan n below idle inside;
+    let laws = c.laws_hold.ensures key sound.few sound.leaves sound.short sound.sources in record {
+      claim = λ n below idle inside. jobs.claims job room laws slots id v xs k is.worker is.to is.workers is.enrolled is.job n below idle inside;
       claim_past_the_last = λ n past some_workers. looks.strays job room laws slots id v xs k is.worker is.to n (subst (λ (count : ℕ). count ≤ n) (sym is.nodes) past) some_workers;
-      start = λ n leaf due inside. jobs.starts job room laws slots id v xs k is.worker is.to is.workers is.enrolled is.plan n leaf is.task due inside;
-      end = λ n start due inside. jobs.ends job room laws slots id v xs k is.worker is.to is.workers is.enrolled is.plan n start is.task due inside;
-      open_side = λ n task event due inside. jobs.opens job room laws slots id v xs k is.worker is.to is.workers is.enrolled is.plan n task event is.task due inside;
+      start = λ n leaf due inside. jobs.starts job room laws slots id v xs k is.worker is.to is.workers is.enrolled is.job n leaf is.task due inside;
+      end = λ n start due inside. jobs.ends job room laws slots id v xs k is.worker is.to is.workers is.enrolled is.job n start is.task due inside;
+      open_side = λ n task event due inside. jobs.opens job room laws slots id v xs k is.worker is.to is.workers is.enrolled is.job n task event is.task due inside;
       keep = λ n start x task due inside.
           let value = has_value job laws v.own.call v.own.task x is.task due in
           let both = sym value.2 ∙ task in
           let at : value.0 ≡ n = cc in
-          jobs.keeps_value job room laws slots id v xs k is.worker is.to is.workers is.enrolled is.plan _ n start x refl task (started_in job v.own.task n start task is.task)
+          jobs.keeps_value job room laws slots id v xs k is.worker is.to is.workers is.enrolled is.job _ n start x refl task (started_in job v.own.task n start task is.task)
           (subst (λ (y : ℕ). value_in (job.act (leaf_of (job.plan.kind y))) v.own.call ≡ Some x) at value.3) inside;
-      finish = λ n event due inside. jobs.finishes job room laws slots id v xs k is.worker is.to is.workers is.enrolled is.plan n event is.task due inside;
-      arrive = λ p l r n due inside. jobs.arrives job room laws slots id v xs k is.worker is.to is.workers is.enrolled is.plan _ p l r n refl is.task due inside;
+      finish = λ n event due inside. jobs.finishes job room laws slots id v xs k is.worker is.to is.workers is.enrolled is.job n event is.task due inside;
+      arrive = λ p l r n due inside. jobs.arrives job room laws slots id v xs k is.worker is.to is.workers is.enrolled is.job _ p l r n refl is.task due inside;
       post = λ n start call task due.
-          let may = may_post job laws v.own.call v.own.task call is.task due in
+          let may = may_post job laws v.own.call v.own.told v.own.task call is.task due in
           let both = sym may.1.2 ∙ task in
           let at : may.1.0 ≡ n = cc in
           gate.posts job room laws slots id v xs k is.worker is.to call is.enrolled (n, start, task, subst (λ (y : ℕ). job.plan.kind y ≡ Some (LeafNode call.leaf)) at may.1.3, may.1.4) may.0;
       win = λ out. gate.wins job room laws slots id v xs k is.worker is.to is.workers out is.room;
-      take = λ h u holds next low. gate.looks job room laws slots id v xs k is.worker is.to h u is.room holds next low;
+      take = λ h u holds next low. gate.looks job room laws slots id v xs k is.worker is.to h u is.room is.job holds next low;
       publish = λ h batch holds due few. publishing.publishes job room laws slots id v xs k is.worker is.to h batch holds is.room due few;
       answer = λ h u call r holds low there record_ yet receipt. gate.answers job room laws slots id v xs k is.worker is.to h u call r holds low there record_ yet receipt;
       release = λ h holds due there. gate.releases_shop job room laws slots id v xs k is.worker is.to h h.book holds due.looked there due.answered refl;
       release_unserved = λ h holds due. gate.releases_both job room laws slots id v xs k is.worker is.to h h.book holds due.looked due.answered refl;
-      leave = λ out nothing. gate.leaves job room laws slots id v xs k is.worker is.to is.enrolled out nothing;
+      leave = λ out nothing. gate.leaves job room laws slots id v xs k is.worker is.to is.enrolled out nothing is.job;
       root_done = looks.looks_at_root job room laws slots id v xs k is.worker is.to _ is.workers refl laws.root;
       since = looks.hears job room laws slots id v xs k is.worker is.to is.workers;
       stop = looks.stops job room laws slots id v xs k is.worker is.to is.workers;
       stopped = looks.looks_at_stop job room laws slots id v xs k is.worker is.to is.workers;
+      source_value = λ n start leaf source op due from.
+          let stands = next_stands job laws v.own.call v.own.task (acts.Call n start leaf op) is.task due in
+          looks.looks_at_value job room laws slots id v xs k is.worker is.to _ n start leaf source is.workers is.nodes stands.0 stands.2 from refl;
       admit = publishing.admits job room laws slots id v xs k is.worker is.to _ is.workers is.room sound.workers;
     }

@@ -8,7 +8,7 @@ use Rattle.table_rule.specs.Plays.{SeatState}
 use Rattle.table_rule.specs.Shows.{among, room_of, job_of}
 use Rattle.table_rule.specs.Passes.{without_first, in_hold, after_answer, answering}
 use Rattle.table_rule.specs.Views.{with_step}
-use Rattle.table_rule.proofs.TableLemmas.Moved.{few_nodes, record_took}
+use Rattle.table_rule.proofs.TableLemmas.Moved.{record_took}
 use Rattle.core_table.proofs.ListLemmas.Owed.{to_front, to_places, owes_answered, remembers_hold}
 use Rattle.core_table.proofs.PassLemmas.PassKept.{held_out, looks_at, looks_after, pass_made, first, swapped, holder_after, carries_answered}
 use Rattle.table_rule.proofs.StepLemmas.GateSteps.{answers_at}
@@ -45,7 +45,7 @@ store-requires c =
     let list = c.turn_by.ensures.me ∙ (ap (λ (s : SeatState). (s.0, turns c.first_place-at.result s.1)) (holder_after pass.worker workers old.me h h.owed holds there refl c.requires.pass.2 c.requires.pass.7)
     ∙ ap (λ l. (v, l)) (to_front h.owed u c.first_place-at.result last at)) in
     let put = swapped c.turn_by.new.seat.me c.exchange.new.seat.me v u Slots.Vacant (Slots.Receipt c.args.receipt) tail list c.exchange.ensures.3 in
-    let laws = c.laws_hold.ensures self.setting (few_nodes self.nodes job.plan.count self.key.1 self.few.2) self.acts.0 self.acts.1 in (
+    let laws = c.laws_hold.ensures self.setting refl in (
       c.exchange.ensures.0 ∙ (c.turn_by.ensures.table.0 ∙ c.requires.pass.0),
       omega (arith, self.sized.0, c.requires.low),
       rw self.key.0 (λ a b d e f. let x = (answers_at job (room_of self.setting) laws _ _ v tail pass.worker pass.number.0 pass.number.1 _ h u due.1 c.args.receipt put holds c.requires.low there due.4 due.5 due.6) a b d e f in (x.0, x.1, x.2, x.3.0, x.4)),

@@ -8,7 +8,6 @@ use Rattle.table_rule.specs.Plays.{SeatState}
 use Rattle.table_rule.specs.Shows.{room_of, job_of}
 use Rattle.table_rule.specs.Passes.{with_task}
 use Rattle.table_rule.specs.Views.{with_step}
-use Rattle.table_rule.proofs.TableLemmas.Moved.{few_nodes}
 use Rattle.table_rule.proofs.StepLemmas.Sides.{block_in}
 use Rattle.table_rule.proofs.StepLemmas.NextActs.{next_stands, next_seen, handed_here}
 use Rattle.table_rule.proofs.StepLemmas.JobSteps.{arrives}
@@ -19,7 +18,7 @@ use Rattle.core_table.proofs.table.CoreTable.arrive.Goals as goal
 pub fetch_add-second-requires : goal.fetch_add-second-requires
 fetch_add-second-requires c =
     let self = c.args.self.now in let pass = c.args.pass.now in let job = job_of self.setting in let v = pass.seat.me.0 in
-    let laws = c.laws_hold.ensures self.setting (few_nodes self.nodes job.plan.count self.key.1 self.few.2) self.acts.0 self.acts.1 in
+    let laws = c.laws_hold.ensures self.setting refl in
     let act = acts.Arrive c.arrival_due-parent.result c.arrival_due-parent.ensures.0 c.arrival_due-parent.ensures.1 c.arrival_due-parent.ensures.2 in
     let due : next_act job v.own.task v.own.call ≡ Some act = c.arrival_due-parent.ensures.3 in
     let stands = next_stands job laws v.own.call v.own.task act c.requires.pass.5 due in
@@ -35,7 +34,7 @@ invariant_of-pass c =
     let self = c.args.self.now in let pass = c.args.pass.now in let job = job_of self.setting in let v = pass.seat.me.0 in
     let act = acts.Arrive c.arrival_due-parent.result c.arrival_due-parent.ensures.0 c.arrival_due-parent.ensures.1 c.arrival_due-parent.ensures.2 in
     let due : next_act job v.own.task v.own.call ≡ Some act = c.arrival_due-parent.ensures.3 in
-    let told = c.fetch_add-second.ensures.2 c.arrival_due-parent.result c.arrival_due-parent.ensures.0 c.arrival_due-parent.ensures.1 c.arrival_due-parent.ensures.2 (next_seen job v act c.requires.pass.9 c.requires.pass.2 due) in
+    let told = c.fetch_add-second.ensures.2 c.arrival_due-parent.result c.arrival_due-parent.ensures.0 c.arrival_due-parent.ensures.1 c.arrival_due-parent.ensures.2 (next_seen job v act c.requires.pass.9 due) in
     elim c.if-second.branch [
       | then-second w ↦
           let is = told.1 (let one = w.if-second in grind (arith, nat_tests)) in record {
@@ -54,11 +53,11 @@ invariant_of-pass c =
 pub returns-clause-pass : goal.returns-clause-pass
 returns-clause-pass c =
     let self = c.args.self.now in let pass = c.args.pass.now in let job = job_of self.setting in let v = pass.seat.me.0 in
-    let laws = c.laws_hold.ensures self.setting (few_nodes self.nodes job.plan.count self.key.1 self.few.2) self.acts.0 self.acts.1 in
+    let laws = c.laws_hold.ensures self.setting refl in
     let act = acts.Arrive c.arrival_due-parent.result c.arrival_due-parent.ensures.0 c.arrival_due-parent.ensures.1 c.arrival_due-parent.ensures.2 in
     let due : next_act job v.own.task v.own.call ≡ Some act = c.arrival_due-parent.ensures.3 in
     let stands = next_stands job laws v.own.call v.own.task act c.requires.pass.5 due in
-    let told = c.fetch_add-second.ensures.2 c.arrival_due-parent.result c.arrival_due-parent.ensures.0 c.arrival_due-parent.ensures.1 c.arrival_due-parent.ensures.2 (next_seen job v act c.requires.pass.9 c.requires.pass.2 due) in
+    let told = c.fetch_add-second.ensures.2 c.arrival_due-parent.result c.arrival_due-parent.ensures.0 c.arrival_due-parent.ensures.1 c.arrival_due-parent.ensures.2 (next_seen job v act c.requires.pass.9 due) in
     elim c.if-second.branch [
       | then-second w ↦
           let is = told.1 (let one = w.if-second in grind (arith, nat_tests)) in
@@ -72,11 +71,11 @@ returns-clause-pass c =
 pub returns-clause-first : goal.returns-clause-first
 returns-clause-first c first p l r n at =
     let self = c.args.self.now in let pass = c.args.pass.now in let job = job_of self.setting in let v = pass.seat.me.0 in
-    let told = c.fetch_add-second.ensures.2 p l r n (next_seen job v (acts.Arrive p l r n) c.requires.pass.9 c.requires.pass.2 at) in
+    let told = c.fetch_add-second.ensures.2 p l r n (next_seen job v (acts.Arrive p l r n) c.requires.pass.9 at) in
     ap (λ (m : SeatState). m.0) (told.0 (grind (arith, nat_tests)))
 
 pub returns-clause-second : goal.returns-clause-second
 returns-clause-second c second p l r n at =
     let self = c.args.self.now in let pass = c.args.pass.now in let job = job_of self.setting in let v = pass.seat.me.0 in
-    let told = c.fetch_add-second.ensures.2 p l r n (next_seen job v (acts.Arrive p l r n) c.requires.pass.9 c.requires.pass.2 at) in
+    let told = c.fetch_add-second.ensures.2 p l r n (next_seen job v (acts.Arrive p l r n) c.requires.pass.9 at) in
     ap (λ (m : SeatState). m.0) (told.1 (grind (arith, nat_tests)))

@@ -9,7 +9,6 @@ use Rattle.table_rule.specs.Tasks.{TaskHere, progress_after}
 use Rattle.table_rule.specs.Words.{progress_code}
 use Rattle.table_rule.specs.Passes.{with_task}
 use Rattle.table_rule.specs.Views.{with_step}
-use Rattle.table_rule.proofs.TableLemmas.Moved.{few_nodes}
 use Rattle.table_rule.proofs.StepLemmas.NextActs.{next_stands, next_seen, after_here}
 use Rattle.table_rule.proofs.StepLemmas.JobSteps.{finishes}
 use Rattle.core_table.proofs.PassLemmas.PassKept.{pass_stepped}
@@ -25,7 +24,7 @@ done_word-word-requires-clause-ticks c n start end is =
 pub store-requires : goal.store-requires
 store-requires c =
     let self = c.args.self.now in let pass = c.args.pass.now in let job = job_of self.setting in let v = pass.seat.me.0 in
-    let laws = c.laws_hold.ensures self.setting (few_nodes self.nodes job.plan.count self.key.1 self.few.2) self.acts.0 self.acts.1 in
+    let laws = c.laws_hold.ensures self.setting refl in
     let act = acts.Finish c.finish_due-node.result c.finish_due-node.ensures.0 in
     let due : next_act job v.own.task v.own.call ≡ Some act = c.finish_due-node.ensures.1 in
     let stands = next_stands job laws v.own.call v.own.task act c.requires.pass.5 due in let below = stands.below in
@@ -41,7 +40,7 @@ invariant_of-pass c =
     let self = c.args.self.now in let pass = c.args.pass.now in let job = job_of self.setting in let v = pass.seat.me.0 in
     let act = acts.Finish c.finish_due-node.result c.finish_due-node.ensures.0 in
     let due : next_act job v.own.task v.own.call ≡ Some act = c.finish_due-node.ensures.1 in
-    let is = c.store.ensures.2 c.finish_due-node.result c.finish_due-node.ensures.0 (next_seen job v act c.requires.pass.9 c.requires.pass.2 due) in record {
+    let is = c.store.ensures.2 c.finish_due-node.result c.finish_due-node.ensures.0 (next_seen job v act c.requires.pass.9 due) in record {
       number = (ap (λ (m : SeatState). m.0.own.worker) is ∙ pass.number.0, ap (λ (m : SeatState). m.0.to) is ∙ pass.number.1);
       own = (ap (λ (m : SeatState). m.0.own.task) is ∙ sym c.task_after-pass.ensures, ap (λ (m : SeatState). m.0.own.call) is ∙ pass.own.1);
       room = pass.room;
@@ -50,15 +49,15 @@ invariant_of-pass c =
 pub returns-clause-pass : goal.returns-clause-pass
 returns-clause-pass c =
     let self = c.args.self.now in let pass = c.args.pass.now in let job = job_of self.setting in let v = pass.seat.me.0 in
-    let laws = c.laws_hold.ensures self.setting (few_nodes self.nodes job.plan.count self.key.1 self.few.2) self.acts.0 self.acts.1 in
+    let laws = c.laws_hold.ensures self.setting refl in
     let act = acts.Finish c.finish_due-node.result c.finish_due-node.ensures.0 in
     let due : next_act job v.own.task v.own.call ≡ Some act = c.finish_due-node.ensures.1 in
     let stands = next_stands job laws v.own.call v.own.task act c.requires.pass.5 due in
-    let is = c.store.ensures.2 c.finish_due-node.result c.finish_due-node.ensures.0 (next_seen job v act c.requires.pass.9 c.requires.pass.2 due) in
+    let is = c.store.ensures.2 c.finish_due-node.result c.finish_due-node.ensures.0 (next_seen job v act c.requires.pass.9 due) in
     pass_stepped self.setting _ pass.worker pass.seat c.store.new.seat (with_step (with_task c.finish_due-node.ensures.0 (task_after c.finish_due-node.result)) v) c.store.ensures.0 is refl refl refl refl (after_here job c.finish_due-node.result stands.below) refl refl refl c.requires.pass
 
 pub returns-clause-finished : goal.returns-clause-finished
 returns-clause-finished c n event at =
     let self = c.args.self.now in let pass = c.args.pass.now in let job = job_of self.setting in let v = pass.seat.me.0 in
-    let is = c.store.ensures.2 n event (next_seen job v (acts.Finish n event) c.requires.pass.9 c.requires.pass.2 at) in
+    let is = c.store.ensures.2 n event (next_seen job v (acts.Finish n event) c.requires.pass.9 at) in
     ap (λ (m : SeatState). m.0) is

@@ -1,8 +1,7 @@
-use Rattle.std.proofs.Common.{◌≡◌, ℕ, ◌<◌, subst, sym, ◌∙◌, arith, Some}
+use Rattle.std.proofs.Common.{◌≡◌, ℕ, ◌<◌, subst, sym, ◌∙◌, arith, Some, refl}
 use Rattle.core_model.specs.Operations.{leaf_of}
 use Rattle.core_model.specs.Events.{value_in}
 use Rattle.table_rule.specs.Shows.{room_of, job_of}
-use Rattle.table_rule.proofs.TableLemmas.Moved.{few_nodes}
 use Rattle.table_rule.proofs.StepLemmas.Sides.{started_in}
 use Rattle.table_rule.proofs.StepLemmas.NextActs.{has_value}
 use Rattle.table_rule.proofs.StepLemmas.JobSteps.{keeps_value}
@@ -11,7 +10,7 @@ use Rattle.core_table.proofs.table.CoreTable.keep.Goals as goal
 pub store-requires : goal.store-requires
 store-requires c =
     let self = c.args.self.now in let pass = c.args.pass.now in let job = job_of self.setting in let v = pass.seat.me.0 in
-    let laws = c.laws_hold.ensures self.setting (few_nodes self.nodes job.plan.count self.key.1 self.few.2) self.acts.0 self.acts.1 in
+    let laws = c.laws_hold.ensures self.setting refl in
     let n = c.in-Started.node in
     let due = has_value job laws v.own.call v.own.task c.args.value c.requires.pass.5 c.requires.due in
     let both = sym due.2 ∙ (pass.own.0 ∙ c.in-Started.is) in

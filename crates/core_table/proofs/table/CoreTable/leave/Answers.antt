@@ -1,21 +1,47 @@
-use Rattle.std.proofs.Common.{◌∙◌, arith}
+use Rattle.std.proofs.Common.{ℕ, ◌≡◌, ◌∙◌, Some, refl, sym, ap, subst, arith}
 use Rattle.table_rule.specs.declared.slot.Slot.TheVariants as Slots
 use Rattle.table_rule.specs.Shows.{room_of, job_of}
-use Rattle.table_rule.proofs.TableLemmas.Moved.{few_nodes}
-use Rattle.core_table.proofs.PassLemmas.PassKept.{first}
+use Rattle.core_table.proofs.PassLemmas.PassKept.{first, swapped, found_slot, same_receipt}
 use Rattle.table_rule.proofs.StepLemmas.GateSteps.{leaves}
+use Rattle.core_model.specs.State.{CoreJob}
+use Rattle.core_model.specs.Entries.{StandsAt}
+use Rattle.core_model.specs.Operations.{op_of}
+use Rattle.table_rule.specs.Passes.{leaving}
+use Rattle.table_rule.specs.Plays.{SeatState}
+use Rattle.table_rule.specs.Shows.{entry_of}
+use Rattle.table_rule.specs.Views.{with_step}
 use Rattle.core_table.proofs.table.CoreTable.leave.Goals as goal
 
 pub compare_exchange-seen-requires : goal.compare_exchange-seen-requires
 compare_exchange-seen-requires c =
     let self = c.args.self.now in let pass = c.args.pass.now in let job = job_of self.setting in let v = pass.seat.me.0 in
-    let laws = c.laws_hold.ensures self.setting (few_nodes self.nodes job.plan.count self.key.1 self.few.2) self.acts.0 self.acts.1 in (
+    let laws = c.laws_hold.ensures self.setting refl in (
       c.requires.pass.0,
       omega (arith, self.sized.0, c.requires.pass.1),
-      rw self.key.0 (λ a b d e f. let x = (leaves job (room_of self.setting) laws _ _ v pass.seat.me.1 pass.worker pass.number.0 pass.number.1 c.requires.pass.4 (c.requires.trapped) c.requires.idle) a b d e f in (x.0, x.1, x.2, x.3.0, x.4)),
+      rw self.key.0 (λ a b d e f. let x = (leaves job (room_of self.setting) laws _ _ v pass.seat.me.1 pass.worker pass.number.0 pass.number.1 c.requires.pass.4 (c.requires.trapped) c.requires.idle c.requires.pass.9) a b d e f in (x.0, x.1, x.2, x.3.0, x.4)),
     )
 
 pub exchange-requires : goal.exchange-requires
 exchange-requires c =
     let t = c.compare_exchange-seen.ensures.2.0 c.if-seen-ne3.false in
-    (c.compare_exchange-seen.ensures.0 ∙ c.requires.pass.0, (Slots.Receipt t.1, first _ _ _ _ _ t.5.3))
+    (c.compare_exchange-seen.ensures.0 ∙ c.requires.pass.0, (Slots.Receipt t.1, first _ _ _ _ _ t.5.4))
+
+pub returns-clause-left : goal.returns-clause-left
+returns-clause-left c =
+    let old = c.args.pass.now.seat in let k = c.args.pass.now.worker in
+    let (call, receipt, posted, before, soon, (book, front, op, stands, is)) = c.compare_exchange-seen.ensures.2.0 c.if-seen-ne3.false in
+    let w = with_step (leaving call receipt book) old.me.0 in
+    let found = found_slot c.compare_exchange-seen.new.seat.me w k c.exchange.result (Slots.Receipt receipt) old.me.1 _ is c.exchange.ensures.2 in
+    let same : receipt ≡ c.in-Receipt.receipt = same_receipt receipt c.in-Receipt.receipt (found ∙ c.in-Receipt.is) in
+    let put = swapped _ _ w k (Slots.Receipt receipt) Slots.Vacant old.me.1 is c.exchange.ensures.3 in
+    rw (sym same) (
+      call,
+      posted,
+      book,
+      ap (λ (m : SeatState). m.0) put,
+      front,
+      subst (λ (j : CoreJob). op_of j book call.leaf ≡ Some call.op) c.requires.pass.9 op,
+      subst (λ (worker : ℕ). StandsAt book receipt.batch receipt.place (entry_of worker (record { call = call; receipt = receipt }))) (sym (ap (λ (m : SeatState). m.0.own.worker) put)) stands,
+      before,
+      soon,
+    )

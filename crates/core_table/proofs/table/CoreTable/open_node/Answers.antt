@@ -5,7 +5,6 @@ use Rattle.table_rule.specs.Plays.{SeatState}
 use Rattle.table_rule.specs.Shows.{room_of, job_of}
 use Rattle.table_rule.specs.Passes.{opening}
 use Rattle.table_rule.specs.Views.{with_step}
-use Rattle.table_rule.proofs.TableLemmas.Moved.{few_nodes}
 use Rattle.table_rule.proofs.StepLemmas.NextActs.{next_stands, next_seen}
 use Rattle.table_rule.proofs.StepLemmas.JobSteps.{opens}
 use Rattle.core_table.proofs.PassLemmas.PassKept.{pass_stepped}
@@ -14,7 +13,7 @@ use Rattle.core_table.proofs.table.CoreTable.open_node.Goals as goal
 pub store-requires : goal.store-requires
 store-requires c =
     let self = c.args.self.now in let pass = c.args.pass.now in let job = job_of self.setting in let v = pass.seat.me.0 in
-    let laws = c.laws_hold.ensures self.setting (few_nodes self.nodes job.plan.count self.key.1 self.few.2) self.acts.0 self.acts.1 in
+    let laws = c.laws_hold.ensures self.setting refl in
     let act = acts.Open c.side_due-side.result.node c.side_due-side.result.task c.side_due-side.ensures.0 in
     let due : next_act job v.own.task v.own.call ≡ Some act = c.side_due-side.ensures.1 in
     let stands = next_stands job laws v.own.call v.own.task act c.requires.pass.5 due in let below = stands.below in (
@@ -29,7 +28,7 @@ invariant_of-pass c =
     let self = c.args.self.now in let pass = c.args.pass.now in let job = job_of self.setting in let v = pass.seat.me.0 in
     let act = acts.Open c.side_due-side.result.node c.side_due-side.result.task c.side_due-side.ensures.0 in
     let due : next_act job v.own.task v.own.call ≡ Some act = c.side_due-side.ensures.1 in
-    let is = c.store.ensures.2 c.side_due-side.result.node c.side_due-side.result.task c.side_due-side.ensures.0 (next_seen job v act c.requires.pass.9 c.requires.pass.2 due) in record {
+    let is = c.store.ensures.2 c.side_due-side.result.node c.side_due-side.result.task c.side_due-side.ensures.0 (next_seen job v act c.requires.pass.9 due) in record {
       number = (ap (λ (m : SeatState). m.0.own.worker) is ∙ pass.number.0, ap (λ (m : SeatState). m.0.to) is ∙ pass.number.1);
       own = (ap (λ (m : SeatState). m.0.own.task) is, ap (λ (m : SeatState). m.0.own.call) is ∙ pass.own.1);
       room = pass.room;
@@ -38,17 +37,17 @@ invariant_of-pass c =
 pub returns-clause-pass : goal.returns-clause-pass
 returns-clause-pass c =
     let self = c.args.self.now in let pass = c.args.pass.now in let job = job_of self.setting in let v = pass.seat.me.0 in
-    let laws = c.laws_hold.ensures self.setting (few_nodes self.nodes job.plan.count self.key.1 self.few.2) self.acts.0 self.acts.1 in
+    let laws = c.laws_hold.ensures self.setting refl in
     let act = acts.Open c.side_due-side.result.node c.side_due-side.result.task c.side_due-side.ensures.0 in
     let due : next_act job v.own.task v.own.call ≡ Some act = c.side_due-side.ensures.1 in
     let stands = next_stands job laws v.own.call v.own.task act c.requires.pass.5 due in
-    let is = c.store.ensures.2 c.side_due-side.result.node c.side_due-side.result.task c.side_due-side.ensures.0 (next_seen job v act c.requires.pass.9 c.requires.pass.2 due) in
+    let is = c.store.ensures.2 c.side_due-side.result.node c.side_due-side.result.task c.side_due-side.ensures.0 (next_seen job v act c.requires.pass.9 due) in
     pass_stepped self.setting _ pass.worker pass.seat c.store.new.seat (with_step (opening c.side_due-side.result.node c.side_due-side.ensures.0 c.side_due-side.result.task) v) c.store.ensures.0 is refl refl refl refl stands.here refl refl refl c.requires.pass
 
 pub returns-clause-opened : goal.returns-clause-opened
 returns-clause-opened c n task event at =
     let self = c.args.self.now in let pass = c.args.pass.now in let job = job_of self.setting in let v = pass.seat.me.0 in
-    let is = c.store.ensures.2 n task event (next_seen job v (acts.Open n task event) c.requires.pass.9 c.requires.pass.2 at) in
+    let is = c.store.ensures.2 n task event (next_seen job v (acts.Open n task event) c.requires.pass.9 at) in
     let both : Some (acts.Open n task event) ≡ Some (acts.Open c.side_due-side.result.node c.side_due-side.result.task c.side_due-side.ensures.0) = sym at ∙ c.side_due-side.ensures.1 in
     let same : c.side_due-side.result.node ≡ n = cc in
     (same, ap (λ (m : SeatState). m.0) is)

@@ -1,7 +1,6 @@
 use Rattle.std.proofs.Common.{[], sym, ap, ◌∙◌, arith, refl}
 use Rattle.table_rule.specs.declared.slot.Slot.TheVariants as Slots
 use Rattle.table_rule.specs.Shows.{room_of, job_of}
-use Rattle.table_rule.proofs.TableLemmas.Moved.{few_nodes}
 use Rattle.core_table.proofs.PassLemmas.PassKept.{pass_made, first, swapped}
 use Rattle.table_rule.proofs.StepLemmas.NextActs.{may_post}
 use Rattle.table_rule.proofs.StepLemmas.GateSteps.{posts_at}
@@ -16,8 +15,8 @@ use Rattle.core_table.proofs.table.CoreTable.post.Goals as goal
 pub store-requires : goal.store-requires
 store-requires c =
     let self = c.args.self.now in let pass = c.args.pass.now in let job = job_of self.setting in let v = pass.seat.me.0 in
-    let laws = c.laws_hold.ensures self.setting (few_nodes self.nodes job.plan.count self.key.1 self.few.2) self.acts.0 self.acts.1 in
-    let may = may_post job laws v.own.call v.own.task c.args.call c.requires.pass.5 c.requires.due in
+    let laws = c.laws_hold.ensures self.setting refl in
+    let may = may_post job laws v.own.call v.own.told v.own.task c.args.call c.requires.pass.5 c.requires.due in
     let own = c.requires.pass.7.free (λ e. let f = sym may.0 ∙ e in absurd (cc)) in (
       c.exchange.ensures.0 ∙ c.requires.pass.0,
       omega (arith, self.sized.0, c.requires.pass.1),
@@ -28,8 +27,8 @@ store-requires c =
 pub invariant_of-pass : goal.invariant_of-pass
 invariant_of-pass c =
     let self = c.args.self.now in let pass = c.args.pass.now in let job = job_of self.setting in let v = pass.seat.me.0 in
-    let laws = c.laws_hold.ensures self.setting (few_nodes self.nodes job.plan.count self.key.1 self.few.2) self.acts.0 self.acts.1 in
-    let may = may_post job laws v.own.call v.own.task c.args.call c.requires.pass.5 c.requires.due in
+    let laws = c.laws_hold.ensures self.setting refl in
+    let may = may_post job laws v.own.call v.own.told v.own.task c.args.call c.requires.pass.5 c.requires.due in
     let own = c.requires.pass.7.free (λ e. let f = sym may.0 ∙ e in absurd (cc)) in
     let put = swapped pass.seat.me c.exchange.new.seat.me v pass.worker Slots.Vacant (Slots.Record c.args.call) [] (λ i. (v, own.1 i)) c.exchange.ensures.3 in
     let t = c.store.ensures.2 c.args.call (first _ _ _ _ _ put) in
@@ -42,8 +41,8 @@ invariant_of-pass c =
 pub returns : goal.returns
 returns c =
     let self = c.args.self.now in let pass = c.args.pass.now in let job = job_of self.setting in let old = pass.seat in let v = old.me.0 in
-    let laws = c.laws_hold.ensures self.setting (few_nodes self.nodes job.plan.count self.key.1 self.few.2) self.acts.0 self.acts.1 in
-    let may = may_post job laws v.own.call v.own.task c.args.call c.requires.pass.5 c.requires.due in
+    let laws = c.laws_hold.ensures self.setting refl in
+    let may = may_post job laws v.own.call v.own.told v.own.task c.args.call c.requires.pass.5 c.requires.due in
     let own = c.requires.pass.7.free (λ e. let f = sym may.0 ∙ e in absurd (cc)) in
     let put = swapped old.me c.exchange.new.seat.me v pass.worker Slots.Vacant (Slots.Record c.args.call) [] (λ i. (v, own.1 i)) c.exchange.ensures.3 in
     let t = c.store.ensures.2 c.args.call (first _ _ _ _ _ put) in

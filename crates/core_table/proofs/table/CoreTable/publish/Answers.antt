@@ -9,7 +9,6 @@ use Rattle.table_rule.specs.Plays.{SeatState}
 use Rattle.table_rule.specs.Shows.{reserved, room_of, job_of}
 use Rattle.table_rule.specs.Passes.{in_hold, after_publish, publishing}
 use Rattle.table_rule.specs.Views.{with_step}
-use Rattle.table_rule.proofs.TableLemmas.Moved.{few_nodes}
 use Rattle.core_table.proofs.PassLemmas.PassKept.{held_out, looks_at, looks_after, pass_made, first, swapped, turned_to, carries_published, holder_list, found_book, books}
 use Rattle.core_table.proofs.ListLemmas.Owed.{remembers_hold, owes_published}
 use Rattle.table_rule.proofs.ListLemmas.CallCounts.{room_few, few_batches_in}
@@ -19,7 +18,7 @@ use Rattle.core_table.proofs.table.CoreTable.publish.Goals as goal
 pub load-requires : goal.load-requires
 load-requires c =
     let self = c.args.self.now in let pass = c.args.pass.now in let job = job_of self.setting in let v = pass.seat.me.0 in
-    let laws = c.laws_hold.ensures self.setting (few_nodes self.nodes job.plan.count self.key.1 self.few.2) self.acts.0 self.acts.1 in (
+    let laws = c.laws_hold.ensures self.setting refl in (
       c.requires.pass.0,
       omega (arith, self.sized.0, c.batch_count-at.ensures, c.layout.ensures.workers),
       rw self.key.0 (λ a b d e f. let x = (admits job (room_of self.setting) laws _ _ v pass.seat.me.1 pass.worker pass.number.0 pass.number.1 _ c.requires.pass.2 c.requires.pass.6 self.few.1) a b d e f in (x.0, x.1, x.2, x.3.0, x.4)),
@@ -77,7 +76,7 @@ fetch_add-requires c =
     let put_back = swapped c.exchange.new.seat.me c.exchange-2.new.seat.me v at Slots.Vacant (Slots.Book _) tail emptied c.exchange-2.ensures.3
     ∙ ap (λ (b : ReservedView). (v, (at, Slots.Book b) ∷ tail)) whole in
     let admitted = c.load.ensures.2.1 h c.args.batch holds (subst (λ (n : ℕ). IsPublishDue n h c.args.batch) (sym c.requires.pass.2) due) in
-    let laws = c.laws_hold.ensures self.setting (few_nodes self.nodes job.plan.count self.key.1 self.few.2) self.acts.0 self.acts.1 in (
+    let laws = c.laws_hold.ensures self.setting refl in (
       c.exchange-2.ensures.0 ∙ (c.exchange.ensures.0 ∙ (c.load.ensures.0 ∙ c.requires.pass.0)),
       omega (arith, self.sized.0, place),
       rw (self.key.0, place) (λ a b d e f. let x = (publishes_at job room laws _ _ v tail pass.worker pass.number.0 pass.number.1 _ h c.args.batch (put_back ∙ ap (λ (i : ℕ). (v, (i, Slots.Book (reserved (h.book ++ c.args.batch ∷ []) room)) ∷ tail)) place)

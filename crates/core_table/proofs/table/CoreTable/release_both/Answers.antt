@@ -6,7 +6,6 @@ use Rattle.table_rule.specs.Plays.{SeatState}
 use Rattle.table_rule.specs.Shows.{reserved, room_of, job_of}
 use Rattle.table_rule.specs.Passes.{releasing}
 use Rattle.table_rule.specs.Views.{with_step}
-use Rattle.table_rule.proofs.TableLemmas.Moved.{few_nodes}
 use Rattle.core_table.proofs.ListLemmas.Owed.{owes_nobody, remembers_none}
 use Rattle.core_table.proofs.PassLemmas.PassKept.{held_out, pass_made, first, swapped, turned_to, holder_list, carries_released}
 use Rattle.table_rule.proofs.StepLemmas.GateSteps.{releases_both_at}
@@ -39,7 +38,7 @@ store-requires c =
     let after = (workers + 1, Slots.Book book) ∷ [] in
     let turned_list = turned_to old.me c.turn.new.self.me v ((workers + 1, Slots.Book book) ∷ (workers, Slots.Vacant) ∷ []) list c.turn.ensures.2 ∙ ap (λ (i : ℕ). (v, (i, Slots.Vacant) ∷ after)) (sym place) in
     let put = swapped c.turn.new.self.me c.exchange.new.seat.me v at Slots.Vacant (Slots.Shop c.args.shop) after turned_list c.exchange.ensures.3 in
-    let laws = c.laws_hold.ensures self.setting (few_nodes self.nodes job.plan.count self.key.1 self.few.2) self.acts.0 self.acts.1 in (
+    let laws = c.laws_hold.ensures self.setting refl in (
       c.exchange.ensures.0 ∙ (c.turn.ensures.0 ∙ c.requires.pass.0),
       omega (arith, self.sized.0, place),
       rw (self.key.0, place) (λ a b d e f. let x = (releases_both_at job room laws _ _ v [] pass.worker pass.number.0 pass.number.1 _ h c.args.shop (put ∙ ap (λ (i : ℕ). (v, (i, Slots.Shop c.args.shop) ∷ after)) place) holds due.looked due.answered c.requires.due.3) a b d e f in (x.0, x.1, x.2, x.3.0, x.4)),

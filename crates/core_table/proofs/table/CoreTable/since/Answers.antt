@@ -1,6 +1,5 @@
-use Rattle.std.proofs.Common.{arith}
+use Rattle.std.proofs.Common.{arith, refl}
 use Rattle.table_rule.specs.Shows.{room_of, job_of}
-use Rattle.table_rule.proofs.TableLemmas.Moved.{few_nodes}
 use Rattle.table_rule.proofs.StepLemmas.LookSteps.{hears}
 use Rattle.std.proofs.Common.{refl}
 use Rattle.table_rule.specs.Views.{with_since}
@@ -10,7 +9,7 @@ use Rattle.core_table.proofs.table.CoreTable.since.Goals as goal
 pub load-requires : goal.load-requires
 load-requires c =
     let self = c.args.self.now in let pass = c.args.pass.now in let job = job_of self.setting in let v = pass.seat.me.0 in
-    let laws = c.laws_hold.ensures self.setting (few_nodes self.nodes job.plan.count self.key.1 self.few.2) self.acts.0 self.acts.1 in (
+    let laws = c.laws_hold.ensures self.setting refl in (
       c.requires.pass.0,
       omega (arith, self.sized.0, c.batch_count-at.ensures, c.layout.ensures.workers),
       rw (self.key.0, c.batch_count-at.ensures, c.layout.ensures.workers) (λ a b d e f. let x = (hears job (room_of self.setting) laws _ _ v pass.seat.me.1 pass.worker pass.number.0 pass.number.1 c.requires.pass.2) a b d e f in (x.0, x.1, x.2, x.3.0, x.4)),

@@ -1,9 +1,8 @@
-use Rattle.std.proofs.Common.{List, ◌≡◌, ℕ, [], ◌∷◌, ◌++◌, length, subst, sym, ap, ◌∙◌, arith, refl}
+use Rattle.std.proofs.Common.{List, Some, ◌≡◌, ℕ, [], ◌∷◌, ◌++◌, length, subst, sym, ap, ◌∙◌, arith, refl}
 use Rattle.core_model.specs.declared.status.CallState.TheVariants.{Out}
 use Rattle.table_rule.specs.declared.slot.Slot.TheVariants as Slots
 use Rattle.table_rule.specs.Shows.{room_of, job_of}
-use Rattle.table_rule.proofs.TableLemmas.Moved.{few_nodes}
-use Rattle.core_table.proofs.PassLemmas.PassKept.{held_out, looks_after, pass_made, first, swapped, turned_to, carries_took, carries_passed}
+use Rattle.core_table.proofs.PassLemmas.PassKept.{held_out, looks_after, pass_made, first, swapped, turned_to, carries_took, carries_passed, found_slot, same_record}
 use Rattle.table_rule.specs.declared.view.HoldView.{HoldView}
 use Rattle.table_rule.specs.TracksHold.{Owes}
 use Rattle.core_table.proofs.ListLemmas.Owed.{remembers_hold, owes_passed, owes_taken}
@@ -11,22 +10,25 @@ use Rattle.core_table.proofs.PassLemmas.PassKept.{same_hold}
 use Rattle.table_rule.specs.Passes.{call_by, in_hold, after_take, after_pass, taking, passing}
 use Rattle.table_rule.specs.Views.{with_step, with_found}
 use Rattle.table_rule.proofs.StepLemmas.GateSteps.{looks}
+use Rattle.core_model.specs.State.{CoreJob}
+use Rattle.core_model.specs.Operations.{op_of}
+use Rattle.table_rule.specs.Plays.{SeatState, IsNewCall}
 use Rattle.core_table.proofs.table.CoreTable.take.Goals as goal
 
 pub compare_exchange-seen-requires : goal.compare_exchange-seen-requires
 compare_exchange-seen-requires c =
     let self = c.args.self.now in let pass = c.args.pass.now in let job = job_of self.setting in let v = pass.seat.me.0 in
-    let laws = c.laws_hold.ensures self.setting (few_nodes self.nodes job.plan.count self.key.1 self.few.2) self.acts.0 self.acts.1 in
+    let laws = c.laws_hold.ensures self.setting refl in
     let next = c.requires.next in (
       c.requires.pass.0,
       omega (arith, self.sized.0, c.requires.low),
-      rw self.key.0 (λ a b d e f. let x = (looks job (room_of self.setting) laws _ _ v pass.seat.me.1 pass.worker pass.number.0 pass.number.1 next.0 c.args.u c.requires.pass.6 next.1 next.2 c.requires.low) a b d e f in (x.0, x.1, x.2, x.3.0, x.4)),
+      rw self.key.0 (λ a b d e f. let x = (looks job (room_of self.setting) laws _ _ v pass.seat.me.1 pass.worker pass.number.0 pass.number.1 next.0 c.args.u c.requires.pass.6 c.requires.pass.9 next.1 next.2 c.requires.low) a b d e f in (x.0, x.1, x.2, x.3.0, x.4)),
     )
 
 pub exchange-slot-requires : goal.exchange-slot-requires
 exchange-slot-requires c =
     let e = c.compare_exchange-seen.ensures.2 in let t = e.3 c.if-seen-ne1.false in
-    (c.compare_exchange-seen.ensures.0 ∙ c.requires.pass.0, (Slots.Record t.0, first _ _ _ _ _ t.2))
+    (c.compare_exchange-seen.ensures.0 ∙ c.requires.pass.0, (Slots.Record t.0, first _ _ _ _ _ t.3))
 
 pub returns-then-seen-ne1-clause-pass : goal.returns-then-seen-ne1-clause-pass
 returns-then-seen-ne1-clause-pass c =
@@ -44,7 +46,7 @@ returns-clause-pass c =
     let e = c.compare_exchange-seen.ensures.2 in let t = e.3 c.if-seen-ne1.false in
     let w = with_step (taking (call_by u t.0)) old.me.0 in
     let out : old.me.0.own.call ≡ Out = held_out c.args.pass.now.worker old.me e.0 c.requires.pass.7 e.1 in
-    let emptied = swapped _ _ w u (Slots.Record t.0) Slots.Vacant old.me.1 t.2 c.exchange-slot.ensures.3 in
+    let emptied = swapped _ _ w u (Slots.Record t.0) Slots.Vacant old.me.1 t.3 c.exchange-slot.ensures.3 in
     let last = turned_to _ c.turn.new.self.me w ((u, Slots.Vacant) ∷ old.me.1) emptied c.turn.ensures.2 in
     pass_made c.args.self.now.setting _ c.args.pass.now.worker old c.turn.new.self w (old.me.1 ++ (u, Slots.Vacant) ∷ [])
     (c.turn.ensures.0 ∙ (c.exchange-slot.ensures.0 ∙ c.compare_exchange-seen.ensures.0)) last refl refl refl refl refl refl
@@ -63,3 +65,20 @@ push_reserved-requires c =
     let m = c.requires.pass.8.holds next.0 next.1 in
     let few = m.2.few in let long = ap (λ (l : List ℕ). length l) m.0 in
     omega (arith, few, long, next.2, c.requires.low, c.args.self.now.few.1, pass.room.0, pass.room.1)
+
+pub returns-clause-took : goal.returns-clause-took
+returns-clause-took c =
+    let old = c.args.pass.now.seat in let u = c.args.u in
+    let e = c.compare_exchange-seen.ensures.2 in let t = e.3 c.if-seen-ne1.false in
+    let w = with_step (taking (call_by u t.0)) old.me.0 in
+    let found = found_slot c.compare_exchange-seen.new.seat.me w u c.exchange-slot.result (Slots.Record t.0) old.me.1 _ t.3 c.exchange-slot.ensures.2 in
+    let same : t.0 ≡ c.in-Record.call = same_record t.0 c.in-Record.call (found ∙ c.in-Record.is) in
+    let emptied = swapped _ _ w u (Slots.Record t.0) Slots.Vacant old.me.1 t.3 c.exchange-slot.ensures.3 in
+    let last = turned_to _ c.turn.new.self.me w ((u, Slots.Vacant) ∷ old.me.1) emptied c.turn.ensures.2 in
+    rw (sym same) (
+      e.0,
+      e.1,
+      subst (λ (room : ℕ). IsNewCall room e.0 t.0) c.requires.pass.6 t.1,
+      subst (λ (j : CoreJob). op_of j e.0.book t.0.leaf ≡ Some t.0.op) c.requires.pass.9 t.2,
+      ap (λ (m : SeatState). m.0) last,
+    )

@@ -2,7 +2,6 @@ use Rattle.std.proofs.Common.{false, ◌≡◌, ℕ, ◌+◌, [], ◌∷◌, ap,
 use Rattle.core_model.specs.declared.status.CallState.TheVariants.{Out}
 use Rattle.table_rule.specs.declared.slot.Slot.TheVariants as Slots
 use Rattle.table_rule.specs.Shows.{reserved, room_of, job_of}
-use Rattle.table_rule.proofs.TableLemmas.Moved.{few_nodes}
 use Rattle.core_table.proofs.PassLemmas.PassKept.{pass_kept, pass_made, first, swapped, turned_to, carries_won}
 use Rattle.core_table.proofs.ListLemmas.Owed.{remembers_hold, owes_new}
 use Rattle.table_rule.specs.Passes.{new_hold, winning, losing}
@@ -13,7 +12,7 @@ use Rattle.core_table.proofs.table.CoreTable.win.Goals as goal
 pub compare_exchange-requires : goal.compare_exchange-requires
 compare_exchange-requires c =
     let self = c.args.self.now in let pass = c.args.pass.now in let job = job_of self.setting in let v = pass.seat.me.0 in
-    let laws = c.laws_hold.ensures self.setting (few_nodes self.nodes job.plan.count self.key.1 self.few.2) self.acts.0 self.acts.1 in (
+    let laws = c.laws_hold.ensures self.setting refl in (
       c.requires.pass.0,
       omega (arith, self.sized.0, c.flag-at.ensures, c.layout.ensures.workers),
       rw (self.key.0, c.flag-at.ensures, c.layout.ensures.workers) (λ a b d e f. let x = (wins job (room_of self.setting) laws _ _ v pass.seat.me.1 pass.worker pass.number.0 pass.number.1 c.requires.pass.2 c.requires.trapped c.requires.pass.6) a b d e f in (x.0, x.1, x.2, x.3.0, x.4)),

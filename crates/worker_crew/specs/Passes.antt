@@ -1,7 +1,7 @@
 -- When a worker may take each kind of step, and the contract of each step on the table: how it changes what is seen of
 -- the worker's pass.
-use Rattle.std.specs.Prelude.{ℕ, ◌≡◌, ◌≤◌, ◌+◌, Bool, true, false, Option, None, Some, IfSome}
-use Rattle.core_model.specs.Words.{Op}
+use Rattle.std.specs.Prelude.{ℕ, ◌≡◌, ◌≤◌, ◌+◌, Bool, true, false, List, Option, None, Some, IfSome}
+use Rattle.core_model.specs.Words.{Entry, Op}
 use Rattle.core_model.specs.declared.event.Event.TheVariants as made
 use Rattle.core_model.specs.declared.task.Task.TheVariants.{Started}
 use Rattle.core_model.specs.Entries.{StandsAt}
@@ -53,6 +53,10 @@ pub record IsLeft (receipt : Receipt) (old new : PassView) : Type 0 where
   pub left : new ≡ leaving call receipt new.book_seen old
   pub longer : IsFront old.book_seen new.book_seen
   pub stands : StandsAt new.book_seen receipt.batch receipt.place (entry_of old.worker (record { call = call; receipt = receipt }))
+
+-- the call that the pass posted last has the operation of its leaf under the book that the pass has seen
+abbrev pub HasOwnOp : (List (List Entry) → ℕ → Option Op) → PassView → Type 0
+HasOwnOp op_of p = (call : OpRecord) × (p.posted ≡ Some call) × (op_of p.book_seen call.leaf ≡ Some call.op)
 
 -- A receipt may have this batch number: at least every answer of `since` before the post, and at most one more than the
 -- least answer after it, if there is one.

@@ -1,5 +1,6 @@
 //! `CoreTable` implements the `Table` trait.
 ghost use Rattle.std.specs.Prelude.{◌≡◌, true};
+ghost use Rattle.core_model.specs.Operations.{op_of};
 ghost use Rattle.core_table.specs.Passes.{IsPassOf, job_in, next_in, pass_view, view};
 
 use crate::table::Table;
@@ -21,6 +22,10 @@ impl Table for CoreTable {
     ghost workers = { λ table. (job_in table).workers };
 
     ghost next_of = { λ table pass. next_in table pass };
+
+    ghost source_of = { λ table. (job_in table).source };
+
+    ghost op_of = { λ table book leaf. op_of (job_in table) book leaf };
 
     ghost just_posted = { λ pass. (view pass).just_posted ≡ true };
 
@@ -64,6 +69,14 @@ impl Table for CoreTable {
 
     fn root_done(&self, pass: &mut Pass) -> bool {
         CoreTable::root_done(self, pass)
+    }
+
+    fn source(&self, leaf: u32) -> Option<u32> {
+        CoreTable::source(self, leaf)
+    }
+
+    fn source_value(&self, pass: &mut Pass) -> u64 {
+        CoreTable::source_value(self, pass)
     }
 
     fn post(&self, pass: &mut Pass, leaf: u32, op: Op) {

@@ -1,7 +1,7 @@
 //! The interface of the shared table: what a worker's turns need of it.
-ghost use Rattle.std.specs.Prelude.{◌≡◌, ◌≢◌, ◌<◌, ℕ, true, false, Some, Option};
+ghost use Rattle.std.specs.Prelude.{◌≡◌, ◌≢◌, ◌<◌, ℕ, true, false, Some, List, Option};
 ghost use Rattle.std.specs.Prelude.{IfSome, IfNone, IfOk, IfErr, IsNone};
-ghost use Rattle.worker_crew.specs.Words.{Task as TaskOf, Idle};
+ghost use Rattle.worker_crew.specs.Words.{Entry, Op as OpOf, Task as TaskOf, Idle};
 ghost use Rattle.core_model.specs.declared.event.Event.{Event};
 ghost use Rattle.core_model.specs.declared.event.Event.TheVariants as events;
 ghost use Rattle.core_model.specs.declared.next.Next.{Next as NextOf};
@@ -11,12 +11,12 @@ ghost use Rattle.core_model.specs.Events.{task_after};
 ghost use Rattle.worker_crew.specs.Holds.{IsLooking, IsPublishDue, IsAnswerDue, IsReleaseDue};
 ghost use Rattle.worker_crew.specs.Holds.{StayFit};
 ghost use Rattle.table_rule.specs.declared.view.PassView.{PassView};
-ghost use Rattle.table_rule.specs.Passes.{claiming, refusing, with_task, opening, stopping, finding_stop, finding_none};
+ghost use Rattle.table_rule.specs.Passes.{claiming, refusing, with_task, opening, telling, stopping, finding_stop, finding_none};
 ghost use Rattle.table_rule.specs.Passes.{hearing, staying, winning, losing, taking, passing};
 ghost use Rattle.table_rule.specs.Passes.{publishing, answering, releasing};
 ghost use Rattle.worker_crew.specs.Passes.{IsFree, IsTrapped, IsHeld, HasKept, HasPosted};
-ghost use Rattle.table_rule.specs.DueActs.{IsTickDue, IsOpenDue, IsKeepDue, IsPostDue, IsFinishDue, IsArriveDue};
-ghost use Rattle.worker_crew.specs.Passes.{IsLeft, IsDue, IsFront};
+ghost use Rattle.table_rule.specs.DueActs.{IsTickDue, IsOpenDue, IsSourceDue, IsKeepDue, IsPostDue, IsFinishDue, IsArriveDue};
+ghost use Rattle.worker_crew.specs.Passes.{IsLeft, IsDue, IsFront, HasOwnOp};
 
 use batch_history::Batch;
 use core_model::{Next, Receipt};
@@ -40,6 +40,12 @@ pub trait Table {
 
     /// The next act of a pass, by its task and the state of its call.
     ghost next_of: { Self → PassView → Option NextOf };
+
+    /// The source of a leaf: the leaf whose reply is the argument of its call.
+    ghost source_of: { Self → ℕ → Option ℕ };
+
+    /// The operation of a leaf's call under a book.
+    ghost op_of: { Self → List (List Entry) → ℕ → Option OpOf };
 
     /// The latest step of the pass was a post.
     ghost just_posted: { Self.Pass → Type 0 };
@@ -136,11 +142,26 @@ pub trait Table {
         ensures looked { seen pass.new ≡ seen pass.old }
         ensures done { result ≡ true → saw_done pass.new };
 
-    /// Posts the call of the started leaf. From here to its receipt the worker is trapped.
+    /// The source of a leaf, `None` if it has none.
+    fn source(&self, leaf: u32) -> Option<u32>
+        ensures { result ≡ source_of self.now leaf };
+
+    /// The value of the source of the leaf that is to call.
+    fn source_value(&self, pass: &mut Self::Pass) -> u64
+        requires pass { gave self.now pass.old }
+        requires free { IsFree (seen pass.old) }
+        requires due { IsSourceDue (source_of self.now) (next_of self.now (seen pass.old)) }
+        ensures pass { gave self.now pass.new }
+        ensures told { seen pass.new ≡ telling result (seen pass.old) }
+        ensures next { next_of self.now (seen pass.new) ≡ next_of self.now (seen pass.old) };
+
+    /// Posts the call of the started leaf, with the value that `source_value` told if the leaf has a source. From here
+    /// to its receipt the worker is trapped.
     fn post(&self, pass: &mut Self::Pass, leaf: u32, op: Op)
         requires pass { gave self.now pass.old }
         requires free { IsFree (seen pass.old) }
-        requires due { IsPostDue (next_of self.now (seen pass.old)) (record { leaf = leaf; op = op }) }
+        requires due { IsPostDue (source_of self.now) (seen pass.old).told (next_of self.now (seen pass.old))
+            (record { leaf = leaf; op = op }) }
         ensures pass { gave self.now pass.new }
         ensures posted { HasPosted leaf op (seen pass.old) (seen pass.new) }
         ensures just_posted { just_posted pass.new };
@@ -159,6 +180,7 @@ pub trait Table {
         ensures pass { gave self.now pass.new }
         ensures left { IfOk result (λ receipt. IsLeft receipt (seen pass.old) (seen pass.new)
             × IsDue receipt.batch (seen pass.old)) }
+        ensures own { IfOk result (λ receipt. HasOwnOp (op_of self.now) (seen pass.new)) }
         ensures stays { IfErr result (λ status. (status ≢ 3)
             × (seen pass.new ≡ staying (seen pass.old))) };
 

@@ -20,7 +20,7 @@ returns-in-Ok-clause-fit c =
     let few = calls_few (job_in table) (job_tree (planned_in table)) (c.plan_stands_for_tree.ensures (job_tree (planned_in table))) in
     let acts = table.acts in
     let workers = table.few in
-    take_fits t.0 c.args.u (call_count (job_in table)) c.in-Ok.call old.hold (pass_view c.take.new.pass).hold t.1 (ap (λ (p : PassView). p.hold) (own_of _ _ t.3)) t.2
+    take_fits t.0 c.args.u (call_count (job_in table)) c.in-Ok.call old.hold (pass_view c.take.new.pass).hold t.1 (ap (λ (p : PassView). p.hold) (own_of _ _ t.4)) t.2
     (omega (arith, few, acts.0, acts.1)) next (omega (arith, below, workers.1))
 
 pub returns-in-Err-clause-fit : goal.returns-in-Err-clause-fit

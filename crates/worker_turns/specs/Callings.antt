@@ -3,7 +3,6 @@ use Rattle.std.specs.Prelude.{ℕ, ◌≡◌, Option, Some, List, [], ◌∷◌,
 use Rattle.core_model.specs.Entries.{StandsAt}
 use Rattle.core_model.specs.declared.next.Next.{Next}
 use Rattle.core_model.specs.declared.next.Next.TheVariants as acts
-use Rattle.table_rule.specs.DueActs.{IsPostDue}
 use Rattle.core_model.specs.Words.{Op, Entry}
 use Rattle.core_model.specs.declared.event.Event.TheVariants.{Post, Leave}
 use Rattle.core_model.specs.declared.task.Task.TheVariants.{Started}
@@ -15,11 +14,11 @@ abbrev pub IsCallDue : ℕ → Option Next → Type 0
 IsCallDue leaf (Some (acts.Call n start u op)) = u ≡ leaf
 IsCallDue leaf _ = ⊥
 
--- The call of this leaf was due, with some operation. At the receipt's batch and place, the book has the entry with
--- this leaf, this worker, that operation and the receipt's reply.
-abbrev pub IsServedAs : Option Next → ℕ → ℕ → Receipt → List (List Entry) → Type 0
-IsServedAs due leaf worker receipt book =
-    (op : Op) × IsPostDue due (record { leaf = leaf; op = op })
+-- At the receipt's batch and place, the book has the entry with this leaf, this worker, the operation of the leaf under
+-- the book, and the receipt's reply.
+abbrev pub IsServedAs : (List (List Entry) → ℕ → Option Op) → ℕ → ℕ → Receipt → List (List Entry) → Type 0
+IsServedAs op_of leaf worker receipt book =
+    (op : Op) × (op_of book leaf ≡ Some op)
     × StandsAt book receipt.batch receipt.place (record { leaf = leaf; worker = worker; op = op; reply = receipt.reply })
 
 -- the receipt of this leaf's call is the latest of those left

@@ -1,14 +1,14 @@
 -- The path of a trapped worker's turn, for each answer: its steps from the worker's old view to the new one.
-use Rattle.std.specs.Prelude.{ℕ, ◌≡◌, ◌≤◌, ◌⊎◌, None, List}
+use Rattle.std.specs.Prelude.{ℕ, ◌≡◌, ◌≤◌, ◌⊎◌, None, List, Option}
 use Rattle.two_deques.specs.declared.spot.Spot.{Spot}
-use Rattle.core_model.specs.Words.{Entry}
+use Rattle.core_model.specs.Words.{Entry, Op}
 use Rattle.worker_turns.specs.declared.attempts.PieceAttempt.{PieceAttempt}
 use Rattle.worker_turns.specs.declared.attempts.PieceAttempt.TheVariants.{Ran}
 use Rattle.worker_turns.specs.declared.trapped.Trapped.{Trapped}
 use Rattle.worker_turns.specs.declared.trapped.Trapped.TheVariants.{Left, Piece, Launched, Nothing}
 use Rattle.table_rule.specs.declared.view.PassView.{PassView}
 use Rattle.table_rule.specs.Passes.{finding_none, staying, losing, winning}
-use Rattle.worker_crew.specs.Passes.{IsLeft, IsDue, IsFront}
+use Rattle.worker_crew.specs.Passes.{IsLeft, IsDue, IsFront, HasOwnOp}
 use Rattle.worker_crew.specs.Workers.{MeSeen}
 use Rattle.worker_turns.specs.Pieces.{NotRan, IsOwnPiece, IsOtherPiece}
 use Rattle.worker_turns.specs.Stops.{unstopped}
@@ -67,6 +67,13 @@ pub record IsCallSame (old new : PassView) : Type 0 where
   pub before : new.before ≡ old.before
   pub after : new.after ≡ old.after
   pub first : new.first_since ≡ old.first_since
+
+-- after a leave, the call that the worker posted last has the operation of its leaf under the book seen
+abbrev pub LeftOwnOp : (List (List Entry) → ℕ → Option Op) → Trapped → PassView → Type 0
+LeftOwnOp op_of (Left receipt) new = HasOwnOp op_of new
+LeftOwnOp op_of Piece new = Unit {0}
+LeftOwnOp op_of Launched new = Unit {0}
+LeftOwnOp op_of Nothing new = Unit {0}
 
 -- The effect of a trapped turn on the pass, by its answer: a leave after one look at the stop word, with a receipt
 -- whose batch number is in the range that `since` allows; or no change but those of `IsCallSame`.

@@ -1,5 +1,6 @@
 //! A call of a shared object, from its post to its receipt.
-ghost use Rattle.std.specs.Prelude.{◌≡◌, ◌≤◌, ◌<◌, ◌+◌, Some, [], IfOk, IfErr};
+ghost use Rattle.std.specs.Prelude.{ℕ, ◌≡◌, ◌≤◌, ◌<◌, ◌+◌, Some, [], IfOk, IfErr};
+ghost use Rattle.core_model.specs.declared.next.Next.TheVariants as acts;
 ghost use Rattle.worker_crew.specs.Words.{Got};
 ghost use Rattle.piece_board.specs.Boards.{desk_view};
 ghost use Rattle.two_deques.specs.Hands.{held};
@@ -17,9 +18,13 @@ use bt_io::{Pause, Point};
 use core_model::{Next, Receipt};
 use crossbeam_utils::Backoff;
 use seq_objects::Op;
+use sp_order::with_argument;
 use std::alloc::Global;
 use std::sync::Wait;
 use worker_crew::{Crew, Me, Stop, Table};
+
+/// The number of arguments: of a value its low 32 bits are the argument.
+const ARGUMENTS: u64 = 1 << 32;
 
 /// The receipt of a call, and the number of batches published at a look just after the post.
 #[derive(Clone, Copy)]
@@ -28,12 +33,13 @@ pub struct Called {
     pub receipt: Receipt,
 }
 
-/// The operation of the due call.
-fn op_due<T: Table>(table: &T, pass: &T::Pass, leaf: u32) -> Op
+/// The operation of the act that is due, a call of this leaf.
+fn op_in_act<T: Table>(table: &T, pass: &T::Pass, leaf: u32) -> Op
     requires pass { T.gave table.now pass.now }
     requires free { IsFree (T.seen pass.now) }
     requires due { IsCallDue leaf (T.next_of table.now (T.seen pass.now)) }
-    ensures { IsPostDue (T.next_of table.now (T.seen pass.now)) (record { leaf = leaf; op = result }) }
+    ensures { (n : ℕ) × (start : ℕ) × (T.next_of table.now (T.seen pass.now)
+        ≡ Some (acts.Call n start leaf result)) }
 {
     match table.next(pass) {
         Some(
@@ -46,6 +52,24 @@ fn op_due<T: Table>(table: &T, pass: &T::Pass, leaf: u32) -> Op
         ) => op,
         _ => unreachable!(),
     }
+}
+
+/// The operation of the due call: that of its act, or with a source that with the value of the source as its argument.
+fn op_due<T: Table>(table: &T, pass: &mut T::Pass, leaf: u32) -> Op
+    requires pass { T.gave table.now pass.old }
+    requires free { IsFree (T.seen pass.old) }
+    requires due { IsCallDue leaf (T.next_of table.now (T.seen pass.old)) }
+    ensures pass { T.gave table.now pass.new }
+    ensures due { IsPostDue (T.source_of table.now) (T.seen pass.new).told
+        (T.next_of table.now (T.seen pass.new)) (record { leaf = leaf; op = result }) }
+    ensures seen { T.seen pass.new ≡ record (T.seen pass.old) { told = (T.seen pass.new).told } }
+{
+    let op = op_in_act(table, pass, leaf);
+    if table.source(leaf).is_none() {
+        return op;
+    }
+    let value = table.source_value(pass);
+    with_argument(op, (value % ARGUMENTS) as u32)
 }
 
 /// Makes the call of a leaf, with the operation that the table names: posts it, and takes trapped turns until the
@@ -66,8 +90,7 @@ pub fn call<T: Table, G: Pause, R: Wait>(
     ensures pass { T.gave crew.now.table me.new.pass }
     ensures me { IfOk result (λ _.
         IsMeOf (T.gave crew.now.table) T.seen crew.now.decks crew.now.board me.new) }
-    ensures stands { IfOk result (λ called. IsServedAs
-        (T.next_of crew.now.table (T.seen me.old.pass))
+    ensures stands { IfOk result (λ called. IsServedAs (T.op_of crew.now.table)
         leaf (T.seen me.old.pass).worker called.receipt (T.seen me.new.pass).book_seen) }
     ensures first { IfOk result (λ called. (T.seen me.new.pass).first_since ≡ Some called.since) }
     ensures soon { IfOk result (λ called. called.receipt.batch ≤ called.since + 1) }
@@ -88,7 +111,7 @@ pub fn call<T: Table, G: Pause, R: Wait>(
     ensures helps { IfOk result (λ _. Helps (desk_view me.old.desk) (desk_view me.new.desk)) }
     ensures stopped { IfErr result (λ stop. IsStop stop (T.seen me.old.pass) (T.seen me.new.pass)) }
 {
-    let op = op_due(&crew.table, &me.pass, leaf);
+    let op = op_due(&crew.table, &mut me.pass, leaf);
     crew.table.post(&mut me.pass, leaf, op);
     let since = crew.table.since(&mut me.pass);
     crew.pause.at(Point::Posted(leaf), me.hand.worker());

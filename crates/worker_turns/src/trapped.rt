@@ -5,7 +5,7 @@ ghost use Rattle.two_deques.specs.Hands.{held};
 ghost use Rattle.worker_crew.specs.Passes.{IsTrapped};
 ghost use Rattle.worker_crew.specs.Workers.{me_seen, IsMeOf};
 ghost use Rattle.worker_turns.specs.Stops.{IsStop};
-ghost use Rattle.worker_turns.specs.Trapped.{IsTrappedTurn, StaysTrapped};
+ghost use Rattle.worker_turns.specs.Trapped.{IsTrappedTurn, LeftOwnOp, StaysTrapped};
 ghost use Rattle.worker_turns.specs.Free.{Helps};
 
 use crate::attempts::PieceAttempt;
@@ -50,6 +50,7 @@ pub fn trapped_turn<T: Table, G: Pause, R: Wait>(
         (me_seen T.seen me.old) (me_seen T.seen me.new)) }
     ensures stays { IfOk result (λ turn. StaysTrapped turn
         (T.seen me.old.pass) (T.seen me.new.pass)) }
+    ensures own { IfOk result (λ turn. LeftOwnOp (T.op_of crew.now.table) turn (T.seen me.new.pass)) }
     ensures looked { IfOk result (λ _.
         (T.seen me.old.pass).stop_looks < (T.seen me.new.pass).stop_looks) }
     ensures free { IfOk result (λ _. (desk_view me.new.desk).posted ≡ []) }

@@ -1,5 +1,5 @@
 -- One step after another of a task that is carried on.
-use Rattle.std.proofs.Common.{◌≡◌, ◌<◌, ℕ, ◌+◌, Bool, true, false, List, [], ◌∷◌, ◌++◌, length, sym, refl, ap, ◌∙◌, arith, append_assoc, append-nil, length-append}
+use Rattle.std.proofs.Common.{◌≡◌, ◌<◌, ℕ, ◌+◌, Bool, true, false, Option, List, [], ◌∷◌, ◌++◌, length, sym, refl, ap, ◌∙◌, arith, append_assoc, append-nil, length-append}
 use Rattle.std.specs.Prelude.{Result, Ok, Err, OnOk, is_err}
 use Rattle.core_model.specs.declared.event.Event.TheVariants.{Post, Leave}
 use Rattle.core_model.specs.declared.task.Task.TheVariants.{Started}
@@ -84,8 +84,8 @@ carried_call old new job longer looked events core desk = record {
   desk = desk;
 }
 
-pub carried_step : (old new : MeSeen) (task : Task) (call : CallState) (events : List Event) → new.pass ≡ record old.pass { task = task; call = call; events = old.pass.events ++ events } → new.core ≡ old.core → new.desk ≡ old.desk → RanToIdle old new
-carried_step old new task call events is core desk = record {
+pub carried_step : (old new : MeSeen) (task : Task) (call : CallState) (told : Option ℕ) (events : List Event) → new.pass ≡ record old.pass { task = task; call = call; told = told; events = old.pass.events ++ events } → new.core ≡ old.core → new.desk ≡ old.desk → RanToIdle old new
+carried_step old new task call told events is core desk = record {
   nodes = [];
   opened = ap (λ (p : PassView). p.opened) is ∙ sym (append-nil _);
   core = core_none old.core new.core core;
@@ -142,7 +142,7 @@ called receipt old mid new node start task (between, is) last = (
 )
 
 pub carried_none : (old : MeSeen) → RanToIdle old old
-carried_none old = carried_step old old old.pass.task old.pass.call [] (λ i. record old.pass { events = sym (append-nil old.pass.events) i }) refl refl
+carried_none old = carried_step old old old.pass.task old.pass.call old.pass.told [] (λ i. record old.pass { events = sym (append-nil old.pass.events) i }) refl refl
 
 -- steps after steps
 pub carried_then : (a b c : MeSeen) → RanToIdle a b → RanToIdle b c → RanToIdle a c

@@ -14,7 +14,7 @@ loop-preserved g c =
       me = turn.me;
       trapped = (ap is_trapped same.call ∙ i.trapped.0, same.hold);
       job = jobs_then _ old new i.job same.job;
-      posted = (i.posted.0, i.posted.1, same.posted ∙ i.posted.2);
+      posted = (i.posted.0, same.posted ∙ i.posted.1);
       made = (i.made.0, i.made.1, i.made.2, front_then _ _ _ i.made.3 same.events);
       looks = (let a = i.looks in let b = same.looks in omega (arith, a, b));
       left = same.left ∙ i.left;

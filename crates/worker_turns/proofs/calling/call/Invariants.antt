@@ -1,7 +1,6 @@
 use Rattle.std.proofs.Common.{ℕ, ◌≡◌, ◌≤◌, Some, [], ◌∷◌, ◌++◌}
 use Rattle.two_deques.specs.Hands.{held}
 use Rattle.piece_board.specs.Boards.{desk_view}
-use Rattle.table_rule.specs.DueActs.{IsPostDue}
 use Rattle.core_model.specs.Words.{Op}
 use Rattle.core_model.specs.declared.event.Event.TheVariants.{Post}
 use Rattle.core_model.specs.declared.task.Task.TheVariants.{Started}
@@ -16,9 +15,7 @@ invariant-loop g l = record {
   me : IsMeOf (g.T.Table.gave l.crew.table) g.T.Table.seen l.crew.decks l.crew.board l.me;
   trapped : IsTrapped (g.T.Table.seen l.me.pass);
   job : IsJobSame (g.T.Table.seen l.fn.me.pass) (g.T.Table.seen l.me.pass);
-  posted : (op : Op)
-      × IsPostDue (g.T.Table.next_of l.crew.table (g.T.Table.seen l.fn.me.pass)) (record { leaf = l.fn.leaf; op = op })
-      × ((g.T.Table.seen l.me.pass).posted ≡ Some (record { leaf = l.fn.leaf; op = op }));
+  posted : (op : Op) × ((g.T.Table.seen l.me.pass).posted ≡ Some (record { leaf = l.fn.leaf; op = op }));
   made : (node : ℕ) × (start : ℕ) × ((g.T.Table.seen l.fn.me.pass).task ≡ Started node start)
       × IsFront ((g.T.Table.seen l.fn.me.pass).events ++ Post node start ∷ []) (g.T.Table.seen l.me.pass).events;
   looks : (g.T.Table.seen l.fn.me.pass).stop_looks ≤ (g.T.Table.seen l.me.pass).stop_looks;

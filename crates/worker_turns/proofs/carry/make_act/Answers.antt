@@ -7,13 +7,13 @@ use Rattle.worker_turns.proofs.CarryLemmas.Steps.{ok_by, carried_step, carried_o
 use Rattle.worker_turns.proofs.carry.make_act.Goals as goal
 
 pub returns-in-Start-clause-carried : goal.returns-in-Start-clause-carried
-returns-in-Start-clause-carried g c = let t = c.tick.ensures.started _ _ (c.requires.due ∙ ap Some c.in-Start.is) in carried_step _ _ _ _ (_ ∷ []) t.1 refl refl
+returns-in-Start-clause-carried g c = let t = c.tick.ensures.started _ _ (c.requires.due ∙ ap Some c.in-Start.is) in carried_step _ _ _ _ _ (_ ∷ []) t.1 refl refl
 
 pub returns-in-End-clause-carried : goal.returns-in-End-clause-carried
-returns-in-End-clause-carried g c = let t = c.tick-in-End.ensures.ended _ _ (c.requires.due ∙ ap Some c.in-End.is) in carried_step _ _ _ _ (_ ∷ []) t.1 refl refl
+returns-in-End-clause-carried g c = let t = c.tick-in-End.ensures.ended _ _ (c.requires.due ∙ ap Some c.in-End.is) in carried_step _ _ _ _ _ (_ ∷ []) t.1 refl refl
 
 pub returns-in-Spin-clause-carried : goal.returns-in-Spin-clause-carried
-returns-in-Spin-clause-carried g c = let k = c.keep.ensures.kept in carried_step _ _ _ _ _ k.3 refl refl
+returns-in-Spin-clause-carried g c = let k = c.keep.ensures.kept in carried_step _ _ _ _ _ _ k.3 refl refl
 
 pub returns-in_ok-call-in-Call-clause-carried : goal.returns-in_ok-call-in-Call-clause-carried
 returns-in_ok-call-in-Call-clause-carried g c =
@@ -21,7 +21,7 @@ returns-in_ok-call-in-Call-clause-carried g c =
     carried_call _ _ e.job e.longer e.looked (front_called _ (g.T.Table.seen c.args.me.now.pass) (g.T.Table.seen c.call.new.me.pass) e.events) e.core e.helps
 
 pub returns-in-Got-clause-carried : goal.returns-in-Got-clause-carried
-returns-in-Got-clause-carried g c = let k = c.keep-in-Got.ensures.kept in carried_step _ _ _ _ _ k.3 refl refl
+returns-in-Got-clause-carried g c = let k = c.keep-in-Got.ensures.kept in carried_step _ _ _ _ _ _ k.3 refl refl
 
 pub returns-in-Finish-clause-me : goal.returns-in-Finish-clause-me
 returns-in-Finish-clause-me g c =
@@ -34,7 +34,7 @@ returns-in-Finish-clause-free_pass g c =
     (ap (λ (p : PassView). is_trapped p.call) is ∙ c.requires.free_pass.0, ap (λ (p : PassView). p.hold) is ∙ c.requires.free_pass.1)
 
 pub returns-in-Finish-clause-carried : goal.returns-in-Finish-clause-carried
-returns-in-Finish-clause-carried g c = carried_step _ _ _ _ (_ ∷ []) (c.finish.ensures.finished _ _ (c.requires.due ∙ ap Some c.in-Finish.is)) refl refl
+returns-in-Finish-clause-carried g c = carried_step _ _ _ _ _ (_ ∷ []) (c.finish.ensures.finished _ _ (c.requires.due ∙ ap Some c.in-Finish.is)) refl refl
 
 pub returns-in-Arrive-clause-me : goal.returns-in-Arrive-clause-me
 returns-in-Arrive-clause-me g c =
@@ -51,7 +51,7 @@ returns-in-Arrive-clause-free_pass g c =
 pub returns-in-Arrive-clause-carried : goal.returns-in-Arrive-clause-carried
 returns-in-Arrive-clause-carried g c =
     let due = c.requires.due ∙ ap Some c.in-Arrive.is in
-    carried_step _ _ _ _ (_ ∷ []) (arrived c.arrive.result (g.T.Table.seen c.args.me.now.pass) (g.T.Table.seen c.arrive.new.pass) _ _ _ _ (λ e. c.arrive.ensures.first e _ _ _ _ due) (λ e. c.arrive.ensures.second e _ _ _ _ due)).2 refl refl
+    carried_step _ _ _ _ _ (_ ∷ []) (arrived c.arrive.result (g.T.Table.seen c.args.me.now.pass) (g.T.Table.seen c.arrive.new.pass) _ _ _ _ (λ e. c.arrive.ensures.first e _ _ _ _ due) (λ e. c.arrive.ensures.second e _ _ _ _ due)).2 refl refl
 
 pub returns-else-is_err-clause-me : goal.returns-else-is_err-clause-me
 returns-else-is_err-clause-me g c =

@@ -1,5 +1,5 @@
 -- The nodes of the job of two adds, and the next act at each.
-use Rattle.std.proofs.Common.{ℕ, zero, suc, ◌≡◌, ◌≢◌, ◌<◌, ◌-◌, Option as Maybe, Some, List, [], ◌∷◌, refl, ap, ◌∙◌, arith}
+use Rattle.std.proofs.Common.{ℕ, zero, suc, ◌≡◌, ◌≢◌, ◌<◌, ◌-◌, Option as Maybe, None, Some, List, [], ◌∷◌, refl, ap, ◌∙◌, arith}
 use Rattle.std.proofs.lemmas.Bool.Decides.{nat_tests}
 use Rattle.std.specs.Prelude.{slice_index_or}
 use Rattle.sp_order.specs.Jobs.{tree_or_leaf}
@@ -54,6 +54,15 @@ act_at (suc (suc (suc n))) some few = absurd (omega (arith, few))
 
 pub leaf_act : (t : CoreTable) (n : ℕ) → IsTwoAdds t → 0 < n → n < 3 → (job_in t).act (n - 1) ≡ Call (CounterAdd n)
 leaf_act t n two some few = ap (λ (acts : List Act). slice_index_or acts (n - 1) (Work 0)) two.acts ∙ act_at n some few
+
+no_source_at : (n : ℕ) → 0 < n → n < 3 → slice_index_or (None ∷ None ∷ []) (n - 1) None ≡ (let none : Maybe ℕ = None in none)
+no_source_at zero some few = absurd (omega (arith, some))
+no_source_at (suc zero) some few = refl
+no_source_at (suc (suc zero)) some few = refl
+no_source_at (suc (suc (suc n))) some few = absurd (omega (arith, few))
+
+pub leaf_source : (t : CoreTable) (n : ℕ) → IsTwoAdds t → 0 < n → n < 3 → (job_in t).source (n - 1) ≡ None
+leaf_source t n two some few = ap (λ (sources : List (Maybe ℕ)). slice_index_or sources (n - 1) None) two.sources ∙ no_source_at n some few
 
 -- The next act at the nodes of this job, by the task and the call.
 module _ (t : CoreTable) (two : IsTwoAdds t) (task : Task) (call : CallState) where

@@ -1,3 +1,4 @@
 pub mod AddLemmas
 pub mod LaunchLemmas
 pub mod LeafLemmas
+pub mod SourceLemmas

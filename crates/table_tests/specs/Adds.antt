@@ -14,6 +14,7 @@ use Rattle.core_table.specs.Passes.{IsPassOf, planned_in, job_in, pass_view}
 pub record IsTwoAdds (table : CoreTable) : Type 0 where
   pub shape : (planned_in table).shape ≡ Some (par leaf leaf)
   pub acts : (planned_in table).acts ≡ Call (CounterAdd 1) ∷ Call (CounterAdd 2) ∷ []
+  pub sources : (planned_in table).sources ≡ None ∷ None ∷ []
   pub workers : (job_in table).workers ≡ 2
 
 -- the pass is one of the table, its task and its call are these, and it has not the flag

@@ -2,3 +2,4 @@
 pub mod Tables
 pub mod Adds
 pub mod Launches
+pub mod Sourced

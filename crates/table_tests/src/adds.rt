@@ -1,5 +1,5 @@
 //! The job of two adds, and the steps of its workers at its leaves.
-ghost use Rattle.std.specs.Prelude.{◌≡◌, ◌<◌, ◌∷◌, [], Some, IfOk, IfErr, IfSome, IsTrue, IsFalse};
+ghost use Rattle.std.specs.Prelude.{◌≡◌, ◌<◌, ◌∷◌, [], None, Some, IfOk, IfErr, IfSome, IsTrue, IsFalse};
 ghost use Rattle.core_model.specs.declared.status.CallState.TheVariants.{NotCalled, Out, Got};
 ghost use Rattle.core_model.specs.declared.task.Task.TheVariants.{Idle, Run, Half, Started};
 ghost use Rattle.core_table.specs.Passes.{IsPassOf, view};
@@ -19,6 +19,7 @@ use table_rule::OpRecord;
 pub(crate) fn two_adds(alloc: Global) -> Result<Job, AllocError>
     ensures tree { IfOk result (λ job. job.shape ≡ Some (par leaf leaf)) }
     ensures acts { IfOk result (λ job. job.acts ≡ Call (CounterAdd 1) ∷ Call (CounterAdd 2) ∷ []) }
+    ensures sources { IfOk result (λ job. job.sources ≡ None ∷ None ∷ []) }
 {
     let shape = Shape::Par(Box::new(alloc, Shape::Leaf)?, Box::new(alloc, Shape::Leaf)?);
     let acts = vec![in alloc; Act::Call(Op::CounterAdd(1)), Act::Call(Op::CounterAdd(2))]?;

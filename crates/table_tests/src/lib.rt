@@ -19,6 +19,8 @@ mod passes;
 #[cfg(test)]
 mod runs;
 #[cfg(test)]
+mod sourced;
+#[cfg(test)]
 mod stops;
 #[cfg(test)]
 mod threads;

@@ -1,9 +1,10 @@
 //! Two workers of a running table, each in a thread, that claim whatever node they find ready.
-ghost use Rattle.std.specs.Prelude.{◌≡◌, [], Some, IfOk};
+ghost use Rattle.std.specs.Prelude.{◌≡◌, [], Some, IfOk, IfSome};
 ghost use Rattle.piece_board.specs.Boards.{desk_view};
 ghost use Rattle.worker_crew.specs.Passes.{IsFree};
 ghost use Rattle.core_table.specs.Passes.{job_in, pass_view, IsPassOf};
 ghost use Rattle.worker_crew.specs.Workers.{IsMeOf, IsReady};
+ghost use Rattle.worker_turns.specs.Callings.{IsCallDue};
 
 use bt_io::{Pause, Point};
 use core_model::Next;
@@ -13,11 +14,31 @@ use std::alloc::Global;
 use std::sync::Wait;
 use worker_turns::{Called, Crew, Me, Stop, Table, call};
 
-/// A call that a worker made: its leaf, and what was answered.
+/// A call that a worker made: its leaf, the value of its source if it has one, and what was answered.
 #[derive(Clone, Copy)]
 pub(crate) struct Made {
     pub(crate) leaf: u32,
+    pub(crate) told: Option<u64>,
     pub(crate) called: Called,
+}
+
+/// The value of the source of the leaf that is to call, where it has one and both times that it is asked are alike.
+fn ask_twice<T: Table>(table: &T, pass: &mut T::Pass, leaf: u32) -> Option<u64>
+    requires pass { T.gave table.now pass.old }
+    requires free { IsFree (T.seen pass.old) }
+    requires due { IsCallDue leaf (T.next_of table.now (T.seen pass.old)) }
+    ensures pass { T.gave table.now pass.new }
+    ensures free { IsFree (T.seen pass.new) }
+    ensures next { T.next_of table.now (T.seen pass.new) ≡ T.next_of table.now (T.seen pass.old) }
+    ensures worker { (T.seen pass.new).worker ≡ (T.seen pass.old).worker }
+    ensures told { IfSome result (λ value. (T.seen pass.new).told ≡ Some value) }
+{
+    if table.source(leaf).is_none() {
+        return None;
+    }
+    let first = table.source_value(pass);
+    let second = table.source_value(pass);
+    if first == second { Some(second) } else { None }
 }
 
 /// Makes the worker's next act.
@@ -63,8 +84,9 @@ fn make_act<T: Table, G: Pause, R: Wait>(
             leaf,
             op: _,
         } => {
+            let told = ask_twice(&crew.table, &mut me.pass, leaf);
             let called = call(rt, alloc, crew, me, leaf)?;
-            made.push(Made { leaf, called })?;
+            made.push(Made { leaf, told, called })?;
         }
         Next::Got {
             node: _,
@@ -111,7 +133,7 @@ fn try_node<T: Table, G: Pause, R: Wait>(
 }
 
 /// Tries each node once, while it has made fewer calls than these.
-fn try_all<T: Table, G: Pause, R: Wait>(
+pub(crate) fn try_all<T: Table, G: Pause, R: Wait>(
     rt: &R,
     alloc: Global,
     crew: &Crew<T, G>,

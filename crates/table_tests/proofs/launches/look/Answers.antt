@@ -5,7 +5,7 @@ pub returns-in_ok-push-in-Ok-clause-flag : goal.returns-in_ok-push-in-Ok-clause-
 returns-in_ok-push-in-Ok-clause-flag c =
     let took = c.in-Ok.ensures.took in
     flag_took c.args.table.now c.args.node c.args.u c.args.shop.now c.args.calls.now.items c.args.pass.now c.requires.flag c.take.new.pass c.in-Ok.ensures.pass
-    c.in-Ok.call c.push.new.self.items c.requires.two c.requires.low took.0 took.1 took.2 took.3 c.in_ok-push-in-Ok.ensures.items
+    c.in-Ok.call c.push.new.self.items c.requires.two c.requires.low took.0 took.1 took.2 took.4 c.in_ok-push-in-Ok.ensures.items
 
 pub returns-in-Err-clause-flag : goal.returns-in-Err-clause-flag
 returns-in-Err-clause-flag c =

@@ -1,0 +1,34 @@
+-- The sources of the job of three calls are sources that its leaves may have.
+use Rattle.std.proofs.Common.{ℕ, zero, suc, ◌≡◌, None, Some, refl, subst, inl, inr, arith, slice_get}
+use Rattle.seq_objects.specs.declared.op.Op.TheVariants.{CounterAdd, TreeInsert, Push}
+use Rattle.sp_order.specs.Sources.{IsSource, AreSources}
+use Rattle.table_tests.specs.Sourced.{three_shape, three_acts, three_sources}
+
+second_source : IsSource (Some three_shape) three_acts 1 0
+second_source = record {
+  op = TreeInsert 0;
+  call = refl;
+  argument = refl;
+  stands_as_zero = refl;
+  calls = (CounterAdd 5, refl);
+  before = inl (inr (inr ((omega arith, omega arith), (omega arith, omega arith))));
+}
+
+third_source : IsSource (Some three_shape) three_acts 2 0
+third_source = record {
+  op = Push 0;
+  call = refl;
+  argument = refl;
+  stands_as_zero = refl;
+  calls = (CounterAdd 5, refl);
+  before = inr (inr ((omega arith, omega arith), (omega arith, omega arith)));
+}
+
+each : (leaf source : ℕ) → slice_get three_sources leaf ≡ Some (Some source) → IsSource (Some three_shape) three_acts leaf source
+each zero source is = absurd (cc)
+each (suc zero) source is = let same : 0 ≡ source = cc in subst (λ (u : ℕ). IsSource (Some three_shape) three_acts 1 u) same second_source
+each (suc (suc zero)) source is = let same : 0 ≡ source = cc in subst (λ (u : ℕ). IsSource (Some three_shape) three_acts 2 u) same third_source
+each (suc (suc (suc leaf))) source is = absurd (cc)
+
+pub are_sources : AreSources (Some three_shape) three_acts three_sources
+are_sources = record { as_many = refl; each = each }

@@ -1,0 +1,55 @@
+//! Names and their spelling.
+ghost use Rattle.std.specs.Prelude.{◌≡◌, ◌≤◌, length};
+ghost use Rattle.std.specs.List.{list_all};
+ghost use Rattle.job_names.specs.Names.{is_letter, is_in_name, is_spelled, name_of};
+
+/// A name of at most 32 bytes. Behind its own bytes there are zeros.
+#[derive(Clone, Copy, PartialEq, Eq, Hash)]
+pub struct Name {
+    pub bytes: [u8; 32],
+    pub len: u8,
+}
+
+/// Whether a byte is a letter.
+fn is_letter(byte: u8) -> bool
+    ensures { result ≡ is_letter byte }
+{
+    byte.is_ascii_lowercase()
+}
+
+/// Whether a byte may stand in a name, behind its first letter.
+fn is_in_name(byte: u8) -> bool
+    ensures { result ≡ is_in_name byte }
+{
+    is_letter(byte) || byte.is_ascii_digit() || byte == b'_'
+}
+
+/// Whether all bytes may stand in a name, behind its first letter.
+fn are_in_name(text: &[u8]) -> bool
+    ensures { result ≡ list_all (λ byte. is_in_name byte) text.now }
+{
+    text.iter().all(|byte| is_in_name(*byte))
+}
+
+/// Whether a text is spelled as a name.
+pub fn is_spelled(text: &[u8]) -> bool
+    ensures { result ≡ is_spelled text.now }
+{
+    match text {
+        [] => false,
+        [first, rest @ ..] => is_letter(*first) && (rest.len() <= 31 && are_in_name(rest)),
+    }
+}
+
+/// The name that a text of at most 32 bytes spells.
+pub fn name_of(text: &[u8]) -> Name
+    requires { length text.now ≤ 32 }
+    ensures { result ≡ name_of text.now }
+{
+    let mut bytes = [0; 32];
+    bytes[..text.len()].copy_from_slice(text);
+    Name {
+        bytes,
+        len: text.len() as u8,
+    }
+}

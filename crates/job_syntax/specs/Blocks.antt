@@ -1,5 +1,7 @@
--- How many times a block runs its items, and how deep blocks nest.
+-- How many times a block runs its items, how it treats names, and how deep blocks nest.
 use Rattle.std.specs.Prelude.{ℕ, ◌+◌, max, Some}
+use Rattle.job_names.specs.declared.kind.Kind.{Kind}
+use Rattle.job_names.specs.declared.kind.Kind.TheVariants as kind
 use Rattle.job_syntax.specs.declared.lexer.word.Word.{Word}
 use Rattle.job_syntax.specs.declared.lexer.word.Word.TheVariants.{Number}
 use Rattle.job_syntax.specs.Grammar.{Items, nothing, leaf_then, block_then, BlockKind, seq_block, par_block, for_loop, pfor_loop}
@@ -15,6 +17,13 @@ copies_of seq_block = 1
 copies_of par_block = 1
 copies_of (for_loop copies) = word_number copies
 copies_of (pfor_loop copies) = word_number copies
+
+-- how a block treats the names of its lets
+abbrev pub name_kind : BlockKind → Kind
+name_kind seq_block = kind.Series
+name_kind par_block = kind.Par
+name_kind (for_loop copies) = kind.Loop
+name_kind (pfor_loop copies) = kind.Loop
 
 -- the largest number of blocks that are open at once
 abbrev pub nesting : Items → ℕ

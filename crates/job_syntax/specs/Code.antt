@@ -5,4 +5,5 @@ pub mod Fronts
 pub mod Machine
 pub mod OpenBlocks
 pub mod Scanners
+pub mod Shown
 pub mod Steps

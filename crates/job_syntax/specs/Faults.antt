@@ -6,7 +6,9 @@ use Rattle.job_syntax.specs.declared.lexer.word.Word.TheVariants.{Open, Close, N
 use Rattle.job_syntax.specs.declared.lexer.word.WordOnLine.{WordOnLine}
 use Rattle.job_syntax.specs.declared.fault.JobFault.{JobFault}
 use Rattle.job_syntax.specs.declared.fault.JobFault.TheVariants as fault
+use Rattle.job_names.specs.declared.name.Name.{Name}
 use Rattle.job_syntax.specs.Grammar.{Items, Derives, CanGoOn}
+use Rattle.job_syntax.specs.Visibility.{Sees, IsUse, IsKnown}
 
 abbrev pub words_of : List WordOnLine → List Word
 words_of tokens = map (λ token. token.word) tokens
@@ -33,6 +35,7 @@ pub record IsClean (before : List WordOnLine) (token : WordOnLine) : Type 0 wher
   pub stands : StandsBehind before token
   pub numbers : IsTrue (has_good_numbers token.word)
   pub nests : token.word ≡ Open → open_behind 0 (words_of before) < 32
+  pub known : IsKnown (words_of before) token.word
 
 -- None of the tokens, after those of `before`, has a fault.
 abbrev pub AreClean : List WordOnLine → List WordOnLine → Type 0
@@ -40,13 +43,15 @@ AreClean before [] = Unit {0}
 AreClean before (token ∷ tokens) = IsClean before token × AreClean (before ++ token ∷ []) tokens
 
 -- The token, after those of `before`, has this fault: it cannot stand there; or it can, but its numbers are bad; or
--- they are good, but it is a `{` inside 32 blocks.
+-- they are good, but it is a `{` inside 32 blocks; or it is a use of a name that sees no let of it.
 abbrev pub Faults : List WordOnLine → WordOnLine → JobFault → Type 0
 Faults before token (fault.Grammar line) = (line ≡ token.line) × (StandsBehind before token → ⊥)
 Faults before token (fault.Number line) =
     (line ≡ token.line) × StandsBehind before token × (has_good_numbers token.word ≡ false)
 Faults before token (fault.Nesting line) =
     (line ≡ token.line) × StandsBehind before token × IsTrue (has_good_numbers token.word) × (token.word ≡ Open) × (32 ≤ open_behind 0 (words_of before))
+Faults before token (fault.Name line) =
+    (line ≡ token.line) × StandsBehind before token × (name : Name) × IsUse (words_of before) token.word name × (Sees (words_of before) name → ⊥)
 Faults before token _ = ⊥
 
 -- The fault of reading the tokens after those of `before`, which have none. Where no token has a fault, it is `Grammar`

@@ -3,17 +3,19 @@
 --
 --   job      = items
 --   items    = nothing | item items
---   item     = "work" argument | call | block
---   call     = "counter" "add" argument
---            | "stack" "push" argument | "stack" "pop"
---            | "tree" "insert" argument | "tree" "remove" argument | "tree" "find" argument | "tree" "next" argument
---            | "queue" "insert" argument | "queue" "take"
+--   item     = "work" argument | call | "let" name "=" call | block
+--   call     = "counter" "add" value
+--            | "stack" "push" value | "stack" "pop"
+--            | "tree" "insert" value | "tree" "remove" value | "tree" "find" value | "tree" "next" value
+--            | "queue" "insert" value | "queue" "take"
 --   block    = "seq" "{" items "}" | "par" "{" items "}"
 --            | "for" number "{" items "}" | "pfor" number "{" items "}"
 --   argument = number, or inside a loop a number that depends on the copy
+--   value    = argument | name
 use Rattle.std.specs.Prelude.{◌≡◌, ℕ, List, [], ◌∷◌, ◌++◌, map, Bool, true, false, ◌||◌, IsTrue}
+use Rattle.job_names.specs.declared.name.Name.{Name}
 use Rattle.job_syntax.specs.declared.lexer.word.Word.{Word}
-use Rattle.job_syntax.specs.declared.lexer.word.Word.TheVariants.{Open, Close, Work, Counter, Stack, Tree, Queue, Add, Push, Pop, Insert, Remove, Find, Next, Take, Seq, Par, For, Pfor, Number, Copies}
+use Rattle.job_syntax.specs.declared.lexer.word.Word.TheVariants.{Open, Close, Work, Counter, Stack, Tree, Queue, Add, Push, Pop, Insert, Remove, Find, Next, Take, Seq, Par, For, Pfor, Let, Equals, Number, Copies, Named}
 use Rattle.job_syntax.specs.Words.{word_of}
 
 -- an operation with an argument
@@ -27,11 +29,12 @@ pub data UnaryOp : Type 0 where
   tree_next : UnaryOp
   queue_insert : UnaryOp
 
--- an operation, with its argument if it takes one
+-- an operation, with its argument if it takes one; or a call with a name for its reply
 pub data Leaf : Type 0 where
   with_argument : UnaryOp → (argument : Word) → Leaf
   stack_pop : Leaf
   queue_take : Leaf
+  bound : Name → (call : Leaf) → Leaf
 
 -- the head of a block: its word, and for a loop the number of copies
 pub data BlockKind : Type 0 where
@@ -61,6 +64,7 @@ abbrev pub leaf_words : Leaf → List Word
 leaf_words (with_argument op argument) = unary_op_words op ++ argument ∷ []
 leaf_words stack_pop = Stack ∷ Pop ∷ []
 leaf_words queue_take = Queue ∷ Take ∷ []
+leaf_words (bound name call) = Let ∷ Named name ∷ Equals ∷ leaf_words call
 
 abbrev pub kind_words : BlockKind → List Word
 kind_words seq_block = Seq ∷ []
@@ -83,16 +87,41 @@ is_argument looped (Number number) = true
 is_argument looped (Copies copies) = looped
 is_argument looped _ = false
 
+-- the same for a call, whose argument may be a name too
+abbrev pub is_call_argument : Bool → Word → Bool
+is_call_argument looped (Named name) = true
+is_call_argument looped word = is_argument looped word
+
+-- whether an operation takes a word as its argument
+abbrev pub takes : UnaryOp → Bool → Word → Bool
+takes work looped word = is_argument looped word
+takes _ looped word = is_call_argument looped word
+
 abbrev pub is_loop : BlockKind → Bool
 is_loop seq_block = false
 is_loop par_block = false
 is_loop (for_loop copies) = true
 is_loop (pfor_loop copies) = true
 
+abbrev pub is_par : BlockKind → Bool
+is_par seq_block = false
+is_par par_block = true
+is_par (for_loop copies) = false
+is_par (pfor_loop copies) = false
+
+-- an operation that calls an object, with its argument if it takes one
+abbrev pub IsCall : Bool → Leaf → Type 0
+IsCall looped (with_argument work argument) = ⊥
+IsCall looped (with_argument op argument) = IsTrue (is_call_argument looped argument)
+IsCall looped stack_pop = Unit {0}
+IsCall looped queue_take = Unit {0}
+IsCall looped (bound name call) = ⊥
+
 abbrev pub IsLeaf : Bool → Leaf → Type 0
-IsLeaf looped (with_argument op argument) = IsTrue (is_argument looped argument)
+IsLeaf looped (with_argument op argument) = IsTrue (takes op looped argument)
 IsLeaf looped stack_pop = Unit {0}
 IsLeaf looped queue_take = Unit {0}
+IsLeaf looped (bound name call) = IsCall looped call
 
 abbrev pub IsBlockKind : BlockKind → Type 0
 IsBlockKind seq_block = Unit {0}

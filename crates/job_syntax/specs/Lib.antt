@@ -3,6 +3,7 @@
 pub mod Text
 pub mod Words
 pub mod Grammar
+pub mod Visibility
 pub mod Faults
 pub mod Blocks
 pub mod ItemsOf

@@ -1,7 +1,7 @@
 -- The view of the code's items, as derivations of the grammar.
-use Rattle.std.specs.Prelude.{List, [], ◌∷◌, Some, map}
+use Rattle.std.specs.Prelude.{List, [], ◌∷◌, Some, map, Bool, true, false}
 use Rattle.job_syntax.specs.declared.lexer.word.Word.{Word}
-use Rattle.job_syntax.specs.declared.lexer.word.Word.TheVariants.{Number, Copies}
+use Rattle.job_syntax.specs.declared.lexer.word.Word.TheVariants.{Number, Copies, Named}
 use Rattle.job_syntax.specs.declared.item.Argument.{Argument}
 use Rattle.job_syntax.specs.declared.item.Argument.TheVariants as argument
 use Rattle.job_syntax.specs.declared.item.UnaryOp.{UnaryOp}
@@ -18,6 +18,7 @@ use Rattle.job_syntax.specs.Grammar as grammar
 abbrev pub argument_word : Argument → Word
 argument_word (argument.Number number) = Number (Some number)
 argument_word (argument.Copies factor addend) = Copies (Some (factor, addend))
+argument_word (argument.Reply name) = Named name
 
 abbrev pub unary_op_of : UnaryOp → grammar.UnaryOp
 unary_op_of op.Work = grammar.work
@@ -28,6 +29,11 @@ unary_op_of op.TreeRemove = grammar.tree_remove
 unary_op_of op.TreeFind = grammar.tree_find
 unary_op_of op.TreeNext = grammar.tree_next
 unary_op_of op.QueueInsert = grammar.queue_insert
+
+-- whether a name may be the operation's argument
+abbrev pub takes_names : grammar.UnaryOp → Bool
+takes_names grammar.work = false
+takes_names _ = true
 
 abbrev pub leaf_of : Leaf → grammar.Leaf
 leaf_of (leaf.WithArgument op argument) = grammar.with_argument (unary_op_of op) (argument_word argument)
@@ -48,6 +54,7 @@ one_after_another (items ∷ more) = items then one_after_another more
 -- one level of an item, whose inner items are derivations already
 abbrev pub item_step : Item-F grammar.Items → grammar.Items
 item_step (Item-F.Leaf leaf) = grammar.leaf_then (leaf_of leaf) grammar.nothing
+item_step (Item-F.Let name call) = grammar.leaf_then (grammar.bound name (leaf_of call)) grammar.nothing
 item_step (Item-F.Block kind inside) = grammar.block_then (block_kind_of kind) (one_after_another inside.items) grammar.nothing
 
 -- the derivation of a single item

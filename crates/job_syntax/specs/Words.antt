@@ -2,9 +2,10 @@
 use Rattle.std.specs.Prelude.{ℕ, ◌+◌, ◌-◌, ◌*◌, ◌^◌, List, [], ◌∷◌, length, take, drop, map, Bool, false, ◌||◌, ◌&&◌, not, Option, Some, None, if◌then◌else◌, ◌==◌, nat_le, nat_lt, codes}
 use Rattle.std.specs.Str.{bytes_eq}
 use Rattle.std.specs.List.{list_all}
+use Rattle.job_names.specs.Names.{is_spelled, name_of}
 use Rattle.job_syntax.specs.Text.{Token, tokens}
 use Rattle.job_syntax.specs.declared.lexer.word.Word.{Word}
-use Rattle.job_syntax.specs.declared.lexer.word.Word.TheVariants.{Open, Close, Work, Counter, Stack, Tree, Queue, Add, Push, Pop, Insert, Remove, Find, Next, Take, Seq, Par, For, Pfor, Number, Copies, Other}
+use Rattle.job_syntax.specs.declared.lexer.word.Word.TheVariants.{Open, Close, Work, Counter, Stack, Tree, Queue, Add, Push, Pop, Insert, Remove, Find, Next, Take, Seq, Par, For, Pfor, Let, Equals, Number, Copies, Named, Other}
 use Rattle.job_syntax.specs.declared.lexer.word.WordOnLine.{WordOnLine}
 
 -- `0` to `9`
@@ -56,6 +57,7 @@ argument_word text =
     if are_digits text then Number (number_of text)
     else if bytes_eq text (codes "@") then Copies (Some (1, 0))
     else if bytes_eq (take 2 text) (codes "@*") then copies_word (drop 2 text)
+    else if is_spelled text then Named (name_of text)
     else Other
 
 abbrev pub word_of : List ℕ → Word
@@ -79,6 +81,8 @@ word_of text =
     else if bytes_eq text (codes "par") then Par
     else if bytes_eq text (codes "for") then For
     else if bytes_eq text (codes "pfor") then Pfor
+    else if bytes_eq text (codes "let") then Let
+    else if bytes_eq text (codes "=") then Equals
     else argument_word text
 
 -- the words of a text's tokens, each with its line

@@ -19,6 +19,8 @@ pub enum JobFault {
     Leaves { line: u32 },
     /// An argument that does not fit 32 bits in some copy.
     Argument { line: u32 },
+    /// A use of a name that sees no `let` of it.
+    Name { line: u32 },
 }
 
 impl JobFault {
@@ -34,7 +36,8 @@ impl JobFault {
             | JobFault::Number { line }
             | JobFault::Nesting { line }
             | JobFault::Leaves { line }
-            | JobFault::Argument { line } => line,
+            | JobFault::Argument { line }
+            | JobFault::Name { line } => line,
         }
     }
 
@@ -49,6 +52,7 @@ impl JobFault {
             JobFault::Nesting { .. } => "blocks nested too deep",
             JobFault::Leaves { .. } => "too many leaves",
             JobFault::Argument { .. } => "argument out of range",
+            JobFault::Name { .. } => "name not known here",
         }
     }
 }

@@ -1,11 +1,15 @@
 //! The items of a text, before its loops are expanded into copies.
 
+use job_names::{Kind, Name};
+
 /// The argument of a leaf.
 #[derive(Clone, Copy)]
 pub enum Argument {
     Number(u32),
     /// The number of the copy times a factor, plus an addend.
     Copies(u32, u32),
+    /// The reply of the call that a `let` gave this name.
+    Reply(Name),
 }
 
 /// An operation with an argument.
@@ -19,6 +23,18 @@ pub enum UnaryOp {
     TreeFind,
     TreeNext,
     QueueInsert,
+}
+
+impl UnaryOp {
+    ghost use Rattle.std.specs.Prelude.{◌≡◌};
+    ghost use Rattle.job_syntax.specs.Views.{takes_names, unary_op_of};
+
+    /// Whether a name may be its argument.
+    pub fn takes_names(self) -> bool
+        ensures { result ≡ takes_names (unary_op_of self) }
+    {
+        !matches!(self, UnaryOp::Work)
+    }
 }
 
 /// An operation, and its argument if it has one.
@@ -40,7 +56,7 @@ pub enum BlockKind {
 
 impl BlockKind {
     ghost use Rattle.std.specs.Prelude.{◌≡◌};
-    ghost use Rattle.job_syntax.specs.Blocks.{copies_of};
+    ghost use Rattle.job_syntax.specs.Blocks.{copies_of, name_kind};
     ghost use Rattle.job_syntax.specs.Grammar.{is_loop};
     ghost use Rattle.job_syntax.specs.Views.{block_kind_of};
 
@@ -60,11 +76,23 @@ impl BlockKind {
     {
         matches!(self, BlockKind::For(_) | BlockKind::Pfor(_))
     }
+
+    /// How the block treats the names of its lets.
+    pub fn name_kind(self) -> Kind
+        ensures { result ≡ name_kind (block_kind_of self) }
+    {
+        match self {
+            BlockKind::Seq => Kind::Series,
+            BlockKind::Par => Kind::Par,
+            BlockKind::For(_) | BlockKind::Pfor(_) => Kind::Loop,
+        }
+    }
 }
 
-/// A leaf, or a block and its items. Blocks nest at most 32 deep.
+/// A leaf, a call with a name for its reply, or a block and its items. Blocks nest at most 32 deep.
 #[derive(Drop)]
 pub enum Item {
     Leaf(Leaf),
+    Let(Name, Leaf),
     Block(BlockKind, Vec<Item>),
 }

@@ -1,19 +1,17 @@
 -- A state machine that reads one word at a time: the parser, as its proofs see it.
-use Rattle.std.specs.Prelude.{ℕ, List, [], ◌∷◌, Bool, false, ◌||◌, Option, Some, None, if◌then◌else◌, option_and_then, nat_le, length, Result, Ok, Err}
+pub use Rattle.job_syntax.specs.Code.Shown.{OpenBlock}
+use Rattle.std.specs.Prelude.{ℕ, List, [], ◌∷◌, Bool, true, false, ◌||◌, Option, Some, None, if◌then◌else◌, option_and_then, nat_le, length, Result, Ok, Err}
 use Rattle.job_syntax.specs.declared.lexer.word.Word.{Word}
-use Rattle.job_syntax.specs.declared.lexer.word.Word.TheVariants.{Open, Close, Work, Counter, Stack, Tree, Queue, Add, Push, Pop, Insert, Remove, Find, Next, Take, Seq, Par, For, Pfor}
+use Rattle.job_syntax.specs.declared.lexer.word.Word.TheVariants.{Open, Close, Work, Counter, Stack, Tree, Queue, Add, Push, Pop, Insert, Remove, Find, Next, Take, Seq, Par, For, Pfor, Let, Equals, Named}
 use Rattle.job_syntax.specs.declared.lexer.word.WordOnLine.{WordOnLine}
 use Rattle.job_syntax.specs.declared.fault.JobFault.{JobFault}
 use Rattle.job_syntax.specs.declared.fault.JobFault.TheVariants as fault
 use Rattle.job_syntax.specs.declared.parser.call.Object.{Object}
 use Rattle.job_syntax.specs.declared.parser.call.Object.TheVariants as object
-use Rattle.job_syntax.specs.Grammar.{Items, nothing, leaf_then, block_then, ◌then◌, BlockKind, seq_block, par_block, for_loop, pfor_loop, Leaf, with_argument, stack_pop, queue_take, UnaryOp, work, counter_add, stack_push, tree_insert, tree_remove, tree_find, tree_next, queue_insert, is_loop, is_number, is_argument}
+use Rattle.job_syntax.specs.Grammar.{Items, nothing, leaf_then, block_then, ◌then◌, BlockKind, seq_block, par_block, for_loop, pfor_loop, Leaf, with_argument, stack_pop, queue_take, UnaryOp, work, counter_add, stack_push, tree_insert, tree_remove, tree_find, tree_next, queue_insert, bound, is_loop, is_number, takes}
+use Rattle.job_names.specs.declared.name.Name.{Name}
+use Rattle.job_syntax.specs.Code.Shown.{scope_at, is_shown}
 use Rattle.job_syntax.specs.Faults.{has_good_numbers}
-
--- an open block: the items before it, and its head
-pub record OpenBlock : Type 0 where
-  pub before : Items
-  pub kind : BlockKind
 
 -- a call that still needs its argument, or a whole leaf
 pub data ParsedCall : Type 0 where
@@ -33,11 +31,27 @@ call_behind object.Queue Insert = Some (unary queue_insert)
 call_behind object.Queue Take = Some (whole queue_take)
 call_behind _ _ = None
 
--- what must come next
+-- the object that a word names, if it names one
+abbrev pub object_of : Word → Option Object
+object_of Counter = Some object.Counter
+object_of Stack = Some object.Stack
+object_of Tree = Some object.Tree
+object_of Queue = Some object.Queue
+object_of _ = None
+
+-- the leaf of a call, with the name that a `let` gave, if one did
+abbrev pub given_leaf : Option Name → Leaf → Leaf
+given_leaf None call = call
+given_leaf (Some name) call = bound name call
+
+-- what must come next; `given` is the name of the `let` before it, if there is one
 pub data Place : Type 0 where
   an_item : Place
-  an_argument : UnaryOp → Place
-  a_call : Object → Place
+  a_let_name : Place
+  an_equals : (name : Name) → Place
+  a_let_object : (name : Name) → Place
+  an_argument : (given : Option Name) → UnaryOp → Place
+  a_call : (given : Option Name) → Object → Place
   for_copies : Place
   pfor_copies : Place
   a_brace : BlockKind → Place
@@ -74,24 +88,37 @@ after_close (block ∷ blocks) items = Some (at blocks (block.before then block_
 
 abbrev pub item_step : List OpenBlock → Items → Word → Option State
 item_step blocks items Close = after_close blocks items
-item_step blocks items Work = Some (at blocks items (an_argument work))
-item_step blocks items Counter = Some (at blocks items (a_call object.Counter))
-item_step blocks items Stack = Some (at blocks items (a_call object.Stack))
-item_step blocks items Tree = Some (at blocks items (a_call object.Tree))
-item_step blocks items Queue = Some (at blocks items (a_call object.Queue))
+item_step blocks items Work = Some (at blocks items (an_argument None work))
+item_step blocks items Counter = Some (at blocks items (a_call None object.Counter))
+item_step blocks items Stack = Some (at blocks items (a_call None object.Stack))
+item_step blocks items Tree = Some (at blocks items (a_call None object.Tree))
+item_step blocks items Queue = Some (at blocks items (a_call None object.Queue))
+item_step blocks items Let = Some (at blocks items a_let_name)
 item_step blocks items Seq = Some (at blocks items (a_brace seq_block))
 item_step blocks items Par = Some (at blocks items (a_brace par_block))
 item_step blocks items For = Some (at blocks items for_copies)
 item_step blocks items Pfor = Some (at blocks items pfor_copies)
 item_step blocks items _ = None
 
-abbrev pub behind_call : List OpenBlock → Items → ParsedCall → State
-behind_call blocks items (unary op) = at blocks items (an_argument op)
-behind_call blocks items (whole leaf) = with_leaf blocks items leaf
+abbrev pub let_name_step : List OpenBlock → Items → Word → Option State
+let_name_step blocks items (Named name) = Some (at blocks items (an_equals name))
+let_name_step blocks items _ = None
 
-abbrev pub call_step : List OpenBlock → Items → Option ParsedCall → Option State
-call_step blocks items None = None
-call_step blocks items (Some call) = Some (behind_call blocks items call)
+abbrev pub equals_step : List OpenBlock → Items → Name → Word → Option State
+equals_step blocks items name Equals = Some (at blocks items (a_let_object name))
+equals_step blocks items name _ = None
+
+abbrev pub object_step : List OpenBlock → Items → Name → Option Object → Option State
+object_step blocks items name None = None
+object_step blocks items name (Some of) = Some (at blocks items (a_call (Some name) of))
+
+abbrev pub behind_call : List OpenBlock → Items → Option Name → ParsedCall → State
+behind_call blocks items given (unary op) = at blocks items (an_argument given op)
+behind_call blocks items given (whole leaf) = with_leaf blocks items (given_leaf given leaf)
+
+abbrev pub call_step : List OpenBlock → Items → Option Name → Option ParsedCall → Option State
+call_step blocks items given None = None
+call_step blocks items given (Some call) = Some (behind_call blocks items given call)
 
 abbrev pub brace_step : List OpenBlock → Items → BlockKind → Word → Option State
 brace_step blocks items kind Open = Some (after_open blocks items kind)
@@ -99,9 +126,12 @@ brace_step blocks items kind _ = None
 
 abbrev pub step_at : List OpenBlock → Items → Place → Word → Option State
 step_at blocks items an_item word = item_step blocks items word
-step_at blocks items (an_argument op) word =
-    if is_argument (are_looped blocks) word then Some (with_leaf blocks items (with_argument op word)) else None
-step_at blocks items (a_call of) word = call_step blocks items (call_behind of word)
+step_at blocks items a_let_name word = let_name_step blocks items word
+step_at blocks items (an_equals name) word = equals_step blocks items name word
+step_at blocks items (a_let_object name) word = object_step blocks items name (object_of word)
+step_at blocks items (an_argument given op) word =
+    if takes op (are_looped blocks) word then Some (with_leaf blocks items (given_leaf given (with_argument op word))) else None
+step_at blocks items (a_call given of) word = call_step blocks items given (call_behind of word)
 step_at blocks items for_copies word = if is_number word then Some (at blocks items (a_brace (for_loop word))) else None
 step_at blocks items pfor_copies word = if is_number word then Some (at blocks items (a_brace (pfor_loop word))) else None
 step_at blocks items (a_brace kind) word = brace_step blocks items kind word
@@ -114,17 +144,23 @@ abbrev pub run : Option State → List Word → Option State
 run state [] = state
 run state (word ∷ words) = run (option_and_then (λ state. step state word) state) words
 
--- a `{` is a fault where 32 blocks are open
-abbrev pub within_nesting : ℕ → ℕ → Word → State → Result State JobFault
-within_nesting line open_now Open new = if nat_le 32 open_now then Err (fault.Nesting line) else Ok new
-within_nesting line open_now _ new = Ok new
+-- whether a name in this place is known: a use is where the open blocks show a let of it, a let's own name always
+abbrev pub is_known : Place → List OpenBlock → Items → Name → Bool
+is_known (an_argument given op) blocks items name = is_shown name (scope_at blocks items)
+is_known _ blocks items name = true
+
+-- a `{` is a fault where 32 blocks are open, and a name where it is not known
+abbrev pub checked_word : ℕ → State → Word → State → Result State JobFault
+checked_word line state Open new = if nat_le 32 (length state.blocks) then Err (fault.Nesting line) else Ok new
+checked_word line state (Named name) new = if is_known state.place state.blocks state.items name then Ok new else Err (fault.Name line)
+checked_word line state _ new = Ok new
 
 -- One token and the state after it. A token that does not fit is a `Grammar` fault; else bad numbers are a `Number`
--- fault; else a `{` too many is a `Nesting` fault.
+-- fault; else a `{` too many is a `Nesting` fault, and a use of a name that is not known a `Name` fault.
 abbrev pub checked_step : State → WordOnLine → Option State → Result State JobFault
 checked_step state token None = Err (fault.Grammar token.line)
 checked_step state token (Some new) =
-    if has_good_numbers token.word then within_nesting token.line (length state.blocks) token.word new
+    if has_good_numbers token.word then checked_word token.line state token.word new
     else Err (fault.Number token.line)
 
 -- at the end of the tokens: the items, or a `Grammar` fault on line `last` where something is still open

@@ -1,4 +1,5 @@
 //! The words of the language, each with its line.
+use job_names::Name;
 
 /// What a token spells. `Number` holds `None` where its digits have a leading zero or do not fit 32 bits, and `Copies`
 /// holds `None` where those of its factor or its addend do.
@@ -23,11 +24,15 @@ pub enum Word {
     Par,
     For,
     Pfor,
+    Let,
+    Equals,
     /// A run of digits, with its value.
     Number(Option<u32>),
     /// The number of the copy times a factor, plus an addend.
     Copies(Option<(u32, u32)>),
-    /// Not a word of the language.
+    /// No word of the language, but spelled as a name.
+    Named(Name),
+    /// Neither a word of the language nor a name.
     Other,
 }
 

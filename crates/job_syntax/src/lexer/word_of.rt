@@ -3,6 +3,7 @@ ghost use Rattle.std.specs.Prelude.{◌≡◌, ◌+◌, ◌<◌, [], IfSome, IfN
 ghost use Rattle.job_syntax.specs.Words.{are_digits, begins_well, number_of, before_plus, behind_plus, copies_word, argument_word, word_of};
 
 use crate::lexer::word::Word;
+use job_names::{is_spelled, name_of};
 
 /// Whether a text is digits alone, at least one.
 fn are_digits(text: &[u8]) -> bool
@@ -77,6 +78,7 @@ fn argument_word(text: &[u8]) -> Word
     match text {
         [b'@'] => Word::Copies(Some((1, 0))),
         [b'@', b'*', rest @ ..] => copies_word(rest),
+        _ if is_spelled(text) => Word::Named(name_of(text)),
         _ => Word::Other,
     }
 }
@@ -106,6 +108,8 @@ fn quoted_word(text: &[u8]) -> Option<Word>
         b"par" => Word::Par,
         b"for" => Word::For,
         b"pfor" => Word::Pfor,
+        b"let" => Word::Let,
+        b"=" => Word::Equals,
         _ => return None,
     };
     Some(word)

@@ -3,9 +3,12 @@ ghost use Rattle.std.specs.Prelude.{◌≡◌, ◌≢◌, ◌↔◌, [], ◌∷�
 ghost use Rattle.std.specs.List.{list_any};
 ghost use Rattle.job_syntax.specs.Grammar.{is_loop};
 ghost use Rattle.job_syntax.specs.Views.{block_kind_of};
-ghost use Rattle.job_syntax.specs.Code.Machine.{start, are_looped, with_leaf, after_open, after_close};
+ghost use Rattle.job_syntax.specs.Grammar.{bound};
+ghost use Rattle.job_syntax.specs.Code.Machine.{start, are_looped, given_leaf, with_leaf, after_open, after_close};
+ghost use Rattle.job_syntax.specs.Code.Shown.{is_shown, scope_at};
 
 use crate::item::{BlockKind, Item, Leaf};
+use job_names::{Name, Scopes};
 use std::alloc::{AllocError, Global};
 use std::mem;
 
@@ -16,12 +19,14 @@ pub(crate) struct OpenBlock {
     pub(crate) kind: BlockKind,
 }
 
-/// The open blocks, the innermost last, and the items read so far inside the innermost one.
+/// The open blocks, the innermost last, the items read so far inside the innermost one, and the lets that are shown
+/// there.
 #[derive(Drop)]
 pub(crate) struct BlockStack {
     alloc: Global,
     blocks: Vec<OpenBlock>,
     items: Vec<Item>,
+    scopes: Scopes,
 }
 
 fn any_loop(blocks: &[OpenBlock]) -> bool
@@ -32,15 +37,17 @@ fn any_loop(blocks: &[OpenBlock]) -> bool
 
 impl BlockStack {
     ghost use Rattle.job_syntax.specs.Views.{items_of, leaf_of};
-    ghost use Rattle.job_syntax.specs.Code.OpenBlocks.{view};
+    ghost use Rattle.job_syntax.specs.Code.OpenBlocks.{ShowsLets, view};
 
     pub(crate) fn new(alloc: Global) -> BlockStack
-        ensures { view result ≡ start }
+        ensures view { view result ≡ start }
+        ensures shows { ShowsLets result }
     {
         BlockStack {
             alloc,
             blocks: Vec::new(alloc),
             items: Vec::new(alloc),
+            scopes: Scopes::new(alloc),
         }
     }
 
@@ -67,36 +74,79 @@ impl BlockStack {
         self.blocks.len()
     }
 
+    /// Whether a let of the name is shown.
+    pub(crate) fn shows(&self, name: Name) -> bool
+        requires { ShowsLets self.now }
+        ensures { result ≡ is_shown name (scope_at (view self.now).blocks (view self.now).items) }
+    {
+        self.scopes.look(name).is_some()
+    }
+
     /// Adds a leaf to the innermost block.
     #[tactic(auto, using(crate::proofs::ParserLemmas::OpenStacks::leaf_added))]
-    pub(crate) fn add(&mut self, leaf: Leaf) -> Result<(), AllocError>
-        ensures { OnOk result
+    fn add_leaf(&mut self, leaf: Leaf) -> Result<(), AllocError>
+        requires { ShowsLets self.old }
+        ensures view { OnOk result
             (view self.new ≡ with_leaf (view self.old).blocks (view self.old).items (leaf_of leaf)) }
+        ensures shows { OnOk result (ShowsLets self.new) }
     {
         self.items.push(Item::Leaf(leaf))?;
         Ok(())
     }
 
+    /// Adds a call with a name to the innermost block.
+    #[tactic(auto, using(crate::proofs::ParserLemmas::OpenStacks::let_added))]
+    fn add_let(&mut self, name: Name, call: Leaf) -> Result<(), AllocError>
+        requires { ShowsLets self.old }
+        ensures view { OnOk result
+            (view self.new ≡ with_leaf (view self.old).blocks (view self.old).items (bound name (leaf_of call))) }
+        ensures shows { OnOk result (ShowsLets self.new) }
+    {
+        self.items.push(Item::Let(name, call))?;
+        self.scopes.bind(name, 0)?;
+        Ok(())
+    }
+
+    /// Adds a leaf to the innermost block, with the name that is given to its reply, if there is one.
+    pub(crate) fn add(&mut self, given: Option<Name>, leaf: Leaf) -> Result<(), AllocError>
+        requires { ShowsLets self.old }
+        ensures view { OnOk result
+            (view self.new
+            ≡ with_leaf (view self.old).blocks (view self.old).items (given_leaf given (leaf_of leaf))) }
+        ensures shows { OnOk result (ShowsLets self.new) }
+    {
+        match given {
+            Some(name) => self.add_let(name, leaf),
+            None => self.add_leaf(leaf),
+        }
+    }
+
     /// Opens a block.
     #[tactic(auto, using(crate::proofs::ParserLemmas::OpenStacks::blocks_on_push))]
     pub(crate) fn open(&mut self, kind: BlockKind) -> Result<(), AllocError>
-        ensures { OnOk result
+        requires { ShowsLets self.old }
+        ensures view { OnOk result
             (view self.new ≡ after_open (view self.old).blocks (view self.old).items (block_kind_of kind)) }
+        ensures shows { OnOk result (ShowsLets self.new) }
     {
         let before = mem::replace(&mut self.items, Vec::new(self.alloc));
         self.blocks.push(OpenBlock { before, kind })?;
+        self.scopes.open(kind.name_kind())?;
         Ok(())
     }
 
     /// Closes the innermost block.
     pub(crate) fn close(&mut self) -> Result<(), AllocError>
-        requires { (view self.old).blocks ≢ [] }
-        ensures { OnOk result
+        requires some { (view self.old).blocks ≢ [] }
+        requires shows { ShowsLets self.old }
+        ensures view { OnOk result
             (after_close (view self.old).blocks (view self.old).items ≡ Some (view self.new)) }
+        ensures shows { OnOk result (ShowsLets self.new) }
     {
         if let Some(OpenBlock { before, kind }) = self.blocks.pop() {
             let body = mem::replace(&mut self.items, before);
             self.items.push(Item::Block(kind, body))?;
+            self.scopes.close();
         }
         Ok(())
     }

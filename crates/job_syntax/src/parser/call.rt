@@ -1,6 +1,6 @@
 //! The calls of the four objects, as the language spells them.
 ghost use Rattle.std.specs.Prelude.{◌≡◌};
-ghost use Rattle.job_syntax.specs.Code.Machine.{call_behind};
+ghost use Rattle.job_syntax.specs.Code.Machine.{call_behind, object_of};
 ghost use Rattle.job_syntax.specs.Code.Calls.{found_view};
 
 use crate::item::{Leaf, UnaryOp};
@@ -20,6 +20,19 @@ pub(crate) enum Object {
 pub(crate) enum ParsedCall {
     WithArgument(UnaryOp),
     Whole(Leaf),
+}
+
+/// The object that a word names, if it names one.
+pub(crate) fn object_of(word: Word) -> Option<Object>
+    ensures { result ≡ object_of word }
+{
+    match word {
+        Word::Counter => Some(Object::Counter),
+        Word::Stack => Some(Object::Stack),
+        Word::Tree => Some(Object::Tree),
+        Word::Queue => Some(Object::Queue),
+        _ => None,
+    }
 }
 
 /// The call that an object's name and the word behind it spell, if any.

@@ -2,15 +2,17 @@
 ghost use Rattle.std.specs.Prelude.{◌≡◌, ◌≤◌, [], ◌∷◌, Ok, Err, MatchOption, MatchResult, length};
 
 use crate::fault::JobFault;
-use crate::item::Argument;
+use crate::item::{Argument, UnaryOp};
 use crate::lexer::word::{Word, WordOnLine};
-use crate::parser::call::{Object, ParsedCall, call_behind};
+use crate::parser::blocks::BlockStack;
+use crate::parser::call::{Object, ParsedCall, call_behind, object_of};
+use job_names::Name;
 use std::marker::Model;
 
 /// The most blocks that may be open at once.
 const MAX_OPEN_BLOCKS: usize = 32;
 
-/// The words that are left to read. `argument`, `number`, `brace` and `call` take the word that must come next, or
+/// The words that are left to read. All methods but `next` take the word that must come next, or
 /// answer the fault that they find. At the end of the words that is a `Grammar` fault on line `last`.
 #[derive(Drop)]
 pub struct Cursor<'a> {
@@ -51,17 +53,27 @@ impl<'a> Cursor<'a> {
 }
 
 impl<'a> Cursor<'a> {
-    ghost use Rattle.job_syntax.specs.Grammar.{is_argument, is_number};
+    ghost use Rattle.job_syntax.specs.Grammar.{is_number};
     ghost use Rattle.job_syntax.specs.Code.Calls.{call_view};
-    ghost use Rattle.job_syntax.specs.Code.Cursors.{word_at, brace_at, call_at};
-    ghost use Rattle.job_syntax.specs.Views.{argument_word};
+    ghost use Rattle.job_syntax.specs.Code.Cursors.{word_at, argument_at, name_at, equals_at, object_at, brace_at, call_at};
+    ghost use Rattle.job_syntax.specs.Code.OpenBlocks.{ShowsLets, view};
+    ghost use Rattle.job_syntax.specs.Views.{argument_word, unary_op_of};
     ghost use Rattle.job_syntax.specs.declared.lexer.word.Word.TheVariants.{Number};
 
-    /// Takes an argument. `looped` says whether a loop is open, where it may depend on the copy.
-    pub(crate) fn argument(&mut self, last: u32, looped: bool) -> Result<Argument, JobFault>
+    /// Takes the argument of an operation. Inside a loop it may depend on the copy, and that of a call may be a name,
+    /// of which a let must be shown.
+    pub(crate) fn argument(
+        &mut self,
+        last: u32,
+        op: UnaryOp,
+        stack: &BlockStack,
+    ) -> Result<Argument, JobFault>
+        requires { ShowsLets stack.now }
         ensures gives { MatchResult result
-            (λ argument. word_at last (is_argument looped) self.old ≡ Ok (argument_word argument, self.new))
-            (λ found. word_at last (is_argument looped) self.old ≡ Err found) }
+            (λ argument. argument_at last (view stack.now).blocks (view stack.now).items (unary_op_of op) self.old
+                ≡ Ok (argument_word argument, self.new))
+            (λ found. argument_at last (view stack.now).blocks (view stack.now).items (unary_op_of op) self.old
+                ≡ Err found) }
         ensures shorter { length self.new ≤ length self.old }
     {
         let Some(token) = self.next() else {
@@ -70,9 +82,66 @@ impl<'a> Cursor<'a> {
         match token.word {
             Word::Number(Some(number)) => Ok(Argument::Number(number)),
             Word::Number(None) => Err(JobFault::Number { line: token.line }),
-            Word::Copies(Some((factor, addend))) if looped => Ok(Argument::Copies(factor, addend)),
-            Word::Copies(None) if looped => Err(JobFault::Number { line: token.line }),
+            Word::Copies(Some((factor, addend))) if stack.is_looped() => {
+                Ok(Argument::Copies(factor, addend))
+            }
+            Word::Copies(None) if stack.is_looped() => Err(JobFault::Number { line: token.line }),
+            Word::Named(name) if op.takes_names() => {
+                if stack.shows(name) {
+                    Ok(Argument::Reply(name))
+                } else {
+                    Err(JobFault::Name { line: token.line })
+                }
+            }
             _ => Err(JobFault::Grammar { line: token.line }),
+        }
+    }
+
+    /// Takes the name of a `let`.
+    pub(crate) fn name(&mut self, last: u32) -> Result<Name, JobFault>
+        ensures gives { MatchResult result
+            (λ name. name_at last self.old ≡ Ok (name, self.new))
+            (λ found. name_at last self.old ≡ Err found) }
+        ensures shorter { length self.new ≤ length self.old }
+    {
+        let Some(token) = self.next() else {
+            return Err(JobFault::Grammar { line: last });
+        };
+        match token.word {
+            Word::Named(name) => Ok(name),
+            _ => Err(JobFault::Grammar { line: token.line }),
+        }
+    }
+
+    /// Takes a `=`.
+    pub(crate) fn equals(&mut self, last: u32) -> Result<(), JobFault>
+        ensures gives { MatchResult result
+            (λ _. equals_at last self.old ≡ Ok self.new)
+            (λ found. equals_at last self.old ≡ Err found) }
+        ensures shorter { length self.new ≤ length self.old }
+    {
+        let Some(token) = self.next() else {
+            return Err(JobFault::Grammar { line: last });
+        };
+        match token.word {
+            Word::Equals => Ok(()),
+            _ => Err(JobFault::Grammar { line: token.line }),
+        }
+    }
+
+    /// Takes the first word of a call, which names its object.
+    pub(crate) fn object(&mut self, last: u32) -> Result<Object, JobFault>
+        ensures gives { MatchResult result
+            (λ object. object_at last self.old ≡ Ok (object, self.new))
+            (λ found. object_at last self.old ≡ Err found) }
+        ensures shorter { length self.new ≤ length self.old }
+    {
+        let Some(token) = self.next() else {
+            return Err(JobFault::Grammar { line: last });
+        };
+        match object_of(token.word) {
+            Some(object) => Ok(object),
+            None => Err(JobFault::Grammar { line: token.line }),
         }
     }
 

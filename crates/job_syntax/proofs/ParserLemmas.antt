@@ -1,10 +1,16 @@
+pub mod Arguments
 pub mod Completions
 pub mod Derivations
 pub mod Levels
 pub mod MachineAnswers
+pub mod NamesSeen
 pub mod Nestings
 pub mod OneFault
 pub mod OpenStacks
 pub mod Reached
 pub mod ReadingLaws
 pub mod Runs
+pub mod Seen
+pub mod Shown
+pub mod ShownSteps
+pub mod Visible

@@ -4,6 +4,7 @@ pub mod Cursors
 pub mod Fronts
 pub mod Machine
 pub mod OpenBlocks
+pub mod Reached
 pub mod Scanners
 pub mod Shown
 pub mod Steps

@@ -60,8 +60,9 @@ argument_word text =
     else if is_spelled text then Named (name_of text)
     else Other
 
-abbrev pub word_of : List ℕ → Word
-word_of text =
+-- the quoted word that a text is, else the other word
+abbrev pub quoted_or : List ℕ → Word → Word
+quoted_or text other =
     if bytes_eq text (codes "{") then Open
     else if bytes_eq text (codes "}") then Close
     else if bytes_eq text (codes "work") then Work
@@ -83,7 +84,10 @@ word_of text =
     else if bytes_eq text (codes "pfor") then Pfor
     else if bytes_eq text (codes "let") then Let
     else if bytes_eq text (codes "=") then Equals
-    else argument_word text
+    else other
+
+abbrev pub word_of : List ℕ → Word
+word_of text = quoted_or text (argument_word text)
 
 -- the words of a text's tokens, each with its line
 abbrev pub word_on_line : Token → WordOnLine

@@ -15,6 +15,7 @@
 pub mod error;
 pub mod fault;
 mod item;
+pub mod laws;
 mod lexer;
 mod parser;
 

@@ -2,15 +2,17 @@
 use Rattle.std.proofs.Common.{◌≡◌, List, [], ◌∷◌, ◌++◌, false, Option, Some, None, refl, sym, ap, ◌∙◌, append_assoc, append-nil, subst}
 use Rattle.std.specs.Prelude.{ℕ, map, codes, IfSome}
 use Rattle.job_syntax.specs.declared.lexer.word.Word.{Word}
-use Rattle.job_syntax.specs.declared.lexer.word.Word.TheVariants.{Add, Pop, Find, Take, Number}
+use Rattle.job_syntax.specs.declared.lexer.word.Word.TheVariants.{Add, Pop, Find, Take, Stack, Equals, Number, Named}
+use Rattle.job_names.specs.declared.name.Name.{Name}
+use Rattle.job_names.specs.Names.{name_of}
 use Rattle.job_syntax.specs.declared.parser.call.Object.{Object}
 use Rattle.job_syntax.specs.declared.parser.call.Object.TheVariants as object
 use Rattle.job_syntax.specs.Words.{word_of}
-use Rattle.job_syntax.specs.Grammar.{Items, nothing, block_then, ◌then◌, BlockKind, for_loop, pfor_loop, with_argument, stack_pop, queue_take, UnaryOp, counter_add, tree_find, AreItems, Derives, CanGoOn, items_words}
-use Rattle.job_syntax.specs.Code.Machine.{OpenBlock, Place, an_item, an_argument, a_call, for_copies, pfor_copies, a_brace, State, at, start, are_looped, step, run}
+use Rattle.job_syntax.specs.Grammar.{Items, nothing, block_then, ◌then◌, BlockKind, for_loop, pfor_loop, stack_pop, queue_take, bound, UnaryOp, counter_add, tree_find, AreItems, Derives, CanGoOn, items_words}
+use Rattle.job_syntax.specs.Code.Machine.{OpenBlock, Place, an_item, a_let_name, an_equals, a_let_object, an_argument, a_call, for_copies, pfor_copies, a_brace, State, at, start, are_looped, step, run}
 use Rattle.job_syntax.proofs.ParserLemmas.Derivations.{words_then}
 use Rattle.job_syntax.proofs.ParserLemmas.Runs.{run-none, run-append, run_derived}
-use Rattle.job_syntax.proofs.ParserLemmas.Reached.{opening_words, AreBlocks, IsReached, start_reached, fits-then, moved, added, reach, reach_brace}
+use Rattle.job_syntax.proofs.ParserLemmas.Reached.{opening_words, AreBlocks, IsReached, start_reached, fits-then, moved, added, added_zero, reach, reach_brace}
 
 -- the items after each open block is closed
 abbrev completed : List OpenBlock → Items → Items
@@ -55,20 +57,38 @@ goes_on_item {words} {blocks} {items} reached = record {
 goes_on_brace : {words : List Word} {blocks : List OpenBlock} {items : Items} (kind : BlockKind) → IsReached words (at blocks items (a_brace kind)) → CanGoOn words
 goes_on_brace {words} kind reached = goes_on_by words (codes "{") (goes_on_item (reach_brace kind reached))
 
-goes_on_argument : {words : List Word} {blocks : List OpenBlock} {items : Items} (op : UnaryOp) → IsReached words (at blocks items (an_argument op)) → CanGoOn words
-goes_on_argument {words} op reached =
-    goes_on_by words (codes "0") (goes_on_item (added (with_argument op (Number (Some 0))) (Number (Some 0)) reached refl refl))
+goes_on_argument : {words : List Word} {blocks : List OpenBlock} {items : Items} (given : Option Name) (op : UnaryOp) → IsReached words (at blocks items (an_argument given op)) → CanGoOn words
+goes_on_argument {words} given op reached =
+    goes_on_by words (codes "0") (goes_on_item (added_zero given op reached))
 
-goes_on_call : {words : List Word} {blocks : List OpenBlock} {items : Items} (of : Object) → IsReached words (at blocks items (a_call of)) → CanGoOn words
-goes_on_call {words} object.Counter reached = goes_on_by words (codes "add") (goes_on_argument counter_add (moved (an_argument counter_add) Add reached refl tt))
-goes_on_call {words} object.Stack reached = goes_on_by words (codes "pop") (goes_on_item (added stack_pop Pop reached refl tt))
-goes_on_call {words} object.Tree reached = goes_on_by words (codes "find") (goes_on_argument tree_find (moved (an_argument tree_find) Find reached refl tt))
-goes_on_call {words} object.Queue reached = goes_on_by words (codes "take") (goes_on_item (added queue_take Take reached refl tt))
+goes_on_call : {words : List Word} {blocks : List OpenBlock} {items : Items} (given : Option Name) (of : Object) → IsReached words (at blocks items (a_call given of)) → CanGoOn words
+goes_on_call {words} None object.Counter reached = goes_on_by words (codes "add") (goes_on_argument None counter_add (moved (an_argument None counter_add) Add reached refl tt))
+goes_on_call {words} None object.Stack reached = goes_on_by words (codes "pop") (goes_on_item (added stack_pop Pop reached refl tt))
+goes_on_call {words} None object.Tree reached = goes_on_by words (codes "find") (goes_on_argument None tree_find (moved (an_argument None tree_find) Find reached refl tt))
+goes_on_call {words} None object.Queue reached = goes_on_by words (codes "take") (goes_on_item (added queue_take Take reached refl tt))
+goes_on_call {words} (Some name) object.Counter reached = goes_on_by words (codes "add") (goes_on_argument (Some name) counter_add (moved (an_argument (Some name) counter_add) Add reached refl tt))
+goes_on_call {words} (Some name) object.Stack reached = goes_on_by words (codes "pop") (goes_on_item (added (bound name stack_pop) Pop reached refl tt))
+goes_on_call {words} (Some name) object.Tree reached = goes_on_by words (codes "find") (goes_on_argument (Some name) tree_find (moved (an_argument (Some name) tree_find) Find reached refl tt))
+goes_on_call {words} (Some name) object.Queue reached = goes_on_by words (codes "take") (goes_on_item (added (bound name queue_take) Take reached refl tt))
+
+goes_on_object : {words : List Word} {blocks : List OpenBlock} {items : Items} (name : Name) → IsReached words (at blocks items (a_let_object name)) → CanGoOn words
+goes_on_object {words} name reached = goes_on_by words (codes "stack") (goes_on_call (Some name) object.Stack (moved (a_call (Some name) object.Stack) Stack reached refl tt))
+
+goes_on_equals : {words : List Word} {blocks : List OpenBlock} {items : Items} (name : Name) → IsReached words (at blocks items (an_equals name)) → CanGoOn words
+goes_on_equals {words} name reached = goes_on_by words (codes "=") (goes_on_object name (moved (a_let_object name) Equals reached refl tt))
+
+goes_on_let : {words : List Word} {blocks : List OpenBlock} {items : Items} → IsReached words (at blocks items a_let_name) → CanGoOn words
+goes_on_let {words} reached =
+    let name = name_of (codes "a") in
+    goes_on_by words (codes "a") (goes_on_equals name (moved (an_equals name) (Named name) reached refl tt))
 
 pub goes_on : (words : List Word) (blocks : List OpenBlock) (items : Items) (place : Place) → IsReached words (at blocks items place) → CanGoOn words
 goes_on words blocks items an_item reached = goes_on_item reached
-goes_on words blocks items (an_argument op) reached = goes_on_argument op reached
-goes_on words blocks items (a_call of) reached = goes_on_call of reached
+goes_on words blocks items a_let_name reached = goes_on_let reached
+goes_on words blocks items (an_equals name) reached = goes_on_equals name reached
+goes_on words blocks items (a_let_object name) reached = goes_on_object name reached
+goes_on words blocks items (an_argument given op) reached = goes_on_argument given op reached
+goes_on words blocks items (a_call given of) reached = goes_on_call given of reached
 goes_on words blocks items for_copies reached =
     let zero = Number (Some 0) in
     goes_on_by words (codes "0") (goes_on_brace (for_loop zero) (moved (a_brace (for_loop zero)) zero reached refl refl))

@@ -1,10 +1,11 @@
 -- The items of the code as derivations, level by level.
 use Rattle.std.proofs.Common.{rules, Vec, Global, ◌≡◌, ℕ, ◌+◌, ◌<◌, List, [], ◌∷◌, ◌++◌, length, take, drop, get_or, refl, sym, ap, ◌∙◌}
 use Rattle.std.proofs.lemmas.List.{take_more, take-append-drop}
-use Rattle.job_syntax.specs.declared.item.Item.{Item, Leaf as ItemLeaf, Block, the_lemmas}
+use Rattle.job_names.specs.declared.name.Name.{Name}
+use Rattle.job_syntax.specs.declared.item.Item.{Item, Leaf as ItemLeaf, Let as ItemLet, Block, the_lemmas}
 use Rattle.job_syntax.specs.declared.item.Leaf.{Leaf as CodeLeaf}
 use Rattle.job_syntax.specs.declared.item.BlockKind.{BlockKind as CodeBlockKind}
-use Rattle.job_syntax.specs.Grammar.{Items, nothing, leaf_then, block_then, ◌then◌}
+use Rattle.job_syntax.specs.Grammar.{Items, bound, nothing, leaf_then, block_then, ◌then◌}
 use Rattle.job_syntax.specs.declared.item.Item.{out-Item, map-Item, fold_out-Item}
 use Rattle.job_syntax.specs.declared.item.Item.TheOpen.{Item-F}
 use Rattle.job_syntax.proofs.ParserLemmas.Derivations.{then_assoc, then_nothing}
@@ -19,6 +20,9 @@ items_of_push xs x = items_of_append xs (x ∷ []) ∙ ap (λ z. items_of xs the
 
 pub item_of_leaf : (l : CodeLeaf) → item_of (ItemLeaf l) ≡ leaf_then (leaf_of l) nothing
 item_of_leaf l = search (rules, the_lemmas)
+
+pub item_of_let : (name : Name) (call : CodeLeaf) → item_of (ItemLet name call) ≡ leaf_then (bound name (leaf_of call)) nothing
+item_of_let name call = search (rules, the_lemmas)
 
 pub item_of_block : (h : CodeBlockKind) (v : Vec Item Global) → item_of (Block h v) ≡ block_then (block_kind_of h) (items_of v.items) nothing
 item_of_block h v = search (rules, the_lemmas)

@@ -4,17 +4,21 @@ use Rattle.std.proofs.lemmas.List.{map-append}
 use Rattle.std.proofs.lemmas.Bool.{leb-true, leb-false}
 use Rattle.std.specs.Prelude.{IsTrue, if◌then◌else◌, IfSome, MatchResult, nat_le}
 use Rattle.job_syntax.specs.declared.lexer.word.Word.{Word}
-use Rattle.job_syntax.specs.declared.lexer.word.Word.TheVariants.{Open, Close, Work, Counter, Stack, Tree, Queue, Add, Push, Pop, Insert, Remove, Find, Next, Take, Seq, Par, For, Pfor, Number, Copies}
+use Rattle.job_syntax.specs.declared.lexer.word.Word.TheVariants.{Open, Close, Work, Counter, Stack, Tree, Queue, Add, Push, Pop, Insert, Remove, Find, Next, Take, Seq, Par, For, Pfor, Let, Equals, Number, Copies, Named}
 use Rattle.job_syntax.specs.declared.lexer.word.WordOnLine.{WordOnLine}
 use Rattle.job_syntax.specs.declared.fault.JobFault.{JobFault}
 use Rattle.job_syntax.specs.declared.fault.JobFault.TheVariants as fault
+use Rattle.job_names.specs.declared.name.Name.{Name}
+use Rattle.job_syntax.specs.declared.parser.call.Object.{Object}
 use Rattle.job_syntax.specs.declared.parser.call.Object.TheVariants as object
-use Rattle.job_syntax.specs.Grammar.{Items, Derives, CanGoOn}
+use Rattle.job_syntax.specs.Grammar.{Items, Derives, CanGoOn, UnaryOp, work, counter_add, stack_push, tree_insert, tree_remove, tree_find, tree_next, queue_insert, is_argument, is_call_argument, takes}
+use Rattle.job_syntax.specs.Visibility.{Sees, IsKnown}
 use Rattle.job_syntax.specs.Faults.{words_of, has_good_numbers, open_behind, IsClean, AreClean, IsReadingFaultBehind}
-use Rattle.job_syntax.specs.Code.Machine.{OpenBlock, Place, an_item, an_argument, a_call, for_copies, pfor_copies, a_brace, State, at, start, are_looped, item_step, step_at, step, run, within_nesting, checked_step, end_at, on_state, read_from}
+use Rattle.job_syntax.specs.Code.Machine.{OpenBlock, ParsedCall, unary, whole, call_behind, behind_call, call_step, Place, an_item, a_let_name, an_equals, a_let_object, an_argument, a_call, for_copies, pfor_copies, a_brace, State, at, start, are_looped, item_step, step_at, step, run, is_known, checked_word, checked_step, end_at, on_state, read_from}
 use Rattle.job_syntax.proofs.ParserLemmas.Runs.{run-append, run_derived, dead}
 use Rattle.job_syntax.proofs.ParserLemmas.Reached.{IsReached, start_reached, reach}
 use Rattle.job_syntax.proofs.ParserLemmas.Completions.{goes_on}
+use Rattle.job_syntax.proofs.ParserLemmas.Shown.{known_sees, unknown_sees_none}
 
 -- the number of open blocks after a step
 depth_item : (blocks : List OpenBlock) (items : Items) (word : Word) → IfSome (item_step blocks items word) (λ state. length state.blocks ≡ open_behind (length blocks) (word ∷ []))
@@ -25,31 +29,73 @@ depth_item blocks items Counter = refl
 depth_item blocks items Stack = refl
 depth_item blocks items Tree = refl
 depth_item blocks items Queue = refl
+depth_item blocks items Let = refl
 depth_item blocks items Seq = refl
 depth_item blocks items Par = refl
 depth_item blocks items For = refl
 depth_item blocks items Pfor = refl
 depth_item blocks items _ = tt
 
-depth_copies : (blocks : List OpenBlock) (b : Bool) (new : State) → new.blocks ≡ blocks → IfSome (if b then Some new else None) (λ state. length state.blocks ≡ length blocks)
-depth_copies blocks false new e = tt
-depth_copies blocks true new e = ap length e
+depth_argument : (looped : Bool) (word : Word) (n : ℕ) → is_argument looped word ≡ true → open_behind n (word ∷ []) ≡ n
+depth_argument looped (Number number) n e = refl
+depth_argument looped (Copies by) n e = refl
+depth_argument looped _ n e = cc
+
+depth_value : (looped : Bool) (word : Word) (n : ℕ) → is_call_argument looped word ≡ true → open_behind n (word ∷ []) ≡ n
+depth_value looped (Number number) n e = refl
+depth_value looped (Copies by) n e = refl
+depth_value looped (Named name) n e = refl
+depth_value looped _ n e = cc
+
+pub depth_taken : (op : UnaryOp) (looped : Bool) (word : Word) (n : ℕ) → takes op looped word ≡ true → open_behind n (word ∷ []) ≡ n
+depth_taken work looped word n e = depth_argument looped word n e
+depth_taken counter_add looped word n e = depth_value looped word n e
+depth_taken stack_push looped word n e = depth_value looped word n e
+depth_taken tree_insert looped word n e = depth_value looped word n e
+depth_taken tree_remove looped word n e = depth_value looped word n e
+depth_taken tree_find looped word n e = depth_value looped word n e
+depth_taken tree_next looped word n e = depth_value looped word n e
+depth_taken queue_insert looped word n e = depth_value looped word n e
+
+depth_when : (blocks : List OpenBlock) (spelled : Word) (b : Bool) (new : State) → new.blocks ≡ blocks → (b ≡ true → open_behind (length blocks) (spelled ∷ []) ≡ length blocks) →
+    IfSome (if b then Some new else None) (λ state. length state.blocks ≡ open_behind (length blocks) (spelled ∷ []))
+depth_when blocks spelled false new e flat = tt
+depth_when blocks spelled true new e flat = ap length e ∙ sym (flat refl)
+
+depth_call : (blocks : List OpenBlock) (items : Items) (given : Option Name) (call : ParsedCall) → length (behind_call blocks items given call).blocks ≡ length blocks
+depth_call blocks items given (unary op) = refl
+depth_call blocks items given (whole leaf) = refl
+
+depth_found : (blocks : List OpenBlock) (items : Items) (given : Option Name) (spelled : Word) (found : Option ParsedCall) → IfSome found (λ call. open_behind (length blocks) (spelled ∷ []) ≡ length blocks) →
+    IfSome (call_step blocks items given found) (λ state. length state.blocks ≡ open_behind (length blocks) (spelled ∷ []))
+depth_found blocks items given spelled None h = tt
+depth_found blocks items given spelled (Some call) h = depth_call blocks items given call ∙ sym h
+
+depth_of_call : (of : Object) (word : Word) (n : ℕ) → IfSome (call_behind of word) (λ call. open_behind n (word ∷ []) ≡ n)
+depth_of_call object.Counter Add n = refl
+depth_of_call object.Stack Push n = refl
+depth_of_call object.Stack Pop n = refl
+depth_of_call object.Tree Insert n = refl
+depth_of_call object.Tree Remove n = refl
+depth_of_call object.Tree Find n = refl
+depth_of_call object.Tree Next n = refl
+depth_of_call object.Queue Insert n = refl
+depth_of_call object.Queue Take n = refl
+depth_of_call _ _ n = tt
 
 depth : (blocks : List OpenBlock) (items : Items) (place : Place) (word : Word) → IfSome (step_at blocks items place word) (λ state. length state.blocks ≡ open_behind (length blocks) (word ∷ []))
 depth blocks items an_item word = depth_item blocks items word
-depth blocks items (an_argument op) (Number number) = refl
-depth blocks items (an_argument op) (Copies by) = depth_copies blocks (are_looped blocks) _ refl
-depth blocks items (an_argument op) _ = tt
-depth blocks items (a_call object.Counter) Add = refl
-depth blocks items (a_call object.Stack) Push = refl
-depth blocks items (a_call object.Stack) Pop = refl
-depth blocks items (a_call object.Tree) Insert = refl
-depth blocks items (a_call object.Tree) Remove = refl
-depth blocks items (a_call object.Tree) Find = refl
-depth blocks items (a_call object.Tree) Next = refl
-depth blocks items (a_call object.Queue) Insert = refl
-depth blocks items (a_call object.Queue) Take = refl
-depth blocks items (a_call _) _ = tt
+depth blocks items a_let_name (Named name) = refl
+depth blocks items a_let_name _ = tt
+depth blocks items (an_equals name) Equals = refl
+depth blocks items (an_equals name) _ = tt
+depth blocks items (a_let_object name) Counter = refl
+depth blocks items (a_let_object name) Stack = refl
+depth blocks items (a_let_object name) Tree = refl
+depth blocks items (a_let_object name) Queue = refl
+depth blocks items (a_let_object name) _ = tt
+depth blocks items (an_argument given op) word = depth_when blocks word (takes op (are_looped blocks) word) _ refl (depth_taken op (are_looped blocks) word (length blocks))
+depth blocks items (a_call given of) word = depth_found blocks items given word (call_behind of word) (depth_of_call of word (length blocks))
 depth blocks items for_copies (Number number) = refl
 depth blocks items for_copies _ = tt
 depth blocks items pfor_copies (Number number) = refl
@@ -96,8 +142,11 @@ at_end : (last : ℕ) (before : List WordOnLine) (blocks : List OpenBlock) (item
 at_end last before [] items an_item stands =
     (record { writes = simp append-nil at stands.reached.writes ∙ ap words_of (sym (append-nil before)); fits = stands.reached.items }, tt)
 at_end last before (block ∷ blocks) items an_item stands = (refl, no_blocks before (block ∷ blocks) items an_item stands.runs (λ e. cc))
-at_end last before blocks items (an_argument op) stands = (refl, no_place before blocks items (an_argument op) stands.runs (λ e. cc))
-at_end last before blocks items (a_call of) stands = (refl, no_place before blocks items (a_call of) stands.runs (λ e. cc))
+at_end last before blocks items a_let_name stands = (refl, no_place before blocks items a_let_name stands.runs (λ e. cc))
+at_end last before blocks items (an_equals name) stands = (refl, no_place before blocks items (an_equals name) stands.runs (λ e. cc))
+at_end last before blocks items (a_let_object name) stands = (refl, no_place before blocks items (a_let_object name) stands.runs (λ e. cc))
+at_end last before blocks items (an_argument given op) stands = (refl, no_place before blocks items (an_argument given op) stands.runs (λ e. cc))
+at_end last before blocks items (a_call given of) stands = (refl, no_place before blocks items (a_call given of) stands.runs (λ e. cc))
 at_end last before blocks items for_copies stands = (refl, no_place before blocks items for_copies stands.runs (λ e. cc))
 at_end last before blocks items pfor_copies stands = (refl, no_place before blocks items pfor_copies stands.runs (λ e. cc))
 at_end last before blocks items (a_brace kind) stands = (refl, no_place before blocks items (a_brace kind) stands.runs (λ e. cc))
@@ -133,11 +182,12 @@ later last before token tokens (Ok items) clean answers =
 later last before token tokens (Err found) clean answers = inr (clean, answers)
 
 module _ (last : ℕ) (token : WordOnLine) (tokens before : List WordOnLine) (state new : State) (stands : Stands before state) (e : step state token.word ≡ Some new) (rest : (front : List WordOnLine) (next : State) → Stands front next → AreAnswer last front tokens (read_from last next tokens)) where
-  go_on : IsTrue (has_good_numbers token.word) → (token.word ≡ Open → length state.blocks < 32) → AreAnswer last before (token ∷ tokens) (read_from last new tokens)
-  go_on good room =
+  go_on : IsTrue (has_good_numbers token.word) → (token.word ≡ Open → length state.blocks < 32) → IsKnown (words_of before) token.word →
+      AreAnswer last before (token ∷ tokens) (read_from last new tokens)
+  go_on good room known =
       let next = stands-push before state new token stands e in
       later last before token tokens (read_from last new tokens)
-      (record { stands = goes_on_now _ new next; numbers = good; nests = λ h. let r = room h in omega (arith, r, stands.open_now) })
+      (record { stands = goes_on_now _ new next; numbers = good; nests = (λ h. let r = room h in omega (arith, r, stands.open_now)); known = known })
       (rest (before ++ token ∷ []) new next)
 
   at_open : IsTrue (has_good_numbers token.word) → token.word ≡ Open → (b : Bool) → nat_le 32 (length state.blocks) ≡ b →
@@ -145,15 +195,29 @@ module _ (last : ℕ) (token : WordOnLine) (tokens before : List WordOnLine) (st
   at_open good o true h =
       let deep = leb-true 32 (length state.blocks) h in
       inl (refl, goes_on_now _ new (stands-push before state new token stands e), good, o, omega (arith, deep, stands.open_now))
-  at_open good o false h = go_on good (λ _. leb-false 32 (length state.blocks) h)
+  at_open good o false h = go_on good (λ _. leb-false 32 (length state.blocks) h) (λ name used. absurd (let n = used.0 in cc (n, o)))
+
+  at_name : IsTrue (has_good_numbers token.word) → (name : Name) → token.word ≡ Named name → (b : Bool) → is_known state.place state.blocks state.items name ≡ b →
+      AreAnswer last before (token ∷ tokens) (on_state (λ next. read_from last next tokens) (if b then Ok new else Err (fault.Name token.line)))
+  at_name good name o true h =
+      let steps : step_at state.blocks state.items state.place (Named name) ≡ Some new = ap (step_at state.blocks state.items state.place) (sym o) ∙ e in
+      go_on good (λ h. absurd (cc (h, o)))
+      (λ other used.
+      let same : name ≡ other = (let n = used.0 in cc (n, o)) in
+      subst (Sees (words_of before)) same (known_sees (words_of before) state.blocks state.items state.place name new stands.reached steps h used.1))
+  at_name good name o false h =
+      let steps : step_at state.blocks state.items state.place (Named name) ≡ Some new = ap (step_at state.blocks state.items state.place) (sym o) ∙ e in
+      let not_known = unknown_sees_none (words_of before) state.blocks state.items state.place name stands.reached h in
+      inl (refl, goes_on_now _ new (stands-push before state new token stands e), name, (o, not_known.0), not_known.1)
 
   at_word : IsTrue (has_good_numbers token.word) → (word : Word) → token.word ≡ word →
-      AreAnswer last before (token ∷ tokens) (on_state (λ next. read_from last next tokens) (within_nesting token.line (length state.blocks) word new))
+      AreAnswer last before (token ∷ tokens) (on_state (λ next. read_from last next tokens) (checked_word token.line state word new))
   at_word good Open o = at_open good o _ refl
-  at_word good _ o = go_on good (λ h. absurd (cc (h, o)))
+  at_word good (Named name) o = at_name good name o _ refl
+  at_word good _ o = go_on good (λ h. absurd (cc (h, o))) (λ name used. absurd (let n = used.0 in cc (n, o)))
 
   at_good : (b : Bool) → has_good_numbers token.word ≡ b →
-      AreAnswer last before (token ∷ tokens) (on_state (λ next. read_from last next tokens) (if b then within_nesting token.line (length state.blocks) token.word new else Err (fault.Number token.line)))
+      AreAnswer last before (token ∷ tokens) (on_state (λ next. read_from last next tokens) (if b then checked_word token.line state token.word new else Err (fault.Number token.line)))
   at_good true good = at_word good token.word refl
   at_good false bad = inl (refl, goes_on_now _ new (stands-push before state new token stands e), bad)
 

@@ -4,11 +4,12 @@ use Rattle.std.specs.Prelude.{Bool, IsTrue, ◌||◌, ◌↔◌}
 use Rattle.std.specs.List.{AllByRecursion}
 use Rattle.std.proofs.lemmas.List.{map-append}
 use Rattle.job_syntax.specs.declared.lexer.word.Word.{Word}
-use Rattle.job_syntax.specs.declared.lexer.word.Word.TheVariants.{Open, Close, Number, Copies}
+use Rattle.job_syntax.specs.declared.lexer.word.Word.TheVariants.{Open, Close, Number, Copies, Named}
 use Rattle.job_syntax.specs.declared.lexer.word.WordOnLine.{WordOnLine}
-use Rattle.job_syntax.specs.Grammar.{Items, nothing, leaf_then, block_then, BlockKind, seq_block, par_block, for_loop, pfor_loop, Leaf, with_argument, stack_pop, queue_take, work, counter_add, stack_push, tree_insert, tree_remove, tree_find, tree_next, queue_insert, is_number, is_argument, is_loop, IsLeaf, IsBlockKind, AreItems, Derives, items_words, leaf_words, kind_words}
+use Rattle.job_syntax.specs.Grammar.{Items, nothing, leaf_then, block_then, BlockKind, seq_block, par_block, for_loop, pfor_loop, Leaf, with_argument, stack_pop, queue_take, bound, work, counter_add, stack_push, tree_insert, tree_remove, tree_find, tree_next, queue_insert, is_number, is_argument, is_call_argument, is_loop, IsCall, IsLeaf, IsBlockKind, AreItems, Derives, items_words, leaf_words, kind_words}
 use Rattle.job_syntax.specs.Faults.{words_of, has_good_numbers, open_behind, AreClean}
 use Rattle.job_syntax.specs.Blocks.{nesting}
+use Rattle.job_syntax.specs.ItemsOf.{AreKnown}
 use Rattle.job_syntax.proofs.ParserLemmas.MachineAnswers.{open_behind-push}
 use Rattle.job_syntax.proofs.ParserLemmas.Completions.{front_goes_on}
 
@@ -25,17 +26,37 @@ skip_argument looped n (Number number) words fits = ((λ h. h), (λ h. h))
 skip_argument looped n (Copies by) words fits = ((λ h. h), (λ h. h))
 skip_argument looped n _ words fits = absurd (cc fits)
 
+skip_value : (looped : Bool) (n : ℕ) (argument : Word) (words : List Word) → IsTrue (is_call_argument looped argument) → AreNested n (argument ∷ words) ↔ AreNested n words
+skip_value looped n (Number number) words fits = ((λ h. h), (λ h. h))
+skip_value looped n (Copies by) words fits = ((λ h. h), (λ h. h))
+skip_value looped n (Named name) words fits = ((λ h. h), (λ h. h))
+skip_value looped n _ words fits = absurd (cc fits)
+
+skip_call : (looped : Bool) (n : ℕ) (call : Leaf) (words : List Word) → IsCall looped call → AreNested n (leaf_words call ++ words) ↔ AreNested n words
+skip_call looped n (with_argument work argument) words fits = elim fits [ ]
+skip_call looped n (with_argument counter_add argument) words fits = skip_value looped n argument words fits
+skip_call looped n (with_argument stack_push argument) words fits = skip_value looped n argument words fits
+skip_call looped n (with_argument tree_insert argument) words fits = skip_value looped n argument words fits
+skip_call looped n (with_argument tree_remove argument) words fits = skip_value looped n argument words fits
+skip_call looped n (with_argument tree_find argument) words fits = skip_value looped n argument words fits
+skip_call looped n (with_argument tree_next argument) words fits = skip_value looped n argument words fits
+skip_call looped n (with_argument queue_insert argument) words fits = skip_value looped n argument words fits
+skip_call looped n stack_pop words fits = ((λ h. h), (λ h. h))
+skip_call looped n queue_take words fits = ((λ h. h), (λ h. h))
+skip_call looped n (bound name call) words fits = elim fits [ ]
+
 skip_leaf : (looped : Bool) (n : ℕ) (leaf : Leaf) (words : List Word) → IsLeaf looped leaf → AreNested n (leaf_words leaf ++ words) ↔ AreNested n words
 skip_leaf looped n (with_argument work argument) words fits = skip_argument looped n argument words fits
-skip_leaf looped n (with_argument counter_add argument) words fits = skip_argument looped n argument words fits
-skip_leaf looped n (with_argument stack_push argument) words fits = skip_argument looped n argument words fits
-skip_leaf looped n (with_argument tree_insert argument) words fits = skip_argument looped n argument words fits
-skip_leaf looped n (with_argument tree_remove argument) words fits = skip_argument looped n argument words fits
-skip_leaf looped n (with_argument tree_find argument) words fits = skip_argument looped n argument words fits
-skip_leaf looped n (with_argument tree_next argument) words fits = skip_argument looped n argument words fits
-skip_leaf looped n (with_argument queue_insert argument) words fits = skip_argument looped n argument words fits
+skip_leaf looped n (with_argument counter_add argument) words fits = skip_value looped n argument words fits
+skip_leaf looped n (with_argument stack_push argument) words fits = skip_value looped n argument words fits
+skip_leaf looped n (with_argument tree_insert argument) words fits = skip_value looped n argument words fits
+skip_leaf looped n (with_argument tree_remove argument) words fits = skip_value looped n argument words fits
+skip_leaf looped n (with_argument tree_find argument) words fits = skip_value looped n argument words fits
+skip_leaf looped n (with_argument tree_next argument) words fits = skip_value looped n argument words fits
+skip_leaf looped n (with_argument queue_insert argument) words fits = skip_value looped n argument words fits
 skip_leaf looped n stack_pop words fits = ((λ h. h), (λ h. h))
 skip_leaf looped n queue_take words fits = ((λ h. h), (λ h. h))
+skip_leaf looped n (bound name call) words fits = skip_call looped n call words fits
 
 skip_number : (n : ℕ) (number : Word) (words : List Word) → IsTrue (is_number number) → AreNested n (number ∷ words) ↔ AreNested n words
 skip_number n (Number number) words fits = ((λ h. h), (λ h. h))
@@ -103,6 +124,10 @@ pub good_when_clean : (tokens before : List WordOnLine) → AreClean before toke
 good_when_clean [] before clean = tt
 good_when_clean (token ∷ tokens) before clean = (clean.0.numbers, good_when_clean tokens (before ++ token ∷ []) clean.1)
 
+pub known_when_clean : (tokens before : List WordOnLine) → AreClean before tokens → AreKnown before tokens
+known_when_clean [] before clean = tt
+known_when_clean (token ∷ tokens) before clean = (clean.0.known, known_when_clean tokens (before ++ token ∷ []) clean.1)
+
 pub nested_when_clean : (tokens before : List WordOnLine) → AreClean before tokens → AreNested (open_behind 0 (words_of before)) (words_of tokens)
 nested_when_clean [] before clean = tt
 nested_when_clean (token ∷ tokens) before clean =
@@ -113,11 +138,11 @@ front_derived : (before : List WordOnLine) (token : WordOnLine) (tokens : List W
     Derives (words_of ((before ++ token ∷ []) ++ tokens)) items
 front_derived before token tokens items derives = subst (λ all. Derives (words_of all) items) (sym (append_assoc before (token ∷ []) tokens)) derives
 
--- derived tokens with good numbers that nest are clean
+-- derived tokens with good numbers that nest, and whose names are known, are clean
 pub clean_when_nested : (tokens before : List WordOnLine) (items : Items) → Derives (words_of (before ++ tokens)) items →
-    AllByRecursion (λ token. IsTrue (has_good_numbers token.word)) tokens → AreNested (open_behind 0 (words_of before)) (words_of tokens) → AreClean before tokens
-clean_when_nested [] before items derives good within_nesting = tt
-clean_when_nested (token ∷ tokens) before items derives good within_nesting =
+    AllByRecursion (λ token. IsTrue (has_good_numbers token.word)) tokens → AreNested (open_behind 0 (words_of before)) (words_of tokens) → AreKnown before tokens → AreClean before tokens
+clean_when_nested [] before items derives good within_nesting known = tt
+clean_when_nested (token ∷ tokens) before items derives good within_nesting known =
     let first = first_nests (open_behind 0 (words_of before)) token.word (words_of tokens) within_nesting in
     let all = front_derived before token tokens items derives in
     let split = map-append (λ (token : WordOnLine). token.word) (before ++ token ∷ []) tokens in (
@@ -125,7 +150,8 @@ clean_when_nested (token ∷ tokens) before items derives good within_nesting =
         stands = front_goes_on (words_of (before ++ token ∷ [])) (words_of tokens) items (subst (λ words. Derives words items) split all);
         numbers = good.0;
         nests = first.0;
+        known = known.0;
       },
       clean_when_nested tokens (before ++ token ∷ []) items all good.1
-          (subst (λ n. AreNested n (words_of tokens)) (sym (open_behind-push before token)) first.1),
+          (subst (λ n. AreNested n (words_of tokens)) (sym (open_behind-push before token)) first.1) known.1,
     )

@@ -10,6 +10,7 @@ clean_or_faulty : (before : List WordOnLine) (token : WordOnLine) (f : JobFault)
 clean_or_faulty before token (fault.Grammar line) found clean = found.1 clean.stands
 clean_or_faulty before token (fault.Number line) found clean = let good = clean.numbers in let bad = found.2 in cc (good, bad)
 clean_or_faulty before token (fault.Nesting line) found clean = let room = clean.nests found.3 in let none = found.4 in omega (arith, room, none)
+clean_or_faulty before token (fault.Name line) found clean = found.4 (clean.known found.2 found.3)
 clean_or_faulty before token (fault.Byte line) found clean = found
 clean_or_faulty before token (fault.Leaves line) found clean = found
 clean_or_faulty before token (fault.Argument line) found clean = found
@@ -24,6 +25,13 @@ one_fault before token (fault.Number l) (fault.Nesting m) found also = let bad =
 one_fault before token (fault.Nesting l) (fault.Grammar m) found also = absurd (also.1 found.1)
 one_fault before token (fault.Nesting l) (fault.Number m) found also = let good = found.2 in let bad = also.2 in absurd (cc (good, bad))
 one_fault before token (fault.Nesting l) (fault.Nesting m) found also = ap (λ line. fault.Nesting line) (found.0 ∙ sym also.0)
+one_fault before token (fault.Grammar l) (fault.Name m) found also = absurd (found.1 also.1)
+one_fault before token (fault.Number l) (fault.Name m) found also = let bad = found.2 in let named = also.3.0 in absurd (cc (bad, named))
+one_fault before token (fault.Nesting l) (fault.Name m) found also = let open_now = found.3 in let named = also.3.0 in absurd (cc (open_now, named))
+one_fault before token (fault.Name l) (fault.Grammar m) found also = absurd (also.1 found.1)
+one_fault before token (fault.Name l) (fault.Number m) found also = let named = found.3.0 in let bad = also.2 in absurd (cc (bad, named))
+one_fault before token (fault.Name l) (fault.Nesting m) found also = let named = found.3.0 in let open_now = also.3 in absurd (cc (open_now, named))
+one_fault before token (fault.Name l) (fault.Name m) found also = ap (λ line. fault.Name line) (found.0 ∙ sym also.0)
 one_fault before token (fault.Byte l) g found also = absurd found
 one_fault before token (fault.Leaves l) g found also = absurd found
 one_fault before token (fault.Argument l) g found also = absurd found

@@ -2,15 +2,18 @@
 use Rattle.std.proofs.Common.{◌≡◌, ◌+◌, List, [], ◌∷◌, ◌++◌, length, Bool, true, false, Some, refl, sym, ap, ◌∙◌, arith, Vec, Global, vec_len, eqb-true, eq-eqb}
 use Rattle.std.specs.Prelude.{◌==◌, IsTrue, ◌||◌}
 use Rattle.std.specs.List.{list_any}
-use Rattle.job_syntax.specs.declared.item.Item.{Item, Leaf as LeafItem, Block}
+use Rattle.job_syntax.specs.declared.item.Item.{Item, Leaf as LeafItem, Let as LetItem, Block}
 use Rattle.job_syntax.specs.declared.item.Leaf.{Leaf}
+use Rattle.job_syntax.specs.declared.item.Leaf.TheVariants as leaf
+use Rattle.job_names.specs.declared.name.Name.{Name}
+use Rattle.job_syntax.specs.Code.Shown.{lets_of}
 use Rattle.job_syntax.specs.declared.parser.blocks.OpenBlock.{OpenBlock}
-use Rattle.job_syntax.specs.Grammar.{nothing, leaf_then, ◌then◌, is_loop}
+use Rattle.job_syntax.specs.Grammar.{bound, nothing, leaf_then, block_then, ◌then◌, is_loop}
 use Rattle.job_syntax.specs.Code.Machine.{are_looped, after_close, at, an_item}
 use Rattle.job_syntax.specs.Code.Machine as machine
 use Rattle.job_syntax.specs.Views.{items_of, block_kind_of, leaf_of}
 use Rattle.job_syntax.specs.Code.OpenBlocks.{block_view, blocks_on}
-use Rattle.job_syntax.proofs.ParserLemmas.Levels.{items_of_push, item_of_leaf, item_of_block}
+use Rattle.job_syntax.proofs.ParserLemmas.Levels.{items_of_push, item_of_leaf, item_of_let, item_of_block}
 
 pub blocks_on_push : (under : List machine.OpenBlock) (blocks : List OpenBlock) (block : OpenBlock) → blocks_on under (blocks ++ block ∷ []) ≡ block_view block ∷ blocks_on under blocks
 blocks_on_push under [] block = refl
@@ -71,5 +74,20 @@ closing old rest block body new e f =
     ∙ sym (items_of_push block.before.items (Block block.kind body))
     ∙ ap items_of (sym f))
 
+-- the items after the innermost block is closed
+pub closed_items : (block : OpenBlock) (body : Vec Item Global) (new : List Item) → new ≡ block.before.items ++ Block block.kind body ∷ [] →
+    items_of new ≡ items_of block.before.items then block_then (block_kind_of block.kind) (items_of body.items) nothing
+closed_items block body new f =
+    ap items_of f ∙ items_of_push block.before.items (Block block.kind body) ∙ ap (λ item. items_of block.before.items then item) (item_of_block block.kind body)
+
 pub leaf_added : (items : List Item) (leaf : Leaf) → items_of (items ++ LeafItem leaf ∷ []) ≡ items_of items then leaf_then (leaf_of leaf) nothing
 leaf_added items leaf = items_of_push items (LeafItem leaf) ∙ ap (λ item. items_of items then item) (item_of_leaf leaf)
+
+pub let_added : (items : List Item) (name : Name) (call : Leaf) → items_of (items ++ LetItem name call ∷ []) ≡ items_of items then leaf_then (bound name (leaf_of call)) nothing
+let_added items name call = items_of_push items (LetItem name call) ∙ ap (λ item. items_of items then item) (item_of_let name call)
+
+-- a leaf of the code that is no let makes none
+pub plain_leaf : (leaf : Leaf) → lets_of (leaf_of leaf) ≡ []
+plain_leaf (leaf.WithArgument op argument) = refl
+plain_leaf leaf.StackPop = refl
+plain_leaf leaf.QueueTake = refl

@@ -2,49 +2,14 @@
 use Rattle.std.proofs.Common.{◌≡◌, List, [], ◌∷◌, ◌++◌, Bool, true, false, Option, Some, None, refl, sym, ap, ◌∙◌, append_assoc, append-nil}
 use Rattle.std.specs.Prelude.{if◌then◌else◌, IfSome}
 use Rattle.job_syntax.specs.declared.lexer.word.Word.{Word}
-use Rattle.job_syntax.specs.declared.lexer.word.Word.TheVariants.{Open, Close, Work, Counter, Stack, Tree, Queue, Add, Push, Pop, Insert, Remove, Find, Next, Take, Seq, Par, For, Pfor}
+use Rattle.job_syntax.specs.declared.lexer.word.Word.TheVariants.{Open, Close, Work, Counter, Stack, Tree, Queue, Add, Push, Pop, Insert, Remove, Find, Next, Take, Seq, Par, For, Pfor, Let, Equals, Number, Named}
+use Rattle.job_names.specs.declared.name.Name.{Name}
 use Rattle.job_syntax.specs.declared.parser.call.Object.{Object}
 use Rattle.job_syntax.specs.declared.parser.call.Object.TheVariants as object
-use Rattle.job_syntax.specs.Grammar.{Items, nothing, leaf_then, block_then, ◌then◌, BlockKind, seq_block, par_block, for_loop, pfor_loop, Leaf, with_argument, UnaryOp, work, is_number, is_argument, IsLeaf, IsBlockKind, AreItems, items_words, leaf_words, kind_words, unary_op_words}
-use Rattle.job_syntax.specs.Code.Machine.{OpenBlock, ParsedCall, unary, whole, call_behind, Place, an_item, an_argument, a_call, for_copies, pfor_copies, a_brace, State, at, start, are_looped, with_leaf, after_open, item_step, call_step, step_at}
+use Rattle.job_syntax.specs.Grammar.{Items, nothing, leaf_then, block_then, ◌then◌, BlockKind, seq_block, par_block, for_loop, pfor_loop, Leaf, with_argument, UnaryOp, work, counter_add, stack_push, tree_insert, tree_remove, tree_find, tree_next, queue_insert, is_number, takes, IsCall, IsLeaf, AreItems, items_words, leaf_words, kind_words, unary_op_words}
+use Rattle.job_syntax.specs.Code.Machine.{OpenBlock, ParsedCall, unary, whole, call_behind, Place, an_item, a_let_name, an_equals, a_let_object, object_of, given_leaf, let_name_step, equals_step, object_step, an_argument, a_call, for_copies, pfor_copies, a_brace, at, start, are_looped, with_leaf, after_open, item_step, call_step, step_at}
+pub use Rattle.job_syntax.specs.Code.Reached.{opening_words, object_words, given_words, place_words, state_words, AreBlocks, IsGiven, IsPlace, IsReached}
 use Rattle.job_syntax.proofs.ParserLemmas.Derivations.{words_then}
-
--- the words that open the blocks, with the items before them
-abbrev pub opening_words : List OpenBlock → List Word
-opening_words [] = []
-opening_words (block ∷ blocks) = opening_words blocks ++ (items_words block.before ++ (kind_words block.kind ++ Open ∷ []))
-
-abbrev pub object_words : Object → List Word
-object_words object.Counter = Counter ∷ []
-object_words object.Stack = Stack ∷ []
-object_words object.Tree = Tree ∷ []
-object_words object.Queue = Queue ∷ []
-
-abbrev pub place_words : Place → List Word
-place_words an_item = []
-place_words (an_argument op) = unary_op_words op
-place_words (a_call of) = object_words of
-place_words for_copies = For ∷ []
-place_words pfor_copies = Pfor ∷ []
-place_words (a_brace kind) = kind_words kind
-
-abbrev pub state_words : State → List Word
-state_words state = opening_words state.blocks ++ (items_words state.items ++ place_words state.place)
-
-abbrev pub AreBlocks : List OpenBlock → Type 0
-AreBlocks [] = Unit {0}
-AreBlocks (block ∷ blocks) = AreItems (are_looped blocks) block.before × IsBlockKind block.kind × AreBlocks blocks
-
-abbrev pub IsPlace : Place → Type 0
-IsPlace (a_brace kind) = IsBlockKind kind
-IsPlace _ = Unit {0}
-
--- The words are those that lead to this state, and its items and its place fit the grammar.
-pub record IsReached (words : List Word) (state : State) : Type 0 where
-  pub writes : state_words state ≡ words
-  pub blocks : AreBlocks state.blocks
-  pub items : AreItems (are_looped state.blocks) state.items
-  pub place : IsPlace state.place
 
 pub start_reached : IsReached [] start
 start_reached = record { writes = refl; blocks = tt; items = tt; place = tt }
@@ -81,11 +46,63 @@ added {words} {blocks} {items} {old} leaf last reached e fits = record {
   place = tt;
 }
 
-reach_argument : (words : List Word) (blocks : List OpenBlock) (items : Items) (op : UnaryOp) (last : Word) → IsReached words (at blocks items (an_argument op)) →
-    (b : Bool) → is_argument (are_looped blocks) last ≡ b →
-    IfSome (if b then Some (with_leaf blocks items (with_argument op last)) else None) (IsReached (words ++ last ∷ []))
-reach_argument words blocks items op last reached false e = tt
-reach_argument words blocks items op last reached true e = added (with_argument op last) last reached refl e
+-- the words of a leaf whose argument is the last word, and what it needs to fit
+given_argument : (given : Option Name) (op : UnaryOp) (last : Word) → place_words (an_argument given op) ++ last ∷ [] ≡ leaf_words (given_leaf given (with_argument op last))
+given_argument None op last = refl
+given_argument (Some name) op last = refl
+
+fits_given : (looped : Bool) (given : Option Name) (op : UnaryOp) (last : Word) → IsGiven given op → takes op looped last ≡ true → IsLeaf looped (given_leaf given (with_argument op last))
+fits_given looped None op last is e = e
+fits_given looped (Some name) work last is e = elim is [ ]
+fits_given looped (Some name) counter_add last is e = e
+fits_given looped (Some name) stack_push last is e = e
+fits_given looped (Some name) tree_insert last is e = e
+fits_given looped (Some name) tree_remove last is e = e
+fits_given looped (Some name) tree_find last is e = e
+fits_given looped (Some name) tree_next last is e = e
+fits_given looped (Some name) queue_insert last is e = e
+
+reach_argument : (words : List Word) (blocks : List OpenBlock) (items : Items) (given : Option Name) (op : UnaryOp) (last : Word) → IsReached words (at blocks items (an_argument given op)) →
+    (b : Bool) → takes op (are_looped blocks) last ≡ b →
+    IfSome (if b then Some (with_leaf blocks items (given_leaf given (with_argument op last))) else None) (IsReached (words ++ last ∷ []))
+reach_argument words blocks items given op last reached false e = tt
+reach_argument words blocks items given op last reached true e =
+    added (given_leaf given (with_argument op last)) last reached (given_argument given op last) (fits_given (are_looped blocks) given op last reached.place e)
+
+takes_zero : (looped : Bool) (op : UnaryOp) → takes op looped (Number (Some 0)) ≡ true
+takes_zero looped work = refl
+takes_zero looped counter_add = refl
+takes_zero looped stack_push = refl
+takes_zero looped tree_insert = refl
+takes_zero looped tree_remove = refl
+takes_zero looped tree_find = refl
+takes_zero looped tree_next = refl
+takes_zero looped queue_insert = refl
+
+-- a step by the argument 0
+pub added_zero : {words : List Word} {blocks : List OpenBlock} {items : Items} (given : Option Name) (op : UnaryOp) → IsReached words (at blocks items (an_argument given op)) →
+    IsReached (words ++ Number (Some 0) ∷ []) (with_leaf blocks items (given_leaf given (with_argument op (Number (Some 0)))))
+added_zero {words} {blocks} {items} given op reached =
+    added (given_leaf given (with_argument op (Number (Some 0)))) (Number (Some 0)) reached (given_argument given op (Number (Some 0)))
+    (fits_given (are_looped blocks) given op (Number (Some 0)) reached.place (takes_zero (are_looped blocks) op))
+
+reach_let_name : (words : List Word) (blocks : List OpenBlock) (items : Items) (last : Word) → IsReached words (at blocks items a_let_name) →
+    IfSome (let_name_step blocks items last) (IsReached (words ++ last ∷ []))
+reach_let_name words blocks items (Named name) reached = moved (an_equals name) (Named name) reached refl tt
+reach_let_name words blocks items _ reached = tt
+
+reach_equals : (words : List Word) (blocks : List OpenBlock) (items : Items) (name : Name) (last : Word) → IsReached words (at blocks items (an_equals name)) →
+    IfSome (equals_step blocks items name last) (IsReached (words ++ last ∷ []))
+reach_equals words blocks items name Equals reached = moved (a_let_object name) Equals reached refl tt
+reach_equals words blocks items name _ reached = tt
+
+reach_object : (words : List Word) (blocks : List OpenBlock) (items : Items) (name : Name) (last : Word) → IsReached words (at blocks items (a_let_object name)) →
+    IfSome (object_step blocks items name (object_of last)) (IsReached (words ++ last ∷ []))
+reach_object words blocks items name Counter reached = moved (a_call (Some name) object.Counter) Counter reached refl tt
+reach_object words blocks items name Stack reached = moved (a_call (Some name) object.Stack) Stack reached refl tt
+reach_object words blocks items name Tree reached = moved (a_call (Some name) object.Tree) Tree reached refl tt
+reach_object words blocks items name Queue reached = moved (a_call (Some name) object.Queue) Queue reached refl tt
+reach_object words blocks items name _ reached = tt
 
 reach_for : (words : List Word) (blocks : List OpenBlock) (items : Items) (last : Word) → IsReached words (at blocks items for_copies) →
     (b : Bool) → is_number last ≡ b →
@@ -99,34 +116,52 @@ reach_pfor : (words : List Word) (blocks : List OpenBlock) (items : Items) (last
 reach_pfor words blocks items last reached false e = tt
 reach_pfor words blocks items last reached true e = moved (a_brace (pfor_loop last)) last reached refl e
 
--- the words of a call, and what a whole one needs to fit
+-- the words of a call, and what it needs to fit, also behind a `let`
 abbrev call_words : ParsedCall → List Word
 call_words (unary op) = unary_op_words op
 call_words (whole leaf) = leaf_words leaf
 
-abbrev IsCall : Bool → ParsedCall → Type 0
-IsCall looped (unary op) = Unit {0}
-IsCall looped (whole leaf) = IsLeaf looped leaf
+abbrev FitsCall : Bool → ParsedCall → Type 0
+FitsCall looped (unary op) = (given : Option Name) → IsGiven given op
+FitsCall looped (whole leaf) = IsLeaf looped leaf × IsCall looped leaf
+
+given_call : (op : UnaryOp) → ((name : Name) → IsGiven (Some name) op) → (given : Option Name) → IsGiven given op
+given_call op h None = tt
+given_call op h (Some name) = h name
 
 written_call : (looped : Bool) (of : Object) (last : Word) →
-    IfSome (call_behind of last) (λ call. (object_words of ++ last ∷ [] ≡ call_words call) × IsCall looped call)
-written_call looped object.Counter Add = (refl, tt)
-written_call looped object.Stack Push = (refl, tt)
-written_call looped object.Stack Pop = (refl, tt)
-written_call looped object.Tree Insert = (refl, tt)
-written_call looped object.Tree Remove = (refl, tt)
-written_call looped object.Tree Find = (refl, tt)
-written_call looped object.Tree Next = (refl, tt)
-written_call looped object.Queue Insert = (refl, tt)
-written_call looped object.Queue Take = (refl, tt)
+    IfSome (call_behind of last) (λ call. (object_words of ++ last ∷ [] ≡ call_words call) × FitsCall looped call)
+written_call looped object.Counter Add = (refl, given_call counter_add (λ name. tt))
+written_call looped object.Stack Push = (refl, given_call stack_push (λ name. tt))
+written_call looped object.Stack Pop = (refl, (tt, tt))
+written_call looped object.Tree Insert = (refl, given_call tree_insert (λ name. tt))
+written_call looped object.Tree Remove = (refl, given_call tree_remove (λ name. tt))
+written_call looped object.Tree Find = (refl, given_call tree_find (λ name. tt))
+written_call looped object.Tree Next = (refl, given_call tree_next (λ name. tt))
+written_call looped object.Queue Insert = (refl, given_call queue_insert (λ name. tt))
+written_call looped object.Queue Take = (refl, (tt, tt))
 written_call looped _ _ = tt
 
-reach_call : (words : List Word) (blocks : List OpenBlock) (items : Items) (of : Object) (last : Word) → IsReached words (at blocks items (a_call of)) →
-    (found : Option ParsedCall) → IfSome found (λ call. (object_words of ++ last ∷ [] ≡ call_words call) × IsCall (are_looped blocks) call) →
-    IfSome (call_step blocks items found) (IsReached (words ++ last ∷ []))
-reach_call words blocks items of last reached None written = tt
-reach_call words blocks items of last reached (Some (unary op)) written = moved (an_argument op) last reached written.0 tt
-reach_call words blocks items of last reached (Some (whole leaf)) written = added leaf last reached written.0 written.1
+behind_given : (given : Option Name) (of : Object) (last : Word) (words : List Word) → object_words of ++ last ∷ [] ≡ words → place_words (a_call given of) ++ last ∷ [] ≡ given_words given ++ words
+behind_given None of last words e = e
+behind_given (Some name) of last words e = ap (λ ws. Let ∷ Named name ∷ Equals ∷ ws) e
+
+given_whole : (given : Option Name) (leaf : Leaf) → given_words given ++ leaf_words leaf ≡ leaf_words (given_leaf given leaf)
+given_whole None leaf = refl
+given_whole (Some name) leaf = refl
+
+fits_whole : (looped : Bool) (given : Option Name) (leaf : Leaf) → IsLeaf looped leaf → IsCall looped leaf → IsLeaf looped (given_leaf given leaf)
+fits_whole looped None leaf fits call = fits
+fits_whole looped (Some name) leaf fits call = call
+
+reach_call : (words : List Word) (blocks : List OpenBlock) (items : Items) (given : Option Name) (of : Object) (last : Word) → IsReached words (at blocks items (a_call given of)) →
+    (found : Option ParsedCall) → IfSome found (λ call. (object_words of ++ last ∷ [] ≡ call_words call) × FitsCall (are_looped blocks) call) →
+    IfSome (call_step blocks items given found) (IsReached (words ++ last ∷ []))
+reach_call words blocks items given of last reached None written = tt
+reach_call words blocks items given of last reached (Some (unary op)) written =
+    moved (an_argument given op) last reached (behind_given given of last (unary_op_words op) written.0) (written.1 given)
+reach_call words blocks items given of last reached (Some (whole leaf)) written =
+    added (given_leaf given leaf) last reached (behind_given given of last (leaf_words leaf) written.0 ∙ given_whole given leaf) (fits_whole (are_looped blocks) given leaf written.1.0 written.1.1)
 
 pub reach_brace : {words : List Word} {blocks : List OpenBlock} {items : Items} (kind : BlockKind) → IsReached words (at blocks items (a_brace kind)) →
     IsReached (words ++ Open ∷ []) (after_open blocks items kind)
@@ -150,11 +185,12 @@ reach_item : (words : List Word) (blocks : List OpenBlock) (items : Items) (last
     IfSome (item_step blocks items last) (IsReached (words ++ last ∷ []))
 reach_item words [] items Close reached = tt
 reach_item words (block ∷ blocks) items Close reached = reach_close block blocks items reached
-reach_item words blocks items Work reached = moved (an_argument work) Work reached refl tt
-reach_item words blocks items Counter reached = moved (a_call object.Counter) Counter reached refl tt
-reach_item words blocks items Stack reached = moved (a_call object.Stack) Stack reached refl tt
-reach_item words blocks items Tree reached = moved (a_call object.Tree) Tree reached refl tt
-reach_item words blocks items Queue reached = moved (a_call object.Queue) Queue reached refl tt
+reach_item words blocks items Work reached = moved (an_argument None work) Work reached refl tt
+reach_item words blocks items Counter reached = moved (a_call None object.Counter) Counter reached refl tt
+reach_item words blocks items Stack reached = moved (a_call None object.Stack) Stack reached refl tt
+reach_item words blocks items Tree reached = moved (a_call None object.Tree) Tree reached refl tt
+reach_item words blocks items Queue reached = moved (a_call None object.Queue) Queue reached refl tt
+reach_item words blocks items Let reached = moved a_let_name Let reached refl tt
 reach_item words blocks items Seq reached = moved (a_brace seq_block) Seq reached refl tt
 reach_item words blocks items Par reached = moved (a_brace par_block) Par reached refl tt
 reach_item words blocks items For reached = moved for_copies For reached refl tt
@@ -165,8 +201,11 @@ reach_item words blocks items _ reached = tt
 pub reach : (words : List Word) (blocks : List OpenBlock) (items : Items) (place : Place) (last : Word) → IsReached words (at blocks items place) →
     IfSome (step_at blocks items place last) (IsReached (words ++ last ∷ []))
 reach words blocks items an_item last reached = reach_item words blocks items last reached
-reach words blocks items (an_argument op) last reached = reach_argument words blocks items op last reached _ refl
-reach words blocks items (a_call of) last reached = reach_call words blocks items of last reached (call_behind of last) (written_call (are_looped blocks) of last)
+reach words blocks items a_let_name last reached = reach_let_name words blocks items last reached
+reach words blocks items (an_equals name) last reached = reach_equals words blocks items name last reached
+reach words blocks items (a_let_object name) last reached = reach_object words blocks items name last reached
+reach words blocks items (an_argument given op) last reached = reach_argument words blocks items given op last reached _ refl
+reach words blocks items (a_call given of) last reached = reach_call words blocks items given of last reached (call_behind of last) (written_call (are_looped blocks) of last)
 reach words blocks items for_copies last reached = reach_for words blocks items last reached _ refl
 reach words blocks items pfor_copies last reached = reach_pfor words blocks items last reached _ refl
 reach words blocks items (a_brace kind) Open reached = reach_brace kind reached

@@ -13,12 +13,12 @@ use Rattle.job_syntax.specs.declared.error.JobErr.TheVariants.{Bad}
 use Rattle.job_syntax.proofs.ParserLemmas.Runs.{one_derivation}
 use Rattle.job_syntax.proofs.ParserLemmas.MachineAnswers.{AreAnswer, answer_on_all}
 use Rattle.job_syntax.proofs.ParserLemmas.OneFault.{one_fault_behind, derived_or_fault}
-use Rattle.job_syntax.proofs.ParserLemmas.Nestings.{AreNested, nesting_within, nested_within, good_when_clean, nested_when_clean, clean_when_nested}
+use Rattle.job_syntax.proofs.ParserLemmas.Nestings.{AreNested, nesting_within, nested_within, good_when_clean, known_when_clean, nested_when_clean, clean_when_nested}
 
 whole_words : (tokens : List WordOnLine) (items : Items) → Derives (words_of tokens) items → words_of tokens ≡ items_words items ++ []
 whole_words tokens items derives = sym derives.writes ∙ sym (append-nil (items_words items))
 
--- Derived tokens without a fault have their items: they keep the limits of numbers and of nesting.
+-- Derived tokens without a fault have their items: they keep the limits of numbers and of nesting, and their names are known.
 pub items_when_clean : (tokens : List WordOnLine) (items : Items) → Derives (words_of tokens) items → AreClean [] tokens → AreItemsOf tokens items
 items_when_clean tokens items derives clean = record {
   derives = derives;
@@ -27,13 +27,14 @@ items_when_clean tokens items derives clean = record {
       let within_nesting = subst (AreNested 0) (whole_words tokens items derives) (nested_when_clean tokens [] clean) in
       let within = nesting_within false 0 items [] derives.fits (omega arith) within_nesting in
       omega (arith, within.0);
+  known = known_when_clean tokens [] clean;
 }
 
 -- In a list of words that has items, no token has a fault.
 pub clean_when_items : (tokens : List WordOnLine) (items : Items) → AreItemsOf tokens items → AreClean [] tokens
 clean_when_items tokens items read =
     let within_nesting = nested_within false 0 items [] read.derives.fits (omega (arith, read.nests)) tt in
-    clean_when_nested tokens [] items read.derives read.numbers (subst (AreNested 0) (sym (whole_words tokens items read.derives)) within_nesting)
+    clean_when_nested tokens [] items read.derives read.numbers (subst (AreNested 0) (sym (whole_words tokens items read.derives)) within_nesting) read.known
 
 -- A list of words has at most one list of items.
 pub one_items : (tokens : List WordOnLine) (a b : Items) → AreItemsOf tokens a → AreItemsOf tokens b → a ≡ b

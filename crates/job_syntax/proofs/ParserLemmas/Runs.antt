@@ -4,7 +4,7 @@ use Rattle.std.specs.Prelude.{option_and_then, map}
 use Rattle.job_syntax.specs.declared.lexer.word.Word.{Word}
 use Rattle.job_syntax.specs.declared.lexer.word.Word.TheVariants.{Open, Close}
 use Rattle.job_syntax.specs.Words.{word_of}
-use Rattle.job_syntax.specs.Grammar.{Items, nothing, leaf_then, block_then, ◌then◌, BlockKind, seq_block, par_block, for_loop, pfor_loop, Leaf, with_argument, stack_pop, queue_take, work, counter_add, stack_push, tree_insert, tree_remove, tree_find, tree_next, queue_insert, IsLeaf, IsBlockKind, AreItems, Derives, CanGoOn, items_words, leaf_words, kind_words}
+use Rattle.job_syntax.specs.Grammar.{Items, nothing, leaf_then, block_then, ◌then◌, BlockKind, seq_block, par_block, for_loop, pfor_loop, Leaf, with_argument, stack_pop, queue_take, bound, work, counter_add, stack_push, tree_insert, tree_remove, tree_find, tree_next, queue_insert, IsLeaf, IsBlockKind, AreItems, Derives, CanGoOn, items_words, leaf_words, kind_words}
 use Rattle.job_syntax.proofs.ParserLemmas.Derivations.{then_assoc, then_nothing}
 use Rattle.job_syntax.specs.Code.Machine.{OpenBlock, an_item, State, at, start, are_looped, with_leaf, after_open, step, run}
 
@@ -31,6 +31,17 @@ run_leaf blocks items (with_argument tree_next argument) words fits = rw fits re
 run_leaf blocks items (with_argument queue_insert argument) words fits = rw fits refl
 run_leaf blocks items stack_pop words fits = refl
 run_leaf blocks items queue_take words fits = refl
+run_leaf blocks items (bound name (with_argument work argument)) words fits = elim fits [ ]
+run_leaf blocks items (bound name (with_argument counter_add argument)) words fits = rw fits refl
+run_leaf blocks items (bound name (with_argument stack_push argument)) words fits = rw fits refl
+run_leaf blocks items (bound name (with_argument tree_insert argument)) words fits = rw fits refl
+run_leaf blocks items (bound name (with_argument tree_remove argument)) words fits = rw fits refl
+run_leaf blocks items (bound name (with_argument tree_find argument)) words fits = rw fits refl
+run_leaf blocks items (bound name (with_argument tree_next argument)) words fits = rw fits refl
+run_leaf blocks items (bound name (with_argument queue_insert argument)) words fits = rw fits refl
+run_leaf blocks items (bound name stack_pop) words fits = refl
+run_leaf blocks items (bound name queue_take) words fits = refl
+run_leaf blocks items (bound name (bound other call)) words fits = elim fits [ ]
 
 -- the words that open a block lead to the state inside it
 run_kind : (blocks : List OpenBlock) (items : Items) (kind : BlockKind) (words : List Word) → IsBlockKind kind →

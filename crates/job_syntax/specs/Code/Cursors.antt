@@ -1,5 +1,5 @@
 -- What a cursor requires of the tokens that are left: the word that it takes with the tokens behind it, or the fault.
-use Rattle.std.specs.Prelude.{ℕ, List, [], ◌∷◌, Bool, Option, Some, None, Result, Ok, Err, if◌then◌else◌, nat_le}
+use Rattle.std.specs.Prelude.{ℕ, List, [], ◌∷◌, Bool, true, Option, Some, None, Result, Ok, Err, if◌then◌else◌, nat_le}
 use Rattle.job_syntax.specs.declared.lexer.word.Word.{Word}
 use Rattle.job_syntax.specs.declared.lexer.word.Word.TheVariants.{Open, Equals, Named}
 use Rattle.job_syntax.specs.declared.lexer.word.WordOnLine.{WordOnLine}
@@ -29,9 +29,9 @@ abbrev pub argument_at : ℕ → List OpenBlock → Items → UnaryOp → List W
 argument_at last blocks items op [] = Err (fault.Grammar last)
 argument_at last blocks items op (token ∷ tokens) =
     if takes op (are_looped blocks) token.word then
-      (if has_good_numbers token.word then
-        (if is_known_word blocks items token.word then Ok (token.word, tokens) else Err (fault.Name token.line))
-      else Err (fault.Number token.line))
+    (if has_good_numbers token.word then
+    (if is_known_word blocks items token.word then Ok (token.word, tokens) else Err (fault.Name token.line))
+    else Err (fault.Number token.line))
     else Err (fault.Grammar token.line)
 
 -- the name that a `let` gives

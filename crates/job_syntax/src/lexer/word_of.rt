@@ -1,6 +1,7 @@
 //! Which word a token spells: a quoted word of the grammar, a number, or one that depends on the copy.
 ghost use Rattle.std.specs.Prelude.{◌≡◌, ◌+◌, ◌<◌, [], IfSome, IfNone, IsTrue, not, length, take, drop};
-ghost use Rattle.job_syntax.specs.Words.{are_digits, begins_well, number_of, before_plus, behind_plus, copies_word, argument_word, word_of};
+ghost use Rattle.job_syntax.specs.declared.lexer.word.Word.{Word};
+ghost use Rattle.job_syntax.specs.Words.{are_digits, begins_well, number_of, before_plus, behind_plus, copies_word, argument_word, word_of, quoted_or};
 
 use crate::lexer::word::Word;
 use job_names::{is_spelled, name_of};
@@ -85,8 +86,8 @@ fn argument_word(text: &[u8]) -> Word
 
 /// The word of a token that is a quoted word of the grammar.
 fn quoted_word(text: &[u8]) -> Option<Word>
-    ensures some { IfSome result (λ word. word_of text.now ≡ word) }
-    ensures none { IfNone result (word_of text.now ≡ argument_word text.now) }
+    ensures some { IfSome result (λ word. (other : Word) → quoted_or text.now other ≡ word) }
+    ensures none { IfNone result ((other : Word) → quoted_or text.now other ≡ other) }
 {
     let word = match text {
         b"{" => Word::Open,

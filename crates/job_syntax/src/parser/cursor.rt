@@ -71,9 +71,9 @@ impl<'a> Cursor<'a> {
         requires { ShowsLets stack.now }
         ensures gives { MatchResult result
             (λ argument. argument_at last (view stack.now).blocks (view stack.now).items (unary_op_of op) self.old
-                ≡ Ok (argument_word argument, self.new))
+            ≡ Ok (argument_word argument, self.new))
             (λ found. argument_at last (view stack.now).blocks (view stack.now).items (unary_op_of op) self.old
-                ≡ Err found) }
+            ≡ Err found) }
         ensures shorter { length self.new ≤ length self.old }
     {
         let Some(token) = self.next() else {

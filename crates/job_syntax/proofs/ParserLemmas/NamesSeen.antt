@@ -1,0 +1,87 @@
+-- The names that are seen behind a front of a text: its open blocks with the items before each, and the items in the
+-- innermost.
+use Rattle.std.proofs.Common.{◌≡◌, ◌⊎◌, List, [], ◌∷◌, ◌++◌, Bool, true}
+use Rattle.std.specs.Prelude.{if◌then◌else◌, IsTrue, ◌||◌}
+use Rattle.job_names.specs.declared.name.Name.{Name}
+use Rattle.job_syntax.specs.declared.lexer.word.Word.{Word}
+use Rattle.job_syntax.specs.declared.lexer.word.Word.TheVariants.{Number, Copies, Named}
+use Rattle.job_syntax.specs.Grammar.{work, counter_add, stack_push, tree_insert, tree_remove, tree_find, tree_next, queue_insert, Leaf, with_argument, stack_pop, queue_take, bound, Items, nothing, leaf_then, block_then, is_argument, is_call_argument, is_loop, is_par, IsCall, IsLeaf, IsBlockKind, AreItems}
+use Rattle.job_syntax.specs.Code.Shown.{OpenBlock}
+use Rattle.job_syntax.specs.Code.Machine.{are_looped}
+use Rattle.job_syntax.specs.Code.Reached.{AreBlocks}
+
+abbrev pub Has : List Name → Name → Type 0
+Has [] n = ⊥
+Has (x ∷ xs) n = (x ≡ n) ⊎ Has xs n
+
+abbrev pub names_of : Leaf → List Name
+names_of (with_argument op argument) = []
+names_of stack_pop = []
+names_of queue_take = []
+names_of (bound name call) = name ∷ []
+
+-- the names that items give to what comes behind them, the latest first
+abbrev pub names_behind : Items → List Name
+names_behind nothing = []
+names_behind (leaf_then leaf more) = names_behind more ++ names_of leaf
+names_behind (block_then kind body more) = names_behind more ++ (if is_loop kind then [] else names_behind body)
+
+abbrev pub names_seen : List OpenBlock → Items → List Name
+names_seen [] items = names_behind items
+names_seen (block ∷ blocks) items = (if is_par block.kind then [] else names_behind items) ++ names_seen blocks block.before
+
+-- items as they may stand inside a loop
+abbrev pub AreFlat : Items → Type 0
+AreFlat nothing = Unit {0}
+AreFlat (leaf_then leaf more) = IsLeaf true leaf × AreFlat more
+AreFlat (block_then kind body more) = AreFlat body × AreFlat more × IsBlockKind kind
+
+abbrev pub AreFlatBlocks : List OpenBlock → Type 0
+AreFlatBlocks [] = Unit {0}
+AreFlatBlocks (block ∷ blocks) = AreFlat block.before × AreFlatBlocks blocks × IsBlockKind block.kind
+
+flat_argument : (looped : Bool) (w : Word) → IsTrue (is_argument looped w) → IsTrue (is_argument true w)
+flat_argument looped (Number n) h = h
+flat_argument looped (Copies n) h = λ i. true
+flat_argument looped _ h = cc
+
+flat_value : (looped : Bool) (w : Word) → IsTrue (is_call_argument looped w) → IsTrue (is_call_argument true w)
+flat_value looped (Number n) h = h
+flat_value looped (Copies n) h = λ i. true
+flat_value looped (Named n) h = h
+flat_value looped _ h = cc
+
+pub flat_call : (looped : Bool) (call : Leaf) → IsCall looped call → IsCall true call
+flat_call looped (with_argument work w) h = h
+flat_call looped (with_argument counter_add w) h = flat_value looped w h
+flat_call looped (with_argument stack_push w) h = flat_value looped w h
+flat_call looped (with_argument tree_insert w) h = flat_value looped w h
+flat_call looped (with_argument tree_remove w) h = flat_value looped w h
+flat_call looped (with_argument tree_find w) h = flat_value looped w h
+flat_call looped (with_argument tree_next w) h = flat_value looped w h
+flat_call looped (with_argument queue_insert w) h = flat_value looped w h
+flat_call looped stack_pop h = h
+flat_call looped queue_take h = h
+flat_call looped (bound name call) h = h
+
+flat_leaf : (looped : Bool) (leaf : Leaf) → IsLeaf looped leaf → IsLeaf true leaf
+flat_leaf looped (with_argument work w) h = flat_argument looped w h
+flat_leaf looped (with_argument counter_add w) h = flat_value looped w h
+flat_leaf looped (with_argument stack_push w) h = flat_value looped w h
+flat_leaf looped (with_argument tree_insert w) h = flat_value looped w h
+flat_leaf looped (with_argument tree_remove w) h = flat_value looped w h
+flat_leaf looped (with_argument tree_find w) h = flat_value looped w h
+flat_leaf looped (with_argument tree_next w) h = flat_value looped w h
+flat_leaf looped (with_argument queue_insert w) h = flat_value looped w h
+flat_leaf looped stack_pop h = h
+flat_leaf looped queue_take h = h
+flat_leaf looped (bound name call) h = flat_call looped call h
+
+pub flat_items : (looped : Bool) (items : Items) → AreItems looped items → AreFlat items
+flat_items looped nothing h = h
+flat_items looped (leaf_then leaf more) h = (flat_leaf looped leaf h.0, flat_items looped more h.1)
+flat_items looped (block_then kind body more) h = (flat_items (looped || is_loop kind) body h.1, flat_items looped more h.2, h.0)
+
+pub flat_blocks : (blocks : List OpenBlock) → AreBlocks blocks → AreFlatBlocks blocks
+flat_blocks [] h = h
+flat_blocks (block ∷ blocks) h = (flat_items (are_looped blocks) block.before h.0, flat_blocks blocks h.2, h.1)

@@ -1,0 +1,294 @@
+-- A name that is seen behind a front is visible by the three conditions.
+use Rattle.std.proofs.Common.{◌≡◌, ◌+◌, ◌-◌, ◌⊎◌, inl, inr, Bool, true, false, not, List, [], ◌∷◌, ◌++◌, length, length-append as length_append, take, drop, map, arith, refl, sym, ap, ◌∙◌, append_assoc, subst}
+use Rattle.std.specs.Prelude.{if◌then◌else◌, IsTrue}
+use Rattle.std.specs.List.{AllByRecursion}
+use Rattle.job_names.specs.declared.name.Name.{Name}
+use Rattle.job_syntax.specs.declared.lexer.word.Word.{Word}
+use Rattle.job_syntax.specs.declared.lexer.word.Word.TheVariants.{Open, Close, Number, Copies, Named}
+use Rattle.job_syntax.specs.Grammar.{work, counter_add, stack_push, tree_insert, tree_remove, tree_find, tree_next, queue_insert, Leaf, with_argument, stack_pop, queue_take, bound, BlockKind, seq_block, par_block, for_loop, pfor_loop, Items, nothing, leaf_then, block_then, leaf_words, kind_words, items_words, is_number, is_argument, is_call_argument, is_loop, is_par, IsCall, IsLeaf, IsBlockKind}
+use Rattle.job_syntax.specs.Visibility.{blocks_behind, closed_by, is_in_series, Sees}
+use Rattle.job_syntax.specs.Code.Shown.{OpenBlock}
+use Rattle.job_syntax.specs.Code.Reached.{opening_words}
+use Rattle.job_syntax.proofs.ParserLemmas.NamesSeen.{Has, names_of, names_behind, names_seen, AreFlat, AreFlatBlocks}
+
+pub has_append : (xs ys : List Name) (n : Name) → Has (xs ++ ys) n → Has xs n ⊎ Has ys n
+has_append [] ys n h = inr h
+has_append (x ∷ xs) ys n (inl e) = inl (inl e)
+has_append (x ∷ xs) ys n (inr h) = elim (has_append xs ys n h) [ inl l ↦ inl (inr l) | inr r ↦ inr r ]
+
+-- words without braces close nothing and open nothing
+closed_argument : (w : Word) (rest : List Word) → IsTrue (is_argument true w) → closed_by (w ∷ rest) ≡ closed_by rest
+closed_argument (Number n) rest h = refl
+closed_argument (Copies n) rest h = refl
+closed_argument _ rest h = cc
+
+open_argument : (w : Word) (blocks : List BlockKind) (rest : List Word) → IsTrue (is_argument true w) → blocks_behind blocks (w ∷ rest) ≡ blocks_behind blocks rest
+open_argument (Number n) blocks rest h = refl
+open_argument (Copies n) blocks rest h = refl
+open_argument _ blocks rest h = cc
+
+closed_value : (w : Word) (rest : List Word) → IsTrue (is_call_argument true w) → closed_by (w ∷ rest) ≡ closed_by rest
+closed_value (Number n) rest h = refl
+closed_value (Copies n) rest h = refl
+closed_value (Named n) rest h = refl
+closed_value _ rest h = cc
+
+open_value : (w : Word) (blocks : List BlockKind) (rest : List Word) → IsTrue (is_call_argument true w) → blocks_behind blocks (w ∷ rest) ≡ blocks_behind blocks rest
+open_value (Number n) blocks rest h = refl
+open_value (Copies n) blocks rest h = refl
+open_value (Named n) blocks rest h = refl
+open_value _ blocks rest h = cc
+
+pub closed_call : (call : Leaf) (rest : List Word) → IsCall true call → closed_by (leaf_words call ++ rest) ≡ closed_by rest
+closed_call (with_argument work w) rest h = elim h [ ]
+closed_call (with_argument counter_add w) rest h = closed_value w rest h
+closed_call (with_argument stack_push w) rest h = closed_value w rest h
+closed_call (with_argument tree_insert w) rest h = closed_value w rest h
+closed_call (with_argument tree_remove w) rest h = closed_value w rest h
+closed_call (with_argument tree_find w) rest h = closed_value w rest h
+closed_call (with_argument tree_next w) rest h = closed_value w rest h
+closed_call (with_argument queue_insert w) rest h = closed_value w rest h
+closed_call stack_pop rest h = refl
+closed_call queue_take rest h = refl
+closed_call (bound name call) rest h = elim h [ ]
+
+open_call : (call : Leaf) (blocks : List BlockKind) (rest : List Word) → IsCall true call → blocks_behind blocks (leaf_words call ++ rest) ≡ blocks_behind blocks rest
+open_call (with_argument work w) blocks rest h = elim h [ ]
+open_call (with_argument counter_add w) blocks rest h = open_value w blocks rest h
+open_call (with_argument stack_push w) blocks rest h = open_value w blocks rest h
+open_call (with_argument tree_insert w) blocks rest h = open_value w blocks rest h
+open_call (with_argument tree_remove w) blocks rest h = open_value w blocks rest h
+open_call (with_argument tree_find w) blocks rest h = open_value w blocks rest h
+open_call (with_argument tree_next w) blocks rest h = open_value w blocks rest h
+open_call (with_argument queue_insert w) blocks rest h = open_value w blocks rest h
+open_call stack_pop blocks rest h = refl
+open_call queue_take blocks rest h = refl
+open_call (bound name call) blocks rest h = elim h [ ]
+
+closed_leaf : (leaf : Leaf) (rest : List Word) → IsLeaf true leaf → closed_by (leaf_words leaf ++ rest) ≡ closed_by rest
+closed_leaf (with_argument work w) rest h = closed_argument w rest h
+closed_leaf (with_argument counter_add w) rest h = closed_value w rest h
+closed_leaf (with_argument stack_push w) rest h = closed_value w rest h
+closed_leaf (with_argument tree_insert w) rest h = closed_value w rest h
+closed_leaf (with_argument tree_remove w) rest h = closed_value w rest h
+closed_leaf (with_argument tree_find w) rest h = closed_value w rest h
+closed_leaf (with_argument tree_next w) rest h = closed_value w rest h
+closed_leaf (with_argument queue_insert w) rest h = closed_value w rest h
+closed_leaf stack_pop rest h = refl
+closed_leaf queue_take rest h = refl
+closed_leaf (bound name call) rest h = closed_call call rest h
+
+pub open_leaf : (leaf : Leaf) (blocks : List BlockKind) (rest : List Word) → IsLeaf true leaf → blocks_behind blocks (leaf_words leaf ++ rest) ≡ blocks_behind blocks rest
+open_leaf (with_argument work w) blocks rest h = open_argument w blocks rest h
+open_leaf (with_argument counter_add w) blocks rest h = open_value w blocks rest h
+open_leaf (with_argument stack_push w) blocks rest h = open_value w blocks rest h
+open_leaf (with_argument tree_insert w) blocks rest h = open_value w blocks rest h
+open_leaf (with_argument tree_remove w) blocks rest h = open_value w blocks rest h
+open_leaf (with_argument tree_find w) blocks rest h = open_value w blocks rest h
+open_leaf (with_argument tree_next w) blocks rest h = open_value w blocks rest h
+open_leaf (with_argument queue_insert w) blocks rest h = open_value w blocks rest h
+open_leaf stack_pop blocks rest h = refl
+open_leaf queue_take blocks rest h = refl
+open_leaf (bound name call) blocks rest h = open_call call blocks rest h
+
+closed_number : (copies : Word) (rest : List Word) → IsTrue (is_number copies) → closed_by (copies ∷ rest) ≡ closed_by rest
+closed_number (Number n) rest h = refl
+closed_number _ rest h = cc
+
+pub closed_kind : (kind : BlockKind) (rest : List Word) → IsBlockKind kind → closed_by (kind_words kind ++ Open ∷ rest) ≡ closed_by rest - 1
+closed_kind seq_block rest h = refl
+closed_kind par_block rest h = refl
+closed_kind (for_loop copies) rest h = closed_number copies (Open ∷ rest) h
+closed_kind (pfor_loop copies) rest h = closed_number copies (Open ∷ rest) h
+
+pub open_kind : (kind : BlockKind) (blocks : List BlockKind) (rest : List Word) → blocks_behind blocks (kind_words kind ++ Open ∷ rest) ≡ blocks_behind (kind ∷ blocks) rest
+open_kind seq_block blocks rest = refl
+open_kind par_block blocks rest = refl
+open_kind (for_loop n) blocks rest = refl
+open_kind (pfor_loop n) blocks rest = refl
+
+-- items close what they open
+pub closed_items : (items : Items) (rest : List Word) → AreFlat items → closed_by (items_words items ++ rest) ≡ closed_by rest
+closed_items nothing rest h = refl
+closed_items (leaf_then leaf more) rest h =
+    ap closed_by (append_assoc (leaf_words leaf) (items_words more) rest) ∙ closed_leaf leaf (items_words more ++ rest) h.0 ∙ closed_items more rest h.1
+closed_items (block_then kind body more) rest h =
+    ap closed_by (append_assoc (kind_words kind) (Open ∷ (items_words body ++ Close ∷ items_words more)) rest)
+    ∙ closed_kind kind ((items_words body ++ Close ∷ items_words more) ++ rest) h.2
+    ∙ ap (λ ws. closed_by ws - 1) (append_assoc (items_words body) (Close ∷ items_words more) rest)
+    ∙ ap (λ n. n - 1) (closed_items body (Close ∷ (items_words more ++ rest)) h.0)
+    ∙ (let e = closed_items more rest h.1 in omega (arith, e))
+
+pub open_items : (items : Items) (blocks : List BlockKind) (rest : List Word) → AreFlat items → blocks_behind blocks (items_words items ++ rest) ≡ blocks_behind blocks rest
+open_items nothing blocks rest h = refl
+open_items (leaf_then leaf more) blocks rest h =
+    ap (blocks_behind blocks) (append_assoc (leaf_words leaf) (items_words more) rest) ∙ open_leaf leaf blocks (items_words more ++ rest) h.0 ∙ open_items more blocks rest h.1
+open_items (block_then kind body more) blocks rest h =
+    ap (blocks_behind blocks) (append_assoc (kind_words kind) (Open ∷ (items_words body ++ Close ∷ items_words more)) rest)
+    ∙ open_kind kind blocks ((items_words body ++ Close ∷ items_words more) ++ rest)
+    ∙ ap (blocks_behind (kind ∷ blocks)) (append_assoc (items_words body) (Close ∷ items_words more) rest)
+    ∙ open_items body (kind ∷ blocks) (Close ∷ (items_words more ++ rest)) h.0
+    ∙ open_items more blocks rest h.1
+
+-- the kinds of open blocks
+pub open_opening : (blocks : List OpenBlock) (rest : List Word) → AreFlatBlocks blocks → blocks_behind [] (opening_words blocks ++ rest) ≡ blocks_behind (map (λ (b : OpenBlock). b.kind) blocks) rest
+open_opening [] rest h = refl
+open_opening (block ∷ blocks) rest h =
+    ap (blocks_behind []) (append_assoc (opening_words blocks) (items_words block.before ++ (kind_words block.kind ++ Open ∷ [])) rest)
+    ∙ open_opening blocks ((items_words block.before ++ (kind_words block.kind ++ Open ∷ [])) ++ rest) h.1
+    ∙ ap (blocks_behind (map (λ (b : OpenBlock). b.kind) blocks)) (append_assoc (items_words block.before) (kind_words block.kind ++ Open ∷ []) rest ∙ ap (λ ws. items_words block.before ++ ws) (append_assoc (kind_words block.kind) (Open ∷ []) rest))
+    ∙ open_items block.before (map (λ (b : OpenBlock). b.kind) blocks) (kind_words block.kind ++ Open ∷ rest) h.0
+    ∙ open_kind block.kind (map (λ (b : OpenBlock). b.kind) blocks) rest
+
+-- Where a let of this name stands in items: the blocks inside that hold it, the innermost first, of which none is a loop.
+record Place (items : Items) (name : Name) : Type 0 where
+  front : List Word
+  call : Leaf
+  whole : IsCall true call
+  behind : List Word
+  inside : List BlockKind
+  stands : front ++ (leaf_words (bound name call) ++ behind) ≡ items_words items
+  opens : (blocks : List BlockKind) → blocks_behind blocks front ≡ inside ++ blocks
+  closes : (rest : List Word) → closed_by (behind ++ rest) ≡ closed_by rest + length inside
+  no_loop : AllByRecursion (λ kind. is_loop kind ≡ false) inside
+
+each_append : (xs ys : List BlockKind) → AllByRecursion (λ kind. is_loop kind ≡ false) xs → AllByRecursion (λ kind. is_loop kind ≡ false) ys → AllByRecursion (λ kind. is_loop kind ≡ false) (xs ++ ys)
+each_append [] ys a b = b
+each_append (x ∷ xs) ys a b = (a.0, each_append xs ys a.1 b)
+
+behind_leaf : (leaf : Leaf) (more : Items) (name : Name) → IsLeaf true leaf → Place more name → Place (leaf_then leaf more) name
+behind_leaf leaf more name is p = record {
+  front = leaf_words leaf ++ p.front;
+  call = p.call;
+  whole = p.whole;
+  behind = p.behind;
+  inside = p.inside;
+  stands = append_assoc (leaf_words leaf) p.front (leaf_words (bound name p.call) ++ p.behind) ∙ ap (λ ws. leaf_words leaf ++ ws) p.stands;
+  opens = λ blocks. open_leaf leaf blocks p.front is ∙ p.opens blocks;
+  closes = p.closes;
+  no_loop = p.no_loop;
+}
+
+behind_block : (kind : BlockKind) (body more : Items) (name : Name) → AreFlat body → Place more name → Place (block_then kind body more) name
+behind_block kind body more name is p = record {
+  front = kind_words kind ++ Open ∷ (items_words body ++ Close ∷ p.front);
+  call = p.call;
+  whole = p.whole;
+  behind = p.behind;
+  inside = p.inside;
+  stands = append_assoc (kind_words kind) (Open ∷ (items_words body ++ Close ∷ p.front)) (leaf_words (bound name p.call) ++ p.behind)
+      ∙ ap (λ ws. kind_words kind ++ Open ∷ ws) (append_assoc (items_words body) (Close ∷ p.front) (leaf_words (bound name p.call) ++ p.behind) ∙ ap (λ ws. items_words body ++ Close ∷ ws) p.stands);
+  opens = λ blocks. open_kind kind blocks (items_words body ++ Close ∷ p.front) ∙ open_items body (kind ∷ blocks) (Close ∷ p.front) is ∙ p.opens blocks;
+  closes = p.closes;
+  no_loop = p.no_loop;
+}
+
+inside_block : (kind : BlockKind) (body more : Items) (name : Name) → is_loop kind ≡ false → AreFlat more → Place body name → Place (block_then kind body more) name
+inside_block kind body more name loop is p = record {
+  front = kind_words kind ++ Open ∷ p.front;
+  call = p.call;
+  whole = p.whole;
+  behind = p.behind ++ Close ∷ items_words more;
+  inside = p.inside ++ kind ∷ [];
+  stands = append_assoc (kind_words kind) (Open ∷ p.front) (leaf_words (bound name p.call) ++ (p.behind ++ Close ∷ items_words more))
+      ∙ ap (λ ws. kind_words kind ++ Open ∷ ws)
+      (ap (λ ws. p.front ++ ws) (sym (append_assoc (leaf_words (bound name p.call)) p.behind (Close ∷ items_words more)))
+      ∙ sym (append_assoc p.front (leaf_words (bound name p.call) ++ p.behind) (Close ∷ items_words more)) ∙ ap (λ ws. ws ++ Close ∷ items_words more) p.stands);
+  opens = λ blocks. open_kind kind blocks p.front ∙ p.opens (kind ∷ blocks) ∙ sym (append_assoc p.inside (kind ∷ []) blocks);
+  closes = λ rest. ap closed_by (append_assoc p.behind (Close ∷ items_words more) rest) ∙ p.closes (Close ∷ (items_words more ++ rest))
+      ∙ (let e = closed_items more rest is in let l = length_append p.inside (kind ∷ []) in omega (arith, e, l));
+  no_loop = each_append p.inside (kind ∷ []) p.no_loop (loop, tt);
+}
+
+at_leaf : (name : Name) (call : Leaf) (more : Items) → IsCall true call → AreFlat more → Place (leaf_then (bound name call) more) name
+at_leaf name call more whole is = record {
+  front = [];
+  call = call;
+  whole = whole;
+  behind = items_words more;
+  inside = [];
+  stands = refl;
+  opens = λ blocks. refl;
+  closes = λ rest. closed_items more rest is ∙ omega arith;
+  no_loop = tt;
+}
+
+place_leaf : (leaf : Leaf) (more : Items) (name : Name) → IsLeaf true leaf → AreFlat more → Has (names_of leaf) name → Place (leaf_then leaf more) name
+place_leaf (bound given call) more name fits is (inl same) = subst (λ n. Place (leaf_then (bound given call) more) n) same (at_leaf given call more fits is)
+place_leaf (bound given call) more name fits is (inr never) = absurd never
+place_leaf (with_argument op w) more name fits is never = absurd never
+place_leaf stack_pop more name fits is never = absurd never
+place_leaf queue_take more name fits is never = absurd never
+
+place_block : (kind : BlockKind) (body more : Items) (name : Name) (loop : Bool) → is_loop kind ≡ loop → AreFlat body → AreFlat more → (Has (names_behind body) name → Place body name)
+    → Has (if loop then [] else names_behind body) name → Place (block_then kind body more) name
+place_block kind body more name true e is is' in_body never = absurd never
+place_block kind body more name false e is is' in_body there = inside_block kind body more name e is' (in_body there)
+
+-- each name that items give has its place in them
+place_of : (items : Items) (name : Name) → AreFlat items → Has (names_behind items) name → Place items name
+place_of nothing name is never = absurd never
+place_of (leaf_then leaf more) name is there =
+    elim (has_append (names_behind more) (names_of leaf) name there) [
+      | inl later ↦ behind_leaf leaf more name is.0 (place_of more name is.1 later)
+      | inr here ↦ place_leaf leaf more name is.0 is.1 here
+    ]
+place_of (block_then kind body more) name is there =
+    elim (has_append (names_behind more) (if is_loop kind then [] else names_behind body) name there) [
+      | inl later ↦ behind_block kind body more name is.0 (place_of more name is.1 later)
+      | inr here ↦ place_block kind body more name (is_loop kind) refl is.0 is.1 (place_of body name is.0) here
+    ]
+
+pub take_inside : (xs ys : List BlockKind) → take (length xs) (xs ++ ys) ≡ xs
+take_inside [] ys = refl
+take_inside (x ∷ xs) ys = ap (λ zs. x ∷ zs) (take_inside xs ys)
+
+pub drop_inside : (xs ys : List BlockKind) → drop (length xs) (xs ++ ys) ≡ ys
+drop_inside [] ys = refl
+drop_inside (x ∷ xs) ys = drop_inside xs ys
+
+-- Words that close nothing stand behind the items in which the let is, and its block is not parallel.
+seen_at : (blocks : List OpenBlock) (items : Items) (behind : List Word) (name : Name) → AreFlatBlocks blocks → closed_by behind ≡ 0
+    → is_in_series (map (λ (b : OpenBlock). b.kind) blocks) ≡ true → Place items name → Sees (opening_words blocks ++ (items_words items ++ behind)) name
+seen_at blocks items behind name is none series p =
+    let kinds_now = map (λ (b : OpenBlock). b.kind) blocks in
+    let opened : blocks_behind [] (opening_words blocks ++ p.front) ≡ p.inside ++ kinds_now = open_opening blocks p.front is ∙ p.opens kinds_now in
+    let closed : closed_by (p.behind ++ behind) ≡ length p.inside = p.closes behind ∙ omega (arith, none) in
+    record {
+      front = opening_words blocks ++ p.front;
+      call = p.call;
+      whole = p.whole;
+      behind = p.behind ++ behind;
+      stands = append_assoc (opening_words blocks) p.front (leaf_words (bound name p.call) ++ (p.behind ++ behind))
+          ∙ ap (λ ws. opening_words blocks ++ ws)
+          (ap (λ ws. p.front ++ ws) (sym (append_assoc (leaf_words (bound name p.call)) p.behind behind))
+          ∙ sym (append_assoc p.front (leaf_words (bound name p.call) ++ p.behind) behind) ∙ ap (λ ws. ws ++ behind) p.stands);
+      loops = rw (opened, closed, take_inside p.inside kinds_now) p.no_loop;
+      series = rw (opened, closed, drop_inside p.inside kinds_now) series;
+    }
+
+-- What is begun behind a front has no braces.
+pub closed_opening : (kind : BlockKind) (rest : List Word) → IsBlockKind kind → closed_by rest ≡ 0 → closed_by ((kind_words kind ++ Open ∷ []) ++ rest) ≡ 0
+closed_opening kind rest fits none = ap closed_by (append_assoc (kind_words kind) (Open ∷ []) rest) ∙ closed_kind kind rest fits ∙ omega (arith, none)
+
+inner : (block : OpenBlock) (blocks : List OpenBlock) (items : Items) (begun : List Word) (name : Name) (par : Bool) → is_par block.kind ≡ par
+    → AreFlatBlocks (block ∷ blocks) → AreFlat items → closed_by begun ≡ 0
+    → Has (if par then [] else names_behind items) name → Sees (opening_words (block ∷ blocks) ++ (items_words items ++ begun)) name
+inner block blocks items begun name true e is are none never = absurd never
+inner block blocks items begun name false e is are none there = seen_at (block ∷ blocks) items begun name is none (ap not e) (place_of items name are there)
+
+-- A name that is seen behind a front is visible there by the three conditions.
+pub seen_is_visible : (blocks : List OpenBlock) (items : Items) (begun : List Word) (name : Name) → AreFlatBlocks blocks → AreFlat items → closed_by begun ≡ 0
+    → Has (names_seen blocks items) name → Sees (opening_words blocks ++ (items_words items ++ begun)) name
+seen_is_visible [] items begun name is are none there = seen_at [] items begun name tt none refl (place_of items name are there)
+seen_is_visible (block ∷ blocks) items begun name is are none there =
+    elim (has_append (if is_par block.kind then [] else names_behind items) (names_seen blocks block.before) name there) [
+      | inl here ↦ inner block blocks items begun name (is_par block.kind) refl is are none here
+      | inr outer ↦
+          let behind = (kind_words block.kind ++ Open ∷ []) ++ (items_words items ++ begun) in
+          let closes = closed_opening block.kind (items_words items ++ begun) is.2 (closed_items items begun are ∙ none) in
+          subst (λ ws. Sees ws name)
+          (sym (append_assoc (opening_words blocks) (items_words block.before ++ (kind_words block.kind ++ Open ∷ [])) (items_words items ++ begun)
+          ∙ ap (λ ws. opening_words blocks ++ ws) (append_assoc (items_words block.before) (kind_words block.kind ++ Open ∷ []) (items_words items ++ begun))))
+          (seen_is_visible blocks block.before behind name is.1 is.0 closes outer)
+    ]

@@ -1,5 +1,5 @@
 -- The view of the code's items, as derivations of the grammar.
-use Rattle.std.specs.Prelude.{List, [], ◌∷◌, Some, map, Bool, true, false}
+use Rattle.std.specs.Prelude.{List, [], ◌∷◌, Some, map}
 use Rattle.job_syntax.specs.declared.lexer.word.Word.{Word}
 use Rattle.job_syntax.specs.declared.lexer.word.Word.TheVariants.{Number, Copies, Named}
 use Rattle.job_syntax.specs.declared.item.Argument.{Argument}
@@ -29,11 +29,6 @@ unary_op_of op.TreeRemove = grammar.tree_remove
 unary_op_of op.TreeFind = grammar.tree_find
 unary_op_of op.TreeNext = grammar.tree_next
 unary_op_of op.QueueInsert = grammar.queue_insert
-
--- whether a name may be the operation's argument
-abbrev pub takes_names : grammar.UnaryOp → Bool
-takes_names grammar.work = false
-takes_names _ = true
 
 abbrev pub leaf_of : Leaf → grammar.Leaf
 leaf_of (leaf.WithArgument op argument) = grammar.with_argument (unary_op_of op) (argument_word argument)

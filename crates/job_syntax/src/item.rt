@@ -25,18 +25,6 @@ pub enum UnaryOp {
     QueueInsert,
 }
 
-impl UnaryOp {
-    ghost use Rattle.std.specs.Prelude.{◌≡◌};
-    ghost use Rattle.job_syntax.specs.Views.{takes_names, unary_op_of};
-
-    /// Whether a name may be its argument.
-    pub fn takes_names(self) -> bool
-        ensures { result ≡ takes_names (unary_op_of self) }
-    {
-        !matches!(self, UnaryOp::Work)
-    }
-}
-
 /// An operation, and its argument if it has one.
 #[derive(Clone, Copy)]
 pub enum Leaf {

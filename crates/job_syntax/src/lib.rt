@@ -1,15 +1,10 @@
 //! The syntax of the job language: the items that a text writes, or the fault that a reader meets in it from left to
-//! right.
-//!
-//! The text passes two stages. `lexer` makes words of its bytes: `words_in` gives exactly the words of the text's
-//! tokens, each with its line, and `forbidden_line` the line of the first byte outside comments that is not allowed.
-//! `parser` makes items of the words, in one pass from left to right, with a stack of open blocks: `read_items` gives
-//! the items that the grammar gives the words, or their fault of reading. `fault` and `error` define what a reader
-//! answers.
+//! right. `lexer` makes words of the bytes, each with its line. `parser` makes items of the words in one pass, with a
+//! stack of open blocks and the lets that they show: `read_items` gives the items that the grammar gives the words, or
+//! their fault of reading. `laws` says that the open blocks show what the words define that a use sees.
 //!
 //! `job_lang`, above, defines what the items mean and makes their job. In `specs/` the rules stand at the top, and what
-//! only the code and its proofs cite in `Code/`. The crate stands on `thiserror` alone, for the display of faults, of
-//! which no clause speaks.
+//! only the code and its proofs cite in `Code/`.
 #![tactic(auto)]
 
 pub mod error;

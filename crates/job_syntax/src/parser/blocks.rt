@@ -3,7 +3,6 @@ ghost use Rattle.std.specs.Prelude.{◌≡◌, ◌≢◌, ◌↔◌, [], ◌∷�
 ghost use Rattle.std.specs.List.{list_any};
 ghost use Rattle.job_syntax.specs.Grammar.{is_loop};
 ghost use Rattle.job_syntax.specs.Views.{block_kind_of};
-ghost use Rattle.job_syntax.specs.Grammar.{bound};
 ghost use Rattle.job_syntax.specs.Code.Machine.{start, are_looped, given_leaf, with_leaf, after_open, after_close};
 ghost use Rattle.job_syntax.specs.Code.Shown.{is_shown, scope_at};
 
@@ -82,31 +81,6 @@ impl BlockStack {
         self.scopes.look(name).is_some()
     }
 
-    /// Adds a leaf to the innermost block.
-    #[tactic(auto, using(crate::proofs::ParserLemmas::OpenStacks::leaf_added))]
-    fn add_leaf(&mut self, leaf: Leaf) -> Result<(), AllocError>
-        requires { ShowsLets self.old }
-        ensures view { OnOk result
-            (view self.new ≡ with_leaf (view self.old).blocks (view self.old).items (leaf_of leaf)) }
-        ensures shows { OnOk result (ShowsLets self.new) }
-    {
-        self.items.push(Item::Leaf(leaf))?;
-        Ok(())
-    }
-
-    /// Adds a call with a name to the innermost block.
-    #[tactic(auto, using(crate::proofs::ParserLemmas::OpenStacks::let_added))]
-    fn add_let(&mut self, name: Name, call: Leaf) -> Result<(), AllocError>
-        requires { ShowsLets self.old }
-        ensures view { OnOk result
-            (view self.new ≡ with_leaf (view self.old).blocks (view self.old).items (bound name (leaf_of call))) }
-        ensures shows { OnOk result (ShowsLets self.new) }
-    {
-        self.items.push(Item::Let(name, call))?;
-        self.scopes.bind(name, 0)?;
-        Ok(())
-    }
-
     /// Adds a leaf to the innermost block, with the name that is given to its reply, if there is one.
     pub(crate) fn add(&mut self, given: Option<Name>, leaf: Leaf) -> Result<(), AllocError>
         requires { ShowsLets self.old }
@@ -116,9 +90,13 @@ impl BlockStack {
         ensures shows { OnOk result (ShowsLets self.new) }
     {
         match given {
-            Some(name) => self.add_let(name, leaf),
-            None => self.add_leaf(leaf),
+            Some(name) => {
+                self.items.push(Item::Let(name, leaf))?;
+                self.scopes.bind(name, 0)?;
+            }
+            None => self.items.push(Item::Leaf(leaf))?,
         }
+        Ok(())
     }
 
     /// Opens a block.

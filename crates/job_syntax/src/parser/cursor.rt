@@ -86,13 +86,11 @@ impl<'a> Cursor<'a> {
                 Ok(Argument::Copies(factor, addend))
             }
             Word::Copies(None) if stack.is_looped() => Err(JobFault::Number { line: token.line }),
-            Word::Named(name) if op.takes_names() => {
-                if stack.shows(name) {
-                    Ok(Argument::Reply(name))
-                } else {
-                    Err(JobFault::Name { line: token.line })
-                }
+            Word::Named(_) if matches!(op, UnaryOp::Work) => {
+                Err(JobFault::Grammar { line: token.line })
             }
+            Word::Named(name) if stack.shows(name) => Ok(Argument::Reply(name)),
+            Word::Named(_) => Err(JobFault::Name { line: token.line }),
             _ => Err(JobFault::Grammar { line: token.line }),
         }
     }

@@ -3,5 +3,6 @@ pub mod Draws
 pub mod Orders
 pub mod Pruning
 pub mod Ranges
+pub mod Scoped
 pub mod Searches
 pub mod Sides

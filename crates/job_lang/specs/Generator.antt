@@ -1,7 +1,7 @@
 -- The job that a seed and a size give, in three phases. The growing phase inserts into all four structures, in
 -- parallel. The asking phase looks for keys in the tree, in parallel. The shrinking phase empties the stack, and then
 -- the queue, one call after another.
-use Rattle.std.specs.Prelude.{ℕ, zero, suc, ◌+◌, ◌*◌, ◌/◌, ◌%◌, ◌^◌, ◌==◌, if◌then◌else◌, List, [], ◌∷◌, ◌++◌, map, replicate, filter_map, Option, Some, None}
+use Rattle.std.specs.Prelude.{ℕ, zero, suc, ◌+◌, ◌*◌, ◌/◌, ◌%◌, ◌^◌, ◌==◌, if◌then◌else◌, List, [], ◌∷◌, ◌++◌, map, replicate, filter_map, length, Option, Some, None}
 use Rattle.seq_objects.specs.declared.act.Act.{Act}
 use Rattle.seq_objects.specs.declared.act.Act.TheVariants.{Call}
 use Rattle.seq_objects.specs.declared.op.Op.{Op}
@@ -71,7 +71,7 @@ all_parts ops = part par ops ++ (part par (finds_for ops) ++ (part seq (pops_for
 
 -- the job of these parts, in series
 abbrev pub job_growing_by : List Op → JobValue
-job_growing_by ops = record { shape = join_of seq (all_parts ops); acts = calls (all_ops ops) }
+job_growing_by ops = record { shape = join_of seq (all_parts ops); acts = calls (all_ops ops); sources = replicate (length (all_ops ops)) None }
 
 -- the job that a seed and a size give
 abbrev pub generated : ℕ → ℕ → JobValue

@@ -4,7 +4,7 @@ use Rattle.std.specs.Prelude.{◌≡◌, ℕ, ◌+◌, ◌-◌, ◌*◌, ◌<◌
 use Rattle.job_syntax.specs.declared.lexer.word.Word.{Word}
 use Rattle.job_syntax.specs.declared.lexer.word.Word.TheVariants.{Copies}
 use Rattle.job_syntax.specs.declared.lexer.word.WordOnLine.{WordOnLine}
-use Rattle.job_syntax.specs.Grammar.{Items, nothing, leaf_then, block_then, BlockKind, seq_block, par_block, for_loop, pfor_loop, Leaf, with_argument, items_words, ◌then◌}
+use Rattle.job_syntax.specs.Grammar.{Items, nothing, leaf_then, block_then, BlockKind, seq_block, par_block, for_loop, pfor_loop, Leaf, with_argument, bound, items_words, ◌then◌}
 use Rattle.job_syntax.specs.Faults.{words_of}
 use Rattle.job_syntax.specs.Blocks.{word_number}
 use Rattle.job_lang.specs.Counts.{count, count_first}
@@ -38,6 +38,7 @@ is_out_of_range copies by = nat_le 1 copies && nat_le (2 ^ 32) (by.0 * (copies -
 -- number of copies of the innermost loop
 abbrev pub leaf_range_flags : ℕ → Leaf → List Bool
 leaf_range_flags copies (with_argument op (Copies (Some by))) = is_out_of_range copies by ∷ []
+leaf_range_flags copies (bound name call) = leaf_range_flags copies call
 leaf_range_flags copies _ = []
 
 abbrev pub range_flags : ℕ → Items → List Bool

@@ -2,7 +2,7 @@
 use Rattle.std.specs.Prelude.{ℕ, ◌+◌, ◌*◌, ◌<◌, ◌^◌, Some}
 use Rattle.job_syntax.specs.declared.lexer.word.Word.{Word}
 use Rattle.job_syntax.specs.declared.lexer.word.Word.TheVariants.{Copies}
-use Rattle.job_syntax.specs.Grammar.{Items, nothing, leaf_then, block_then, seq_block, par_block, for_loop, pfor_loop, Leaf, with_argument, stack_pop, queue_take}
+use Rattle.job_syntax.specs.Grammar.{Items, nothing, leaf_then, block_then, seq_block, par_block, for_loop, pfor_loop, Leaf, with_argument, stack_pop, queue_take, bound}
 use Rattle.job_syntax.specs.Blocks.{word_number}
 
 abbrev pub FitsArgument : ℕ → Word → Type 0
@@ -13,6 +13,7 @@ abbrev pub FitsLeaf : ℕ → Leaf → Type 0
 FitsLeaf copy (with_argument op argument) = FitsArgument copy argument
 FitsLeaf copy stack_pop = Unit {0}
 FitsLeaf copy queue_take = Unit {0}
+FitsLeaf copy (bound name call) = FitsLeaf copy call
 
 -- the arguments of the items fit in copy `copy` of the innermost loop around them, and in each copy of the loops inside
 abbrev pub Fits : ℕ → Items → Type 0

@@ -10,7 +10,7 @@ fn is_full(item: &Item) -> bool
     ensures { result ≡ not (is_nothing (only_full (item_of item.now))) }
 {
     match item {
-        Item::Leaf(_) => true,
+        Item::Leaf(_) | Item::Let(_, _) => true,
         Item::Block(kind, inside) => !inside.is_empty() && kind.copies() > 0,
     }
 }

@@ -78,7 +78,7 @@ fn out_of_range_in_item(copies: u32, item: &Item, words: &mut Cursor) -> Option<
     ensures { Finds (range_flags copies (item_of item.now)) words.old result words.new }
 {
     match item {
-        Item::Leaf(leaf) => out_of_range_in_leaf(copies, *leaf, words),
+        Item::Leaf(leaf) | Item::Let(_, leaf) => out_of_range_in_leaf(copies, *leaf, words),
         Item::Block(kind, inside) => out_of_range_in_items(
             copies_inside(copies, *kind),
             inside,

@@ -27,7 +27,7 @@ pub(crate) fn count_item(item: &Item) -> u64
     ensures { result ≡ min 20001 (count (item_of item.now)) }
 {
     match item {
-        Item::Leaf(_) => 1,
+        Item::Leaf(_) | Item::Let(_, _) => 1,
         Item::Block(kind, items) => CUT.min(u64::from(kind.copies()) * count_items(items)),
     }
 }

@@ -62,6 +62,7 @@ pub(crate) fn item_word_count(item: &Item) -> usize
 {
     match item {
         Item::Leaf(leaf) => leaf_word_count(*leaf),
+        Item::Let(_, call) => leaf_word_count(*call) + 3,
         Item::Block(kind, inside) => kind_word_count(*kind) + items_word_count(inside) + 2,
     }
 }

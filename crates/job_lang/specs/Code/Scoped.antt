@@ -1,0 +1,63 @@
+-- The sources of leaves, by the scopes in which the code makes its copies.
+use Rattle.std.specs.Prelude.{◌≡◌, ℕ, ◌+◌, ◌*◌, List, [], ◌∷◌, ◌++◌, length, Option, Some, None, if◌then◌else◌}
+use Rattle.job_names.specs.declared.kind.Kind.TheVariants as kind
+use Rattle.job_names.specs.declared.scopes.Let.{Let}
+use Rattle.job_names.specs.Scopes.{Scope, inside, last_of, lets_shown, with_lets}
+use Rattle.job_names.specs.Code.Kept.{IsKept}
+use Rattle.job_names.specs.Code.Kept as names
+use Rattle.job_syntax.specs.declared.lexer.word.Word.TheVariants.{Named}
+use Rattle.job_syntax.specs.Blocks.{word_number, copies_of}
+use Rattle.job_syntax.specs.Grammar.{Items, nothing, leaf_then, block_then, seq_block, par_block, for_loop, pfor_loop, Leaf, with_argument, bound, is_loop}
+use Rattle.job_lang.specs.declared.expand.leaves.Leaves.{Leaves}
+use Rattle.job_lang.specs.Counts.{count}
+use Rattle.job_lang.specs.Meaning.{acts_in, each_copy}
+
+-- the let that a leaf with this number makes
+abbrev pub lets_at : ℕ → Leaf → List Let
+lets_at number (bound name call) = record { name = name; number = number } ∷ []
+lets_at number _ = []
+
+-- the lets of items that are shown behind them, where the leaves have the numbers from `first` on
+abbrev pub lets_behind : ℕ → Items → List Let
+lets_behind first nothing = []
+lets_behind first (leaf_then l more) = lets_at first l ++ lets_behind (first + 1) more
+lets_behind first (block_then kind body more) =
+    (if is_loop kind then [] else lets_behind first body) ++ lets_behind (first + copies_of kind * count body) more
+
+-- the source of a leaf in a scope
+abbrev pub scoped_source : Scope → Leaf → Option ℕ
+scoped_source scope (with_argument op (Named name)) = last_of name (lets_shown scope)
+scoped_source scope (bound name call) = scoped_source scope call
+scoped_source scope _ = None
+
+-- the sources of the leaves of items in a scope
+abbrev pub scoped_sources : Scope → ℕ → Items → List (Option ℕ)
+scoped_sources scope first nothing = []
+scoped_sources scope first (leaf_then l more) =
+    scoped_source scope l ∷ scoped_sources (with_lets scope (lets_at first l)) (first + 1) more
+scoped_sources scope first (block_then seq_block body more) =
+    scoped_sources (inside scope kind.Series []) first body ++ scoped_sources (with_lets scope (lets_behind first body)) (first + 1 * count body) more
+scoped_sources scope first (block_then par_block body more) =
+    scoped_sources (inside scope kind.Par []) first body ++ scoped_sources (with_lets scope (lets_behind first body)) (first + 1 * count body) more
+scoped_sources scope first (block_then (for_loop copies) body more) =
+    each_copy (word_number copies) (λ k. scoped_sources (inside scope kind.Loop []) (first + k * count body) body)
+    ++ scoped_sources scope (first + word_number copies * count body) more
+scoped_sources scope first (block_then (pfor_loop copies) body more) =
+    each_copy (word_number copies) (λ k. scoped_sources (inside scope kind.Loop []) (first + k * count body) body)
+    ++ scoped_sources scope (first + word_number copies * count body) more
+
+-- The leaves of the items in copy `copy` are added to the old ones, and their lets are shown.
+pub record Adds (copy : ℕ) (items : Items) (old new : Leaves) : Type 0 where
+  pub acts : new.acts.items ≡ old.acts.items ++ acts_in copy items
+  pub sources : new.sources.items ≡ old.sources.items ++ scoped_sources (names.view old.scopes) (length old.acts.items) items
+  pub scope : names.view new.scopes ≡ with_lets (names.view old.scopes) (lets_behind (length old.acts.items) items)
+  pub kept : IsKept new.scopes
+
+-- The leaves of the first copies of a loop are added to the old ones. Their lets are gone.
+pub record AddsCopies (copies : ℕ) (body : Items) (old new : Leaves) : Type 0 where
+  pub acts : new.acts.items ≡ old.acts.items ++ each_copy copies (λ k. acts_in k body)
+  pub sources : new.sources.items
+      ≡ old.sources.items
+      ++ each_copy copies (λ k. scoped_sources (inside (names.view old.scopes) kind.Loop []) (length old.acts.items + k * count body) body)
+  pub scope : names.view new.scopes ≡ names.view old.scopes
+  pub kept : IsKept new.scopes

@@ -1,0 +1,141 @@
+//! The leaves of a job, while its copies are made.
+ghost use Rattle.std.specs.Prelude.{◌≡◌, ◌+◌, ◌<◌, ◌≤◌, [], length, OnOk};
+ghost use Rattle.job_names.specs.Code.Kept.{IsKept};
+ghost use Rattle.job_names.specs.Code.Kept as names;
+ghost use Rattle.job_names.specs.Scopes.{job, inside, closed};
+ghost use Rattle.job_syntax.specs.Blocks.{name_kind};
+ghost use Rattle.job_syntax.specs.Grammar.{leaf_then, nothing, bound};
+ghost use Rattle.job_syntax.specs.Views.{argument_word, unary_op_of, leaf_of, block_kind_of};
+ghost use Rattle.job_lang.specs.Meaning.{number_in, act_with, act_of};
+ghost use Rattle.job_lang.specs.Code.Ranges.{FitsArgument, FitsLeaf};
+ghost use Rattle.job_lang.specs.Code.Scoped.{Adds, scoped_source};
+
+use job_names::{Name, Scopes};
+use job_syntax::{Argument, BlockKind, Leaf, UnaryOp};
+use seq_objects::{Act, Op};
+use std::alloc::{AllocError, Global};
+
+/// The leaves made so far: their acts and their sources. Beside them the lets that the next leaf sees, each with the
+/// number of its leaf. A copy of a loop is a block of its own.
+#[derive(Drop)]
+pub(crate) struct Leaves {
+    pub(crate) acts: Vec<Act>,
+    pub(crate) sources: Vec<Option<u32>>,
+    pub(crate) scopes: Scopes,
+}
+
+/// The value of an argument in copy `copy` of its innermost loop. A name stands as 0.
+fn number_in(copy: u32, argument: Argument) -> u32
+    requires { FitsArgument copy (argument_word argument) }
+    ensures { result ≡ number_in copy (argument_word argument) }
+{
+    match argument {
+        Argument::Number(number) => number,
+        Argument::Copies(factor, addend) => factor * copy + addend,
+        Argument::Reply(_) => 0,
+    }
+}
+
+/// The act of an operation whose argument has this value.
+fn act_with(op: UnaryOp, number: u32) -> Act
+    ensures { result ≡ act_with (unary_op_of op) number }
+{
+    match op {
+        UnaryOp::Work => Act::Work(number),
+        UnaryOp::CounterAdd => Act::Call(Op::CounterAdd(number)),
+        UnaryOp::StackPush => Act::Call(Op::Push(number)),
+        UnaryOp::TreeInsert => Act::Call(Op::TreeInsert(number)),
+        UnaryOp::TreeRemove => Act::Call(Op::TreeRemove(number)),
+        UnaryOp::TreeFind => Act::Call(Op::TreeFind(number)),
+        UnaryOp::TreeNext => Act::Call(Op::TreeNext(number)),
+        UnaryOp::QueueInsert => Act::Call(Op::PqInsert(number)),
+    }
+}
+
+/// The act of a leaf in copy `copy`.
+fn act_in(copy: u32, leaf: Leaf) -> Act
+    requires { FitsLeaf copy (leaf_of leaf) }
+    ensures { result ≡ act_of copy (leaf_of leaf) }
+{
+    match leaf {
+        Leaf::WithArgument(op, argument) => act_with(op, number_in(copy, argument)),
+        Leaf::StackPop => Act::Call(Op::Pop),
+        Leaf::QueueTake => Act::Call(Op::PqTake),
+    }
+}
+
+impl Leaves {
+    /// No leaves, at the front of a job.
+    pub(crate) fn new(alloc: Global) -> Leaves
+        ensures acts { result.acts.items ≡ [] }
+        ensures sources { result.sources.items ≡ [] }
+        ensures scope { names.view result.scopes ≡ job [] }
+        ensures kept { IsKept result.scopes }
+    {
+        Leaves {
+            acts: Vec::new(alloc),
+            sources: Vec::new(alloc),
+            scopes: Scopes::new(alloc),
+        }
+    }
+
+    /// The source that a leaf has here.
+    fn source_of(&self, leaf: Leaf) -> Option<u32>
+        requires { IsKept self.now.scopes }
+        ensures { result ≡ scoped_source (names.view self.now.scopes) (leaf_of leaf) }
+    {
+        match leaf {
+            Leaf::WithArgument(_, Argument::Reply(name)) => self.scopes.look(name),
+            _ => None,
+        }
+    }
+
+    /// Adds a leaf in copy `copy`.
+    pub(crate) fn add(&mut self, copy: u32, leaf: Leaf) -> Result<(), AllocError>
+        requires fits { FitsLeaf copy (leaf_of leaf) }
+        requires kept { IsKept self.old.scopes }
+        ensures { OnOk result (Adds copy (leaf_then (leaf_of leaf) nothing) self.old self.new) }
+    {
+        let source = self.source_of(leaf);
+        self.acts.push(act_in(copy, leaf))?;
+        self.sources.push(source)?;
+        Ok(())
+    }
+
+    /// Adds a call with a name for its reply in copy `copy`.
+    pub(crate) fn add_let(&mut self, copy: u32, name: Name, call: Leaf) -> Result<(), AllocError>
+        requires fits { FitsLeaf copy (leaf_of call) }
+        requires few { length self.old.acts.items < 20000 }
+        requires kept { IsKept self.old.scopes }
+        ensures { OnOk result (Adds copy (leaf_then (bound name (leaf_of call)) nothing) self.old self.new) }
+    {
+        let number = self.acts.len() as u32;
+        self.add(copy, call)?;
+        self.scopes.bind(name, number)?;
+        Ok(())
+    }
+
+    /// Opens a block.
+    pub(crate) fn open(&mut self, kind: BlockKind) -> Result<(), AllocError>
+        requires { IsKept self.old.scopes }
+        ensures acts { self.new.acts ≡ self.old.acts }
+        ensures sources { self.new.sources ≡ self.old.sources }
+        ensures scope { OnOk result
+            (names.view self.new.scopes ≡ inside (names.view self.old.scopes) (name_kind (block_kind_of kind)) []) }
+        ensures kept { OnOk result (IsKept self.new.scopes) }
+    {
+        self.scopes.open(kind.name_kind())?;
+        Ok(())
+    }
+
+    /// Closes the innermost block.
+    pub(crate) fn close(&mut self)
+        requires { IsKept self.old.scopes }
+        ensures acts { self.new.acts ≡ self.old.acts }
+        ensures sources { self.new.sources ≡ self.old.sources }
+        ensures scope { names.view self.new.scopes ≡ closed (names.view self.old.scopes) }
+        ensures kept { IsKept self.new.scopes }
+    {
+        self.scopes.close();
+    }
+}

@@ -3,3 +3,8 @@ pub mod Joining
 pub mod Leaves
 pub mod Pruning
 pub mod Vanishing
+pub mod Adding
+pub mod Joined
+pub mod Scoped
+pub mod Sourcing
+pub mod Before

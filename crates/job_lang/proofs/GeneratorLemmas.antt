@@ -5,3 +5,4 @@ pub mod Draws
 pub mod Filling
 pub mod Phases
 pub mod Texts
+pub mod Sources

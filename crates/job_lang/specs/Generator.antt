@@ -71,7 +71,7 @@ all_parts ops = part par ops ++ (part par (finds_for ops) ++ (part seq (pops_for
 
 -- the job of these parts, in series
 abbrev pub job_growing_by : List Op → JobValue
-job_growing_by ops = record { shape = join_of seq (all_parts ops); acts = calls (all_ops ops); sources = replicate (length (all_ops ops)) None }
+job_growing_by ops = record { shape = join_of seq (all_parts ops); acts = calls (all_ops ops); sources = replicate (length (calls (all_ops ops))) None }
 
 -- the job that a seed and a size give
 abbrev pub generated : ℕ → ℕ → JobValue

@@ -58,7 +58,7 @@ fn shapes_in(
 
 /// The shape of the item in copy `copy`, if it has leaves there. Its leaves are added to `leaves`.
 #[cycle(expanding)]
-#[tactic(auto, using(crate::proofs::ExpandLemmas::Copies::block_shapes, crate::proofs::ExpandLemmas::Copies::block_acts, crate::proofs::ExpandLemmas::Copies::block_fits, crate::proofs::Weights::weight_block))]
+#[tactic(auto, using(crate::proofs::ExpandLemmas::Copies::block_shapes, crate::proofs::ExpandLemmas::Adding::adds_leaf, crate::proofs::ExpandLemmas::Adding::adds_let, crate::proofs::ExpandLemmas::Adding::adds_block, crate::proofs::ExpandLemmas::Copies::block_fits, crate::proofs::Weights::weight_block))]
 fn shape_in(
     alloc: Global,
     copy: u32,

@@ -1,5 +1,5 @@
 //! The laws of the job language, each as the contract of a function that does nothing.
-ghost use Rattle.std.specs.Prelude.{◌≡◌, ◌≤◌, ◌<◌, ◌+◌, ◌*◌, ◌^◌, ◌⊎◌, ℕ, List, [], ◌∷◌, length, Some};
+ghost use Rattle.std.specs.Prelude.{◌≡◌, ◌≤◌, ◌<◌, ◌+◌, ◌*◌, ◌^◌, ◌⊎◌, ℕ, List, [], ◌∷◌, length, Some, None};
 ghost use Rattle.std.specs.List.{AllByRecursion};
 ghost use Rattle.seq_objects.specs.Objects.{argument_of};
 ghost use Rattle.seq_objects.specs.Words.{op_words};
@@ -38,7 +38,7 @@ pub fn accepted_jobs_have_small_arguments()
 #[tactic(auto, using(crate::proofs::WriterLemmas::Jobs::words_are_a_job))]
 pub fn reported_words_are_a_job()
     ensures { (op : Op) → IsSmall (op_number op)
-        → IsJobOf (op_words op) (record { shape = Some leaf; acts = Call op ∷ [] }) }
+        → IsJobOf (op_words op) (record { shape = Some leaf; acts = Call op ∷ []; sources = None ∷ [] }) }
 {}
 
 /// A generated job has an act for each of its leaves, of which there are from `size + 2` to `2 * size + 2`.

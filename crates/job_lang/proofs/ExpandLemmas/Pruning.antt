@@ -25,6 +25,7 @@ without_empty_then (block_then kind body a) b =
 
 step_is_something : (x : Item-F Items) (more : Items) → is_nothing (item_step x then more) ≡ false
 step_is_something (Item-F.Leaf leaf) more = refl
+step_is_something (Item-F.Let name call) more = refl
 step_is_something (Item-F.Block kind inside) more = refl
 
 item_is_something : (x : Item) (more : Items) → is_nothing (item_of x then more) ≡ false
@@ -73,6 +74,7 @@ full_or_nothing false block some = sym (ap (λ none. if not none then block else
 
 step_stays : (x : Item-F Items) → only_full (item_step x) ≡ (if not (is_nothing (only_full (item_step x))) then item_step x else nothing)
 step_stays (Item-F.Leaf leaf) = refl
+step_stays (Item-F.Let name call) = refl
 step_stays (Item-F.Block kind inside) =
     full_or_nothing (is_nothing (one_after_another inside.items) || copies_of (block_kind_of kind) == 0) (block_then (block_kind_of kind) (one_after_another inside.items) nothing) refl
 

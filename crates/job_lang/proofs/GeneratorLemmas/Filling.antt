@@ -13,6 +13,7 @@ use Rattle.sp_order.specs.Totals.{pushes, pops, tree_inserts, tree_removes, tree
 use Rattle.sp_order.specs.Phases.{ComesBefore, FillsFirst}
 use Rattle.job_lang.specs.Joins.{half, both, join_within, join_of}
 use Rattle.job_lang.specs.Generator.{growing_ops, finds_for, calls, pops_for, takes_for, part, all_ops, job_growing_by, generated}
+use Rattle.job_lang.proofs.GeneratorLemmas.Sources.{none_each}
 use Rattle.job_lang.proofs.ExpandLemmas.Leaves.{join_within_leaves}
 use Rattle.job_lang.proofs.EachOf.{each_append}
 use Rattle.job_lang.proofs.GeneratorLemmas.Phases.{total_append}
@@ -159,6 +160,7 @@ module _ (ops : List Op) (some : 0 < length ops) (grow : AllByRecursion Grows op
     empties_queue =
         omega (arith, total_first queue_inserts (later_lacks queue_inserts ops (λ key. refl) refl refl), total_all queue_takes, total_later queue_takes, total_copies queue_takes (total queue_inserts (calls ops) + 1) PqTake refl);
     keeps_keys = total_first tree_removes (later_lacks tree_removes ops (λ key. refl) refl refl) ∙ total_lacks tree_removes ops (each_grown _ (λ op grows. grows.removes) ops grow);
+    no_sources = none_each (length (calls (all_ops ops)));
   }
 
 pub generated_fills_first : (seed size : ℕ) → 1 ≤ size → FillsFirst (generated seed size)

@@ -15,6 +15,7 @@ use Rattle.job_lang.specs.Canonical.{canonical_text}
 use Rattle.job_lang.specs.Joins.{half, both, join_within, join_of}
 use Rattle.job_lang.specs.Language.{IsJobOf}
 use Rattle.job_lang.specs.Generator.{growing_ops, finds_for, calls, pops_for, takes_for, part, all_ops, all_parts, job_growing_by, generated}
+use Rattle.job_lang.proofs.GeneratorLemmas.Sources.{none_are_sources}
 use Rattle.job_lang.proofs.GeneratorLemmas.Counts.{later_ops, answers, length_pops, length_takes, length_acts, later_some, few_acts, leaves_are_acts}
 use Rattle.job_lang.proofs.GeneratorLemmas.Draws.{Grows, all_grow, length_growing}
 use Rattle.job_lang.proofs.EachOf.{each_append, each_of_first, each_of_rest}
@@ -126,7 +127,7 @@ all_small ops grow =
 generated_is_job : (seed size : ℕ) → size ≤ 5000 → IsJob (generated seed size)
 generated_is_job seed size few =
     let ops = growing_ops seed size in
-    record { leaves = leaves_are_acts ops; most = omega (arith, few_acts ops, length_growing seed size, few) }
+    record { leaves = leaves_are_acts ops; most = omega (arith, few_acts ops, length_growing seed size, few); sources = none_are_sources (generated seed size).shape (generated seed size).acts }
 
 pub generated_acts : (seed size : ℕ) → leaf_count (generated seed size).shape ≡ length (generated seed size).acts
 generated_acts seed size = leaves_are_acts (growing_ops seed size)

@@ -1,14 +1,15 @@
 -- The flags of arguments out of range, item by item, and the search for the first one that is set.
 use Rattle.std.proofs.Common.{◌≡◌, ℕ, ◌+◌, ◌<◌, List, [], ◌∷◌, ◌++◌, length, take, drop, get_or, Vec, Global, Bool, true, false, Option, Some, None, refl, sym, ap, ◌∙◌, append_assoc, append-nil}
 use Rattle.job_syntax.specs.declared.lexer.word.WordOnLine.{WordOnLine}
-use Rattle.job_syntax.specs.declared.item.Item.{Item, Leaf as ItemLeaf, Block}
+use Rattle.job_names.specs.declared.name.Name.{Name}
+use Rattle.job_syntax.specs.declared.item.Item.{Item, Leaf as ItemLeaf, Let as ItemLet, Block}
 use Rattle.job_syntax.specs.declared.item.Leaf.{Leaf as CodeLeaf}
 use Rattle.job_syntax.specs.declared.item.BlockKind.{BlockKind as CodeBlockKind}
 use Rattle.job_syntax.specs.Grammar.{Items, nothing, leaf_then, block_then, ◌then◌}
 use Rattle.job_lang.specs.Limits.{copies_inside, leaf_range_flags, range_flags, first_line, argument_line}
 use Rattle.job_lang.specs.Code.Searches.{dependents, found_or, Finds}
 use Rattle.job_syntax.specs.Views.{items_of, item_of, leaf_of, block_kind_of}
-use Rattle.job_syntax.proofs.ParserLemmas.Levels.{items_of_more, items_of_parts, item_of_leaf, item_of_block}
+use Rattle.job_syntax.proofs.ParserLemmas.Levels.{items_of_more, items_of_parts, item_of_leaf, item_of_let, item_of_block}
 
 pub range_flags_then : (c : ℕ) (a b : Items) → range_flags c (a then b) ≡ range_flags c a ++ range_flags c b
 range_flags_then c nothing b = refl
@@ -17,6 +18,9 @@ range_flags_then c (block_then kind body a) b = simp (range_flags_then c a b, ap
 
 pub range_flags_of_leaf : (c : ℕ) (leaf : CodeLeaf) → range_flags c (item_of (ItemLeaf leaf)) ≡ leaf_range_flags c (leaf_of leaf)
 range_flags_of_leaf c leaf = ap (range_flags c) (item_of_leaf leaf) ∙ append-nil (leaf_range_flags c (leaf_of leaf))
+
+pub range_flags_of_let : (c : ℕ) (name : Name) (call : CodeLeaf) → range_flags c (item_of (ItemLet name call)) ≡ leaf_range_flags c (leaf_of call)
+range_flags_of_let c name call = ap (range_flags c) (item_of_let name call) ∙ append-nil (leaf_range_flags c (leaf_of call))
 
 pub range_flags_of_block : (c : ℕ) (kind : CodeBlockKind) (inside : Vec Item Global) → range_flags c (item_of (Block kind inside)) ≡ range_flags (copies_inside c (block_kind_of kind)) (items_of inside.items)
 range_flags_of_block c kind inside = ap (range_flags c) (item_of_block kind inside) ∙ append-nil (range_flags (copies_inside c (block_kind_of kind)) (items_of inside.items))

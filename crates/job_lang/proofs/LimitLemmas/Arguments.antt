@@ -1,17 +1,17 @@
 -- Where no argument is out of range in the last copy, the numbers of all copies fit 32 bits.
 use Rattle.std.proofs.Common.{◌≡◌, ℕ, suc, ◌+◌, ◌-◌, ◌*◌, ◌^◌, ◌<◌, ◌≤◌, List, [], ◌∷◌, ◌++◌, length, filter, Bool, true, false, Some, None, refl, ap, ◌∙◌, arith, length-append}
-use Rattle.std.specs.Prelude.{◌&&◌, nat_le, if◌then◌else◌}
+use Rattle.std.specs.Prelude.{◌&&◌, nat_le, if◌then◌else◌, IsTrue}
 use Rattle.std.proofs.Math.Nat.{mul-le-mul_left}
 use Rattle.std.proofs.lemmas.Bool.{le-leb, leb-false}
 use Rattle.std.proofs.lemmas.List.Elements.{filter-append}
 use Rattle.job_syntax.specs.declared.lexer.word.Word.{Word}
 use Rattle.job_syntax.specs.declared.lexer.word.Word.TheVariants.{Open, Close, Copies}
 use Rattle.job_syntax.specs.declared.lexer.word.WordOnLine.{WordOnLine}
-use Rattle.job_syntax.specs.Grammar.{Items, nothing, leaf_then, block_then, seq_block, par_block, for_loop, pfor_loop, Leaf, with_argument, stack_pop, queue_take, unary_op_words, leaf_words, kind_words, items_words, IsLeaf, AreItems, Derives}
+use Rattle.job_syntax.specs.Grammar.{Items, nothing, leaf_then, block_then, seq_block, par_block, for_loop, pfor_loop, Leaf, with_argument, stack_pop, queue_take, bound, work, counter_add, stack_push, tree_insert, tree_remove, tree_find, tree_next, queue_insert, unary_op_words, leaf_words, kind_words, items_words, is_argument, is_call_argument, IsCall, IsLeaf, AreItems, Derives}
 use Rattle.job_syntax.specs.Faults.{words_of}
 use Rattle.job_syntax.specs.Blocks.{word_number}
 use Rattle.job_lang.specs.Limits.{copies_inside, is_out_of_range, leaf_range_flags, range_flags, depends_on_copy, first_line, argument_line}
-use Rattle.job_lang.specs.Code.Ranges.{FitsLeaf, Fits}
+use Rattle.job_lang.specs.Code.Ranges.{FitsArgument, FitsLeaf, Fits}
 use Rattle.job_lang.specs.Code.Searches.{dependents}
 
 -- there are as many words that depend on the copy as arguments that do
@@ -29,6 +29,7 @@ filter_length a b = ap length (filter-append depends_on_copy a b) ∙ length-app
 
 leaf_few : (c : ℕ) (leaf : Leaf) → length (leaf_range_flags c leaf) ≤ length (filter depends_on_copy (leaf_words leaf))
 leaf_few c (with_argument op (Copies (Some by))) = let h = filter_length (unary_op_words op) (Copies (Some by) ∷ []) in omega (arith, h)
+leaf_few c (bound name call) = leaf_few c call
 leaf_few c _ = omega arith
 
 range_flags_few : (items : Items) (c : ℕ) → length (range_flags c items) ≤ length (filter depends_on_copy (items_words items))
@@ -76,6 +77,7 @@ leaf_fits (with_argument op (Copies (Some by))) c k below small = number_fits by
 leaf_fits (with_argument op _) c k below small = tt
 leaf_fits stack_pop c k below small = tt
 leaf_fits queue_take c k below small = tt
+leaf_fits (bound name call) c k below small = leaf_fits call c k below small
 
 fits_inside : (items : Items) (c k : ℕ) → k < c → AreAllFalse (range_flags c items) → Fits k items
 fits_inside nothing c k below small = tt
@@ -90,11 +92,39 @@ fits_inside (block_then (for_loop n) body more) c k below small =
 fits_inside (block_then (pfor_loop n) body more) c k below small =
     let parts = parts_false (range_flags (word_number n) body) (range_flags c more) small in ((λ i within. fits_inside body (word_number n) i within parts.0), fits_inside more c k below parts.1)
 
+argument_fits : (argument : Word) → IsTrue (is_argument false argument) → FitsArgument 0 argument
+argument_fits (Copies by) fits = absurd (cc fits)
+argument_fits _ fits = tt
+
+value_fits : (argument : Word) → IsTrue (is_call_argument false argument) → FitsArgument 0 argument
+value_fits (Copies by) fits = absurd (cc fits)
+value_fits _ fits = tt
+
+call_fits_outside : (call : Leaf) → IsCall false call → FitsLeaf 0 call
+call_fits_outside (with_argument work argument) fits = elim fits [ ]
+call_fits_outside (with_argument counter_add argument) fits = value_fits argument fits
+call_fits_outside (with_argument stack_push argument) fits = value_fits argument fits
+call_fits_outside (with_argument tree_insert argument) fits = value_fits argument fits
+call_fits_outside (with_argument tree_remove argument) fits = value_fits argument fits
+call_fits_outside (with_argument tree_find argument) fits = value_fits argument fits
+call_fits_outside (with_argument tree_next argument) fits = value_fits argument fits
+call_fits_outside (with_argument queue_insert argument) fits = value_fits argument fits
+call_fits_outside stack_pop fits = tt
+call_fits_outside queue_take fits = tt
+call_fits_outside (bound name call) fits = elim fits [ ]
+
 leaf_fits_outside : (leaf : Leaf) → IsLeaf false leaf → FitsLeaf 0 leaf
-leaf_fits_outside (with_argument op (Copies by)) fits = absurd (cc fits)
-leaf_fits_outside (with_argument op _) fits = tt
+leaf_fits_outside (with_argument work argument) fits = argument_fits argument fits
+leaf_fits_outside (with_argument counter_add argument) fits = value_fits argument fits
+leaf_fits_outside (with_argument stack_push argument) fits = value_fits argument fits
+leaf_fits_outside (with_argument tree_insert argument) fits = value_fits argument fits
+leaf_fits_outside (with_argument tree_remove argument) fits = value_fits argument fits
+leaf_fits_outside (with_argument tree_find argument) fits = value_fits argument fits
+leaf_fits_outside (with_argument tree_next argument) fits = value_fits argument fits
+leaf_fits_outside (with_argument queue_insert argument) fits = value_fits argument fits
 leaf_fits_outside stack_pop fits = tt
 leaf_fits_outside queue_take fits = tt
+leaf_fits_outside (bound name call) fits = call_fits_outside call fits
 
 fits_outside : (items : Items) → AreItems false items → AreAllFalse (range_flags 0 items) → Fits 0 items
 fits_outside nothing fits small = tt

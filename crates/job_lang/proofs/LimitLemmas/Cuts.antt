@@ -2,14 +2,15 @@
 use Rattle.std.proofs.Common.{Vec, Global, ◌≡◌, ℕ, zero, suc, ◌+◌, ◌*◌, ◌<◌, ◌≤◌, min, List, length, take, get_or, sym, ap, ◌∙◌, arith, inl, inr}
 use Rattle.std.proofs.Math.Nat.{mul-le-mul_left}
 use Rattle.std.proofs.lemmas.Bool.{cases_lt}
-use Rattle.job_syntax.specs.declared.item.Item.{Item, Leaf as ItemLeaf, Block}
+use Rattle.job_names.specs.declared.name.Name.{Name}
+use Rattle.job_syntax.specs.declared.item.Item.{Item, Leaf as ItemLeaf, Let as ItemLet, Block}
 use Rattle.job_syntax.specs.declared.item.Leaf.{Leaf as CodeLeaf}
 use Rattle.job_syntax.specs.declared.item.BlockKind.{BlockKind as CodeBlockKind}
 use Rattle.job_syntax.specs.Grammar.{Items, nothing, leaf_then, block_then, ◌then◌}
 use Rattle.job_syntax.specs.Blocks.{copies_of}
 use Rattle.job_lang.specs.Counts.{count}
 use Rattle.job_syntax.specs.Views.{items_of, item_of, block_kind_of}
-use Rattle.job_syntax.proofs.ParserLemmas.Levels.{items_of_more, item_of_leaf, item_of_block}
+use Rattle.job_syntax.proofs.ParserLemmas.Levels.{items_of_more, item_of_leaf, item_of_let, item_of_block}
 
 pub count_then : (a b : Items) → count (a then b) ≡ count a + count b
 count_then nothing b = omega arith
@@ -47,6 +48,9 @@ count_block h v = ap count (item_of_block h v) ∙ omega arith
 
 pub count_leaf : (l : CodeLeaf) → count (item_of (ItemLeaf l)) ≡ 1
 count_leaf l = ap count (item_of_leaf l) ∙ omega arith
+
+pub count_let : (name : Name) (call : CodeLeaf) → count (item_of (ItemLet name call)) ≡ 1
+count_let name call = ap count (item_of_let name call) ∙ omega arith
 
 pub block_cut : (h : CodeBlockKind) (v : Vec Item Global) → min 20001 (copies_of (block_kind_of h) * min 20001 (count (items_of v.items))) ≡ min 20001 (count (item_of (Block h v)))
 block_cut h v = cut_mul 20001 (copies_of (block_kind_of h)) (count (items_of v.items)) ∙ ap (min 20001) (sym (count_block h v))

@@ -15,6 +15,7 @@ use Rattle.job_lang.proofs.LimitLemmas.WordCounts.{front_words, leaf_writes, wor
 
 step_counts : (x : Item-F Items) (more : Items) → count_first (item_step x then more) ≡ count (item_step x)
 step_counts (Item-F.Leaf leaf) more = refl
+step_counts (Item-F.Let name call) more = refl
 step_counts (Item-F.Block kind inside) more = omega arith
 
 -- `count_first` of an item before others is the item's `count`
@@ -23,6 +24,7 @@ item_counts x more = let level = level_of x in ap (λ y. count_first (y then mor
 
 step_writes : (x : Item-F Items) → 0 < length (items_words (item_step x))
 step_writes (Item-F.Leaf leaf) = simp length-append (omega (arith, leaf_writes (leaf_of leaf)))
+step_writes (Item-F.Let name call) = simp length-append (omega arith)
 step_writes (Item-F.Block kind inside) = simp length-append (omega arith)
 
 item_writes : (x : Item) → 0 < length (items_words (item_of x))

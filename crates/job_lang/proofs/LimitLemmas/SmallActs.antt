@@ -7,10 +7,11 @@ use Rattle.std.proofs.lemmas.Bool.{ltb-true}
 use Rattle.seq_objects.specs.declared.act.Act.{Act}
 use Rattle.sp_order.specs.Jobs.{JobValue}
 use Rattle.job_syntax.specs.declared.lexer.word.Word.{Word}
-use Rattle.job_syntax.specs.declared.lexer.word.Word.TheVariants.{Open, Close, Work, Counter, Stack, Tree, Queue, Add, Push, Pop, Insert, Remove, Find, Next, Take, Seq, Par, For, Pfor, Number, Copies, Other}
+use Rattle.job_syntax.specs.declared.lexer.word.Word.TheVariants.{Open, Close, Work, Counter, Stack, Tree, Queue, Add, Push, Pop, Insert, Remove, Find, Next, Take, Seq, Par, For, Pfor, Let, Equals, Number, Copies, Named, Other}
+use Rattle.job_names.specs.Names.{name_of}
 use Rattle.job_syntax.specs.Text.{Token, tokens}
 use Rattle.job_syntax.specs.Words.{begins_well, digits_from, number_of, copies_word, argument_word, word_of, word_on_line, words_on_lines, pair_of, before_plus, behind_plus}
-use Rattle.job_syntax.specs.Grammar.{Items, nothing, leaf_then, block_then, seq_block, par_block, for_loop, pfor_loop, BlockKind, Leaf, with_argument, stack_pop, queue_take, UnaryOp, work, counter_add, stack_push, tree_insert, tree_remove, tree_find, tree_next, queue_insert, unary_op_words, leaf_words, kind_words, items_words}
+use Rattle.job_syntax.specs.Grammar.{Items, nothing, leaf_then, block_then, seq_block, par_block, for_loop, pfor_loop, BlockKind, Leaf, with_argument, stack_pop, queue_take, bound, UnaryOp, work, counter_add, stack_push, tree_insert, tree_remove, tree_find, tree_next, queue_insert, unary_op_words, leaf_words, kind_words, items_words}
 use Rattle.job_syntax.specs.Faults.{words_of}
 use Rattle.job_syntax.specs.Blocks.{word_number}
 use Rattle.job_lang.specs.ActNumbers.{act_number, IsSmall, AreSmall}
@@ -49,7 +50,7 @@ small_copies text = chosen _ (Copies (pair_of (number_of (before_plus text)) (nu
 small_argument_word : (text : List ℕ) → IsSmallWord (argument_word text)
 small_argument_word text =
     chosen _ (Number (number_of text)) _ (small_number text) (chosen _ (Copies (Some (1, 0))) _ tt
-    (chosen _ (copies_word (drop 2 text)) Other (small_copies (drop 2 text)).says (record { says = tt })))
+    (chosen _ (copies_word (drop 2 text)) _ (small_copies (drop 2 text)).says (chosen _ (Named (name_of text)) Other tt (record { says = tt }))))
 
 small_word : (text : List ℕ) → IsSmallWord (word_of text)
 small_word text =
@@ -72,7 +73,9 @@ small_word text =
     (chosen (bytes_eq text (codes "par")) Par _ tt
     (chosen (bytes_eq text (codes "for")) For _ tt
     (chosen (bytes_eq text (codes "pfor")) Pfor _ tt
-    (small_argument_word text)))))))))))))))))))
+    (chosen (bytes_eq text (codes "let")) Let _ tt
+    (chosen (bytes_eq text (codes "=")) Equals _ tt
+    (small_argument_word text)))))))))))))))))))))
 
 small_words : (some : List Token) → AllByRecursion SaysSmall (words_of (map word_on_line some))
 small_words [] = tt
@@ -103,6 +106,7 @@ small_act copy (with_argument op argument) fits each =
     small_act_with op (number_in copy argument) (small_in_copy copy argument fits (parts (unary_op_words op) (argument ∷ []) each).1.0)
 small_act copy stack_pop fits each = tt
 small_act copy queue_take fits each = tt
+small_act copy (bound name call) fits each = small_act copy call fits each.1.1.1
 
 abbrev IsSmallAct : Act → Type 0
 IsSmallAct act = IsSmall (act_number act)

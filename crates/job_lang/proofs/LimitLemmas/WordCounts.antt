@@ -3,14 +3,15 @@ use Rattle.std.proofs.Common.{◌≡◌, ℕ, ◌+◌, ◌<◌, ◌≤◌, List,
 use Rattle.std.proofs.Math.Seq.{take-append_seam, drop-append_seam}
 use Rattle.std.proofs.lemmas.List.{take-map, drop-map}
 use Rattle.job_syntax.specs.declared.lexer.word.WordOnLine.{WordOnLine}
-use Rattle.job_syntax.specs.declared.item.Item.{Item, Leaf as ItemLeaf, Block}
+use Rattle.job_names.specs.declared.name.Name.{Name}
+use Rattle.job_syntax.specs.declared.item.Item.{Item, Leaf as ItemLeaf, Let as ItemLet, Block}
 use Rattle.job_syntax.specs.declared.item.Leaf.{Leaf as CodeLeaf}
 use Rattle.job_syntax.specs.declared.item.BlockKind.{BlockKind as CodeBlockKind}
-use Rattle.job_syntax.specs.Grammar.{Items, ◌then◌, Leaf, with_argument, stack_pop, queue_take, leaf_words, kind_words, items_words}
+use Rattle.job_syntax.specs.Grammar.{Items, ◌then◌, Leaf, with_argument, stack_pop, queue_take, bound, leaf_words, kind_words, items_words}
 use Rattle.job_syntax.specs.Faults.{words_of}
 use Rattle.job_syntax.specs.Views.{items_of, item_of, leaf_of, block_kind_of}
 use Rattle.job_syntax.proofs.ParserLemmas.Derivations.{words_then}
-use Rattle.job_syntax.proofs.ParserLemmas.Levels.{items_of_more, items_of_parts, item_of_leaf, item_of_block}
+use Rattle.job_syntax.proofs.ParserLemmas.Levels.{items_of_more, items_of_parts, item_of_leaf, item_of_let, item_of_block}
 
 -- the words of the first items come first, and those of the others after them
 pub front_words : (tokens : List WordOnLine) (before rest : Items) → items_words (before then rest) ≡ words_of tokens → items_words before ≡ words_of (take (length (items_words before)) tokens)
@@ -28,6 +29,7 @@ pub leaf_writes : (leaf : Leaf) → 0 < length (leaf_words leaf)
 leaf_writes (with_argument op argument) = simp length-append (omega arith)
 leaf_writes stack_pop = omega arith
 leaf_writes queue_take = omega arith
+leaf_writes (bound name call) = omega arith
 
 pub front_word_count : (xs : List Item) (i : ℕ) → length (items_words (items_of (take i xs))) ≤ length (items_words (items_of xs))
 front_word_count xs i =
@@ -46,6 +48,12 @@ word_count_item x xs i h e = omega (arith, word_count_more xs i x h e, front_wor
 
 pub leaf_item_word_count : (leaf : CodeLeaf) → length (items_words (item_of (ItemLeaf leaf))) ≡ length (leaf_words (leaf_of leaf))
 leaf_item_word_count leaf = ap (λ items. length (items_words items)) (item_of_leaf leaf) ∙ ap length (append-nil (leaf_words (leaf_of leaf)))
+
+pub let_item_word_count : (name : Name) (call : CodeLeaf) → length (items_words (item_of (ItemLet name call))) ≡ length (leaf_words (leaf_of call)) + 3
+let_item_word_count name call =
+    let e = ap (λ items. length (items_words items)) (item_of_let name call) in
+    let f = ap length (append-nil (leaf_words (leaf_of call))) in
+    omega (arith, e, f)
 
 pub block_item_word_count : (kind : CodeBlockKind) (inside : Vec Item Global) → length (items_words (item_of (Block kind inside))) ≡ length (kind_words (block_kind_of kind)) + length (items_words (items_of inside.items)) + 2
 block_item_word_count kind inside =

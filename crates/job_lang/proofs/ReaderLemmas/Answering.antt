@@ -33,6 +33,7 @@ not_both text job (fault.Byte line) is has = let allowed = is.allowed in cc (all
 not_both text job (fault.Grammar line) is has = reads_well text (fault.Grammar line) job is has.1
 not_both text job (fault.Number line) is has = reads_well text (fault.Number line) job is has.1
 not_both text job (fault.Nesting line) is has = reads_well text (fault.Nesting line) job is has.1
+not_both text job (fault.Name line) is has = reads_well text (fault.Name line) job is has.1
 not_both text job (fault.Leaves line) is has =
     let same = ap count (one_items (words_on_lines text) is.items has.items is.read has.read) in
     let many = too_many (words_on_lines text) has.items line has.where_it_is in
@@ -76,6 +77,19 @@ one_argument text line line' has also =
     cc (same, here, there)
 
 pub one_fault : (text : List ℕ) (a b : JobFault) → IsFaultOf text a → IsFaultOf text b → a ≡ b
+one_fault text (fault.Byte l) (fault.Name m) has also = let allowed = also.0 in absurd (cc (has, allowed))
+one_fault text (fault.Grammar l) (fault.Name m) has also = same_read text (fault.Grammar l) (fault.Name m) has also
+one_fault text (fault.Name l) (fault.Grammar m) has also = same_read text (fault.Name l) (fault.Grammar m) has also
+one_fault text (fault.Number l) (fault.Name m) has also = same_read text (fault.Number l) (fault.Name m) has also
+one_fault text (fault.Name l) (fault.Number m) has also = same_read text (fault.Name l) (fault.Number m) has also
+one_fault text (fault.Nesting l) (fault.Name m) has also = same_read text (fault.Nesting l) (fault.Name m) has also
+one_fault text (fault.Name l) (fault.Nesting m) has also = same_read text (fault.Name l) (fault.Nesting m) has also
+one_fault text (fault.Name l) (fault.Name m) has also = same_read text (fault.Name l) (fault.Name m) has also
+one_fault text (fault.Name l) (fault.Byte m) has also = let allowed = has.0 in absurd (cc (also, allowed))
+one_fault text (fault.Name l) (fault.Leaves m) has also = absurd (leaves_read text (fault.Name l) m has also)
+one_fault text (fault.Name l) (fault.Argument m) has also = absurd (argument_read text (fault.Name l) m has also)
+one_fault text (fault.Leaves l) (fault.Name m) has also = absurd (leaves_read text (fault.Name m) l also has)
+one_fault text (fault.Argument l) (fault.Name m) has also = absurd (argument_read text (fault.Name m) l also has)
 one_fault text (fault.Byte l) (fault.Byte m) has also = ap (λ line. fault.Byte line) (cc (has, also))
 one_fault text (fault.Byte l) (fault.Grammar m) has also = let allowed = also.0 in absurd (cc (has, allowed))
 one_fault text (fault.Byte l) (fault.Number m) has also = let allowed = also.0 in absurd (cc (has, allowed))

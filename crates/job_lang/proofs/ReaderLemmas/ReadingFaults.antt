@@ -33,3 +33,4 @@ reading_fault text (fault.Argument line) allowed read = absurd (no_argument (las
 reading_fault text (fault.Grammar line) allowed read = (allowed, read)
 reading_fault text (fault.Number line) allowed read = (allowed, read)
 reading_fault text (fault.Nesting line) allowed read = (allowed, read)
+reading_fault text (fault.Name line) allowed read = (allowed, read)

@@ -73,7 +73,7 @@ pub(crate) fn out_of_range_in_items(copies: u32, items: &[Item], words: &mut Cur
 
 /// The line of the first argument of the item that is out of range in some copy.
 #[cycle(scanning)]
-#[tactic(auto, using(crate::proofs::LimitLemmas::ArgumentRanges::range_flags_of_leaf, crate::proofs::LimitLemmas::ArgumentRanges::range_flags_of_block))]
+#[tactic(auto, using(crate::proofs::LimitLemmas::ArgumentRanges::range_flags_of_leaf, crate::proofs::LimitLemmas::ArgumentRanges::range_flags_of_let, crate::proofs::LimitLemmas::ArgumentRanges::range_flags_of_block))]
 fn out_of_range_in_item(copies: u32, item: &Item, words: &mut Cursor) -> Option<u32>
     ensures { Finds (range_flags copies (item_of item.now)) words.old result words.new }
 {

@@ -22,7 +22,7 @@ pub(crate) fn count_items(items: &[Item]) -> u64
 
 /// The number of leaves that the item makes, capped at 20,001.
 #[cycle(counting_leaves)]
-#[tactic(auto, using(crate::proofs::LimitLemmas::Cuts::block_cut, crate::proofs::LimitLemmas::Cuts::count_leaf))]
+#[tactic(auto, using(crate::proofs::LimitLemmas::Cuts::block_cut, crate::proofs::LimitLemmas::Cuts::count_leaf, crate::proofs::LimitLemmas::Cuts::count_let))]
 pub(crate) fn count_item(item: &Item) -> u64
     ensures { result ≡ min 20001 (count (item_of item.now)) }
 {

@@ -55,7 +55,7 @@ fn items_word_count(items: &[Item]) -> usize
 
 /// The number of words that the item writes.
 #[cycle(counting_words)]
-#[tactic(auto, using(crate::proofs::LimitLemmas::WordCounts::leaf_item_word_count, crate::proofs::LimitLemmas::WordCounts::block_item_word_count, crate::proofs::Weights::weight_block))]
+#[tactic(auto, using(crate::proofs::LimitLemmas::WordCounts::leaf_item_word_count, crate::proofs::LimitLemmas::WordCounts::let_item_word_count, crate::proofs::LimitLemmas::WordCounts::block_item_word_count, crate::proofs::Weights::weight_block))]
 pub(crate) fn item_word_count(item: &Item) -> usize
     requires { length (items_words (item_of item.now)) < 2 ^ 63 }
     ensures { result ≡ length (items_words (item_of item.now)) }

@@ -1,6 +1,7 @@
 use Rattle.std.proofs.Common.{◌≡◌, ◌++◌, ◌+◌, map, take}
 use Rattle.sp_order.specs.Precedence.{tree_of, seq}
-use Rattle.job_lang.specs.Meaning.{shapes_in, acts_in, each_copy, join_list}
+use Rattle.job_lang.specs.Meaning.{shapes_in, each_copy, join_list}
+use Rattle.job_lang.specs.Code.Scoped.{Adds, AddsCopies}
 use Rattle.job_syntax.specs.Views.{items_of, item_of}
 use Rattle.job_lang.proofs.Weights.{weight}
 use Rattle.job_lang.proofs.expand.+expanding.Given as goal
@@ -8,13 +9,13 @@ use Rattle.job_lang.proofs.expand.+expanding.Given as goal
 abbrev pub invariant-shapes_of_copies-loop-copy : goal.invariant-shapes_of_copies-loop-copy
 invariant-shapes_of_copies-loop-copy l = record {
   made : map tree_of l.shapes.items ≡ each_copy l.copy (λ k. join_list seq (shapes_in k (items_of l.inside)));
-  done : l.acts.items ≡ l.initial.acts.items ++ each_copy l.copy (λ k. acts_in k (items_of l.inside));
+  adds : AddsCopies l.copy (items_of l.inside) l.initial.leaves l.leaves;
 }
 
 abbrev pub invariant-shapes_in-loop-item : goal.invariant-shapes_in-loop-item
 invariant-shapes_in-loop-item l = record {
   made : map tree_of l.shapes.items ≡ shapes_in l.copy (items_of (take l.item-index l.items));
-  done : l.acts.items ≡ l.initial.acts.items ++ acts_in l.copy (items_of (take l.item-index l.items));
+  adds : Adds l.copy (items_of (take l.item-index l.items)) l.initial.leaves l.leaves;
 }
 
 abbrev pub decreases-shapes_in : goal.decreases-shapes_in

@@ -1,0 +1,464 @@
+-- Sources are call leaves that stand before the leaves that use them.
+use Rattle.std.proofs.Common.{ℕ, zero, suc, ◌≡◌, ◌+◌, ◌*◌, ◌<◌, ◌≤◌, ◌⊎◌, inl, inr, Bool, true, false, List, [], ◌∷◌, ◌++◌, length, Option, Some, None, arith, refl, sym, ap, ◌∙◌, subst, length-append}
+use Rattle.std.specs.Prelude.{if◌then◌else◌, ◌==◌, slice_get, IsTrue}
+use Rattle.seq_objects.specs.declared.act.Act.{Act}
+use Rattle.seq_objects.specs.declared.act.Act.TheVariants.{Work, Call}
+use Rattle.seq_objects.specs.declared.op.Op.{Op}
+use Rattle.seq_objects.specs.declared.op.Op.TheVariants.{CounterAdd, Push, Pop, TreeInsert, TreeRemove, TreeFind, TreeNext, PqInsert, PqTake}
+use Rattle.seq_objects.specs.Objects.{argument_of}
+use Rattle.sp_order.specs.Precedence.{Tree, leaf, seq, par, leaves, IsBeforeFrom, IsBefore}
+use Rattle.sp_order.specs.Sources.{has_argument, IsSource, AreSources}
+use Rattle.job_names.specs.declared.name.Name.{Name}
+use Rattle.job_names.specs.Names.{same_name}
+use Rattle.job_syntax.specs.declared.lexer.word.Word.{Word}
+use Rattle.job_syntax.specs.declared.lexer.word.Word.TheVariants.{Number, Copies, Named}
+use Rattle.job_syntax.specs.Blocks.{word_number}
+use Rattle.job_syntax.specs.Grammar.{UnaryOp, work, counter_add, stack_push, tree_insert, tree_remove, tree_find, tree_next, queue_insert, Leaf, with_argument, stack_pop, queue_take, bound, BlockKind, seq_block, par_block, for_loop, pfor_loop, Items, nothing, leaf_then, block_then, is_argument, is_call_argument}
+use Rattle.job_syntax.specs.Grammar as grammar
+use Rattle.job_syntax.proofs.ParserLemmas.NamesSeen.{AreFlat, flat_items}
+use Rattle.job_lang.specs.Counts.{count}
+use Rattle.job_lang.specs.Joins.{join_of}
+use Rattle.job_lang.specs.Meaning.{each_copy, Known, leaf_known, source_of, known_by, known_behind, known_next, sources_in, number_in, act_of, acts_in, join_list, shapes_in, job_of}
+use Rattle.job_lang.proofs.ExpandLemmas.Before.{total, kind_by, IsBeforeIn, IsBeforeOpt}
+use Rattle.job_lang.proofs.ExpandLemmas.Joined.{total_append, before_left, before_right, before_cross, joined_of, joined_list, total_joined, before_is_smaller}
+use Rattle.job_lang.proofs.ExpandLemmas.Leaves.{acts_count}
+
+-- the act calls; and calls with an argument that stands as 0
+abbrev pub Calls : Act → Type 0
+Calls act = (op : Op) × (act ≡ Call op)
+
+abbrev pub Takes : Act → Type 0
+Takes act = (op : Op) × ((act ≡ Call op) × ((has_argument op ≡ true) × (argument_of op ≡ 0)))
+
+-- leaf v has the source u, where the leaves are numbered from `first` on
+abbrev pub IsSourceIn : ℕ → List (Option ℕ) → ℕ → ℕ → Type 0
+IsSourceIn first [] v u = ⊥
+IsSourceIn first (s ∷ ss) v u = ((v ≡ first) × (s ≡ Some u)) ⊎ IsSourceIn (first + 1) ss v u
+
+-- leaf u is such an act
+abbrev pub ActIn : (Act → Type 0) → ℕ → List Act → ℕ → Type 0
+ActIn P first [] u = ⊥
+ActIn P first (a ∷ acts) u = ((u ≡ first) × P a) ⊎ ActIn P (first + 1) acts u
+
+-- leaf u calls
+abbrev pub IsCallIn : ℕ → List Act → ℕ → Type 0
+IsCallIn first acts u = ActIn Calls first acts u
+
+-- some known name stands for leaf u
+abbrev pub HasLeaf : List Known → ℕ → Type 0
+HasLeaf [] u = ⊥
+HasLeaf (k ∷ known) u = (k.leaf ≡ u) ⊎ HasLeaf known u
+
+has_append : (xs ys : List Known) (u : ℕ) → HasLeaf (xs ++ ys) u → HasLeaf xs u ⊎ HasLeaf ys u
+has_append [] ys u h = inr h
+has_append (x ∷ xs) ys u (inl e) = inl (inl e)
+has_append (x ∷ xs) ys u (inr h) = elim (has_append xs ys u h) [ inl l ↦ inl (inr l) | inr r ↦ inr r ]
+
+from_known : (series : Bool) (new known : List Known) (u : ℕ) → HasLeaf (known_next series new known) u → ((series ≡ true) × HasLeaf new u) ⊎ HasLeaf known u
+from_known true new known u h = elim (has_append new known u h) [ inl l ↦ inl (refl, l) | inr r ↦ inr r ]
+from_known false new known u h = inr h
+
+one_of : (b : Bool) (here : ℕ) (rest : Option ℕ) (u : ℕ) → (if b then Some here else rest) ≡ Some u → (here ≡ u) ⊎ (rest ≡ Some u)
+one_of true here rest u e = inl cc
+one_of false here rest u e = inr e
+
+name_known : (known : List Known) (name : Name) (u : ℕ) → leaf_known known name ≡ Some u → HasLeaf known u
+name_known [] name u e = cc
+name_known (k ∷ known) name u e = elim (one_of (same_name k.name name) k.leaf (leaf_known known name) u e) [ inl h ↦ inl h | inr h ↦ inr (name_known known name u h) ]
+
+source_known : (known : List Known) (l : Leaf) (u : ℕ) → source_of known l ≡ Some u → HasLeaf known u
+source_known known (with_argument op (Named name)) u e = name_known known name u e
+source_known known (with_argument op _) u e = cc
+source_known known stack_pop u e = cc
+source_known known queue_take u e = cc
+source_known known (bound name call) u e = source_known known call u e
+
+-- lists one behind the other
+source_split : (first at : ℕ) (xs ys : List (Option ℕ)) (v u : ℕ) → at ≡ first + length xs → IsSourceIn first (xs ++ ys) v u → IsSourceIn first xs v u ⊎ IsSourceIn at ys v u
+source_split first at [] ys v u e h = let same : first ≡ at = omega (arith, e) in inr (subst (λ f. IsSourceIn f ys v u) same h)
+source_split first at (x ∷ xs) ys v u e (inl h) = inl (inl h)
+source_split first at (x ∷ xs) ys v u e (inr h) =
+    elim (source_split (first + 1) at xs ys v u (omega (arith, e)) h) [ inl l ↦ inl (inr l) | inr r ↦ inr r ]
+
+source_range : (first : ℕ) (ss : List (Option ℕ)) (v u : ℕ) → IsSourceIn first ss v u → (first ≤ v) × (v < first + length ss)
+source_range first [] v u h = elim h [ ]
+source_range first (s ∷ ss) v u (inl h) = let e = h.0 in (omega (arith, e), omega (arith, e))
+source_range first (s ∷ ss) v u (inr h) = let r = source_range (first + 1) ss v u h in let a = r.0 in let b = r.1 in (omega (arith, a), omega (arith, b))
+
+act_left : (P : Act → Type 0) (first : ℕ) (xs ys : List Act) (u : ℕ) → ActIn P first xs u → ActIn P first (xs ++ ys) u
+act_left P first [] ys u h = elim h [ ]
+act_left P first (x ∷ xs) ys u (inl h) = inl h
+act_left P first (x ∷ xs) ys u (inr h) = inr (act_left P (first + 1) xs ys u h)
+
+act_right : (P : Act → Type 0) (first at : ℕ) (xs ys : List Act) (u : ℕ) → at ≡ first + length xs → ActIn P at ys u → ActIn P first (xs ++ ys) u
+act_right P first at [] ys u e h = let same : at ≡ first = omega (arith, e) in subst (λ f. ActIn P f ys u) same h
+act_right P first at (x ∷ xs) ys u e h = inr (act_right P (first + 1) at xs ys u (omega (arith, e)) h)
+
+act_range : (P : Act → Type 0) (first : ℕ) (xs : List Act) (u : ℕ) → ActIn P first xs u → (first ≤ u) × (u < first + length xs)
+act_range P first [] u h = elim h [ ]
+act_range P first (x ∷ xs) u (inl h) = let e = h.0 in (omega (arith, e), omega (arith, e))
+act_range P first (x ∷ xs) u (inr h) = let r = act_range P (first + 1) xs u h in let a = r.0 in let b = r.1 in (omega (arith, a), omega (arith, b))
+
+-- how long they are
+each_length : {X : Type 0} (n m : ℕ) (g : ℕ → List X) → ((k : ℕ) → length (g k) ≡ m) → length (each_copy n g) ≡ n * m
+each_length zero m g h = omega arith
+each_length (suc n) m g h = simp length-append (omega (arith, each_length n m g h, h n))
+
+each_total : (n m : ℕ) (g : ℕ → List Tree) → ((k : ℕ) → total (g k) ≡ m) → total (each_copy n g) ≡ n * m
+each_total zero m g h = omega arith
+each_total (suc n) m g h = total_append (each_copy n g) (g n) ∙ omega (arith, each_total n m g h, h n)
+
+sources_count : (items : Items) (series : Bool) (known : List Known) (first : ℕ) → length (sources_in series known first items) ≡ count items
+sources_count nothing series known first = refl
+sources_count (leaf_then l more) series known first = omega (arith, sources_count more series (known_next series (known_by first l) known) (first + 1))
+sources_count (block_then seq_block body more) series known first =
+    simp length-append (omega (arith, sources_count body true known first, sources_count more series (known_next series (known_behind first body) known) (first + 1 * count body)))
+sources_count (block_then par_block body more) series known first =
+    simp length-append (omega (arith, sources_count body false known first, sources_count more series (known_next series (known_behind first body) known) (first + 1 * count body)))
+sources_count (block_then (for_loop n) body more) series known first =
+    let e = each_length (word_number n) (count body) (λ k. sources_in true known (first + k * count body) body) (λ k. sources_count body true known (first + k * count body)) in
+    simp length-append (omega (arith, e, sources_count more series known (first + word_number n * count body)))
+sources_count (block_then (pfor_loop n) body more) series known first =
+    let e = each_length (word_number n) (count body) (λ k. sources_in true known (first + k * count body) body) (λ k. sources_count body true known (first + k * count body)) in
+    simp length-append (omega (arith, e, sources_count more series known (first + word_number n * count body)))
+
+shapes_count : (items : Items) (c : ℕ) → total (shapes_in c items) ≡ count items
+shapes_count nothing c = refl
+shapes_count (leaf_then _ more) c = omega (arith, shapes_count more c)
+shapes_count (block_then seq_block body more) c =
+    total_append (join_list seq (shapes_in c body)) (shapes_in c more) ∙ omega (arith, total_joined true (shapes_in c body), shapes_count body c, shapes_count more c)
+shapes_count (block_then par_block body more) c =
+    total_append (join_list par (shapes_in c body)) (shapes_in c more) ∙ omega (arith, total_joined false (shapes_in c body), shapes_count body c, shapes_count more c)
+shapes_count (block_then (for_loop n) body more) c =
+    let g : ℕ → List Tree = λ k. join_list seq (shapes_in k body) in
+    let e = each_total (word_number n) (count body) g (λ k. total_joined true (shapes_in k body) ∙ shapes_count body k) in
+    total_append (join_list seq (each_copy (word_number n) g)) (shapes_in c more) ∙ omega (arith, total_joined true (each_copy (word_number n) g), e, shapes_count more c)
+shapes_count (block_then (pfor_loop n) body more) c =
+    let g : ℕ → List Tree = λ k. join_list seq (shapes_in k body) in
+    let e = each_total (word_number n) (count body) g (λ k. total_joined true (shapes_in k body) ∙ shapes_count body k) in
+    total_append (join_list par (each_copy (word_number n) g)) (shapes_in c more) ∙ omega (arith, total_joined false (each_copy (word_number n) g), e, shapes_count more c)
+
+-- what is known behind items are calls among them
+call_act : (call : Leaf) (c : ℕ) → grammar.IsCall true call → (op : Op) × (act_of c call ≡ Call op)
+call_act (with_argument work w) c is = elim is [ ]
+call_act (with_argument counter_add w) c is = (CounterAdd (number_in c w), refl)
+call_act (with_argument stack_push w) c is = (Push (number_in c w), refl)
+call_act (with_argument tree_insert w) c is = (TreeInsert (number_in c w), refl)
+call_act (with_argument tree_remove w) c is = (TreeRemove (number_in c w), refl)
+call_act (with_argument tree_find w) c is = (TreeFind (number_in c w), refl)
+call_act (with_argument tree_next w) c is = (TreeNext (number_in c w), refl)
+call_act (with_argument queue_insert w) c is = (PqInsert (number_in c w), refl)
+call_act stack_pop c is = (Pop, refl)
+call_act queue_take c is = (PqTake, refl)
+call_act (bound name call) c is = elim is [ ]
+
+given : (l : Leaf) (first c u : ℕ) → grammar.IsLeaf true l → HasLeaf (known_by first l) u → IsCallIn first (act_of c l ∷ []) u
+given (bound name call) first c u is (inl e) = inl (sym e, call_act call c is)
+given (bound name call) first c u is (inr h) = elim h [ ]
+given (with_argument op w) first c u is h = elim h [ ]
+given stack_pop first c u is h = elim h [ ]
+given queue_take first c u is h = elim h [ ]
+
+known_calls : (items : Items) (first c u : ℕ) → AreFlat items → HasLeaf (known_behind first items) u → IsCallIn first (acts_in c items) u
+known_calls nothing first c u are h = elim h [ ]
+known_calls (leaf_then l more) first c u are h =
+    elim (has_append (known_behind (first + 1) more) (known_by first l) u h) [
+      | inl later ↦ inr (known_calls more (first + 1) c u are.1 later)
+      | inr here ↦ act_left Calls first (act_of c l ∷ []) (acts_in c more) u (given l first c u are.0 here)
+    ]
+known_calls (block_then seq_block body more) first c u are h =
+    elim (has_append (known_behind (first + 1 * count body) more) (known_behind first body) u h) [
+      | inl later ↦ act_right Calls first (first + 1 * count body) (acts_in c body) (acts_in c more) u (omega (arith, acts_count body c)) (known_calls more (first + 1 * count body) c u are.1 later)
+      | inr here ↦ act_left Calls first (acts_in c body) (acts_in c more) u (known_calls body first c u are.0 here)
+    ]
+known_calls (block_then par_block body more) first c u are h =
+    elim (has_append (known_behind (first + 1 * count body) more) (known_behind first body) u h) [
+      | inl later ↦ act_right Calls first (first + 1 * count body) (acts_in c body) (acts_in c more) u (omega (arith, acts_count body c)) (known_calls more (first + 1 * count body) c u are.1 later)
+      | inr here ↦ act_left Calls first (acts_in c body) (acts_in c more) u (known_calls body first c u are.0 here)
+    ]
+known_calls (block_then (for_loop n) body more) first c u are h =
+    elim (has_append (known_behind (first + word_number n * count body) more) [] u h) [
+      | inl later ↦ act_right Calls first (first + word_number n * count body) (each_copy (word_number n) (λ k. acts_in k body)) (acts_in c more) u (omega (arith, each_length (word_number n) (count body) (λ k. acts_in k body) (λ k. acts_count body k)))
+          (known_calls more (first + word_number n * count body) c u are.1 later)
+      | inr here ↦ elim here [ ]
+    ]
+known_calls (block_then (pfor_loop n) body more) first c u are h =
+    elim (has_append (known_behind (first + word_number n * count body) more) [] u h) [
+      | inl later ↦ act_right Calls first (first + word_number n * count body) (each_copy (word_number n) (λ k. acts_in k body)) (acts_in c more) u (omega (arith, each_length (word_number n) (count body) (λ k. acts_in k body) (λ k. acts_count body k)))
+          (known_calls more (first + word_number n * count body) c u are.1 later)
+      | inr here ↦ elim here [ ]
+    ]
+
+-- a leaf that has a source calls, with an argument that stands as 0
+takes_named : (op : UnaryOp) (name : Name) (c : ℕ) → grammar.IsCall true (with_argument op (Named name)) → Takes (act_of c (with_argument op (Named name)))
+takes_named work name c is = elim is [ ]
+takes_named counter_add name c is = (CounterAdd 0, (refl, (refl, refl)))
+takes_named stack_push name c is = (Push 0, (refl, (refl, refl)))
+takes_named tree_insert name c is = (TreeInsert 0, (refl, (refl, refl)))
+takes_named tree_remove name c is = (TreeRemove 0, (refl, (refl, refl)))
+takes_named tree_find name c is = (TreeFind 0, (refl, (refl, refl)))
+takes_named tree_next name c is = (TreeNext 0, (refl, (refl, refl)))
+takes_named queue_insert name c is = (PqInsert 0, (refl, (refl, refl)))
+
+takes_call : (call : Leaf) (c : ℕ) (known : List Known) (u : ℕ) → grammar.IsCall true call → source_of known call ≡ Some u → Takes (act_of c call)
+takes_call (with_argument op (Named name)) c known u is e = takes_named op name c is
+takes_call (with_argument op _) c known u is e = cc
+takes_call stack_pop c known u is e = cc
+takes_call queue_take c known u is e = cc
+takes_call (bound name call) c known u is e = elim is [ ]
+
+takes_leaf : (op : UnaryOp) (name : Name) (c : ℕ) → grammar.IsLeaf true (with_argument op (Named name)) → Takes (act_of c (with_argument op (Named name)))
+takes_leaf work name c is = let never : false ≡ true = is in cc
+takes_leaf counter_add name c is = (CounterAdd 0, (refl, (refl, refl)))
+takes_leaf stack_push name c is = (Push 0, (refl, (refl, refl)))
+takes_leaf tree_insert name c is = (TreeInsert 0, (refl, (refl, refl)))
+takes_leaf tree_remove name c is = (TreeRemove 0, (refl, (refl, refl)))
+takes_leaf tree_find name c is = (TreeFind 0, (refl, (refl, refl)))
+takes_leaf tree_next name c is = (TreeNext 0, (refl, (refl, refl)))
+takes_leaf queue_insert name c is = (PqInsert 0, (refl, (refl, refl)))
+
+takes : (l : Leaf) (c : ℕ) (known : List Known) (u : ℕ) → grammar.IsLeaf true l → source_of known l ≡ Some u → Takes (act_of c l)
+takes (with_argument op (Named name)) c known u is e = takes_leaf op name c is
+takes (with_argument op _) c known u is e = cc
+takes stack_pop c known u is e = cc
+takes queue_take c known u is e = cc
+takes (bound name call) c known u is e = takes_call call c known u is e
+
+copies_taken : (n m first u v : ℕ) (f : ℕ → List (Option ℕ)) (a : ℕ → List Act) → ((k : ℕ) → length (f k) ≡ m) → ((k : ℕ) → length (a k) ≡ m)
+    → ((k : ℕ) → IsSourceIn (first + k * m) (f k) v u → ActIn Takes (first + k * m) (a k) v)
+    → IsSourceIn first (each_copy n f) v u → ActIn Takes first (each_copy n a) v
+copies_taken zero m first u v f a fl al one h = elim h [ ]
+copies_taken (suc n) m first u v f a fl al one h =
+    elim (source_split first (first + n * m) (each_copy n f) (f n) v u (omega (arith, each_length n m f fl)) h) [
+      | inl l ↦ act_left Takes first (each_copy n a) (a n) v (copies_taken n m first u v f a fl al one l)
+      | inr r ↦ act_right Takes first (first + n * m) (each_copy n a) (a n) v (omega (arith, each_length n m a al)) (one n r)
+    ]
+
+taken : (items : Items) (series : Bool) (known : List Known) (first c u v : ℕ) → AreFlat items → IsSourceIn first (sources_in series known first items) v u → ActIn Takes first (acts_in c items) v
+taken nothing series known first c u v are h = elim h [ ]
+taken (leaf_then l more) series known first c u v are (inl h) = inl (h.0, takes l c known u are.0 h.1)
+taken (leaf_then l more) series known first c u v are (inr h) = inr (taken more series (known_next series (known_by first l) known) (first + 1) c u v are.1 h)
+taken (block_then seq_block body more) series known first c u v are h =
+    let at = first + 1 * count body in
+    let next = known_next series (known_behind first body) known in
+    elim (source_split first at (sources_in true known first body) (sources_in series next at more) v u (omega (arith, sources_count body true known first)) h) [
+      | inl l ↦ act_left Takes first (acts_in c body) (acts_in c more) v (taken body true known first c u v are.0 l)
+      | inr r ↦ act_right Takes first at (acts_in c body) (acts_in c more) v (omega (arith, acts_count body c)) (taken more series next at c u v are.1 r)
+    ]
+taken (block_then par_block body more) series known first c u v are h =
+    let at = first + 1 * count body in
+    let next = known_next series (known_behind first body) known in
+    elim (source_split first at (sources_in false known first body) (sources_in series next at more) v u (omega (arith, sources_count body false known first)) h) [
+      | inl l ↦ act_left Takes first (acts_in c body) (acts_in c more) v (taken body false known first c u v are.0 l)
+      | inr r ↦ act_right Takes first at (acts_in c body) (acts_in c more) v (omega (arith, acts_count body c)) (taken more series next at c u v are.1 r)
+    ]
+taken (block_then (for_loop n) body more) series known first c u v are h =
+    let m = count body in
+    let at = first + word_number n * m in
+    let f : ℕ → List (Option ℕ) = λ k. sources_in true known (first + k * m) body in
+    let a : ℕ → List Act = λ k. acts_in k body in
+    let fl : (k : ℕ) → length (f k) ≡ m = λ k. sources_count body true known (first + k * m) in
+    let al : (k : ℕ) → length (a k) ≡ m = λ k. acts_count body k in
+    elim (source_split first at (each_copy (word_number n) f) (sources_in series known at more) v u (omega (arith, each_length (word_number n) m f fl)) h) [
+      | inl l ↦ act_left Takes first (each_copy (word_number n) a) (acts_in c more) v (copies_taken (word_number n) m first u v f a fl al (λ k h. taken body true known (first + k * m) k u v are.0 h) l)
+      | inr r ↦ act_right Takes first at (each_copy (word_number n) a) (acts_in c more) v (omega (arith, each_length (word_number n) m a al)) (taken more series known at c u v are.1 r)
+    ]
+taken (block_then (pfor_loop n) body more) series known first c u v are h =
+    let m = count body in
+    let at = first + word_number n * m in
+    let f : ℕ → List (Option ℕ) = λ k. sources_in true known (first + k * m) body in
+    let a : ℕ → List Act = λ k. acts_in k body in
+    let fl : (k : ℕ) → length (f k) ≡ m = λ k. sources_count body true known (first + k * m) in
+    let al : (k : ℕ) → length (a k) ≡ m = λ k. acts_count body k in
+    elim (source_split first at (each_copy (word_number n) f) (sources_in series known at more) v u (omega (arith, each_length (word_number n) m f fl)) h) [
+      | inl l ↦ act_left Takes first (each_copy (word_number n) a) (acts_in c more) v (copies_taken (word_number n) m first u v f a fl al (λ k h. taken body true known (first + k * m) k u v are.0 h) l)
+      | inr r ↦ act_right Takes first at (each_copy (word_number n) a) (acts_in c more) v (omega (arith, each_length (word_number n) m a al)) (taken more series known at c u v are.1 r)
+    ]
+
+-- leaf u is before leaf v in shapes, and calls
+abbrev pub Found : Bool → ℕ → List Tree → List Act → ℕ → ℕ → Type 0
+Found series first shapes acts u v = IsBeforeIn series first shapes u v × IsCallIn first acts u
+
+found_left : (series : Bool) (first : ℕ) (xs ys : List Tree) (ws zs : List Act) (u v : ℕ) → Found series first xs ws u v → Found series first (xs ++ ys) (ws ++ zs) u v
+found_left series first xs ys ws zs u v f = (before_left series first xs ys u v f.0, act_left Calls first ws zs u f.1)
+
+found_right : (series : Bool) (first at : ℕ) (xs ys : List Tree) (ws zs : List Act) (u v : ℕ) → at ≡ first + total xs → at ≡ first + length ws → Found series at ys zs u v → Found series first (xs ++ ys) (ws ++ zs) u v
+found_right series first at xs ys ws zs u v e e' f =
+    (before_right series first xs ys u v (subst (λ n. IsBeforeIn series n ys u v) e f.0), act_right Calls first at ws zs u e' f.1)
+
+cross : (series : Bool) (first at : ℕ) (xs ys : List Tree) (u v : ℕ) → series ≡ true → at ≡ first + total xs → first ≤ u → u < at → at ≤ v → v < at + total ys → IsBeforeIn series first (xs ++ ys) u v
+cross true first at xs ys u v is e a b c d = before_cross first xs ys u v a (omega (arith, b, e)) (omega (arith, c, e)) (omega (arith, d, e))
+cross false first at xs ys u v is e a b c d = cc
+
+-- one more item before others: `new` is what it gives to them
+step : (series : Bool) (new known : List Known) (first at : ℕ) (xs ys : List Tree) (ws zs : List Act) (u v : ℕ) → at ≡ first + total xs → at ≡ first + length ws
+    → (HasLeaf new u → IsCallIn first ws u) → at ≤ v → v < at + total ys
+    → HasLeaf (known_next series new known) u ⊎ Found series at ys zs u v → HasLeaf known u ⊎ Found series first (xs ++ ys) (ws ++ zs) u v
+step series new known first at xs ys ws zs u v e e' calls low high (inl k) =
+    elim (from_known series new known u k) [
+      | inl n ↦
+          let call = calls n.1 in
+          let range = act_range Calls first ws u call in
+          let a = range.0 in
+          let b = range.1 in
+          inr (cross series first at xs ys u v n.0 e a (omega (arith, b, e')) low high, act_left Calls first ws zs u call)
+      | inr old ↦ inl old
+    ]
+step series new known first at xs ys ws zs u v e e' calls low high (inr f) = inr (found_right series first at xs ys ws zs u v e e' f)
+
+-- where the sources of the copies of a loop are
+copies_sourced : (n m : ℕ) (outer : Bool) (known : List Known) (first u v : ℕ) (f : ℕ → List (Option ℕ)) (g : ℕ → List Tree) (a : ℕ → List Act)
+    → ((k : ℕ) → length (f k) ≡ m) → ((k : ℕ) → total (g k) ≡ m) → ((k : ℕ) → length (a k) ≡ m)
+    → ((k : ℕ) → IsSourceIn (first + k * m) (f k) v u → HasLeaf known u ⊎ Found outer (first + k * m) (g k) (a k) u v)
+    → IsSourceIn first (each_copy n f) v u → HasLeaf known u ⊎ Found outer first (each_copy n g) (each_copy n a) u v
+copies_sourced zero m outer known first u v f g a fl gl al one h = elim h [ ]
+copies_sourced (suc n) m outer known first u v f g a fl gl al one h =
+    elim (source_split first (first + n * m) (each_copy n f) (f n) v u (omega (arith, each_length n m f fl)) h) [
+      | inl l ↦ elim (copies_sourced n m outer known first u v f g a fl gl al one l) [
+        | inl k ↦ inl k
+        | inr x ↦ inr (found_left outer first (each_copy n g) (g n) (each_copy n a) (a n) u v x)
+      ]
+      | inr r ↦ elim (one n r) [
+        | inl k ↦ inl k
+        | inr x ↦ inr (found_right outer first (first + n * m) (each_copy n g) (g n) (each_copy n a) (a n) u v (omega (arith, each_total n m g gl)) (omega (arith, each_length n m a al)) x)
+      ]
+    ]
+
+-- joined, in a list of either kind, and with more behind
+joined_found : (inner series : Bool) (known : List Known) (first : ℕ) (xs ys : List Tree) (ws zs : List Act) (u v : ℕ)
+    → HasLeaf known u ⊎ Found inner first xs ws u v → HasLeaf known u ⊎ Found series first (join_list (kind_by inner) xs ++ ys) (ws ++ zs) u v
+joined_found inner series known first xs ys ws zs u v (inl k) = inl k
+joined_found inner series known first xs ys ws zs u v (inr f) =
+    inr (found_left series first (join_list (kind_by inner) xs) ys ws zs u v (joined_list inner series xs first u v f.0, f.1))
+
+copy_found : (outer : Bool) (known : List Known) (first : ℕ) (xs : List Tree) (ws : List Act) (u v : ℕ)
+    → HasLeaf known u ⊎ Found true first xs ws u v → HasLeaf known u ⊎ Found outer first (join_list seq xs) ws u v
+copy_found outer known first xs ws u v (inl k) = inl k
+copy_found outer known first xs ws u v (inr f) = inr (joined_list true outer xs first u v f.0, f.1)
+
+-- A source was known at first, or is a call before the leaf.
+sourced : (items : Items) (series : Bool) (known : List Known) (first c u v : ℕ) → AreFlat items → IsSourceIn first (sources_in series known first items) v u
+    → HasLeaf known u ⊎ Found series first (shapes_in c items) (acts_in c items) u v
+sourced nothing series known first c u v are h = elim h [ ]
+sourced (leaf_then l more) series known first c u v are (inl h) = inl (source_known known l u h.1)
+sourced (leaf_then l more) series known first c u v are (inr h) =
+    let next = known_next series (known_by first l) known in
+    let range = source_range (first + 1) (sources_in series next (first + 1) more) v u h in
+    let high = range.1 in
+    step series (known_by first l) known first (first + 1) (leaf ∷ []) (shapes_in c more) (act_of c l ∷ []) (acts_in c more) u v (omega arith) (omega arith)
+        (λ k. given l first c u are.0 k) range.0 (omega (arith, high, sources_count more series next (first + 1), shapes_count more c))
+        (sourced more series next (first + 1) c u v are.1 h)
+sourced (block_then seq_block body more) series known first c u v are h =
+    let at = first + 1 * count body in
+    let next = known_next series (known_behind first body) known in
+    let xs = shapes_in c body in
+    elim (source_split first at (sources_in true known first body) (sources_in series next at more) v u (omega (arith, sources_count body true known first)) h) [
+      | inl l ↦ joined_found true series known first xs (shapes_in c more) (acts_in c body) (acts_in c more) u v (sourced body true known first c u v are.0 l)
+      | inr r ↦
+          let range = source_range at (sources_in series next at more) v u r in
+          let high = range.1 in
+          step series (known_behind first body) known first at (join_list seq xs) (shapes_in c more) (acts_in c body) (acts_in c more) u v
+              (omega (arith, total_joined true xs, shapes_count body c)) (omega (arith, acts_count body c))
+              (λ k. known_calls body first c u are.0 k) range.0 (omega (arith, high, sources_count more series next at, shapes_count more c))
+              (sourced more series next at c u v are.1 r)
+    ]
+sourced (block_then par_block body more) series known first c u v are h =
+    let at = first + 1 * count body in
+    let next = known_next series (known_behind first body) known in
+    let xs = shapes_in c body in
+    elim (source_split first at (sources_in false known first body) (sources_in series next at more) v u (omega (arith, sources_count body false known first)) h) [
+      | inl l ↦ joined_found false series known first xs (shapes_in c more) (acts_in c body) (acts_in c more) u v (sourced body false known first c u v are.0 l)
+      | inr r ↦
+          let range = source_range at (sources_in series next at more) v u r in
+          let high = range.1 in
+          step series (known_behind first body) known first at (join_list par xs) (shapes_in c more) (acts_in c body) (acts_in c more) u v
+              (omega (arith, total_joined false xs, shapes_count body c)) (omega (arith, acts_count body c))
+              (λ k. known_calls body first c u are.0 k) range.0 (omega (arith, high, sources_count more series next at, shapes_count more c))
+              (sourced more series next at c u v are.1 r)
+    ]
+sourced (block_then (for_loop n) body more) series known first c u v are h =
+    let m = count body in
+    let at = first + word_number n * m in
+    let f : ℕ → List (Option ℕ) = λ k. sources_in true known (first + k * m) body in
+    let g : ℕ → List Tree = λ k. join_list seq (shapes_in k body) in
+    let a : ℕ → List Act = λ k. acts_in k body in
+    let fl : (k : ℕ) → length (f k) ≡ m = λ k. sources_count body true known (first + k * m) in
+    let gl : (k : ℕ) → total (g k) ≡ m = λ k. total_joined true (shapes_in k body) ∙ shapes_count body k in
+    let al : (k : ℕ) → length (a k) ≡ m = λ k. acts_count body k in
+    elim (source_split first at (each_copy (word_number n) f) (sources_in series known at more) v u (omega (arith, each_length (word_number n) m f fl)) h) [
+      | inl l ↦ joined_found true series known first (each_copy (word_number n) g) (shapes_in c more) (each_copy (word_number n) a) (acts_in c more) u v
+          (copies_sourced (word_number n) m true known first u v f g a fl gl al (λ k h. copy_found true known (first + k * m) (shapes_in k body) (acts_in k body) u v (sourced body true known (first + k * m) k u v are.0 h)) l)
+      | inr r ↦ elim (sourced more series known at c u v are.1 r) [
+        | inl k ↦ inl k
+        | inr x ↦ inr (found_right series first at (join_list seq (each_copy (word_number n) g)) (shapes_in c more) (each_copy (word_number n) a) (acts_in c more) u v
+            (omega (arith, total_joined true (each_copy (word_number n) g), each_total (word_number n) m g gl)) (omega (arith, each_length (word_number n) m a al)) x)
+      ]
+    ]
+sourced (block_then (pfor_loop n) body more) series known first c u v are h =
+    let m = count body in
+    let at = first + word_number n * m in
+    let f : ℕ → List (Option ℕ) = λ k. sources_in true known (first + k * m) body in
+    let g : ℕ → List Tree = λ k. join_list seq (shapes_in k body) in
+    let a : ℕ → List Act = λ k. acts_in k body in
+    let fl : (k : ℕ) → length (f k) ≡ m = λ k. sources_count body true known (first + k * m) in
+    let gl : (k : ℕ) → total (g k) ≡ m = λ k. total_joined true (shapes_in k body) ∙ shapes_count body k in
+    let al : (k : ℕ) → length (a k) ≡ m = λ k. acts_count body k in
+    elim (source_split first at (each_copy (word_number n) f) (sources_in series known at more) v u (omega (arith, each_length (word_number n) m f fl)) h) [
+      | inl l ↦ joined_found false series known first (each_copy (word_number n) g) (shapes_in c more) (each_copy (word_number n) a) (acts_in c more) u v
+          (copies_sourced (word_number n) m false known first u v f g a fl gl al (λ k h. copy_found false known (first + k * m) (shapes_in k body) (acts_in k body) u v (sourced body true known (first + k * m) k u v are.0 h)) l)
+      | inr r ↦ elim (sourced more series known at c u v are.1 r) [
+        | inl k ↦ inl k
+        | inr x ↦ inr (found_right series first at (join_list par (each_copy (word_number n) g)) (shapes_in c more) (each_copy (word_number n) a) (acts_in c more) u v
+            (omega (arith, total_joined false (each_copy (word_number n) g), each_total (word_number n) m g gl)) (omega (arith, each_length (word_number n) m a al)) x)
+      ]
+    ]
+
+-- by number
+get_source : (ss : List (Option ℕ)) (first i u : ℕ) → slice_get ss i ≡ Some (Some u) → IsSourceIn first ss (first + i) u
+get_source [] first i u e = cc
+get_source (s ∷ ss) first zero u e = inl (omega arith, cc)
+get_source (s ∷ ss) first (suc i) u e =
+    let same : first + 1 + i ≡ first + suc i = omega arith in inr (subst (λ v. IsSourceIn (first + 1) ss v u) same (get_source ss (first + 1) i u e))
+
+get_act : (P : Act → Type 0) (acts : List Act) (first i : ℕ) → ActIn P first acts (first + i) → (a : Act) × ((slice_get acts i ≡ Some a) × P a)
+get_act P [] first i h = elim h [ ]
+get_act P (a ∷ acts) first zero (inl h) = (a, (refl, h.1))
+get_act P (a ∷ acts) first zero (inr h) = let low = (act_range P (first + 1) acts (first + 0) h).0 in absurd (omega (arith, low))
+get_act P (a ∷ acts) first (suc i) (inl h) = let e = h.0 in absurd (omega (arith, e))
+get_act P (a ∷ acts) first (suc i) (inr h) =
+    let same : first + suc i ≡ first + 1 + i = omega arith in get_act P acts (first + 1) i (subst (λ u. ActIn P (first + 1) acts u) same h)
+
+get_call : (acts : List Act) (i : ℕ) → IsCallIn 0 acts i → (op : Op) × (slice_get acts i ≡ Some (Call op))
+get_call acts i h =
+    let number : i ≡ 0 + i = omega arith in
+    let r = get_act Calls acts 0 i (subst (λ n. ActIn Calls 0 acts n) number h) in
+    (r.1.1.0, r.1.0 ∙ ap (λ a. Some a) r.1.1.1)
+
+get_taking : (acts : List Act) (i : ℕ) → ActIn Takes 0 acts i → (op : Op) × ((slice_get acts i ≡ Some (Call op)) × ((has_argument op ≡ true) × (argument_of op ≡ 0)))
+get_taking acts i h =
+    let number : i ≡ 0 + i = omega arith in
+    let r = get_act Takes acts 0 i (subst (λ n. ActIn Takes 0 acts n) number h) in
+    (r.1.1.0, (r.1.0 ∙ ap (λ a. Some a) r.1.1.1.0, r.1.1.1.1))
+
+before_of : (shape : Option Tree) (u v : ℕ) → IsBeforeOpt 0 shape u v → IsBefore shape u v × (u < v)
+before_of None u v h = elim h [ ]
+before_of (Some tree) u v h = (h, (before_is_smaller tree 0 u v h).1.0)
+
+-- Each source of a job of items is one that its leaf may have.
+pub sources_are_before : (items : Items) (v u : ℕ) → AreFlat items → slice_get (sources_in true [] 0 items) v ≡ Some (Some u) → IsSource (job_of items).shape (job_of items).acts v u
+sources_are_before items v u are e =
+    let number : 0 + v ≡ v = omega arith in
+    let here : IsSourceIn 0 (sources_in true [] 0 items) v u = subst (λ n. IsSourceIn 0 (sources_in true [] 0 items) n u) number (get_source (sources_in true [] 0 items) 0 v u e) in
+    let uses = get_taking (acts_in 0 items) v (taken items true [] 0 0 u v are here) in
+    elim (sourced items true [] 0 0 u v are here) [
+      | inl k ↦ elim k [ ]
+      | inr f ↦
+          let r = before_of (join_of seq (shapes_in 0 items)) u v (joined_of true (shapes_in 0 items) 0 u v f.0) in
+          record { op = uses.0; call = uses.1.0; argument = uses.1.1.0; stands_as_zero = uses.1.1.1; calls = get_call (acts_in 0 items) u f.1; before = r.0 }
+    ]
+
+pub job_has_sources : (items : Items) → grammar.AreItems false items → AreSources (job_of items).shape (job_of items).acts (job_of items).sources
+job_has_sources items fits = record {
+  as_many = sources_count items true [] 0 ∙ sym (acts_count items 0);
+  each = λ leaf source e. sources_are_before items leaf source (flat_items false items fits) e;
+}

@@ -6,3 +6,4 @@ pub mod Ranges
 pub mod Scoped
 pub mod Searches
 pub mod Sides
+pub mod Smalls

@@ -13,3 +13,5 @@ mod language;
 mod plans;
 #[cfg(test)]
 mod programs;
+#[cfg(test)]
+mod replies;

@@ -4,3 +4,5 @@ pub mod Fronts
 pub mod Items
 pub mod Jobs
 pub mod Words
+pub mod Names
+pub mod Sources

@@ -34,7 +34,7 @@ digits_behind : (number : ℕ) (digits : List ℕ) (last : ℕ) → digits_from 
 digits_behind number [] last = refl
 digits_behind number (digit ∷ digits) last = digits_behind (10 * number + (digit - 48)) digits last
 
-decimal_says : (n : ℕ) → n < 2 ^ 32 → digits_from 0 (decimal n) ≡ n
+pub decimal_says : (n : ℕ) → n < 2 ^ 32 → digits_from 0 (decimal n) ≡ n
 decimal_says n small = decimal_by_steps (λ n bytes. digits_from 0 bytes ≡ n)
     (λ n one. omega arith)
     (λ n bytes large front. digits_behind 0 bytes (48 + n % 10) ∙ omega (arith, front))

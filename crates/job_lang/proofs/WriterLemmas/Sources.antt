@@ -1,0 +1,1 @@
+-- The sources of written leaves.

@@ -6,3 +6,4 @@ pub mod Jobs
 pub mod Words
 pub mod Names
 pub mod Sources
+pub mod Shown

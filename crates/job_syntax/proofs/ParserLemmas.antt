@@ -13,4 +13,5 @@ pub mod Runs
 pub mod Seen
 pub mod Shown
 pub mod ShownSteps
+pub mod Uses
 pub mod Visible

@@ -172,7 +172,7 @@ reach_brace {words} {blocks} {items} kind reached = record {
   place = tt;
 }
 
-reach_close : {words : List Word} (block : OpenBlock) (blocks : List OpenBlock) (items : Items) → IsReached words (at (block ∷ blocks) items an_item) →
+pub reach_close : {words : List Word} (block : OpenBlock) (blocks : List OpenBlock) (items : Items) → IsReached words (at (block ∷ blocks) items an_item) →
     IsReached (words ++ Close ∷ []) (at blocks (block.before then block_then block.kind items nothing) an_item)
 reach_close {words} block blocks items reached = record {
   writes = simp (words_then, append_assoc, append-nil) refl ∙ ap (λ all. all ++ Close ∷ []) reached.writes;

@@ -41,17 +41,17 @@ in_split : (name : Name) (xs ys : List Let) → IsIn name (xs ++ ys) → IsIn na
 in_split name xs ys h =
     elim (or_split (last_of name ys) (last_of name xs) (subst (λ r. IsTrue (is_some r)) (last_append name xs ys) h)) [ inl y ↦ inr y | inr x ↦ inl x ]
 
-in_first : (name : Name) (xs ys : List Let) → IsIn name xs → IsIn name (xs ++ ys)
+pub in_first : (name : Name) (xs ys : List Let) → IsIn name xs → IsIn name (xs ++ ys)
 in_first name xs ys h = subst (λ r. IsTrue (is_some r)) (sym (last_append name xs ys)) (or_right (last_of name ys) (last_of name xs) h)
 
-in_second : (name : Name) (xs ys : List Let) → IsIn name ys → IsIn name (xs ++ ys)
+pub in_second : (name : Name) (xs ys : List Let) → IsIn name ys → IsIn name (xs ++ ys)
 in_second name xs ys h = subst (λ r. IsTrue (is_some r)) (sym (last_append name xs ys)) (or_left (last_of name ys) (last_of name xs) h)
 
 own_to : (b : Bool) (x name : Name) → same_name x name ≡ b → IsTrue (is_some (or_else None (if b then Some 0 else None))) → x ≡ name
 own_to true x name e h = same_from x name e
 own_to false x name e h = cc
 
-own_from : (x name : Name) → x ≡ name → IsTrue (is_some (or_else None (if same_name x name then Some 0 else None)))
+pub own_from : (x name : Name) → x ≡ name → IsTrue (is_some (or_else None (if same_name x name then Some 0 else None)))
 own_from x name e = subst (λ b. IsTrue (is_some (or_else None (if b then Some 0 else None)))) (sym (same_to x name e)) refl
 
 leaf_to : (leaf : Leaf) (name : Name) → IsIn name (lets_of leaf) → Has (names_of leaf) name
@@ -141,7 +141,7 @@ sees_shown words blocks items given op name reached sees =
     (visible_is_seen blocks items given op name (flat_blocks blocks reached.blocks) (flat_items (are_looped blocks) items reached.items) (subst (λ all. Sees all name) (sym reached.writes) sees))
 
 -- whether words end in `let`
-ends_append : (was : Bool) (xs ys : List Word) → ends_in_let was (xs ++ ys) ≡ ends_in_let (ends_in_let was xs) ys
+pub ends_append : (was : Bool) (xs ys : List Word) → ends_in_let was (xs ++ ys) ≡ ends_in_let (ends_in_let was xs) ys
 ends_append was [] ys = refl
 ends_append was (x ∷ xs) ys = ends_append (is_let x) xs ys
 

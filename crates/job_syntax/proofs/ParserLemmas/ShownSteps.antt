@@ -8,7 +8,7 @@ use Rattle.job_syntax.specs.Blocks.{name_kind}
 use Rattle.job_syntax.specs.Grammar.{Leaf, BlockKind, seq_block, par_block, for_loop, pfor_loop, Items, nothing, leaf_then, block_then, ◌then◌, is_loop}
 use Rattle.job_syntax.specs.Code.Shown.{OpenBlock, lets_of, lets_behind, scope_at}
 
-lets_then : (items more : Items) → lets_behind (items then more) ≡ lets_behind items ++ lets_behind more
+pub lets_then : (items more : Items) → lets_behind (items then more) ≡ lets_behind items ++ lets_behind more
 lets_then nothing more = refl
 lets_then (leaf_then leaf items) more = ap (λ l. lets_of leaf ++ l) (lets_then items more) ∙ sym (append_assoc (lets_of leaf) (lets_behind items) (lets_behind more))
 lets_then (block_then kind body items) more =

@@ -1,10 +1,11 @@
 -- The lets that the reader's open blocks show.
-use Rattle.std.specs.Prelude.{List, [], ◌∷◌, ◌++◌, Bool, if◌then◌else◌, is_some}
+use Rattle.std.specs.Prelude.{List, [], ◌∷◌, ◌++◌, Bool, if◌then◌else◌, is_some, IsTrue}
 use Rattle.job_names.specs.declared.name.Name.{Name}
 use Rattle.job_names.specs.declared.scopes.Let.{Let}
 use Rattle.job_names.specs.Scopes.{Scope, job, inside, last_of, lets_shown}
 use Rattle.job_syntax.specs.Blocks.{name_kind}
-use Rattle.job_syntax.specs.Grammar.{Leaf, with_argument, stack_pop, queue_take, bound, BlockKind, Items, nothing, leaf_then, block_then, is_loop}
+use Rattle.job_syntax.specs.Grammar.{Leaf, with_argument, stack_pop, queue_take, bound, BlockKind, Items, nothing, leaf_then, block_then, ◌then◌, is_loop}
+use Rattle.job_syntax.specs.declared.lexer.word.Word.TheVariants.{Named}
 
 -- an open block: the items before it, and its head
 pub record OpenBlock : Type 0 where
@@ -32,3 +33,16 @@ scope_at (block ∷ blocks) items = inside (scope_at blocks block.before) (name_
 -- whether the scope shows a let of the name
 abbrev pub is_shown : Name → Scope → Bool
 is_shown name scope = is_some (last_of name (lets_shown scope))
+
+-- a name that the leaf uses has a let in the scope
+abbrev pub IsShownLeaf : Scope → Leaf → Type 0
+IsShownLeaf scope (with_argument op (Named name)) = IsTrue (is_shown name scope)
+IsShownLeaf scope (bound name call) = IsShownLeaf scope call
+IsShownLeaf scope _ = Unit {0}
+
+-- each name that the items use has a let shown there, where they stand behind `before` inside the open blocks
+abbrev pub AreShown : List OpenBlock → Items → Items → Type 0
+AreShown blocks before nothing = Unit {0}
+AreShown blocks before (leaf_then leaf more) = IsShownLeaf (scope_at blocks before) leaf × AreShown blocks (before then leaf_then leaf nothing) more
+AreShown blocks before (block_then kind body more) =
+    AreShown (record { before = before; kind = kind } ∷ blocks) nothing body × AreShown blocks (before then block_then kind body nothing) more

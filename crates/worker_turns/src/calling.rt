@@ -18,13 +18,10 @@ use bt_io::{Pause, Point};
 use core_model::{Next, Receipt};
 use crossbeam_utils::Backoff;
 use seq_objects::Op;
-use sp_order::with_argument;
+use sp_order::with_value;
 use std::alloc::Global;
 use std::sync::Wait;
 use worker_crew::{Crew, Me, Stop, Table};
-
-/// The number of arguments: of a value its low 32 bits are the argument.
-const ARGUMENTS: u64 = 1 << 32;
 
 /// The receipt of a call, and the number of batches published at a look just after the post.
 #[derive(Clone, Copy)]
@@ -54,7 +51,7 @@ fn op_in_act<T: Table>(table: &T, pass: &T::Pass, leaf: u32) -> Op
     }
 }
 
-/// The operation of the due call: that of its act, or with a source that with the value of the source as its argument.
+/// The operation of the due call: that of its act; where the leaf has a source, with the source's value as its argument.
 fn op_due<T: Table>(table: &T, pass: &mut T::Pass, leaf: u32) -> Op
     requires pass { T.gave table.now pass.old }
     requires free { IsFree (T.seen pass.old) }
@@ -69,7 +66,7 @@ fn op_due<T: Table>(table: &T, pass: &mut T::Pass, leaf: u32) -> Op
         return op;
     }
     let value = table.source_value(pass);
-    with_argument(op, (value % ARGUMENTS) as u32)
+    with_value(op, value)
 }
 
 /// Makes the call of a leaf, with the operation that the table names: posts it, and takes trapped turns until the

@@ -7,3 +7,4 @@ pub mod Words
 pub mod Names
 pub mod Sources
 pub mod Shown
+pub mod Marks

@@ -131,10 +131,10 @@ fn push_job(alloc: Global, text: &mut String, job: &Job) -> Result<(), AllocErro
     ensures small { OnOk result (AreSmallLeaves (written_leaves job.now)) }
     ensures job { IsJob job.now }
 {
-    let written = written_leaves(alloc, job)?;
     match job.shape() {
         None => Ok(()),
         Some(shape) => {
+            let written = written_leaves(alloc, job)?;
             push_shape(text, shape, &written)?;
             text.push_str("\n")
         }

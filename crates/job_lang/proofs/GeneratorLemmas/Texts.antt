@@ -11,15 +11,16 @@ use Rattle.sp_order.specs.Depth.{tree_depth, depth_of}
 use Rattle.sp_order.specs.Jobs.{IsJob}
 use Rattle.sp_order.specs.Totals.{pushes, queue_inserts, total}
 use Rattle.job_lang.specs.ActNumbers.{op_number, IsSmall, AreSmall}
-use Rattle.job_lang.specs.Canonical.{canonical_text}
+use Rattle.job_lang.specs.Canonical.{written_leaves, canonical_text}
 use Rattle.job_lang.specs.Joins.{half, both, join_within, join_of}
 use Rattle.job_lang.specs.Language.{IsJobOf}
 use Rattle.job_lang.specs.Generator.{growing_ops, finds_for, calls, pops_for, takes_for, part, all_ops, all_parts, job_growing_by, generated}
-use Rattle.job_lang.proofs.GeneratorLemmas.Sources.{none_are_sources}
+use Rattle.job_lang.proofs.GeneratorLemmas.Sources.{none_are_sources, none_each}
+use Rattle.job_lang.specs.Code.Smalls.{AreSmallLeaves}
 use Rattle.job_lang.proofs.GeneratorLemmas.Counts.{later_ops, answers, length_pops, length_takes, length_acts, later_some, few_acts, leaves_are_acts}
 use Rattle.job_lang.proofs.GeneratorLemmas.Draws.{Grows, all_grow, length_growing}
 use Rattle.job_lang.proofs.EachOf.{each_append, each_of_first, each_of_rest}
-use Rattle.job_lang.proofs.WriterLemmas.Jobs.{canonical_is_job, canonical_is_short}
+use Rattle.job_lang.proofs.WriterLemmas.Jobs.{canonical_is_job, plain_is_short, small_from}
 
 -- trees of at most this depth
 abbrev AreWithin : ℕ → List Tree → Type 0
@@ -145,9 +146,15 @@ generated_most seed size =
 pub generated_depth : (seed size : ℕ) → size ≤ 5000 → depth_of (generated seed size).shape ≤ 15
 generated_depth seed size few = depth_few (growing_ops seed size) (omega (arith, length_growing seed size, few))
 
+generated_small : (seed size : ℕ) → size ≤ 5000 → AreSmallLeaves (written_leaves (generated seed size))
+generated_small seed size few =
+    let job = generated seed size in
+    let most = (generated_is_job seed size few).most in
+    small_from job.sources 0 job.acts job.sources (omega (arith, most)) (all_small (growing_ops seed size) (all_grow seed size)) (none_each (length job.acts))
+
 pub generated_short : (seed size : ℕ) → size ≤ 5000 → length (canonical_text (generated seed size)) < 700000
-generated_short seed size few = canonical_is_short (generated seed size) (generated_is_job seed size few) (all_small (growing_ops seed size) (all_grow seed size))
+generated_short seed size few = plain_is_short (generated seed size) (generated_is_job seed size few) (generated_small seed size few) (none_each (length (generated seed size).acts))
 
 pub generated_text : (seed size : ℕ) → size ≤ 5000 → IsJobOf (canonical_text (generated seed size)) (generated seed size)
 generated_text seed size few =
-    canonical_is_job (generated seed size) (generated_is_job seed size few) (omega (arith, generated_depth seed size few)) (all_small (growing_ops seed size) (all_grow seed size))
+    canonical_is_job (generated seed size) (generated_is_job seed size few) (omega (arith, generated_depth seed size few)) (generated_small seed size few)

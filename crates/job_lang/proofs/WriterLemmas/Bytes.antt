@@ -116,7 +116,7 @@ plain_tree (par left right) written small =
     plain_block (codes "par { ") (tree_text left (take (leaves left) written)) (tree_text right (drop (leaves left) written)) refl
     (plain_tree left (take (leaves left) written) (first_small (leaves left) written small)) (plain_tree right (drop (leaves left) written) (last_small (leaves left) written small))
 
--- A leaf takes at most 42 bytes, 23 where it has no names, and a block at most 9 more; there are more leaves than blocks.
+-- A leaf takes at most 37 bytes, 23 where it has no names, and a block at most 9 more; there are more leaves than blocks.
 
 short_number : (words : List ℕ) (n : ℕ) → length words ≤ 13 → n < 2 ^ 32 → length (words ++ decimal n) ≤ 23
 short_number words n few small = omega (arith, length-append words (decimal n), length-decimal-le 10 n (omega arith) (omega (arith, small)) (omega (arith, small)), few)
@@ -155,14 +155,18 @@ short_any act None small small' = let h = short_act act small in omega (arith, h
 short_any (Work steps) (Some source) small small' = let h = short_number (codes "work ") steps (omega arith) small in omega (arith, h)
 short_any (Call op) (Some source) small small' = short_named op source small'
 
-short_let : (named : Bool) (number : ℕ) → number < 2 ^ 32 → length (let_text named number) ≤ 18
-short_let false number small = omega arith
-short_let true number small =
-    omega (arith, length-append (name_text number) (codes " = "), length-decimal-le 10 number (omega arith) (omega (arith, small)) (omega (arith, small)))
+-- a leaf with a number of at most five digits
+abbrev pub IsFew : WrittenLeaf → Type 0
+IsFew written = written.number < 100000
 
-short_leaf : (written : WrittenLeaf) → IsSmallLeaf written → length (leaf_text written) ≤ 42
-short_leaf written small =
-    omega (arith, length-append (let_text written.named written.number) (act_text written.act written.source), short_let written.named written.number small.number, short_any written.act written.source small.act small.source)
+short_let : (named : Bool) (number : ℕ) → number < 100000 → length (let_text named number) ≤ 13
+short_let false number few = omega arith
+short_let true number few =
+    omega (arith, length-append (name_text number) (codes " = "), length-decimal-le 5 number (omega arith) (omega (arith, few)) (omega (arith, few)))
+
+short_leaf : (written : WrittenLeaf) → IsSmallLeaf written → IsFew written → length (leaf_text written) ≤ 37
+short_leaf written small few =
+    omega (arith, length-append (let_text written.named written.number) (act_text written.act written.source), short_let written.named written.number few, short_any written.act written.source small.act small.source)
 
 -- a leaf without names
 pub record IsUnnamed (written : WrittenLeaf) : Type 0 where
@@ -178,16 +182,16 @@ plain_short written small unnamed =
 block_length : (kind left right : List ℕ) → length (kind ++ left ++ codes " " ++ right ++ codes " }") ≡ length kind + length left + length right + 3
 block_length kind left right = simp length-append (omega arith)
 
-pub short_tree : (tree : Tree) (written : List WrittenLeaf) → AreSmallLeaves written → length (tree_text tree written) + 9 ≤ 51 * leaves tree
-short_tree leaf [] small = omega arith
-short_tree leaf (one ∷ written) small = omega (arith, short_leaf one small.0)
-short_tree (seq left right) written small =
-    let front = short_tree left (take (leaves left) written) (first_small (leaves left) written small) in
-    let back = short_tree right (drop (leaves left) written) (last_small (leaves left) written small) in
+pub short_tree : (tree : Tree) (written : List WrittenLeaf) → AreSmallLeaves written → AllByRecursion IsFew written → length (tree_text tree written) + 9 ≤ 46 * leaves tree
+short_tree leaf [] small few = omega arith
+short_tree leaf (one ∷ written) small few = omega (arith, short_leaf one small.0 few.0)
+short_tree (seq left right) written small few =
+    let front = short_tree left (take (leaves left) written) (first_small (leaves left) written small) (each_of_first IsFew (leaves left) written few) in
+    let back = short_tree right (drop (leaves left) written) (last_small (leaves left) written small) (each_of_rest IsFew (leaves left) written few) in
     omega (arith, front, back, block_length (codes "seq { ") (tree_text left (take (leaves left) written)) (tree_text right (drop (leaves left) written)))
-short_tree (par left right) written small =
-    let front = short_tree left (take (leaves left) written) (first_small (leaves left) written small) in
-    let back = short_tree right (drop (leaves left) written) (last_small (leaves left) written small) in
+short_tree (par left right) written small few =
+    let front = short_tree left (take (leaves left) written) (first_small (leaves left) written small) (each_of_first IsFew (leaves left) written few) in
+    let back = short_tree right (drop (leaves left) written) (last_small (leaves left) written small) (each_of_rest IsFew (leaves left) written few) in
     omega (arith, front, back, block_length (codes "par { ") (tree_text left (take (leaves left) written)) (tree_text right (drop (leaves left) written)))
 
 pub plain_short_tree : (tree : Tree) (written : List WrittenLeaf) → AreSmallLeaves written → AllByRecursion IsUnnamed written → length (tree_text tree written) + 9 ≤ 32 * leaves tree

@@ -9,7 +9,7 @@ use Rattle.sp_order.specs.Precedence.{Tree, leaf, leaves, leaf_count}
 use Rattle.sp_order.specs.Depth.{tree_depth, depth_of}
 use Rattle.sp_order.specs.Jobs.{JobValue, IsJob}
 use Rattle.job_syntax.specs.declared.lexer.word.WordOnLine.{WordOnLine}
-use Rattle.job_lang.specs.ActNumbers.{op_number, IsSmall}
+use Rattle.job_lang.specs.ActNumbers.{op_number, IsSmall, AreSmall}
 use Rattle.job_lang.specs.Code.Smalls.{IsSmallLeaf, AreSmallLeaves}
 use Rattle.job_lang.specs.declared.writer.written.WrittenLeaf.{WrittenLeaf}
 use Rattle.job_lang.specs.Meaning.{sources_in}
@@ -29,7 +29,7 @@ use Rattle.job_lang.specs.Language.{IsJobOf}
 use Rattle.job_lang.specs.Canonical.{is_source, written_from, written_leaves, tree_text, shape_text, canonical_text}
 use Rattle.job_lang.proofs.EachOf.{each_before_map}
 use Rattle.job_lang.proofs.WriterLemmas.Items.{AreGood, IsWell, AreWell, acts_of, sources_of, leaf_of_op, tree_items, job_again, tree_count, tree_nesting, tree_range_flags, tree_fits, tree_good}
-use Rattle.job_lang.proofs.WriterLemmas.Bytes.{ArePlain, bare_same, none_forbidden, plain_append, plain_tree, short_tree, IsUnnamed, plain_short_tree}
+use Rattle.job_lang.proofs.WriterLemmas.Bytes.{ArePlain, bare_same, none_forbidden, plain_append, plain_tree, short_tree, IsFew, IsUnnamed, plain_short_tree}
 use Rattle.job_lang.proofs.WriterLemmas.Words.{said_from, tree_said}
 use Rattle.job_lang.proofs.WriterLemmas.Sources.{acts_from, sources_from, length_from, found_source, source_found, AreAt, at_from, well_from, Sourced, Has, sourced, tree_sources, no_source}
 use Rattle.job_lang.proofs.WriterLemmas.Shown.{tree_shown, op_shown}
@@ -128,9 +128,30 @@ shape_is_job (Some tree) acts sources same few are deep small =
 pub canonical_is_job : (job : JobValue) → IsJob job → depth_of job.shape ≤ 32 → AreSmallLeaves (written_leaves job) → IsJobOf (canonical_text job) job
 canonical_is_job job is_job deep small = shape_is_job job.shape job.acts job.sources is_job.leaves is_job.most is_job.sources deep small
 
-shape_is_short : (shape : Option Tree) (written : List WrittenLeaf) → leaf_count shape ≡ length written → length written ≤ 19600 → AreSmallLeaves written → length (shape_text shape written) < 1000000
-shape_is_short None written same few small = omega arith
-shape_is_short (Some tree) written same few small = omega (arith, length-append (tree_text tree written) (codes "\n"), short_tree tree written small, same, few)
+shape_is_short : (shape : Option Tree) (written : List WrittenLeaf) → leaf_count shape ≡ length written → length written ≤ 20000 → AreSmallLeaves written → AllByRecursion IsFew written → length (shape_text shape written) < 1000000
+shape_is_short None written same few small numbers = omega arith
+shape_is_short (Some tree) written same few small numbers = omega (arith, length-append (tree_text tree written) (codes "\n"), short_tree tree written small numbers, same, few)
+
+few_from : (all : List (Option ℕ)) (number : ℕ) (acts : List Act) (sources : List (Option ℕ)) → number + length acts ≤ 100000 → AllByRecursion IsFew (written_from all number acts sources)
+few_from all number [] sources few = tt
+few_from all number (act ∷ acts) [] few = tt
+few_from all number (act ∷ acts) (source ∷ sources) few = (omega (arith, few), few_from all (number + 1) acts sources (omega (arith, few)))
+
+pub canonical_is_short : (job : JobValue) → IsJob job → AreSmallLeaves (written_leaves job) → length (canonical_text job) < 1000000
+canonical_is_short job is_job small =
+    let count = length_from job.sources 0 job.acts job.sources is_job.sources.as_many in
+    let leaves = is_job.leaves in
+    let most = is_job.most in
+    shape_is_short job.shape (written_leaves job) (leaves ∙ sym count) (omega (arith, count, most)) small (few_from job.sources 0 job.acts job.sources (omega (arith, most)))
+
+-- the numbers of acts and sources that fit 32 bits
+pub small_from : (all : List (Option ℕ)) (number : ℕ) (acts : List Act) (sources : List (Option ℕ)) → number + length acts ≤ 2 ^ 32 → AreSmall acts → AllByRecursion (λ (source : Option ℕ). source ≡ None) sources
+    → AreSmallLeaves (written_from all number acts sources)
+small_from all number [] sources few small each = tt
+small_from all number (act ∷ acts) [] few small each = tt
+small_from all number (act ∷ acts) (Some source ∷ sources) few small each = let e = each.0 in absurd (cc e)
+small_from all number (act ∷ acts) (None ∷ sources) few small each =
+    (record { act = small.0; number = omega (arith, few); source = tt }, small_from all (number + 1) acts sources (omega (arith, few)) small.1 each.1)
 
 unnamed_from : (all : List (Option ℕ)) (number : ℕ) (acts : List Act) (sources : List (Option ℕ)) → ((n : ℕ) → is_source all n ≡ false) → AllByRecursion (λ (source : Option ℕ). source ≡ None) sources → AllByRecursion IsUnnamed (written_from all number acts sources)
 unnamed_from all number [] sources none each = tt

@@ -1,6 +1,6 @@
 //! The leaves of a job, as the canonical text writes them.
-ghost use Rattle.std.specs.Prelude.{◌≡◌, ℕ, ◌<◌, Some, IfOk, length, slice_get};
-ghost use Rattle.job_lang.specs.Canonical.{is_source, written_leaves};
+ghost use Rattle.std.specs.Prelude.{◌≡◌, ℕ, ◌<◌, Bool, ◌||◌, Some, IfSome, IfOk, length, slice_get};
+ghost use Rattle.job_lang.specs.Canonical.{is_leaf, is_source, written_leaves};
 
 use seq_objects::Act;
 use sp_order::Job;
@@ -15,6 +15,18 @@ pub(crate) struct WrittenLeaf {
     pub(crate) source: Option<u32>,
 }
 
+/// Marks a source, if there is one.
+fn mark(named: &mut Vec<bool>, source: Option<u32>)
+    requires { IfSome source (λ source. source < length named.old.items) }
+    ensures count { length named.new.items ≡ length named.old.items }
+    ensures each { (leaf : ℕ) (was : Bool) → slice_get named.old.items leaf ≡ Some was
+        → slice_get named.new.items leaf ≡ Some (was || is_leaf leaf source) }
+{
+    if let Some(source) = source {
+        named[source as usize] = true;
+    }
+}
+
 /// For each leaf, whether some leaf has it as its source.
 fn sources_of(alloc: Global, job: &Job) -> Result<Vec<bool>, AllocError>
     ensures count { IfOk result (λ named. length named.items ≡ length job.now.acts) }
@@ -24,9 +36,7 @@ fn sources_of(alloc: Global, job: &Job) -> Result<Vec<bool>, AllocError>
     let count = job.acts().len();
     let mut named = vec![in alloc; false; count]?;
     for leaf in 0..count as u32 {
-        if let Some(source) = job.source(leaf) {
-            named[source as usize] = true;
-        }
+        mark(&mut named, job.source(leaf));
     }
     Ok(named)
 }

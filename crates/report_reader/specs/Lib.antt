@@ -1,0 +1,8 @@
+-- Raw reports and their texts, with the specifications that they use of `batch_history` and `seq_objects`. `Code` is
+-- cited by code and proofs only.
+pub use Rattle.batch_history.specs.Text
+pub use Rattle.batch_history.specs.Book
+pub use Rattle.seq_objects.specs.Objects
+pub mod Raw
+pub mod Texts
+pub mod Code

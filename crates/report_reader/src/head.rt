@@ -1,0 +1,37 @@
+//! The head line of a report.
+ghost use Rattle.std.specs.Prelude.{◌≡◌, ℕ, List, IfSome, IfNone};
+ghost use Rattle.report_reader.specs.Code.Lines.{IsHeadThen};
+ghost use Rattle.report_reader.specs.declared.head.Head.{Head};
+
+use crate::words::{read_field, read_words};
+
+/// What the head line states: the number of workers, and how many rows, calls and batches follow.
+#[derive(Clone, Copy)]
+pub(crate) struct Head {
+    pub workers: u32,
+    pub leaves: u64,
+    pub calls: u64,
+    pub batches: u64,
+}
+
+/// The head line at the front of the text, and the rest behind it.
+pub(crate) fn read_head(text: &[u8]) -> Option<(Head, &[u8])>
+    ensures some { IfSome result (λ read. IsHeadThen text.now read.0 read.1.now) }
+    ensures none { IfNone result ((head : Head) (rest : List ℕ) → IsHeadThen text.now head rest → ⊥) }
+{
+    let (workers, rest) = read_field(text, b"workers ", 32)?;
+    if workers == 0 {
+        return None;
+    }
+    let (leaves, rest) = read_field(rest, b" leaves ", u64::MAX)?;
+    let (calls, rest) = read_field(rest, b" calls ", u64::MAX)?;
+    let (batches, rest) = read_field(rest, b" batches ", u64::MAX)?;
+    let rest = read_words(rest, b"\n")?;
+    let head = Head {
+        workers: workers as u32,
+        leaves,
+        calls,
+        batches,
+    };
+    Some((head, rest))
+}

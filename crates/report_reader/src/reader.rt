@@ -1,0 +1,45 @@
+//! The reader of reports.
+ghost use Rattle.std.specs.Prelude.{◌≡◌, ◌≢◌, Err, IfOk};
+ghost use Rattle.batch_history.specs.declared.report.Report.{Report};
+ghost use Rattle.report_reader.specs.Texts.{HasText, IsReading};
+ghost use Rattle.report_reader.specs.declared.error.ReadReportErr.TheVariants.{NoReport};
+
+use crate::batches::batches_of;
+use crate::call::read_calls;
+use crate::error::ReadReportErr;
+use crate::head::read_head;
+use crate::raw::RawReport;
+use crate::row::read_rows;
+use batch_history::Rows;
+use std::alloc::Global;
+
+/// The raw report that has this text.
+///
+/// Time: linear in the text. Memory: linear in the text, whatever the counts in its head line are.
+pub fn read_report(alloc: Global, text: &[u8]) -> Result<RawReport, ReadReportErr>
+    ensures reading { IsReading text.now result }
+    ensures reads { (report : Report) → HasText text.now report
+        → IfOk result (λ raw. raw ≡ report) × (result ≢ Err NoReport) }
+{
+    let Some((head, rest)) = read_head(text) else {
+        return Err(ReadReportErr::NoReport);
+    };
+    let (calls, rest) = read_calls(alloc, rest)?;
+    let Some(rows) = read_rows(alloc, rest)? else {
+        return Err(ReadReportErr::NoReport);
+    };
+    let Some(batches) = batches_of(alloc, calls.as_slice())? else {
+        return Err(ReadReportErr::NoReport);
+    };
+    if head.leaves != rows.len() as u64
+        || head.calls != calls.len() as u64
+        || head.batches != batches.len() as u64
+    {
+        return Err(ReadReportErr::NoReport);
+    }
+    Ok(RawReport {
+        workers: head.workers,
+        batches,
+        rows: Rows::of(rows),
+    })
+}

@@ -1,0 +1,5 @@
+mod Digits
+mod Fields
+mod Operations
+mod Replies
+mod Lines

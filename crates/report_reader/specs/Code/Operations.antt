@@ -40,5 +40,5 @@ IsArgumentThen verb text number rest = IsDecimalThen 4294967295 text number rest
 
 -- the text is the words of the operation, an arrow, and then the rest
 pub record IsOpThen (text : List ℕ) (op : Op) (rest : List ℕ) : Type 0 where
-  pub written : op_words op ++ codes " -> " ++ rest ≡ text
+  pub written : op_words op ++ (codes " -> " ++ rest) ≡ text
   pub fits : argument_of op < 2 ^ 32

@@ -17,5 +17,5 @@ pub record IsWordThen (text : List ℕ) (reply : Reply) (rest : List ℕ) : Type
 
 -- the text is the words of the reply, a line feed, and then the rest
 pub record IsReplyThen (text : List ℕ) (reply : Reply) (rest : List ℕ) : Type 0 where
-  pub written : reply_words reply ++ codes "\n" ++ rest ≡ text
+  pub written : reply_words reply ++ (codes "\n" ++ rest) ≡ text
   pub fits : value_of reply < 2 ^ 64

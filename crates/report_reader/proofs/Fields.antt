@@ -58,8 +58,15 @@ passes {words = words} {most = most} {n = n} {rest = rest} is small m behind wit
     let parts = field_apart words m n behind rest ends is.read.ends (whole ∙ sym (written_of is)) in
     (decimal_injective m n (omega (arith, within)) (omega (arith, is.read.within)) parts.0, parts.1)
 
+-- no number of at most `most` stands behind the words
+abbrev pub NoField : List ℕ → ℕ → List ℕ → Type 0
+NoField words most text = (number : ℕ) (rest : List ℕ) → IsFieldThen words most text number rest → ⊥
+
+abbrev pub NoWords : List ℕ → List ℕ → Type 0
+NoWords words text = (rest : List ℕ) → words ++ rest ≡ text → ⊥
+
 -- where no field is read, the text is not that of a number that fits
-pub stops : {words : List ℕ} {most : ℕ} {text : List ℕ} → ((n : ℕ) (rest : List ℕ) → IsFieldThen words most text n rest → ⊥) → (m : ℕ) (behind : List ℕ) → m ≤ most → BeginsNoDigit behind
+pub stops : {words : List ℕ} {most : ℕ} {text : List ℕ} → NoField words most text → (m : ℕ) (behind : List ℕ) → m ≤ most → BeginsNoDigit behind
     → words ++ (decimal m ++ behind) ≡ text → ⊥
 stops none m behind within ends whole =
     none m behind (record { behind = decimal m ++ behind; starts = whole; read = record { written = refl; ends = ends; within = within } })

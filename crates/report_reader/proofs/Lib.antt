@@ -3,3 +3,5 @@ mod Fields
 mod Operations
 mod Replies
 mod Lines
+mod Rows
+mod Groups

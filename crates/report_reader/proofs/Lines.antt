@@ -17,16 +17,9 @@ use Rattle.report_reader.specs.Code.Replies.{IsReplyThen}
 use Rattle.report_reader.specs.Code.Lines.{IsHeadThen, IsCallThen, IsRowThen, FitsCall, call_line}
 use Rattle.report_reader.specs.declared.head.Head.{Head}
 use Rattle.report_reader.specs.declared.call.Numbered.{Numbered}
-use Rattle.report_reader.proofs.Fields.{field_apart, written_of, passes, stops}
+use Rattle.report_reader.proofs.Fields.{NoField, NoWords, field_apart, written_of, passes, stops}
 use Rattle.report_reader.proofs.Operations.{one_op}
 use Rattle.report_reader.proofs.Replies.{one_reply}
-
--- the greatest numbers of 32 and of 64 bits
-abbrev m32 : ℕ
-m32 = 4294967295
-
-abbrev m64 : ℕ
-m64 = 18446744073709551615
 
 small : 4294967295 < 2 ^ 64
 small = omega arith
@@ -36,13 +29,6 @@ big = omega arith
 
 few : 32 < 2 ^ 64
 few = omega arith
-
--- no number of at most `most` stands behind the words
-abbrev pub NoField : List ℕ → ℕ → List ℕ → Type 0
-NoField words most text = (number : ℕ) (rest : List ℕ) → IsFieldThen words most text number rest → ⊥
-
-abbrev pub NoWords : List ℕ → List ℕ → Type 0
-NoWords words text = (rest : List ℕ) → words ++ rest ≡ text → ⊥
 
 -- what stands behind the numbers of a head line
 abbrev end_of : List ℕ → List ℕ

@@ -5,3 +5,5 @@ mod Replies
 mod Lines
 mod Rows
 mod Groups
+mod Calls
+mod Whole

@@ -54,7 +54,7 @@ head_whole workers leaves calls batches rest =
     four (codes "workers ") (decimal workers) (codes " leaves ") (decimal leaves) (codes " calls ") (decimal calls) (codes " batches ") (decimal batches) (codes "\n") rest
 
 -- where one step of a head line does not read, there is no head line
-module _ {text : List ℕ} {head : Head} {rest : List ℕ} (is : IsHeadThen text head rest) where
+module _ {most : ℕ} {text : List ℕ} {head : Head} {rest : List ℕ} (most_small : most < 2 ^ 64) (is : IsHeadThen most text head rest) where
   whole_head : codes "workers " ++ (decimal head.workers ++ leaves_from head.leaves head.calls head.batches rest) ≡ text
   whole_head = sym (head_whole head.workers head.leaves head.calls head.batches rest) ∙ is.written
 
@@ -68,25 +68,25 @@ module _ {text : List ℕ} {head : Head} {rest : List ℕ} (is : IsHeadThen text
     pub some_workers : n ≡ 0 → ⊥
     some_workers none = omega (arith, at_leaves.0, is.some, none)
 
-    pub no_leaves : NoField (codes " leaves ") 18446744073709551615 t1 → ⊥
-    no_leaves none = stops none head.leaves (calls_from head.calls head.batches rest) (omega (arith, is.leaves)) refl at_leaves.1
+    pub no_leaves : NoField (codes " leaves ") most t1 → ⊥
+    no_leaves none = stops none head.leaves (calls_from head.calls head.batches rest) is.leaves refl at_leaves.1
 
-    module _ {l : ℕ} {t2 : List ℕ} (leaves : IsFieldThen (codes " leaves ") 18446744073709551615 t1 l t2) where
+    module _ {l : ℕ} {t2 : List ℕ} (leaves : IsFieldThen (codes " leaves ") most t1 l t2) where
       at_calls : (head.leaves ≡ l) × (calls_from head.calls head.batches rest ≡ t2)
-      at_calls = passes leaves big head.leaves (calls_from head.calls head.batches rest) (omega (arith, is.leaves)) refl at_leaves.1
+      at_calls = passes leaves most_small head.leaves (calls_from head.calls head.batches rest) is.leaves refl at_leaves.1
 
-      pub no_calls : NoField (codes " calls ") 18446744073709551615 t2 → ⊥
-      no_calls none = stops none head.calls (batches_from head.batches rest) (omega (arith, is.calls)) refl at_calls.1
+      pub no_calls : NoField (codes " calls ") most t2 → ⊥
+      no_calls none = stops none head.calls (batches_from head.batches rest) is.calls refl at_calls.1
 
-      module _ {k : ℕ} {t3 : List ℕ} (calls : IsFieldThen (codes " calls ") 18446744073709551615 t2 k t3) where
+      module _ {k : ℕ} {t3 : List ℕ} (calls : IsFieldThen (codes " calls ") most t2 k t3) where
         at_batches : (head.calls ≡ k) × (batches_from head.batches rest ≡ t3)
-        at_batches = passes calls big head.calls (batches_from head.batches rest) (omega (arith, is.calls)) refl at_calls.1
+        at_batches = passes calls most_small head.calls (batches_from head.batches rest) is.calls refl at_calls.1
 
-        pub no_batches : NoField (codes " batches ") 18446744073709551615 t3 → ⊥
-        no_batches none = stops none head.batches (end_of rest) (omega (arith, is.batches)) refl at_batches.1
+        pub no_batches : NoField (codes " batches ") most t3 → ⊥
+        no_batches none = stops none head.batches (end_of rest) is.batches refl at_batches.1
 
-        pub no_head_end : {b : ℕ} {t4 : List ℕ} → IsFieldThen (codes " batches ") 18446744073709551615 t3 b t4 → NoWords (codes "\n") t4 → ⊥
-        no_head_end batches none = none rest (passes batches big head.batches (end_of rest) (omega (arith, is.batches)) refl at_batches.1).1
+        pub no_head_end : {b : ℕ} {t4 : List ℕ} → IsFieldThen (codes " batches ") most t3 b t4 → NoWords (codes "\n") t4 → ⊥
+        no_head_end batches none = none rest (passes batches most_small head.batches (end_of rest) is.batches refl at_batches.1).1
 
 nested : (w1 d1 w2 d2 w3 d3 w4 d4 w5 rest text t1 t2 t3 t4 : List ℕ)
     → w1 ++ (d1 ++ t1) ≡ text → w2 ++ (d2 ++ t2) ≡ t1 → w3 ++ (d3 ++ t3) ≡ t2 → w4 ++ (d4 ++ t4) ≡ t3 → w5 ++ rest ≡ t4
@@ -94,18 +94,18 @@ nested : (w1 d1 w2 d2 w3 d3 w4 d4 w5 rest text t1 t2 t3 t4 : List ℕ)
 nested w1 d1 w2 d2 w3 d3 w4 d4 w5 rest text t1 t2 t3 t4 e1 e2 e3 e4 e5 = rw (e5, e4, e3, e2, e1)
 
 -- the steps of a head line make one
-pub head_read : {text : List ℕ} {w l c b : ℕ} {t1 t2 t3 t4 rest : List ℕ}
-    → IsFieldThen (codes "workers ") 32 text w t1 → 1 ≤ w → IsFieldThen (codes " leaves ") 18446744073709551615 t1 l t2
-    → IsFieldThen (codes " calls ") 18446744073709551615 t2 c t3 → IsFieldThen (codes " batches ") 18446744073709551615 t3 b t4 → codes "\n" ++ rest ≡ t4
-    → IsHeadThen text (record { workers = w; leaves = l; calls = c; batches = b }) rest
+pub head_read : {most : ℕ} {text : List ℕ} {w l c b : ℕ} {t1 t2 t3 t4 rest : List ℕ}
+    → IsFieldThen (codes "workers ") 32 text w t1 → 1 ≤ w → IsFieldThen (codes " leaves ") most t1 l t2
+    → IsFieldThen (codes " calls ") most t2 c t3 → IsFieldThen (codes " batches ") most t3 b t4 → codes "\n" ++ rest ≡ t4
+    → IsHeadThen most text (record { workers = w; leaves = l; calls = c; batches = b }) rest
 head_read {text = text} {w = w} {l = l} {c = c} {b = b} {t1 = t1} {t2 = t2} {t3 = t3} {t4 = t4} {rest = rest} workers some leaves calls batches ends = record {
   written = head_whole w l c b rest ∙ nested (codes "workers ") (decimal w) (codes " leaves ") (decimal l) (codes " calls ") (decimal c) (codes " batches ") (decimal b) (codes "\n") rest text t1 t2 t3 t4
     (written_of workers) (written_of leaves) (written_of calls) (written_of batches) ends;
   some = some;
   few = workers.read.within;
-  leaves = omega (arith, leaves.read.within);
-  calls = omega (arith, calls.read.within);
-  batches = omega (arith, batches.read.within);
+  leaves = leaves.read.within;
+  calls = calls.read.within;
+  batches = batches.read.within;
 }
 
 -- two head lines at the front of one text state one number of workers, and have one rest
@@ -133,7 +133,7 @@ leaf_from entry rest = codes " leaf " ++ (decimal entry.leaf ++ blank_from entry
 abbrev worker_from : Entry → List ℕ → List ℕ
 worker_from entry rest = codes " worker " ++ (decimal entry.worker ++ leaf_from entry rest)
 
-abbrev place_from : ℕ → Entry → List ℕ → List ℕ
+abbrev pub place_from : ℕ → Entry → List ℕ → List ℕ
 place_from place entry rest = codes " place " ++ (decimal place ++ worker_from entry rest)
 
 seven : (w1 d1 w2 d2 w3 d3 w4 d4 w5 d5 w6 d6 w7 rest : List ℕ)

@@ -27,7 +27,7 @@ end_from row rest = codes " end " ++ (decimal row.end ++ value_from row rest)
 abbrev start_from : Row → List ℕ → List ℕ
 start_from row rest = codes " start " ++ (decimal row.start ++ end_from row rest)
 
-abbrev worker_from : Row → List ℕ → List ℕ
+abbrev pub worker_from : Row → List ℕ → List ℕ
 worker_from row rest = codes " worker " ++ (decimal row.worker ++ start_from row rest)
 
 five : (w1 d1 w2 d2 w3 d3 w4 d4 w5 d5 w6 rest : List ℕ)
@@ -172,3 +172,10 @@ shorter text row rest is =
     let some : row_line row ≡ [] → ⊥ = λ none. some_line (row_line row) row [] (record { written = append-nil (row_line row); fits = is.fits }) none in
     let long : 0 < length (row_line row) = some_length (row_line row) some in
     omega (arith, length-append (row_line row) rest, whole, long)
+
+-- there are at most as many rows as their lines have bytes
+pub few_rows : (rows : List Row) → length rows ≤ length (flat_map row_line rows)
+few_rows [] = omega arith
+few_rows (row ∷ rows) =
+    let some : row_line row ≡ [] → ⊥ = λ none. cc (sym (row_whole row []) ∙ append-nil (row_line row) ∙ none) in
+    omega (arith, length-append (row_line row) (flat_map row_line rows), some_length (row_line row) some, few_rows rows)

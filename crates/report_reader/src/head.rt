@@ -14,18 +14,18 @@ pub(crate) struct Head {
     pub batches: u64,
 }
 
-/// The head line at the front of the text, and the rest behind it.
-pub(crate) fn read_head(text: &[u8]) -> Option<(Head, &[u8])>
-    ensures some { IfSome result (λ read. IsHeadThen text.now read.0 read.1.now) }
-    ensures none { IfNone result ((head : Head) (rest : List ℕ) → IsHeadThen text.now head rest → ⊥) }
+/// The head line at the front of the text, with counts of at most `most`, and the rest behind it.
+pub(crate) fn read_head(text: &[u8], most: u64) -> Option<(Head, &[u8])>
+    ensures some { IfSome result (λ read. IsHeadThen most text.now read.0 read.1.now) }
+    ensures none { IfNone result ((head : Head) (rest : List ℕ) → IsHeadThen most text.now head rest → ⊥) }
 {
     let (workers, rest) = read_field(text, b"workers ", 32)?;
     if workers == 0 {
         return None;
     }
-    let (leaves, rest) = read_field(rest, b" leaves ", u64::MAX)?;
-    let (calls, rest) = read_field(rest, b" calls ", u64::MAX)?;
-    let (batches, rest) = read_field(rest, b" batches ", u64::MAX)?;
+    let (leaves, rest) = read_field(rest, b" leaves ", most)?;
+    let (calls, rest) = read_field(rest, b" calls ", most)?;
+    let (batches, rest) = read_field(rest, b" batches ", most)?;
     let rest = read_words(rest, b"\n")?;
     let head = Head {
         workers: workers as u32,

@@ -21,7 +21,9 @@ pub fn read_report(alloc: Global, text: &[u8]) -> Result<RawReport, ReadReportEr
     ensures reads { (report : Report) → HasText text.now report
         → IfOk result (λ raw. raw ≡ report) × (result ≢ Err NoReport) }
 {
-    let Some((head, rest)) = read_head(text) else {
+    // each row, each call and each batch takes at least a byte
+    let most = text.len() as u64;
+    let Some((head, rest)) = read_head(text, most) else {
         return Err(ReadReportErr::NoReport);
     };
     let (calls, rest) = read_calls(alloc, rest)?;

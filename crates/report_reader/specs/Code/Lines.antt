@@ -7,14 +7,14 @@ use Rattle.report_reader.specs.Raw.{FitsEntry, FitsRow}
 use Rattle.report_reader.specs.declared.head.Head.{Head}
 use Rattle.report_reader.specs.declared.call.Numbered.{Numbered}
 
--- the text is this head line, and then the rest
-pub record IsHeadThen (text : List ℕ) (head : Head) (rest : List ℕ) : Type 0 where
+-- the text is this head line, with 1 to 32 workers and counts of at most `most`, and then the rest
+pub record IsHeadThen (most : ℕ) (text : List ℕ) (head : Head) (rest : List ℕ) : Type 0 where
   pub written : head_line head.workers head.leaves head.calls head.batches ++ rest ≡ text
   pub some : 1 ≤ head.workers
   pub few : head.workers ≤ 32
-  pub leaves : head.leaves < 2 ^ 64
-  pub calls : head.calls < 2 ^ 64
-  pub batches : head.batches < 2 ^ 64
+  pub leaves : head.leaves ≤ most
+  pub calls : head.calls ≤ most
+  pub batches : head.batches ≤ most
 
 -- the line of a call
 abbrev pub call_line : Numbered → List ℕ

@@ -129,6 +129,17 @@ book_fits b (es ∷ book) small few fits =
     (batch_fits b 0 es (omega (arith, small)) (omega (arith, few, whole)) (front FitsEntry es (flat book) fits))
     (book_fits (b + 1) book (omega (arith, small)) (omega (arith, few, whole)) (back FitsEntry es (flat book) fits))
 
+-- the entries of a book fit, where its calls do
+batch_entries : (b p : ℕ) (es : List Entry) → AllByRecursion FitsCall (numbered_batch b p es) → AllByRecursion FitsEntry es
+batch_entries b p [] fits = tt
+batch_entries b p (e ∷ es) fits = (fits.0.entry, batch_entries b (p + 1) es fits.1)
+
+pub book_entries : (b : ℕ) (book : List (List Entry)) → AllByRecursion FitsCall (numbered_book b book) → AllByRecursion FitsEntry (flat book)
+book_entries b [] fits = tt
+book_entries b (es ∷ book) fits =
+    both FitsEntry es (flat book) (batch_entries b 0 es (front FitsCall (numbered_batch b 0 es) (numbered_book (b + 1) book) fits))
+    (book_entries (b + 1) book (back FitsCall (numbered_batch b 0 es) (numbered_book (b + 1) book) fits))
+
 -- the text does not begin with the line of a call of this batch
 abbrev BeginsElsewhere : ℕ → List ℕ → Type 0
 BeginsElsewhere b text = (place : ℕ) (entry : Entry) (rest : List ℕ) → FitsEntry entry → entry_line b place entry ++ rest ≡ text → ⊥

@@ -108,14 +108,15 @@ head_read {text = text} {w = w} {l = l} {c = c} {b = b} {t1 = t1} {t2 = t2} {t3 
   batches = batches.read.within;
 }
 
--- two head lines at the front of one text state one number of workers, and have one rest
-pub heads_apart : (w w' l l' c c' b b' : ℕ) (rest rest' : List ℕ) → w ≤ 32 → w' ≤ 32 → head_line w l c b ++ rest ≡ head_line w' l' c' b' ++ rest' → (w ≡ w') × (rest ≡ rest')
+-- two head lines at the front of one text state one number of workers, counts of one decimal, and have one rest
+pub heads_apart : (w w' l l' c c' b b' : ℕ) (rest rest' : List ℕ) → w ≤ 32 → w' ≤ 32 → head_line w l c b ++ rest ≡ head_line w' l' c' b' ++ rest'
+    → (w ≡ w') × (rest ≡ rest') × (decimal l ≡ decimal l') × (decimal c ≡ decimal c') × (decimal b ≡ decimal b')
 heads_apart w w' l l' c c' b b' rest rest' fits fits' is =
     let workers = field_apart (codes "workers ") w w' (leaves_from l c b rest) (leaves_from l' c' b' rest') refl refl (sym (head_whole w l c b rest) ∙ is ∙ head_whole w' l' c' b' rest') in
     let leaves = field_apart (codes " leaves ") l l' (calls_from c b rest) (calls_from c' b' rest') refl refl workers.1 in
     let calls = field_apart (codes " calls ") c c' (batches_from b rest) (batches_from b' rest') refl refl leaves.1 in
     let batches = field_apart (codes " batches ") b b' (end_of rest) (end_of rest') refl refl calls.1 in
-    (decimal_injective w w' (omega (arith, fits)) (omega (arith, fits')) workers.0, append_cancel_left (codes "\n") rest rest' batches.1)
+    (decimal_injective w w' (omega (arith, fits)) (omega (arith, fits')) workers.0, append_cancel_left (codes "\n") rest rest' batches.1, leaves.0, calls.0, batches.0)
 
 -- what stands behind the numbers of a call, and of a row
 abbrev reply_from : Entry → List ℕ → List ℕ

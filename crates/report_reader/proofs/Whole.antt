@@ -1,6 +1,7 @@
 -- What a text tells of the raw report that has it.
 use Rattle.std.proofs.Common.{◌≡◌, ◌≢◌, ℕ, ◌+◌, ◌<◌, ◌≤◌, ◌^◌, List, [], ◌∷◌, ◌++◌, length, refl, sym, ap, ◌∙◌, append_assoc, length-append, arith}
 use Rattle.std.specs.List.{flat_map, AllByRecursion}
+use Rattle.std.specs.Fmt.{decimal}
 use Rattle.std.proofs.lemmas.Fmt.{decimal_injective}
 use Rattle.batch_history.specs.Book.{flat}
 use Rattle.batch_history.specs.Text.{head_line, book_lines, row_line, report_text}
@@ -15,7 +16,7 @@ use Rattle.report_reader.specs.declared.head.Head.{Head}
 use Rattle.report_reader.specs.declared.call.Numbered.{Numbered}
 use Rattle.report_reader.proofs.Lines.{heads_apart}
 use Rattle.report_reader.proofs.Rows.{one_list, few_rows}
-use Rattle.report_reader.proofs.Calls.{calls_way, rows_no_call, book_numbered, call_count, few_batches, few_calls, book_fits, books_apart}
+use Rattle.report_reader.proofs.Calls.{calls_way, rows_no_call, book_numbered, call_count, few_batches, few_calls, book_fits, book_entries, books_apart}
 use Rattle.report_reader.proofs.Groups.{one_book}
 
 -- what stands behind the head line of a report
@@ -81,7 +82,8 @@ module _ {text : List ℕ} {report : Report} (has : HasText text report) where
 
   -- behind a head line that was read stand the lines of the report
   module _ {most : ℕ} (small : most < 2 ^ 64) (is : most ≡ length text) {head : Head} {rest : List ℕ} (read : IsHeadThen most text head rest) where
-    heads : (report.workers ≡ head.workers) × (lines_of report ≡ rest)
+    heads : (report.workers ≡ head.workers) × (lines_of report ≡ rest) × (decimal (length report.rows) ≡ decimal head.leaves)
+      × (decimal (length (flat report.history)) ≡ decimal head.calls) × (decimal (length report.history) ≡ decimal head.batches)
     heads = heads_apart report.workers head.workers (length report.rows) head.leaves (length (flat report.history)) head.calls (length report.history) head.batches (lines_of report) rest
       has.raw.few read.few (whole has ∙ sym read.written)
 
@@ -95,3 +97,36 @@ module _ {text : List ℕ} {report : Report} (has : HasText text report) where
 
       pub no_report_batches : ((book : List (List Entry)) → AreCallsOf calls 0 book → ⊥) → ⊥
       no_report_batches none = none report.history (rw calls_same.0 at book_is)
+
+      -- and the counts of what was read are those of the head
+      pub no_report_counts : {rows : List Row} {book : List (List Entry)} → AreRowsOf more rows → AreCallsOf calls 0 book
+          → ((head.leaves ≡ length rows) × (head.calls ≡ length calls) × (head.batches ≡ length book) → ⊥) → ⊥
+      no_report_counts {rows = rows} {book = book} are_rows are_calls none =
+          let same_rows : report.rows ≡ rows = one_list more report.rows rows (rw calls_same.1 at rows_are) are_rows in
+          let same_book : report.history ≡ book = one_book 0 calls report.history book (rw calls_same.0 at book_is) are_calls in
+          let leaves : length report.rows ≡ head.leaves = decimal_injective (length report.rows) head.leaves (omega (arith, many_rows, small, is)) (omega (arith, read.leaves, small)) heads.2 in
+          let served : length (flat report.history) ≡ head.calls = decimal_injective (length (flat report.history)) head.calls (omega (arith, many_calls, small, is)) (omega (arith, read.calls, small)) heads.3 in
+          let batches : length report.history ≡ head.batches = decimal_injective (length report.history) head.batches (omega (arith, many_batches, small, is)) (omega (arith, read.batches, small)) heads.4 in
+          none (sym leaves ∙ ap length same_rows, sym served ∙ sym (call_count 0 report.history) ∙ ap length calls_same.0, sym batches ∙ ap length same_book)
+
+-- where a head line, calls, rows and batches were read and the counts agree, the text is that of this report
+pub report_read : {most : ℕ} {text : List ℕ} {head : Head} {rest more : List ℕ} {calls : List Numbered} {rows : List Row} {book : List (List Entry)}
+    → IsHeadThen most text head rest → AreCallsThen rest calls more → AreRowsOf more rows → AreCallsOf calls 0 book
+    → (head.leaves ≡ length rows) × (head.calls ≡ length calls) × (head.batches ≡ length book)
+    → HasText text (record { workers = head.workers; history = book; rows = rows })
+report_read {text = text} {head = head} {rest = rest} {more = more} {calls = calls} {rows = rows} {book = book} is are_calls are_rows are_batches counts =
+    let served : length (flat book) ≡ length calls = sym (call_count 0 book) ∙ ap length are_batches.numbered in
+    let start : head_line head.workers (length rows) (length (flat book)) (length book) ≡ head_line head.workers head.leaves head.calls head.batches = rw (counts.0, counts.1, counts.2, served) refl in
+    let lines : book_lines 0 book ≡ flat_map call_line calls = book_numbered 0 book ∙ ap (λ (cs : List Numbered). flat_map call_line cs) are_batches.numbered in
+    let behind : book_lines 0 book ++ flat_map row_line rows ≡ rest = ap (λ (t : List ℕ). t ++ flat_map row_line rows) lines ∙ ap (λ (t : List ℕ). flat_map call_line calls ++ t) are_rows.written ∙ are_calls.written in
+    record {
+      raw = record {
+        some = is.some;
+        few = is.few;
+        batches = are_batches.some;
+        entries = book_entries 0 book (rw are_batches.numbered are_calls.fits);
+        rows = are_rows.fits;
+      };
+      written = append_assoc (head_line head.workers (length rows) (length (flat book)) (length book)) (book_lines 0 book) (flat_map row_line rows)
+        ∙ ap (λ (t : List ℕ). t ++ (book_lines 0 book ++ flat_map row_line rows)) start ∙ ap (λ (t : List ℕ). head_line head.workers head.leaves head.calls head.batches ++ t) behind ∙ is.written;
+    }

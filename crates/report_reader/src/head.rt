@@ -1,5 +1,5 @@
 //! The head line of a report.
-ghost use Rattle.std.specs.Prelude.{◌≡◌, ℕ, List, IfSome, IfNone};
+ghost use Rattle.std.specs.Prelude.{◌≡◌, ◌↔◌, ℕ, List, IsTrue, IfSome, IfNone};
 ghost use Rattle.report_reader.specs.Code.Lines.{IsHeadThen};
 ghost use Rattle.report_reader.specs.declared.head.Head.{Head};
 
@@ -12,6 +12,18 @@ pub(crate) struct Head {
     pub leaves: u64,
     pub calls: u64,
     pub batches: u64,
+}
+
+impl Head {
+    /// Whether these are the counts that the head states.
+    pub(crate) fn counts(&self, leaves: usize, calls: usize, batches: usize) -> bool
+        ensures { IsTrue result
+            ↔ (self.now.leaves ≡ leaves) × (self.now.calls ≡ calls) × (self.now.batches ≡ batches) }
+    {
+        self.leaves == leaves as u64
+            && self.calls == calls as u64
+            && self.batches == batches as u64
+    }
 }
 
 /// The head line at the front of the text, with counts of at most `most`, and the rest behind it.

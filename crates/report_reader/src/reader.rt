@@ -1,8 +1,7 @@
 //! The reader of reports.
-ghost use Rattle.std.specs.Prelude.{◌≡◌, ◌≢◌, Err, IfOk};
+ghost use Rattle.std.specs.Prelude.{◌≡◌, IfOk};
 ghost use Rattle.batch_history.specs.declared.report.Report.{Report};
 ghost use Rattle.report_reader.specs.Texts.{HasText, IsReading};
-ghost use Rattle.report_reader.specs.declared.error.ReadReportErr.TheVariants.{NoReport};
 
 use crate::batches::batches_of;
 use crate::call::read_calls;
@@ -18,8 +17,7 @@ use std::alloc::Global;
 /// Time: linear in the text. Memory: linear in the text, whatever the counts in its head line are.
 pub fn read_report(alloc: Global, text: &[u8]) -> Result<RawReport, ReadReportErr>
     ensures reading { IsReading text.now result }
-    ensures reads { (report : Report) → HasText text.now report
-        → IfOk result (λ raw. raw ≡ report) × (result ≢ Err NoReport) }
+    ensures reads { (report : Report) → HasText text.now report → IfOk result (λ raw. raw ≡ report) }
 {
     // each row, each call and each batch takes at least a byte
     let most = text.len() as u64;
@@ -33,10 +31,7 @@ pub fn read_report(alloc: Global, text: &[u8]) -> Result<RawReport, ReadReportEr
     let Some(batches) = batches_of(alloc, calls.as_slice())? else {
         return Err(ReadReportErr::NoReport);
     };
-    if head.leaves != rows.len() as u64
-        || head.calls != calls.len() as u64
-        || head.batches != batches.len() as u64
-    {
+    if !head.counts(rows.len(), calls.len(), batches.len()) {
         return Err(ReadReportErr::NoReport);
     }
     Ok(RawReport {

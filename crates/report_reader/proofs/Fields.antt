@@ -1,5 +1,5 @@
 -- Numbers behind words, which a text begins with in one way.
-use Rattle.std.proofs.Common.{◌≡◌, ℕ, ◌<◌, ◌≤◌, ◌^◌, false, List, [], ◌∷◌, ◌++◌, length, take, drop, ◌+◌, true, Option, Some, None, IfSome, IfNone, refl, sym, ap, ◌∙◌, append_assoc, arith, Bor}
+use Rattle.std.proofs.Common.{◌≡◌, ℕ, ◌<◌, ◌≤◌, ◌^◌, false, List, [], ◌∷◌, ◌++◌, length, take, drop, ◌+◌, true, Option, Some, None, IfSome, IfNone, refl, sym, ap, ◌∙◌, arith, Bor}
 use Rattle.std.specs.Prelude.{nat_eq, ◌≢◌}
 use Rattle.std.specs.Option.{MatchOption}
 use Rattle.std.specs.Cmp.Lexicographic.{pointwise}
@@ -70,3 +70,15 @@ pub stops : {words : List ℕ} {most : ℕ} {text : List ℕ} → NoField words 
     → words ++ (decimal m ++ behind) ≡ text → ⊥
 stops none m behind within ends whole =
     none m behind (record { behind = decimal m ++ behind; starts = whole; read = record { written = refl; ends = ends; within = within } })
+
+-- the greatest numbers of 32 and of 64 bits have decimals that tell them apart
+pub small : 4294967295 < 2 ^ 64
+small = omega arith
+
+pub big : 18446744073709551615 < 2 ^ 64
+big = omega arith
+
+-- a text that is not empty has a length above 0
+pub some_length : (text : List ℕ) → (text ≡ [] → ⊥) → 0 < length text
+some_length [] some = absurd (some refl)
+some_length (byte ∷ text) some = omega arith

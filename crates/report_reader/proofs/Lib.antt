@@ -2,8 +2,9 @@ mod Digits
 mod Fields
 mod Operations
 mod Replies
-mod Lines
+mod Heads
+mod CallLines
 mod Rows
+mod Books
 mod Groups
-mod Calls
-mod Whole
+mod Reports

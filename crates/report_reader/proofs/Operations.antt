@@ -1,10 +1,9 @@
 -- Operations as a verb and an argument, and how a text tells them.
-use Rattle.std.proofs.Common.{◌≡◌, ℕ, ◌+◌, ◌*◌, ◌<◌, ◌≤◌, ◌^◌, Bool, List, [], ◌∷◌, ◌++◌, get_or, refl, sym, ap, subst, ◌∙◌, append_assoc, codes, arith}
+use Rattle.std.proofs.Common.{◌≡◌, ℕ, ◌+◌, ◌*◌, ◌<◌, ◌^◌, List, [], ◌++◌, get_or, refl, sym, ap, subst, ◌∙◌, append_assoc, codes, arith}
 use Rattle.std.specs.Prelude.{◌==◌, if◌then◌else◌}
 use Rattle.std.specs.Fmt.{decimal}
 use Rattle.std.proofs.lemmas.Fmt.{decimal_injective}
 use Rattle.std.proofs.lemmas.List.{append_cancel_left}
-use Rattle.decimals.specs.Texts.{IsDecimalThen}
 use Rattle.seq_objects.specs.Objects.{argument_of}
 use Rattle.seq_objects.specs.Words.{op_words}
 use Rattle.seq_objects.specs.declared.op.Op.{Op}
@@ -13,7 +12,7 @@ use Rattle.report_reader.specs.declared.operation.Verb.{Verb}
 use Rattle.report_reader.specs.declared.operation.Verb.TheVariants.{CounterAdd, Push, Pop, TreeInsert, TreeRemove, TreeFind, TreeNext, PqInsert, PqTake}
 use Rattle.report_reader.specs.Code.Operations.{verb_words, op_of_verb, IsArgumentThen, IsOpThen}
 use Rattle.report_reader.proofs.Digits.{Digits, decimal_digits, digits_apart}
-use Rattle.report_reader.proofs.Fields.{one_way}
+use Rattle.report_reader.proofs.Fields.{small, one_way}
 
 -- the verb of an operation
 abbrev pub verb_of : Op → Verb
@@ -155,9 +154,6 @@ argument_at (op.TreeFind n) rest fits = record { written = refl; ends = refl; wi
 argument_at (op.TreeNext n) rest fits = record { written = refl; ends = refl; within = omega (arith, fits) }
 argument_at (op.PqInsert n) rest fits = record { written = refl; ends = refl; within = omega (arith, fits) }
 argument_at op.PqTake rest fits = (refl, refl)
-
-small : 4294967295 < 2 ^ 64
-small = omega arith
 
 argument_way : (verb : Verb) (text : List ℕ) (m n : ℕ) (r s : List ℕ) → IsArgumentThen verb text m r → IsArgumentThen verb text n s → r ≡ s
 argument_way CounterAdd text m n r s a b = (one_way 4294967295 text m n r s small a b).1

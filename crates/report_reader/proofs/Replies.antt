@@ -1,5 +1,5 @@
 -- How a text tells replies apart.
-use Rattle.std.proofs.Common.{◌≡◌, ℕ, ◌<◌, ◌≤◌, ◌^◌, Bool, true, false, List, [], ◌∷◌, ◌++◌, get_or, refl, sym, ap, subst, ◌∙◌, append_assoc, codes, arith}
+use Rattle.std.proofs.Common.{◌≡◌, ℕ, ◌<◌, ◌^◌, true, false, List, ◌++◌, get_or, refl, sym, ap, ◌∙◌, codes, arith}
 use Rattle.std.specs.Prelude.{◌==◌, if◌then◌else◌}
 use Rattle.std.specs.Char.{is_ascii_digit}
 use Rattle.std.specs.Fmt.{decimal}
@@ -12,7 +12,7 @@ use Rattle.seq_objects.specs.declared.reply.Reply.{Reply}
 use Rattle.seq_objects.specs.declared.reply.Reply.TheVariants.{Number, Unit as Done, Empty, Yes, No}
 use Rattle.report_reader.specs.Code.Replies.{IsWord, IsReplyThen}
 use Rattle.report_reader.proofs.Digits.{decimal_begins}
-use Rattle.report_reader.proofs.Fields.{apart, one_way}
+use Rattle.report_reader.proofs.Fields.{big, apart, one_way}
 
 -- the word that begins with this byte
 word_with : ℕ → Reply
@@ -66,9 +66,6 @@ pub one_reply : (text : List ℕ) (reply reply' : Reply) (rest rest' : List ℕ)
 one_reply text reply reply' rest rest' a b =
     let way = reply_way reply reply' rest rest' a.fits b.fits (a.written ∙ sym b.written) in
     (way.0, append_cancel_left (codes "\n") rest rest' way.1)
-
-big : 18446744073709551615 < 2 ^ 64
-big = omega arith
 
 -- behind a number that was read stands a line feed, where there is a reply
 pub no_end : (text : List ℕ) (n : ℕ) (t1 : List ℕ) → IsDecimalThen 18446744073709551615 text n t1 → ((rest : List ℕ) → codes "\n" ++ rest ≡ t1 → ⊥) → (reply : Reply) (rest : List ℕ) → IsReplyThen text reply rest → ⊥

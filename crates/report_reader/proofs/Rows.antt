@@ -1,5 +1,5 @@
 -- The lines of rows, step by step, and lists of such lines.
-use Rattle.std.proofs.Common.{◌≡◌, ◌≢◌, ℕ, ◌+◌, ◌<◌, ◌≤◌, ◌^◌, List, [], ◌∷◌, ◌++◌, length, refl, sym, ap, ◌∙◌, append_assoc, append-nil, length-append, codes, arith}
+use Rattle.std.proofs.Common.{◌≡◌, ℕ, ◌<◌, ◌≤◌, List, [], ◌∷◌, ◌++◌, length, refl, sym, ap, ◌∙◌, append_assoc, append-nil, length-append, codes, arith}
 use Rattle.std.specs.List.{flat_map, AllByRecursion}
 use Rattle.std.specs.Fmt.{decimal}
 use Rattle.std.proofs.lemmas.Fmt.{decimal_injective}
@@ -9,13 +9,7 @@ use Rattle.batch_history.specs.declared.row.Row.{Row}
 use Rattle.report_reader.specs.Raw.{FitsRow}
 use Rattle.report_reader.specs.Code.Fields.{IsFieldThen}
 use Rattle.report_reader.specs.Code.Lines.{IsRowThen, AreRowsOf}
-use Rattle.report_reader.proofs.Fields.{NoField, NoWords, field_apart, written_of, passes, stops}
-
-small : 4294967295 < 2 ^ 64
-small = omega arith
-
-big : 18446744073709551615 < 2 ^ 64
-big = omega arith
+use Rattle.report_reader.proofs.Fields.{small, big, some_length, NoField, NoWords, field_apart, written_of, passes, stops}
 
 -- what stands behind the numbers of a row
 abbrev value_from : Row → List ℕ → List ℕ
@@ -160,10 +154,6 @@ none_left (row ∷ rows) rest are some none = none row (flat_map row_line rows) 
 pub no_rows : (so_far : List Row) (text rest : List ℕ) → flat_map row_line so_far ++ rest ≡ text → AllByRecursion FitsRow so_far → (rest ≡ [] → ⊥) → ((row : Row) (more : List ℕ) → IsRowThen rest row more → ⊥)
     → (rows : List Row) → AreRowsOf text rows → ⊥
 no_rows so_far text rest is fits some none rows are = let left = rows_left so_far rows text rest is fits are in none_left left.0 rest left.1 some none
-
-some_length : (text : List ℕ) → (text ≡ [] → ⊥) → 0 < length text
-some_length [] some = absurd (some refl)
-some_length (byte ∷ text) some = omega arith
 
 -- each row that is read takes some of the text
 pub shorter : (text : List ℕ) (row : Row) (rest : List ℕ) → IsRowThen text row rest → length rest < length text

@@ -2,7 +2,6 @@ use Rattle.std.proofs.Common.{◌≡◌, ◌≢◌, ℕ, ◌<◌, ◌+◌, ◌++
 use Rattle.std.specs.Prelude.{◌==◌}
 use Rattle.std.proofs.lemmas.Bool.Decides.{nat_tests}
 use Rattle.std.proofs.lemmas.List.{length_push}
-use Rattle.batch_history.specs.declared.batch.Entry.{Entry}
 use Rattle.report_reader.proofs.Groups.{none_left, left_more, read_more, some_more, shorter}
 use Rattle.report_reader.proofs.batches.batches_of.Goals as goal
 

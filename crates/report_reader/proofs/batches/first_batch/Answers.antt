@@ -1,4 +1,4 @@
-use Rattle.std.proofs.Common.{◌≡◌, ◌+◌, length, sym, ◌∙◌, arith}
+use Rattle.std.proofs.Common.{◌≡◌, length, arith}
 use Rattle.report_reader.proofs.Groups.{call_more}
 use Rattle.report_reader.proofs.batches.first_batch.Goals as goal
 

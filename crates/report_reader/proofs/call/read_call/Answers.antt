@@ -1,4 +1,4 @@
-use Rattle.report_reader.proofs.Lines.{call_read, no_batch, no_place, no_worker, no_leaf, no_blank, no_op, no_reply}
+use Rattle.report_reader.proofs.CallLines.{call_read, no_batch, no_place, no_worker, no_leaf, no_blank, no_op, no_reply}
 use Rattle.report_reader.proofs.call.read_call.Goals as goal
 
 pub returns-in_err-batch-clause-none : goal.returns-in_err-batch-clause-none

@@ -1,5 +1,5 @@
 use Rattle.std.proofs.Common.{◌<◌, length}
-use Rattle.report_reader.proofs.Calls.{shorter}
+use Rattle.report_reader.proofs.Books.{shorter}
 use Rattle.report_reader.proofs.call.read_calls.Goals as goal
 
 pub loop-call-smaller : goal.loop-call-smaller

@@ -1,5 +1,5 @@
 use Rattle.std.proofs.Common.{arith}
-use Rattle.report_reader.proofs.Lines.{head_read, no_workers, some_workers, no_leaves, no_calls, no_batches, no_head_end}
+use Rattle.report_reader.proofs.Heads.{head_read, no_workers, some_workers, no_leaves, no_calls, no_batches, no_head_end}
 use Rattle.report_reader.proofs.head.read_head.Goals as goal
 
 pub returns-in_err-workers-clause-none : goal.returns-in_err-workers-clause-none

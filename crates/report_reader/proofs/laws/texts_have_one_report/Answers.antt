@@ -1,4 +1,4 @@
-use Rattle.report_reader.proofs.Whole.{one_report}
+use Rattle.report_reader.proofs.Reports.{one_report}
 use Rattle.report_reader.proofs.laws.texts_have_one_report.Goals as goal
 
 pub returns : goal.returns

@@ -1,4 +1,4 @@
-use Rattle.report_reader.proofs.Operations.{no_verb, no_argument, no_arrow, op_read}
+use Rattle.report_reader.proofs.Operations.{no_verb, no_argument, no_arrow}
 use Rattle.report_reader.proofs.operation.read_op.Goals as goal
 
 pub returns-in_err-verb-clause-none : goal.returns-in_err-verb-clause-none

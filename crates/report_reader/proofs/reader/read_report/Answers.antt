@@ -1,7 +1,5 @@
-use Rattle.std.proofs.Common.{◌≡◌, ℕ, ◌<◌, ◌^◌, length, List, Option, Some, None, IfSome, IfNone, true, false, refl, arith}
-use Rattle.batch_history.specs.declared.report.Report.{Report}
-use Rattle.report_reader.specs.Texts.{HasText}
-use Rattle.report_reader.proofs.Whole.{one_report, head_is, no_report_rows, no_report_batches, no_report_counts, report_read}
+use Rattle.std.proofs.Common.{◌≡◌, Option, Some, None, IfSome, IfNone, true, refl, arith}
+use Rattle.report_reader.proofs.Reports.{one_report, head_is, no_report_rows, no_report_batches, no_report_counts, report_read}
 use Rattle.report_reader.proofs.reader.read_report.Goals as goal
 
 none_of : {T : Type 0} (r : Option T) (P : Type 0) → r ≡ None → IfNone r P → P

@@ -1,5 +1,5 @@
 -- Lists of lines of calls, and the lines of a book.
-use Rattle.std.proofs.Common.{◌≡◌, ◌≢◌, ℕ, suc, ◌+◌, ◌<◌, ◌≤◌, ◌^◌, List, [], ◌∷◌, ◌++◌, length, get_or, refl, sym, ap, ◌∙◌, append_assoc, append-nil, length-append, codes, arith}
+use Rattle.std.proofs.Common.{◌≡◌, ◌≢◌, ℕ, ◌+◌, ◌<◌, ◌≤◌, ◌^◌, List, [], ◌∷◌, ◌++◌, length, get_or, refl, sym, ap, ◌∙◌, append_assoc, append-nil, length-append, codes, arith}
 use Rattle.std.specs.List.{flat_map, AllByRecursion}
 use Rattle.std.specs.Fmt.{decimal}
 use Rattle.std.proofs.lemmas.Fmt.{decimal_injective}
@@ -13,7 +13,8 @@ use Rattle.report_reader.specs.Code.Lines.{IsCallThen, AreCallsThen, FitsCall, c
 use Rattle.report_reader.specs.Code.Groups.{numbered_batch, numbered_book}
 use Rattle.report_reader.specs.declared.call.Numbered.{Numbered}
 use Rattle.report_reader.proofs.Digits.{next_decimal}
-use Rattle.report_reader.proofs.Lines.{place_from, entry_whole, calls_apart}
+use Rattle.report_reader.proofs.Fields.{some_length}
+use Rattle.report_reader.proofs.CallLines.{place_from, entry_whole, calls_apart}
 use Rattle.report_reader.proofs.Rows.{worker_from, row_whole}
 
 -- calls of the same numbers and entry are one call
@@ -31,10 +32,6 @@ some_entry : (batch place : ℕ) (entry : Entry) (rest : List ℕ) → entry_lin
 some_entry batch place entry rest none =
     let begins : codes "batch " ++ (decimal batch ++ place_from place entry rest) ≡ [] = sym (entry_whole batch place entry rest) ∙ none in
     cc (begins)
-
-some_length : (text : List ℕ) → (text ≡ [] → ⊥) → 0 < length text
-some_length [] some = absurd (some refl)
-some_length (byte ∷ text) some = omega arith
 
 long_entry : (batch place : ℕ) (entry : Entry) → 0 < length (entry_line batch place entry)
 long_entry batch place entry = some_length (entry_line batch place entry) (λ none. some_entry batch place entry [] (append-nil (entry_line batch place entry) ∙ none))

@@ -1,22 +1,21 @@
 -- What a text tells of the raw report that has it.
-use Rattle.std.proofs.Common.{◌≡◌, ◌≢◌, ℕ, ◌+◌, ◌<◌, ◌≤◌, ◌^◌, List, [], ◌∷◌, ◌++◌, length, refl, sym, ap, ◌∙◌, append_assoc, length-append, arith}
-use Rattle.std.specs.List.{flat_map, AllByRecursion}
+use Rattle.std.proofs.Common.{◌≡◌, ℕ, ◌+◌, ◌<◌, ◌≤◌, ◌^◌, List, ◌++◌, length, refl, sym, ap, ◌∙◌, append_assoc, length-append, arith}
+use Rattle.std.specs.List.{flat_map}
 use Rattle.std.specs.Fmt.{decimal}
 use Rattle.std.proofs.lemmas.Fmt.{decimal_injective}
 use Rattle.batch_history.specs.Book.{flat}
-use Rattle.batch_history.specs.Text.{head_line, book_lines, row_line, report_text}
+use Rattle.batch_history.specs.Text.{head_line, book_lines, row_line}
 use Rattle.batch_history.specs.declared.batch.Entry.{Entry}
 use Rattle.batch_history.specs.declared.row.Row.{Row}
 use Rattle.batch_history.specs.declared.report.Report.{Report}
-use Rattle.report_reader.specs.Raw.{FitsEntry, FitsRow, IsRaw}
 use Rattle.report_reader.specs.Texts.{HasText}
 use Rattle.report_reader.specs.Code.Lines.{IsHeadThen, IsCallThen, AreCallsThen, AreRowsOf, call_line}
 use Rattle.report_reader.specs.Code.Groups.{AreCallsOf, numbered_book}
 use Rattle.report_reader.specs.declared.head.Head.{Head}
 use Rattle.report_reader.specs.declared.call.Numbered.{Numbered}
-use Rattle.report_reader.proofs.Lines.{heads_apart}
+use Rattle.report_reader.proofs.Heads.{heads_apart}
 use Rattle.report_reader.proofs.Rows.{one_list, few_rows}
-use Rattle.report_reader.proofs.Calls.{calls_way, rows_no_call, book_numbered, call_count, few_batches, few_calls, book_fits, book_entries, books_apart}
+use Rattle.report_reader.proofs.Books.{calls_way, rows_no_call, book_numbered, call_count, few_batches, few_calls, book_fits, book_entries, books_apart}
 use Rattle.report_reader.proofs.Groups.{one_book}
 
 -- what stands behind the head line of a report

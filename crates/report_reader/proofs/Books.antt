@@ -51,10 +51,10 @@ calls_way text (call ∷ calls) [] rest rest' a b =
     absurd (b.ends call (flat_map call_line calls ++ rest) (record { written = sym (append_assoc (call_line call) (flat_map call_line calls) rest) ∙ a.written ∙ sym b.written; fits = a.fits.0 }))
 calls_way text (call ∷ calls) (call' ∷ calls') rest rest' a b =
     let first = one_call text call call' (flat_map call_line calls ++ rest) (flat_map call_line calls' ++ rest')
-      (record { written = sym (append_assoc (call_line call) (flat_map call_line calls) rest) ∙ a.written; fits = a.fits.0 })
-      (record { written = sym (append_assoc (call_line call') (flat_map call_line calls') rest') ∙ b.written; fits = b.fits.0 }) in
+    (record { written = sym (append_assoc (call_line call) (flat_map call_line calls) rest) ∙ a.written; fits = a.fits.0 })
+    (record { written = sym (append_assoc (call_line call') (flat_map call_line calls') rest') ∙ b.written; fits = b.fits.0 }) in
     let more = calls_way (flat_map call_line calls' ++ rest') calls calls' rest rest'
-      (record { written = first.1; fits = a.fits.1; ends = a.ends }) (record { written = refl; fits = b.fits.1; ends = b.ends }) in
+    (record { written = first.1; fits = a.fits.1; ends = a.ends }) (record { written = refl; fits = b.fits.1; ends = b.ends }) in
     (cc (first.0, more.0), more.1)
 
 -- the lines of rows do not begin with the line of a call
@@ -62,7 +62,7 @@ pub rows_no_call : (rows : List Row) (batch place : ℕ) (entry : Entry) (rest :
 rows_no_call [] batch place entry rest is = some_entry batch place entry rest is
 rows_no_call (row ∷ rows) batch place entry rest is =
     let wrong : codes "batch " ++ (decimal batch ++ place_from place entry rest) ≡ codes "leaf " ++ (decimal row.leaf ++ worker_from row (flat_map row_line rows)) =
-      sym (entry_whole batch place entry rest) ∙ is ∙ row_whole row (flat_map row_line rows) in
+    sym (entry_whole batch place entry rest) ∙ is ∙ row_whole row (flat_map row_line rows) in
     let first : 98 ≡ 108 = ap (λ (text : List ℕ). get_or text 0 0) wrong in
     absurd (omega (arith, first))
 
@@ -151,7 +151,7 @@ batch_apart b p (e ∷ es) [] rest rest' fits fits' ends ends' is =
     absurd (ends' p e (batch_lines b (p + 1) es ++ rest) fits.0 (sym (append_assoc (entry_line b p e) (batch_lines b (p + 1) es) rest) ∙ is))
 batch_apart b p (e ∷ es) (e' ∷ es') rest rest' fits fits' ends ends' is =
     let first = calls_apart b b p p e e' (batch_lines b (p + 1) es ++ rest) (batch_lines b (p + 1) es' ++ rest') fits.0 fits'.0
-      (sym (append_assoc (entry_line b p e) (batch_lines b (p + 1) es) rest) ∙ is ∙ append_assoc (entry_line b p e') (batch_lines b (p + 1) es') rest') in
+    (sym (append_assoc (entry_line b p e) (batch_lines b (p + 1) es) rest) ∙ is ∙ append_assoc (entry_line b p e') (batch_lines b (p + 1) es') rest') in
     let more = batch_apart b (p + 1) es es' rest rest' fits.1 fits'.1 ends ends' first.3 in
     (cc (first.2, more.0), more.1)
 
@@ -180,8 +180,8 @@ books_apart b ((e ∷ es) ∷ book) [] rows rows' some some' fits fits' is =
     absurd (rows_no_call rows' b 0 e (batch_lines b (0 + 1) es ++ (book_lines (b + 1) book ++ flat_map row_line rows)) (sym whole ∙ is))
 books_apart b (es ∷ book) (es' ∷ book') rows rows' some some' fits fits' is =
     let first = batch_apart b 0 es es' (book_lines (b + 1) book ++ flat_map row_line rows) (book_lines (b + 1) book' ++ flat_map row_line rows')
-      (front FitsEntry es (flat book) fits) (front FitsEntry es' (flat book') fits')
-      (next_elsewhere b book rows some.1 (back FitsEntry es (flat book) fits)) (next_elsewhere b book' rows' some'.1 (back FitsEntry es' (flat book') fits'))
-      (sym (append_assoc (batch_lines b 0 es) (book_lines (b + 1) book) (flat_map row_line rows)) ∙ is ∙ append_assoc (batch_lines b 0 es') (book_lines (b + 1) book') (flat_map row_line rows')) in
+    (front FitsEntry es (flat book) fits) (front FitsEntry es' (flat book') fits')
+    (next_elsewhere b book rows some.1 (back FitsEntry es (flat book) fits)) (next_elsewhere b book' rows' some'.1 (back FitsEntry es' (flat book') fits'))
+    (sym (append_assoc (batch_lines b 0 es) (book_lines (b + 1) book) (flat_map row_line rows)) ∙ is ∙ append_assoc (batch_lines b 0 es') (book_lines (b + 1) book') (flat_map row_line rows')) in
     let more = books_apart (b + 1) book book' rows rows' some.1 some'.1 (back FitsEntry es (flat book) fits) (back FitsEntry es' (flat book') fits') first.1 in
     (cc (first.0, more.0), more.1)

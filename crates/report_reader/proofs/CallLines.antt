@@ -114,7 +114,7 @@ pub call_read : {text : List ℕ} {b p w l : ℕ} {op : Op} {reply : Reply} {t1 
     → IsCallThen text (record { batch = b; place = p; entry = record { leaf = l; worker = w; op = op; reply = reply } }) rest
 call_read {text = text} {b = b} {p = p} {w = w} {l = l} {op = op} {reply = reply} {t1 = t1} {t2 = t2} {t3 = t3} {t4 = t4} {t5 = t5} {t6 = t6} {rest = rest} batch place worker leaf blank o r = record {
   written = entry_whole b p (record { leaf = l; worker = w; op = op; reply = reply }) rest
-    ∙ nested_call (codes "batch ") (decimal b) (codes " place ") (decimal p) (codes " worker ") (decimal w) (codes " leaf ") (decimal l) (codes " ") (op_words op) (codes " -> ") (reply_words reply) (codes "\n") rest
+      ∙ nested_call (codes "batch ") (decimal b) (codes " place ") (decimal p) (codes " worker ") (decimal w) (codes " leaf ") (decimal l) (codes " ") (op_words op) (codes " -> ") (reply_words reply) (codes "\n") rest
       text t1 t2 t3 t4 t5 t6 (written_of batch) (written_of place) (written_of worker) (written_of leaf) blank o.written r.written;
   fits = record {
     batch = omega (arith, batch.read.within);
@@ -143,7 +143,11 @@ calls_apart b b' p p' e e' rest rest' fits fits' is =
     let leaf = field_apart (codes " leaf ") e.leaf e'.leaf (blank_from e rest) (blank_from e' rest') refl refl worker.1 in
     let ops = append_cancel_left (codes " ") (op_from e rest) (op_from e' rest') leaf.1 in
     let op = one_op (op_from e' rest') e.op e'.op (reply_from e rest) (reply_from e' rest') (op_at (op_from e' rest') e rest fits ops) (op_at (op_from e' rest') e' rest' fits' refl) in
-    let reply = one_reply (reply_from e' rest') e.reply e'.reply rest rest' (reply_at (reply_from e' rest') e rest fits op.1) (reply_at (reply_from e' rest') e' rest' fits' refl) in
-    (batch.0, place.0, same_entry e.leaf e'.leaf e.worker e'.worker e.op e'.op e.reply e'.reply
-      (decimal_injective e.leaf e'.leaf (omega (arith, fits.leaf)) (omega (arith, fits'.leaf)) leaf.0)
-      (decimal_injective e.worker e'.worker (omega (arith, fits.worker)) (omega (arith, fits'.worker)) worker.0) op.0 reply.0, reply.1)
+    let reply = one_reply (reply_from e' rest') e.reply e'.reply rest rest' (reply_at (reply_from e' rest') e rest fits op.1) (reply_at (reply_from e' rest') e' rest' fits' refl) in (
+      batch.0,
+      place.0,
+      same_entry e.leaf e'.leaf e.worker e'.worker e.op e'.op e.reply e'.reply
+          (decimal_injective e.leaf e'.leaf (omega (arith, fits.leaf)) (omega (arith, fits'.leaf)) leaf.0)
+          (decimal_injective e.worker e'.worker (omega (arith, fits.worker)) (omega (arith, fits'.worker)) worker.0) op.0 reply.0,
+      reply.1,
+    )

@@ -71,7 +71,7 @@ pub stops : {words : List ℕ} {most : ℕ} {text : List ℕ} → NoField words 
 stops none m behind within ends whole =
     none m behind (record { behind = decimal m ++ behind; starts = whole; read = record { written = refl; ends = ends; within = within } })
 
--- the greatest numbers of 32 and of 64 bits have decimals that tell them apart
+-- the greatest numbers of 32 and of 64 bits, as bounds of what is read
 pub small : 4294967295 < 2 ^ 64
 small = omega arith
 

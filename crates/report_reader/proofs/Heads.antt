@@ -82,7 +82,7 @@ pub head_read : {most : ℕ} {text : List ℕ} {w l c b : ℕ} {t1 t2 t3 t4 rest
     → IsHeadThen most text (record { workers = w; leaves = l; calls = c; batches = b }) rest
 head_read {text = text} {w = w} {l = l} {c = c} {b = b} {t1 = t1} {t2 = t2} {t3 = t3} {t4 = t4} {rest = rest} workers some leaves calls batches ends = record {
   written = head_whole w l c b rest ∙ nested (codes "workers ") (decimal w) (codes " leaves ") (decimal l) (codes " calls ") (decimal c) (codes " batches ") (decimal b) (codes "\n") rest text t1 t2 t3 t4
-    (written_of workers) (written_of leaves) (written_of calls) (written_of batches) ends;
+      (written_of workers) (written_of leaves) (written_of calls) (written_of batches) ends;
   some = some;
   few = workers.read.within;
   leaves = leaves.read.within;

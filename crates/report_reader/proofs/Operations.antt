@@ -134,11 +134,11 @@ one_op text o o' rest rest' a b =
     let v = verb_of o in
     let v' = verb_of o' in
     let verbs = verb_way v v' (argument_text v (argument_of o) ++ (codes " -> " ++ rest)) (argument_text v' (argument_of o') ++ (codes " -> " ++ rest'))
-      (op_whole o rest text a.written ∙ sym (op_whole o' rest' text b.written)) in
+    (op_whole o rest text a.written ∙ sym (op_whole o' rest' text b.written)) in
     let behind : argument_text v (argument_of o) ++ (codes " -> " ++ rest) ≡ argument_text v (argument_of o') ++ (codes " -> " ++ rest') =
-      verbs.1 ∙ ap (λ w. argument_text w (argument_of o') ++ (codes " -> " ++ rest')) (sym verbs.0) in
+    verbs.1 ∙ ap (λ w. argument_text w (argument_of o') ++ (codes " -> " ++ rest')) (sym verbs.0) in
     let parts = digits_apart (argument_text v (argument_of o)) (argument_text v (argument_of o')) (codes " -> " ++ rest) (codes " -> " ++ rest')
-      (argument_digits v (argument_of o)) (argument_digits v (argument_of o')) refl refl behind in
+    (argument_digits v (argument_of o)) (argument_digits v (argument_of o')) refl refl behind in
     let same : op_of_verb v (argument_of o) ≡ op_of_verb v (argument_of o') = same_op v (argument_of o) (argument_of o') (omega (arith, a.fits)) (omega (arith, b.fits)) parts.0 in
     (sym (op_back o) ∙ same ∙ ap (λ w. op_of_verb w (argument_of o')) verbs.0 ∙ op_back o', append_cancel_left (codes " -> ") rest rest' parts.1)
 
@@ -203,10 +203,10 @@ op_small PqTake n is = omega arith
 pub op_read : (verb : Verb) (n : ℕ) (text t1 t2 rest : List ℕ) → verb_words verb ++ t1 ≡ text → IsArgumentThen verb t1 n t2 → codes " -> " ++ rest ≡ t2 → IsOpThen text (op_of_verb verb n) rest
 op_read verb n text t1 t2 rest first argument arrow = record {
   written =
-    ap (λ (front : List ℕ). front ++ (codes " -> " ++ rest)) (op_written verb n)
-    ∙ append_assoc (verb_words verb) (argument_text verb n) (codes " -> " ++ rest)
-    ∙ ap (λ (t : List ℕ). verb_words verb ++ (argument_text verb n ++ t)) arrow
-    ∙ ap (λ (t : List ℕ). verb_words verb ++ t) (argument_written verb t1 n t2 argument) ∙ first;
+      ap (λ (front : List ℕ). front ++ (codes " -> " ++ rest)) (op_written verb n)
+      ∙ append_assoc (verb_words verb) (argument_text verb n) (codes " -> " ++ rest)
+      ∙ ap (λ (t : List ℕ). verb_words verb ++ (argument_text verb n ++ t)) arrow
+      ∙ ap (λ (t : List ℕ). verb_words verb ++ t) (argument_written verb t1 n t2 argument) ∙ first;
   fits = op_small verb n (argument_small verb t1 n t2 argument);
 }
 

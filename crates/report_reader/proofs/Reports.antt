@@ -35,7 +35,7 @@ same_report w w' h h' r r' ew eh er = cc
 pub one_report : (text : List ℕ) (a b : Report) → HasText text a → HasText text b → a ≡ b
 one_report text a b is is' =
     let heads = heads_apart a.workers b.workers (length a.rows) (length b.rows) (length (flat a.history)) (length (flat b.history)) (length a.history) (length b.history) (lines_of a) (lines_of b)
-      is.raw.few is'.raw.few (whole is ∙ sym (whole is')) in
+    is.raw.few is'.raw.few (whole is ∙ sym (whole is')) in
     let books = books_apart 0 a.history b.history a.rows b.rows is.raw.batches is'.raw.batches is.raw.entries is'.raw.entries heads.1 in
     let rows = one_list (flat_map row_line b.rows) a.rows b.rows (record { written = books.1; fits = is.raw.rows }) (record { written = refl; fits = is'.raw.rows }) in
     same_report a.workers b.workers a.history b.history a.rows b.rows heads.0 books.0 rows
@@ -82,9 +82,9 @@ module _ {text : List ℕ} {report : Report} (has : HasText text report) where
   -- behind a head line that was read stand the lines of the report
   module _ {most : ℕ} (small : most < 2 ^ 64) (is : most ≡ length text) {head : Head} {rest : List ℕ} (read : IsHeadThen most text head rest) where
     heads : (report.workers ≡ head.workers) × (lines_of report ≡ rest) × (decimal (length report.rows) ≡ decimal head.leaves)
-      × (decimal (length (flat report.history)) ≡ decimal head.calls) × (decimal (length report.history) ≡ decimal head.batches)
+        × (decimal (length (flat report.history)) ≡ decimal head.calls) × (decimal (length report.history) ≡ decimal head.batches)
     heads = heads_apart report.workers head.workers (length report.rows) head.leaves (length (flat report.history)) head.calls (length report.history) head.batches (lines_of report) rest
-      has.raw.few read.few (whole has ∙ sym read.written)
+        has.raw.few read.few (whole has ∙ sym read.written)
 
     -- and behind the calls that were read, those of its rows
     module _ {calls : List Numbered} {more : List ℕ} (read_calls : AreCallsThen rest calls more) where
@@ -127,5 +127,5 @@ report_read {text = text} {head = head} {rest = rest} {more = more} {calls = cal
         rows = are_rows.fits;
       };
       written = append_assoc (head_line head.workers (length rows) (length (flat book)) (length book)) (book_lines 0 book) (flat_map row_line rows)
-        ∙ ap (λ (t : List ℕ). t ++ (book_lines 0 book ++ flat_map row_line rows)) start ∙ ap (λ (t : List ℕ). head_line head.workers head.leaves head.calls head.batches ++ t) behind ∙ is.written;
+          ∙ ap (λ (t : List ℕ). t ++ (book_lines 0 book ++ flat_map row_line rows)) start ∙ ap (λ (t : List ℕ). head_line head.workers head.leaves head.calls head.batches ++ t) behind ∙ is.written;
     }

@@ -85,7 +85,7 @@ pub row_read : {text : List ℕ} {l w s e v : ℕ} {t1 t2 t3 t4 t5 rest : List �
     → IsRowThen text (record { leaf = l; worker = w; start = s; end = e; value = v }) rest
 row_read {text = text} {l = l} {w = w} {s = s} {e = e} {v = v} {t1 = t1} {t2 = t2} {t3 = t3} {t4 = t4} {t5 = t5} {rest = rest} leaf worker start end value ends = record {
   written = row_whole (record { leaf = l; worker = w; start = s; end = e; value = v }) rest
-    ∙ nested (codes "leaf ") (decimal l) (codes " worker ") (decimal w) (codes " start ") (decimal s) (codes " end ") (decimal e) (codes " value ") (decimal v) (codes "\n") rest text t1 t2 t3 t4 t5
+      ∙ nested (codes "leaf ") (decimal l) (codes " worker ") (decimal w) (codes " start ") (decimal s) (codes " end ") (decimal e) (codes " value ") (decimal v) (codes "\n") rest text t1 t2 t3 t4 t5
       (written_of leaf) (written_of worker) (written_of start) (written_of end) (written_of value) ends;
   fits = record {
     leaf = omega (arith, leaf.read.within);
@@ -108,13 +108,15 @@ one_row text a b rest rest' is is' =
     let worker = field_apart (codes " worker ") a.worker b.worker (start_from a rest) (start_from b rest') refl refl leaf.1 in
     let start = field_apart (codes " start ") a.start b.start (end_from a rest) (end_from b rest') refl refl worker.1 in
     let end = field_apart (codes " end ") a.end b.end (value_from a rest) (value_from b rest') refl refl start.1 in
-    let value = field_apart (codes " value ") a.value b.value (codes "\n" ++ rest) (codes "\n" ++ rest') refl refl end.1 in
-    (same_row a.leaf b.leaf a.worker b.worker a.start b.start a.end b.end a.value b.value
-      (decimal_injective a.leaf b.leaf (omega (arith, is.fits.leaf)) (omega (arith, is'.fits.leaf)) leaf.0)
-      (decimal_injective a.worker b.worker (omega (arith, is.fits.worker)) (omega (arith, is'.fits.worker)) worker.0)
-      (decimal_injective a.start b.start is.fits.start is'.fits.start start.0)
-      (decimal_injective a.end b.end is.fits.end is'.fits.end end.0)
-      (decimal_injective a.value b.value is.fits.value is'.fits.value value.0), append_cancel_left (codes "\n") rest rest' value.1)
+    let value = field_apart (codes " value ") a.value b.value (codes "\n" ++ rest) (codes "\n" ++ rest') refl refl end.1 in (
+      same_row a.leaf b.leaf a.worker b.worker a.start b.start a.end b.end a.value b.value
+          (decimal_injective a.leaf b.leaf (omega (arith, is.fits.leaf)) (omega (arith, is'.fits.leaf)) leaf.0)
+          (decimal_injective a.worker b.worker (omega (arith, is.fits.worker)) (omega (arith, is'.fits.worker)) worker.0)
+          (decimal_injective a.start b.start is.fits.start is'.fits.start start.0)
+          (decimal_injective a.end b.end is.fits.end is'.fits.end end.0)
+          (decimal_injective a.value b.value is.fits.value is'.fits.value value.0),
+      append_cancel_left (codes "\n") rest rest' value.1,
+    )
 
 -- the line of a row is not empty
 some_line : (text : List ℕ) (row : Row) (rest : List ℕ) → IsRowThen text row rest → text ≡ [] → ⊥
@@ -143,7 +145,7 @@ rows_left (row ∷ so_far) [] text rest is fits are =
     absurd (some_line text row (flat_map row_line so_far ++ rest) (record { written = sym (append_assoc (row_line row) (flat_map row_line so_far) rest) ∙ is; fits = fits.0 }) (sym are.written))
 rows_left (row ∷ so_far) (row' ∷ rows) text rest is fits are =
     let same = one_row text row row' (flat_map row_line so_far ++ rest) (flat_map row_line rows)
-      (record { written = sym (append_assoc (row_line row) (flat_map row_line so_far) rest) ∙ is; fits = fits.0 }) (first_row text row' rows are) in
+    (record { written = sym (append_assoc (row_line row) (flat_map row_line so_far) rest) ∙ is; fits = fits.0 }) (first_row text row' rows are) in
     rows_left so_far rows (flat_map row_line rows) rest same.1 fits.1 (record { written = refl; fits = are.fits.1 })
 
 none_left : (rows : List Row) (rest : List ℕ) → AreRowsOf rest rows → (rest ≡ [] → ⊥) → ((row : Row) (more : List ℕ) → IsRowThen rest row more → ⊥) → ⊥

@@ -11,7 +11,7 @@ pub record HasText (text : List ℕ) (report : Report) : Type 0 where
   pub raw : IsRaw report
   pub written : report_text report ≡ text
 
--- A report is read only of its text, and none only where no raw report has the text. Or memory ran out.
+-- the answer to a text: a raw report that has it, or that no raw report has it, or that memory ran out
 abbrev pub IsReading : List ℕ → Result Report ReadReportErr → Type 0
 IsReading text (Ok report) = HasText text report
 IsReading text (Err NoReport) = (report : Report) → HasText text report → ⊥

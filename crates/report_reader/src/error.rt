@@ -5,7 +5,7 @@ ghost use Rattle.report_reader.specs.declared.error.ReadReportErr.TheVariants.{M
 use std::alloc::AllocError;
 
 /// Why a text gave no report.
-#[derive(Clone, Copy, Debug, PartialEq, Eq)]
+#[derive(Clone, Copy)]
 pub enum ReadReportErr {
     /// No raw report has this text.
     NoReport,

@@ -20,9 +20,7 @@ impl Head {
         ensures { IsTrue result
             ↔ (self.now.leaves ≡ leaves) × (self.now.calls ≡ calls) × (self.now.batches ≡ batches) }
     {
-        self.leaves == leaves as u64
-            && self.calls == calls as u64
-            && self.batches == batches as u64
+        self.leaves == leaves as u64 && self.calls == calls as u64 && self.batches == batches as u64
     }
 }
 

@@ -27,8 +27,8 @@ returns-then-is_empty-clause-none c book are =
 pub loop-rest-smaller : goal.loop-rest-smaller
 loop-rest-smaller c =
     let less : length c.in_ok-entries.more.now < length c.loop-rest.rest.now =
-      shorter c.loop-rest.rest.now c.in_ok-entries.more.now c.len.result c.in_ok-entries.entries.items c.in_ok-entries.ensures
-      (some_items c.in_ok-entries.entries.items c.in_ok-entries.entries.len c.in_ok-entries.entries.ok.0 (sym c.is_empty-in-loop-rest.ensures ∙ c.if-is_empty.false)) in
+    shorter c.loop-rest.rest.now c.in_ok-entries.more.now c.len.result c.in_ok-entries.entries.items c.in_ok-entries.ensures
+    (some_items c.in_ok-entries.entries.items c.in_ok-entries.entries.len c.in_ok-entries.entries.ok.0 (sym c.is_empty-in-loop-rest.ensures ∙ c.if-is_empty.false)) in
     less
 
 pub loop-rest-preserved : goal.loop-rest-preserved
@@ -39,10 +39,10 @@ loop-rest-preserved c =
     rw (c.in_ok-push.ensures.items, c.of.ensures) (record {
       read = read_more c.loop-rest.book.items batch c.args.calls.now c.loop-rest.rest.now c.in_ok-entries.more.now c.loop-rest.invariant.read begins;
       some = some_more c.loop-rest.book.items batch c.loop-rest.invariant.some
-        (some_items batch c.in_ok-entries.entries.len c.in_ok-entries.entries.ok.0 (sym c.is_empty-in-loop-rest.ensures ∙ c.if-is_empty.false));
+          (some_items batch c.in_ok-entries.entries.len c.in_ok-entries.entries.ok.0 (sym c.is_empty-in-loop-rest.ensures ∙ c.if-is_empty.false));
       left = λ book are. (
-        let left = c.loop-rest.invariant.left book are in
-        let more = left_more (length c.loop-rest.book.items) c.loop-rest.rest.now c.in_ok-entries.more.now batch left.0 (not_empty c.loop-rest.rest.now c.is_empty.result c.is_empty.ensures c.loop-rest-test.true) begins left.1 in
-        let one : length (c.loop-rest.book.items ++ batch ∷ []) ≡ length c.loop-rest.book.items + 1 = length_push c.loop-rest.book.items batch in
-        (more.0, rw one more.1));
+          let left = c.loop-rest.invariant.left book are in
+          let more = left_more (length c.loop-rest.book.items) c.loop-rest.rest.now c.in_ok-entries.more.now batch left.0 (not_empty c.loop-rest.rest.now c.is_empty.result c.is_empty.ensures c.loop-rest-test.true) begins left.1 in
+          let one : length (c.loop-rest.book.items ++ batch ∷ []) ≡ length c.loop-rest.book.items + 1 = length_push c.loop-rest.book.items batch in
+          (more.0, rw one more.1));
     })

@@ -28,15 +28,15 @@ returns-then-not-counts-clause-reading c report has =
     no_report_counts has (omega arith) refl c.in-Some.ensures.some c.in_ok-calls.ensures (some_of c.in_ok-rows.field-0 c.in-Some-2.rows _ c.in-Some-2.is c.in_ok-rows.ensures.some)
     (rw c.as_slice.ensures.value at batches)
     (λ counts.
-      let yes : c.counts.result ≡ true = c.counts.ensures.1 (omega (arith, counts.0, c.len.ensures, c.in-Some-2.rows.ok.0), omega (arith, counts.1, c.len-2.ensures, c.in_ok-calls.calls.ok.0), omega (arith, counts.2, c.len-3.ensures, c.in-Some-3.batches.ok.0)) in
-      cc (yes, c.if-not-counts.true))
+    let yes : c.counts.result ≡ true = c.counts.ensures.1 (omega (arith, counts.0, c.len.ensures, c.in-Some-2.rows.ok.0), omega (arith, counts.1, c.len-2.ensures, c.in_ok-calls.calls.ok.0), omega (arith, counts.2, c.len-3.ensures, c.in-Some-3.batches.ok.0)) in
+    cc (yes, c.if-not-counts.true))
 
 pub invariant_of-result : goal.invariant_of-result
 invariant_of-result c =
     let counts = c.counts.ensures.0 c.if-not-counts.false in
     let batches = some_of c.in_ok-batches.field-0 c.in-Some-3.batches _ c.in-Some-3.is c.in_ok-batches.ensures.some in
     let has = report_read c.in-Some.ensures.some c.in_ok-calls.ensures (some_of c.in_ok-rows.field-0 c.in-Some-2.rows _ c.in-Some-2.is c.in_ok-rows.ensures.some) (rw c.as_slice.ensures.value at batches)
-      (omega (arith, counts.0, c.len.ensures, c.in-Some-2.rows.ok.0), omega (arith, counts.1, c.len-2.ensures, c.in_ok-calls.calls.ok.0), omega (arith, counts.2, c.len-3.ensures, c.in-Some-3.batches.ok.0)) in
+    (omega (arith, counts.0, c.len.ensures, c.in-Some-2.rows.ok.0), omega (arith, counts.1, c.len-2.ensures, c.in_ok-calls.calls.ok.0), omega (arith, counts.2, c.len-3.ensures, c.in-Some-3.batches.ok.0)) in
     rw c.of.ensures has.raw
 
 pub returns-clause-reading : goal.returns-clause-reading
@@ -44,7 +44,7 @@ returns-clause-reading c =
     let counts = c.counts.ensures.0 c.if-not-counts.false in
     let batches = some_of c.in_ok-batches.field-0 c.in-Some-3.batches _ c.in-Some-3.is c.in_ok-batches.ensures.some in
     let has = report_read c.in-Some.ensures.some c.in_ok-calls.ensures (some_of c.in_ok-rows.field-0 c.in-Some-2.rows _ c.in-Some-2.is c.in_ok-rows.ensures.some) (rw c.as_slice.ensures.value at batches)
-      (omega (arith, counts.0, c.len.ensures, c.in-Some-2.rows.ok.0), omega (arith, counts.1, c.len-2.ensures, c.in_ok-calls.calls.ok.0), omega (arith, counts.2, c.len-3.ensures, c.in-Some-3.batches.ok.0)) in
+    (omega (arith, counts.0, c.len.ensures, c.in-Some-2.rows.ok.0), omega (arith, counts.1, c.len-2.ensures, c.in_ok-calls.calls.ok.0), omega (arith, counts.2, c.len-3.ensures, c.in-Some-3.batches.ok.0)) in
     rw c.of.ensures has
 
 pub returns-clause-reads : goal.returns-clause-reads
@@ -52,5 +52,5 @@ returns-clause-reads c = λ report is. (
     let counts = c.counts.ensures.0 c.if-not-counts.false in
     let batches = some_of c.in_ok-batches.field-0 c.in-Some-3.batches _ c.in-Some-3.is c.in_ok-batches.ensures.some in
     let has = report_read c.in-Some.ensures.some c.in_ok-calls.ensures (some_of c.in_ok-rows.field-0 c.in-Some-2.rows _ c.in-Some-2.is c.in_ok-rows.ensures.some) (rw c.as_slice.ensures.value at batches)
-      (omega (arith, counts.0, c.len.ensures, c.in-Some-2.rows.ok.0), omega (arith, counts.1, c.len-2.ensures, c.in_ok-calls.calls.ok.0), omega (arith, counts.2, c.len-3.ensures, c.in-Some-3.batches.ok.0)) in
+    (omega (arith, counts.0, c.len.ensures, c.in-Some-2.rows.ok.0), omega (arith, counts.1, c.len-2.ensures, c.in_ok-calls.calls.ok.0), omega (arith, counts.2, c.len-3.ensures, c.in-Some-3.batches.ok.0)) in
     rw c.of.ensures (one_report c.args.text.now _ report has is))

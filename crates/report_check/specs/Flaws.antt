@@ -1,0 +1,36 @@
+-- The flaws of a report: the parts of `Lawful` in their order, and the first that a report does not keep.
+use Rattle.std.specs.Prelude.{ℕ, ◌<◌}
+use Rattle.std.specs.List.{AllByRecursion}
+use Rattle.sp_order.specs.Jobs.{JobValue}
+use Rattle.batch_history.specs.Book.{IsLegal, IsBatch}
+use Rattle.batch_history.specs.Lawful.{HasRows, KeepsOrder, HasCalls, KeepsTicks, HasValues}
+use Rattle.batch_history.specs.declared.report.Report.{Report}
+use Rattle.report_check.specs.declared.flaw.Flaw.{Flaw}
+use Rattle.report_check.specs.declared.flaw.Flaw.TheVariants.{Text, Rows, Order, Calls, Replies, Ticks, Batches, Values}
+
+-- what a report that is free of the flaw keeps, where the number of workers is its own; a report has a text
+abbrev pub Part : JobValue → Report → Flaw → Type 0
+Part job report Text = Unit {0}
+Part job report Rows = HasRows job report.workers report
+Part job report Order = KeepsOrder job report
+Part job report Calls = HasCalls job report
+Part job report Replies = IsLegal report.history
+Part job report Ticks = KeepsTicks report
+Part job report Batches = AllByRecursion IsBatch report.history
+Part job report Values = HasValues job report
+
+-- the place of a flaw in their order
+abbrev pub rank : Flaw → ℕ
+rank Text = 1
+rank Rows = 2
+rank Order = 3
+rank Calls = 4
+rank Replies = 5
+rank Ticks = 6
+rank Batches = 7
+rank Values = 8
+
+-- The flaw is the first one of the report: it keeps the parts of all flaws before this one, and not that of this one.
+pub record FailsFirst (job : JobValue) (report : Report) (flaw : Flaw) : Type 0 where
+  pub earlier : (other : Flaw) → rank other < rank flaw → Part job report other
+  pub failed : Part job report flaw → ⊥

@@ -1,0 +1,37 @@
+//! Whether the replies are those of the serial objects: the operations are served one after another.
+ghost use Rattle.std.specs.Prelude.{◌≡◌, ◌↔◌, ◌+◌, ◌*◌, ◌≤◌, ◌^◌, true, false, length, IsTrue, IfOk};
+ghost use Rattle.batch_history.specs.Book.{flat, IsLegal, IsLegalFrom};
+ghost use Rattle.batch_history.specs.Serving.{served};
+
+use batch_history::{Batch, Entry};
+use seq_objects::Plain;
+use std::alloc::{AllocError, Global};
+
+/// Serves the operations of the entries one after another, as long as each reply is the entry's.
+fn serve_batch(objects: &mut Plain, entries: &[Entry]) -> Result<bool, AllocError>
+    requires { objects.old.counter + length entries.now * 2 ^ 32 ≤ 2 ^ 64 }
+    ensures same { IfOk result (λ same. same ≡ true → IsLegalFrom objects.old entries.now × (objects.new ≡ served objects.old entries.now)) }
+    ensures not { IfOk result (λ same. same ≡ false → IsLegalFrom objects.old entries.now → ⊥) }
+{
+    for entry in entries {
+        let reply = objects.serve(entry.op)?;
+        if reply != entry.reply {
+            return Ok(false);
+        }
+    }
+    Ok(true)
+}
+
+/// Whether each reply is that of the serial objects, from the opening objects on.
+pub(crate) fn are_legal(alloc: Global, book: &[Batch]) -> Result<bool, AllocError>
+    requires { length (flat book.now) ≤ 2 ^ 32 }
+    ensures { IfOk result (λ legal. IsTrue legal ↔ IsLegal book.now) }
+{
+    let mut objects = Plain::new(alloc);
+    for batch in book {
+        if !serve_batch(&mut objects, batch.entries())? {
+            return Ok(false);
+        }
+    }
+    Ok(true)
+}

@@ -2,8 +2,8 @@
 ghost use Rattle.std.specs.Prelude.{◌≡◌, ◌↔◌, ℕ, ◌<◌, ◌≤◌, ◌+◌, [], length, IsTrue, IfSome, IfNone, IfOk, min, max};
 ghost use Rattle.sp_order.specs.Precedence.{tree_of, leaves, leaf_count, IsBefore};
 ghost use Rattle.batch_history.specs.Lawful.{ForRows, HasRows, KeepsOrder};
-ghost use Rattle.report_check.specs.Code.Parts.{report_of, of_rows};
-ghost use Rattle.report_check.specs.Code.Spans.{KeepsBefore, KeepsAlone, IsSpanOf, AreStarts, AreTimed};
+ghost use Rattle.report_walks.specs.Parts.{report_of, of_rows};
+ghost use Rattle.report_walks.specs.Code.Spans.{KeepsBefore, KeepsAlone, IsSpanOf, AreStarts, AreTimed};
 
 use batch_history::Row;
 use sp_order::{Job, Shape};
@@ -111,7 +111,7 @@ fn keeps_before(job: &Job, rows: &[Row]) -> bool
 }
 
 /// Whether each leaf ends before those start that it is before, and before or behind each other leaf of its worker.
-pub(crate) fn keeps_order(alloc: Global, job: &Job, rows: &[Row]) -> Result<bool, AllocError>
+pub fn keeps_order(alloc: Global, job: &Job, rows: &[Row]) -> Result<bool, AllocError>
     requires rows { (workers : ℕ) × (workers ≤ 32) × HasRows job.now workers (report_of workers [] rows.now) }
     ensures { IfOk result (λ keeps. IsTrue keeps ↔ KeepsOrder job.now (of_rows rows.now)) }
 {

@@ -2,8 +2,8 @@
 ghost use Rattle.std.specs.Prelude.{◌↔◌, ◌<◌, ℕ, length, IsTrue};
 ghost use Rattle.batch_history.specs.declared.batch.Entry.{Entry as EntryOf};
 ghost use Rattle.batch_history.specs.Lawful.{KeepsTicks, IsInBatch};
-ghost use Rattle.report_check.specs.Code.Parts.{of_calls};
-ghost use Rattle.report_check.specs.Code.Ticks.{HaveRows, IsLatest, EndFrom};
+ghost use Rattle.report_walks.specs.Parts.{of_calls};
+ghost use Rattle.report_walks.specs.Code.Ticks.{HaveRows, IsLatest, EndFrom};
 
 use batch_history::{Batch, Entry, Row};
 
@@ -34,7 +34,7 @@ fn all_end_from(entries: &[Entry], rows: &[Row], tick: u64) -> bool
 
 /// Whether each call whose leaf ended before the leaf of another one started stands in an earlier batch. A leaf of a
 /// batch that ends before the latest start of the calls up to this batch is one that does not.
-pub(crate) fn keeps_ticks(book: &[Batch], rows: &[Row]) -> bool
+pub fn keeps_ticks(book: &[Batch], rows: &[Row]) -> bool
     requires { (number : ℕ) (entry : EntryOf) → IsInBatch (of_calls book.now rows.now) number entry → entry.leaf < length rows.now }
     ensures { IsTrue result ↔ KeepsTicks (of_calls book.now rows.now) }
 {

@@ -1,5 +1,4 @@
 -- Cited by code and proofs only: how far each walk has come.
-pub mod Parts
 pub mod Rows
 pub mod Spans
 pub mod Calls

@@ -3,8 +3,8 @@ use Rattle.std.specs.Prelude.{◌≡◌, ◌≢◌, ℕ, ◌+◌, ◌*◌, ◌<�
 use Rattle.sp_order.specs.Precedence.{Tree, leaves, IsLeafOf, IsBeforeFrom}
 use Rattle.batch_history.specs.Lawful.{ForRows}
 use Rattle.batch_history.specs.declared.row.Row.{Row}
-use Rattle.report_check.specs.declared.order.Span.{Span}
-use Rattle.report_check.specs.Code.Parts.{of_rows}
+use Rattle.report_walks.specs.declared.order.Span.{Span}
+use Rattle.report_walks.specs.Parts.{of_rows}
 
 -- a leaf of this part of a shape that is before another ends before the other starts
 abbrev pub KeepsBefore : List Row → ℕ → Tree → Type 0

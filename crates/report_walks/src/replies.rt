@@ -23,7 +23,7 @@ fn serve_batch(objects: &mut Plain, entries: &[Entry]) -> Result<bool, AllocErro
 }
 
 /// Whether each reply is that of the serial objects, from the opening objects on.
-pub(crate) fn are_legal(alloc: Global, book: &[Batch]) -> Result<bool, AllocError>
+pub fn are_legal(alloc: Global, book: &[Batch]) -> Result<bool, AllocError>
     requires { length (flat book.now) ≤ 2 ^ 32 }
     ensures { IfOk result (λ legal. IsTrue legal ↔ IsLegal book.now) }
 {

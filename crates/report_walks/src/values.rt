@@ -8,7 +8,7 @@ ghost use Rattle.seq_objects.specs.declared.act.Act.TheVariants.{Work};
 ghost use Rattle.sp_order.specs.Precedence.{leaf_count};
 ghost use Rattle.batch_history.specs.Book.{flat};
 ghost use Rattle.batch_history.specs.Lawful.{HasValues};
-ghost use Rattle.report_check.specs.Code.Parts.{of_calls};
+ghost use Rattle.report_walks.specs.Parts.{of_calls};
 
 use crate::steps::spun;
 use batch_history::{Batch, Entry, Row};
@@ -46,7 +46,7 @@ fn have_replies(rows: &[Row], entries: &[Entry]) -> bool
 }
 
 /// Whether each leaf of work has the value of its work, and each one that calls that of its reply.
-pub(crate) fn has_values(job: &Job, book: &[Batch], rows: &[Row]) -> bool
+pub fn has_values(job: &Job, book: &[Batch], rows: &[Row]) -> bool
     requires rows { length rows.now ≡ leaf_count job.now.shape }
     requires leaves { AllByRecursion (λ entry. entry.leaf < length rows.now) (flat book.now) }
     ensures { IsTrue result ↔ HasValues job.now (of_calls book.now rows.now) }

@@ -1,8 +1,8 @@
 //! Whether a report has a row for each leaf, and each tick once: one walk over the rows, with marks for the ticks.
 ghost use Rattle.std.specs.Prelude.{◌≡◌, ◌↔◌, ◌<◌, ◌^◌, true, false, length, IsTrue, IfOk, [], slice_index_or};
 ghost use Rattle.batch_history.specs.Lawful.{HasRows};
-ghost use Rattle.report_check.specs.Code.Parts.{report_of};
-ghost use Rattle.report_check.specs.Code.Rows.{IsRowOf, IsFree, with_taken, AllTaken};
+ghost use Rattle.report_walks.specs.Parts.{report_of};
+ghost use Rattle.report_walks.specs.Code.Rows.{IsRowOf, IsFree, with_taken, AllTaken};
 
 use batch_history::Row;
 use sp_order::Job;
@@ -45,7 +45,7 @@ fn all_taken(taken: &[bool]) -> bool
 
 /// Whether the rows are those of the job's leaves, in order, with workers below the number of workers, and start and end
 /// at each number below twice the leaves, each once.
-pub(crate) fn has_rows(
+pub fn has_rows(
     alloc: Global,
     job: &Job,
     workers: u32,

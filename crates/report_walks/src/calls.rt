@@ -7,8 +7,8 @@ ghost use Rattle.sp_order.specs.Precedence.{leaf_count};
 ghost use Rattle.sp_order.specs.Sources.{IsCallLeaf};
 ghost use Rattle.batch_history.specs.Book.{flat};
 ghost use Rattle.batch_history.specs.Lawful.{HasCalls};
-ghost use Rattle.report_check.specs.Code.Parts.{of_calls};
-ghost use Rattle.report_check.specs.Code.Calls.{CanNote, noted, all_noted, CanNoteAll, HaveValues, op_by, IsServed, AreValuesOf};
+ghost use Rattle.report_walks.specs.Parts.{of_calls};
+ghost use Rattle.report_walks.specs.Code.Calls.{CanNote, noted, all_noted, CanNoteAll, HaveValues, op_by, IsServed, AreValuesOf};
 
 use batch_history::{Batch, Entry, Row};
 use seq_objects::{Act, Op, value};
@@ -130,7 +130,7 @@ fn values_of(
 
 /// Whether the batches have each leaf that calls once, with its operation under the replies of these batches and with
 /// the worker of its row.
-pub(crate) fn has_calls(
+pub fn has_calls(
     alloc: Global,
     job: &Job,
     book: &[Batch],

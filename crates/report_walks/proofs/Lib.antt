@@ -1,0 +1,4 @@
+pub mod Joins
+pub mod Alone
+pub mod TickWalk
+pub mod Maps

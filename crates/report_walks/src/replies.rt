@@ -10,6 +10,7 @@ use std::alloc::{AllocError, Global};
 /// Serves the operations of the entries one after another, as long as each reply is the entry's.
 fn serve_batch(objects: &mut Plain, entries: &[Entry]) -> Result<bool, AllocError>
     requires { objects.old.counter + length entries.now * 2 ^ 32 ≤ 2 ^ 64 }
+    ensures most { IfOk result (λ same. objects.new.counter ≤ objects.old.counter + length entries.now * 2 ^ 32) }
     ensures same { IfOk result (λ same. same ≡ true → IsLegalFrom objects.old entries.now × (objects.new ≡ served objects.old entries.now)) }
     ensures not { IfOk result (λ same. same ≡ false → IsLegalFrom objects.old entries.now → ⊥) }
 {

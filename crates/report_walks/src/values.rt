@@ -2,13 +2,13 @@
 ghost use Rattle.std.specs.Prelude.{◌≡◌, ◌↔◌, ◌<◌, length, slice_get, Some, ℕ, IsTrue};
 ghost use Rattle.std.specs.Option.{ForSome};
 ghost use Rattle.std.specs.List.{AllByRecursion};
-ghost use Rattle.seq_objects.specs.Objects.{value_of};
 ghost use Rattle.seq_objects.specs.Spin.{spin_of};
 ghost use Rattle.seq_objects.specs.declared.act.Act.TheVariants.{Work};
 ghost use Rattle.sp_order.specs.Precedence.{leaf_count};
 ghost use Rattle.batch_history.specs.Book.{flat};
 ghost use Rattle.batch_history.specs.Lawful.{HasValues};
 ghost use Rattle.report_walks.specs.Parts.{of_calls};
+ghost use Rattle.report_walks.specs.Code.Calls.{HasReply};
 
 use crate::steps::spun;
 use batch_history::{Batch, Entry, Row};
@@ -34,8 +34,7 @@ fn have_work(acts: &[Act], rows: &[Row]) -> bool
 /// Whether the row of each entry's leaf has the value of its reply.
 fn have_replies(rows: &[Row], entries: &[Entry]) -> bool
     requires { AllByRecursion (λ entry. entry.leaf < length rows.now) entries.now }
-    ensures { IsTrue result
-        ↔ AllByRecursion (λ entry. ForSome (slice_get rows.now entry.leaf) (λ row. row.value ≡ value_of entry.reply)) entries.now }
+    ensures { IsTrue result ↔ AllByRecursion (HasReply rows.now) entries.now }
 {
     for entry in entries {
         if rows[entry.leaf as usize].value != value(entry.reply) {

@@ -59,3 +59,7 @@ pub record AreValuesOf (acts : List Act) (entries : List Entry) (values : List (
   pub as_many : length values ≡ length acts
   pub once : HasEachOnce (IsCallLeaf acts) (map (λ entry. entry.leaf) entries)
   pub each : (leaf : ℕ) → slice_index_or values leaf None ≡ value_in entries leaf
+
+-- the row of the entry's leaf has the value of its reply
+abbrev pub HasReply : List Row → Entry → Type 0
+HasReply rows entry = ForSome (slice_get rows entry.leaf) (λ row. row.value ≡ value_of entry.reply)

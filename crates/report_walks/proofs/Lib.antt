@@ -4,3 +4,4 @@ pub mod TickWalk
 pub mod Maps
 pub mod Walks
 pub mod RowWalk
+pub mod CallWalk

@@ -1,11 +1,14 @@
 -- Walks over a list that stop at the first element that fails: what is left has a fact exactly where the whole list has.
-use Rattle.std.proofs.Common.{◌≡◌, ℕ, zero, suc, ◌+◌, ◌<◌, ◌≤◌, Bool, true, false, IsTrue, List, [], ◌∷◌, ◌++◌, length, get_or, drop, refl, sym, subst, arith}
+use Rattle.std.proofs.Common.{◌≡◌, ℕ, zero, suc, ◌+◌, ◌<◌, ◌≤◌, Bool, true, false, IsTrue, List, [], ◌∷◌, ◌++◌, length, get_or, drop, refl, sym, subst, ◌∙◌, arith}
 use Rattle.std.specs.Prelude.{◌↔◌}
 use Rattle.std.specs.List.{AllByRecursion}
 use Rattle.std.proofs.lemmas.List.{drop_more, drop_all}
 use Rattle.seq_objects.proofs.Elements.{each_append, each_front}
 use Rattle.batch_history.specs.Book.{flat}
 use Rattle.batch_history.specs.declared.batch.Entry.{Entry}
+use Rattle.batch_history.specs.declared.row.Row.{Row}
+use Rattle.seq_objects.specs.declared.op.Op.TheVariants.{CounterAdd}
+use Rattle.seq_objects.specs.declared.reply.Reply.TheVariants as reply
 
 -- the answer true for what holds, and false for what does not
 pub holds : (P : Type 0) → P → (IsTrue true ↔ P)
@@ -44,22 +47,37 @@ module _ {X : Type 0} (P : X → Type 0) (xs : List X) (i : ℕ) (d : X) (left :
   pub each_done : length xs ≤ i → AllByRecursion P xs
   each_done far = left.0 (begun (AllByRecursion P) xs i far tt)
 
--- a walk that looks at each entry of each batch
-module _ (P : Entry → Type 0) (book : List (List Entry)) (i : ℕ) (d : List Entry) (left : AllByRecursion P (flat (drop i book)) ↔ AllByRecursion P (flat book)) where
-  pub batch_more : i < length book → AllByRecursion P (get_or book i d) → (AllByRecursion P (flat (drop (i + 1) book)) ↔ AllByRecursion P (flat book))
-  batch_more low here = (
-    λ rest. left.0 (closed (λ b. AllByRecursion P (flat b)) book i d low (each_append P (get_or book i d) (flat (drop (i + 1) book)) here rest)),
-    λ all. (each_front P (get_or book i d) (flat (drop (i + 1) book)) (opened (λ b. AllByRecursion P (flat b)) book i d low (left.1 all))).1,
-  )
-
-  pub batch_not : i < length book → (AllByRecursion P (get_or book i d) → ⊥) → AllByRecursion P (flat book) → ⊥
-  batch_not low never all = never (each_front P (get_or book i d) (flat (drop (i + 1) book)) (opened (λ b. AllByRecursion P (flat b)) book i d low (left.1 all))).0
-
-  pub batch_done : length book ≤ i → AllByRecursion P (flat book)
-  batch_done far = left.0 (begun (λ b. AllByRecursion P (flat b)) book i far tt)
-
 -- what holds of each entry of a book holds of those of each batch
-pub batch_each : (P : Entry → Type 0) (book : List (List Entry)) (i : ℕ) (d : List Entry) → i < length book → AllByRecursion P (flat book) → AllByRecursion P (get_or book i d)
-batch_each P [] i d low all = absurd (omega (arith, low))
-batch_each P (batch ∷ book) zero d low all = (each_front P batch (flat book) all).0
-batch_each P (batch ∷ book) (suc i) d low all = batch_each P book i d (omega (arith, low)) (each_front P batch (flat book) all).1
+each_of_batch : (P : Entry → Type 0) (book : List (List Entry)) (i : ℕ) (d : List Entry) → i < length book → AllByRecursion P (flat book) → AllByRecursion P (get_or book i d)
+each_of_batch P [] i d low all = absurd (omega (arith, low))
+each_of_batch P (batch ∷ book) zero d low all = (each_front P batch (flat book) all).0
+each_of_batch P (batch ∷ book) (suc i) d low all = each_of_batch P book i d (omega (arith, low)) (each_front P batch (flat book) all).1
+
+-- a walk that looks at each batch, where `entries` are those of the batch at hand
+module _ (book : List (List Entry)) (i : ℕ) (item entries : List Entry) (low : i < length book) (is : item ≡ get_or book i item) (same : entries ≡ item) where
+  -- the entries that are left, with those of the batch at hand, and back
+  pub flat_opened : (F : List Entry → Type 0) → F (flat (drop i book)) → F (entries ++ flat (drop (i + 1) book))
+  flat_opened F f = subst (λ (es : List Entry). F (es ++ flat (drop (i + 1) book))) (sym (same ∙ is)) (opened (λ b. F (flat b)) book i item low f)
+
+  pub flat_closed : (F : List Entry → Type 0) → F (entries ++ flat (drop (i + 1) book)) → F (flat (drop i book))
+  flat_closed F f = closed (λ b. F (flat b)) book i item low (subst (λ (es : List Entry). F (es ++ flat (drop (i + 1) book))) (same ∙ is) f)
+
+  pub batch_each : (P : Entry → Type 0) → AllByRecursion P (flat book) → AllByRecursion P entries
+  batch_each P all = subst (AllByRecursion P) (sym (same ∙ is)) (each_of_batch P book i item low all)
+
+  module _ (P : Entry → Type 0) (left : AllByRecursion P (flat (drop i book)) ↔ AllByRecursion P (flat book)) where
+    pub batch_more : AllByRecursion P entries → (AllByRecursion P (flat (drop (i + 1) book)) ↔ AllByRecursion P (flat book))
+    batch_more here = (
+      λ rest. left.0 (flat_closed (AllByRecursion P) (each_append P entries (flat (drop (i + 1) book)) here rest)),
+      λ all. (each_front P entries (flat (drop (i + 1) book)) (flat_opened (AllByRecursion P) (left.1 all))).1,
+    )
+
+pub batch_done : (P : Entry → Type 0) (book : List (List Entry)) (i : ℕ) → (AllByRecursion P (flat (drop i book)) ↔ AllByRecursion P (flat book)) → length book ≤ i → AllByRecursion P (flat book)
+batch_done P book i left far = left.0 (begun (λ b. AllByRecursion P (flat b)) book i far tt)
+
+-- an entry and a row, for what is read past the end of a list
+abbrev pub no_entry : Entry
+no_entry = record { leaf = 0; worker = 0; op = CounterAdd 0; reply = reply.Number 0 }
+
+abbrev pub no_row : Row
+no_row = record { leaf = 0; worker = 0; start = 0; end = 0; value = 0 }

@@ -1,11 +1,25 @@
 //! Whether the replies are those of the serial objects: the operations are served one after another.
 ghost use Rattle.std.specs.Prelude.{◌≡◌, ◌↔◌, ◌+◌, ◌*◌, ◌≤◌, ◌^◌, true, false, length, IsTrue, IfOk};
+ghost use Rattle.seq_objects.specs.Objects.{after, reply_to};
 ghost use Rattle.batch_history.specs.Book.{flat, IsLegal, IsLegalFrom};
 ghost use Rattle.batch_history.specs.Serving.{served};
 
 use batch_history::{Batch, Entry};
-use seq_objects::Plain;
+use seq_objects::{Op, Plain, Reply};
 use std::alloc::{AllocError, Global};
+
+/// Serves an operation. The addend of a counter add is matched, since it fits 32 bits.
+fn serve(objects: &mut Plain, op: Op) -> Result<Reply, AllocError>
+    requires { objects.old.counter + 2 ^ 32 ≤ 2 ^ 64 }
+    ensures reply { IfOk result (λ reply. reply ≡ reply_to objects.old op) }
+    ensures after { IfOk result (λ reply. objects.new ≡ after objects.old op) }
+    ensures most { IfOk result (λ reply. objects.new.counter ≤ objects.old.counter + 2 ^ 32) }
+{
+    match op {
+        Op::CounterAdd(addend) => objects.serve(Op::CounterAdd(addend)),
+        _ => objects.serve(op),
+    }
+}
 
 /// Serves the operations of the entries one after another, as long as each reply is the entry's.
 fn serve_batch(objects: &mut Plain, entries: &[Entry]) -> Result<bool, AllocError>
@@ -15,8 +29,7 @@ fn serve_batch(objects: &mut Plain, entries: &[Entry]) -> Result<bool, AllocErro
     ensures not { IfOk result (λ same. same ≡ false → IsLegalFrom objects.old entries.now → ⊥) }
 {
     for entry in entries {
-        let reply = objects.serve(entry.op)?;
-        if reply != entry.reply {
+        if serve(objects, entry.op)? != entry.reply {
             return Ok(false);
         }
     }

@@ -1,7 +1,9 @@
-pub mod Joins
+pub mod Spans
 pub mod Alone
 pub mod TickWalk
-pub mod Maps
+pub mod StepMaps
 pub mod Walks
 pub mod RowWalk
 pub mod CallWalk
+pub mod BatchWalk
+pub mod ReplyWalk

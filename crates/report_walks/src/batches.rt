@@ -1,7 +1,7 @@
 //! Whether the batches are in batch order: each entry comes before the next one.
 ghost use Rattle.std.specs.Prelude.{◌≡◌, ◌↔◌, ℕ, IsTrue};
 ghost use Rattle.std.specs.List.{AllByRecursion};
-ghost use Rattle.sp_order.specs.Jobs.{JobValue};
+ghost use Rattle.sp_order.specs.Jobs.{JobValue, IsJob};
 ghost use Rattle.batch_history.specs.Book.{IsBatch};
 ghost use Rattle.batch_history.specs.Lawful.{HasRows, KeepsOrder, HasCalls, KeepsTicks};
 ghost use Rattle.batch_history.specs.Serving.{call_in};
@@ -54,8 +54,8 @@ fn are_in_order(book: &[Batch]) -> bool
 /// Whether each batch has entries, in batch order, of distinct workers. Neighbours are enough: the order is transitive,
 /// and two calls of one worker in one batch would break the order of the leaves or the ticks.
 pub fn are_batches(book: &[Batch]) -> bool
-    ensures { (job : JobValue) (report : Report) → report.history ≡ book.now → HasRows job report.workers report
-        → KeepsOrder job report → HasCalls job report → KeepsTicks report
+    ensures { (job : JobValue) (report : Report) → report.history ≡ book.now → IsJob job
+        → HasRows job report.workers report → KeepsOrder job report → HasCalls job report → KeepsTicks report
         → (IsTrue result ↔ AllByRecursion IsBatch report.history) }
 {
     are_in_order(book)

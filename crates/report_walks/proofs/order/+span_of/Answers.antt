@@ -1,6 +1,6 @@
 use Rattle.std.proofs.Common.{◌≡◌, refl, arith}
 use Rattle.sp_order.specs.Precedence.{tree_of}
-use Rattle.report_walks.proofs.Joins.{seq_spanned, par_spanned}
+use Rattle.report_walks.proofs.Spans.{seq_spanned, par_spanned}
 use Rattle.report_walks.proofs.order.+span_of.Goals as goal
 
 pub returns-else-late-early-clause-some : goal.returns-else-late-early-clause-some

@@ -4,6 +4,7 @@ pub mod TickWalk
 pub mod StepMaps
 pub mod Walks
 pub mod RowWalk
+pub mod Timed
 pub mod CallWalk
 pub mod BatchWalk
 pub mod ReplyWalk

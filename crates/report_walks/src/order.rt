@@ -1,5 +1,6 @@
 //! Whether the rows keep the order of a job: one walk over its shape, and one over the ticks.
 ghost use Rattle.std.specs.Prelude.{◌≡◌, ◌↔◌, ℕ, ◌<◌, ◌≤◌, ◌+◌, [], length, IsTrue, IfSome, IfNone, IfOk, min, max};
+ghost use Rattle.sp_order.specs.Jobs.{IsJob};
 ghost use Rattle.sp_order.specs.Precedence.{tree_of, leaves, leaf_count, IsBefore};
 ghost use Rattle.batch_history.specs.Lawful.{ForRows, HasRows, KeepsOrder};
 ghost use Rattle.report_walks.specs.Parts.{report_of, of_rows};
@@ -102,7 +103,8 @@ fn are_alone(rows: &[Row], started: &[Option<u32>]) -> bool
 /// Whether the leaves of the shape keep its order, if there is a shape.
 fn keeps_before(job: &Job, rows: &[Row]) -> bool
     requires { length rows.now ≡ leaf_count job.now.shape }
-    ensures { IsTrue result ↔ ((u v : ℕ) → IsBefore job.now.shape u v → ForRows (of_rows rows.now) u v (λ row row'. row.end < row'.start)) }
+    ensures job { IsJob job.now }
+    ensures before { IsTrue result ↔ ((u v : ℕ) → IsBefore job.now.shape u v → ForRows (of_rows rows.now) u v (λ row row'. row.end < row'.start)) }
 {
     match job.shape() {
         None => true,
@@ -112,7 +114,7 @@ fn keeps_before(job: &Job, rows: &[Row]) -> bool
 
 /// Whether each leaf ends before those start that it is before, and before or behind each other leaf of its worker.
 pub fn keeps_order(alloc: Global, job: &Job, rows: &[Row]) -> Result<bool, AllocError>
-    requires rows { (workers : ℕ) × (workers ≤ 32) × HasRows job.now workers (report_of workers [] rows.now) }
+    requires { (workers : ℕ) × (workers ≤ 32) × HasRows job.now workers (report_of workers [] rows.now) }
     ensures { IfOk result (λ keeps. IsTrue keeps ↔ KeepsOrder job.now (of_rows rows.now)) }
 {
     if !keeps_before(job, rows) {

@@ -77,12 +77,15 @@ new_of_can acts values (entry ∷ entries) long can =
 
 can_of_new : (acts : List Act) (values : List (Option ℕ)) (entries : List Entry) → AreNew acts values entries → CanNoteAll acts values entries
 can_of_new acts values [] new = tt
-can_of_new acts values (entry ∷ entries) new = (record { calls = new.calls.0; unseen = new.unseen.0 }, can_of_new acts (noted values entry) entries (record {
-  distinct = new.distinct.1;
-  calls = new.calls.1;
-  unseen = each_so (λ u. (get_or values u None ≡ None) × (entry.leaf ≢ u)) (λ u. get_or (noted values entry) u None ≡ None) (λ u is. unseen_after values entry.leaf (value_of entry.reply) u is.0 is.1) (leaves_in entries)
-      (each_both (λ u. get_or values u None ≡ None) (λ u. entry.leaf ≢ u) (leaves_in entries) new.unseen.1 new.distinct.0);
-}))
+can_of_new acts values (entry ∷ entries) new = (
+  record { calls = new.calls.0; unseen = new.unseen.0 },
+  can_of_new acts (noted values entry) entries (record {
+    distinct = new.distinct.1;
+    calls = new.calls.1;
+    unseen = each_so (λ u. (get_or values u None ≡ None) × (entry.leaf ≢ u)) (λ u. get_or (noted values entry) u None ≡ None) (λ u is. unseen_after values entry.leaf (value_of entry.reply) u is.0 is.1) (leaves_in entries)
+        (each_both (λ u. get_or values u None ≡ None) (λ u. entry.leaf ≢ u) (leaves_in entries) new.unseen.1 new.distinct.0);
+  }),
+)
 
 -- one value, or else another
 abbrev or_old : Option ℕ → Option ℕ → Option ℕ

@@ -98,12 +98,12 @@ are_rows workers leaf taken (row ∷ rows) from =
       free = (from.1, (end.0, each_so (IsFree (both_taken taken row)) (IsFree taken) (λ u free. (old u free).0) (ticks_of rows) more.free));
       each = λ tick low. elim (more.each tick (omega (arith, low, both_long taken row))) [
         | inl is ↦ elim (taken_of_both taken row from.1 from.2 tick is) [
-            | inl at ↦ inr (first_of_list row.start (row.end ∷ ticks_of rows) tick at)
-            | inr other ↦ elim other [
-                | inl at ↦ inr (later_of_list row.start (row.end ∷ ticks_of rows) tick (first_of_list row.end (ticks_of rows) tick at))
-                | inr before ↦ inl before
-              ]
+          | inl at ↦ inr (first_of_list row.start (row.end ∷ ticks_of rows) tick at)
+          | inr other ↦ elim other [
+            | inl at ↦ inr (later_of_list row.start (row.end ∷ ticks_of rows) tick (first_of_list row.end (ticks_of rows) tick at))
+            | inr before ↦ inl before
           ]
+        ]
         | inr has ↦ inr (later_of_list row.start (row.end ∷ ticks_of rows) tick (later_of_list row.end (ticks_of rows) tick has))
       ];
     }
@@ -118,31 +118,34 @@ rows_from workers leaf taken (row ∷ rows) are =
     let rest : map (λ (r : Row). r.leaf) rows ≡ range_with_len (leaf + 1) (length rows) = let all = are.leaves in cc in
     let apart : row.start ≢ row.end = are.distinct.0.0 in
     let start : IsFree taken row.start = are.free.0 in
-    let end : IsFree (set taken row.start true) row.end = free_after taken row.start row.end are.free.1.0 apart in
-    (record { leaf_is = leaf_is; among = are.among.0; starts_first = are.starts_first.0 }, start, end,
-    rows_from workers (leaf + 1) (both_taken taken row) rows (record {
-      leaves = rest;
-      among = are.among.1;
-      starts_first = are.starts_first.1;
-      distinct = are.distinct.1.1;
-      free = each_so (λ u. IsFree taken u × ((row.start ≢ u) × (row.end ≢ u))) (IsFree (both_taken taken row))
-          (λ u is. free_after (set taken row.start true) row.end u (free_after taken row.start u is.0 is.1.0) is.1.1) (ticks_of rows)
-          (each_both (IsFree taken) (λ u. (row.start ≢ u) × (row.end ≢ u)) (ticks_of rows) are.free.1.1
+    let end : IsFree (set taken row.start true) row.end = free_after taken row.start row.end are.free.1.0 apart in (
+      record { leaf_is = leaf_is; among = are.among.0; starts_first = are.starts_first.0 },
+      start,
+      end,
+      rows_from workers (leaf + 1) (both_taken taken row) rows (record {
+        leaves = rest;
+        among = are.among.1;
+        starts_first = are.starts_first.1;
+        distinct = are.distinct.1.1;
+        free = each_so (λ u. IsFree taken u × ((row.start ≢ u) × (row.end ≢ u))) (IsFree (both_taken taken row))
+            (λ u is. free_after (set taken row.start true) row.end u (free_after taken row.start u is.0 is.1.0) is.1.1) (ticks_of rows)
+            (each_both (IsFree taken) (λ u. (row.start ≢ u) × (row.end ≢ u)) (ticks_of rows) are.free.1.1
             (each_both (λ u. row.start ≢ u) (λ u. row.end ≢ u) (ticks_of rows) are.distinct.0.1 are.distinct.1.0));
-      each = λ tick long. (
-          let low : tick < length taken = omega (arith, long, both_long taken row) in
-          let low' : tick < length (set taken row.start true) = omega (arith, low, length-set taken row.start true) in
-          elim (are.each tick low) [
-            | inl is ↦ inl (taken_after (set taken row.start true) row.end tick low' (taken_after taken row.start tick low is))
-            | inr has ↦ elim (first_or_rest row.start (row.end ∷ ticks_of rows) tick has) [
+        each = λ tick long. (
+            let low : tick < length taken = omega (arith, long, both_long taken row) in
+            let low' : tick < length (set taken row.start true) = omega (arith, low, length-set taken row.start true) in
+            elim (are.each tick low) [
+              | inl is ↦ inl (taken_after (set taken row.start true) row.end tick low' (taken_after taken row.start tick low is))
+              | inr has ↦ elim (first_or_rest row.start (row.end ∷ ticks_of rows) tick has) [
                 | inl at ↦ inl (taken_after (set taken row.start true) row.end tick low' (taken_here taken row.start tick low at))
                 | inr other ↦ elim (first_or_rest row.end (ticks_of rows) tick other) [
-                    | inl at ↦ inl (taken_here (set taken row.start true) row.end tick low' at)
-                    | inr later ↦ inr later
-                  ]
+                  | inl at ↦ inl (taken_here (set taken row.start true) row.end tick low' at)
+                  | inr later ↦ inr later
+                ]
               ]
-          ]);
-    }))
+            ]);
+      }),
+    )
 
 length_range : (first n : ℕ) → length (range_with_len first n) ≡ n
 length_range first zero = refl

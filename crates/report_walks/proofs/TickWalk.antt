@@ -42,9 +42,9 @@ latest_more rows entries count from latest row is at = record {
   reached = elim (cases_lt latest row.start) [
     | inl less ↦ inr (count, row, omega arith, at, omega (arith, less))
     | inr more ↦ elim is.reached [
-        | inl none ↦ inl (omega (arith, none, more))
-        | inr some ↦ inr (some.0, some.1, omega (arith, some.2), some.3, omega (arith, some.4, more))
-      ]
+      | inl none ↦ inl (omega (arith, none, more))
+      | inr some ↦ inr (some.0, some.1, omega (arith, some.2), some.3, omega (arith, some.4, more))
+    ]
   ];
 }
 
@@ -71,9 +71,9 @@ module _ (book : List (List Entry)) (rows : List Row) (count latest later : ℕ)
   pub reached_more : (later ≡ 0) ⊎ ((number : ℕ) × (row : Row) × (number < count + 1) × IsCallIn book rows number row × (row.start ≡ later))
   reached_more = elim next.reached [
     | inl same ↦ elim kept.reached [
-        | inl none ↦ inl (same ∙ none)
-        | inr some ↦ inr (some.0, some.1, omega (arith, some.2), some.3, some.4 ∙ sym same)
-      ]
+      | inl none ↦ inl (same ∙ none)
+      | inr some ↦ inr (some.0, some.1, omega (arith, some.2), some.3, some.4 ∙ sym same)
+    ]
     | inr here ↦ inr (count, here.1, omega arith, (entries, here.0, is, here.3), here.4)
   ]
 
@@ -83,9 +83,9 @@ module _ (book : List (List Entry)) (rows : List Row) (count latest later : ℕ)
     reached = reached_more;
     keeps = λ b c row row' low low' call call' before. elim (below b count low) [
       | inl less ↦ elim (below c count low') [
-          | inl less' ↦ kept.keeps b c row row' less less' call call' before
-          | inr here' ↦ omega (arith, less, here')
-        ]
+        | inl less' ↦ kept.keeps b c row row' less less' call call' before
+        | inr here' ↦ omega (arith, less, here')
+      ]
       | inr here ↦ (let at = same_batch book rows count entries row is (subst (λ (n : ℕ). IsCallIn book rows n row) here call) in
           absurd (omega (arith, ends at.0 row at.2 at.1, above_more c row' low' call', before)))
     ];

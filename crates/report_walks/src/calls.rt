@@ -130,12 +130,7 @@ fn values_of(
 
 /// Whether the batches have each leaf that calls once, with its operation under the replies of these batches and with
 /// the worker of its row.
-pub fn has_calls(
-    alloc: Global,
-    job: &Job,
-    book: &[Batch],
-    rows: &[Row],
-) -> Result<bool, AllocError>
+pub fn has_calls(alloc: Global, job: &Job, book: &[Batch], rows: &[Row]) -> Result<bool, AllocError>
     requires { length rows.now ≡ leaf_count job.now.shape }
     ensures { IfOk result (λ has. IsTrue has ↔ HasCalls job.now (of_calls book.now rows.now)) }
 {

@@ -45,12 +45,7 @@ fn all_taken(taken: &[bool]) -> bool
 
 /// Whether the rows are those of the job's leaves, in order, with workers below the number of workers, and start and end
 /// at each number below twice the leaves, each once.
-pub fn has_rows(
-    alloc: Global,
-    job: &Job,
-    workers: u32,
-    rows: &[Row],
-) -> Result<bool, AllocError>
+pub fn has_rows(alloc: Global, job: &Job, workers: u32, rows: &[Row]) -> Result<bool, AllocError>
     ensures { IfOk result (λ has. IsTrue has ↔ HasRows job.now workers (report_of workers [] rows.now)) }
 {
     let leaves = job.acts().len();

@@ -25,14 +25,14 @@ loop-batch-preserved c =
       long = ap length noted.1 ∙ noted_long values entries ∙ c.loop-batch.invariant.long;
       can = (
         λ more. c.loop-batch.invariant.can.0 (flat_closed c.args.book.now c.loop-batch.batch-index c.batch-item.result entries c.loop-batch-test.true c.batch-item.is c.entries.ensures (CanNoteAll acts values)
-          (can_both acts values entries rest noted.0 (subst (λ (vs : List (Option ℕ)). CanNoteAll acts vs rest) noted.1 more))),
+            (can_both acts values entries rest noted.0 (subst (λ (vs : List (Option ℕ)). CanNoteAll acts vs rest) noted.1 more))),
         λ all. subst (λ (vs : List (Option ℕ)). CanNoteAll acts vs rest) (sym noted.1)
-          (can_first acts values entries rest (flat_opened c.args.book.now c.loop-batch.batch-index c.batch-item.result entries c.loop-batch-test.true c.batch-item.is c.entries.ensures (CanNoteAll acts values) (c.loop-batch.invariant.can.1 all))).1,
+            (can_first acts values entries rest (flat_opened c.args.book.now c.loop-batch.batch-index c.batch-item.result entries c.loop-batch-test.true c.batch-item.is c.entries.ensures (CanNoteAll acts values) (c.loop-batch.invariant.can.1 all))).1,
       );
       noted = ap (λ (vs : List (Option ℕ)). all_noted vs rest) noted.1 ∙ sym (noted_append values entries rest)
-        ∙ flat_closed c.args.book.now c.loop-batch.batch-index c.batch-item.result entries c.loop-batch-test.true c.batch-item.is c.entries.ensures
+          ∙ flat_closed c.args.book.now c.loop-batch.batch-index c.batch-item.result entries c.loop-batch-test.true c.batch-item.is c.entries.ensures
           (λ es. all_noted values (entries ++ rest) ≡ all_noted values es) refl
-        ∙ c.loop-batch.invariant.noted;
+          ∙ c.loop-batch.invariant.noted;
     }
 
 pub returns-then-not-have_values-clause-none : goal.returns-then-not-have_values-clause-none

@@ -11,8 +11,8 @@ use Rattle.report_walks.proofs.replies.are_legal.Goals as goal
 pub returns-then-not-branch : goal.returns-then-not-branch
 returns-then-not-branch c = denied (IsLegal c.args.book.now) (λ legal.
     absurd (c.in_ok-serve_batch.ensures.not c.if-not-branch.true
-      (legal_parts c.loop-batch.objects c.entries.result.now (flat (drop (c.loop-batch.batch-index + 1) c.args.book.now))
-        (flat_opened c.args.book.now c.loop-batch.batch-index c.batch-item.result c.entries.result.now c.loop-batch-test.true c.batch-item.is c.entries.ensures (IsLegalFrom c.loop-batch.objects) (c.loop-batch.invariant.legal.1 legal))).0))
+    (legal_parts c.loop-batch.objects c.entries.result.now (flat (drop (c.loop-batch.batch-index + 1) c.args.book.now))
+    (flat_opened c.args.book.now c.loop-batch.batch-index c.batch-item.result c.entries.result.now c.loop-batch-test.true c.batch-item.is c.entries.ensures (IsLegalFrom c.loop-batch.objects) (c.loop-batch.invariant.legal.1 legal))).0))
 
 pub loop-batch-preserved : goal.loop-batch-preserved
 loop-batch-preserved c =
@@ -20,14 +20,14 @@ loop-batch-preserved c =
     let rest = flat (drop (c.loop-batch.batch-index + 1) c.args.book.now) in
     let same = c.in_ok-serve_batch.ensures.same c.if-not-branch.false in
     let room : c.loop-batch.objects.counter + length (entries ++ rest) * 2 ^ 32 ≤ 2 ^ 64 =
-        flat_opened c.args.book.now c.loop-batch.batch-index c.batch-item.result entries c.loop-batch-test.true c.batch-item.is c.entries.ensures
-        (λ es. c.loop-batch.objects.counter + length es * 2 ^ 32 ≤ 2 ^ 64) c.loop-batch.invariant.room in
+    flat_opened c.args.book.now c.loop-batch.batch-index c.batch-item.result entries c.loop-batch-test.true c.batch-item.is c.entries.ensures
+    (λ es. c.loop-batch.objects.counter + length es * 2 ^ 32 ≤ 2 ^ 64) c.loop-batch.invariant.room in
     record {
       room = omega (arith, room, c.in_ok-serve_batch.ensures.most, length-append entries rest);
       legal = (
         λ more. c.loop-batch.invariant.legal.0 (flat_closed c.args.book.now c.loop-batch.batch-index c.batch-item.result entries c.loop-batch-test.true c.batch-item.is c.entries.ensures (IsLegalFrom c.loop-batch.objects)
-          (legal_append c.loop-batch.objects entries rest same.0 (subst (λ (o : Objects). IsLegalFrom o rest) same.1 more))),
+            (legal_append c.loop-batch.objects entries rest same.0 (subst (λ (o : Objects). IsLegalFrom o rest) same.1 more))),
         λ all. subst (λ (o : Objects). IsLegalFrom o rest) (sym same.1)
-          (legal_parts c.loop-batch.objects entries rest (flat_opened c.args.book.now c.loop-batch.batch-index c.batch-item.result entries c.loop-batch-test.true c.batch-item.is c.entries.ensures (IsLegalFrom c.loop-batch.objects) (c.loop-batch.invariant.legal.1 all))).1,
+            (legal_parts c.loop-batch.objects entries rest (flat_opened c.args.book.now c.loop-batch.batch-index c.batch-item.result entries c.loop-batch-test.true c.batch-item.is c.entries.ensures (IsLegalFrom c.loop-batch.objects) (c.loop-batch.invariant.legal.1 all))).1,
       );
     }

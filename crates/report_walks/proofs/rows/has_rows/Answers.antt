@@ -39,14 +39,13 @@ returns-then-not-take_tick-2 c =
     let long : length c.args.rows.now ≡ leaf_count c.args.job.now.shape = omega (arith, c.acts-leaves.ensures.job.leaves, ap length c.acts-leaves.ensures.acts, c.if-rows-leaves.false) in
     denied (HasRows c.args.job.now c.args.workers (report_of c.args.workers [] c.args.rows.now)) (λ has.
     absurd (c.if-not-take_tick-2.ensures.not refl (rw (c.if-not-take_tick.ensures.free refl).1
-      ((row_here c.args.job.now c.args.workers c.loop-leaf.leaf c.loop-leaf.taken.items c.args.rows.now _ long c.loop-leaf-test.true c.loop-leaf.invariant has).2))))
+    ((row_here c.args.job.now c.args.workers c.loop-leaf.leaf c.loop-leaf.taken.items c.args.rows.now _ long c.loop-leaf-test.true c.loop-leaf.invariant has).2))))
 
 pub returns : goal.returns
 returns c =
     let long : length c.args.rows.now ≡ leaf_count c.args.job.now.shape = omega (arith, c.acts-leaves.ensures.job.leaves, ap length c.acts-leaves.ensures.acts, c.if-rows-leaves.false) in
     let rows = c.args.rows.now in
-    let from = RowsFrom c.args.workers c.loop-leaf.leaf c.loop-leaf.taken.items in
-    (
+    let from = RowsFrom c.args.workers c.loop-leaf.leaf c.loop-leaf.taken.items in (
       λ is. has_rows_of c.args.job.now c.args.workers rows long (c.loop-leaf.invariant.0 (begun from rows c.loop-leaf.leaf c.loop-leaf-test.false (subst AllTaken c.as_slice.ensures.value (c.all_taken.ensures.0 is)))),
       λ has. c.all_taken.ensures.1 (subst AllTaken (sym c.as_slice.ensures.value) (ended from rows c.loop-leaf.leaf c.loop-leaf-test.false (c.loop-leaf.invariant.1 (rows_of_has c.args.job.now c.args.workers rows long has)))),
     )

@@ -6,10 +6,11 @@ pub bounds-rows-entry : goal.bounds-rows-entry
 bounds-rows-entry c = has_row c.args.rows.now c.args.entries.now c.loop-entry.entry-index _ c.requires c.loop-entry-test.true
 
 pub returns-then-rows-entry : goal.returns-then-rows-entry
-returns-then-rows-entry c =
-    (λ is. absurd (let wrong : false ≡ true = is in cc (wrong)),
-    λ ends. absurd (ended_early c.args.rows.now c.args.entries.now (length c.args.entries.now) c.args.tick c.loop-entry.entry-index _ c.loop-entry-test.true
-      (call_at c.args.rows.now c.args.entries.now c.loop-entry.entry-index _ _ c.loop-entry-test.true (has_row c.args.rows.now c.args.entries.now c.loop-entry.entry-index _ c.requires c.loop-entry-test.true)) c.if-rows-entry.true ends))
+returns-then-rows-entry c = (
+  λ is. absurd (let wrong : false ≡ true = is in cc (wrong)),
+  λ ends. absurd (ended_early c.args.rows.now c.args.entries.now (length c.args.entries.now) c.args.tick c.loop-entry.entry-index _ c.loop-entry-test.true
+      (call_at c.args.rows.now c.args.entries.now c.loop-entry.entry-index _ _ c.loop-entry-test.true (has_row c.args.rows.now c.args.entries.now c.loop-entry.entry-index _ c.requires c.loop-entry-test.true)) c.if-rows-entry.true ends),
+)
 
 pub loop-entry-preserved : goal.loop-entry-preserved
 loop-entry-preserved c =

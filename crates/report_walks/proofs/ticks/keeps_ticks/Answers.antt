@@ -26,10 +26,11 @@ all_end_from-requires c =
 
 pub returns-then-not-all_end_from : goal.returns-then-not-all_end_from
 returns-then-not-all_end_from c =
-    let at = batch_at c.args.book.now c.loop-batch.batch-index c.batch-item.result c.entries-entries.result.now c.loop-batch-test.true c.batch-item.is c.entries-entries.ensures in
-    (λ is. absurd (let wrong : false ≡ true = is in cc (wrong)),
-    λ keeps. c.if-not-all_end_from.ensures.1 (must_end c.args.book.now c.args.rows.now c.loop-batch.batch-index c.latest_start-latest.result c.entries-entries.result.now at
-      (reached_more c.args.book.now c.args.rows.now c.loop-batch.batch-index c.loop-batch.latest c.latest_start-latest.result c.entries-entries.result.now c.loop-batch.invariant at c.latest_start-latest.ensures) keeps))
+    let at = batch_at c.args.book.now c.loop-batch.batch-index c.batch-item.result c.entries-entries.result.now c.loop-batch-test.true c.batch-item.is c.entries-entries.ensures in (
+      λ is. absurd (let wrong : false ≡ true = is in cc (wrong)),
+      λ keeps. c.if-not-all_end_from.ensures.1 (must_end c.args.book.now c.args.rows.now c.loop-batch.batch-index c.latest_start-latest.result c.entries-entries.result.now at
+          (reached_more c.args.book.now c.args.rows.now c.loop-batch.batch-index c.loop-batch.latest c.latest_start-latest.result c.entries-entries.result.now c.loop-batch.invariant at c.latest_start-latest.ensures) keeps),
+    )
 
 pub loop-batch-preserved : goal.loop-batch-preserved
 loop-batch-preserved c =

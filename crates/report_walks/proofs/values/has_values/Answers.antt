@@ -14,8 +14,8 @@ have_replies-requires c =
 pub returns-then-not-have_replies : goal.returns-then-not-have_replies
 returns-then-not-have_replies c =
     denied (HasValues c.args.job.now (of_calls c.args.book.now c.args.rows.now)) (λ has.
-      c.if-not-have_replies.ensures.1 (batch_each c.args.book.now c.loop-batch.batch-index c.batch-item.result c.entries.result.now c.loop-batch-test.true c.batch-item.is c.entries.ensures
-        (HasReply c.args.rows.now) has.calls))
+    c.if-not-have_replies.ensures.1 (batch_each c.args.book.now c.loop-batch.batch-index c.batch-item.result c.entries.result.now c.loop-batch-test.true c.batch-item.is c.entries.ensures
+    (HasReply c.args.rows.now) has.calls))
 
 pub loop-batch-preserved : goal.loop-batch-preserved
 loop-batch-preserved c =

@@ -1,10 +1,11 @@
 -- The flaws of a report: the parts of `Lawful` in their order, and the first that a report does not keep.
-use Rattle.std.specs.Prelude.{ℕ, ◌<◌}
+use Rattle.std.specs.Prelude.{ℕ, ◌<◌, List, Option, None, Some}
 use Rattle.std.specs.List.{AllByRecursion}
 use Rattle.sp_order.specs.Jobs.{JobValue}
 use Rattle.batch_history.specs.Book.{IsLegal, IsBatch}
-use Rattle.batch_history.specs.Lawful.{HasRows, KeepsOrder, HasCalls, KeepsTicks, HasValues}
+use Rattle.batch_history.specs.Lawful.{HasRows, KeepsOrder, HasCalls, KeepsTicks, HasValues, Lawful}
 use Rattle.batch_history.specs.declared.report.Report.{Report}
+use Rattle.report_reader.specs.Texts.{HasText}
 use Rattle.report_check.specs.declared.flaw.Flaw.{Flaw}
 use Rattle.report_check.specs.declared.flaw.Flaw.TheVariants.{Text, Rows, Order, Calls, Replies, Ticks, Batches, Values}
 
@@ -34,3 +35,11 @@ rank Values = 8
 pub record FailsFirst (job : JobValue) (report : Report) (flaw : Flaw) : Type 0 where
   pub earlier : (other : Flaw) → rank other < rank flaw → Part job report other
   pub failed : Part job report flaw → ⊥
+
+-- The flaw of a text for a job, or none. There is none where the text is that of a raw report that is lawful for the job
+-- and its own number of workers; the flaw is `Text` where the text is that of no raw report, and else the first flaw of
+-- the report whose text it is.
+abbrev pub IsFlawOf : JobValue → List ℕ → Option Flaw → Type 0
+IsFlawOf job text None = (report : Report) × HasText text report × Lawful job report.workers report
+IsFlawOf job text (Some Text) = (report : Report) → HasText text report → ⊥
+IsFlawOf job text (Some flaw) = (report : Report) × HasText text report × FailsFirst job report flaw

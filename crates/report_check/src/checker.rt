@@ -1,34 +1,29 @@
 //! The check of a report, part after part.
-ghost use Rattle.std.specs.Prelude.{◌≤◌, IfOk, IfSome, IfNone};
+ghost use Rattle.std.specs.Prelude.{ℕ, List, IfOk, IfSome, IfNone};
 ghost use Rattle.batch_history.specs.Lawful.{Lawful};
-ghost use Rattle.report_check.specs.Flaws.{FailsFirst};
-ghost use Rattle.report_check.specs.Code.Parts.{report_of};
+ghost use Rattle.report_reader.specs.Texts.{HasText};
+ghost use Rattle.report_check.specs.Flaws.{FailsFirst, IsFlawOf};
 
-use crate::batches::are_in_order;
-use crate::calls::has_calls;
 use crate::flaw::Flaw;
-use crate::order::keeps_order;
-use crate::replies::are_legal;
-use crate::rows::has_rows;
-use crate::ticks::keeps_ticks;
-use crate::values::has_values;
-use batch_history::{Batch, Row};
+use report_reader::RawReport;
+use report_walks::{
+    are_batches, are_legal, has_calls, has_rows, has_values, keeps_order, keeps_ticks,
+};
 use sp_order::Job;
 use std::alloc::{AllocError, Global};
 
-/// What is wrong first.
-pub fn check(
-    alloc: Global,
-    job: &Job,
-    workers: u32,
-    book: &[Batch],
-    rows: &[Row],
-) -> Result<Option<Flaw>, AllocError>
-    requires { workers ≤ 32 }
-    ensures lawful { IfOk result (λ flaw. IfNone flaw (Lawful job.now workers (report_of workers book.now rows.now))) }
-    ensures flaw { IfOk result (λ flaw. IfSome flaw (FailsFirst job.now (report_of workers book.now rows.now))) }
+/// The first flaw of the report for the job, or `None` where the report is lawful for the job and its own number of
+/// workers. Each part is looked at only where those before it hold.
+///
+/// Time: linear in the job and the report, but that the calls of the tree and the queue are served in logarithmic time.
+/// Memory: linear in the leaves of the job.
+pub fn check(alloc: Global, job: &Job, raw: &RawReport) -> Result<Option<Flaw>, AllocError>
+    ensures lawful { IfOk result (λ flaw. IfNone flaw (Lawful job.now raw.now.workers raw.now)) }
+    ensures flaw { IfOk result (λ flaw. IfSome flaw (FailsFirst job.now raw.now)) }
+    ensures text { (text : List ℕ) → HasText text raw.now → IfOk result (IsFlawOf job.now text) }
 {
-    if !has_rows(alloc, job, workers, rows)? {
+    let (book, rows) = (raw.batches(), raw.rows());
+    if !has_rows(alloc, job, raw.workers(), rows)? {
         return Ok(Some(Flaw::Rows));
     }
     if !keeps_order(alloc, job, rows)? {
@@ -43,7 +38,7 @@ pub fn check(
     if !keeps_ticks(book, rows) {
         return Ok(Some(Flaw::Ticks));
     }
-    if !are_in_order(book) {
+    if !are_batches(book) {
         return Ok(Some(Flaw::Batches));
     }
     if !has_values(job, book, rows) {

@@ -1,0 +1,29 @@
+//! The laws of flaws, each stated as the contract of an empty function.
+ghost use Rattle.std.specs.Prelude.{◌≡◌, ◌≤◌, ℕ, List, None, Option};
+ghost use Rattle.sp_order.specs.Jobs.{JobValue};
+ghost use Rattle.batch_history.specs.Lawful.{Lawful};
+ghost use Rattle.batch_history.specs.Text.{report_text};
+ghost use Rattle.batch_history.specs.declared.report.Report.{Report};
+ghost use Rattle.report_reader.specs.Raw.{IsRaw};
+ghost use Rattle.report_check.specs.Flaws.{IsFlawOf};
+ghost use Rattle.report_check.specs.SmallJobs.{IsSmallJob};
+ghost use Rattle.report_check.specs.declared.flaw.Flaw.{Flaw as FlawOf};
+
+use report_reader::laws::texts_have_one_report;
+
+/// A lawful report of 1 to 32 workers is raw, and its text has no flaw, where the arguments of the job's acts are below
+/// 2^32, as those of each accepted text are.
+pub fn lawful_reports_have_no_flaw()
+    ensures raw { (job : JobValue) (report : Report) → IsSmallJob job → 1 ≤ report.workers → report.workers ≤ 32
+        → Lawful job report.workers report → IsRaw report }
+    ensures none { (job : JobValue) (report : Report) → IsSmallJob job → 1 ≤ report.workers → report.workers ≤ 32
+        → Lawful job report.workers report → IsFlawOf job (report_text report) None }
+{}
+
+/// A text has one flaw for a job, or none, and not both.
+pub fn texts_have_one_flaw()
+    ensures { (job : JobValue) (text : List ℕ) (flaw flaw' : Option FlawOf)
+        → IsFlawOf job text flaw → IsFlawOf job text flaw' → flaw ≡ flaw' }
+{
+    texts_have_one_report();
+}

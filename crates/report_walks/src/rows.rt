@@ -1,5 +1,6 @@
 //! Whether a report has a row for each leaf, and each tick once: one walk over the rows, with marks for the ticks.
 ghost use Rattle.std.specs.Prelude.{◌≡◌, ◌↔◌, ◌<◌, ◌^◌, true, false, length, IsTrue, IfOk, [], slice_index_or};
+ghost use Rattle.sp_order.specs.Jobs.{IsJob};
 ghost use Rattle.batch_history.specs.Lawful.{HasRows};
 ghost use Rattle.report_walks.specs.Parts.{report_of};
 ghost use Rattle.report_walks.specs.Code.Rows.{IsRowOf, IsFree, with_taken, AllTaken};
@@ -46,7 +47,8 @@ fn all_taken(taken: &[bool]) -> bool
 /// Whether the rows are those of the job's leaves, in order, with workers below the number of workers, and start and end
 /// at each number below twice the leaves, each once.
 pub fn has_rows(alloc: Global, job: &Job, workers: u32, rows: &[Row]) -> Result<bool, AllocError>
-    ensures { IfOk result (λ has. IsTrue has ↔ HasRows job.now workers (report_of workers [] rows.now)) }
+    ensures rows { IfOk result (λ has. IsTrue has ↔ HasRows job.now workers (report_of workers [] rows.now)) }
+    ensures job { IsJob job.now }
 {
     let leaves = job.acts().len();
     if rows.len() != leaves {

@@ -18,31 +18,31 @@ row_here : (job : JobValue) (workers leaf : ℕ) (taken : List Bool) (rows : Lis
     × RowsFrom workers (leaf + 1) (with_taken (with_taken taken (get_or rows leaf d).start) (get_or rows leaf d).end) (drop (leaf + 1) rows)
 row_here job workers leaf taken rows d long low left has = opened (RowsFrom workers leaf taken) rows leaf d low (left.1 (rows_of_has job workers rows long has))
 
-pub returns-then-rows-leaves : goal.returns-then-rows-leaves
-returns-then-rows-leaves c = denied (HasRows c.args.job.now c.args.workers (report_of c.args.workers [] c.args.rows.now)) (λ has.
+pub returns-then-rows-leaves-clause-rows : goal.returns-then-rows-leaves-clause-rows
+returns-then-rows-leaves-clause-rows c = denied (HasRows c.args.job.now c.args.workers (report_of c.args.workers [] c.args.rows.now)) (λ has.
     absurd (omega (arith, rows_long c.args.job.now c.args.workers (report_of c.args.workers [] c.args.rows.now) has, c.acts-leaves.ensures.job.leaves, ap length c.acts-leaves.ensures.acts, c.if-rows-leaves.true)))
 
-pub returns-then-not-is_row_of : goal.returns-then-not-is_row_of
-returns-then-not-is_row_of c =
+pub returns-then-not-is_row_of-clause-rows : goal.returns-then-not-is_row_of-clause-rows
+returns-then-not-is_row_of-clause-rows c =
     let long : length c.args.rows.now ≡ leaf_count c.args.job.now.shape = omega (arith, c.acts-leaves.ensures.job.leaves, ap length c.acts-leaves.ensures.acts, c.if-rows-leaves.false) in
     denied (HasRows c.args.job.now c.args.workers (report_of c.args.workers [] c.args.rows.now)) (λ has.
     c.if-not-is_row_of.ensures.1 ((row_here c.args.job.now c.args.workers c.loop-leaf.leaf c.loop-leaf.taken.items c.args.rows.now _ long c.loop-leaf-test.true c.loop-leaf.invariant has).0))
 
-pub returns-then-not-take_tick : goal.returns-then-not-take_tick
-returns-then-not-take_tick c =
+pub returns-then-not-take_tick-clause-rows : goal.returns-then-not-take_tick-clause-rows
+returns-then-not-take_tick-clause-rows c =
     let long : length c.args.rows.now ≡ leaf_count c.args.job.now.shape = omega (arith, c.acts-leaves.ensures.job.leaves, ap length c.acts-leaves.ensures.acts, c.if-rows-leaves.false) in
     denied (HasRows c.args.job.now c.args.workers (report_of c.args.workers [] c.args.rows.now)) (λ has.
     absurd (c.if-not-take_tick.ensures.not refl ((row_here c.args.job.now c.args.workers c.loop-leaf.leaf c.loop-leaf.taken.items c.args.rows.now _ long c.loop-leaf-test.true c.loop-leaf.invariant has).1)))
 
-pub returns-then-not-take_tick-2 : goal.returns-then-not-take_tick-2
-returns-then-not-take_tick-2 c =
+pub returns-then-not-take_tick-2-clause-rows : goal.returns-then-not-take_tick-2-clause-rows
+returns-then-not-take_tick-2-clause-rows c =
     let long : length c.args.rows.now ≡ leaf_count c.args.job.now.shape = omega (arith, c.acts-leaves.ensures.job.leaves, ap length c.acts-leaves.ensures.acts, c.if-rows-leaves.false) in
     denied (HasRows c.args.job.now c.args.workers (report_of c.args.workers [] c.args.rows.now)) (λ has.
     absurd (c.if-not-take_tick-2.ensures.not refl (rw (c.if-not-take_tick.ensures.free refl).1
     ((row_here c.args.job.now c.args.workers c.loop-leaf.leaf c.loop-leaf.taken.items c.args.rows.now _ long c.loop-leaf-test.true c.loop-leaf.invariant has).2))))
 
-pub returns : goal.returns
-returns c =
+pub returns-clause-rows : goal.returns-clause-rows
+returns-clause-rows c =
     let long : length c.args.rows.now ≡ leaf_count c.args.job.now.shape = omega (arith, c.acts-leaves.ensures.job.leaves, ap length c.acts-leaves.ensures.acts, c.if-rows-leaves.false) in
     let rows = c.args.rows.now in
     let from = RowsFrom c.args.workers c.loop-leaf.leaf c.loop-leaf.taken.items in (

@@ -96,7 +96,7 @@ module _ (job : JobValue) (report : Report) where
 
     rows_walk : HasRows job report.workers report → RowsWalk
     rows_walk is = subst (λ (n : ℕ). HasRows job n (report_of n [] rows)) (sym w) (subst (λ (rs : List Row). HasRows job report.workers (report_of report.workers [] rs)) (sym r)
-      (record { names = refl; leaves = is.leaves; among = is.among; starts_first = is.starts_first; ticks = is.ticks }))
+        (record { names = refl; leaves = is.leaves; among = is.among; starts_first = is.starts_first; ticks = is.ticks }))
 
     pub order_part : OrderWalk → KeepsOrder job report
     order_part walk = let is = subst (λ (rs : List Row). KeepsOrder job (of_rows rs)) r walk in record { before = is.before; alone = is.alone }
@@ -111,7 +111,7 @@ module _ (job : JobValue) (report : Report) where
 
     calls_walk : HasCalls job report → CallsWalk
     calls_walk is = subst (λ (bs : List (List Entry)). HasCalls job (of_calls bs rows)) (sym b) (subst (λ (rs : List Row). HasCalls job (of_calls report.history rs)) (sym r)
-      (record { leaves = is.leaves; operations = is.operations; workers = is.workers }))
+        (record { leaves = is.leaves; operations = is.operations; workers = is.workers }))
 
     pub ticks_part : TicksWalk → KeepsTicks report
     ticks_part walk = subst (λ (rs : List Row). KeepsTicks (of_calls report.history rs)) r (subst (λ (bs : List (List Entry)). KeepsTicks (of_calls bs rows)) b walk)
@@ -126,7 +126,7 @@ module _ (job : JobValue) (report : Report) where
 
     values_walk : HasValues job report → ValuesWalk
     values_walk is = subst (λ (bs : List (List Entry)). HasValues job (of_calls bs rows)) (sym b) (subst (λ (rs : List Row). HasValues job (of_calls report.history rs)) (sym r)
-      (record { work = is.work; calls = is.calls }))
+        (record { work = is.work; calls = is.calls }))
 
     -- the first flaw, by the walks that decided for the parts before it
     pub fails_rows : (RowsWalk → ⊥) → FailsFirst job report Rows

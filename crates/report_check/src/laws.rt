@@ -1,4 +1,4 @@
-//! The laws of flaws, each stated as the contract of an empty function.
+//! The laws of flaws, each stated as the contract of a function that does nothing.
 ghost use Rattle.std.specs.Prelude.{◌≡◌, ◌≤◌, ℕ, List, None, Option};
 ghost use Rattle.sp_order.specs.Jobs.{JobValue};
 ghost use Rattle.batch_history.specs.Lawful.{Lawful};
@@ -9,6 +9,7 @@ ghost use Rattle.report_check.specs.Flaws.{IsFlawOf};
 ghost use Rattle.report_check.specs.SmallJobs.{IsSmallJob};
 ghost use Rattle.report_check.specs.declared.flaw.Flaw.{Flaw as FlawOf};
 
+use batch_history::laws::replies_are_small;
 use report_reader::laws::texts_have_one_report;
 
 /// A lawful report of 1 to 32 workers is raw, and its text has no flaw, where the arguments of the job's acts are below
@@ -18,7 +19,9 @@ pub fn lawful_reports_have_no_flaw()
         → Lawful job report.workers report → IsRaw report }
     ensures none { (job : JobValue) (report : Report) → IsSmallJob job → 1 ≤ report.workers → report.workers ≤ 32
         → Lawful job report.workers report → IsFlawOf job (report_text report) None }
-{}
+{
+    replies_are_small();
+}
 
 /// A text has one flaw for a job, or none, and not both.
 pub fn texts_have_one_flaw()

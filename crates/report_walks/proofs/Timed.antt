@@ -13,17 +13,17 @@ use Rattle.report_walks.specs.Code.Spans.{IsRow, AreTimed}
 use Rattle.report_walks.proofs.RowWalk.{rows_long}
 
 -- what holds of all rows, or of all ticks, holds of the row of a leaf
-row_each : (P : Row → Type 0) (rows : List Row) (u : ℕ) (row : Row) → AllByRecursion P rows → IsRow rows u row → P row
+pub row_each : (P : Row → Type 0) (rows : List Row) (u : ℕ) (row : Row) → AllByRecursion P rows → IsRow rows u row → P row
 row_each P [] u row all is = absurd (cc)
 row_each P (first ∷ rows) zero row all is = subst P (same_Some first row is) all.0
 row_each P (first ∷ rows) (suc u) row all is = row_each P rows u row all.1 is
 
-start_each : (P : ℕ → Type 0) (rows : List Row) (u : ℕ) (row : Row) → AllByRecursion P (ticks_of rows) → IsRow rows u row → P row.start
+pub start_each : (P : ℕ → Type 0) (rows : List Row) (u : ℕ) (row : Row) → AllByRecursion P (ticks_of rows) → IsRow rows u row → P row.start
 start_each P [] u row all is = absurd (cc)
 start_each P (first ∷ rows) zero row all is = subst (λ (r : Row). P r.start) (same_Some first row is) all.0
 start_each P (first ∷ rows) (suc u) row all is = start_each P rows u row all.1.1 is
 
-end_each : (P : ℕ → Type 0) (rows : List Row) (u : ℕ) (row : Row) → AllByRecursion P (ticks_of rows) → IsRow rows u row → P row.end
+pub end_each : (P : ℕ → Type 0) (rows : List Row) (u : ℕ) (row : Row) → AllByRecursion P (ticks_of rows) → IsRow rows u row → P row.end
 end_each P [] u row all is = absurd (cc)
 end_each P (first ∷ rows) zero row all is = subst (λ (r : Row). P r.end) (same_Some first row is) all.1.0
 end_each P (first ∷ rows) (suc u) row all is = end_each P rows u row all.1.1 is

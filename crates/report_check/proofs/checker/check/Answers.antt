@@ -5,10 +5,10 @@ use Rattle.report_check.proofs.Entries.{long, few, leaves_below, batch_below}
 use Rattle.report_check.proofs.checker.check.Goals as goal
 
 pub returns-then-not-branch-clause-flaw : goal.returns-then-not-branch-clause-flaw
-returns-then-not-branch-clause-flaw c = fails_rows c.args.job.now c.args.raw.now c.workers.result c.batches-book.result.now c.rows-rows.result.now c.workers.ensures.workers c.batches-book.ensures.batches c.rows-rows.ensures.rows  (iff_false c.in_ok-has_rows.ensures.rows c.if-not-branch.true)
+returns-then-not-branch-clause-flaw c = fails_rows c.args.job.now c.args.raw.now c.workers.result c.batches-book.result.now c.rows-rows.result.now c.workers.ensures.workers c.batches-book.ensures.batches c.rows-rows.ensures.rows (iff_false c.in_ok-has_rows.ensures.rows c.if-not-branch.true)
 
 pub returns-then-not-branch-clause-text : goal.returns-then-not-branch-clause-text
-returns-then-not-branch-clause-text c text has = (c.args.raw.now, has, fails_rows c.args.job.now c.args.raw.now c.workers.result c.batches-book.result.now c.rows-rows.result.now c.workers.ensures.workers c.batches-book.ensures.batches c.rows-rows.ensures.rows  (iff_false c.in_ok-has_rows.ensures.rows c.if-not-branch.true))
+returns-then-not-branch-clause-text c text has = (c.args.raw.now, has, fails_rows c.args.job.now c.args.raw.now c.workers.result c.batches-book.result.now c.rows-rows.result.now c.workers.ensures.workers c.batches-book.ensures.batches c.rows-rows.ensures.rows (iff_false c.in_ok-has_rows.ensures.rows c.if-not-branch.true))
 
 pub returns-then-not-branch-2-clause-flaw : goal.returns-then-not-branch-2-clause-flaw
 returns-then-not-branch-2-clause-flaw c = fails_order c.args.job.now c.args.raw.now c.workers.result c.batches-book.result.now c.rows-rows.result.now c.workers.ensures.workers c.batches-book.ensures.batches c.rows-rows.ensures.rows (c.in_ok-has_rows.ensures.rows.0 c.if-not-branch.false) (iff_false c.in_ok-keeps_order.ensures c.if-not-branch-2.true)

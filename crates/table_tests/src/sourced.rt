@@ -28,18 +28,20 @@ fn shape_of_three(alloc: Global) -> Result<Shape, AllocError>
 fn acts_of_three(alloc: Global) -> Result<Vec<Act>, AllocError>
     ensures { IfOk result (λ acts. acts.items ≡ three_acts) }
 {
-    vec![in alloc;
+    let acts = vec![in alloc;
         Act::Call(Op::CounterAdd(5)),
         Act::Call(Op::TreeInsert(0)),
         Act::Call(Op::Push(0)),
-    ]
+    ]?;
+    Ok(acts)
 }
 
 /// The source of each leaf.
 fn sources_of_three(alloc: Global) -> Result<Vec<Option<u32>>, AllocError>
     ensures { IfOk result (λ sources. sources.items ≡ three_sources) }
 {
-    vec![in alloc; None, Some(0), Some(0)]
+    let sources = vec![in alloc; None, Some(0u32), Some(0u32)]?;
+    Ok(sources)
 }
 
 /// `let a = counter add 5 tree insert a stack push a`.
@@ -136,12 +138,13 @@ fn calls_take_the_reply_of_their_source(rt: HostRuntime) -> Result<(), Fail> {
     let ran = run_in_turns(&rt, alloc)?;
     let (report, zero, one) = ran.expect(&rt, "a report");
     let ops = ops_in(alloc, &report)?;
-    assert_eq!(rt; ops.as_slice(), &[(5, 0), (5, 1), (5, 2)]);
+    assert_eq!(rt; ops.as_slice(), [(5u32, 0u32), (5, 1), (5, 2)].as_slice());
     let first = told_in(alloc, zero.as_slice())?;
     let second = told_in(alloc, one.as_slice())?;
     assert_eq!(rt;
-        (first.as_slice(), second.as_slice()),
-        (&[(0, None), (2, Some(5))], &[(1, Some(5))])
+        first.as_slice(),
+        [(0u32, None), (2, Some(5u64))].as_slice()
     );
+    assert_eq!(rt; second.as_slice(), [(1u32, Some(5u64))].as_slice());
     Ok(())
 }

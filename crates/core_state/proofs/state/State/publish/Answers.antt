@@ -8,20 +8,16 @@ use Rattle.core_state.proofs.state.State.publish.Goals as goal
 pub unreachable-requires : goal.unreachable-requires
 unreachable-requires c = no_hold c.args.self.now c.requires.needs.0 c.in_default.is c.requires.needs.1.0
 
-pub taken_calls-requires-clause-tasks_in : goal.taken_calls-requires-clause-tasks_in
-unfolding state_of
-taken_calls-requires-clause-tasks_in c = rw c.deref.ensures.value ((looks c.args.setting.now c.args.self.now c.requires.fits).tasks_in)
-
 pub taken_calls-requires-clause-started : goal.taken_calls-requires-clause-started
 unfolding state_of
 taken_calls-requires-clause-started c =
-    rw c.deref.ensures.value (λ w below took. (looks c.args.setting.now c.args.self.now c.requires.fits).owed w
+    (λ w below took. (looks c.args.setting.now c.args.self.now c.requires.fits).owed w
     (taken_owed c.args.setting.now.job c.args.setting.now.workers c.args.self.now c.in-Some.hold c.args.worker c.requires.fits c.requires.needs c.in-Some.is w took))
 
 pub taken_calls-requires-clause-at_call : goal.taken_calls-requires-clause-at_call
 unfolding state_of
 taken_calls-requires-clause-at_call c =
-    rw c.deref.ensures.value (λ w below took. at_call c.args.setting.now.job c.args.setting.now.workers c.args.self.now c.in-Some.hold c.args.worker c.requires.fits c.requires.needs c.in-Some.is w took)
+    (λ w below took. at_call c.args.setting.now.job c.args.setting.now.workers c.args.self.now c.in-Some.hold c.args.worker c.requires.fits c.requires.needs c.in-Some.is w took)
 
 pub serve_taken-requires-clause-there : goal.serve_taken-requires-clause-there
 serve_taken-requires-clause-there c = rw c.take.ensures.value c.requires.fits.shop
@@ -29,13 +25,13 @@ serve_taken-requires-clause-there c = rw c.take.ensures.value c.requires.fits.sh
 pub serve_taken-requires-clause-may : goal.serve_taken-requires-clause-may
 unfolding state_of
 serve_taken-requires-clause-may c =
-    let taken = rw c.deref.ensures.value at (c.in_ok-calls.ensures (state_of c.args.self.now).book) in
+    let taken = c.in_ok-calls.ensures in
     rw c.take.ensures.value (can_serve c.args.setting.now.job c.args.setting.now.workers c.args.self.now c.in-Some.hold c.args.worker c.requires.fits c.requires.needs c.in-Some.is c.in_ok-calls.calls.items taken)
 
 pub returns-clause-event : goal.returns-clause-event
 unfolding state_of
 returns-clause-event c =
-    let taken = rw c.deref.ensures.value at (c.in_ok-calls.ensures (state_of c.args.self.now).book) in
+    let taken = c.in_ok-calls.ensures in
     let served = rw c.take.ensures.value at c.in_ok-shop.ensures in
     let batch = served_batch c.args.setting.now.job c.args.setting.now.workers c.args.self.now c.in-Some.hold c.args.worker c.requires.fits c.requires.needs c.in-Some.is c.in_ok-calls.calls.items taken served.0 served.1 in
     (served.0, batch, rw (c.in-Some.is, c.publish.ensures, c.put_back.ensures, served.2, served_then (book_of c.args.self.now.shop) served.0) refl)

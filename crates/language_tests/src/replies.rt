@@ -7,10 +7,7 @@ use std::test::Fail;
 /// Texts, each with the source of each leaf, from left to right, or with what is told of its fault. A dash stands for a
 /// leaf that has no source.
 const SOURCES: [(&[u8], &str); 49] = [
-    (
-        b"let a = counter add 5 tree insert a stack push a",
-        "- 0 0",
-    ),
+    (b"let a = counter add 5 tree insert a stack push a", "- 0 0"),
     (
         b"par { let a = counter add 1 tree insert a }",
         "line 1: name not known here",
@@ -19,14 +16,8 @@ const SOURCES: [(&[u8], &str); 49] = [
         b"for 2 { let a = counter add 1 } tree insert a",
         "line 1: name not known here",
     ),
-    (
-        b"tree insert a",
-        "line 1: name not known here",
-    ),
-    (
-        b"work a",
-        "line 1: not in the grammar",
-    ),
+    (b"tree insert a", "line 1: name not known here"),
+    (b"work a", "line 1: not in the grammar"),
     (
         b"par { let a = counter add 1 work 1 } tree insert a",
         "- - 0",
@@ -35,10 +26,7 @@ const SOURCES: [(&[u8], &str); 49] = [
         b"counter add 4294967295 let a = counter add 2 stack push a",
         "- - 1",
     ),
-    (
-        b"let a = counter add a",
-        "line 1: name not known here",
-    ),
+    (b"let a = counter add a", "line 1: name not known here"),
     (
         b"let a = counter add 1 let a = counter add a tree insert a",
         "- 0 1",
@@ -47,10 +35,7 @@ const SOURCES: [(&[u8], &str); 49] = [
         b"let a = counter add 7 for 2 { tree insert a let a = counter add 2 tree insert a } tree insert a",
         "- 0 - 2 0 - 5 0",
     ),
-    (
-        b"for 2 { let a = counter add @ tree insert a }",
-        "- 0 - 2",
-    ),
+    (b"for 2 { let a = counter add @ tree insert a }", "- 0 - 2"),
     (
         b"pfor 2 { let a = counter add @ for 2 { tree insert a stack push @ } }",
         "- 0 - 0 - - 5 - 5 -",
@@ -75,10 +60,7 @@ const SOURCES: [(&[u8], &str); 49] = [
         b"let a = counter add 1 par { let a = counter add 2 tree insert a }",
         "- - 0",
     ),
-    (
-        b"seq { seq { let a = stack pop } } tree next a",
-        "- 0",
-    ),
+    (b"seq { seq { let a = stack pop } } tree next a", "- 0"),
     (
         b"par { par { let a = counter add 1 } seq { let b = counter add 2 stack push b } } tree insert b",
         "- - 1 1",
@@ -87,62 +69,26 @@ const SOURCES: [(&[u8], &str); 49] = [
         b"par { pfor 1 { let a = counter add 1 } } tree insert a",
         "line 1: name not known here",
     ),
-    (
-        b"par { let a = counter add 1 } tree insert a",
-        "- 0",
-    ),
-    (
-        b"for 0 { let a = counter add 1 tree insert a }",
-        "",
-    ),
+    (b"par { let a = counter add 1 } tree insert a", "- 0"),
+    (b"for 0 { let a = counter add 1 tree insert a }", ""),
     (
         b"for 0 { let a = counter add 1 tree insert b }",
         "line 1: name not known here",
     ),
-    (
-        b"let a = counter add 1 for 0 { tree insert a }",
-        "-",
-    ),
-    (
-        b"let work = counter add 1",
-        "line 1: not in the grammar",
-    ),
-    (
-        b"let a = work 5",
-        "line 1: not in the grammar",
-    ),
-    (
-        b"let a=counter add 1",
-        "line 1: not in the grammar",
-    ),
-    (
-        b"let a =",
-        "line 1: not in the grammar",
-    ),
+    (b"let a = counter add 1 for 0 { tree insert a }", "-"),
+    (b"let work = counter add 1", "line 1: not in the grammar"),
+    (b"let a = work 5", "line 1: not in the grammar"),
+    (b"let a=counter add 1", "line 1: not in the grammar"),
+    (b"let a =", "line 1: not in the grammar"),
     (
         b"let a = seq { counter add 1 }",
         "line 1: not in the grammar",
     ),
-    (
-        b"tree insert let",
-        "line 1: not in the grammar",
-    ),
-    (
-        b"tree insert Abc",
-        "line 1: not in the grammar",
-    ),
-    (
-        b"let 1a = queue take",
-        "line 1: not in the grammar",
-    ),
-    (
-        b"let @ = counter add 1",
-        "line 1: not in the grammar",
-    ),
-    (
-        b"for a { work 1 }",
-        "line 1: not in the grammar",
-    ),
+    (b"tree insert let", "line 1: not in the grammar"),
+    (b"tree insert Abc", "line 1: not in the grammar"),
+    (b"let 1a = queue take", "line 1: not in the grammar"),
+    (b"let @ = counter add 1", "line 1: not in the grammar"),
+    (b"for a { work 1 }", "line 1: not in the grammar"),
     (
         b"let a = counter add 1 work a",
         "line 1: not in the grammar",
@@ -163,14 +109,8 @@ const SOURCES: [(&[u8], &str); 49] = [
         b"let aaaaaaaaaaaaaaaaaaaaaaaaaaaaaaaa = counter add 1 tree insert aaaaaaaaaaaaaaaaaaaaaaaaaaaaaaaa",
         "- 0",
     ),
-    (
-        b"let a_1 = queue take queue insert a_1",
-        "- 0",
-    ),
-    (
-        b"let ok = queue take queue insert ok",
-        "- 0",
-    ),
+    (b"let a_1 = queue take queue insert a_1", "- 0"),
+    (b"let ok = queue take queue insert ok", "- 0"),
     (
         b"let\na\n=\ncounter\nadd 007",
         "line 5: number out of range",
@@ -287,8 +227,14 @@ fn replies_have_these_texts(rt: HostRuntime) -> Result<(), Fail> {
 fn many_lets_are_read(rt: HostRuntime) -> Result<(), Fail> {
     let lets = "let a = stack pop\n".repeat(rt.alloc(), 58_000)?;
     let text = format!(in rt.alloc(); "{lets}stack push b")?;
-    assert_eq!(rt; sources(rt.alloc(), text.as_bytes())?.as_str(), "line 58001: name not known here");
+    assert_eq!(rt;
+        sources(rt.alloc(), text.as_bytes())?.as_str(),
+        "line 58001: name not known here"
+    );
     let text = format!(in rt.alloc(); "{lets}stack push a")?;
-    assert_eq!(rt; sources(rt.alloc(), text.as_bytes())?.as_str(), "line 20001: too many leaves");
+    assert_eq!(rt;
+        sources(rt.alloc(), text.as_bytes())?.as_str(),
+        "line 20001: too many leaves"
+    );
     Ok(())
 }

@@ -1,5 +1,5 @@
 -- What is added, item by item and copy by copy.
-use Rattle.std.proofs.Common.{◌≡◌, ℕ, zero, suc, ◌+◌, ◌*◌, ◌<◌, ◌≤◌, List, [], ◌∷◌, ◌++◌, length, take, drop, get_or, true, Result, Ok, Err, Vec, Global, Option, Some, None, refl, sym, ap, ◌∙◌, arith, append_assoc, append-nil, length-append, subst}
+use Rattle.std.proofs.Common.{◌≡◌, ℕ, zero, suc, ◌+◌, ◌*◌, ◌<◌, ◌≤◌, List, [], ◌++◌, length, take, drop, get_or, true, Result, Ok, Err, Vec, Global, Some, refl, sym, ap, ◌∙◌, arith, append_assoc, append-nil, length-append, subst}
 use Rattle.job_names.specs.declared.name.Name.{Name}
 use Rattle.job_names.specs.declared.kind.Kind.TheVariants as kind
 use Rattle.job_names.specs.Scopes.{Scope, job, inside, with_lets, closed}
@@ -10,7 +10,7 @@ use Rattle.job_syntax.specs.declared.lexer.word.Word.TheVariants.{Number}
 use Rattle.job_syntax.specs.declared.item.Item.{Item, Leaf as ItemLeaf, Let as ItemLet, Block}
 use Rattle.job_syntax.specs.declared.item.Leaf.{Leaf as CodeLeaf}
 use Rattle.job_syntax.specs.declared.item.BlockKind.{BlockKind as CodeBlockKind}
-use Rattle.job_syntax.specs.Blocks.{word_number, copies_of, name_kind}
+use Rattle.job_syntax.specs.Blocks.{name_kind}
 use Rattle.job_syntax.specs.Grammar.{Items, nothing, leaf_then, block_then, BlockKind, seq_block, par_block, for_loop, pfor_loop, ◌then◌, bound}
 use Rattle.job_syntax.specs.Views.{items_of, item_of, leaf_of, block_kind_of}
 use Rattle.job_syntax.proofs.ParserLemmas.Levels.{items_of_more, items_of_parts, item_of_leaf, item_of_let, item_of_block}
@@ -204,7 +204,7 @@ pub from_nothing : (items : Items) (old new : Leaves) → old.acts.items ≡ [] 
 from_nothing items old new no_acts no_sources at_front h = (
   h.acts ∙ ap (λ acts. acts ++ acts_in 0 items) no_acts,
   h.sources ∙ ap (λ all. all ++ scoped_sources (names.view old.scopes) (length old.acts.items) items) no_sources
-  ∙ ap (λ s. scoped_sources s (length old.acts.items) items) at_front ∙ ap (λ acts. scoped_sources (job []) (length acts) items) no_acts ∙ job_sources items,
+      ∙ ap (λ s. scoped_sources s (length old.acts.items) items) at_front ∙ ap (λ acts. scoped_sources (job []) (length acts) items) no_acts ∙ job_sources items,
 )
 
 pub on_ok : {X E : Type 0} (r : Result X E) (A B : Type 0) → (A → B) → OnOk r A → OnOk r B

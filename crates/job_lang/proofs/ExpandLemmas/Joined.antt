@@ -1,8 +1,8 @@
 -- What is before what in a list of shapes, and in the shape that joins them in halves.
-use Rattle.std.proofs.Common.{ℕ, zero, suc, ◌≡◌, ◌+◌, ◌/◌, ◌<◌, ◌≤◌, ◌⊎◌, inl, inr, Bool, true, false, List, [], ◌∷◌, ◌++◌, length, take, drop, Option, Some, None, IsSome, arith, refl, sym, ap, ◌∙◌, subst, length-take, length-drop, take-append-drop}
+use Rattle.std.proofs.Common.{ℕ, zero, suc, ◌≡◌, ◌+◌, ◌<◌, ◌≤◌, ◌⊎◌, inl, inr, Bool, true, false, List, [], ◌∷◌, ◌++◌, length, take, drop, Option, Some, None, IsSome, arith, refl, sym, ap, ◌∙◌, subst, length-take, length-drop, take-append-drop}
 use Rattle.std.specs.Prelude.{option_to_list, sum_by}
 use Rattle.std.proofs.lemmas.List.Sums.{sum_by-cons}
-use Rattle.sp_order.specs.Precedence.{Tree, leaf, seq, par, leaves, leaf_count, IsLeafOf, IsBeforeFrom}
+use Rattle.sp_order.specs.Precedence.{Tree, leaf, seq, par, leaves, leaf_count, IsBeforeFrom}
 use Rattle.job_lang.specs.Joins.{join_within, join_of, both, half}
 use Rattle.job_lang.specs.Meaning.{join_list}
 use Rattle.job_lang.proofs.ExpandLemmas.Before.{total, kind_by, IsBeforeIn, IsBeforeOpt}
@@ -129,12 +129,12 @@ joined_within series (suc n) (x ∷ y ∷ zs) first u v few h =
     let back = join_within_leaves series n (drop at xs) short' in
     let parts : IsBeforeIn series first (take at xs ++ drop at xs) u v = subst (λ ts. IsBeforeIn series first ts u v) (sym (take-append-drop at xs)) h in
     both_before series first (total (take at xs)) (total (drop at xs)) u v (join_within kind n (take at xs)) (join_within kind n (drop at xs))
-        (front.0 (simp length-take (omega arith))) (back.0 (simp length-drop (omega arith))) front.1 back.1
-        (elim (split series first (take at xs) (drop at xs) u v parts) [
-          | inl l ↦ inl (joined_within series n (take at xs) first u v short l)
-          | inr (inl r) ↦ inr (inl (joined_within series n (drop at xs) (first + total (take at xs)) u v short' r))
-          | inr (inr c) ↦ inr (inr c)
-        ])
+    (front.0 (simp length-take (omega arith))) (back.0 (simp length-drop (omega arith))) front.1 back.1
+    (elim (split series first (take at xs) (drop at xs) u v parts) [
+      | inl l ↦ inl (joined_within series n (take at xs) first u v short l)
+      | inr (inl r) ↦ inr (inl (joined_within series n (drop at xs) (first + total (take at xs)) u v short' r))
+      | inr (inr c) ↦ inr (inr c)
+    ])
 
 pub joined_of : (series : Bool) (xs : List Tree) (first u v : ℕ) → IsBeforeIn series first xs u v → IsBeforeOpt first (join_of (kind_by series) xs) u v
 joined_of series xs first u v h = joined_within series (length xs) xs first u v (omega arith) h

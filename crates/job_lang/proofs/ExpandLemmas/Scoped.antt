@@ -1,5 +1,5 @@
 -- The leaves that are added, item by item and copy by copy, and their sources by the meaning.
-use Rattle.std.proofs.Common.{◌≡◌, ℕ, zero, suc, ◌+◌, ◌*◌, Bool, true, false, not, List, [], ◌∷◌, ◌++◌, length, Option, Some, None, refl, sym, ap, ◌∙◌, arith, append_assoc, append-nil, length-append, subst}
+use Rattle.std.proofs.Common.{◌≡◌, ℕ, zero, suc, ◌+◌, ◌*◌, Bool, true, false, not, List, [], ◌∷◌, ◌++◌, Option, Some, None, refl, sym, ap, ◌∙◌, arith, append_assoc, append-nil, subst}
 use Rattle.std.specs.Prelude.{if◌then◌else◌}
 use Rattle.job_names.specs.declared.name.Name.{Name}
 use Rattle.job_names.specs.declared.kind.Kind.{Kind}
@@ -10,11 +10,10 @@ use Rattle.job_names.specs.Scopes.{Scope, job, inside, is_par, or_else, last_of,
 use Rattle.job_names.proofs.ScopeLemmas.{last_append, with_nothing}
 use Rattle.job_syntax.specs.declared.lexer.word.Word.TheVariants.{Named}
 use Rattle.job_syntax.specs.Blocks.{word_number, copies_of}
-use Rattle.job_syntax.specs.Grammar.{Items, nothing, leaf_then, block_then, BlockKind, seq_block, par_block, for_loop, pfor_loop, ◌then◌, Leaf, with_argument, stack_pop, queue_take, bound, is_loop}
+use Rattle.job_syntax.specs.Grammar.{Items, nothing, leaf_then, block_then, seq_block, par_block, for_loop, pfor_loop, ◌then◌, Leaf, with_argument, stack_pop, queue_take, bound, is_loop}
 use Rattle.job_lang.specs.Counts.{count}
-use Rattle.job_lang.specs.Meaning.{acts_in, each_copy, Known, leaf_known, source_of, known_by, known_behind, known_next, sources_in}
+use Rattle.job_lang.specs.Meaning.{each_copy, Known, leaf_known, source_of, known_by, known_behind, known_next, sources_in}
 use Rattle.job_lang.specs.Code.Scoped.{lets_at, lets_behind, scoped_source, scoped_sources}
-use Rattle.job_lang.proofs.LimitLemmas.Cuts.{count_then}
 
 -- items one after another
 

@@ -1,17 +1,16 @@
 -- Sources are call leaves that stand before the leaves that use them.
 use Rattle.std.proofs.Common.{ℕ, zero, suc, ◌≡◌, ◌+◌, ◌*◌, ◌<◌, ◌≤◌, ◌⊎◌, inl, inr, Bool, true, false, List, [], ◌∷◌, ◌++◌, length, Option, Some, None, arith, refl, sym, ap, ◌∙◌, subst, length-append}
-use Rattle.std.specs.Prelude.{if◌then◌else◌, ◌==◌, slice_get, IsTrue}
+use Rattle.std.specs.Prelude.{if◌then◌else◌, slice_get}
 use Rattle.seq_objects.specs.declared.act.Act.{Act}
-use Rattle.seq_objects.specs.declared.act.Act.TheVariants.{Work, Call}
+use Rattle.seq_objects.specs.declared.act.Act.TheVariants.{Call}
 use Rattle.seq_objects.specs.declared.op.Op.{Op}
 use Rattle.seq_objects.specs.declared.op.Op.TheVariants.{CounterAdd, Push, Pop, TreeInsert, TreeRemove, TreeFind, TreeNext, PqInsert, PqTake}
 use Rattle.seq_objects.specs.Objects.{argument_of}
-use Rattle.sp_order.specs.Precedence.{Tree, leaf, seq, par, leaves, IsBeforeFrom, IsBefore}
+use Rattle.sp_order.specs.Precedence.{Tree, leaf, seq, par, IsBefore}
 use Rattle.sp_order.specs.Sources.{has_argument, IsSource, AreSources}
 use Rattle.job_names.specs.declared.name.Name.{Name}
 use Rattle.job_names.specs.Names.{same_name}
-use Rattle.job_syntax.specs.declared.lexer.word.Word.{Word}
-use Rattle.job_syntax.specs.declared.lexer.word.Word.TheVariants.{Number, Copies, Named}
+use Rattle.job_syntax.specs.declared.lexer.word.Word.TheVariants.{Named}
 use Rattle.job_syntax.specs.Blocks.{word_number}
 use Rattle.job_syntax.specs.Grammar.{UnaryOp, work, counter_add, stack_push, tree_insert, tree_remove, tree_find, tree_next, queue_insert, Leaf, with_argument, stack_pop, queue_take, bound, BlockKind, seq_block, par_block, for_loop, pfor_loop, Items, nothing, leaf_then, block_then, is_argument, is_call_argument}
 use Rattle.job_syntax.specs.Grammar as grammar
@@ -346,8 +345,8 @@ sourced (leaf_then l more) series known first c u v are (inr h) =
     let range = source_range (first + 1) (sources_in series next (first + 1) more) v u h in
     let high = range.1 in
     step series (known_by first l) known first (first + 1) (leaf ∷ []) (shapes_in c more) (act_of c l ∷ []) (acts_in c more) u v (omega arith) (omega arith)
-        (λ k. given l first c u are.0 k) range.0 (omega (arith, high, sources_count more series next (first + 1), shapes_count more c))
-        (sourced more series next (first + 1) c u v are.1 h)
+    (λ k. given l first c u are.0 k) range.0 (omega (arith, high, sources_count more series next (first + 1), shapes_count more c))
+    (sourced more series next (first + 1) c u v are.1 h)
 sourced (block_then seq_block body more) series known first c u v are h =
     let at = first + 1 * count body in
     let next = known_next series (known_behind first body) known in
@@ -358,9 +357,9 @@ sourced (block_then seq_block body more) series known first c u v are h =
           let range = source_range at (sources_in series next at more) v u r in
           let high = range.1 in
           step series (known_behind first body) known first at (join_list seq xs) (shapes_in c more) (acts_in c body) (acts_in c more) u v
-              (omega (arith, total_joined true xs, shapes_count body c)) (omega (arith, acts_count body c))
-              (λ k. known_calls body first c u are.0 k) range.0 (omega (arith, high, sources_count more series next at, shapes_count more c))
-              (sourced more series next at c u v are.1 r)
+          (omega (arith, total_joined true xs, shapes_count body c)) (omega (arith, acts_count body c))
+          (λ k. known_calls body first c u are.0 k) range.0 (omega (arith, high, sources_count more series next at, shapes_count more c))
+          (sourced more series next at c u v are.1 r)
     ]
 sourced (block_then par_block body more) series known first c u v are h =
     let at = first + 1 * count body in
@@ -372,9 +371,9 @@ sourced (block_then par_block body more) series known first c u v are h =
           let range = source_range at (sources_in series next at more) v u r in
           let high = range.1 in
           step series (known_behind first body) known first at (join_list par xs) (shapes_in c more) (acts_in c body) (acts_in c more) u v
-              (omega (arith, total_joined false xs, shapes_count body c)) (omega (arith, acts_count body c))
-              (λ k. known_calls body first c u are.0 k) range.0 (omega (arith, high, sources_count more series next at, shapes_count more c))
-              (sourced more series next at c u v are.1 r)
+          (omega (arith, total_joined false xs, shapes_count body c)) (omega (arith, acts_count body c))
+          (λ k. known_calls body first c u are.0 k) range.0 (omega (arith, high, sources_count more series next at, shapes_count more c))
+          (sourced more series next at c u v are.1 r)
     ]
 sourced (block_then (for_loop n) body more) series known first c u v are h =
     let m = count body in

@@ -302,12 +302,18 @@ leaf_fits written well = given_fits written.named written.number written.act wri
 pub tree_fits : (tree : Tree) (written : List WrittenLeaf) (more : Items) → AreWell written → AreItems false more → AreItems false (tree_items tree written more)
 tree_fits leaf [] more well fits = fits
 tree_fits leaf (one ∷ written) more well fits = (leaf_fits one well.0, fits)
-tree_fits (seq left right) written more well fits =
-    (tt, tree_fits left (take (leaves left) written) (tree_items right (drop (leaves left) written) nothing) (each_of_first IsWell (leaves left) written well)
-    (tree_fits right (drop (leaves left) written) nothing (each_of_rest IsWell (leaves left) written well) tt), fits)
-tree_fits (par left right) written more well fits =
-    (tt, tree_fits left (take (leaves left) written) (tree_items right (drop (leaves left) written) nothing) (each_of_first IsWell (leaves left) written well)
-    (tree_fits right (drop (leaves left) written) nothing (each_of_rest IsWell (leaves left) written well) tt), fits)
+tree_fits (seq left right) written more well fits = (
+  tt,
+  tree_fits left (take (leaves left) written) (tree_items right (drop (leaves left) written) nothing) (each_of_first IsWell (leaves left) written well)
+      (tree_fits right (drop (leaves left) written) nothing (each_of_rest IsWell (leaves left) written well) tt),
+  fits,
+)
+tree_fits (par left right) written more well fits = (
+  tt,
+  tree_fits left (take (leaves left) written) (tree_items right (drop (leaves left) written) nothing) (each_of_first IsWell (leaves left) written well)
+      (tree_fits right (drop (leaves left) written) nothing (each_of_rest IsWell (leaves left) written well) tt),
+  fits,
+)
 
 -- each number of the words has no leading zero and fits 32 bits
 

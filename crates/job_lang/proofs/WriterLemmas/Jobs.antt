@@ -1,6 +1,6 @@
 -- The canonical text of a job is a text of that job, and it is short.
-use Rattle.std.proofs.Common.{zero, suc, ◌+◌, ◌^◌, ◌⊎◌, inl, inr, true, true≢false, Bool, ◌≡◌, ℕ, ◌<◌, ◌≤◌, List, [], ◌∷◌, ◌++◌, length, codes, false, Option, Some, None, refl, sym, ap, subst, ◌∙◌, arith, append-nil, length-append}
-use Rattle.std.specs.Prelude.{filter, IsTrue, slice_get, ◌||◌}
+use Rattle.std.proofs.Common.{suc, ◌+◌, ◌^◌, ◌⊎◌, inl, inr, true, true≢false, ◌≡◌, ℕ, ◌<◌, ◌≤◌, List, [], ◌∷◌, ◌++◌, length, codes, false, Option, Some, None, refl, sym, ap, subst, ◌∙◌, arith, append-nil, length-append}
+use Rattle.std.specs.Prelude.{filter, IsTrue, slice_get}
 use Rattle.seq_objects.specs.Words.{op_words}
 use Rattle.seq_objects.specs.declared.act.Act.{Act}
 use Rattle.seq_objects.specs.declared.act.Act.TheVariants.{Call}
@@ -10,13 +10,12 @@ use Rattle.sp_order.specs.Depth.{tree_depth, depth_of}
 use Rattle.sp_order.specs.Jobs.{JobValue, IsJob}
 use Rattle.job_syntax.specs.declared.lexer.word.WordOnLine.{WordOnLine}
 use Rattle.job_lang.specs.ActNumbers.{op_number, IsSmall, AreSmall}
-use Rattle.job_lang.specs.Code.Smalls.{IsSmallLeaf, AreSmallLeaves}
+use Rattle.job_lang.specs.Code.Smalls.{AreSmallLeaves}
 use Rattle.job_lang.specs.declared.writer.written.WrittenLeaf.{WrittenLeaf}
 use Rattle.job_lang.specs.Meaning.{sources_in}
-use Rattle.sp_order.specs.Precedence.{IsBeforeFrom, IsBefore}
-use Rattle.sp_order.specs.Sources.{has_argument, IsSource, AreSources}
+use Rattle.sp_order.specs.Precedence.{IsBeforeFrom}
+use Rattle.sp_order.specs.Sources.{AreSources}
 use Rattle.sp_order.specs.Phases.{HasNoSources}
-use Rattle.seq_objects.specs.Objects.{argument_of}
 use Rattle.std.specs.List.{AllByRecursion}
 use Rattle.job_syntax.specs.Code.Shown.{AreShown}
 use Rattle.job_syntax.proofs.ParserLemmas.Uses.{tokens_known}
@@ -28,10 +27,10 @@ use Rattle.job_lang.specs.Limits.{first_line, depends_on_copy}
 use Rattle.job_lang.specs.Language.{IsJobOf}
 use Rattle.job_lang.specs.Canonical.{is_source, written_from, written_leaves, tree_text, shape_text, canonical_text}
 use Rattle.job_lang.proofs.EachOf.{each_before_map}
-use Rattle.job_lang.proofs.WriterLemmas.Items.{AreGood, IsWell, AreWell, acts_of, sources_of, leaf_of_op, tree_items, job_again, tree_count, tree_nesting, tree_range_flags, tree_fits, tree_good}
+use Rattle.job_lang.proofs.WriterLemmas.Items.{AreGood, AreWell, acts_of, sources_of, tree_items, job_again, tree_count, tree_nesting, tree_range_flags, tree_fits, tree_good}
 use Rattle.job_lang.proofs.WriterLemmas.Bytes.{ArePlain, bare_same, none_forbidden, plain_append, plain_tree, short_tree, IsFew, IsUnnamed, plain_short_tree}
 use Rattle.job_lang.proofs.WriterLemmas.Words.{said_from, tree_said}
-use Rattle.job_lang.proofs.WriterLemmas.Sources.{acts_from, sources_from, length_from, found_source, source_found, AreAt, at_from, well_from, Sourced, Has, sourced, tree_sources, no_source}
+use Rattle.job_lang.proofs.WriterLemmas.Sources.{acts_from, sources_from, length_from, found_source, source_found, at_from, well_from, Sourced, Has, sourced, tree_sources, no_source}
 use Rattle.job_lang.proofs.WriterLemmas.Shown.{tree_shown, op_shown}
 
 -- the text of a shape, with blanks after it
@@ -73,10 +72,10 @@ module _ (tree : Tree) (acts : List Act) (sources : List (Option ℕ)) (are : Ar
   well = well_from sources 0 acts sources
       (λ i u act e f. let is = are.each i u f in (is.op, (same_act act (Call is.op) i e is.call, (is.argument, is.stands_as_zero))))
       (λ i act e named.
-          let number : 0 + i ≡ i = omega arith in
-          let found = found_source sources i (subst (λ n. is_source sources n ≡ true) number named) in
-          let is = are.each found.0 i found.1 in
-          (is.calls.0, same_act act (Call is.calls.0) i e is.calls.1))
+      let number : 0 + i ≡ i = omega arith in
+      let found = found_source sources i (subst (λ n. is_source sources n ≡ true) number named) in
+      let is = are.each found.0 i found.1 in
+      (is.calls.0, same_act act (Call is.calls.0) i e is.calls.1))
 
   at_now : (all : List (Option ℕ)) (number : ℕ) (some : List Act) (sources' : List (Option ℕ)) (v u : ℕ) → Has number (written_from all number some sources') v u → (i : ℕ) × ((v ≡ number + i) × (slice_get sources' i ≡ Some (Some u)))
   at_now all number [] sources' v u h = elim h [ ]
@@ -121,7 +120,7 @@ shape_is_job (Some tree) acts sources same few are deep small =
     let written = written_from sources 0 acts sources in
     let count = length_from sources 0 acts sources are.as_many in
     let job : record { shape = Some tree; acts = acts_of written; sources = sources_of written } ≡ record { shape = Some tree; acts = acts; sources = sources } =
-        λ i. record { shape = Some tree; acts = acts_from sources 0 acts sources are.as_many i; sources = sources_from sources 0 acts sources are.as_many i } in
+    λ i. record { shape = Some tree; acts = acts_from sources 0 acts sources are.as_many i; sources = sources_from sources 0 acts sources are.as_many i } in
     subst (IsJobOf (tree_text tree written ++ codes "\n")) job
     (tree_is_job tree written (codes "\n") (count ∙ sym same) (omega (arith, count, few)) deep small (well tree acts sources are) (sources_now tree acts sources are same few) (shown_now tree acts sources are same) refl refl refl)
 

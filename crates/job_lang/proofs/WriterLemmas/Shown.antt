@@ -1,20 +1,17 @@
 -- Each name in the canonical text has its let shown.
-use Rattle.std.proofs.Common.{◌≡◌, ℕ, zero, suc, ◌+◌, ◌*◌, ◌<◌, ◌≤◌, ◌^◌, ◌⊎◌, inl, inr, Bool, true, false, List, [], ◌∷◌, ◌++◌, length, take, drop, Option, Some, None, is_some, refl, sym, ap, ◌∙◌, arith, subst, append_assoc, append-nil}
+use Rattle.std.proofs.Common.{◌≡◌, ℕ, ◌+◌, ◌<◌, ◌≤◌, ◌⊎◌, inl, inr, Bool, true, false, List, [], ◌∷◌, length, take, drop, Option, Some, None, is_some, refl, sym, ap, ◌∙◌, arith}
 use Rattle.std.specs.Prelude.{if◌then◌else◌, IsTrue}
 use Rattle.job_names.specs.declared.name.Name.{Name}
-use Rattle.job_names.specs.declared.kind.Kind.TheVariants as kind
 use Rattle.job_names.specs.declared.scopes.Let.{Let}
-use Rattle.job_names.specs.Scopes.{Scope, inside, last_of, lets_shown}
+use Rattle.job_names.specs.Scopes.{Scope, last_of, lets_shown}
 use Rattle.seq_objects.specs.declared.act.Act.{Act}
 use Rattle.seq_objects.specs.declared.act.Act.TheVariants.{Work, Call}
 use Rattle.seq_objects.specs.declared.op.Op.{Op}
 use Rattle.seq_objects.specs.declared.op.Op.TheVariants.{CounterAdd, Push, Pop, TreeInsert, TreeRemove, TreeFind, TreeNext, PqInsert, PqTake}
 use Rattle.sp_order.specs.Precedence.{Tree, leaf, seq, par, leaves}
-use Rattle.job_syntax.specs.Grammar.{Items, nothing, leaf_then, block_then, seq_block, par_block, ◌then◌, Leaf}
+use Rattle.job_syntax.specs.Grammar.{Items, nothing, leaf_then, seq_block, par_block, ◌then◌, Leaf}
 use Rattle.job_syntax.specs.Code.Shown.{OpenBlock, lets_of, lets_behind, scope_at, is_shown, IsShownLeaf, AreShown}
-use Rattle.job_syntax.proofs.ParserLemmas.Derivations.{then_assoc, then_nothing}
 use Rattle.job_syntax.proofs.ParserLemmas.Shown.{in_first, in_second, own_from}
-use Rattle.job_syntax.proofs.ParserLemmas.ShownSteps.{lets_then}
 use Rattle.job_lang.specs.declared.writer.written.WrittenLeaf.{WrittenLeaf}
 use Rattle.job_lang.specs.Canonical.{is_source}
 use Rattle.job_lang.proofs.WriterLemmas.Items.{leaf_of_act, leaf_of_op, named_leaf, given_name, leaf_of_written, tree_items, left_length, right_length}
@@ -125,11 +122,11 @@ tree_shown all (seq left right) written first blocks before K more same at src h
     let atl = at_take all first (leaves left) written at in
     let atr = at_drop all first (leaves left) (first + leaves left) written refl at in
     let back : AreShown inner (tree_items left wl nothing) (tree_items right wr nothing) =
-        tree_shown all right wr (first + leaves left) inner (tree_items left wl nothing) (λ u. K u ⊎ IsNamedIn all left first u) nothing long' atr src.1
-        (λ u k. elim k [
-          | inl old ↦ in_first (leaf_name u) outer (lets_behind (tree_items left wl nothing)) (holds u old)
-          | inr new ↦ let r = leaf_range left first u new.0 in in_second (leaf_name u) outer (lets_behind (tree_items left wl nothing)) (shown_behind all left first wl nothing u long atl r.0 r.1 new.1)
-        ]) tt in
+    tree_shown all right wr (first + leaves left) inner (tree_items left wl nothing) (λ u. K u ⊎ IsNamedIn all left first u) nothing long' atr src.1
+    (λ u k. elim k [
+      | inl old ↦ in_first (leaf_name u) outer (lets_behind (tree_items left wl nothing)) (holds u old)
+      | inr new ↦ let r = leaf_range left first u new.0 in in_second (leaf_name u) outer (lets_behind (tree_items left wl nothing)) (shown_behind all left first wl nothing u long atl r.0 r.1 new.1)
+    ]) tt in
     (tree_shown all left wl first inner nothing K (tree_items right wr nothing) long atl src.0 (λ u k. in_first (leaf_name u) outer [] (holds u k)) back, rest)
 tree_shown all (par left right) written first blocks before K more same at src holds rest =
     let wl = take (leaves left) written in
@@ -141,5 +138,5 @@ tree_shown all (par left right) written first blocks before K more same at src h
     let atl = at_take all first (leaves left) written at in
     let atr = at_drop all first (leaves left) (first + leaves left) written refl at in
     let back : AreShown inner (tree_items left wl nothing) (tree_items right wr nothing) =
-        tree_shown all right wr (first + leaves left) inner (tree_items left wl nothing) K nothing long' atr src.1 (λ u k. in_first (leaf_name u) outer [] (holds u k)) tt in
+    tree_shown all right wr (first + leaves left) inner (tree_items left wl nothing) K nothing long' atr src.1 (λ u k. in_first (leaf_name u) outer [] (holds u k)) tt in
     (tree_shown all left wl first inner nothing K (tree_items right wr nothing) long atl src.0 (λ u k. in_first (leaf_name u) outer [] (holds u k)) back, rest)

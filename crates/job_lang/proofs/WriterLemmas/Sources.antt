@@ -1,10 +1,9 @@
 -- The items of the canonical text give the sources back.
-use Rattle.std.proofs.Common.{map, ◌≡◌, ℕ, zero, suc, ◌+◌, ◌*◌, ◌<◌, ◌≤◌, ◌^◌, ◌⊎◌, inl, inr, Bool, true, false, true≢false, List, [], ◌∷◌, ◌++◌, length, take, drop, Option, Some, None, refl, sym, ap, ◌∙◌, arith, subst, append_assoc, append-nil, length-take, length-drop}
-use Rattle.std.specs.Prelude.{if◌then◌else◌, ◌==◌, ◌||◌, slice_get}
-use Rattle.std.specs.List.{AllByRecursion, list_any}
+use Rattle.std.proofs.Common.{◌≡◌, ℕ, zero, suc, ◌+◌, ◌*◌, ◌<◌, ◌≤◌, ◌^◌, ◌⊎◌, inl, inr, Bool, true, false, true≢false, List, [], ◌∷◌, ◌++◌, length, take, drop, Option, Some, None, refl, sym, ap, ◌∙◌, arith, subst, append-nil}
+use Rattle.std.specs.Prelude.{if◌then◌else◌, ◌||◌, slice_get}
+use Rattle.std.specs.List.{AllByRecursion}
 use Rattle.std.proofs.Common.{eqb-true, eq-eqb}
 use Rattle.std.proofs.lemmas.List.{map-append, take-append-drop}
-use Rattle.job_names.specs.declared.name.Name.{Name}
 use Rattle.job_names.specs.Names.{same_name}
 use Rattle.job_names.proofs.SameNames.{same_from, same_to}
 use Rattle.seq_objects.specs.declared.act.Act.{Act}
@@ -12,9 +11,9 @@ use Rattle.seq_objects.specs.declared.act.Act.TheVariants.{Work, Call}
 use Rattle.seq_objects.specs.declared.op.Op.{Op}
 use Rattle.seq_objects.specs.declared.op.Op.TheVariants.{CounterAdd, Push, Pop, TreeInsert, TreeRemove, TreeFind, TreeNext, PqInsert, PqTake}
 use Rattle.seq_objects.specs.Objects.{argument_of}
-use Rattle.sp_order.specs.Precedence.{Tree, leaf, seq, par, leaves, IsLeafOf, IsBeforeFrom, IsBefore}
-use Rattle.sp_order.specs.Sources.{has_argument, IsSource, AreSources}
-use Rattle.job_syntax.specs.Grammar.{Items, nothing, leaf_then, block_then, seq_block, par_block, Leaf}
+use Rattle.sp_order.specs.Precedence.{Tree, leaf, seq, par, leaves, IsLeafOf, IsBeforeFrom}
+use Rattle.sp_order.specs.Sources.{has_argument}
+use Rattle.job_syntax.specs.Grammar.{Items, nothing, Leaf}
 use Rattle.job_lang.specs.declared.writer.written.WrittenLeaf.{WrittenLeaf}
 use Rattle.job_lang.specs.Counts.{count}
 use Rattle.job_lang.specs.Meaning.{Known, leaf_known, source_of, known_by, known_behind, known_next, sources_in}
@@ -22,7 +21,7 @@ use Rattle.job_lang.specs.Canonical.{is_leaf, is_source, written_from}
 use Rattle.job_lang.proofs.EachOf.{each_append, each_of_first, each_of_rest}
 use Rattle.job_lang.proofs.ExpandLemmas.Joined.{before_is_smaller}
 use Rattle.job_lang.proofs.ExpandLemmas.Sourcing.{HasLeaf}
-use Rattle.job_lang.proofs.WriterLemmas.Items.{leaf_of_act, leaf_of_op, named_leaf, given_name, leaf_of_written, tree_items, tree_count, left_length, right_length, IsWell, AreWell, acts_of, sources_of}
+use Rattle.job_lang.proofs.WriterLemmas.Items.{leaf_of_act, named_leaf, given_name, leaf_of_written, tree_items, tree_count, left_length, right_length, IsWell, AreWell, acts_of, sources_of}
 use Rattle.job_lang.proofs.WriterLemmas.Names.{leaf_name, one_leaf}
 
 -- the leaves of a job as they are written
@@ -111,7 +110,7 @@ well_from all number (act ∷ acts) (source ∷ sources) stands calls = (
     calls = λ named. calls 0 act refl (let same : number ≡ number + 0 = omega arith in subst (λ n. is_source all n ≡ true) same named);
   },
   well_from all (number + 1) acts sources (λ i u act e f. stands (suc i) u act e f)
-  (λ i act e named. calls (suc i) act e (let same : number + 1 + i ≡ number + suc i = omega arith in subst (λ n. is_source all n ≡ true) same named)),
+      (λ i act e named. calls (suc i) act e (let same : number + 1 + i ≡ number + suc i = omega arith in subst (λ n. is_source all n ≡ true) same named)),
 )
 
 -- each source is known, or named before the leaf in the shape
@@ -179,28 +178,30 @@ pub sourced : (all : List (Option ℕ)) (tree : Tree) (first : ℕ) (written : L
     → ((v u : ℕ) → Has first written v u → (IsBeforeFrom first tree u v × (is_source all u ≡ true)) ⊎ K u) → Sourced all tree first written K
 sourced all leaf first written K same h = first_sourced first written K (λ v u has. elim (h v u has) [ inl b ↦ elim b.0 [ ] | inr k ↦ k ])
 sourced all (seq left right) first written K same h =
-    let long = left_length left right written same in
-    (sourced all left first (take (leaves left) written) K long
-    (λ v u has.
-        let low : v < first + leaves left = (let r = (has_range first (take (leaves left) written) v u has).1 in omega (arith, r, long)) in
-        elim (h v u (has_take (leaves left) first written v u has)) [ inl b ↦ inl (in_left left right first u v low b.0, b.1) | inr k ↦ inr k ]),
-    sourced all right (first + leaves left) (drop (leaves left) written) (λ u. K u ⊎ IsNamedIn all left first u) (right_length left right written same)
-    (λ v u has.
-        let high = (has_range (first + leaves left) (drop (leaves left) written) v u has).0 in
-        elim (h v u (has_drop (leaves left) first (first + leaves left) written v u refl has)) [
-          | inl b ↦ elim (in_right left right first u v high b.0) [ inl r ↦ inl (r, b.1) | inr l ↦ inr (inr (l, b.1)) ]
-          | inr k ↦ inr (inl k)
-        ]))
+    let long = left_length left right written same in (
+      sourced all left first (take (leaves left) written) K long
+          (λ v u has.
+          let low : v < first + leaves left = (let r = (has_range first (take (leaves left) written) v u has).1 in omega (arith, r, long)) in
+          elim (h v u (has_take (leaves left) first written v u has)) [ inl b ↦ inl (in_left left right first u v low b.0, b.1) | inr k ↦ inr k ]),
+      sourced all right (first + leaves left) (drop (leaves left) written) (λ u. K u ⊎ IsNamedIn all left first u) (right_length left right written same)
+          (λ v u has.
+          let high = (has_range (first + leaves left) (drop (leaves left) written) v u has).0 in
+          elim (h v u (has_drop (leaves left) first (first + leaves left) written v u refl has)) [
+            | inl b ↦ elim (in_right left right first u v high b.0) [ inl r ↦ inl (r, b.1) | inr l ↦ inr (inr (l, b.1)) ]
+            | inr k ↦ inr (inl k)
+          ]),
+    )
 sourced all (par left right) first written K same h =
-    let long = left_length left right written same in
-    (sourced all left first (take (leaves left) written) K long
-    (λ v u has.
-        let low : v < first + leaves left = (let r = (has_range first (take (leaves left) written) v u has).1 in omega (arith, r, long)) in
-        elim (h v u (has_take (leaves left) first written v u has)) [ inl b ↦ inl (in_left_par left right first u v low b.0, b.1) | inr k ↦ inr k ]),
-    sourced all right (first + leaves left) (drop (leaves left) written) K (right_length left right written same)
-    (λ v u has.
-        let high = (has_range (first + leaves left) (drop (leaves left) written) v u has).0 in
-        elim (h v u (has_drop (leaves left) first (first + leaves left) written v u refl has)) [ inl b ↦ inl (in_right_par left right first u v high b.0, b.1) | inr k ↦ inr k ]))
+    let long = left_length left right written same in (
+      sourced all left first (take (leaves left) written) K long
+          (λ v u has.
+          let low : v < first + leaves left = (let r = (has_range first (take (leaves left) written) v u has).1 in omega (arith, r, long)) in
+          elim (h v u (has_take (leaves left) first written v u has)) [ inl b ↦ inl (in_left_par left right first u v low b.0, b.1) | inr k ↦ inr k ]),
+      sourced all right (first + leaves left) (drop (leaves left) written) K (right_length left right written same)
+          (λ v u has.
+          let high = (has_range (first + leaves left) (drop (leaves left) written) v u has).0 in
+          elim (h v u (has_drop (leaves left) first (first + leaves left) written v u refl has)) [ inl b ↦ inl (in_right_par left right first u v high b.0, b.1) | inr k ↦ inr k ]),
+    )
 
 -- what is known has the names of its leaves
 
@@ -409,13 +410,13 @@ tree_sources all (seq left right) written first series known K more same at well
     let regular : AreRegular (gives ++ known) = each_append IsRegular gives known (behind_regular all left first wl nothing long atl (omega (arith, small)) tt) are in
     let front = tree_sources all left wl first true known K (tree_items right wr nothing) long atl wwl src.0 holds are (omega (arith, small)) in
     let back = tree_sources all right wr (first + leaves left) true (gives ++ known) (λ u. K u ⊎ IsNamedIn all left first u) nothing long' atr wwr src.1
-        (λ u k. elim k [
-          | inl old ↦ let h = holds u old in (has_second gives known u h.0, h.1)
-          | inr new ↦
-              let r = leaf_range left first u new.0 in
-              let high = r.1 in
-              (has_first gives known u (behind_holds all left first wl nothing u long atl r.0 r.1 new.1), omega (arith, high, small))
-        ]) regular (omega (arith, small)) in
+    (λ u k. elim k [
+      | inl old ↦ let h = holds u old in (has_second gives known u h.0, h.1)
+      | inr new ↦
+          let r = leaf_range left first u new.0 in
+          let high = r.1 in
+          (has_first gives known u (behind_holds all left first wl nothing u long atl r.0 r.1 new.1), omega (arith, high, small))
+    ]) regular (omega (arith, small)) in
     let next : first + 1 * count body ≡ first + (leaves left + leaves right) = omega (arith, e) in
     ap (λ x. x ++ sources_in series (known_next series (known_behind first body) known) (first + 1 * count body) more)
     (front ∙ ap (λ x. sources_of wl ++ x) (back ∙ append-nil (sources_of wr)) ∙ sources_split (leaves left) written)

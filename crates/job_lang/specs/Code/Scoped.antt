@@ -1,5 +1,5 @@
 -- The sources of leaves, by the scopes in which the code makes its copies.
-use Rattle.std.specs.Prelude.{◌≡◌, ℕ, ◌+◌, ◌*◌, List, [], ◌∷◌, ◌++◌, length, Option, Some, None, if◌then◌else◌}
+use Rattle.std.specs.Prelude.{◌≡◌, ℕ, ◌+◌, ◌*◌, List, [], ◌∷◌, ◌++◌, length, Option, None, if◌then◌else◌}
 use Rattle.job_names.specs.declared.kind.Kind.TheVariants as kind
 use Rattle.job_names.specs.declared.scopes.Let.{Let}
 use Rattle.job_names.specs.Scopes.{Scope, inside, last_of, lets_shown, with_lets}

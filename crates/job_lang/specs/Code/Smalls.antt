@@ -1,5 +1,5 @@
 -- The numbers of leaves as they are written.
-use Rattle.std.specs.Prelude.{ℕ, ◌<◌, ◌^◌, List, IfSome}
+use Rattle.std.specs.Prelude.{◌<◌, ◌^◌, List, IfSome}
 use Rattle.std.specs.List.{AllByRecursion}
 use Rattle.job_lang.specs.declared.writer.written.WrittenLeaf.{WrittenLeaf}
 use Rattle.job_lang.specs.ActNumbers.{act_number, IsSmall}

@@ -1,19 +1,18 @@
 -- Where the uses in items have their lets shown, each is known in the words of the items.
-use Rattle.std.proofs.Common.{◌≡◌, ℕ, List, [], ◌∷◌, ◌++◌, map, Bool, true, false, ◌≢◌, Option, Some, None, true≢false, refl, sym, ap, ◌∙◌, append_assoc, append-nil, subst}
-use Rattle.std.specs.Prelude.{IsTrue, ◌||◌}
+use Rattle.std.proofs.Common.{◌≡◌, List, [], ◌∷◌, ◌++◌, Bool, true, false, ◌≢◌, Option, Some, None, true≢false, refl, sym, ap, ◌∙◌, append_assoc, append-nil, subst}
+use Rattle.std.specs.Prelude.{IsTrue}
 use Rattle.std.proofs.lemmas.List.{map-append}
 use Rattle.job_names.specs.declared.name.Name.{Name}
-use Rattle.job_names.specs.Scopes.{Scope}
 use Rattle.job_syntax.specs.declared.lexer.word.Word.{Word}
-use Rattle.job_syntax.specs.declared.lexer.word.Word.TheVariants.{Open, Close, Work, Counter, Stack, Tree, Queue, Add, Push, Pop, Insert, Remove, Find, Next, Take, Seq, Par, For, Pfor, Let, Equals, Number, Copies, Named}
+use Rattle.job_syntax.specs.declared.lexer.word.Word.TheVariants.{Open, Close, Stack, Queue, Pop, Take, Let, Equals, Number, Named}
 use Rattle.job_syntax.specs.declared.lexer.word.WordOnLine.{WordOnLine}
 use Rattle.job_syntax.specs.Faults.{words_of}
 use Rattle.job_syntax.specs.ItemsOf.{AreKnown}
-use Rattle.job_syntax.specs.Grammar.{UnaryOp, work, counter_add, stack_push, tree_insert, tree_remove, tree_find, tree_next, queue_insert, Leaf, with_argument, stack_pop, queue_take, bound, BlockKind, seq_block, par_block, for_loop, pfor_loop, Items, nothing, leaf_then, block_then, ◌then◌, unary_op_words, leaf_words, kind_words, items_words, is_number, is_argument, is_call_argument, is_loop, IsCall, IsLeaf, IsBlockKind, AreItems}
-use Rattle.job_syntax.specs.Visibility.{IsKnown, IsUse, ends_in_let, Sees}
+use Rattle.job_syntax.specs.Grammar.{UnaryOp, work, counter_add, stack_push, tree_insert, tree_remove, tree_find, tree_next, queue_insert, Leaf, with_argument, stack_pop, queue_take, bound, BlockKind, seq_block, par_block, for_loop, pfor_loop, Items, nothing, leaf_then, block_then, ◌then◌, unary_op_words, leaf_words, kind_words, items_words, is_number, IsCall, IsLeaf, IsBlockKind, AreItems}
+use Rattle.job_syntax.specs.Visibility.{IsKnown, ends_in_let, Sees}
 use Rattle.job_syntax.specs.Code.Machine.{OpenBlock, at, an_item, an_argument, a_brace, are_looped}
-use Rattle.job_syntax.specs.Code.Reached.{opening_words, given_words, place_words, IsGiven, IsReached}
-use Rattle.job_syntax.specs.Code.Shown.{scope_at, is_shown, IsShownLeaf, AreShown}
+use Rattle.job_syntax.specs.Code.Reached.{opening_words, given_words, IsGiven, IsReached}
+use Rattle.job_syntax.specs.Code.Shown.{scope_at, IsShownLeaf, AreShown}
 use Rattle.job_syntax.proofs.ParserLemmas.Derivations.{words_then}
 use Rattle.job_syntax.proofs.ParserLemmas.Reached.{fits-then, reach_brace, reach_close, start_reached}
 use Rattle.job_syntax.proofs.ParserLemmas.Shown.{shown_sees, ends_append}
@@ -97,7 +96,7 @@ module _ {words : List Word} {blocks : List OpenBlock} {items : Items} (reached 
       let before = words ++ (given_words given ++ unary_op_words op) in
       let front : (words ++ given_words given) ++ unary_op_words op ≡ before = append_assoc words (given_words given) (unary_op_words op) in
       let whole : words ++ (given_words given ++ (unary_op_words op ++ argument ∷ [])) ≡ before ++ argument ∷ [] =
-          ap (λ ws. words ++ ws) (sym (append_assoc (given_words given) (unary_op_words op) (argument ∷ []))) ∙ sym (append_assoc words (given_words given ++ unary_op_words op) (argument ∷ [])) in
+      ap (λ ws. words ++ ws) (sym (append_assoc (given_words given) (unary_op_words op) (argument ∷ []))) ∙ sym (append_assoc words (given_words given ++ unary_op_words op) (argument ∷ [])) in
       subst (AreKnownWords (words ++ given_words given)) (sym (append_assoc (unary_op_words op) (argument ∷ []) rest))
       (skip (unary_op_words op) (words ++ given_words given) (argument ∷ rest) (op_names op)
       (subst (λ ws. AreKnownWords ws (argument ∷ rest)) (sym front)
@@ -127,11 +126,16 @@ module _ {words : List Word} {blocks : List OpenBlock} {items : Items} (reached 
       let call_words = call_known (Some name) call looped rest fits shown h in
       let ends : ends_in_let false (words ++ Let ∷ []) ≡ true = ends_append false words (Let ∷ []) in
       let whole : words ++ Let ∷ Named name ∷ Equals ∷ [] ≡ ((words ++ Let ∷ []) ++ Named name ∷ []) ++ Equals ∷ [] =
-          sym (append_assoc (words ++ Let ∷ []) (Named name ∷ []) (Equals ∷ []) ∙ append_assoc words (Let ∷ []) (Named name ∷ Equals ∷ [])) in
-      ((λ other used. absurd (let e = used.0 in cc)),
-      ((λ other used. absurd (true≢false (sym ends ∙ used.1))),
-      ((λ other used. absurd (let e = used.0 in cc)),
-      subst (λ ws. AreKnownWords ws (leaf_words call ++ rest)) whole call_words)))
+      sym (append_assoc (words ++ Let ∷ []) (Named name ∷ []) (Equals ∷ []) ∙ append_assoc words (Let ∷ []) (Named name ∷ Equals ∷ [])) in (
+        (λ other used. absurd (let e = used.0 in cc)),
+        (
+          (λ other used. absurd (true≢false (sym ends ∙ used.1))),
+          (
+            (λ other used. absurd (let e = used.0 in cc)),
+            subst (λ ws. AreKnownWords ws (leaf_words call ++ rest)) whole call_words,
+          ),
+        ),
+      )
 
 -- the words of items whose uses have their lets shown are known
 pub items_known : (items : Items) {words : List Word} {blocks : List OpenBlock} {before : Items} (rest : List Word) → IsReached words (at blocks before an_item) → AreItems (are_looped blocks) items → AreShown blocks before items
@@ -145,7 +149,7 @@ items_known (leaf_then leaf more) {words} {blocks} {before} rest reached fits sh
     (subst (λ ws. AreKnownWords ws rest) (sym (append_assoc words (leaf_words leaf) (items_words more))) h)))
 items_known (block_then kind body more) {words} {blocks} {before} rest reached fits shown h =
     let opened : IsReached (words ++ (kind_words kind ++ Open ∷ [])) (at (record { before = before; kind = kind } ∷ blocks) nothing an_item) =
-        subst (λ ws. IsReached ws (at (record { before = before; kind = kind } ∷ blocks) nothing an_item)) (append_assoc words (kind_words kind) (Open ∷ [])) (reach_brace kind (at_brace reached kind fits.0)) in
+    subst (λ ws. IsReached ws (at (record { before = before; kind = kind } ∷ blocks) nothing an_item)) (append_assoc words (kind_words kind) (Open ∷ [])) (reach_brace kind (at_brace reached kind fits.0)) in
     let filled = at_items opened body fits.1 in
     let closed = reach_close (record { before = before; kind = kind }) blocks body filled in
     let front = words ++ (kind_words kind ++ Open ∷ []) in
@@ -153,9 +157,10 @@ items_known (block_then kind body more) {words} {blocks} {before} rest reached f
     let split : (kind_words kind ++ Open ∷ (items_words body ++ Close ∷ items_words more)) ++ rest ≡ (kind_words kind ++ Open ∷ []) ++ (items_words body ++ (Close ∷ (items_words more ++ rest))) = simp append_assoc refl in
     subst (AreKnownWords words) (sym split)
     (skip (kind_words kind ++ Open ∷ []) words (items_words body ++ (Close ∷ (items_words more ++ rest))) (kind_names kind fits.0)
-    (items_known body (Close ∷ (items_words more ++ rest)) opened fits.1 shown.0
-    ((λ name used. absurd (let e = used.0 in cc)),
-    items_known more rest closed fits.2 shown.1 (subst (λ ws. AreKnownWords ws rest) whole h))))
+    (items_known body (Close ∷ (items_words more ++ rest)) opened fits.1 shown.0 (
+      (λ name used. absurd (let e = used.0 in cc)),
+      items_known more rest closed fits.2 shown.1 (subst (λ ws. AreKnownWords ws rest) whole h),
+    )))
 
 -- the tokens of items whose uses have their lets shown
 pub tokens_known : (tokens : List WordOnLine) (items : Items) → items_words items ≡ words_of tokens → AreItems false items → AreShown [] nothing items → AreKnown [] tokens

@@ -35,17 +35,25 @@ shapes_in-loop-item-preserved t c = record {
 pub shapes_in-shape_in-requires : goal.shapes_in-shape_in-requires
 shapes_in-shape_in-requires t c = (
   (let below = weight_item c.item-item.result c.args.items.now c.loop-item.item-index c.loop-item-test.true c.item-item.is in omega (arith, below)),
-  (fits_item c.args.copy c.item-item.result c.args.items.now c.loop-item.item-index c.requires.fits c.loop-item-test.true c.item-item.is,
-  (few_item c.args.copy c.args.items.now c.loop-item.item-index c.item-item.result c.args.leaves.now c.loop-item.leaves c.loop-item-test.true c.item-item.is c.loop-item.invariant.adds c.requires.few,
-  c.loop-item.invariant.adds.kept)),
+  (
+    fits_item c.args.copy c.item-item.result c.args.items.now c.loop-item.item-index c.requires.fits c.loop-item-test.true c.item-item.is,
+    (
+      few_item c.args.copy c.args.items.now c.loop-item.item-index c.item-item.result c.args.leaves.now c.loop-item.leaves c.loop-item-test.true c.item-item.is c.loop-item.invariant.adds c.requires.few,
+      c.loop-item.invariant.adds.kept,
+    ),
+  ),
 )
 
 pub shapes_of_copies-shapes_in-requires : goal.shapes_of_copies-shapes_in-requires
 shapes_of_copies-shapes_in-requires t c = (
   omega arith,
-  (c.requires.fits c.loop-copy.copy c.loop-copy-test.true,
-  (few_copy c.loop-copy.copy c.args.copies (items_of c.args.inside.now) c.args.leaves.now c.loop-copy.leaves c.open.new.self c.loop-copy-test.true c.loop-copy.invariant.adds c.open.ensures.acts c.requires.few,
-  c.in_ok-open.ensures.kept)),
+  (
+    c.requires.fits c.loop-copy.copy c.loop-copy-test.true,
+    (
+      few_copy c.loop-copy.copy c.args.copies (items_of c.args.inside.now) c.args.leaves.now c.loop-copy.leaves c.open.new.self c.loop-copy-test.true c.loop-copy.invariant.adds c.open.ensures.acts c.requires.few,
+      c.in_ok-open.ensures.kept,
+    ),
+  ),
 )
 
 pub block_shapes-returns-in-For-clause-leaves : goal.block_shapes-returns-in-For-clause-leaves
@@ -64,7 +72,7 @@ pub shapes_of_copies-loop-copy-preserved : goal.shapes_of_copies-loop-copy-prese
 shapes_of_copies-loop-copy-preserved t c =
     let body = items_of c.args.inside.now in
     let joined : option_to_list (option_map tree_of c.in_ok-shape.field-0) ≡ join_list seq (shapes_in c.loop-copy.copy body) =
-        ap option_to_list (c.in_ok-shape.ensures ∙ ap (join_of seq) c.in_ok-in_copy.ensures.shapes) in
+    ap option_to_list (c.in_ok-shape.ensures ∙ ap (join_of seq) c.in_ok-in_copy.ensures.shapes) in
     record {
       made = elim c.match-branch-4.branch [
         | shapes_of_copies-in-Some+in_ok-push w ↦

@@ -1,4 +1,4 @@
-use Rattle.std.proofs.Common.{◌≡◌, ◌++◌, ◌+◌, map, take}
+use Rattle.std.proofs.Common.{◌≡◌, ◌+◌, map, take}
 use Rattle.sp_order.specs.Precedence.{tree_of, seq}
 use Rattle.job_lang.specs.Meaning.{shapes_in, each_copy, join_list}
 use Rattle.job_lang.specs.Code.Scoped.{Adds, AddsCopies}

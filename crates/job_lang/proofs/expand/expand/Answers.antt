@@ -1,4 +1,4 @@
-use Rattle.std.proofs.Common.{◌≡◌, ◌+◌, ◌≤◌, [], length, map, sym, ap, subst, true, ◌∙◌, arith}
+use Rattle.std.proofs.Common.{◌≡◌, [], length, sym, ap, subst, true, ◌∙◌, arith}
 use Rattle.std.specs.Option.{option_map}
 use Rattle.sp_order.specs.Precedence.{tree_of, seq}
 use Rattle.sp_order.specs.Sources.{AreSources}
@@ -42,7 +42,7 @@ returns c =
     let adds : Adds 0 (without_empty items) c.new-leaves.result c.shapes_in.new.leaves = subst (λ all. Adds 0 all c.new-leaves.result c.shapes_in.new.leaves) pruned c.in_ok-shapes.ensures.leaves in
     let made = from_nothing (without_empty items) c.new-leaves.result c.shapes_in.new.leaves c.new-leaves.ensures.acts c.new-leaves.ensures.sources c.new-leaves.ensures.scope adds in
     let shape : c.with_sources.result.shape ≡ (job_of items).shape =
-        c.with_sources.ensures.shape ∙ c.in_ok-shape.ensures ∙ ap (join_of seq) (c.in_ok-shapes.ensures.shapes ∙ ap (shapes_in 0) pruned ∙ same_shapes items 0) in
+    c.with_sources.ensures.shape ∙ c.in_ok-shape.ensures ∙ ap (join_of seq) (c.in_ok-shapes.ensures.shapes ∙ ap (shapes_in 0) pruned ∙ same_shapes items 0) in
     let acts : c.with_sources.result.acts ≡ (job_of items).acts = c.with_sources.ensures.acts ∙ made.0 ∙ same_acts items 0 in
     let sources : c.with_sources.result.sources ≡ (job_of items).sources = c.with_sources.ensures.sources ∙ made.1 ∙ same_sources items true [] 0 in
     λ i. record { shape = shape i; acts = acts i; sources = sources i }

@@ -1,4 +1,4 @@
-use Rattle.std.proofs.Common.{◌≡◌, ◌∙◌, ap, sym, subst, length, take, arith}
+use Rattle.std.proofs.Common.{◌≡◌, ◌∙◌, ap, subst, length, take, arith}
 use Rattle.sp_order.specs.Precedence.{tree_of, leaves, leaf_count}
 use Rattle.job_lang.specs.Canonical.{written_leaves}
 use Rattle.job_lang.specs.Code.Smalls.{AreSmallLeaves}

@@ -1,7 +1,7 @@
-use Rattle.std.proofs.Common.{rules, ◌≡◌, ◌∙◌, ◌<◌, Some, ap, sym, subst, length, take, arith}
-use Rattle.std.specs.Prelude.{IfSome, slice_get}
+use Rattle.std.proofs.Common.{◌∙◌, ◌<◌, Some, ap, sym, subst, take}
+use Rattle.std.specs.Prelude.{IfSome}
 use Rattle.job_lang.specs.Canonical.{is_source}
-use Rattle.job_lang.proofs.WriterLemmas.Marks.{source_more, source_below, all_taken, none_marked}
+use Rattle.job_lang.proofs.WriterLemmas.Marks.{source_more, source_below}
 use Rattle.job_lang.proofs.writer.written.sources_of.Goals as goal
 
 pub mark-requires : goal.mark-requires

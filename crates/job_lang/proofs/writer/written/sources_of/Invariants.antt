@@ -1,6 +1,5 @@
-use Rattle.std.proofs.Common.{◌≡◌, ℕ, ◌<◌, ◌≤◌, Some, length, take}
+use Rattle.std.proofs.Common.{◌≡◌, ℕ, ◌<◌, Some, length, take}
 use Rattle.std.specs.Prelude.{slice_get}
-use Rattle.sp_order.specs.Jobs.{IsJob}
 use Rattle.job_lang.specs.Canonical.{is_source}
 use Rattle.job_lang.proofs.writer.written.sources_of.Given as goal
 

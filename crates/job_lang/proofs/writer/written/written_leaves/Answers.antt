@@ -1,5 +1,4 @@
-use Rattle.std.proofs.Common.{rules, ◌≡◌, ◌∙◌, ◌<◌, Some, ap, sym, subst, refl, length, take, get_or, arith}
-use Rattle.std.specs.Prelude.{slice_get}
+use Rattle.std.proofs.Common.{rules, ◌∙◌, ◌<◌, Some, ap, sym, refl, length, get_or, arith}
 use Rattle.seq_objects.specs.declared.act.Act.TheVariants.{Work}
 use Rattle.job_lang.specs.Canonical.{is_source}
 use Rattle.job_lang.proofs.WriterLemmas.Marks.{one_pushed, get_or_from, get_at}

@@ -8,3 +8,4 @@ pub mod Joined
 pub mod Scoped
 pub mod Sourcing
 pub mod Before
+pub mod Naming

@@ -8,6 +8,7 @@ pub use Rattle.job_syntax.specs.ItemsOf
 pub mod Counts
 pub mod Joins
 pub mod Meaning
+pub mod Uses
 pub mod Limits
 pub mod Language
 pub mod Canonical

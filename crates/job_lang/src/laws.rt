@@ -1,5 +1,5 @@
 //! The laws of the job language, each as the contract of a function that does nothing.
-ghost use Rattle.std.specs.Prelude.{◌≡◌, ◌≤◌, ◌<◌, ◌+◌, ◌*◌, ◌^◌, ◌⊎◌, ℕ, List, [], ◌∷◌, length, Some, None};
+ghost use Rattle.std.specs.Prelude.{◌≡◌, ◌≤◌, ◌<◌, ◌+◌, ◌*◌, ◌^◌, ◌⊎◌, ℕ, List, [], ◌∷◌, length, map, is_some, Some, None};
 ghost use Rattle.std.specs.List.{AllByRecursion};
 ghost use Rattle.seq_objects.specs.Objects.{argument_of};
 ghost use Rattle.seq_objects.specs.Words.{op_words};
@@ -11,6 +11,7 @@ ghost use Rattle.sp_order.specs.Jobs.{JobValue};
 ghost use Rattle.sp_order.specs.Phases.{FillsFirst};
 ghost use Rattle.sp_order.specs.Totals.{count_of_act};
 ghost use Rattle.job_lang.specs.Canonical.{canonical_text};
+ghost use Rattle.job_lang.specs.Uses.{uses_in};
 ghost use Rattle.job_lang.specs.Generator.{generated};
 ghost use Rattle.job_lang.specs.ActNumbers.{op_number, IsSmall, AreSmall};
 ghost use Rattle.job_lang.specs.Language.{IsJobOf, Accepts, IsFaultOf};
@@ -25,6 +26,11 @@ pub fn texts_have_one_job_or_fault()
     ensures not_both { (text : List ℕ) (job : JobValue) (fault : JobFault)
         → IsJobOf text job → IsFaultOf text fault → ⊥ }
     ensures either { (text : List ℕ) → Accepts text ⊎ ((fault : JobFault) × IsFaultOf text fault) }
+{}
+
+/// The leaves of an accepted text that use a name are those that have a source.
+pub fn uses_have_sources()
+    ensures { (text : List ℕ) (job : JobValue) (is : IsJobOf text job) → map is_some job.sources ≡ uses_in is.items }
 {}
 
 /// The numbers of an accepted job fit 32 bits: the steps of its work, and the arguments of its calls.

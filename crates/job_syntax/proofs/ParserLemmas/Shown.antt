@@ -37,7 +37,7 @@ or_right (Some n) b h = refl
 or_right None b h = h
 
 -- among two lists, one behind the other
-in_split : (name : Name) (xs ys : List Let) → IsIn name (xs ++ ys) → IsIn name xs ⊎ IsIn name ys
+pub in_split : (name : Name) (xs ys : List Let) → IsIn name (xs ++ ys) → IsIn name xs ⊎ IsIn name ys
 in_split name xs ys h =
     elim (or_split (last_of name ys) (last_of name xs) (subst (λ r. IsTrue (is_some r)) (last_append name xs ys) h)) [ inl y ↦ inr y | inr x ↦ inl x ]
 
@@ -145,7 +145,7 @@ pub ends_append : (was : Bool) (xs ys : List Word) → ends_in_let was (xs ++ ys
 ends_append was [] ys = refl
 ends_append was (x ∷ xs) ys = ends_append (is_let x) xs ys
 
-ends_state : (words : List Word) (blocks : List OpenBlock) (items : Items) (place : Place) → IsReached words (at blocks items place) →
+pub ends_state : (words : List Word) (blocks : List OpenBlock) (items : Items) (place : Place) → IsReached words (at blocks items place) →
     ends_in_let false words ≡ ends_in_let (ends_in_let (ends_in_let false (opening_words blocks)) (items_words items)) (place_words place)
 ends_state words blocks items place reached =
     ap (ends_in_let false) (sym reached.writes)
@@ -162,7 +162,7 @@ op_ends was tree_find = refl
 op_ends was tree_next = refl
 op_ends was queue_insert = refl
 
-argument_ends : (was : Bool) (given : Option Name) (op : UnaryOp) → ends_in_let was (place_words (an_argument given op)) ≡ false
+pub argument_ends : (was : Bool) (given : Option Name) (op : UnaryOp) → ends_in_let was (place_words (an_argument given op)) ≡ false
 argument_ends was None op = op_ends was op
 argument_ends was (Some name) op = op_ends false op
 

@@ -15,7 +15,7 @@ use Rattle.job_syntax.specs.Code.Reached.{opening_words, given_words, IsGiven, I
 use Rattle.job_syntax.specs.Code.Shown.{scope_at, IsShownLeaf, AreShown}
 use Rattle.job_syntax.proofs.ParserLemmas.Derivations.{words_then}
 use Rattle.job_syntax.proofs.ParserLemmas.Reached.{fits-then, reach_brace, reach_close, start_reached}
-use Rattle.job_syntax.proofs.ParserLemmas.Shown.{shown_sees, ends_append}
+use Rattle.job_syntax.proofs.ParserLemmas.Shown.{shown_sees, sees_shown, ends_append, ends_state, argument_ends}
 
 -- each use among the words, behind those of `before`, sees a let
 abbrev pub AreKnownWords : List Word → List Word → Type 0
@@ -166,3 +166,72 @@ items_known (block_then kind body more) {words} {blocks} {before} rest reached f
 pub tokens_known : (tokens : List WordOnLine) (items : Items) → items_words items ≡ words_of tokens → AreItems false items → AreShown [] nothing items → AreKnown [] tokens
 tokens_known tokens items writes fits shown =
     known_tokens [] tokens (subst (AreKnownWords []) (append-nil (items_words items) ∙ writes) (items_known items [] start_reached fits shown tt))
+
+-- the other way round: in words whose uses are known, each use of the items has its let shown
+
+unskip : (front before rest : List Word) → AreKnownWords before (front ++ rest) → AreKnownWords (before ++ front) rest
+unskip [] before rest h = subst (λ words. AreKnownWords words rest) (sym (append-nil before)) h
+unskip (word ∷ front) before rest h = subst (λ words. AreKnownWords words rest) (append_assoc before (word ∷ []) front) (unskip front (before ++ word ∷ []) rest h.1)
+
+pub known_words : (before tokens : List WordOnLine) → AreKnown before tokens → AreKnownWords (words_of before) (words_of tokens)
+known_words before [] h = tt
+known_words before (token ∷ tokens) h =
+    (h.0, subst (λ words. AreKnownWords words (words_of tokens)) (map-append (λ (token : WordOnLine). token.word) before (token ∷ [])) (known_words (before ++ token ∷ []) tokens h.1))
+
+module _ {words : List Word} {blocks : List OpenBlock} {items : Items} (reached : IsReached words (at blocks items an_item)) where
+  known_argument : (given : Option Name) (op : UnaryOp) (argument : Word) → IsGiven given op → IsKnown (words ++ (given_words given ++ unary_op_words op)) argument → IsShownLeaf (scope_at blocks items) (with_argument op argument)
+  known_argument given op (Named name) fits known =
+      let there = at_argument reached given op fits in
+      sees_shown _ blocks items given op name there (known name (refl, ends_state _ blocks items (an_argument given op) there ∙ argument_ends _ given op))
+  known_argument given op _ fits known = tt
+
+  known_unary : (given : Option Name) (op : UnaryOp) (argument : Word) (rest : List Word) → IsGiven given op → AreKnownWords (words ++ given_words given) ((unary_op_words op ++ argument ∷ []) ++ rest) → IsShownLeaf (scope_at blocks items) (with_argument op argument)
+  known_unary given op argument rest fits h =
+      let behind = unskip (unary_op_words op) (words ++ given_words given) (argument ∷ rest) (subst (AreKnownWords (words ++ given_words given)) (append_assoc (unary_op_words op) (argument ∷ []) rest) h) in
+      known_argument given op argument fits (subst (λ ws. IsKnown ws argument) (append_assoc words (given_words given) (unary_op_words op)) behind.0)
+
+  known_call : (name : Name) (call : Leaf) (looped : Bool) (rest : List Word) → IsCall looped call → AreKnownWords (words ++ given_words (Some name)) (leaf_words call ++ rest) → IsShownLeaf (scope_at blocks items) call
+  known_call name (with_argument work argument) looped rest fits h = elim fits [ ]
+  known_call name (with_argument counter_add argument) looped rest fits h = known_unary (Some name) counter_add argument rest tt h
+  known_call name (with_argument stack_push argument) looped rest fits h = known_unary (Some name) stack_push argument rest tt h
+  known_call name (with_argument tree_insert argument) looped rest fits h = known_unary (Some name) tree_insert argument rest tt h
+  known_call name (with_argument tree_remove argument) looped rest fits h = known_unary (Some name) tree_remove argument rest tt h
+  known_call name (with_argument tree_find argument) looped rest fits h = known_unary (Some name) tree_find argument rest tt h
+  known_call name (with_argument tree_next argument) looped rest fits h = known_unary (Some name) tree_next argument rest tt h
+  known_call name (with_argument queue_insert argument) looped rest fits h = known_unary (Some name) queue_insert argument rest tt h
+  known_call name stack_pop looped rest fits h = tt
+  known_call name queue_take looped rest fits h = tt
+  known_call name (bound other call) looped rest fits h = elim fits [ ]
+
+  known_leaf : (leaf : Leaf) (looped : Bool) (rest : List Word) → IsLeaf looped leaf → AreKnownWords words (leaf_words leaf ++ rest) → IsShownLeaf (scope_at blocks items) leaf
+  known_leaf (with_argument op argument) looped rest fits h =
+      known_unary None op argument rest tt (subst (λ ws. AreKnownWords ws ((unary_op_words op ++ argument ∷ []) ++ rest)) (sym (append-nil words)) h)
+  known_leaf stack_pop looped rest fits h = tt
+  known_leaf queue_take looped rest fits h = tt
+  known_leaf (bound name call) looped rest fits h =
+      known_call name call looped rest fits (unskip (given_words (Some name)) words (leaf_words call ++ rest) h)
+
+known_items : (items : Items) {words : List Word} {blocks : List OpenBlock} {before : Items} (rest : List Word) → IsReached words (at blocks before an_item) → AreItems (are_looped blocks) items → AreKnownWords words (items_words items ++ rest) → AreShown blocks before items
+known_items nothing rest reached fits h = tt
+known_items (leaf_then leaf more) {words} {blocks} {before} rest reached fits h =
+    let parts = subst (AreKnownWords words) (append_assoc (leaf_words leaf) (items_words more) rest) h in (
+      known_leaf reached leaf (are_looped blocks) (items_words more ++ rest) fits.0 parts,
+      known_items more rest
+          (subst (λ ws. IsReached (words ++ ws) (at blocks (before then leaf_then leaf nothing) an_item)) (append-nil (leaf_words leaf)) (at_items reached (leaf_then leaf nothing) (fits.0, tt))) fits.1
+          (unskip (leaf_words leaf) words (items_words more ++ rest) parts),
+    )
+known_items (block_then kind body more) {words} {blocks} {before} rest reached fits h =
+    let opened : IsReached (words ++ (kind_words kind ++ Open ∷ [])) (at (record { before = before; kind = kind } ∷ blocks) nothing an_item) =
+    subst (λ ws. IsReached ws (at (record { before = before; kind = kind } ∷ blocks) nothing an_item)) (append_assoc words (kind_words kind) (Open ∷ [])) (reach_brace kind (at_brace reached kind fits.0)) in
+    let filled = at_items opened body fits.1 in
+    let closed = reach_close (record { before = before; kind = kind }) blocks body filled in
+    let split : (kind_words kind ++ Open ∷ (items_words body ++ Close ∷ items_words more)) ++ rest ≡ (kind_words kind ++ Open ∷ []) ++ (items_words body ++ (Close ∷ (items_words more ++ rest))) = simp append_assoc refl in
+    let inside = unskip (kind_words kind ++ Open ∷ []) words (items_words body ++ (Close ∷ (items_words more ++ rest))) (subst (AreKnownWords words) split h) in (
+      known_items body (Close ∷ (items_words more ++ rest)) opened fits.1 inside,
+      known_items more rest closed fits.2 (unskip (items_words body) (words ++ (kind_words kind ++ Open ∷ [])) (Close ∷ (items_words more ++ rest)) inside).1,
+    )
+
+-- each use of the items has its let shown, where the uses in their tokens are known
+pub items_shown : (tokens : List WordOnLine) (items : Items) → items_words items ≡ words_of tokens → AreItems false items → AreKnown [] tokens → AreShown [] nothing items
+items_shown tokens items writes fits known =
+    known_items items [] start_reached fits (subst (AreKnownWords []) (sym (append-nil (items_words items) ∙ writes)) (known_words [] tokens known))

@@ -1,7 +1,7 @@
 -- The entries of a report whose calls are those of a job: how many there are, and what their leaves are below.
-use Rattle.std.proofs.Common.{◌≡◌, ◌≢◌, ℕ, zero, suc, ◌+◌, ◌<◌, ◌≤◌, ◌^◌, Bool, true, false, eqb, ◌||◌, List, [], ◌∷◌, ◌++◌, length, map, refl, sym, ap, subst, ◌∙◌, arith}
+use Rattle.std.proofs.Common.{◌≡◌, ℕ, zero, suc, ◌<◌, ◌≤◌, ◌^◌, Bool, true, false, eqb, ◌||◌, List, [], ◌∷◌, length, refl, sym, subst, ◌∙◌, arith}
 use Rattle.std.specs.Prelude.{Contains, IsSomeAnd, slice_get}
-use Rattle.std.specs.List.{AllByRecursion, IsDistinct, list_any}
+use Rattle.std.specs.List.{AllByRecursion, list_any}
 use Rattle.std.proofs.lemmas.Bool.Decides.{nat_tests}
 use Rattle.std.proofs.lemmas.List.{length-map}
 use Rattle.std.proofs.lemmas.Map.Steps.{length-le_from_distinct_below}
@@ -14,7 +14,6 @@ use Rattle.sp_order.specs.Sources.{IsCallLeaf}
 use Rattle.batch_history.specs.Book.{flat}
 use Rattle.batch_history.specs.Lawful.{HasRows, HasCalls, IsInBatch}
 use Rattle.batch_history.specs.declared.batch.Entry.{Entry}
-use Rattle.batch_history.specs.declared.report.Report.{Report}
 use Rattle.batch_history.specs.declared.row.Row.{Row}
 use Rattle.batch_history.proofs.BookLemmas.EntryLists.{each_at, distinct_tests}
 use Rattle.report_walks.specs.Parts.{report_of, of_calls}

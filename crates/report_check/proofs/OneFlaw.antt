@@ -1,8 +1,7 @@
 -- A text has one flaw, or none.
-use Rattle.std.proofs.Common.{◌≡◌, ℕ, ◌<◌, ◌⊎◌, inl, inr, List, Option, None, Some, refl, sym, ap, subst, ◌∙◌, arith}
+use Rattle.std.proofs.Common.{◌≡◌, ℕ, ◌⊎◌, inl, inr, List, Option, None, Some, refl, sym, ap, subst, ◌∙◌}
 use Rattle.std.proofs.lemmas.Bool.{cases_order}
 use Rattle.sp_order.specs.Jobs.{JobValue}
-use Rattle.batch_history.specs.Lawful.{Lawful}
 use Rattle.batch_history.specs.declared.report.Report.{Report}
 use Rattle.report_reader.specs.Texts.{HasText}
 use Rattle.report_check.specs.declared.flaw.Flaw.{Flaw}

@@ -1,9 +1,9 @@
 -- Lawful reports are raw: their numbers fit.
-use Rattle.std.proofs.Common.{◌≡◌, ◌≢◌, ℕ, zero, suc, ◌+◌, ◌*◌, ◌%◌, ◌<◌, ◌≤◌, ◌^◌, ◌⊎◌, inl, inr, List, [], ◌∷◌, ◌++◌, length, get_or, map, Some, refl, sym, ap, subst, ◌∙◌, arith}
+use Rattle.std.proofs.Common.{◌≡◌, ◌≢◌, ℕ, zero, suc, ◌+◌, ◌*◌, ◌<◌, ◌≤◌, ◌^◌, inl, inr, List, [], ◌∷◌, length, get_or, map, Some, refl, sym, subst, arith}
 use Rattle.std.specs.Prelude.{slice_get, Contains}
 use Rattle.std.specs.Option.{ForSome}
 use Rattle.std.specs.List.{AllByRecursion, range_with_len}
-use Rattle.std.proofs.lemmas.List.Elements.{recursion_from_All, All-from_recursion}
+use Rattle.std.proofs.lemmas.List.Elements.{recursion_from_All}
 use Rattle.std.proofs.lemmas.Option.{slice_get-get_or}
 use Rattle.seq_objects.specs.Objects.{argument_of, value_of}
 use Rattle.seq_objects.specs.Spin.{spin_of}
@@ -15,7 +15,7 @@ use Rattle.sp_order.specs.Precedence.{leaf_count}
 use Rattle.sp_order.specs.Jobs.{JobValue}
 use Rattle.sp_order.specs.Totals.{count_of_act}
 use Rattle.batch_history.specs.Book.{flat, IsBatch}
-use Rattle.batch_history.specs.Lawful.{ticks_of, Lawful}
+use Rattle.batch_history.specs.Lawful.{Lawful}
 use Rattle.batch_history.specs.Operations.{op_of}
 use Rattle.batch_history.specs.declared.batch.Entry.{Entry}
 use Rattle.batch_history.specs.declared.report.Report.{Report}

@@ -1,5 +1,5 @@
 -- The walk over the ticks, with the first tick from which each worker is free.
-use Rattle.std.proofs.Common.{rules, ◌≡◌, ◌≢◌, ℕ, suc, ◌+◌, ◌<◌, ◌≤◌, ◌⊎◌, inl, inr, List, [], ◌∷◌, length, get_or, Option, Some, None, refl, sym, ap, subst, ◌∙◌, arith}
+use Rattle.std.proofs.Common.{◌≡◌, ◌≢◌, ℕ, ◌+◌, ◌<◌, ◌≤◌, ◌⊎◌, inl, inr, List, length, get_or, Option, Some, sym, ap, subst, ◌∙◌, arith}
 use Rattle.std.specs.Prelude.{slice_get, set}
 use Rattle.std.proofs.lemmas.Bool.{cases_lt, cases_eq}
 use Rattle.std.proofs.lemmas.List.{get_or-set_other, get_or-set_same, length-set}
@@ -7,8 +7,8 @@ use Rattle.std.proofs.lemmas.Option.{slice_get_within}
 use Rattle.report_walks.specs.Code.Spans.{KeepsAlone, IsRow, AreStarts, AreTimed}
 use Rattle.batch_history.specs.declared.row.Row.{Row}
 
--- the walk has come to this tick: of the leaves that started before it each worker's are apart, and have ended before the
--- tick from which it is free
+-- the walk has come to this tick: of the leaves that started before it, those of each worker are apart, and ended before
+-- the tick from which it is free
 pub record HasWalked (rows : List Row) (free_from : List ℕ) (tick : ℕ) : Type 0 where
   pub most : length free_from ≡ 32
   pub ended : (u : ℕ) (row : Row) → IsRow rows u row → row.start < tick → row.end < get_or free_from row.worker 0

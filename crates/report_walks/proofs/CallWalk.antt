@@ -1,11 +1,11 @@
 -- The walks over the calls: what is noted of them, and the operations that follow from it.
-use Rattle.std.proofs.Common.{◌≡◌, ◌≢◌, ℕ, zero, suc, ◌+◌, ◌<◌, ◌≤◌, ◌⊎◌, inl, inr, Bool, true, false, eqb, ◌==◌, if◌then◌else◌, List, [], ◌∷◌, ◌++◌, length, get_or, map, Option, Some, None, refl, sym, ap, subst, ◌∙◌, arith}
-use Rattle.std.specs.Prelude.{set, replicate, slice_get, Contains, ◌↔◌}
+use Rattle.std.proofs.Common.{◌≡◌, ◌≢◌, ℕ, zero, suc, ◌+◌, ◌<◌, inl, inr, List, [], ◌∷◌, ◌++◌, length, get_or, map, Option, Some, None, refl, sym, ap, subst, ◌∙◌, arith}
+use Rattle.std.specs.Prelude.{set, replicate, slice_get, Contains}
 use Rattle.std.specs.Option.{ForSome, option_map}
 use Rattle.std.specs.List.{AllByRecursion}
-use Rattle.std.proofs.lemmas.Bool.{cases_lt, cases_eq, cases_Bool, eqb-true, eqb-false, eq-eqb, ne_eqb}
+use Rattle.std.proofs.lemmas.Bool.{cases_lt, cases_eq, eq-eqb, ne_eqb}
 use Rattle.std.proofs.lemmas.List.{get_or-set_other, get_or-set_same, length-set, get_or-replicate, length-replicate, get_or_default, get_or_past}
-use Rattle.std.proofs.lemmas.Option.{slice_get_within, get_or_from_slice_get}
+use Rattle.std.proofs.lemmas.Option.{slice_get_within}
 use Rattle.seq_objects.specs.Objects.{value_of}
 use Rattle.seq_objects.specs.Pairs.{AreDistinct, HasEachOnce}
 use Rattle.seq_objects.specs.declared.act.Act.{Act}
@@ -23,7 +23,7 @@ use Rattle.batch_history.specs.declared.place.Place.{Place}
 use Rattle.batch_history.specs.declared.row.Row.{Row}
 use Rattle.batch_history.proofs.BookLemmas.EntryLists.{each_both}
 use Rattle.report_walks.specs.Parts.{of_calls}
-use Rattle.report_walks.specs.Code.Calls.{CanNote, noted, all_noted, CanNoteAll, value_in, HaveValues, op_valued, op_by, IsServed, AreValuesOf}
+use Rattle.report_walks.specs.Code.Calls.{noted, all_noted, CanNoteAll, value_in, HaveValues, op_valued, op_by, IsServed, AreValuesOf}
 
 abbrev pub leaves_in : List Entry → List ℕ
 leaves_in entries = map (λ (entry : Entry). entry.leaf) entries

@@ -1,10 +1,9 @@
 -- The walk over the rows, with the ticks that are taken.
-use Rattle.std.proofs.Common.{◌≡◌, ◌≢◌, ℕ, zero, suc, ◌+◌, ◌*◌, ◌<◌, ◌≤◌, ◌⊎◌, inl, inr, Bool, true, false, List, [], ◌∷◌, length, get_or, map, refl, sym, ap, subst, ◌∙◌, arith}
-use Rattle.std.specs.Prelude.{set, replicate, Contains, ◌↔◌}
+use Rattle.std.proofs.Common.{◌≡◌, ◌≢◌, ℕ, zero, suc, ◌+◌, ◌*◌, ◌<◌, ◌⊎◌, inl, inr, Bool, true, false, List, [], ◌∷◌, length, get_or, map, refl, sym, ap, subst, ◌∙◌, arith}
+use Rattle.std.specs.Prelude.{set, replicate, Contains}
 use Rattle.std.specs.List.{AllByRecursion, range_with_len}
 use Rattle.std.proofs.lemmas.Bool.{cases_eq}
 use Rattle.std.proofs.lemmas.List.{get_or-set_other, get_or-set_same, length-set, length-map, get_or-replicate, length-replicate}
-use Rattle.std.proofs.lemmas.List.Elements.{Contains-append_right}
 use Rattle.seq_objects.specs.Pairs.{AreDistinct}
 use Rattle.seq_objects.proofs.Elements.{each_so}
 use Rattle.sp_order.specs.Precedence.{leaf_count}
@@ -14,7 +13,7 @@ use Rattle.batch_history.specs.declared.row.Row.{Row}
 use Rattle.batch_history.specs.declared.report.Report.{Report}
 use Rattle.batch_history.proofs.BookLemmas.EntryLists.{each_both}
 use Rattle.report_walks.specs.Parts.{report_of}
-use Rattle.report_walks.specs.Code.Rows.{IsRowOf, IsFree, with_taken, AllTaken, RowsFrom}
+use Rattle.report_walks.specs.Code.Rows.{IsFree, with_taken, RowsFrom}
 
 -- a tick that is free after another was taken was free before, and is not that one
 free_before : (taken : List Bool) (t u : ℕ) → IsFree taken t → IsFree (set taken t true) u → IsFree taken u × (t ≢ u)

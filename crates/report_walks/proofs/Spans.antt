@@ -1,8 +1,7 @@
 -- Spans of two parts, and what they say of the order of their leaves.
-use Rattle.std.proofs.Common.{rules, ◌≡◌, ◌≢◌, ℕ, suc, ◌+◌, ◌<◌, ◌≤◌, ◌⊎◌, inl, inr, List, [], ◌∷◌, length, Option, Some, None, min, max, refl, sym, ap, subst, ◌∙◌, arith}
-use Rattle.std.specs.Prelude.{slice_get}
+use Rattle.std.proofs.Common.{◌≡◌, ℕ, ◌+◌, ◌<◌, ◌≤◌, ◌⊎◌, inl, inr, List, min, max, ◌∙◌, arith}
 use Rattle.std.proofs.lemmas.Bool.{cases_lt}
-use Rattle.sp_order.specs.Precedence.{Tree, leaf, seq, par, leaves, IsLeafOf, IsBeforeFrom}
+use Rattle.sp_order.specs.Precedence.{Tree, seq, par, leaves, IsLeafOf}
 use Rattle.report_walks.specs.Code.Spans.{KeepsBefore, IsRow, IsSpanOf}
 use Rattle.batch_history.specs.declared.row.Row.{Row}
 use Rattle.report_walks.specs.declared.order.Span.{Span}

@@ -1,8 +1,8 @@
 -- Two steps of a map are one step of another.
-use Rattle.std.proofs.Common.{◌≡◌, ℕ, zero, suc, ◌+◌, ◌*◌, ◌/◌, ◌%◌, ◌^◌, ◌<◌, refl, sym, ap, subst, ◌∙◌, arith}
+use Rattle.std.proofs.Common.{◌≡◌, ℕ, zero, suc, ◌+◌, ◌*◌, ◌/◌, ◌%◌, ◌^◌, ◌<◌, refl, sym, ap, ◌∙◌, arith}
 use Rattle.std.proofs.lemmas.Nat.{mul-mod_first, mul-mod_second}
 use Rattle.std.proofs.Math.Nat.{mod-add-mod, add-mod-mod, div-add-mod}
-use Rattle.seq_objects.specs.Spin.{step, after_steps, spin_of}
+use Rattle.seq_objects.specs.Spin.{step, after_steps}
 use Rattle.report_walks.specs.Code.Maps.{mapped, times}
 
 inner : (m f x a : ℕ) → (f * ((f * x + a) % m) + a) % m ≡ (f * (f * x + a) + a) % m

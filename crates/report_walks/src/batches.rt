@@ -39,7 +39,7 @@ fn is_in_order(entries: &[Entry]) -> bool
     true
 }
 
-/// Whether all batches are so.
+/// Whether all batches are in order.
 fn are_in_order(book: &[Batch]) -> bool
     ensures { IsTrue result ↔ AllByRecursion AreInOrder book.now }
 {
@@ -51,8 +51,11 @@ fn are_in_order(book: &[Batch]) -> bool
     true
 }
 
-/// Whether each batch has entries, in batch order, of distinct workers. Neighbours are enough: the order is transitive,
-/// and two calls of one worker in one batch would break the order of the leaves or the ticks.
+/// Whether each batch has entries, in batch order, of distinct workers, for a report that keeps the parts before this
+/// one. Neighbours are enough: the order is transitive, and two calls of one worker in one batch would break the order of
+/// the leaves or the ticks.
+///
+/// Memory: none.
 pub fn are_batches(book: &[Batch]) -> bool
     ensures { (job : JobValue) (report : Report) → report.history ≡ book.now → IsJob job
         → HasRows job report.workers report → KeepsOrder job report → HasCalls job report → KeepsTicks report

@@ -18,7 +18,8 @@ use std::alloc::{AllocError, Global};
 /// Notes the value of the entry's reply at its leaf, and answers whether the leaf calls and has no value yet.
 fn note(acts: &[Act], values: &mut Vec<Option<u64>>, entry: &Entry) -> bool
     requires { length values.old.items ≡ length acts.now }
-    ensures can { result ≡ true → CanNote acts.now values.old.items entry.now × (values.new.items ≡ noted values.old.items entry.now) }
+    ensures can { result ≡ true → CanNote acts.now values.old.items entry.now
+        × (values.new.items ≡ noted values.old.items entry.now) }
     ensures not { result ≡ false → CanNote acts.now values.old.items entry.now → ⊥ }
 {
     let leaf = entry.leaf as usize;
@@ -38,7 +39,8 @@ fn note(acts: &[Act], values: &mut Vec<Option<u64>>, entry: &Entry) -> bool
 /// Notes the values of all entries, as long as it can.
 fn note_batch(acts: &[Act], values: &mut Vec<Option<u64>>, entries: &[Entry]) -> bool
     requires { length values.old.items ≡ length acts.now }
-    ensures can { result ≡ true → CanNoteAll acts.now values.old.items entries.now × (values.new.items ≡ all_noted values.old.items entries.now) }
+    ensures can { result ≡ true → CanNoteAll acts.now values.old.items entries.now
+        × (values.new.items ≡ all_noted values.old.items entries.now) }
     ensures not { result ≡ false → CanNoteAll acts.now values.old.items entries.now → ⊥ }
 {
     for entry in entries {
@@ -113,8 +115,10 @@ fn values_of(
     acts: &[Act],
     book: &[Batch],
 ) -> Result<Option<Vec<Option<u64>>>, AllocError>
-    ensures some { IfOk result (λ found. IfSome found (λ values. AreValuesOf acts.now (flat book.now) values.items)) }
-    ensures none { IfOk result (λ found. IfNone found (HasEachOnce (IsCallLeaf acts.now) (map (λ entry. entry.leaf) (flat book.now)) → ⊥)) }
+    ensures some { IfOk result (λ found. IfSome found (λ values.
+        AreValuesOf acts.now (flat book.now) values.items)) }
+    ensures none { IfOk result (λ found. IfNone found
+        (HasEachOnce (IsCallLeaf acts.now) (map (λ entry. entry.leaf) (flat book.now)) → ⊥)) }
 {
     let mut values = vec![in alloc; None; acts.len()]?;
     for batch in book {
@@ -129,7 +133,9 @@ fn values_of(
 }
 
 /// Whether the batches have each leaf that calls once, with its operation under the replies of these batches and with
-/// the worker of its row.
+/// the worker of its row. A source may stand behind its use: then the ticks are not kept.
+///
+/// Memory: linear in the leaves.
 pub fn has_calls(alloc: Global, job: &Job, book: &[Batch], rows: &[Row]) -> Result<bool, AllocError>
     requires { length rows.now ≡ leaf_count job.now.shape }
     ensures { IfOk result (λ has. IsTrue has ↔ HasCalls job.now (of_calls book.now rows.now)) }

@@ -1,8 +1,9 @@
-//! Walks over a report, one or two for each part of what makes it lawful for a job.
+//! Walks over a report: one or two for each part of what makes it lawful for a job.
 //!
-//! Each walk decides its part exactly, in linear time, where the parts before it hold: none compares all pairs of leaves
-//! or of calls. The parts are those of `Lawful`, in their order: rows, order, calls, replies, ticks, batches and values.
-//! It builds on `batch_history`, which defines them, and on `seq_objects` and `sp_order`.
+//! Each part of `Lawful` is decided exactly, where the parts before it hold: rows, order, calls, replies, ticks, batches
+//! and values. A walk takes linear time and never compares all pairs of leaves or of calls. Nothing is sized by what the
+//! report states of itself. The crate builds on `batch_history`, which defines the parts, on `sp_order` for jobs, and on
+//! `seq_objects` for the serial objects.
 #![tactic(auto)]
 
 mod batches;

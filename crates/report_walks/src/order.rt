@@ -18,9 +18,9 @@ pub(crate) struct Span {
     greatest: u64,
 }
 
-/// The span of this part of a shape, whose leaves are numbered from `first` on, if its leaves keep its order. All leaves
-/// of a left side end before all of the right one start where the greatest end is below the least start. It recurses
-/// once for each level.
+/// The span of this part of a shape, whose leaves are numbered from `first` on, if its leaves keep its order. In a
+/// series, all leaves on the left end before all on the right start exactly where the greatest end is below the least
+/// start. It recurses once for each level.
 fn span_of(shape: &Shape, rows: &[Row], first: usize) -> Option<Span>
     requires { first + leaves (tree_of shape.now) ≤ length rows.now }
     ensures some { IfSome result (λ span. IsSpanOf rows.now first (tree_of shape.now) span
@@ -79,8 +79,8 @@ fn starts_of(alloc: Global, rows: &[Row]) -> Result<Vec<Option<u32>>, AllocError
     Ok(starts)
 }
 
-/// Whether of two leaves of one worker always one ends before the other starts. `started` says which leaf starts at each
-/// tick.
+/// Whether of two leaves of one worker always one ends before the other starts. `started` tells which leaf starts at
+/// each tick. The walk goes over the ticks, with the tick from which each worker is free.
 fn are_alone(rows: &[Row], started: &[Option<u32>]) -> bool
     requires timed { AreTimed rows.now }
     requires starts { AreStarts rows.now started.now }
@@ -104,7 +104,8 @@ fn are_alone(rows: &[Row], started: &[Option<u32>]) -> bool
 fn keeps_before(job: &Job, rows: &[Row]) -> bool
     requires { length rows.now ≡ leaf_count job.now.shape }
     ensures job { IsJob job.now }
-    ensures before { IsTrue result ↔ ((u v : ℕ) → IsBefore job.now.shape u v → ForRows (of_rows rows.now) u v (λ row row'. row.end < row'.start)) }
+    ensures before { IsTrue result ↔ ((u v : ℕ) → IsBefore job.now.shape u v
+        → ForRows (of_rows rows.now) u v (λ row row'. row.end < row'.start)) }
 {
     match job.shape() {
         None => true,
@@ -112,9 +113,12 @@ fn keeps_before(job: &Job, rows: &[Row]) -> bool
     }
 }
 
-/// Whether each leaf ends before those start that it is before, and before or behind each other leaf of its worker.
+/// Whether each leaf ends before those start that it is before, and whether no two leaves of one worker overlap.
+///
+/// Memory: linear in the leaves.
 pub fn keeps_order(alloc: Global, job: &Job, rows: &[Row]) -> Result<bool, AllocError>
-    requires { (workers : ℕ) × (workers ≤ 32) × HasRows job.now workers (report_of workers [] rows.now) }
+    requires { (workers : ℕ) × (workers ≤ 32)
+        × HasRows job.now workers (report_of workers [] rows.now) }
     ensures { IfOk result (λ keeps. IsTrue keeps ↔ KeepsOrder job.now (of_rows rows.now)) }
 {
     if !keeps_before(job, rows) {

@@ -24,8 +24,10 @@ fn serve(objects: &mut Plain, op: Op) -> Result<Reply, AllocError>
 /// Serves the operations of the entries one after another, as long as each reply is the entry's.
 fn serve_batch(objects: &mut Plain, entries: &[Entry]) -> Result<bool, AllocError>
     requires { objects.old.counter + length entries.now * 2 ^ 32 ≤ 2 ^ 64 }
-    ensures most { IfOk result (λ same. objects.new.counter ≤ objects.old.counter + length entries.now * 2 ^ 32) }
-    ensures same { IfOk result (λ same. same ≡ true → IsLegalFrom objects.old entries.now × (objects.new ≡ served objects.old entries.now)) }
+    ensures most { IfOk result (λ same.
+        objects.new.counter ≤ objects.old.counter + length entries.now * 2 ^ 32) }
+    ensures same { IfOk result (λ same. same ≡ true → IsLegalFrom objects.old entries.now
+        × (objects.new ≡ served objects.old entries.now)) }
     ensures not { IfOk result (λ same. same ≡ false → IsLegalFrom objects.old entries.now → ⊥) }
 {
     for entry in entries {
@@ -36,7 +38,8 @@ fn serve_batch(objects: &mut Plain, entries: &[Entry]) -> Result<bool, AllocErro
     Ok(true)
 }
 
-/// Whether each reply is that of the serial objects, from the opening objects on.
+/// Whether each reply is that of the serial objects, from the opening objects on. Few calls cannot add up to a sum of
+/// the counter that needs more than 64 bits.
 pub fn are_legal(alloc: Global, book: &[Batch]) -> Result<bool, AllocError>
     requires { length (flat book.now) ≤ 2 ^ 32 }
     ensures { IfOk result (λ legal. IsTrue legal ↔ IsLegal book.now) }

@@ -18,7 +18,8 @@ fn is_row_of(row: &Row, leaf: usize, workers: u32) -> bool
 
 /// Marks a tick as taken, and answers whether it is one of the ticks and was not taken before.
 fn take_tick(taken: &mut Vec<bool>, tick: u64) -> bool
-    ensures free { result ≡ true → IsFree taken.old.items tick × (taken.new.items ≡ with_taken taken.old.items tick) }
+    ensures free { result ≡ true → IsFree taken.old.items tick
+        × (taken.new.items ≡ with_taken taken.old.items tick) }
     ensures not { result ≡ false → IsFree taken.old.items tick → ⊥ }
 {
     if tick >= taken.len() as u64 {
@@ -44,10 +45,13 @@ fn all_taken(taken: &[bool]) -> bool
     true
 }
 
-/// Whether the rows are those of the job's leaves, in order, with workers below the number of workers, and start and end
-/// at each number below twice the leaves, each once.
+/// Whether the rows are those of the job's leaves, in order, with workers below the number of workers, and whether they
+/// start and end at the numbers below twice the leaves, each once.
+///
+/// Memory: linear in the leaves.
 pub fn has_rows(alloc: Global, job: &Job, workers: u32, rows: &[Row]) -> Result<bool, AllocError>
-    ensures rows { IfOk result (λ has. IsTrue has ↔ HasRows job.now workers (report_of workers [] rows.now)) }
+    ensures rows { IfOk result (λ has.
+        IsTrue has ↔ HasRows job.now workers (report_of workers [] rows.now)) }
     ensures job { IsJob job.now }
 {
     let leaves = job.acts().len();

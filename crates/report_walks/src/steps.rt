@@ -2,8 +2,8 @@
 ghost use Rattle.std.specs.Prelude.{◌≡◌};
 ghost use Rattle.seq_objects.specs.Spin.{spin_of};
 
-/// The value of `n` steps of work, in time linear in the bits of `n`. One step is a map that multiplies by 5 and adds 1;
-/// the map of twice as many steps is the map after itself.
+/// The value of `n` steps of work, in time linear in the bits of `n`. One step multiplies by 5 and adds 1; the map of
+/// twice as many steps is a map applied twice, which multiplies and adds too.
 pub(crate) fn spun(n: u32) -> u32
     ensures { result ≡ spin_of n }
 {

@@ -32,10 +32,13 @@ fn all_end_from(entries: &[Entry], rows: &[Row], tick: u64) -> bool
     true
 }
 
-/// Whether each call whose leaf ended before the leaf of another one started stands in an earlier batch. A leaf of a
-/// batch that ends before the latest start of the calls up to this batch is one that does not.
+/// Whether each call whose leaf ended before the leaf of another one started stands in an earlier batch: no leaf of a
+/// batch ends before the latest start of the leaves of this batch and those before it.
+///
+/// Memory: none.
 pub fn keeps_ticks(book: &[Batch], rows: &[Row]) -> bool
-    requires { (number : ℕ) (entry : EntryOf) → IsInBatch (of_calls book.now rows.now) number entry → entry.leaf < length rows.now }
+    requires { (number : ℕ) (entry : EntryOf)
+        → IsInBatch (of_calls book.now rows.now) number entry → entry.leaf < length rows.now }
     ensures { IsTrue result ↔ KeepsTicks (of_calls book.now rows.now) }
 {
     let mut latest = 0;

@@ -18,8 +18,8 @@ use sp_order::Job;
 /// Whether each leaf of work has the value of its work.
 fn have_work(acts: &[Act], rows: &[Row]) -> bool
     requires { length rows.now ≡ length acts.now }
-    ensures { IsTrue result
-        ↔ ((leaf steps : ℕ) → slice_get acts.now leaf ≡ Some (Work steps) → ForSome (slice_get rows.now leaf) (λ row. row.value ≡ spin_of steps)) }
+    ensures { IsTrue result ↔ ((leaf steps : ℕ) → slice_get acts.now leaf ≡ Some (Work steps)
+        → ForSome (slice_get rows.now leaf) (λ row. row.value ≡ spin_of steps)) }
 {
     for (leaf, act) in acts.iter().enumerate() {
         if let Act::Work(steps) = act {
@@ -44,7 +44,10 @@ fn have_replies(rows: &[Row], entries: &[Entry]) -> bool
     true
 }
 
-/// Whether each leaf of work has the value of its work, and each one that calls that of its reply.
+/// Whether each leaf of work has the value of its work, and each one that calls that of its reply. Work of any number of
+/// steps is looked at in some 32 turns of a loop.
+///
+/// Memory: none.
 pub fn has_values(job: &Job, book: &[Batch], rows: &[Row]) -> bool
     requires rows { length rows.now ≡ leaf_count job.now.shape }
     requires leaves { AllByRecursion (λ entry. entry.leaf < length rows.now) (flat book.now) }

@@ -1,4 +1,4 @@
-use Rattle.std.proofs.Common.{◌≡◌, List, sym, subst}
+use Rattle.std.proofs.Common.{List, sym, subst}
 use Rattle.std.specs.List.{AllByRecursion}
 use Rattle.batch_history.specs.declared.batch.Entry.{Entry}
 use Rattle.report_walks.specs.Code.Neighbours.{AreInOrder}

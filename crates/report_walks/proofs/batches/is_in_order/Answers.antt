@@ -1,4 +1,4 @@
-use Rattle.std.proofs.Common.{◌≡◌, ℕ, ◌+◌, ◌-◌, ◌≤◌, List, length, sym, ◌∙◌, arith}
+use Rattle.std.proofs.Common.{sym, ◌∙◌, arith}
 use Rattle.report_walks.specs.Code.Neighbours.{AreInOrder}
 use Rattle.report_walks.proofs.Walks.{holds}
 use Rattle.report_walks.proofs.BatchWalk.{last_neighbours, some_entries}

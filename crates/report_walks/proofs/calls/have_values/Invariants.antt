@@ -1,4 +1,4 @@
-use Rattle.std.proofs.Common.{◌≡◌, ◌≢◌, ℕ, ◌<◌, get_or, None}
+use Rattle.std.proofs.Common.{◌≢◌, ℕ, ◌<◌, get_or, None}
 use Rattle.sp_order.specs.Sources.{IsCallLeaf}
 use Rattle.report_walks.proofs.calls.have_values.Given as goal
 

@@ -1,7 +1,7 @@
-use Rattle.std.proofs.Common.{◌≡◌, ℕ, ◌<◌, Some, None, List, length, get_or, refl, sym, ap, subst, ◌∙◌, arith}
+use Rattle.std.proofs.Common.{◌≡◌, Some, None, List, ap, subst, ◌∙◌, arith}
 use Rattle.std.proofs.lemmas.Option.{get_or_from_slice_get}
 use Rattle.seq_objects.specs.declared.act.Act.{Act}
-use Rattle.seq_objects.specs.declared.act.Act.TheVariants.{Work, Call}
+use Rattle.seq_objects.specs.declared.act.Act.TheVariants.{Call}
 use Rattle.batch_history.specs.Operations.{act_of, source_of}
 use Rattle.report_walks.proofs.CallWalk.{call_within, op_plain, op_sourced}
 use Rattle.report_walks.proofs.calls.op_of.Goals as goal

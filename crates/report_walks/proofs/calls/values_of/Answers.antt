@@ -1,11 +1,9 @@
-use Rattle.std.proofs.Common.{◌≡◌, ℕ, ◌+◌, ◌<◌, ◌≤◌, true, false, Option, None, List, [], ◌∷◌, ◌++◌, length, drop, refl, sym, ap, subst, ◌∙◌}
-use Rattle.std.specs.Prelude.{replicate}
+use Rattle.std.proofs.Common.{◌≡◌, ℕ, ◌+◌, true, false, Option, List, ◌++◌, length, drop, refl, sym, ap, subst, ◌∙◌}
 use Rattle.std.proofs.lemmas.List.{at_drop_all}
 use Rattle.batch_history.specs.Book.{flat}
-use Rattle.batch_history.specs.declared.batch.Entry.{Entry}
 use Rattle.report_walks.specs.Code.Calls.{all_noted, CanNoteAll, HaveValues}
 use Rattle.report_walks.proofs.Walks.{flat_opened, flat_closed, begun}
-use Rattle.report_walks.proofs.CallWalk.{noted_append, noted_long, can_both, can_first, can_of_once, have_of_once, values_of_noted, no_values}
+use Rattle.report_walks.proofs.CallWalk.{noted_append, noted_long, can_both, can_first, can_of_once, have_of_once, values_of_noted}
 use Rattle.report_walks.proofs.calls.values_of.Goals as goal
 
 pub returns-then-not-note_batch-clause-none : goal.returns-then-not-note_batch-clause-none

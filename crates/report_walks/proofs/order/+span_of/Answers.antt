@@ -1,4 +1,4 @@
-use Rattle.std.proofs.Common.{◌≡◌, refl, arith}
+use Rattle.std.proofs.Common.{refl}
 use Rattle.sp_order.specs.Precedence.{tree_of}
 use Rattle.report_walks.proofs.Spans.{seq_spanned, par_spanned}
 use Rattle.report_walks.proofs.order.+span_of.Goals as goal

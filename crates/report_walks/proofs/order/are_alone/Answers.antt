@@ -1,10 +1,10 @@
-use Rattle.std.proofs.Common.{rules, ◌≡◌, ◌≢◌, ℕ, ◌+◌, ◌*◌, ◌<◌, ◌≤◌, ◌^◌, List, [], ◌∷◌, length, get_or, Option, Some, None, Bool, true, false, IsTrue, Fits, w64, refl, sym, ap, subst, ◌∙◌, arith}
+use Rattle.std.proofs.Common.{rules, ◌≡◌, ℕ, ◌*◌, ◌<◌, List, [], ◌∷◌, length, get_or, Option, Some, None, true, false, IsTrue, refl, sym, ap, ◌∙◌, arith}
 use Rattle.std.specs.Prelude.{slice_get, zero, suc}
 use Rattle.std.specs.List.{AllByRecursion}
 use Rattle.std.proofs.lemmas.Option.{slice_get_within, slice_get-get_or, get_or_from_slice_get}
-use Rattle.report_walks.specs.Code.Spans.{KeepsAlone, IsRow, AreStarts, AreTimed}
+use Rattle.report_walks.specs.Code.Spans.{KeepsAlone, IsRow, AreStarts}
 use Rattle.batch_history.specs.declared.row.Row.{Row}
-use Rattle.report_walks.proofs.Alone.{HasWalked, not_alone, past_none, past_start, all_apart, opening}
+use Rattle.report_walks.proofs.Alone.{not_alone, past_none, past_start, all_apart, opening}
 use Rattle.report_walks.proofs.order.are_alone.Goals as goal
 use Rattle.report_walks.proofs.order.are_alone.Goals.{in-Some+else-tick-free_from, in_default}
 

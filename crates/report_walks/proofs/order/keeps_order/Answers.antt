@@ -1,4 +1,4 @@
-use Rattle.std.proofs.Common.{◌≡◌, [], length}
+use Rattle.std.proofs.Common.{[]}
 use Rattle.report_walks.specs.Parts.{report_of}
 use Rattle.report_walks.proofs.RowWalk.{rows_long}
 use Rattle.report_walks.proofs.Timed.{timed_of}

@@ -1,8 +1,7 @@
-use Rattle.std.proofs.Common.{◌≡◌, ℕ, ◌+◌, ◌*◌, ◌^◌, ◌≤◌, true, false, IsTrue, List, ◌++◌, length, drop, refl, sym, ap, subst, ◌∙◌, arith}
+use Rattle.std.proofs.Common.{◌+◌, ◌*◌, ◌^◌, ◌≤◌, ◌++◌, length, drop, sym, subst, arith}
 use Rattle.std.proofs.lemmas.List.{length-append}
 use Rattle.seq_objects.specs.Objects.{Objects}
 use Rattle.batch_history.specs.Book.{flat, IsLegal, IsLegalFrom}
-use Rattle.batch_history.specs.declared.batch.Entry.{Entry}
 use Rattle.batch_history.proofs.BookLemmas.Books.{legal_append}
 use Rattle.report_walks.proofs.Walks.{denied, flat_opened, flat_closed}
 use Rattle.report_walks.proofs.ReplyWalk.{legal_parts}

@@ -1,4 +1,4 @@
-use Rattle.std.proofs.Common.{◌≡◌, ℕ, ◌+◌, ◌*◌, ◌<◌, ◌≤◌, Bool, true, false, IsTrue, List, [], length, get_or, drop, refl, sym, ap, subst, ◌∙◌, arith}
+use Rattle.std.proofs.Common.{◌≡◌, ℕ, ◌+◌, ◌*◌, ◌<◌, Bool, false, List, [], length, get_or, drop, refl, sym, ap, subst, arith}
 use Rattle.std.specs.Prelude.{replicate, ◌↔◌}
 use Rattle.sp_order.specs.Precedence.{leaf_count}
 use Rattle.sp_order.specs.Jobs.{JobValue}

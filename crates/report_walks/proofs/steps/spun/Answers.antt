@@ -1,5 +1,4 @@
-use Rattle.std.proofs.Common.{◌≡◌, ℕ, ◌%◌, sym, ◌∙◌, ap, arith}
-use Rattle.report_walks.specs.Code.Maps.{times}
+use Rattle.std.proofs.Common.{◌∙◌}
 use Rattle.report_walks.proofs.StepMaps.{past_odd, past_even, all_steps, wrapped}
 use Rattle.report_walks.proofs.steps.spun.Goals as goal
 use Rattle.report_walks.proofs.steps.spun.Goals.{then-steps-eq1, else-steps-eq1}

@@ -1,4 +1,4 @@
-use Rattle.std.proofs.Common.{◌≡◌, ◌≤◌, true, false, IsTrue, length, refl, arith}
+use Rattle.std.proofs.Common.{◌≡◌, true, false, length, refl, arith}
 use Rattle.report_walks.proofs.TickWalk.{end_more, ended_early, call_at, has_row}
 use Rattle.report_walks.proofs.ticks.all_end_from.Goals as goal
 

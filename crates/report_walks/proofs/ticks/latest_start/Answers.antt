@@ -1,4 +1,3 @@
-use Rattle.std.proofs.Common.{◌≡◌, arith}
 use Rattle.report_walks.proofs.TickWalk.{latest_more, call_at, has_row}
 use Rattle.report_walks.proofs.ticks.latest_start.Goals as goal
 

@@ -1,4 +1,4 @@
-use Rattle.std.proofs.Common.{◌≡◌, ◌<◌, List, length, refl}
+use Rattle.std.proofs.Common.{◌<◌, length, refl}
 use Rattle.batch_history.specs.Lawful.{HasValues}
 use Rattle.batch_history.specs.declared.batch.Entry.{Entry}
 use Rattle.report_walks.specs.Parts.{of_calls}

@@ -37,8 +37,8 @@ pub record FailsFirst (job : JobValue) (report : Report) (flaw : Flaw) : Type 0 
   pub failed : Part job report flaw → ⊥
 
 -- The flaw of a text for a job, or none. There is none where the text is that of a raw report that is lawful for the
--- job and its own number of workers. The flaw is `Text` where the text is that of no raw report, and else the first flaw
--- of the report whose text it is.
+-- job and its own number of workers. The flaw is `Text` where the text is that of no raw report, and else the first
+-- flaw of the report whose text it is.
 abbrev pub IsFlawOf : JobValue → List ℕ → Option Flaw → Type 0
 IsFlawOf job text None = (report : Report) × HasText text report × Lawful job report.workers report
 IsFlawOf job text (Some Text) = (report : Report) → HasText text report → ⊥

@@ -7,8 +7,8 @@ use Rattle.std.proofs.lemmas.Option.{slice_get_within}
 use Rattle.report_walks.specs.Code.Spans.{KeepsAlone, IsRow, AreStarts, AreTimed}
 use Rattle.batch_history.specs.declared.row.Row.{Row}
 
--- the walk has come to this tick: of the leaves that started before it, those of each worker are apart, and ended before
--- the tick from which it is free
+-- the walk has come to this tick: of the leaves that started before it, those of each worker are apart, and ended
+-- before the tick from which it is free
 pub record HasWalked (rows : List Row) (free_from : List ℕ) (tick : ℕ) : Type 0 where
   pub most : length free_from ≡ 32
   pub ended : (u : ℕ) (row : Row) → IsRow rows u row → row.start < tick → row.end < get_or free_from row.worker 0

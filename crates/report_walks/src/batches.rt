@@ -52,8 +52,8 @@ fn are_in_order(book: &[Batch]) -> bool
 }
 
 /// Whether each batch has entries, in batch order, of distinct workers, for a report that keeps the parts before this
-/// one. Neighbours are enough: the order is transitive, and two calls of one worker in one batch would break the order of
-/// the leaves or the ticks.
+/// one. Neighbours are enough: the order is transitive, and two calls of one worker in one batch would break the order
+/// of the leaves or the ticks.
 ///
 /// Memory: none.
 pub fn are_batches(book: &[Batch]) -> bool

@@ -44,8 +44,8 @@ fn have_replies(rows: &[Row], entries: &[Entry]) -> bool
     true
 }
 
-/// Whether each leaf of work has the value of its work, and each one that calls that of its reply. Work of any number of
-/// steps is looked at in some 32 turns of a loop.
+/// Whether each leaf of work has the value of its work, and each one that calls that of its reply. Work of any number
+/// of steps takes 32 turns of a loop at most.
 ///
 /// Memory: none.
 pub fn has_values(job: &Job, book: &[Batch], rows: &[Row]) -> bool

@@ -30,8 +30,8 @@ pub record AreStarts (rows : List Row) (started : List (Option ℕ)) : Type 0 wh
   pub each : (u : ℕ) (row : Row) → IsRow rows u row → slice_get started row.start ≡ Some (Some u)
   pub only : (tick u : ℕ) → slice_get started tick ≡ Some (Some u) → (row : Row) × IsRow rows u row × (row.start ≡ tick)
 
--- What right rows keep: there are at most 20,000, the workers are below 32, each row starts before it ends, the ends are
--- below twice the rows, and no two leaves start at one tick.
+-- What right rows keep: there are at most 20,000, the workers are below 32, each row starts before it ends, the ends
+-- are below twice the rows, and no two leaves start at one tick.
 pub record AreTimed (rows : List Row) : Type 0 where
   pub few : length rows ≤ 20000
   pub workers : (u : ℕ) (row : Row) → IsRow rows u row → row.worker < 32

@@ -12,7 +12,8 @@ pub(crate) fn spun(n: u32) -> u32
     let mut factor = 5u32;
     let mut addend = 1u32;
     while steps > 0 {
-        if steps % 2 == 1 {
+        let odd = steps % 2 == 1;
+        if odd {
             x = factor.wrapping_mul(x).wrapping_add(addend);
         }
         addend = factor.wrapping_mul(addend).wrapping_add(addend);

@@ -29,7 +29,8 @@ cut_count xs ys end n low high most below above =
     (let a = below (length xs) lt in let b = high 0 (omega (arith, lt, most, long)) in let e = right xs ys (length xs) 0 (omega arith) in omega (arith, a, b, e)) in
     omega (arith, not_less, not_more)
 
--- what a search for the last let with a name, from `start` to below `end`, finds: `place` is the last place below the end
+-- what a search for the last let with a name, from `start` to below `end`, finds: `place` is the last place below the
+-- end
 pub data Outcome : Option ℕ → List Let → (start n place : ℕ) → Type 0 where
   none : {r : Option ℕ} {lets : List Let} {start n place : ℕ} → r ≡ None → (0 < n → place < start) → Outcome r lets start n place
   some : {r : Option ℕ} {lets : List Let} {start n place : ℕ} → 0 < n → start ≤ place → ((d : Let) → r ≡ Some (get_or lets place d).number) → Outcome r lets start n place

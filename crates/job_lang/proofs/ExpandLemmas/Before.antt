@@ -12,7 +12,8 @@ abbrev pub kind_by : Bool → Tree → Tree → Tree
 kind_by true = seq
 kind_by false = par
 
--- Leaf u is before leaf v in a list of shapes: inside one of them; or the list is a series and u's shape stands before v's.
+-- Leaf u is before leaf v in a list of shapes: inside one of them; or the list is a series and u's shape stands
+-- before v's.
 abbrev pub IsBeforeIn : Bool → ℕ → List Tree → ℕ → ℕ → Type 0
 IsBeforeIn series first [] u v = ⊥
 IsBeforeIn series first (t ∷ ts) u v =

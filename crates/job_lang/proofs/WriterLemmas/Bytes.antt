@@ -116,7 +116,8 @@ plain_tree (par left right) written small =
     plain_block (codes "par { ") (tree_text left (take (leaves left) written)) (tree_text right (drop (leaves left) written)) refl
     (plain_tree left (take (leaves left) written) (first_small (leaves left) written small)) (plain_tree right (drop (leaves left) written) (last_small (leaves left) written small))
 
--- A leaf takes at most 37 bytes, 23 where it has no names, and a block at most 9 more; there are more leaves than blocks.
+-- A leaf takes at most 37 bytes, 23 where it has no names, and a block at most 9 more; there are more leaves than
+-- blocks.
 
 short_number : (words : List ℕ) (n : ℕ) → length words ≤ 13 → n < 2 ^ 32 → length (words ++ decimal n) ≤ 23
 short_number words n few small = omega (arith, length-append words (decimal n), length-decimal-le 10 n (omega arith) (omega (arith, small)) (omega (arith, small)), few)

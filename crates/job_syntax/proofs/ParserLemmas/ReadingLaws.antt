@@ -18,7 +18,8 @@ use Rattle.job_syntax.proofs.ParserLemmas.Nestings.{AreNested, nesting_within, n
 whole_words : (tokens : List WordOnLine) (items : Items) → Derives (words_of tokens) items → words_of tokens ≡ items_words items ++ []
 whole_words tokens items derives = sym derives.writes ∙ sym (append-nil (items_words items))
 
--- Derived tokens without a fault have their items: they keep the limits of numbers and of nesting, and their names are known.
+-- Derived tokens without a fault have their items: they keep the limits of numbers and of nesting, and their names
+-- are known.
 pub items_when_clean : (tokens : List WordOnLine) (items : Items) → Derives (words_of tokens) items → AreClean [] tokens → AreItemsOf tokens items
 items_when_clean tokens items derives clean = record {
   derives = derives;

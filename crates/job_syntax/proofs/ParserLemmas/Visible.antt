@@ -140,7 +140,8 @@ open_opening (block ∷ blocks) rest h =
     ∙ open_items block.before (map (λ (b : OpenBlock). b.kind) blocks) (kind_words block.kind ++ Open ∷ rest) h.0
     ∙ open_kind block.kind (map (λ (b : OpenBlock). b.kind) blocks) rest
 
--- Where a let of this name stands in items: the blocks inside that hold it, the innermost first, of which none is a loop.
+-- Where a let of this name stands in items: the blocks inside that hold it, the innermost first, of which none is a
+-- loop.
 record Place (items : Items) (name : Name) : Type 0 where
   front : List Word
   call : Leaf

@@ -1,5 +1,9 @@
--- The sources of the job of three calls are sources that its leaves may have.
-use Rattle.std.proofs.Common.{ℕ, zero, suc, ◌≡◌, None, Some, refl, subst, inl, inr, arith, slice_get}
+-- The sources of the job of three calls are sources that its leaves may have; and when a source may be asked for.
+use Rattle.std.proofs.Common.{ℕ, zero, suc, ◌≡◌, ◌∙◌, Option as Maybe, None, Some, refl, ap, subst, inl, inr, arith, slice_get}
+use Rattle.core_model.specs.declared.next.Next.{Next}
+use Rattle.core_model.specs.declared.next.Next.TheVariants as acts
+use Rattle.table_rule.specs.DueActs.{IsSourceDue}
+use Rattle.worker_turns.specs.Callings.{IsCallDue}
 use Rattle.seq_objects.specs.declared.op.Op.TheVariants.{CounterAdd, TreeInsert, Push}
 use Rattle.sp_order.specs.Sources.{IsSource, AreSources}
 use Rattle.table_tests.specs.Sourced.{three_shape, three_acts, three_sources}
@@ -32,3 +36,15 @@ each (suc (suc (suc leaf))) source is = absurd (cc)
 
 pub are_sources : AreSources (Some three_shape) three_acts three_sources
 are_sources = record { as_many = refl; each = each }
+
+-- the call of a leaf with a source is due
+pub due_source : (source : ℕ → Maybe ℕ) (leaf from : ℕ) (next : Maybe Next) → IsCallDue leaf next → source leaf ≡ Some from → IsSourceDue source next
+due_source source leaf from (Some (acts.Call n start u op)) due has = (from, ap source due ∙ has)
+due_source source leaf from None due has = absurd due
+due_source source leaf from (Some (acts.Start n u)) due has = absurd due
+due_source source leaf from (Some (acts.Open n y event)) due has = absurd due
+due_source source leaf from (Some (acts.Spin n start steps)) due has = absurd due
+due_source source leaf from (Some (acts.Got n start reply)) due has = absurd due
+due_source source leaf from (Some (acts.End n start)) due has = absurd due
+due_source source leaf from (Some (acts.Finish n event)) due has = absurd due
+due_source source leaf from (Some (acts.Arrive p l r n)) due has = absurd due

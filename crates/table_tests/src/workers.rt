@@ -22,7 +22,7 @@ pub(crate) struct Made {
     pub(crate) called: Called,
 }
 
-/// The value of the source of the leaf that is to call, where it has one and both times that it is asked are alike.
+/// The value of the source of the leaf that is to call, where it has one, an earlier leaf, and two answers are alike.
 fn ask_twice<T: Table>(table: &T, pass: &mut T::Pass, leaf: u32) -> Option<u64>
     requires pass { T.gave table.now pass.old }
     requires free { IsFree (T.seen pass.old) }
@@ -33,12 +33,16 @@ fn ask_twice<T: Table>(table: &T, pass: &mut T::Pass, leaf: u32) -> Option<u64>
     ensures worker { (T.seen pass.new).worker ≡ (T.seen pass.old).worker }
     ensures told { IfSome result (λ value. (T.seen pass.new).told ≡ Some value) }
 {
-    if table.source(leaf).is_none() {
+    let Some(source) = table.source(leaf) else {
         return None;
-    }
+    };
     let first = table.source_value(pass);
     let second = table.source_value(pass);
-    if first == second { Some(second) } else { None }
+    if source < leaf && first == second {
+        Some(second)
+    } else {
+        None
+    }
 }
 
 /// Makes the worker's next act.

@@ -48,6 +48,15 @@ from_one Values = omega arith
 pub same_flaw : (flaw other : Flaw) → rank flaw ≡ rank other → flaw ≡ other
 same_flaw flaw other same = sym (at_rank flaw) ∙ ap flaw_at same ∙ at_rank other
 
+-- the number of workers, the batches and the rows that are read from a report
+pub record Sees (report : Report) : Type 0 where
+  pub workers : ℕ
+  pub book : List (List Entry)
+  pub rows : List Row
+  pub workers_are : workers ≡ report.workers
+  pub book_is : book ≡ report.history
+  pub rows_are : rows ≡ report.rows
+
 module _ (job : JobValue) (report : Report) where
   -- the parts of all flaws below a rank
   abbrev Holds : ℕ → Type 0
@@ -72,8 +81,26 @@ module _ (job : JobValue) (report : Report) where
   lawful_part lawful Batches = lawful.batches
   lawful_part lawful Values = lawful.values
 
-  -- what the walks decide, of the parts of the report
-  module _ (workers : ℕ) (book : List (List Entry)) (rows : List Row) (w : workers ≡ report.workers) (b : book ≡ report.history) (r : rows ≡ report.rows) where
+  -- what the walks decide, of what they see of the report
+  module _ (sees : Sees report) where
+    abbrev workers : ℕ
+    workers = sees.workers
+
+    abbrev book : List (List Entry)
+    book = sees.book
+
+    abbrev rows : List Row
+    rows = sees.rows
+
+    abbrev w : workers ≡ report.workers
+    w = sees.workers_are
+
+    abbrev b : book ≡ report.history
+    b = sees.book_is
+
+    abbrev r : rows ≡ report.rows
+    r = sees.rows_are
+
     abbrev RowsWalk : Type 0
     RowsWalk = HasRows job workers (report_of workers [] rows)
 

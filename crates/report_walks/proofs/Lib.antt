@@ -5,6 +5,7 @@ pub mod StepMaps
 pub mod Walks
 pub mod RowWalk
 pub mod Timed
+pub mod Starts
 pub mod CallWalk
 pub mod BatchWalk
 pub mod ReplyWalk

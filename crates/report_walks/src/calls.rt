@@ -1,6 +1,6 @@
 //! Whether the calls are those of the job's leaves: one walk that notes the value of each leaf's reply, and one that
 //! compares the operations.
-ghost use Rattle.std.specs.Prelude.{◌≡◌, ◌↔◌, ◌<◌, true, false, length, map, IsTrue, IfOk, IfSome, IfNone};
+ghost use Rattle.std.specs.Prelude.{◌≡◌, ◌↔◌, ◌<◌, true, false, length, map, Some, IsTrue, IfOk, IfSome, IfNone};
 ghost use Rattle.std.specs.List.{AllByRecursion};
 ghost use Rattle.seq_objects.specs.Pairs.{HasEachOnce};
 ghost use Rattle.sp_order.specs.Precedence.{leaf_count};
@@ -81,6 +81,16 @@ fn op_of(job: &Job, values: &[Option<u64>], leaf: u32) -> Option<Op>
     }
 }
 
+/// Whether there is an operation, and it is this one.
+fn is_op(found: Option<Op>, op: Op) -> bool
+    ensures { IsTrue result ↔ (found ≡ Some op) }
+{
+    match found {
+        None => false,
+        Some(found) => found == op,
+    }
+}
+
 /// Whether the entry has the operation of its leaf and the worker of its leaf's row.
 fn is_served(job: &Job, values: &[Option<u64>], rows: &[Row], entry: &Entry) -> bool
     requires leaf { entry.now.leaf < length job.now.acts }
@@ -88,10 +98,8 @@ fn is_served(job: &Job, values: &[Option<u64>], rows: &[Row], entry: &Entry) -> 
     requires rows { length rows.now ≡ length job.now.acts }
     ensures { IsTrue result ↔ IsServed job.now values.now rows.now entry.now }
 {
-    match op_of(job, values, entry.leaf) {
-        None => false,
-        Some(op) => op == entry.op && rows[entry.leaf as usize].worker == entry.worker,
-    }
+    is_op(op_of(job, values, entry.leaf), entry.op)
+        && rows[entry.leaf as usize].worker == entry.worker
 }
 
 /// Whether all entries have the operations of their leaves and the workers of their leaves' rows.

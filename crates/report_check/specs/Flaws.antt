@@ -9,7 +9,8 @@ use Rattle.report_reader.specs.Texts.{HasText}
 use Rattle.report_check.specs.declared.flaw.Flaw.{Flaw}
 use Rattle.report_check.specs.declared.flaw.Flaw.TheVariants.{Text, Rows, Order, Calls, Replies, Ticks, Batches, Values}
 
--- what a report that is free of the flaw keeps, where the number of workers is its own; a report has a text
+-- What a report keeps that does not fail by the flaw, for the job and the number of workers that the report states. Each
+-- report has a text.
 abbrev pub Part : JobValue → Report → Flaw → Type 0
 Part job report Text = Unit {0}
 Part job report Rows = HasRows job report.workers report

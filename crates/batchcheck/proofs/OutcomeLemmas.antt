@@ -1,0 +1,179 @@
+-- Which verdict comes: consequences of its cause and of what was printed.
+use Rattle.std.proofs.Common.{◌≡◌, ℕ, ◌<◌, ◌≤◌, ◌^◌, List, length, Bool, Option, Some, None, IsSome, IfSome, inl, inr, refl, sym, ap, subst, ◌∙◌, arith}
+use Rattle.std.specs.Prelude.{IsTrue}
+use Rattle.std.specs.List.{AllByRecursion}
+use Rattle.std.specs.Option.{ForSome}
+use Rattle.program_io.specs.Reading.{WasRead}
+use Rattle.report_reader.specs.Objects.{argument_of}
+use Rattle.sp_order.specs.Jobs.{JobValue}
+use Rattle.sp_order.specs.Totals.{count_of_act}
+use Rattle.batch_history.specs.Lawful.{Lawful}
+use Rattle.batch_history.specs.Text.{report_text}
+use Rattle.batch_history.specs.declared.report.Report.{Report}
+use Rattle.job_lang.specs.Language.{IsJobOf, IsFaultOf}
+use Rattle.job_lang.proofs.ExpandLemmas.Leaves.{job_leaves, acts_count}
+use Rattle.job_syntax.specs.declared.fault.JobFault.{JobFault}
+use Rattle.report_check.specs.Flaws.{HasSmallNumbers, IsFlawOf}
+use Rattle.report_check.specs.declared.flaw.Flaw.{Flaw}
+use Rattle.batchcheck.specs.Words.{Files}
+use Rattle.batchcheck.specs.Lines.{verdict_text}
+use Rattle.batchcheck.specs.Outcomes.{HasJob, HasFault, IsJudged, Prints, HasCause, IsUnlessMemory, verdict_on, Holds, HasLawfulReport, Completes, IsAssured}
+use Rattle.batchcheck.specs.Code.{FailsPast}
+use Rattle.batchcheck.specs.declared.verdict.CheckRefusal.TheVariants.{JobTooLong, ReportTooLong, Job}
+use Rattle.batchcheck.specs.declared.verdict.Verdict.{Verdict}
+use Rattle.batchcheck.specs.declared.verdict.Verdict.TheVariants as verdict
+
+-- what the crates below state of texts, jobs and flaws
+pub record Laws : Type 0 where
+  pub one_job : (text : List ℕ) (job job' : JobValue) → IsJobOf text job → IsJobOf text job' → job ≡ job'
+  pub one_fault : (text : List ℕ) (fault fault' : JobFault) → IsFaultOf text fault → IsFaultOf text fault' → fault ≡ fault'
+  pub not_both : (text : List ℕ) (job : JobValue) (fault : JobFault) → IsJobOf text job → IsFaultOf text fault → ⊥
+  pub small : (text : List ℕ) (job : JobValue) → IsJobOf text job → AllByRecursion (λ act. count_of_act argument_of act < 2 ^ 32) job.acts
+  pub one_flaw : (job : JobValue) (text : List ℕ) (flaw flaw' : Option Flaw) → IsFlawOf job text flaw → IsFlawOf job text flaw' → flaw ≡ flaw'
+  pub no_flaw : (job : JobValue) (report : Report) → HasSmallNumbers job → 1 ≤ report.workers → report.workers ≤ 32 → Lawful job report.workers report
+      → IsFlawOf job (report_text report) None
+
+-- the numbers of an accepted job are small
+small_numbers : Laws → (text : List ℕ) (job : JobValue) → IsJobOf text job → HasSmallNumbers job
+small_numbers laws text job is = record {
+  leaves = rw is.means (job_leaves is.items);
+  few = rw is.means (omega (arith, acts_count is.items 0, is.few));
+  arguments = laws.small text job is;
+}
+
+-- the text of a lawful report has no flaw
+lawful_text : Laws → (bytes : List ℕ) (job : JobValue) (text : List ℕ) → IsJobOf bytes job → HasLawfulReport job text → IsFlawOf job text None
+lawful_text laws bytes job text accepted has =
+    subst (λ t. IsFlawOf job t None) has.written (laws.no_flaw job has.report (small_numbers laws bytes job accepted) has.some has.few has.lawful)
+
+-- where the bytes held are known, they are the bytes that were read
+same_bytes : (most : ℕ) (held : Option (List ℕ)) (told bytes : List ℕ) → WasRead most held bytes → held ≡ Some told → bytes ≡ told
+same_bytes most None told bytes read is = cc
+same_bytes most (Some xs) told bytes read is = let same : xs ≡ told = cc in read.whole ∙ same
+
+-- bytes that were read to the end are not too many
+read_short : (most : ℕ) (held : Option (List ℕ)) (told bytes : List ℕ) → WasRead most held bytes → held ≡ Some told → most < length told → ⊥
+read_short most held told bytes read is long = omega (arith, read.short, long, ap length (same_bytes most held told bytes read is))
+
+-- known bytes within the limit are not too many
+held_short : (most : ℕ) (held : Option (List ℕ)) (told : List ℕ) → held ≡ Some told → IfSome held (λ bytes. most < length bytes) → length told ≤ most → ⊥
+held_short most None told is long short = cc
+held_short most (Some xs) told is long short = let same : xs ≡ told = cc in omega (arith, ap length same, long, short)
+
+some_held : (held : Option (List ℕ)) (told : List ℕ) → held ≡ Some told → IsSome held
+some_held held told is = rw is refl
+
+-- a job that was read is one of the bytes held
+job_held : (held : Option (List ℕ)) (told : List ℕ) (job : JobValue) → (has : HasJob held job) → held ≡ Some told → IsJobOf told job
+job_held held told job has is = subst (λ bytes. IsJobOf bytes job) (same_bytes 1048576 held told has.bytes has.read is) has.accepted
+
+-- so is a fault
+fault_held : (held : Option (List ℕ)) (told : List ℕ) (fault : JobFault) → (has : HasFault held fault) → held ≡ Some told → IsFaultOf told fault
+fault_held held told fault has is = subst (λ bytes. IsFaultOf bytes fault) (same_bytes 1048576 held told has.bytes has.read is) has.why
+
+module _ (laws : Laws) (files : Files) (held : List ℕ → Option (List ℕ)) where
+  -- a text that was judged is the one held, and the job is
+  judged_held : (job : JobValue) (text : List ℕ) (flaw : Option Flaw) → Holds files held job text → IsJudged files held flaw → IsFlawOf job text flaw
+  judged_held job text flaw holds judged =
+      let same_job = laws.one_job holds.bytes judged.job job (job_held (held files.job) holds.bytes judged.job judged.has_job holds.told) holds.accepted in
+      let same_text = same_bytes 8388608 (held files.report) text judged.text judged.read holds.report_told in
+      subst (λ t. IsFlawOf job t flaw) same_text (subst (λ j. IsFlawOf j judged.text flaw) same_job judged.judged)
+
+  module _ (R W : Type 0) (old new : Option (List ℕ)) where
+    -- where no job was read, the bytes held are no job; where one was, they are not too many
+    job_too_long : (ended : Verdict) → HasCause files held ended R W → Prints (IsJudged files held) ended old new
+        → (bytes : List ℕ) → held files.job ≡ Some bytes → ¬ R → 1048576 < length bytes → IsUnlessMemory ended (verdict.Refused JobTooLong)
+    job_too_long verdict.Lawful why line bytes told calm long = absurd (read_short 1048576 (held files.job) bytes line.0.has_job.bytes line.0.has_job.read told long)
+    job_too_long (verdict.Flawed flaw) why line bytes told calm long = absurd (read_short 1048576 (held files.job) bytes line.0.has_job.bytes line.0.has_job.read told long)
+    job_too_long verdict.Usage why line bytes told calm long = absurd why
+    job_too_long verdict.ReadFault why line bytes told calm long = absurd (calm why)
+    job_too_long (verdict.Refused JobTooLong) why line bytes told calm long = inl refl
+    job_too_long (verdict.Refused ReportTooLong) why line bytes told calm long = absurd (read_short 1048576 (held files.job) bytes why.0.1.bytes why.0.1.read told long)
+    job_too_long (verdict.Refused (Job fault)) why line bytes told calm long = absurd (read_short 1048576 (held files.job) bytes why.bytes why.read told long)
+    job_too_long verdict.WriteFault why line bytes told calm long = absurd (read_short 1048576 (held files.job) bytes line.1.has_job.bytes line.1.has_job.read told long)
+    job_too_long verdict.Memory why line bytes told calm long = inr refl
+
+    -- bytes with a fault are no job
+    no_job : (bytes : List ℕ) (fault : JobFault) (job : JobValue) → held files.job ≡ Some bytes → IsFaultOf bytes fault → HasJob (held files.job) job → ⊥
+    no_job bytes fault job told has read = laws.not_both bytes job fault (job_held (held files.job) bytes job read told) has
+
+    bad_job : (ended : Verdict) → HasCause files held ended R W → Prints (IsJudged files held) ended old new
+        → (bytes : List ℕ) (fault : JobFault) → held files.job ≡ Some bytes → ¬ R → length bytes ≤ 1048576 → IsFaultOf bytes fault
+        → IsUnlessMemory ended (verdict.Refused (Job fault))
+    bad_job verdict.Lawful why line bytes fault told calm short has = absurd (no_job bytes fault line.0.job told has line.0.has_job)
+    bad_job (verdict.Flawed flaw) why line bytes fault told calm short has = absurd (no_job bytes fault line.0.job told has line.0.has_job)
+    bad_job verdict.Usage why line bytes fault told calm short has = absurd why
+    bad_job verdict.ReadFault why line bytes fault told calm short has = absurd (calm why)
+    bad_job (verdict.Refused JobTooLong) why line bytes fault told calm short has = absurd (held_short 1048576 (held files.job) bytes told why short)
+    bad_job (verdict.Refused ReportTooLong) why line bytes fault told calm short has = absurd (no_job bytes fault why.0.0 told has why.0.1)
+    bad_job (verdict.Refused (Job found)) why line bytes fault told calm short has =
+        inl (ap (λ (f : JobFault). verdict.Refused (Job f)) (laws.one_fault bytes found fault (fault_held (held files.job) bytes found why told) has))
+    bad_job verdict.WriteFault why line bytes fault told calm short has = absurd (no_job bytes fault line.1.job told has line.1.has_job)
+    bad_job verdict.Memory why line bytes fault told calm short has = inr refl
+
+    -- an accepted job is not refused
+    not_refused : (job : JobValue) (text : List ℕ) (fault : JobFault) → Holds files held job text → HasFault (held files.job) fault → ⊥
+    not_refused job text fault holds has = laws.not_both holds.bytes job fault holds.accepted (fault_held (held files.job) holds.bytes fault has holds.told)
+
+    report_too_long : (ended : Verdict) → HasCause files held ended R W → Prints (IsJudged files held) ended old new
+        → (job : JobValue) (text : List ℕ) → Holds files held job text → ¬ R → 8388608 < length text → IsUnlessMemory ended (verdict.Refused ReportTooLong)
+    report_too_long verdict.Lawful why line job text holds calm long = absurd (read_short 8388608 (held files.report) text line.0.text line.0.read holds.report_told long)
+    report_too_long (verdict.Flawed flaw) why line job text holds calm long = absurd (read_short 8388608 (held files.report) text line.0.text line.0.read holds.report_told long)
+    report_too_long verdict.Usage why line job text holds calm long = absurd why
+    report_too_long verdict.ReadFault why line job text holds calm long = absurd (calm why)
+    report_too_long (verdict.Refused JobTooLong) why line job text holds calm long = absurd (held_short 1048576 (held files.job) holds.bytes holds.told why holds.short)
+    report_too_long (verdict.Refused ReportTooLong) why line job text holds calm long = inl refl
+    report_too_long (verdict.Refused (Job fault)) why line job text holds calm long = absurd (not_refused job text fault holds why)
+    report_too_long verdict.WriteFault why line job text holds calm long = absurd (read_short 8388608 (held files.report) text line.1.text line.1.read holds.report_told long)
+    report_too_long verdict.Memory why line job text holds calm long = inr refl
+
+    -- a text with a flaw, or without one, is judged so, where no stream fails
+    judged_so : (ended : Verdict) → HasCause files held ended R W → Prints (IsJudged files held) ended old new
+        → (job : JobValue) (text : List ℕ) (flaw : Option Flaw) → Holds files held job text → length text ≤ 8388608 → IsFlawOf job text flaw
+        → (ended ≡ verdict.ReadFault → ⊥) → (ended ≡ verdict.WriteFault → ⊥) → IsUnlessMemory ended (verdict_on flaw)
+    judged_so verdict.Lawful why line job text flaw holds short is reads writes =
+        inl (ap verdict_on (laws.one_flaw job text None flaw (judged_held job text None holds line.0) is))
+    judged_so (verdict.Flawed found) why line job text flaw holds short is reads writes =
+        inl (ap verdict_on (laws.one_flaw job text (Some found) flaw (judged_held job text (Some found) holds line.0) is))
+    judged_so verdict.Usage why line job text flaw holds short is reads writes = absurd why
+    judged_so verdict.ReadFault why line job text flaw holds short is reads writes = absurd (reads refl)
+    judged_so (verdict.Refused JobTooLong) why line job text flaw holds short is reads writes = absurd (held_short 1048576 (held files.job) holds.bytes holds.told why holds.short)
+    judged_so (verdict.Refused ReportTooLong) why line job text flaw holds short is reads writes = absurd (held_short 8388608 (held files.report) text holds.report_told why.1 short)
+    judged_so (verdict.Refused (Job fault)) why line job text flaw holds short is reads writes = absurd (not_refused job text fault holds why)
+    judged_so verdict.WriteFault why line job text flaw holds short is reads writes = absurd (writes refl)
+    judged_so verdict.Memory why line job text flaw holds short is reads writes = inr refl
+
+    calm_judged : (ended : Verdict) → HasCause files held ended R W → Prints (IsJudged files held) ended old new
+        → (job : JobValue) (text : List ℕ) (flaw : Option Flaw) → Holds files held job text → length text ≤ 8388608 → IsFlawOf job text flaw
+        → ¬ R → ¬ W → IsUnlessMemory ended (verdict_on flaw)
+    calm_judged ended why line job text flaw holds short is calm calm' =
+        judged_so ended why line job text flaw holds short is
+        (λ read. calm (subst (λ (v : Verdict). HasCause files held v R W) read why)) (λ write. calm' (subst (λ (v : Verdict). HasCause files held v R W) write why))
+
+    pub completes : (ended : Verdict) → HasCause files held ended R W → Prints (IsJudged files held) ended old new → Completes files held ended R W
+    completes ended why line = record {
+      job_too_long = λ bytes told calm long. job_too_long ended why line bytes told calm long;
+      bad_job = λ bytes fault told calm short has. bad_job ended why line bytes fault told calm short has;
+      report_too_long = λ job text holds calm long. report_too_long ended why line job text holds calm long;
+      lawful = λ job text holds calm calm' short has. calm_judged ended why line job text None holds short (lawful_text laws holds.bytes job text holds.accepted has) calm calm';
+      flawed = λ job text flaw holds calm calm' short is. calm_judged ended why line job text (Some flaw) holds short is calm calm';
+    }
+
+    -- no write fails of words that are within the room
+    fits : (job : JobValue) (text : List ℕ) (flaw : Option Flaw) (room : ℕ) → Holds files held job text → IsFlawOf job text flaw → length (verdict_text flaw) ≤ room
+        → FailsPast (IsJudged files held) verdict.WriteFault room → ⊥
+    fits job text flaw room holds is within past =
+        let same = laws.one_flaw job text past.0 flaw (judged_held job text past.0 holds past.1) is in
+        omega (arith, within, past.2, ap (λ f. length (verdict_text f)) same)
+
+    pub assured : (ended : Verdict) (never_fails : Bool) (room : ℕ) → HasCause files held ended R W → Prints (IsJudged files held) ended old new
+        → (IsTrue never_fails → IsSome (held files.job) → IsSome (held files.report) → ended ≡ verdict.ReadFault → ⊥)
+        → FailsPast (IsJudged files held) ended room → IsAssured files held ended never_fails room
+    assured ended never_fails room why line reads past job text flaw holds short is never within =
+        judged_so ended why line job text flaw holds short is
+        (reads never (some_held (held files.job) holds.bytes holds.told) (some_held (held files.report) text holds.report_told))
+        (λ write. fits job text flaw room holds is within (subst (λ (v : Verdict). FailsPast (IsJudged files held) v room) write past))
+
+-- what holds of the files that the words name holds of all files that they name
+pub named : (words : Option Files) (files : Files) (Owed : Files → Type 0) → Some files ≡ words → Owed files → ForSome words Owed
+named words files Owed is owed other is' = let same : files ≡ other = cc in subst Owed same owed

@@ -12,6 +12,8 @@
 
 mod check;
 pub mod program;
+#[cfg(test)]
+mod tests;
 pub mod verdict;
 mod words;
 

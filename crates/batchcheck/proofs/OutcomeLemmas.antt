@@ -12,8 +12,10 @@ use Rattle.batch_history.specs.Text.{report_text}
 use Rattle.batch_history.specs.declared.report.Report.{Report}
 use Rattle.job_lang.specs.Language.{IsJobOf, IsFaultOf}
 use Rattle.job_lang.proofs.ExpandLemmas.Leaves.{job_leaves, acts_count}
+use Rattle.job_lang.proofs.ExpandLemmas.Sourcing.{job_has_sources}
 use Rattle.job_syntax.specs.declared.fault.JobFault.{JobFault}
-use Rattle.report_check.specs.Flaws.{HasSmallNumbers, IsFlawOf}
+use Rattle.report_check.specs.Flaws.{IsFlawOf}
+use Rattle.report_check.specs.SmallJobs.{IsSmallJob}
 use Rattle.report_check.specs.declared.flaw.Flaw.{Flaw}
 use Rattle.batchcheck.specs.Words.{Files}
 use Rattle.batchcheck.specs.Lines.{verdict_text}
@@ -30,21 +32,24 @@ pub record Laws : Type 0 where
   pub not_both : (text : List ℕ) (job : JobValue) (fault : JobFault) → IsJobOf text job → IsFaultOf text fault → ⊥
   pub small : (text : List ℕ) (job : JobValue) → IsJobOf text job → AllByRecursion (λ act. count_of_act argument_of act < 2 ^ 32) job.acts
   pub one_flaw : (job : JobValue) (text : List ℕ) (flaw flaw' : Option Flaw) → IsFlawOf job text flaw → IsFlawOf job text flaw' → flaw ≡ flaw'
-  pub no_flaw : (job : JobValue) (report : Report) → HasSmallNumbers job → 1 ≤ report.workers → report.workers ≤ 32 → Lawful job report.workers report
+  pub no_flaw : (job : JobValue) (report : Report) → IsSmallJob job → 1 ≤ report.workers → report.workers ≤ 32 → Lawful job report.workers report
       → IsFlawOf job (report_text report) None
 
--- the numbers of an accepted job are small
-small_numbers : Laws → (text : List ℕ) (job : JobValue) → IsJobOf text job → HasSmallNumbers job
-small_numbers laws text job is = record {
-  leaves = rw is.means (job_leaves is.items);
-  few = rw is.means (omega (arith, acts_count is.items 0, is.few));
+-- an accepted job is one whose numbers are small
+small_job : Laws → (text : List ℕ) (job : JobValue) → IsJobOf text job → IsSmallJob job
+small_job laws text job is = record {
+  is_job = record {
+    leaves = rw is.means (job_leaves is.items);
+    most = rw is.means (omega (arith, acts_count is.items 0, is.few));
+    sources = rw is.means (job_has_sources is.items is.read.derives.fits);
+  };
   arguments = laws.small text job is;
 }
 
 -- the text of a lawful report has no flaw
 lawful_text : Laws → (bytes : List ℕ) (job : JobValue) (text : List ℕ) → IsJobOf bytes job → HasLawfulReport job text → IsFlawOf job text None
 lawful_text laws bytes job text accepted has =
-    subst (λ t. IsFlawOf job t None) has.written (laws.no_flaw job has.report (small_numbers laws bytes job accepted) has.some has.few has.lawful)
+    subst (λ t. IsFlawOf job t None) has.written (laws.no_flaw job has.report (small_job laws bytes job accepted) has.some has.few has.lawful)
 
 -- where the bytes held are known, they are the bytes that were read
 same_bytes : (most : ℕ) (held : Option (List ℕ)) (told bytes : List ℕ) → WasRead most held bytes → held ≡ Some told → bytes ≡ told

@@ -86,7 +86,7 @@ fn flaw_of(alloc: Global, job: &Job, text: &[u8]) -> Result<Option<Flaw>, AllocE
     ensures { IfOk result (IsFlawOf job.now text.now) }
 {
     match read_report(alloc, text) {
-        Ok(raw) => check(alloc, job, raw.workers(), raw.batches(), raw.rows()),
+        Ok(raw) => check(alloc, job, &raw),
         Err(ReadReportErr::NoReport) => Ok(Some(Flaw::Text)),
         Err(ReadReportErr::Memory) => Err(AllocError),
     }

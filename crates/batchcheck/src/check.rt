@@ -72,6 +72,10 @@ fn read_text_of<I: Shelf>(
         → IsSome (I.held shelf.old file.now)
         → result ≡ Err Stop.ReadFault
         → ⊥ }
+    ensures later { I.faults shelf.old ≤ I.faults shelf.new }
+    ensures may { I.may shelf.new ≡ I.may shelf.old }
+    ensures held { I.held shelf.new ≡ I.held shelf.old }
+    ensures never_fails { IsTrue (I.never_fails shelf.old) → IsTrue (I.never_fails shelf.new) }
 {
     match read_file(alloc, shelf, file, MOST_REPORT_BYTES) {
         Ok(text) => Ok(text),

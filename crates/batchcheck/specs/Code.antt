@@ -1,16 +1,22 @@
--- What only the code and its proofs cite: why a file was not read, and the verdict of a run by its end.
+-- What only the code and its proofs cite: the files of a check, why one was not read, and the verdict of a run by its end.
 use Rattle.std.specs.Prelude.{ℕ, ◌<◌, List, [], length, Option, IfSome}
 use Rattle.program_io.specs.declared.program.Stop.{Stop}
 use Rattle.program_io.specs.declared.program.Stop.TheVariants as stop
 use Rattle.program_io.specs.declared.program.End.{End}
 use Rattle.program_io.specs.declared.program.End.TheVariants.{Done, Stopped, WriteFault}
 use Rattle.report_check.specs.declared.flaw.Flaw.{Flaw}
+use Rattle.batchcheck.specs.Words.{Files}
 use Rattle.batchcheck.specs.Lines.{verdict_text, verdict_line}
 use Rattle.batchcheck.specs.Outcomes.{HasFault}
+use Rattle.batchcheck.specs.declared.words.Check.{Check}
 use Rattle.batchcheck.specs.declared.verdict.CheckRefusal.{CheckRefusal}
 use Rattle.batchcheck.specs.declared.verdict.CheckRefusal.TheVariants.{JobTooLong, ReportTooLong, Job}
 use Rattle.batchcheck.specs.declared.verdict.Verdict.{Verdict}
 use Rattle.batchcheck.specs.declared.verdict.Verdict.TheVariants as verdict
+
+-- the files that a check names
+abbrev pub files_in : Check → Files
+files_in check = record { job = check.job.now; report = check.report.now }
 
 -- why no job was read of a file with these bytes, if they are known
 abbrev pub StopsJob : Stop CheckRefusal → Option (List ℕ) → Type 0 → Type 0

@@ -1,6 +1,6 @@
 -- What each verdict says: one definition for each concern, with a line for each verdict. Below, `held` gives the bytes
 -- that the shelf holds under each name, where they are known.
-use Rattle.std.specs.Prelude.{◌≡◌, ◌≢◌, ℕ, ◌<◌, ◌≤◌, ◌⊎◌, List, length, Bool, IsTrue, Option, None, Some, IfSome}
+use Rattle.std.specs.Prelude.{◌≡◌, ℕ, ◌<◌, ◌≤◌, ◌⊎◌, List, length, Bool, IsTrue, Option, None, Some, IfSome}
 use Rattle.std.specs.Io.KnownBytes.{Appends, Keeps}
 use Rattle.bt_io.specs.Bytes.{AppendsFront}
 use Rattle.program_io.specs.Reading.{WasRead}

@@ -8,7 +8,7 @@ ghost use Rattle.program_io.specs.Reading.{WasRead};
 ghost use Rattle.report_check.specs.Flaws.{IsFlawOf};
 ghost use Rattle.batchcheck.specs.Lines.{verdict_text};
 ghost use Rattle.batchcheck.specs.Outcomes.{HasJob, IsJudged, Refuses};
-ghost use Rattle.batchcheck.specs.Code.{end_line, StopsJob, StopsReport};
+ghost use Rattle.batchcheck.specs.Code.{files_in, end_line, StopsJob, StopsReport};
 
 use crate::verdict::{CheckRefusal, Verdict, stopped};
 use crate::words::Check;
@@ -141,10 +141,9 @@ impl<'a> Program for Check<'a> {
 
     ghost are_held = { λ s held. IsSome (held s.job.now) × IsSome (held s.report.now) };
 
-    ghost answers = { λ s held flaw words.
-        IsJudged (record { job = s.job.now; report = s.report.now }) held flaw × (words ≡ verdict_text flaw) };
+    ghost answers = { λ s held flaw words. IsJudged (files_in s) held flaw × (words ≡ verdict_text flaw) };
 
-    ghost refuses = { λ s. Refuses (record { job = s.job.now; report = s.report.now }) };
+    ghost refuses = { λ s. Refuses (files_in s) };
 
     ghost line = { λ _. end_line };
 

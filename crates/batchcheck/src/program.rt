@@ -6,7 +6,7 @@ ghost use Rattle.program_io.specs.Lines.{Tells};
 ghost use Rattle.batchcheck.specs.Words.{files_of, spelled, MayRead};
 ghost use Rattle.batchcheck.specs.Lines.{verdict_line, verdict_without_words};
 ghost use Rattle.batchcheck.specs.Outcomes.{IsJudged, Judges, Prints, HasCause, Completes, IsAssured};
-ghost use Rattle.batchcheck.specs.Code.{FailsPast};
+ghost use Rattle.batchcheck.specs.Code.{files_in, FailsPast};
 
 use crate::verdict::{Verdict, stopped};
 use crate::words::{Check, check_in};
@@ -27,17 +27,16 @@ fn check_files<I: Shelf, O: Sink, E: Sink>(
 ) -> Verdict
     requires may_job { IsTrue (I.may shelf.old check.now.job.now) }
     requires may_report { IsTrue (I.may shelf.old check.now.report.now) }
-    ensures prints { Prints (IsJudged (record { job = check.now.job.now; report = check.now.report.now }) (I.held shelf.old))
-        result (O.taken out.old) (O.taken out.new) }
-    ensures cause { HasCause (record { job = check.now.job.now; report = check.now.report.now }) (I.held shelf.old) result
+    ensures prints { Prints (IsJudged (files_in check.now) (I.held shelf.old)) result
+        (O.taken out.old) (O.taken out.new) }
+    ensures cause { HasCause (files_in check.now) (I.held shelf.old) result
         (Rose (I.faults shelf.old) (I.faults shelf.new)) (Rose (O.faults out.old) (O.faults out.new)) }
     ensures reads { IsTrue (I.never_fails shelf.old)
         → IsSome (I.held shelf.old check.now.job.now)
         → IsSome (I.held shelf.old check.now.report.now)
         → result ≡ Verdict.ReadFault
         → ⊥ }
-    ensures writes { FailsPast (IsJudged (record { job = check.now.job.now; report = check.now.report.now }) (I.held shelf.old))
-        result (O.room_left out.old) }
+    ensures writes { FailsPast (IsJudged (files_in check.now) (I.held shelf.old)) result (O.room_left out.old) }
     ensures tells { Tells (verdict_line result) (E.taken err.old) (E.taken err.new)
         (Rose (E.faults err.old) (E.faults err.new)) }
 {
@@ -53,10 +52,12 @@ fn check_files<I: Shelf, O: Sink, E: Sink>(
 
 /// Runs the program on its words, over any shelf and sinks.
 ///
-/// The words name a job's file and a report's. The report is read once the job is accepted, and is judged by the first
-/// part of what makes it lawful that it does not keep. One line is written, on `out` or on `err`. Time: that of reading
-/// the job, and linear in the report's text and the job's leaves but for the priority queue's log. Memory may run out at
+/// The words name a job's file and a report's. The report is read once the job is accepted, and its flaw is the first
+/// part of what makes it lawful that it does not keep. One line is written, on `out` or on `err`. Memory may run out at
 /// any step.
+///
+/// Time: that of reading the job, and linear in the report, but that calls of the tree and the queue are served in
+/// logarithmic time.
 pub fn batchcheck<I: Shelf, O: Sink, E: Sink>(
     alloc: Global,
     words: &[String],

@@ -2,6 +2,7 @@
 ghost use Rattle.std.specs.Prelude.{◌≡◌};
 ghost use Rattle.std.specs.Option.{option_map};
 ghost use Rattle.batchcheck.specs.Words.{files_of, spelled};
+ghost use Rattle.batchcheck.specs.Code.{files_in};
 
 /// The file of a job, and the file of the report that is checked against it.
 #[derive(Clone, Copy)]
@@ -12,8 +13,7 @@ pub(crate) struct Check<'a> {
 
 /// The files that the words name, if they are two words that are not empty, and not both standard input.
 pub(crate) fn check_in(words: &[String]) -> Option<Check<'_>>
-    ensures { option_map (λ check. record { job = check.job.now; report = check.report.now }) result
-        ≡ files_of (spelled words.now) }
+    ensures { option_map files_in result ≡ files_of (spelled words.now) }
 {
     let [job, report] = words else {
         return None;

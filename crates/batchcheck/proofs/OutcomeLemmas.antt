@@ -1,21 +1,12 @@
 -- Which verdict comes: consequences of its cause and of what was printed.
-use Rattle.std.proofs.Common.{◌≡◌, ℕ, ◌<◌, ◌≤◌, ◌^◌, List, length, Bool, Option, Some, None, IsSome, IfSome, inl, inr, refl, ap, subst, ◌∙◌, arith}
+use Rattle.std.proofs.Common.{◌≡◌, ℕ, ◌<◌, ◌≤◌, List, length, Bool, Option, Some, None, IsSome, IfSome, inl, inr, refl, ap, subst, ◌∙◌, arith}
 use Rattle.std.specs.Prelude.{IsTrue}
-use Rattle.std.specs.List.{AllByRecursion}
 use Rattle.std.specs.Option.{ForSome}
 use Rattle.program_io.specs.Reading.{WasRead}
-use Rattle.report_reader.specs.Objects.{argument_of}
 use Rattle.sp_order.specs.Jobs.{JobValue}
-use Rattle.sp_order.specs.Totals.{count_of_act}
-use Rattle.batch_history.specs.Lawful.{Lawful}
-use Rattle.batch_history.specs.Text.{report_text}
-use Rattle.batch_history.specs.declared.report.Report.{Report}
 use Rattle.job_lang.specs.Language.{IsJobOf, IsFaultOf}
-use Rattle.job_lang.proofs.ExpandLemmas.Leaves.{job_leaves, acts_count}
-use Rattle.job_lang.proofs.ExpandLemmas.Sourcing.{job_has_sources}
 use Rattle.job_syntax.specs.declared.fault.JobFault.{JobFault}
 use Rattle.report_check.specs.Flaws.{IsFlawOf}
-use Rattle.report_check.specs.SmallJobs.{IsSmallJob}
 use Rattle.report_check.specs.declared.flaw.Flaw.{Flaw}
 use Rattle.batchcheck.specs.Words.{Files}
 use Rattle.batchcheck.specs.Lines.{verdict_text}
@@ -25,31 +16,13 @@ use Rattle.batchcheck.specs.declared.verdict.CheckRefusal.TheVariants.{JobTooLon
 use Rattle.batchcheck.specs.declared.verdict.Verdict.{Verdict}
 use Rattle.batchcheck.specs.declared.verdict.Verdict.TheVariants as verdict
 
--- what the crates below state of texts, jobs and flaws
+-- what the laws state of texts, jobs and flaws
 pub record Laws : Type 0 where
   pub one_job : (text : List ℕ) (job job' : JobValue) → IsJobOf text job → IsJobOf text job' → job ≡ job'
   pub one_fault : (text : List ℕ) (fault fault' : JobFault) → IsFaultOf text fault → IsFaultOf text fault' → fault ≡ fault'
   pub not_both : (text : List ℕ) (job : JobValue) (fault : JobFault) → IsJobOf text job → IsFaultOf text fault → ⊥
-  pub small : (text : List ℕ) (job : JobValue) → IsJobOf text job → AllByRecursion (λ act. count_of_act argument_of act < 2 ^ 32) job.acts
   pub one_flaw : (job : JobValue) (text : List ℕ) (flaw flaw' : Option Flaw) → IsFlawOf job text flaw → IsFlawOf job text flaw' → flaw ≡ flaw'
-  pub no_flaw : (job : JobValue) (report : Report) → IsSmallJob job → 1 ≤ report.workers → report.workers ≤ 32 → Lawful job report.workers report
-      → IsFlawOf job (report_text report) None
-
--- an accepted job is one whose numbers are small
-small_job : Laws → (text : List ℕ) (job : JobValue) → IsJobOf text job → IsSmallJob job
-small_job laws text job is = record {
-  is_job = record {
-    leaves = rw is.means (job_leaves is.items);
-    most = rw is.means (omega (arith, acts_count is.items 0, is.few));
-    sources = rw is.means (job_has_sources is.items is.read.derives.fits);
-  };
-  arguments = laws.small text job is;
-}
-
--- the text of a lawful report has no flaw
-lawful_text : Laws → (bytes : List ℕ) (job : JobValue) (text : List ℕ) → IsJobOf bytes job → HasLawfulReport job text → IsFlawOf job text None
-lawful_text laws bytes job text accepted has =
-    subst (λ t. IsFlawOf job t None) has.written (laws.no_flaw job has.report (small_job laws bytes job accepted) has.some has.few has.lawful)
+  pub no_flaw : (bytes text : List ℕ) (job : JobValue) → IsJobOf bytes job → HasLawfulReport job text → IsFlawOf job text None
 
 -- where the bytes held are known, they are the bytes that were read
 same_bytes : (most : ℕ) (held : Option (List ℕ)) (told bytes : List ℕ) → WasRead most held bytes → held ≡ Some told → bytes ≡ told
@@ -160,7 +133,7 @@ module _ (laws : Laws) (files : Files) (held : List ℕ → Option (List ℕ)) w
       job_too_long = λ bytes told calm long. job_too_long ended why line bytes told calm long;
       bad_job = λ bytes fault told calm short has. bad_job ended why line bytes fault told calm short has;
       report_too_long = λ job text holds calm long. report_too_long ended why line job text holds calm long;
-      lawful = λ job text holds calm calm' short has. calm_judged ended why line job text None holds short (lawful_text laws holds.bytes job text holds.accepted has) calm calm';
+      lawful = λ job text holds calm calm' short has. calm_judged ended why line job text None holds short (laws.no_flaw holds.bytes text job holds.accepted has) calm calm';
       flawed = λ job text flaw holds calm calm' short is. calm_judged ended why line job text (Some flaw) holds short is calm calm';
     }
 

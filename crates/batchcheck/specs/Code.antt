@@ -1,4 +1,5 @@
--- What only the code and its proofs cite: the files of a check, why one was not read, and the verdict of a run by its end.
+-- What only the code and its proofs cite: the files of a check, why one was not read, and the verdict of a run by its
+-- end.
 use Rattle.std.specs.Prelude.{ℕ, ◌<◌, List, [], length, Option, IfSome}
 use Rattle.program_io.specs.declared.program.Stop.{Stop}
 use Rattle.program_io.specs.declared.program.Stop.TheVariants as stop

@@ -31,8 +31,8 @@ pub record HasFault (held : Option (List ℕ)) (fault : JobFault) : Type 0 where
   pub read : WasRead 1048576 held bytes
   pub why : IsFaultOf bytes fault
 
--- Both files were read, one is a text of a job, and the other fails by this flaw as a report of the job; or, where there
--- is no flaw, it is the text of a lawful report of the job, which has 1 to 32 workers.
+-- Both files were read: one is a text of a job, and the other has this flaw as a report of the job. Without a flaw it is
+-- the text of a lawful report of the job, which has 1 to 32 workers.
 pub record IsJudged (files : Files) (held : List ℕ → Option (List ℕ)) (flaw : Option Flaw) : Type 0 where
   pub job : JobValue
   pub has_job : HasJob (held files.job) job
@@ -109,8 +109,8 @@ pub record Completes (files : Files) (held : List ℕ → Option (List ℕ)) (en
   pub flawed : (job : JobValue) (text : List ℕ) (flaw : Flaw) → Holds files held job text → ¬ ReadsFailed → ¬ WritesFailed
       → length text ≤ 8388608 → IsFlawOf job text (Some flaw) → IsUnlessMemory ended (verdict.Flawed flaw)
 
--- Where the shelf never fails and holds a job and a text, and what is printed of the text's flaw is within the room that
--- out has left, the verdict is the one on this flaw, unless memory runs out.
+-- Where the shelf never fails and holds a job and a text, and what is printed of its flaw is within the room that out has
+-- left, the verdict is the one on this flaw, unless memory runs out.
 abbrev pub IsAssured : Files → (List ℕ → Option (List ℕ)) → Verdict → Bool → ℕ → Type 0
 IsAssured files held ended never_fails room =
     (job : JobValue) (text : List ℕ) (flaw : Option Flaw) → Holds files held job text → length text ≤ 8388608 → IsFlawOf job text flaw

@@ -1,16 +1,18 @@
-//! The program `batchcheck`: reads a job and a report, and prints whether the report is a lawful one of the job, or what
+//! The program `batchcheck`: reads a job and a report, and prints that the report is a lawful one of the job, or what
 //! it fails by first.
 //!
 //! `program::batchcheck` is the whole program over any shelf and sinks. Its theorem says that `lawful` is printed
 //! exactly for the texts of lawful reports of the job, and a flaw exactly where it is the text's first. `check` reads
 //! the two files and judges the text, `words` parses the command line, and `verdict` has the ends of a run with their
-//! lines. `main` only hands in the real words, files and streams.
+//! lines. `laws` states that the text of each lawful report has no flaw. `main` only hands in the real words, files and
+//! streams.
 //!
-//! The crate stands on `job_lang`, which reads jobs, on `report_reader` and `report_check`, which read and judge reports,
-//! and on `program_io`, which runs a program over its files.
+//! The crate stands on `job_lang`, which reads jobs, on `report_reader` and `report_check`, which read reports and look
+//! for their flaws, and on `program_io`, which runs a program over its files.
 #![tactic(auto)]
 
 mod check;
+pub mod laws;
 pub mod program;
 #[cfg(test)]
 mod tests;

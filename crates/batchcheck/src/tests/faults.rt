@@ -76,26 +76,31 @@ fn each_call_of_the_shelf_fails_in_turn(rt: HostRuntime) -> Result<(), Fail> {
     Ok(())
 }
 
+/// What is printed of a text that is no report.
+const NO_REPORT_WORDS: &[u8] = b"not lawful: text\n";
+
 #[test]
 fn each_write_fails_in_turn(rt: HostRuntime) -> Result<(), Fail> {
-    let texts: [(&[u8], &[u8]); 2] = [(REPORT, b"lawful\n"), (NO_REPORT, b"not lawful: text\n")];
-    for (text, words) in texts {
-        // Each write takes at most 4 bytes.
-        for write in 0..words.len().div_ceil(4) {
-            let fails = [write as u64];
-            let mut given = unhindered(JOB, text);
-            given.write_cut = 4;
-            given.write_fails = &fails;
-            let ran = run(rt.alloc(), &given)?;
-            assert_eq!(rt; ran.verdict.number(), 5, "write {write}");
-            assert_eq!(rt; ran.out.bytes(), &words[..4 * write], "write {write}");
-            assert_eq!(rt; ran.err.bytes(), b"batchcheck: write fault\n".as_slice());
-        }
+    // Each write takes at most 4 bytes.
+    for write in 0..NO_REPORT_WORDS.len().div_ceil(4) {
+        let fails = [write as u64];
+        let mut given = unhindered(JOB, NO_REPORT);
+        given.write_cut = 4;
+        given.write_fails = &fails;
+        let ran = run(rt.alloc(), &given)?;
+        assert_eq!(rt; ran.verdict.number(), 5, "write {write}");
+        assert_eq!(rt;
+            ran.out.bytes(),
+            &NO_REPORT_WORDS[..4 * write],
+            "write {write}"
+        );
+        assert_eq!(rt; ran.err.bytes(), b"batchcheck: write fault\n".as_slice());
     }
     Ok(())
 }
 
-/// The words of a run, its job, its report, the calls of the shelf and the writes of out that fail, and the exit number.
+/// The words of a run, its job, its report, the calls of the shelf and the writes of out that fail, and the exit
+/// number.
 const RUNS: [(&[&str], &[u8], &[u8], &[u64], &[u64], u8); 6] = [
     (&[], JOB, REPORT, &[], &[], 2),
     (&["job", "report"], JOB, REPORT, &[1], &[], 3),

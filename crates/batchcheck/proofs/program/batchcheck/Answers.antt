@@ -11,9 +11,8 @@ returns-in-Some-clause-completes g c =
       one_job = jobs.one_job;
       one_fault = jobs.one_fault;
       not_both = jobs.not_both;
-      small = c.accepted_jobs_have_small_arguments.ensures.arguments;
       one_flaw = c.texts_have_one_flaw.ensures;
-      no_flaw = c.lawful_reports_have_no_flaw.ensures.none;
+      no_flaw = c.lawful_texts_have_no_flaw.ensures;
     } in
     let run = c.check_files.ensures in
     let held = g.I.Shelf.held c.args.shelf.now in
@@ -29,9 +28,8 @@ returns-in-Some-clause-assured g c =
       one_job = jobs.one_job;
       one_fault = jobs.one_fault;
       not_both = jobs.not_both;
-      small = c.accepted_jobs_have_small_arguments.ensures.arguments;
       one_flaw = c.texts_have_one_flaw.ensures;
-      no_flaw = c.lawful_reports_have_no_flaw.ensures.none;
+      no_flaw = c.lawful_texts_have_no_flaw.ensures;
     } in
     let run = c.check_files.ensures in
     let held = g.I.Shelf.held c.args.shelf.now in

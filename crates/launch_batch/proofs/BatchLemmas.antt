@@ -2,5 +2,4 @@ pub mod Serial
 pub mod Histories
 pub mod Beginning
 pub mod Ending
-pub mod Phases
 pub mod Closing

@@ -19,6 +19,6 @@ pub use Rattle.launch_batch.specs.declared.piece.PieceIn.{PieceIn}
 pub use Rattle.launch_batch.specs.declared.piece.PieceOut.{PieceOut}
 pub use Rattle.launch_batch.specs.Calls.{MayServe, AreSame, IsServiceOf}
 pub use Rattle.launch_batch.specs.Pieces.{Run, Meets, place_of, IsOutAt, ArePutBack}
-pub use Rattle.launch_batch.specs.ByStructure.{placed, counter_pieces, stack_pieces, tree_pieces, queue_pieces, counter_outs, stack_outs, tree_outs, queue_outs}
-pub use Rattle.launch_batch.specs.Contents.{contents, MatchesHistory, IsNarrow}
+pub use Rattle.launch_batch.specs.ByStructure.{placed, counter_piece, stack_piece, tree_piece, queue_piece, counter_out, stack_out, tree_out, queue_out, part}
+pub use Rattle.launch_batch.specs.Contents.{Views, contents, MatchesHistory, IsNarrow, AreOrdered}
 pub use Rattle.launch_batch.specs.Code.Merging.{left_of, without_first, merged_replies}

@@ -1,5 +1,8 @@
 -- The pieces and the outs of a batch, selected by structure.
-use Rattle.std.specs.Prelude.{ℕ, ◌+◌, List, [], ◌∷◌}
+use Rattle.std.specs.Prelude.{ℕ, ◌+◌, Option, Some, None, List, [], ◌∷◌, filter_map}
+use Rattle.seq_objects.specs.Batches.{Object, calls_of}
+use Rattle.seq_objects.specs.declared.call.Call.{Call}
+use Rattle.seq_objects.specs.Pieces.{BatchContext}
 use Rattle.batched_counter.specs.declared.piece.Piece.{Piece as CounterPiece}
 use Rattle.batched_counter.specs.declared.piece.Served.{Served as CounterServed}
 use Rattle.batched_stack.specs.declared.piece.Piece.{Piece as StackPiece}
@@ -18,60 +21,41 @@ abbrev pub placed : {In : Type 0} → (ℕ → In → PieceIn) → ℕ → List 
 placed make place [] = []
 placed make place (input ∷ ins) = make place input ∷ placed make (place + 1) ins
 
--- the pieces of each structure, in their order
-abbrev pub counter_pieces : List PieceIn → List CounterPiece
-counter_pieces [] = []
-counter_pieces (piece.Counter place input ∷ ins) = input ∷ counter_pieces ins
-counter_pieces (piece.Stack place input ∷ ins) = counter_pieces ins
-counter_pieces (piece.Tree place input ∷ ins) = counter_pieces ins
-counter_pieces (piece.Queue place input ∷ ins) = counter_pieces ins
+-- the piece of a structure, if this is one
+abbrev pub counter_piece : PieceIn → Option CounterPiece
+counter_piece (piece.Counter place input) = Some input
+counter_piece _ = None
 
-abbrev pub stack_pieces : List PieceIn → List StackPiece
-stack_pieces [] = []
-stack_pieces (piece.Counter place input ∷ ins) = stack_pieces ins
-stack_pieces (piece.Stack place input ∷ ins) = input ∷ stack_pieces ins
-stack_pieces (piece.Tree place input ∷ ins) = stack_pieces ins
-stack_pieces (piece.Queue place input ∷ ins) = stack_pieces ins
+abbrev pub stack_piece : PieceIn → Option StackPiece
+stack_piece (piece.Stack place input) = Some input
+stack_piece _ = None
 
-abbrev pub tree_pieces : List PieceIn → List TreePiece
-tree_pieces [] = []
-tree_pieces (piece.Counter place input ∷ ins) = tree_pieces ins
-tree_pieces (piece.Stack place input ∷ ins) = tree_pieces ins
-tree_pieces (piece.Tree place input ∷ ins) = input ∷ tree_pieces ins
-tree_pieces (piece.Queue place input ∷ ins) = tree_pieces ins
+abbrev pub tree_piece : PieceIn → Option TreePiece
+tree_piece (piece.Tree place input) = Some input
+tree_piece _ = None
 
-abbrev pub queue_pieces : List PieceIn → List QueuePiece
-queue_pieces [] = []
-queue_pieces (piece.Counter place input ∷ ins) = queue_pieces ins
-queue_pieces (piece.Stack place input ∷ ins) = queue_pieces ins
-queue_pieces (piece.Tree place input ∷ ins) = queue_pieces ins
-queue_pieces (piece.Queue place input ∷ ins) = input ∷ queue_pieces ins
+abbrev pub queue_piece : PieceIn → Option QueuePiece
+queue_piece (piece.Queue place input) = Some input
+queue_piece _ = None
 
--- the outs of each structure, in their order
-abbrev pub counter_outs : List PieceOut → List CounterServed
-counter_outs [] = []
-counter_outs (done.Counter out ∷ outs) = out ∷ counter_outs outs
-counter_outs (done.Stack out ∷ outs) = counter_outs outs
-counter_outs (done.Tree out ∷ outs) = counter_outs outs
-counter_outs (done.Queue out ∷ outs) = counter_outs outs
+-- the out of a structure, if this is one
+abbrev pub counter_out : PieceOut → Option CounterServed
+counter_out (done.Counter out) = Some out
+counter_out _ = None
 
-abbrev pub stack_outs : List PieceOut → List StackServed
-stack_outs [] = []
-stack_outs (done.Counter out ∷ outs) = stack_outs outs
-stack_outs (done.Stack out ∷ outs) = out ∷ stack_outs outs
-stack_outs (done.Tree out ∷ outs) = stack_outs outs
-stack_outs (done.Queue out ∷ outs) = stack_outs outs
+abbrev pub stack_out : PieceOut → Option StackServed
+stack_out (done.Stack out) = Some out
+stack_out _ = None
 
-abbrev pub tree_outs : List PieceOut → List TreeServed
-tree_outs [] = []
-tree_outs (done.Counter out ∷ outs) = tree_outs outs
-tree_outs (done.Stack out ∷ outs) = tree_outs outs
-tree_outs (done.Tree out ∷ outs) = out ∷ tree_outs outs
-tree_outs (done.Queue out ∷ outs) = tree_outs outs
+abbrev pub tree_out : PieceOut → Option TreeServed
+tree_out (done.Tree out) = Some out
+tree_out _ = None
 
-abbrev pub queue_outs : List PieceOut → List ShardView
-queue_outs [] = []
-queue_outs (done.Counter out ∷ outs) = queue_outs outs
-queue_outs (done.Stack out ∷ outs) = queue_outs outs
-queue_outs (done.Tree out ∷ outs) = queue_outs outs
-queue_outs (done.Queue out ∷ outs) = out ∷ queue_outs outs
+abbrev pub queue_out : PieceOut → Option ShardView
+queue_out (done.Queue out) = Some out
+queue_out _ = None
+
+-- one structure's part of a batch: the structure before it, its calls, and its pieces, which `own` selects
+abbrev pub part : {T In : Type 0} → Object → (PieceIn → Option In) → T → List Call → List PieceIn → BatchContext T In
+part object own before calls ins =
+    record { before = before; calls = calls_of object calls; ins = filter_map own ins }

@@ -1,5 +1,5 @@
--- Definitions that only the code cites: the forms of a structure, a batch that was served, how calls and outs are
--- sorted by structure, the rows of places, and how the structures' replies are merged.
+-- Definitions that only the code cites: the forms of a structure, a batch that was served, how outs are sorted by
+-- structure, the rows of places, and how the structures' replies are merged.
 pub mod Committing
 pub mod Phases
 pub mod Merging

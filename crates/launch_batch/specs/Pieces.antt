@@ -23,18 +23,7 @@ Meets (piece.Counter place input) (done.Counter out) = CounterMeets input out
 Meets (piece.Stack place input) (done.Stack out) = StackMeets input out
 Meets (piece.Tree place input) (done.Tree out) = TreeMeets input out
 Meets (piece.Queue place input) (done.Queue out) = QueueMeets input out
-Meets (piece.Counter place input) (done.Stack out) = ⊥
-Meets (piece.Counter place input) (done.Tree out) = ⊥
-Meets (piece.Counter place input) (done.Queue out) = ⊥
-Meets (piece.Stack place input) (done.Counter out) = ⊥
-Meets (piece.Stack place input) (done.Tree out) = ⊥
-Meets (piece.Stack place input) (done.Queue out) = ⊥
-Meets (piece.Tree place input) (done.Counter out) = ⊥
-Meets (piece.Tree place input) (done.Stack out) = ⊥
-Meets (piece.Tree place input) (done.Queue out) = ⊥
-Meets (piece.Queue place input) (done.Counter out) = ⊥
-Meets (piece.Queue place input) (done.Stack out) = ⊥
-Meets (piece.Queue place input) (done.Tree out) = ⊥
+Meets _ _ = ⊥
 
 -- one run of a piece: the piece and its out
 pub record Run : Type 0 where

@@ -3,6 +3,7 @@
 use Rattle.std.specs.Prelude.{ℕ, ◌<◌, ◌≤◌, List, [], ◌∷◌, ◌++◌}
 use Rattle.std.specs.List.{range_with_len}
 use Rattle.seq_objects.specs.declared.call.Call.{Call}
+use Rattle.seq_objects.specs.Objects.{Objects}
 use Rattle.seq_objects.specs.Batches.{Counter, Stack, Tree, Queue, calls_of}
 use Rattle.batched_counter.specs.Pieces.{piece_count as counter_count}
 use Rattle.batched_stack.specs.Pieces.{piece_count as stack_count}
@@ -25,10 +26,14 @@ abbrev pub row : ℕ → List Call → ℕ → List ℕ
 row first [] count = []
 row first (call ∷ calls) count = range_with_len first count
 
--- the places of the pieces of a batch of these calls, which stand in batch order, after this book
+-- the places of the pieces of a batch of these calls, which stand in batch order, at structures with these contents
+abbrev pub places_for : Objects → List Call → List ℕ
+places_for objects calls =
+    row 0 (calls_of Counter calls) (counter_count objects (calls_of Counter calls))
+    ++ row 16 (calls_of Stack calls) (stack_count objects (calls_of Stack calls))
+    ++ row 32 (calls_of Tree calls) (tree_count objects (calls_of Tree calls))
+    ++ row 48 (calls_of Queue calls) (queue_count objects (calls_of Queue calls))
+
+-- the places of the pieces of such a batch after this book
 abbrev pub places : List (List Entry) → List Call → List ℕ
-places book calls =
-    row 0 (calls_of Counter calls) (counter_count (served_book book) (calls_of Counter calls))
-    ++ row 16 (calls_of Stack calls) (stack_count (served_book book) (calls_of Stack calls))
-    ++ row 32 (calls_of Tree calls) (tree_count (served_book book) (calls_of Tree calls))
-    ++ row 48 (calls_of Queue calls) (queue_count (served_book book) (calls_of Queue calls))
+places book calls = places_for (served_book book) calls

@@ -8,9 +8,9 @@
 //! structures, and builds on `batch_history`.
 #![tactic(auto)]
 
-mod by_structure;
 mod commit;
 mod entries;
+mod kind;
 pub mod laws;
 mod merge;
 pub mod opened;
@@ -19,6 +19,7 @@ mod outs;
 pub mod phase;
 pub mod piece;
 mod pieces;
+pub mod row;
 mod serving;
 pub mod shop;
 pub mod structures;
@@ -26,6 +27,7 @@ pub mod structures;
 pub use opened::Opened;
 pub use phase::Phase;
 pub use piece::{PieceIn, PieceOut, run_piece};
+pub use row::Row;
 pub use serving::serve;
 pub use shop::Shop;
 pub use structures::Structures;

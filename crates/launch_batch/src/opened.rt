@@ -9,10 +9,10 @@ ghost use Rattle.launch_batch.specs.Contexts.{IsContextOf};
 ghost use Rattle.launch_batch.specs.Code.Outs.{HaveMet};
 
 use crate::commit::{commit, last_batch};
-use crate::merge::{ReplyCursor, ReplyCursors};
+use crate::merge::ReplyCursors;
 use crate::outs::{Outs, outs_of};
-use crate::phase::close;
 use crate::piece::PieceOut;
+use crate::row::close;
 use crate::shop::Shop;
 use crate::structures::Structures;
 use batch_history::{Batch, History};
@@ -44,15 +44,11 @@ impl Opened {
             calls,
         } = self;
         let inner = &mut *structures;
-        let counter = close(alloc, &mut inner.counter, outs.counter)?;
-        let stack = close(alloc, &mut inner.stack, outs.stack)?;
-        let tree = close(alloc, &mut inner.tree, outs.tree)?;
-        let queue = close(alloc, &mut inner.queue, outs.queue)?;
         let replies = ReplyCursors {
-            counter: ReplyCursor::new(counter),
-            stack: ReplyCursor::new(stack),
-            tree: ReplyCursor::new(tree),
-            queue: ReplyCursor::new(queue),
+            counter: close(alloc, &mut inner.counter, outs.counter)?,
+            stack: close(alloc, &mut inner.stack, outs.stack)?,
+            tree: close(alloc, &mut inner.tree, outs.tree)?,
+            queue: close(alloc, &mut inner.queue, outs.queue)?,
         };
         let shop = commit(alloc, structures, history, &calls, replies)?;
         Ok(shop)

@@ -10,12 +10,12 @@ ghost use Rattle.launch_batch.specs.Pieces.{place_of};
 ghost use Rattle.launch_batch.specs.Places.{places, IsInOwnRow};
 ghost use Rattle.launch_batch.specs.Contexts.{IsContextOf};
 
-use crate::by_structure::Structure;
 use crate::opened::Opened;
 use crate::order::in_batch_order;
-use crate::phase::{Phase, open_own};
+use crate::phase::Phase;
 use crate::piece::PieceIn;
 use crate::pieces::pieces_of;
+use crate::row::open;
 use crate::structures::Structures;
 use batch_history::History;
 use batched_counter::Counter;
@@ -104,10 +104,10 @@ impl Shop {
         let calls = in_batch_order(alloc, calls)?;
         let all = calls.as_slice();
         let inner = &mut *structures;
-        let counter = open_own(alloc, &mut inner.counter, all, Structure::Counter)?;
-        let stack = open_own(alloc, &mut inner.stack, all, Structure::Stack)?;
-        let tree = open_own(alloc, &mut inner.tree, all, Structure::Tree)?;
-        let queue = open_own(alloc, &mut inner.queue, all, Structure::Queue)?;
+        let counter = open(alloc, &mut inner.counter, all)?;
+        let stack = open(alloc, &mut inner.stack, all)?;
+        let tree = open(alloc, &mut inner.tree, all)?;
+        let queue = open(alloc, &mut inner.queue, all)?;
         let pieces = pieces_of(alloc, counter, stack, tree, queue)?;
         let opened = Opened {
             structures,

@@ -1,7 +1,7 @@
 -- The places of the pieces are those of the batch.
-use Rattle.std.proofs.Common.{◌≡◌, ℕ, List, [], ◌∷◌, ◌++◌, length, refl, ap, ◌∙◌}
+use Rattle.std.proofs.Common.{◌≡◌, ℕ, List, [], ◌∷◌, length, refl, ap, ◌∙◌}
 use Rattle.std.specs.List.{range_with_len}
-use Rattle.launch_batch.proofs.Words.{Call, Objects, Counter, Stack, Tree, Queue, calls_of, of_counter, of_stack, of_set, of_bag, CounterPiece, StackPiece, StackView, TreePiece, QueuePiece, Entry, MatchesHistory, contents}
+use Rattle.launch_batch.proofs.Words.{Call, Objects, Counter, Stack, Tree, Queue, calls_of, of_counter, of_stack, of_set, of_bag, CounterPiece, StackPiece, TreePiece, QueuePiece, Entry, Views, MatchesHistory, contents}
 use Rattle.batched_counter.specs.Pieces.{Cut as CounterCut, piece_count as counter_count}
 use Rattle.batched_counter.proofs.PieceCount.{pieces_counted as counter_counted}
 use Rattle.batched_stack.specs.Pieces.{Cut as StackCut, piece_count as stack_count}
@@ -10,7 +10,7 @@ use Rattle.batched_tree.specs.Pieces.{Cut as TreeCut, piece_count as tree_count}
 use Rattle.batched_tree.proofs.PieceCount.{pieces_counted as tree_counted}
 use Rattle.batched_pq.specs.Pieces.{Cut as QueueCut, piece_count as queue_count}
 use Rattle.batched_pq.proofs.PieceCount.{pieces_counted as queue_counted}
-use Rattle.launch_batch.specs.Places.{row, places}
+use Rattle.launch_batch.specs.Places.{row, places_for, places}
 use Rattle.launch_batch.specs.Phases.{IsCutIfCalled}
 use Rattle.launch_batch.specs.Code.Rows.{four_rows}
 
@@ -22,24 +22,17 @@ row_is : {In : Type 0} (cut : Objects → List Call → List In → Type 0) (cou
 row_is cut count counted first objects [] ins is = ap (λ (l : List _). range_with_len first (length l)) is
 row_is cut count counted first objects (call ∷ calls) ins is = ap (range_with_len first) (counted objects (call ∷ calls) ins is)
 
-abbrev places_by : Objects → List Call → List ℕ
-places_by objects calls =
-    row 0 (calls_of Counter calls) (counter_count objects (calls_of Counter calls))
-    ++ row 16 (calls_of Stack calls) (stack_count objects (calls_of Stack calls))
-    ++ row 32 (calls_of Tree calls) (tree_count objects (calls_of Tree calls))
-    ++ row 48 (calls_of Queue calls) (queue_count objects (calls_of Queue calls))
-
-pub rows_are : (book : List (List Entry)) (ordered : List Call) (number : ℕ) (view : StackView) (keys bag : List ℕ)
-    (counter : List CounterPiece) (stack : List StackPiece) (tree : List TreePiece) (queue : List QueuePiece) → MatchesHistory number view keys bag book
-    → IsCutIfCalled CounterCut (of_counter number) (calls_of Counter ordered) counter → IsCutIfCalled StackCut (of_stack view.items) (calls_of Stack ordered) stack
-    → IsCutIfCalled TreeCut (of_set keys) (calls_of Tree ordered) tree → IsCutIfCalled QueueCut (of_bag bag) (calls_of Queue ordered) queue
+pub rows_are : (book : List (List Entry)) (ordered : List Call) (views : Views)
+    (counter : List CounterPiece) (stack : List StackPiece) (tree : List TreePiece) (queue : List QueuePiece) → MatchesHistory views book
+    → IsCutIfCalled CounterCut (of_counter views.counter) (calls_of Counter ordered) counter → IsCutIfCalled StackCut (of_stack views.stack.items) (calls_of Stack ordered) stack
+    → IsCutIfCalled TreeCut (of_set views.tree) (calls_of Tree ordered) tree → IsCutIfCalled QueueCut (of_bag views.queue) (calls_of Queue ordered) queue
     → four_rows (length counter) (length stack) (length tree) (length queue) ≡ places book ordered
-rows_are book ordered number view keys bag counter stack tree queue kept i j k l =
-    let rows : four_rows (length counter) (length stack) (length tree) (length queue) ≡ places_by (contents number view keys bag) ordered =
+rows_are book ordered views counter stack tree queue kept i j k l =
+    let rows : four_rows (length counter) (length stack) (length tree) (length queue) ≡ places_for (contents views) ordered =
     rw (
-      row_is CounterCut counter_count counter_counted 0 (of_counter number) (calls_of Counter ordered) counter i,
-      row_is StackCut stack_count stack_counted 16 (of_stack view.items) (calls_of Stack ordered) stack j,
-      row_is TreeCut tree_count tree_counted 32 (of_set keys) (calls_of Tree ordered) tree k,
-      row_is QueueCut queue_count queue_counted 48 (of_bag bag) (calls_of Queue ordered) queue l,
+      row_is CounterCut counter_count counter_counted 0 (of_counter views.counter) (calls_of Counter ordered) counter i,
+      row_is StackCut stack_count stack_counted 16 (of_stack views.stack.items) (calls_of Stack ordered) stack j,
+      row_is TreeCut tree_count tree_counted 32 (of_set views.tree) (calls_of Tree ordered) tree k,
+      row_is QueueCut queue_count queue_counted 48 (of_bag views.queue) (calls_of Queue ordered) queue l,
     ) refl in
-    rows ∙ ap (λ objects. places_by objects ordered) kept.contents
+    rows ∙ ap (λ objects. places_for objects ordered) kept.contents

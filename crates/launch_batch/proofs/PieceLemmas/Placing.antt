@@ -1,5 +1,5 @@
 -- Pieces at consecutive places, and selecting those of each structure.
-use Rattle.std.proofs.Common.{◌≡◌, ◌<◌, ◌≤◌, ℕ, ◌+◌, List, [], ◌∷◌, ◌++◌, length, map, refl, sym, ap, ◌∙◌, arith, append_assoc}
+use Rattle.std.proofs.Common.{◌≡◌, ◌<◌, ◌≤◌, ℕ, ◌+◌, List, [], ◌∷◌, ◌++◌, length, map, refl, sym, ap, ◌∙◌, arith, append_assoc, Option, filter_map}
 use Rattle.std.specs.List.{range_with_len}
 use Rattle.launch_batch.proofs.Words.{AllByRecursion, PieceIn, place_of, placed}
 
@@ -28,14 +28,13 @@ each_placed P make place (x ∷ xs) holds = (
   each_placed P make (place + 1) xs (λ n y from below. holds n y (omega (arith, from)) (omega (arith, below))),
 )
 
--- selecting a structure from placed pieces followed by others: all of its own pieces, none of another structure's
-module _ {X : Type 0} (own : List PieceIn → List X) where
-  pub all_own : (make : ℕ → X → PieceIn) → ((n : ℕ) (x : X) (rest : List PieceIn) → own (make n x ∷ rest) ≡ x ∷ own rest)
-      → (place : ℕ) (xs : List X) (rest : List PieceIn) → own (placed make place xs ++ rest) ≡ xs ++ own rest
-  all_own make takes place [] rest = refl
-  all_own make takes place (x ∷ xs) rest = takes place x (placed make (place + 1) xs ++ rest) ∙ ap (λ l. x ∷ l) (all_own make takes (place + 1) xs rest)
+-- selecting from the pieces of a row: all of its own structure's, none of another's
+pub all_own : {X : Type 0} (own : PieceIn → Option X) (make : ℕ → X → PieceIn) → ((n : ℕ) (x : X) (rest : List PieceIn) → filter_map own (make n x ∷ rest) ≡ x ∷ filter_map own rest)
+    → (place : ℕ) (xs : List X) → filter_map own (placed make place xs) ≡ xs
+all_own own make takes place [] = refl
+all_own own make takes place (x ∷ xs) = takes place x (placed make (place + 1) xs) ∙ ap (λ l. x ∷ l) (all_own own make takes (place + 1) xs)
 
-  pub none_own : {In : Type 0} (make : ℕ → In → PieceIn) → ((n : ℕ) (x : In) (rest : List PieceIn) → own (make n x ∷ rest) ≡ own rest)
-      → (place : ℕ) (xs : List In) (rest : List PieceIn) → own (placed make place xs ++ rest) ≡ own rest
-  none_own make passes place [] rest = refl
-  none_own make passes place (x ∷ xs) rest = passes place x (placed make (place + 1) xs ++ rest) ∙ none_own make passes (place + 1) xs rest
+pub none_own : {X In : Type 0} (own : PieceIn → Option X) (make : ℕ → In → PieceIn) → ((n : ℕ) (x : In) (rest : List PieceIn) → filter_map own (make n x ∷ rest) ≡ filter_map own rest)
+    → (place : ℕ) (xs : List In) → filter_map own (placed make place xs) ≡ []
+none_own own make passes place [] = refl
+none_own own make passes place (x ∷ xs) = passes place x (placed make (place + 1) xs) ∙ none_own own make passes (place + 1) xs

@@ -1,7 +1,8 @@
 -- The pieces of the four structures, appended structure by structure.
-use Rattle.std.proofs.Common.{◌≡◌, ◌≤◌, ◌<◌, List, [], ◌++◌, length, map, refl, sym, subst, ◌∙◌, append-nil, append_assoc, arith}
+use Rattle.std.proofs.Common.{◌≡◌, ◌≤◌, ◌<◌, List, [], ◌++◌, length, map, refl, sym, subst, append-nil, append_assoc, ◌∙◌, arith, Option, filter_map}
 use Rattle.std.proofs.lemmas.List.{map-append}
-use Rattle.launch_batch.proofs.Words.{AllByRecursion, CounterPiece, StackPiece, TreePiece, QueuePiece, PieceIn, place_of, placed, counter_pieces, stack_pieces, tree_pieces, queue_pieces}
+use Rattle.std.proofs.lemmas.List.Elements.{filter_map-append}
+use Rattle.launch_batch.proofs.Words.{AllByRecursion, CounterPiece, StackPiece, TreePiece, QueuePiece, PieceIn, place_of, placed, counter_piece, stack_piece, tree_piece, queue_piece}
 use Rattle.launch_batch.specs.declared.piece.PieceIn.TheVariants as piece
 use Rattle.launch_batch.specs.Places.{IsInOwnRow}
 use Rattle.launch_batch.specs.Code.Rows.{four_rows, AreInRows}
@@ -14,32 +15,29 @@ module _ (counter : List CounterPiece) (stack : List StackPiece) (tree : List Tr
   abbrev all : List PieceIn
   all = placed piece.Counter 0 counter ++ placed piece.Stack 16 stack ++ placed piece.Tree 32 tree ++ placed piece.Queue 48 queue
 
-  own_of_all : {X : Type 0} (own : List PieceIn → List X) (p q r s : List X) → ((rest : List PieceIn) → own (placed piece.Counter 0 counter ++ rest) ≡ p ++ own rest)
-      → ((rest : List PieceIn) → own (placed piece.Stack 16 stack ++ rest) ≡ q ++ own rest) → ((rest : List PieceIn) → own (placed piece.Tree 32 tree ++ rest) ≡ r ++ own rest)
-      → ((rest : List PieceIn) → own (placed piece.Queue 48 queue ++ rest) ≡ s ++ own rest) → own all ≡ p ++ (q ++ (r ++ (s ++ own [])))
-  own_of_all own p q r s h i j k =
-      let last : own (placed piece.Queue 48 queue) ≡ s ++ own [] = subst (λ l. own l ≡ s ++ own []) (append-nil (placed piece.Queue 48 queue)) (k []) in
-      simp (append_assoc, h, i, j, last)
+  own_of_all : {X : Type 0} (own : PieceIn → Option X) (p q r s : List X) → filter_map own (placed piece.Counter 0 counter) ≡ p → filter_map own (placed piece.Stack 16 stack) ≡ q
+      → filter_map own (placed piece.Tree 32 tree) ≡ r → filter_map own (placed piece.Queue 48 queue) ≡ s → filter_map own all ≡ p ++ (q ++ (r ++ s))
+  own_of_all own p q r s h i j k = simp (filter_map-append, append_assoc, h, i, j, k)
 
-  counter_are : counter_pieces all ≡ counter
-  counter_are = own_of_all counter_pieces counter [] [] []
-      (all_own counter_pieces piece.Counter (λ n x rest. refl) 0 counter) (none_own counter_pieces piece.Stack (λ n x rest. refl) 16 stack)
-      (none_own counter_pieces piece.Tree (λ n x rest. refl) 32 tree) (none_own counter_pieces piece.Queue (λ n x rest. refl) 48 queue) ∙ append-nil counter
+  counter_are : filter_map counter_piece all ≡ counter
+  counter_are = own_of_all counter_piece counter [] [] []
+      (all_own counter_piece piece.Counter (λ n x rest. refl) 0 counter) (none_own counter_piece piece.Stack (λ n x rest. refl) 16 stack)
+      (none_own counter_piece piece.Tree (λ n x rest. refl) 32 tree) (none_own counter_piece piece.Queue (λ n x rest. refl) 48 queue) ∙ append-nil counter
 
-  stack_are : stack_pieces all ≡ stack
-  stack_are = own_of_all stack_pieces [] stack [] []
-      (none_own stack_pieces piece.Counter (λ n x rest. refl) 0 counter) (all_own stack_pieces piece.Stack (λ n x rest. refl) 16 stack)
-      (none_own stack_pieces piece.Tree (λ n x rest. refl) 32 tree) (none_own stack_pieces piece.Queue (λ n x rest. refl) 48 queue) ∙ append-nil stack
+  stack_are : filter_map stack_piece all ≡ stack
+  stack_are = own_of_all stack_piece [] stack [] []
+      (none_own stack_piece piece.Counter (λ n x rest. refl) 0 counter) (all_own stack_piece piece.Stack (λ n x rest. refl) 16 stack)
+      (none_own stack_piece piece.Tree (λ n x rest. refl) 32 tree) (none_own stack_piece piece.Queue (λ n x rest. refl) 48 queue) ∙ append-nil stack
 
-  tree_are : tree_pieces all ≡ tree
-  tree_are = own_of_all tree_pieces [] [] tree []
-      (none_own tree_pieces piece.Counter (λ n x rest. refl) 0 counter) (none_own tree_pieces piece.Stack (λ n x rest. refl) 16 stack)
-      (all_own tree_pieces piece.Tree (λ n x rest. refl) 32 tree) (none_own tree_pieces piece.Queue (λ n x rest. refl) 48 queue) ∙ append-nil tree
+  tree_are : filter_map tree_piece all ≡ tree
+  tree_are = own_of_all tree_piece [] [] tree []
+      (none_own tree_piece piece.Counter (λ n x rest. refl) 0 counter) (none_own tree_piece piece.Stack (λ n x rest. refl) 16 stack)
+      (all_own tree_piece piece.Tree (λ n x rest. refl) 32 tree) (none_own tree_piece piece.Queue (λ n x rest. refl) 48 queue) ∙ append-nil tree
 
-  queue_are : queue_pieces all ≡ queue
-  queue_are = own_of_all queue_pieces [] [] [] queue
-      (none_own queue_pieces piece.Counter (λ n x rest. refl) 0 counter) (none_own queue_pieces piece.Stack (λ n x rest. refl) 16 stack)
-      (none_own queue_pieces piece.Tree (λ n x rest. refl) 32 tree) (all_own queue_pieces piece.Queue (λ n x rest. refl) 48 queue) ∙ append-nil queue
+  queue_are : filter_map queue_piece all ≡ queue
+  queue_are = own_of_all queue_piece [] [] [] queue
+      (none_own queue_piece piece.Counter (λ n x rest. refl) 0 counter) (none_own queue_piece piece.Stack (λ n x rest. refl) 16 stack)
+      (none_own queue_piece piece.Tree (λ n x rest. refl) 32 tree) (all_own queue_piece piece.Queue (λ n x rest. refl) 48 queue)
 
   places_are : map place_of all ≡ four_rows (length counter) (length stack) (length tree) (length queue)
   places_are = simp (

@@ -1,19 +1,10 @@
--- How calls are assigned to structures, and how the structures' replies are merged.
+-- How the structures' replies are merged.
 use Rattle.std.specs.Prelude.{List, [], ◌∷◌, drop, slice_index_or}
 use Rattle.seq_objects.specs.declared.call.Call.{Call}
 use Rattle.seq_objects.specs.declared.reply.Reply.{Reply}
 use Rattle.seq_objects.specs.declared.reply.Reply.TheVariants.{Empty}
 use Rattle.seq_objects.specs.Batches.{Object, Counter, Stack, Tree, Queue, object_of}
-use Rattle.launch_batch.specs.declared.by_structure.Structure.{Structure}
-use Rattle.launch_batch.specs.declared.by_structure.Structure.TheVariants as structure
 use Rattle.launch_batch.specs.declared.merge.ReplyCursors.{ReplyCursors}
-
--- the object that a structure implements
-abbrev pub object_served : Structure → Object
-object_served structure.Counter = Counter
-object_served structure.Stack = Stack
-object_served structure.Tree = Tree
-object_served structure.Queue = Queue
 
 -- the remaining replies of one object
 abbrev pub left_of : Object → ReplyCursors → List Reply

@@ -24,8 +24,8 @@ pub record CanServe {T R : Type 0} (content : T → Objects) (may_serve : Object
   pub closed : phase ≡ Closed before
   pub may : may_serve (content before) calls
 
--- the structure is closed, with the content after serving these calls one after another from `before`, and `replies` are
--- the replies to them
+-- the structure is closed, with the content after serving these calls one after another from `before`, and `replies`
+-- are the replies to them
 pub record HasServed {T R : Type 0} (content : T → Objects) (phase : Phase T R) (before : T)
     (calls : List Call) (replies : List Reply) : Type 0 where
   pub now : T

@@ -1,5 +1,5 @@
 -- The pieces of the four structures in one list, each structure's in its row of places.
-use Rattle.std.specs.Prelude.{ℕ, ◌≡◌, ◌<◌, List, length, map, ◌++◌}
+use Rattle.std.specs.Prelude.{ℕ, ◌≡◌, ◌<◌, List, length, map, ◌++◌, filter_map}
 use Rattle.std.specs.List.{AllByRecursion, range_with_len}
 use Rattle.seq_objects.specs.Orders.{StrictlyAscends}
 use Rattle.batched_counter.specs.declared.piece.Piece.{Piece as CounterPiece}
@@ -9,7 +9,7 @@ use Rattle.batched_pq.specs.declared.piece.Piece.{Piece as QueuePiece}
 use Rattle.launch_batch.specs.declared.piece.PieceIn.{PieceIn}
 use Rattle.launch_batch.specs.Pieces.{place_of}
 use Rattle.launch_batch.specs.Places.{IsInOwnRow}
-use Rattle.launch_batch.specs.ByStructure.{counter_pieces, stack_pieces, tree_pieces, queue_pieces}
+use Rattle.launch_batch.specs.ByStructure.{counter_piece, stack_piece, tree_piece, queue_piece}
 
 -- the places of a, b, c and d pieces of the counter, the stack, the tree and the queue
 abbrev pub four_rows : ℕ → ℕ → ℕ → ℕ → List ℕ
@@ -19,10 +19,10 @@ four_rows a b c d = range_with_len 0 a ++ range_with_len 16 b ++ range_with_len 
 -- and are below 56
 pub record AreInRows (pieces : List PieceIn) (for_counter : List CounterPiece)
     (for_stack : List StackPiece) (for_tree : List TreePiece) (for_queue : List QueuePiece) : Type 0 where
-  pub counter : counter_pieces pieces ≡ for_counter
-  pub stack : stack_pieces pieces ≡ for_stack
-  pub tree : tree_pieces pieces ≡ for_tree
-  pub queue : queue_pieces pieces ≡ for_queue
+  pub counter : filter_map counter_piece pieces ≡ for_counter
+  pub stack : filter_map stack_piece pieces ≡ for_stack
+  pub tree : filter_map tree_piece pieces ≡ for_tree
+  pub queue : filter_map queue_piece pieces ≡ for_queue
   pub places : map place_of pieces ≡
       four_rows (length for_counter) (length for_stack) (length for_tree) (length for_queue)
   pub rows : AllByRecursion IsInOwnRow pieces

@@ -1,10 +1,10 @@
 use Rattle.std.proofs.Common.{◌≡◌, ◌+◌, ◌++◌, length}
 use Rattle.launch_batch.specs.ByStructure.{placed}
-use Rattle.launch_batch.proofs.pieces.put.Given as goal
+use Rattle.launch_batch.proofs.row.place.Given as goal
 
 abbrev pub invariant-loop-input : goal.invariant-loop-input
 invariant-loop-input g l = record {
-  put : l.pieces.items ≡ l.initial.pieces.items ++ placed g.T.Placed.at l.first l.yielded;
+  put : l.pieces.items ≡ l.initial.pieces.items ++ placed g.T.Kind.at l.first l.yielded;
   place : l.place ≡ l.first + length l.yielded;
   all : l.yielded ++ l.input-iterator.rest.items ≡ l.initial.input-iterator.rest.items;
 }

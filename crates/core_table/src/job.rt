@@ -65,6 +65,7 @@ fn task_after(node: u32) -> Task
 
 impl CoreTable {
     /// What the pass does next. `None`: its task is idle, or its call is out. Memory: none.
+    #[inline(always)]
     pub fn next(&self, pass: &Pass) -> Option<Next>
         requires { IsPassOf self.now pass.now }
         ensures next { result ≡ next_in self.now (pass_view pass.now) }

@@ -31,6 +31,7 @@ impl Table for CoreTable {
 
     ghost saw_done = { λ pass. (view pass).saw_done ≡ true };
 
+    #[inline(always)]
     fn next(&self, pass: &Pass) -> Option<Next> {
         CoreTable::next(self, pass)
     }

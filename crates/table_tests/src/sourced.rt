@@ -3,7 +3,7 @@ ghost use Rattle.std.specs.Prelude.{◌≡◌, IfOk};
 ghost use Rattle.core_table.specs.Passes.{job_in, pass_view, IsPassOf};
 ghost use Rattle.sp_order.specs.Precedence.{tree_of};
 ghost use Rattle.worker_crew.specs.Workers.{IsReady};
-ghost use Rattle.table_tests.specs.Sourced.{three_shape, three_acts, three_sources};
+ghost use Rattle.table_tests.specs.Sourced.{four_shape, four_acts, four_sources};
 
 use crate::workers::{Made, try_all};
 use batch_history::Report;
@@ -16,45 +16,47 @@ use std::sync::Wait;
 use std::test::Fail;
 use worker_turns::{Crew, Me, Stop};
 
-/// A series of a series and a leaf.
-fn shape_of_three(alloc: Global) -> Result<Shape, AllocError>
-    ensures { IfOk result (λ shape. tree_of shape ≡ three_shape) }
+/// A series of two series.
+fn shape_of_four(alloc: Global) -> Result<Shape, AllocError>
+    ensures { IfOk result (λ shape. tree_of shape ≡ four_shape) }
 {
-    let two = Shape::Seq(Box::new(alloc, Shape::Leaf)?, Box::new(alloc, Shape::Leaf)?);
-    Ok(Shape::Seq(Box::new(alloc, two)?, Box::new(alloc, Shape::Leaf)?))
+    let first = Shape::Seq(Box::new(alloc, Shape::Leaf)?, Box::new(alloc, Shape::Leaf)?);
+    let last = Shape::Seq(Box::new(alloc, Shape::Leaf)?, Box::new(alloc, Shape::Leaf)?);
+    Ok(Shape::Seq(Box::new(alloc, first)?, Box::new(alloc, last)?))
 }
 
 /// The acts, in which the arguments that are replies stand as 0.
-fn acts_of_three(alloc: Global) -> Result<Vec<Act>, AllocError>
-    ensures { IfOk result (λ acts. acts.items ≡ three_acts) }
+fn acts_of_four(alloc: Global) -> Result<Vec<Act>, AllocError>
+    ensures { IfOk result (λ acts. acts.items ≡ four_acts) }
 {
     let acts = vec![in alloc;
         Act::Call(Op::CounterAdd(5)),
         Act::Call(Op::TreeInsert(0)),
+        Act::Call(Op::Push(0)),
         Act::Call(Op::Push(0)),
     ]?;
     Ok(acts)
 }
 
 /// The source of each leaf.
-fn sources_of_three(alloc: Global) -> Result<Vec<Option<u32>>, AllocError>
-    ensures { IfOk result (λ sources. sources.items ≡ three_sources) }
+fn sources_of_four(alloc: Global) -> Result<Vec<Option<u32>>, AllocError>
+    ensures { IfOk result (λ sources. sources.items ≡ four_sources) }
 {
-    let sources = vec![in alloc; None, Some(0u32), Some(0u32)]?;
+    let sources = vec![in alloc; None, Some(0u32), Some(0u32), Some(1u32)]?;
     Ok(sources)
 }
 
-/// `let a = counter add 5 tree insert a stack push a`.
+/// `let a = counter add 5 let b = tree insert a stack push a stack push b`.
 #[tactic(auto, using(crate::proofs::SourceLemmas::are_sources))]
-fn three_calls(alloc: Global) -> Result<Job, AllocError> {
-    let shape = shape_of_three(alloc)?;
-    let acts = acts_of_three(alloc)?;
-    let sources = sources_of_three(alloc)?;
+fn four_calls(alloc: Global) -> Result<Job, AllocError> {
+    let shape = shape_of_four(alloc)?;
+    let acts = acts_of_four(alloc)?;
+    let sources = sources_of_four(alloc)?;
     Ok(Job::with_sources(Some(shape), acts, sources))
 }
 
-/// The calls of two workers who take turns at the three calls, each making one at a time: the first worker makes the
-/// first and the last.
+/// The calls of two workers at the four calls: the second worker makes the second call, and the first worker the others,
+/// so that it is told of two sources, one task after another.
 fn in_turns<G: Pause, R: Wait>(
     rt: &R,
     alloc: Global,
@@ -70,9 +72,9 @@ fn in_turns<G: Pause, R: Wait>(
 {
     let mut first = Vec::new(alloc);
     let mut second = Vec::new(alloc);
-    try_all(rt, alloc, crew, zero, 5, 1, &mut first)?;
-    try_all(rt, alloc, crew, one, 5, 1, &mut second)?;
-    try_all(rt, alloc, crew, zero, 5, 2, &mut first)?;
+    try_all(rt, alloc, crew, zero, 7, 1, &mut first)?;
+    try_all(rt, alloc, crew, one, 7, 1, &mut second)?;
+    try_all(rt, alloc, crew, zero, 7, 3, &mut first)?;
     Ok((first, second))
 }
 
@@ -81,7 +83,7 @@ fn run_in_turns<R: Wait>(
     rt: &R,
     alloc: Global,
 ) -> Result<Option<(Report, Vec<Made>, Vec<Made>)>, AllocError> {
-    let job = three_calls(alloc)?;
+    let job = four_calls(alloc)?;
     if job.shape().is_none() {
         return Ok(None);
     }
@@ -138,12 +140,15 @@ fn calls_take_the_reply_of_their_source(rt: HostRuntime) -> Result<(), Fail> {
     let ran = run_in_turns(&rt, alloc)?;
     let (report, zero, one) = ran.expect(&rt, "a report");
     let ops = ops_in(alloc, &report)?;
-    assert_eq!(rt; ops.as_slice(), [(5u32, 0u32), (5, 1), (5, 2)].as_slice());
+    assert_eq!(rt;
+        ops.as_slice(),
+        [(5u32, 0u32), (5, 1), (5, 2), (1, 2)].as_slice()
+    );
     let first = told_in(alloc, zero.as_slice())?;
     let second = told_in(alloc, one.as_slice())?;
     assert_eq!(rt;
         first.as_slice(),
-        [(0u32, None), (2, Some(5u64))].as_slice()
+        [(0u32, None), (2, Some(5u64)), (3, Some(1))].as_slice()
     );
     assert_eq!(rt; second.as_slice(), [(1u32, Some(5u64))].as_slice());
     Ok(())

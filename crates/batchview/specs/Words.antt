@@ -1,0 +1,23 @@
+-- The command line: one word, the file of a report, which may be standard input.
+use Rattle.std.specs.Prelude.{ℕ, Bool, IsTrue, if◌then◌else◌, List, [], ◌∷◌, map, Option, None, Some, string_bytes}
+use Rattle.std.specs.Str.{bytes_eq}
+use Rattle.std.specs.declared.string.String.{String}
+use Rattle.std.specs.declared.alloc.Global.{Global}
+
+-- the file that a word names, if the word is not empty; `-` names standard input
+abbrev pub named_file : List ℕ → Option (List ℕ)
+named_file file = if bytes_eq file [] then None else Some file
+
+-- the file that the words name, if there is one word
+abbrev pub file_of : List (List ℕ) → Option (List ℕ)
+file_of (file ∷ []) = named_file file
+file_of _ = None
+
+-- the bytes of words
+abbrev pub spelled : List (String Global) → List (List ℕ)
+spelled words = map string_bytes words
+
+-- the shelf may be asked for the file, if there is one
+abbrev pub MayRead : (List ℕ → Bool) → Option (List ℕ) → Type 0
+MayRead may None = Unit {0}
+MayRead may (Some file) = IsTrue (may file)

@@ -1,0 +1,43 @@
+-- The drawing that a report has.
+use Rattle.std.proofs.Common.{ℕ, ◌≡◌, ◌≢◌, ◌≤◌, Bool, true, false, List, [], ◌∷◌, length, refl, ap, ◌∙◌, arith, length-append}
+use Rattle.std.specs.Prelude.{nat_le, ◌&&◌, if◌then◌else◌}
+use Rattle.std.specs.List.{AllByRecursion}
+use Rattle.batch_history.specs.Book.{flat}
+use Rattle.batch_history.specs.declared.batch.Entry.{Entry}
+use Rattle.batch_history.specs.declared.report.Report.{Report}
+use Rattle.report_picture.specs.Markup.{text_of}
+use Rattle.report_picture.specs.Boxes.{span_of, scale_of}
+use Rattle.report_picture.specs.Picture.{box_drawing, bare_drawing, has_boxes, picture}
+use Rattle.report_picture.specs.Code.Texts.{drawing_text, bare_text}
+use Rattle.report_picture.proofs.Written.{drawing_is, bare_is}
+
+both : (a b : Bool) → (a && b) ≡ true → (a ≡ true) × (b ≡ true)
+both true true e = (refl, refl)
+both true false e = cc
+both false b e = cc
+
+at_most : (n m : ℕ) → nat_le n m ≡ true → n ≤ m
+at_most n m e = grind (arith, e)
+
+pub few_rows : (report : Report) → has_boxes report ≡ true → length report.rows ≤ 2000
+few_rows report e = at_most (length report.rows) 2000 (both (nat_le (length report.rows) 2000) (nat_le (length (flat report.history)) 2000) e).0
+
+pub few_calls : (report : Report) → has_boxes report ≡ true → length (flat report.history) ≤ 2000
+few_calls report e = at_most (length (flat report.history)) 2000 (both (nat_le (length report.rows) 2000) (nat_le (length (flat report.history)) 2000) e).1
+
+-- where no batch is empty, there are no more batches than calls
+pub few_batches : (book : List (List Entry)) → AllByRecursion (λ batch. batch ≢ []) book → length book ≤ length (flat book)
+few_batches [] some = omega arith
+few_batches ([] ∷ book) some = absurd (some.0 refl)
+few_batches ((entry ∷ entries) ∷ book) some = let h = few_batches book some.1 in omega (arith, h, length-append entries (flat book))
+
+pub boxed : (report : Report) → has_boxes report ≡ true → picture report ≡ drawing_text (span_of (length report.rows)) (scale_of (span_of (length report.rows))) report
+unfolding picture
+boxed report e =
+    ap (λ b. text_of (if b then box_drawing (span_of (length report.rows)) (scale_of (span_of (length report.rows))) report else bare_drawing report)) e
+    ∙ drawing_is (span_of (length report.rows)) (scale_of (span_of (length report.rows))) report
+
+pub bare : (report : Report) → has_boxes report ≡ false → picture report ≡ bare_text report
+unfolding picture
+bare report e =
+    ap (λ b. text_of (if b then box_drawing (span_of (length report.rows)) (scale_of (span_of (length report.rows))) report else bare_drawing report)) e ∙ bare_is report

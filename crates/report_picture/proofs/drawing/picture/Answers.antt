@@ -1,0 +1,42 @@
+use Rattle.std.proofs.Common.{◌≡◌, length, ◌∙◌, sym, arith}
+use Rattle.std.proofs.lemmas.Result.{IfOk-weaker}
+use Rattle.report_picture.specs.Boxes.{span_of, scale_of}
+use Rattle.report_picture.specs.Picture.{picture}
+use Rattle.report_picture.specs.Code.Texts.{drawing_text, bare_text}
+use Rattle.report_picture.proofs.Choice.{few_rows, few_calls, few_batches, boxed, bare}
+use Rattle.report_picture.proofs.drawing.picture.Goals as goal
+
+pub box_drawing-requires : goal.box_drawing-requires
+box_drawing-requires c =
+    let report = c.args.raw.now in
+    let has = sym c.has_boxes.ensures ∙ c.if-has_boxes.true in
+    let same = rw c.batches.ensures.batches at c.count_calls-calls.ensures in
+    record {
+      rows = few_rows report has;
+      calls = same;
+      few = omega (arith, same, few_calls report has);
+      batches = omega (arith, few_batches report.history c.batches.ensures.raw.batches, few_calls report has);
+    }
+
+pub returns-then-has_boxes : goal.returns-then-has_boxes
+returns-then-has_boxes c =
+    let report = c.args.raw.now in
+    let has = sym c.has_boxes.ensures ∙ c.if-has_boxes.true in
+    let span = span_of (length report.rows) in
+    IfOk-weaker c.box_drawing.result (λ text. text.items ≡ drawing_text span (scale_of span) report) (λ text. text.items ≡ picture report)
+    (λ text is. is ∙ sym (boxed report has)) c.box_drawing.ensures
+
+pub returns-else-has_boxes : goal.returns-else-has_boxes
+returns-else-has_boxes c =
+    let report = c.args.raw.now in
+    let has = sym c.has_boxes.ensures ∙ c.if-has_boxes.false in
+    IfOk-weaker c.bare_drawing.result (λ text. text.items ≡ bare_text report) (λ text. text.items ≡ picture report)
+    (λ text is. is ∙ sym (bare report has)) c.bare_drawing.ensures
+
+pub bare_drawing-requires : goal.bare_drawing-requires
+bare_drawing-requires c =
+    let report = c.args.raw.now in
+    record {
+      calls = rw c.batches.ensures.batches at c.count_calls-calls.ensures;
+      batches = omega (arith, few_batches report.history c.batches.ensures.raw.batches, c.requires);
+    }

@@ -1,0 +1,48 @@
+-- When a text is well-formed: a grammar of words and closed elements, apart from the writer of markup.
+use Rattle.std.specs.Prelude.{◌≢◌, ℕ, Bool, false, IsTrue, ◌&&◌, ◌||◌, ◌==◌, nat_le, List, [], ◌∷◌, ◌++◌, codes}
+use Rattle.std.specs.List.{list_all}
+
+-- the byte is none of `&`, `<`, `>` and the two quotes
+pub record IsPlain (byte : ℕ) : Type 0 where
+  pub ampersand : byte ≢ 38
+  pub less : byte ≢ 60
+  pub greater : byte ≢ 62
+  pub quote : byte ≢ 34
+  pub apostrophe : byte ≢ 39
+
+-- a byte that is not plain, by its name
+pub data IsEntity : List ℕ → Type 0 where
+  amp : IsEntity (codes "&amp;")
+  lt : IsEntity (codes "&lt;")
+  gt : IsEntity (codes "&gt;")
+  quot : IsEntity (codes "&quot;")
+  apos : IsEntity (codes "&apos;")
+
+-- words: bytes that are plain, and others by their names
+pub data AreWords : List ℕ → Type 0 where
+  no_words : AreWords []
+  plain : (byte : ℕ) (rest : List ℕ) → IsPlain byte → AreWords rest → AreWords (byte ∷ rest)
+  named : (entity rest : List ℕ) → IsEntity entity → AreWords rest → AreWords (entity ++ rest)
+
+-- whether the byte is a letter
+abbrev pub is_letter : ℕ → Bool
+is_letter byte = (nat_le 65 byte && nat_le byte 90) || (nat_le 97 byte && nat_le byte 122)
+
+-- whether this is a name: a letter, and letters and hyphens behind it
+abbrev pub is_name : List ℕ → Bool
+is_name [] = false
+is_name (first ∷ rest) = is_letter first && list_all (λ byte. is_letter byte || (byte == 45)) rest
+
+-- attributes: a name and words between quotes, each behind a blank
+pub data AreAttributes : List ℕ → Type 0 where
+  no_attributes : AreAttributes []
+  another : (name value rest : List ℕ) → IsTrue (is_name name) → AreWords value → AreAttributes rest
+      → AreAttributes (codes " " ++ (name ++ (codes "=\"" ++ (value ++ (codes "\"" ++ rest)))))
+
+-- contents: words, and elements that are closed by their own names, with contents inside
+pub data AreContents : List ℕ → Type 0 where
+  no_contents : AreContents []
+  some_words : (bytes rest : List ℕ) → AreWords bytes → AreContents rest → AreContents (bytes ++ rest)
+  element : (name attributes inside rest : List ℕ) → IsTrue (is_name name) → AreAttributes attributes → AreContents inside
+      → AreContents rest
+      → AreContents (codes "<" ++ (name ++ (attributes ++ (codes ">" ++ (inside ++ (codes "</" ++ (name ++ (codes ">" ++ rest))))))))

@@ -5,77 +5,77 @@ use Rattle.seq_objects.specs.declared.op.Op.TheVariants.{CounterAdd, Push, Pop, 
 use Rattle.seq_objects.specs.declared.call.Call.{Call}
 use Rattle.seq_objects.specs.declared.reply.Reply.{Reply}
 use Rattle.seq_objects.specs.Objects.{Objects, after, reply_to}
-use Rattle.seq_objects.specs.Batches.{Object, Counter, Stack, Tree, Queue, AreOf, object_of, same_object, calls_of}
-use Rattle.seq_objects.specs.Serial.{after_all, replies_to_all, alone, with_object, replies_of, after_by_object}
+use Rattle.seq_objects.specs.Batches.{ObjectKind, Counter, Stack, Tree, Queue, AreOf, kind_of, same_kind, calls_of}
+use Rattle.seq_objects.specs.Serial.{after_all, replies_to_all, alone, with_kind, replies_of, after_by_kind}
 use Rattle.seq_objects.proofs.Filters.{same_is}
 
-reply_alone : (op : Op) (objects : Objects) → reply_to objects op ≡ reply_to (alone (object_of op) objects) op
-reply_alone (CounterAdd addend) objects = refl
-reply_alone (Push item) objects = refl
-reply_alone Pop objects = refl
-reply_alone (TreeInsert key) objects = refl
-reply_alone (TreeRemove key) objects = refl
-reply_alone (TreeFind key) objects = refl
-reply_alone (TreeNext key) objects = refl
-reply_alone (PqInsert item) objects = refl
-reply_alone PqTake objects = refl
+reply_alone : (op : Op) (objects : Objects) → reply_to objects op ≡ reply_to (alone (kind_of op) objects) op
+reply_alone (CounterAdd number addend) objects = refl
+reply_alone (Push number item) objects = refl
+reply_alone (Pop number) objects = refl
+reply_alone (TreeInsert number key) objects = refl
+reply_alone (TreeRemove number key) objects = refl
+reply_alone (TreeFind number key) objects = refl
+reply_alone (TreeNext number key) objects = refl
+reply_alone (PqInsert number item) objects = refl
+reply_alone (PqTake number) objects = refl
 
-after_alone : (op : Op) (objects : Objects) → after objects op ≡ with_object (object_of op) objects (after (alone (object_of op) objects) op)
-after_alone (CounterAdd addend) objects = refl
-after_alone (Push item) objects = refl
-after_alone Pop objects = refl
-after_alone (TreeInsert key) objects = refl
-after_alone (TreeRemove key) objects = refl
-after_alone (TreeFind key) objects = refl
-after_alone (TreeNext key) objects = refl
-after_alone (PqInsert item) objects = refl
-after_alone PqTake objects = refl
+after_alone : (op : Op) (objects : Objects) → after objects op ≡ with_kind (kind_of op) objects (after (alone (kind_of op) objects) op)
+after_alone (CounterAdd number addend) objects = refl
+after_alone (Push number item) objects = refl
+after_alone (Pop number) objects = refl
+after_alone (TreeInsert number key) objects = refl
+after_alone (TreeRemove number key) objects = refl
+after_alone (TreeFind number key) objects = refl
+after_alone (TreeNext number key) objects = refl
+after_alone (PqInsert number item) objects = refl
+after_alone (PqTake number) objects = refl
 
-alone_after : (op : Op) (objects : Objects) → alone (object_of op) (after objects op) ≡ after (alone (object_of op) objects) op
-alone_after (CounterAdd addend) objects = refl
-alone_after (Push item) objects = refl
-alone_after Pop objects = refl
-alone_after (TreeInsert key) objects = refl
-alone_after (TreeRemove key) objects = refl
-alone_after (TreeFind key) objects = refl
-alone_after (TreeNext key) objects = refl
-alone_after (PqInsert item) objects = refl
-alone_after PqTake objects = refl
+alone_after : (op : Op) (objects : Objects) → alone (kind_of op) (after objects op) ≡ after (alone (kind_of op) objects) op
+alone_after (CounterAdd number addend) objects = refl
+alone_after (Push number item) objects = refl
+alone_after (Pop number) objects = refl
+alone_after (TreeInsert number key) objects = refl
+alone_after (TreeRemove number key) objects = refl
+alone_after (TreeFind number key) objects = refl
+alone_after (TreeNext number key) objects = refl
+alone_after (PqInsert number item) objects = refl
+alone_after (PqTake number) objects = refl
 
-with_own : (object : Object) (objects : Objects) → objects ≡ with_object object objects (alone object objects)
+with_own : (kind : ObjectKind) (objects : Objects) → objects ≡ with_kind kind objects (alone kind objects)
 with_own Counter objects = refl
 with_own Stack objects = refl
 with_own Tree objects = refl
 with_own Queue objects = refl
 
-with_twice : (object : Object) (objects others more : Objects) → with_object object (with_object object objects others) more ≡ with_object object objects more
+with_twice : (kind : ObjectKind) (objects others more : Objects) → with_kind kind (with_kind kind objects others) more ≡ with_kind kind objects more
 with_twice Counter objects others more = refl
 with_twice Stack objects others more = refl
 with_twice Tree objects others more = refl
 with_twice Queue objects others more = refl
 
--- the replies to calls of one object are those that it gives alone
-pub replies_alone : (object : Object) (objects : Objects) (calls : List Call) → AreOf object calls → replies_to_all objects calls ≡ replies_to_all (alone object objects) calls
-replies_alone object objects [] of = refl
-replies_alone object objects (call ∷ calls) of =
-    let rest = replies_alone object (after objects call.op) calls of.1 in
-    let reply : reply_to objects call.op ≡ reply_to (alone object objects) call.op = subst (λ o. reply_to objects call.op ≡ reply_to (alone o objects) call.op) of.0 (reply_alone call.op objects) in
-    let next : alone object (after objects call.op) ≡ after (alone object objects) call.op = subst (λ o. alone o (after objects call.op) ≡ after (alone o objects) call.op) of.0 (alone_after call.op objects) in
+-- the replies to calls of one kind are those that it gives alone
+pub replies_alone : (kind : ObjectKind) (objects : Objects) (calls : List Call) → AreOf kind calls → replies_to_all objects calls ≡ replies_to_all (alone kind objects) calls
+replies_alone kind objects [] of = refl
+replies_alone kind objects (call ∷ calls) of =
+    let rest = replies_alone kind (after objects call.op) calls of.1 in
+    let reply : reply_to objects call.op ≡ reply_to (alone kind objects) call.op = subst (λ o. reply_to objects call.op ≡ reply_to (alone o objects) call.op) of.0 (reply_alone call.op objects) in
+    let next : alone kind (after objects call.op) ≡ after (alone kind objects) call.op = subst (λ o. alone o (after objects call.op) ≡ after (alone o objects) call.op) of.0 (alone_after call.op objects) in
     rw (reply, rest, next) refl
 
--- calls of one object change this object alone, as they do without the others
-pub content_alone : (object : Object) (objects : Objects) (calls : List Call) → AreOf object calls → after_all objects calls ≡ with_object object objects (after_all (alone object objects) calls)
-content_alone object objects [] of = with_own object objects
-content_alone object objects (call ∷ calls) of =
-    let rest = content_alone object (after objects call.op) calls of.1 in
-    let changed : after objects call.op ≡ with_object object objects (after (alone object objects) call.op) = subst (λ o. after objects call.op ≡ with_object o objects (after (alone o objects) call.op)) of.0 (after_alone call.op objects) in
-    let next : alone object (after objects call.op) ≡ after (alone object objects) call.op = subst (λ o. alone o (after objects call.op) ≡ after (alone o objects) call.op) of.0 (alone_after call.op objects) in
-    let last = after_all (after (alone object objects) call.op) calls in
-    rest ∙ ap (λ o. with_object object (after objects call.op) (after_all o calls)) next ∙ ap (λ o. with_object object o last) changed
-    ∙ with_twice object objects (after (alone object objects) call.op) last
+-- calls of one kind change this kind alone, as they do without the others
+pub content_alone : (kind : ObjectKind) (objects : Objects) (calls : List Call) → AreOf kind calls → after_all objects calls ≡ with_kind kind objects (after_all (alone kind objects) calls)
+content_alone kind objects [] of = with_own kind objects
+content_alone kind objects (call ∷ calls) of =
+    let rest = content_alone kind (after objects call.op) calls of.1 in
+    let changed : after objects call.op ≡ with_kind kind objects (after (alone kind objects) call.op) = subst (λ o. after objects call.op ≡ with_kind o objects (after (alone o objects) call.op)) of.0 (after_alone call.op objects) in
+    let next : alone kind (after objects call.op) ≡ after (alone kind objects) call.op = subst (λ o. alone o (after objects call.op) ≡ after (alone o objects) call.op) of.0 (alone_after call.op objects) in
+    let last = after_all (after (alone kind objects) call.op) calls in
+    rest ∙ ap (λ o. with_kind kind (after objects call.op) (after_all o calls)) next ∙ ap (λ o. with_kind kind o last) changed
+    ∙ with_twice kind objects (after (alone kind objects) call.op) last
 
--- replacing another object leaves this one unchanged
-other_kept : (object other : Object) (objects others : Objects) → same_object object other ≡ false → alone object (with_object other objects others) ≡ alone object objects
+-- replacing another kind leaves this one unchanged
+other_kept : (kind other : ObjectKind) (objects others : Objects) → same_kind kind other ≡ false → alone kind (with_kind other objects others) ≡ alone kind objects
 other_kept Counter Counter objects others differ = absurd cc
 other_kept Counter Stack objects others differ = refl
 other_kept Counter Tree objects others differ = refl
@@ -93,50 +93,50 @@ other_kept Queue Stack objects others differ = refl
 other_kept Queue Tree objects others differ = refl
 other_kept Queue Queue objects others differ = absurd cc
 
-same_self : (object : Object) → same_object object object ≡ true
+same_self : (kind : ObjectKind) → same_kind kind kind ≡ true
 same_self Counter = refl
 same_self Stack = refl
 same_self Tree = refl
 same_self Queue = refl
 
-module _ (object : Object) where
-  -- a single operation: of this object here, of another one in the next lemma
-  own_next : (objects : Objects) (op : Op) → same_object object (object_of op) ≡ true → (alone object (after objects op) ≡ after (alone object objects) op) × (reply_to objects op ≡ reply_to (alone object objects) op)
+module _ (kind : ObjectKind) where
+  -- a single operation: of this kind here, of another one in the next lemma
+  own_next : (objects : Objects) (op : Op) → same_kind kind (kind_of op) ≡ true → (alone kind (after objects op) ≡ after (alone kind objects) op) × (reply_to objects op ≡ reply_to (alone kind objects) op)
   own_next objects op own =
-      let is = same_is object (object_of op) own in
+      let is = same_is kind (kind_of op) own in
       (subst (λ o. alone o (after objects op) ≡ after (alone o objects) op) is (alone_after op objects), subst (λ o. reply_to objects op ≡ reply_to (alone o objects) op) is (reply_alone op objects))
 
-  other_next : (objects : Objects) (op : Op) → same_object object (object_of op) ≡ false → alone object (after objects op) ≡ alone object objects
-  other_next objects op other = ap (alone object) (after_alone op objects) ∙ other_kept object (object_of op) objects (after (alone (object_of op) objects) op) other
+  other_next : (objects : Objects) (op : Op) → same_kind kind (kind_of op) ≡ false → alone kind (after objects op) ≡ alone kind objects
+  other_next objects op other = ap (alone kind) (after_alone op objects) ∙ other_kept kind (kind_of op) objects (after (alone (kind_of op) objects) op) other
 
-  -- of the replies to all calls, those to the calls of one object are the ones that it gives alone
-  pub own_replies : (objects : Objects) (calls : List Call) → replies_of object calls (replies_to_all objects calls) ≡ replies_to_all (alone object objects) (calls_of object calls)
+  -- of the replies to all calls, those to the calls of one kind are the ones that it gives alone
+  pub own_replies : (objects : Objects) (calls : List Call) → replies_of kind calls (replies_to_all objects calls) ≡ replies_to_all (alone kind objects) (calls_of kind calls)
   own_replies objects [] = refl
-  own_replies objects (call ∷ calls) = step (same_object object (object_of call.op)) refl (own_replies (after objects call.op) calls) where
+  own_replies objects (call ∷ calls) = step (same_kind kind (kind_of call.op)) refl (own_replies (after objects call.op) calls) where
     rest : List Reply
-    rest = replies_of object calls (replies_to_all (after objects call.op) calls)
+    rest = replies_of kind calls (replies_to_all (after objects call.op) calls)
 
-    step : (b : Bool) → same_object object (object_of call.op) ≡ b → rest ≡ replies_to_all (alone object (after objects call.op)) (calls_of object calls)
-        → cond b (reply_to objects call.op ∷ rest) rest ≡ replies_to_all (alone object objects) (cond b (call ∷ calls_of object calls) (calls_of object calls))
+    step : (b : Bool) → same_kind kind (kind_of call.op) ≡ b → rest ≡ replies_to_all (alone kind (after objects call.op)) (calls_of kind calls)
+        → cond b (reply_to objects call.op ∷ rest) rest ≡ replies_to_all (alone kind objects) (cond b (call ∷ calls_of kind calls) (calls_of kind calls))
     step true own is = let next = own_next objects call.op own in rw (is, next.0, next.1) refl
     step false other is = rw (is, other_next objects call.op other) refl
 
-  -- after all calls, the object is as after its own calls alone
-  pub own_content : (objects : Objects) (calls : List Call) → alone object (after_all objects calls) ≡ after_all (alone object objects) (calls_of object calls)
+  -- after all calls, the kind is as after its own calls alone
+  pub own_content : (objects : Objects) (calls : List Call) → alone kind (after_all objects calls) ≡ after_all (alone kind objects) (calls_of kind calls)
   own_content objects [] = refl
-  own_content objects (call ∷ calls) = step (same_object object (object_of call.op)) refl (own_content (after objects call.op) calls) where
-    step : (b : Bool) → same_object object (object_of call.op) ≡ b → alone object (after_all (after objects call.op) calls) ≡ after_all (alone object (after objects call.op)) (calls_of object calls)
-        → alone object (after_all (after objects call.op) calls) ≡ after_all (alone object objects) (cond b (call ∷ calls_of object calls) (calls_of object calls))
-    step true own is = is ∙ ap (λ o. after_all o (calls_of object calls)) (own_next objects call.op own).0
-    step false other is = is ∙ ap (λ o. after_all o (calls_of object calls)) (other_next objects call.op other)
+  own_content objects (call ∷ calls) = step (same_kind kind (kind_of call.op)) refl (own_content (after objects call.op) calls) where
+    step : (b : Bool) → same_kind kind (kind_of call.op) ≡ b → alone kind (after_all (after objects call.op) calls) ≡ after_all (alone kind (after objects call.op)) (calls_of kind calls)
+        → alone kind (after_all (after objects call.op) calls) ≡ after_all (alone kind objects) (cond b (call ∷ calls_of kind calls) (calls_of kind calls))
+    step true own is = is ∙ ap (λ o. after_all o (calls_of kind calls)) (own_next objects call.op own).0
+    step false other is = is ∙ ap (λ o. after_all o (calls_of kind calls)) (other_next objects call.op other)
 
-pub each_content : (objects : Objects) (calls : List Call) → after_all objects calls ≡ after_by_object objects calls
+pub each_content : (objects : Objects) (calls : List Call) → after_all objects calls ≡ after_by_kind objects calls
 each_content objects calls =
     rw (sym (own_content Counter objects calls), sym (own_content Stack objects calls), sym (own_content Tree objects calls), sym (own_content Queue objects calls)) refl
 
--- two lists of replies that agree for each object are equal
+-- two lists of replies that agree for each kind are equal
 pub same_replies : (calls : List Call) (replies others : List Reply) → length replies ≡ length calls → length others ≡ length calls
-    → ((object : Object) → replies_of object calls replies ≡ replies_of object calls others) → replies ≡ others
+    → ((kind : ObjectKind) → replies_of kind calls replies ≡ replies_of kind calls others) → replies ≡ others
 same_replies [] [] [] count count' same = refl
 same_replies [] [] (o ∷ others) count count' same = absurd (omega (arith, count'))
 same_replies [] (r ∷ replies) others count count' same = absurd (omega (arith, count))
@@ -153,7 +153,7 @@ same_replies (call ∷ calls) (r ∷ replies) (o ∷ others) count count' same =
       rest_of false xs ys is = is
 
       first : r ≡ o
-      first = let own = object_of call.op in first_of (same_object own own) (replies_of own calls replies) (replies_of own calls others) (same_self own) (same own)
+      first = let own = kind_of call.op in first_of (same_kind own own) (replies_of own calls replies) (replies_of own calls others) (same_self own) (same own)
 
-      rest : (object : Object) → replies_of object calls replies ≡ replies_of object calls others
-      rest object = rest_of (same_object object (object_of call.op)) (replies_of object calls replies) (replies_of object calls others) (same object)
+      rest : (kind : ObjectKind) → replies_of kind calls replies ≡ replies_of kind calls others
+      rest kind = rest_of (same_kind kind (kind_of call.op)) (replies_of kind calls replies) (replies_of kind calls others) (same kind)

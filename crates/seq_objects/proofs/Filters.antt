@@ -3,7 +3,7 @@ use Rattle.std.proofs.Common.{◌≡◌, ◌≢◌, ℕ, ◌<◌, Bool, true, fa
 use Rattle.std.specs.List.{AllByRecursion}
 use Rattle.seq_objects.specs.declared.call.Call.{Call}
 use Rattle.seq_objects.specs.BatchOrder.{ComesFirst}
-use Rattle.seq_objects.specs.Batches.{Object, Counter, Stack, Tree, Queue, AreOneBatch, AreOf, object_of, same_object, calls_of}
+use Rattle.seq_objects.specs.Batches.{ObjectKind, Counter, Stack, Tree, Queue, AreOneBatch, AreOf, kind_of, same_kind, calls_of}
 use Rattle.seq_objects.specs.Pairs.{EachPair}
 
 -- what holds of all elements holds of all that pass
@@ -44,8 +44,8 @@ some_are_a_batch passes calls batch some = record {
   below = each_filter (λ (call : Call). call.worker < 32) passes calls batch.below;
 }
 
--- `same_object` decides equality of objects
-pub same_is : (a b : Object) → same_object a b ≡ true → b ≡ a
+-- `same_kind` decides equality of objects
+pub same_is : (a b : ObjectKind) → same_kind a b ≡ true → b ≡ a
 same_is Counter Counter is = refl
 same_is Counter Stack is = absurd cc
 same_is Counter Tree is = absurd cc
@@ -63,9 +63,9 @@ same_is Queue Stack is = absurd cc
 same_is Queue Tree is = absurd cc
 same_is Queue Queue is = refl
 
-pub are_of : (object : Object) (calls : List Call) → AreOf object (calls_of object calls)
-are_of object [] = tt
-are_of object (call ∷ calls) = step (same_object object (object_of call.op)) refl (are_of object calls) where
-  step : (b : Bool) → same_object object (object_of call.op) ≡ b → AreOf object (calls_of object calls) → AreOf object (cond b (call ∷ calls_of object calls) (calls_of object calls))
-  step true is rest = (same_is object (object_of call.op) is, rest)
+pub are_of : (kind : ObjectKind) (calls : List Call) → AreOf kind (calls_of kind calls)
+are_of kind [] = tt
+are_of kind (call ∷ calls) = step (same_kind kind (kind_of call.op)) refl (are_of kind calls) where
+  step : (b : Bool) → same_kind kind (kind_of call.op) ≡ b → AreOf kind (calls_of kind calls) → AreOf kind (cond b (call ∷ calls_of kind calls) (calls_of kind calls))
+  step true is rest = (same_is kind (kind_of call.op) is, rest)
   step false is rest = rest

@@ -2,8 +2,10 @@ pub mod Bags
 pub mod CallOrder
 mod Classes
 pub mod Elements
+mod Kept
 mod Keys
 pub mod Apart
 pub mod Filters
 pub mod Meets
 mod Members
+pub mod Numbers

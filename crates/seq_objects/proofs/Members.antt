@@ -15,15 +15,15 @@ rest_ascends [] up = tt
 rest_ascends (x ∷ bag) up = up.1
 
 pub stay_in_order : (objects : Objects) (op : Op) → AreInOrder objects → AreInOrder (after objects op)
-stay_in_order objects (CounterAdd addend) h = record { set = h.set; bag = h.bag }
-stay_in_order objects (Push item) h = record { set = h.set; bag = h.bag }
-stay_in_order objects Pop h = record { set = h.set; bag = h.bag }
-stay_in_order objects (TreeInsert key) h = record { set = ascends_with key objects.set h.set; bag = h.bag }
-stay_in_order objects (TreeRemove key) h = record { set = ascends_without key objects.set h.set; bag = h.bag }
-stay_in_order objects (TreeFind key) h = h
-stay_in_order objects (TreeNext key) h = h
-stay_in_order objects (PqInsert item) h = record { set = h.set; bag = item_ascends item objects.bag h.bag }
-stay_in_order objects PqTake h = record { set = h.set; bag = rest_ascends objects.bag h.bag }
+stay_in_order objects (CounterAdd number addend) h = record { set = h.set; bag = h.bag }
+stay_in_order objects (Push number item) h = record { set = h.set; bag = h.bag }
+stay_in_order objects (Pop number) h = record { set = h.set; bag = h.bag }
+stay_in_order objects (TreeInsert number key) h = record { set = ascends_with key objects.set h.set; bag = h.bag }
+stay_in_order objects (TreeRemove number key) h = record { set = ascends_without key objects.set h.set; bag = h.bag }
+stay_in_order objects (TreeFind number key) h = h
+stay_in_order objects (TreeNext number key) h = h
+stay_in_order objects (PqInsert number item) h = record { set = h.set; bag = item_ascends item objects.bag h.bag }
+stay_in_order objects (PqTake number) h = record { set = h.set; bag = rest_ascends objects.bag h.bag }
 
 -- the copies and the least number of a bag
 pub copies_taken : (item n : ℕ) (bag : List ℕ) → least bag ≡ Some item → copies n bag ≡ one_if (n == item) + copies n (without_least bag)

@@ -1,9 +1,10 @@
--- The calls of one batch, and the object that each operation belongs to.
-use Rattle.std.specs.Prelude.{◌≡◌, ◌<◌, Bool, true, false, List, length, map, filter}
+-- The calls of one batch, and the object that each operation belongs to: one of a kind, with a number.
+use Rattle.std.specs.Prelude.{◌≡◌, ◌<◌, ◌==◌, ℕ, Bool, true, false, List, length, map, filter}
 use Rattle.std.specs.List.{AllByRecursion}
 use Rattle.seq_objects.specs.declared.op.Op.{Op}
 use Rattle.seq_objects.specs.declared.op.Op.TheVariants.{CounterAdd, Push, Pop, TreeInsert, TreeRemove, TreeFind, TreeNext, PqInsert, PqTake}
 use Rattle.seq_objects.specs.declared.call.Call.{Call}
+use Rattle.seq_objects.specs.Objects.{number_of}
 use Rattle.seq_objects.specs.BatchOrder.{ComesFirst}
 use Rattle.seq_objects.specs.Pairs.{EachPair, AreDistinct}
 
@@ -18,37 +19,45 @@ pub record AreOneBatch (calls : List Call) : Type 0 where
   pub workers : AreDistinct (map (λ call. call.worker) calls)
   pub below : AllByRecursion (λ call. call.worker < 32) calls
 
--- one of the four shared objects
-pub data Object : Type 0 where
-  Counter : Object
-  Stack : Object
-  Tree : Object
-  Queue : Object
+-- the four kinds of shared objects
+pub data ObjectKind : Type 0 where
+  Counter : ObjectKind
+  Stack : ObjectKind
+  Tree : ObjectKind
+  Queue : ObjectKind
 
--- the object that an operation belongs to
-abbrev pub object_of : Op → Object
-object_of (CounterAdd addend) = Counter
-object_of (Push item) = Stack
-object_of Pop = Stack
-object_of (TreeInsert key) = Tree
-object_of (TreeRemove key) = Tree
-object_of (TreeFind key) = Tree
-object_of (TreeNext key) = Tree
-object_of (PqInsert item) = Queue
-object_of PqTake = Queue
+-- the kind of the object that an operation belongs to
+abbrev pub kind_of : Op → ObjectKind
+kind_of (CounterAdd number addend) = Counter
+kind_of (Push number item) = Stack
+kind_of (Pop number) = Stack
+kind_of (TreeInsert number key) = Tree
+kind_of (TreeRemove number key) = Tree
+kind_of (TreeFind number key) = Tree
+kind_of (TreeNext number key) = Tree
+kind_of (PqInsert number item) = Queue
+kind_of (PqTake number) = Queue
 
--- all calls are of one object
-abbrev pub AreOf : Object → List Call → Type 0
-AreOf object calls = AllByRecursion (λ call. object_of call.op ≡ object) calls
+-- all calls are of one kind
+abbrev pub AreOf : ObjectKind → List Call → Type 0
+AreOf kind calls = AllByRecursion (λ call. kind_of call.op ≡ kind) calls
 
--- whether two objects are the same
-abbrev pub same_object : Object → Object → Bool
-same_object Counter Counter = true
-same_object Stack Stack = true
-same_object Tree Tree = true
-same_object Queue Queue = true
-same_object _ _ = false
+-- all calls are of objects with one number
+abbrev pub AreOfOneNumber : List Call → Type 0
+AreOfOneNumber calls = (number : ℕ) × AllByRecursion (λ call. number_of call.op ≡ number) calls
 
--- the calls of one object, in their order
-abbrev pub calls_of : Object → List Call → List Call
-calls_of object calls = filter (λ call. same_object object (object_of call.op)) calls
+-- whether two kinds are the same
+abbrev pub same_kind : ObjectKind → ObjectKind → Bool
+same_kind Counter Counter = true
+same_kind Stack Stack = true
+same_kind Tree Tree = true
+same_kind Queue Queue = true
+same_kind _ _ = false
+
+-- the calls of one kind, in their order
+abbrev pub calls_of : ObjectKind → List Call → List Call
+calls_of kind calls = filter (λ call. same_kind kind (kind_of call.op)) calls
+
+-- the calls of objects with one number, in their order
+abbrev pub calls_at : ℕ → List Call → List Call
+calls_at number calls = filter (λ call. number_of call.op == number) calls

@@ -4,9 +4,11 @@ pub mod Objects
 pub mod BatchOrder
 pub mod Batches
 pub mod Code
+pub mod Kept
 pub mod Orders
 pub mod Pairs
 pub mod Pieces
 pub mod Serial
 pub mod Spin
+pub mod Stores
 pub mod Words

@@ -1,4 +1,5 @@
--- The serial objects: the sequential semantics of each operation, as its effect on the objects and its reply.
+-- The serial objects of one number: the sequential semantics of each operation, as its effect on the objects and its
+-- reply. An operation is served by the objects of its number, so its number does not matter here.
 use Rattle.std.specs.Prelude.{ℕ, ◌+◌, ◌-◌, ◌<◌, ◌^◌, Bool, true, false, not, nat_le, if◌then◌else◌, List, [], ◌∷◌, ◌++◌, length, take, drop, slice_get, Some, None, ⊤}
 use Rattle.std.specs.declared.option.Option.{Option}
 use Rattle.seq_objects.specs.declared.op.Op.{Op}
@@ -52,15 +53,15 @@ number_or_empty None = reply.Empty
 
 -- for each operation, the objects after it and its reply
 abbrev pub serve : Objects → Op → Objects × Reply
-serve objects (CounterAdd addend) = (record objects { counter = objects.counter + addend }, reply.Number (objects.counter + addend))
-serve objects (Push item) = (record objects { stack = objects.stack ++ item ∷ [] }, reply.Unit)
-serve objects Pop = (record objects { stack = without_top objects.stack }, number_or_empty (top objects.stack))
-serve objects (TreeInsert key) = (record objects { set = with_key key objects.set }, yes_or_no (not (has key objects.set)))
-serve objects (TreeRemove key) = (record objects { set = without_key key objects.set }, yes_or_no (has key objects.set))
-serve objects (TreeFind key) = (objects, yes_or_no (has key objects.set))
-serve objects (TreeNext key) = (objects, number_or_empty (least_above key objects.set))
-serve objects (PqInsert item) = (record objects { bag = with_item item objects.bag }, reply.Unit)
-serve objects PqTake = (record objects { bag = without_least objects.bag }, number_or_empty (least objects.bag))
+serve objects (CounterAdd number addend) = (record objects { counter = objects.counter + addend }, reply.Number (objects.counter + addend))
+serve objects (Push number item) = (record objects { stack = objects.stack ++ item ∷ [] }, reply.Unit)
+serve objects (Pop number) = (record objects { stack = without_top objects.stack }, number_or_empty (top objects.stack))
+serve objects (TreeInsert number key) = (record objects { set = with_key key objects.set }, yes_or_no (not (has key objects.set)))
+serve objects (TreeRemove number key) = (record objects { set = without_key key objects.set }, yes_or_no (has key objects.set))
+serve objects (TreeFind number key) = (objects, yes_or_no (has key objects.set))
+serve objects (TreeNext number key) = (objects, number_or_empty (least_above key objects.set))
+serve objects (PqInsert number item) = (record objects { bag = with_item item objects.bag }, reply.Unit)
+serve objects (PqTake number) = (record objects { bag = without_least objects.bag }, number_or_empty (least objects.bag))
 
 -- the objects after an operation
 abbrev pub after : Objects → Op → Objects
@@ -72,27 +73,32 @@ reply_to objects op = (serve objects op).1
 
 -- a counter add needs a sum that fits in 64 bits; every other operation can always be served
 abbrev pub CanServe : Objects → Op → Type 0
-CanServe objects (CounterAdd addend) = objects.counter + addend < 2 ^ 64
+CanServe objects (CounterAdd number addend) = objects.counter + addend < 2 ^ 64
 CanServe objects _ = ⊤
 
--- the operation allocates nothing: it inserts nothing into the stack, the set or the bag
-abbrev pub TakesNoMemory : Op → Type 0
-TakesNoMemory (Push item) = ⊥
-TakesNoMemory (TreeInsert key) = ⊥
-TakesNoMemory (PqInsert item) = ⊥
-TakesNoMemory _ = ⊤
+-- the number of an operation's object among those of its kind
+abbrev pub number_of : Op → ℕ
+number_of (CounterAdd number addend) = number
+number_of (Push number item) = number
+number_of (Pop number) = number
+number_of (TreeInsert number key) = number
+number_of (TreeRemove number key) = number
+number_of (TreeFind number key) = number
+number_of (TreeNext number key) = number
+number_of (PqInsert number item) = number
+number_of (PqTake number) = number
 
 -- the number that an operation carries, or 0 if it carries none
 abbrev pub argument_of : Op → ℕ
-argument_of (CounterAdd addend) = addend
-argument_of (Push item) = item
-argument_of Pop = 0
-argument_of (TreeInsert key) = key
-argument_of (TreeRemove key) = key
-argument_of (TreeFind key) = key
-argument_of (TreeNext key) = key
-argument_of (PqInsert item) = item
-argument_of PqTake = 0
+argument_of (CounterAdd number addend) = addend
+argument_of (Push number item) = item
+argument_of (Pop number) = 0
+argument_of (TreeInsert number key) = key
+argument_of (TreeRemove number key) = key
+argument_of (TreeFind number key) = key
+argument_of (TreeNext number key) = key
+argument_of (PqInsert number item) = item
+argument_of (PqTake number) = 0
 
 -- the value of a leaf with this reply: the number, 1 for `Yes`, and 0 for every other reply
 abbrev pub value_of : Reply → ℕ

@@ -1,9 +1,9 @@
--- Serving calls one after another, and separating the objects from each other.
+-- Serving calls of one number one after another, and separating the kinds of objects from each other.
 use Rattle.std.specs.Prelude.{ℕ, if◌then◌else◌, List, [], ◌∷◌}
 use Rattle.seq_objects.specs.declared.call.Call.{Call}
 use Rattle.seq_objects.specs.declared.reply.Reply.{Reply}
 use Rattle.seq_objects.specs.Objects.{Objects, opening, after, reply_to}
-use Rattle.seq_objects.specs.Batches.{Object, Counter, Stack, Tree, Queue, object_of, same_object, calls_of}
+use Rattle.seq_objects.specs.Batches.{ObjectKind, Counter, Stack, Tree, Queue, kind_of, same_kind, calls_of}
 
 -- the objects after the calls
 abbrev pub after_all : Objects → List Call → Objects
@@ -32,30 +32,30 @@ abbrev pub of_bag : List ℕ → Objects
 of_bag items = record opening { bag = items }
 
 -- one of the objects alone; the others are as at the opening
-abbrev pub alone : Object → Objects → Objects
+abbrev pub alone : ObjectKind → Objects → Objects
 alone Counter objects = of_counter objects.counter
 alone Stack objects = of_stack objects.stack
 alone Tree objects = of_set objects.set
 alone Queue objects = of_bag objects.bag
 
 -- `objects` with this one object replaced by that of `others`
-abbrev pub with_object : Object → Objects → Objects → Objects
-with_object Counter objects others = record objects { counter = others.counter }
-with_object Stack objects others = record objects { stack = others.stack }
-with_object Tree objects others = record objects { set = others.set }
-with_object Queue objects others = record objects { bag = others.bag }
+abbrev pub with_kind : ObjectKind → Objects → Objects → Objects
+with_kind Counter objects others = record objects { counter = others.counter }
+with_kind Stack objects others = record objects { stack = others.stack }
+with_kind Tree objects others = record objects { set = others.set }
+with_kind Queue objects others = record objects { bag = others.bag }
 
--- the replies at the indices of the calls of one object
-abbrev pub replies_of : Object → List Call → List Reply → List Reply
-replies_of object [] replies = []
-replies_of object (call ∷ calls) [] = []
-replies_of object (call ∷ calls) (reply ∷ replies) =
-    if same_object object (object_of call.op) then reply ∷ replies_of object calls replies
-    else replies_of object calls replies
+-- the replies at the indices of the calls of one kind
+abbrev pub replies_of : ObjectKind → List Call → List Reply → List Reply
+replies_of kind [] replies = []
+replies_of kind (call ∷ calls) [] = []
+replies_of kind (call ∷ calls) (reply ∷ replies) =
+    if same_kind kind (kind_of call.op) then reply ∷ replies_of kind calls replies
+    else replies_of kind calls replies
 
 -- the objects after each has served its own calls alone
-abbrev pub after_by_object : Objects → List Call → Objects
-after_by_object objects calls = record {
+abbrev pub after_by_kind : Objects → List Call → Objects
+after_by_kind objects calls = record {
   counter = (after_all (of_counter objects.counter) (calls_of Counter calls)).counter;
   stack = (after_all (of_stack objects.stack) (calls_of Stack calls)).stack;
   set = (after_all (of_set objects.set) (calls_of Tree calls)).set;

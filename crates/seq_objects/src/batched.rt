@@ -1,7 +1,7 @@
 //! The interface of structures that serve a batch of calls in parallel pieces.
 ghost use Rattle.std.specs.Prelude.{◌≡◌, ℕ, ◌≤◌, List, IfOk, length};
 ghost use Rattle.seq_objects.specs.Objects.{Objects};
-ghost use Rattle.seq_objects.specs.Batches.{AreOneBatch};
+ghost use Rattle.seq_objects.specs.Batches.{AreOneBatch, AreOfOneNumber};
 ghost use Rattle.seq_objects.specs.Serial.{after_all, replies_to_all};
 ghost use Rattle.seq_objects.specs.Pieces.{AllMeet, BatchContext};
 ghost use Rattle.seq_objects.specs.declared.call.Call.{Call as CallOf};
@@ -29,7 +29,7 @@ pub trait Batched: Sized + Drop {
     /// `MOST`, for contracts.
     ghost MOST: { ℕ };
 
-    /// The content as serial objects, where the objects of other structures are as at the opening.
+    /// The content as serial objects, where the objects of other kinds are as at the opening.
     ghost content: { Self → Objects };
 
     /// The calls that the structure can serve with this content: its own, if the content after them is representable.
@@ -44,9 +44,10 @@ pub trait Batched: Sized + Drop {
     /// The kept rest belongs to the batch with this context.
     ghost is_context_of: { Self.Rest → BatchContext Self Self.In → Type 0 };
 
-    /// Cuts a batch into at least 1 and at most `MOST` pieces.
+    /// Cuts a batch of calls on one object into at least 1 and at most `MOST` pieces.
     fn begin(self, alloc: Global, calls: &[Call]) -> Result<(Self::Rest, Vec<Self::In>), AllocError>
         requires batch { AreOneBatch calls.now }
+        requires one { AreOfOneNumber calls.now }
         requires may { may_serve (content self) calls.now }
         ensures count { IfOk result (λ p. (1 ≤ length p.1.items) × (length p.1.items ≤ MOST)) }
         ensures cut { IfOk result (λ p. cut (content self) calls.now p.1.items) }
@@ -77,6 +78,7 @@ pub fn serve_batch<T: Batched>(
     calls: &[Call],
 ) -> Result<(T, Vec<Reply>), AllocError>
     requires batch { AreOneBatch calls.now }
+    requires one { AreOfOneNumber calls.now }
     requires may { T.may_serve (T.content structure) calls.now }
     ensures replies { IfOk result (λ p. p.1.items ≡ replies_to_all (T.content structure) calls.now) }
     ensures content { IfOk result (λ p. T.content p.0 ≡ after_all (T.content structure) calls.now) }

@@ -1,12 +1,14 @@
 //! The laws of the serial objects, each stated as the contract of an empty function.
-ghost use Rattle.std.specs.Prelude.{◌≡◌, ◌↔◌, ℕ, ◌+◌, ◌<◌, Bool, IsTrue, not, ◌&&◌, ◌||◌, ◌==◌, ◌++◌, nat_lt, filter, length, List, Some};
+ghost use Rattle.std.specs.List.{AllByRecursion};
+ghost use Rattle.std.specs.Prelude.{[], ◌≡◌, ◌↔◌, ℕ, ◌+◌, ◌<◌, Bool, IsTrue, not, ◌&&◌, ◌||◌, ◌==◌, ◌++◌, nat_lt, filter, length, List, Some};
 ghost use Rattle.seq_objects.specs.declared.call.Call.{Call};
 ghost use Rattle.seq_objects.specs.declared.op.Op.{Op};
 ghost use Rattle.seq_objects.specs.declared.reply.Reply.{Reply};
-ghost use Rattle.seq_objects.specs.Objects.{Objects, opening, after, has, with_key, without_key, least_above, with_item, least, without_least};
+ghost use Rattle.seq_objects.specs.Objects.{Objects, opening, after, has, with_key, without_key, least_above, with_item, least, without_least, number_of};
 ghost use Rattle.seq_objects.specs.BatchOrder.{class_of};
-ghost use Rattle.seq_objects.specs.Batches.{Object, AreInBatchOrder, AreOneBatch, AreOf, calls_of};
-ghost use Rattle.seq_objects.specs.Serial.{after_all, replies_to_all, alone, with_object, replies_of, after_by_object};
+ghost use Rattle.seq_objects.specs.Batches.{ObjectKind, AreInBatchOrder, AreOneBatch, AreOf, calls_of, calls_at};
+ghost use Rattle.seq_objects.specs.Stores.{Store, opening_store, store_after_all, store_replies, replies_at};
+ghost use Rattle.seq_objects.specs.Serial.{after_all, replies_to_all, alone, with_kind, replies_of, after_by_kind};
 ghost use Rattle.seq_objects.specs.Orders.{StrictlyAscends, Ascends, AreInOrder, IsLeastAbove, copies, one_if, IsLeast};
 
 use crate::act::Act;
@@ -33,30 +35,47 @@ pub fn bag_counts_its_copies()
     ensures least { (bag : List ℕ) → Ascends bag → IsLeast bag (least bag) }
 {}
 
-/// In batch order, the calls of all lower classes stand before the others: pushes before pops, the tree's queries
-/// before its updates, the queue's inserts before its takes.
+/// In batch order, the calls of all lower classes stand before the others: pushes before pops, queries of trees
+/// before their updates, inserts into queues before takes.
 pub fn lower_classes_come_first()
     ensures { (class : ℕ) (calls : List Call) → AreInBatchOrder calls → calls ≡ filter (λ call. nat_lt (class_of call.op) class) calls ++ filter (λ call. not (nat_lt (class_of call.op) class)) calls }
 {}
 
-/// Any non-empty selection of a batch's calls, in their order, is a batch too; `calls_of` selects those of an object.
+/// Any non-empty selection of a batch's calls, in their order, is a batch too; `calls_of` selects those of a kind, and
+/// `calls_at` those of a number.
 pub fn some_calls_of_a_batch_are_a_batch()
     ensures batch { (passes : Call → Bool) (calls : List Call) → AreOneBatch calls → 0 < length (filter passes calls) → AreOneBatch (filter passes calls) }
-    ensures of { (object : Object) (calls : List Call) → AreOf object (calls_of object calls) }
+    ensures of { (kind : ObjectKind) (calls : List Call) → AreOf kind (calls_of kind calls) }
+    ensures at { (number : ℕ) (calls : List Call) → AllByRecursion (λ call. number_of call.op ≡ number) (calls_at number calls) }
 {}
 
-/// Calls of one object leave the other objects unchanged, and their replies do not depend on these.
-pub fn objects_are_apart()
-    ensures replies { (object : Object) (objects : Objects) (calls : List Call) → AreOf object calls → replies_to_all objects calls ≡ replies_to_all (alone object objects) calls }
-    ensures content { (object : Object) (objects : Objects) (calls : List Call) → AreOf object calls → after_all objects calls ≡ with_object object objects (after_all (alone object objects) calls) }
+/// Among the objects of one number, calls of one kind leave the other objects unchanged, and their replies do not
+/// depend on these.
+pub fn kinds_are_apart()
+    ensures replies { (kind : ObjectKind) (objects : Objects) (calls : List Call) → AreOf kind calls → replies_to_all objects calls ≡ replies_to_all (alone kind objects) calls }
+    ensures content { (kind : ObjectKind) (objects : Objects) (calls : List Call) → AreOf kind calls → after_all objects calls ≡ with_kind kind objects (after_all (alone kind objects) calls) }
 {}
 
-/// Calls can be split by object, and each object can serve its own calls alone. The replies to all calls are the only
-/// list that has each object's replies at the places of its calls.
-pub fn each_object_serves_its_own_calls()
-    ensures replies { (object : Object) (objects : Objects) (calls : List Call) → replies_of object calls (replies_to_all objects calls) ≡ replies_to_all (alone object objects) (calls_of object calls) }
-    ensures one { (calls : List Call) (replies others : List Reply) → length replies ≡ length calls → length others ≡ length calls → ((object : Object) → replies_of object calls replies ≡ replies_of object calls others) → replies ≡ others }
-    ensures content { (objects : Objects) (calls : List Call) → after_all objects calls ≡ after_by_object objects calls }
+/// Calls of one number can be split by kind, and each kind can serve its own calls alone. The replies to all calls are
+/// the only list that has each kind's replies at the places of its calls.
+pub fn each_kind_serves_its_own_calls()
+    ensures replies { (kind : ObjectKind) (objects : Objects) (calls : List Call) → replies_of kind calls (replies_to_all objects calls) ≡ replies_to_all (alone kind objects) (calls_of kind calls) }
+    ensures one { (calls : List Call) (replies others : List Reply) → length replies ≡ length calls → length others ≡ length calls → ((kind : ObjectKind) → replies_of kind calls replies ≡ replies_of kind calls others) → replies ≡ others }
+    ensures content { (objects : Objects) (calls : List Call) → after_all objects calls ≡ after_by_kind objects calls }
+{}
+
+/// Calls can be split by the numbers of their objects, and the objects of each number can serve its calls alone. The
+/// replies to all calls are the only list that has each number's replies at the places of its calls.
+pub fn each_number_serves_its_own_calls()
+    ensures replies { (number : ℕ) (store : Store) (calls : List Call) → replies_at number calls (store_replies store calls) ≡ replies_to_all (store number) (calls_at number calls) }
+    ensures one { (calls : List Call) (replies others : List Reply) → length replies ≡ length calls → length others ≡ length calls → ((number : ℕ) → replies_at number calls replies ≡ replies_at number calls others) → replies ≡ others }
+    ensures content { (number : ℕ) (store : Store) (calls : List Call) → store_after_all store calls number ≡ after_all (store number) (calls_at number calls) }
+{}
+
+/// Calls leave the objects of all other numbers as they are, so all but finitely many are as at the opening.
+pub fn most_numbers_are_opening()
+    ensures others { (number : ℕ) (store : Store) (calls : List Call) → calls_at number calls ≡ [] → store_after_all store calls number ≡ store number }
+    ensures finite { (calls : List Call) → (most : ℕ) × ((number : ℕ) → most < number → store_after_all opening_store calls number ≡ opening) }
 {}
 
 /// `==` on operations, replies and acts decides mathematical equality.

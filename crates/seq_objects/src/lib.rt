@@ -17,6 +17,7 @@ pub mod laws;
 pub mod op;
 pub mod plain;
 pub mod reply;
+mod slot;
 pub mod work;
 
 pub use act::Act;

@@ -1,47 +1,58 @@
 //! The operations on the shared objects.
+ghost use Rattle.std.specs.Prelude.{◌≡◌, ◌↔◌, IsTrue};
+ghost use Rattle.seq_objects.specs.Objects.{number_of};
+ghost use Rattle.seq_objects.specs.Code.Inserting.{InsertsNothing};
 
-use std::fmt;
-
-/// An operation on one of the shared objects.
+/// An operation on one of the shared objects: the number of the object among those of its kind, and an argument.
 #[derive(Clone, Copy, PartialEq, Eq)]
 pub enum Op {
-    /// Adds a number to the counter, and replies with the new sum.
-    CounterAdd(u32),
-    /// Pushes a number on the stack.
-    Push(u32),
-    /// Pops the top of the stack, and replies with it, or `Empty` if there is none.
-    Pop,
-    /// Inserts a key into the tree, and replies whether it was new.
-    TreeInsert(u32),
-    /// Removes a key from the tree, and replies whether it was there.
-    TreeRemove(u32),
-    /// Replies whether the tree has a key.
-    TreeFind(u32),
-    /// Replies with the least key of the tree that is strictly greater than a number, or `Empty` if there is none.
-    TreeNext(u32),
-    /// Inserts a number into the priority queue, which may hold several copies of it.
-    PqInsert(u32),
-    /// Removes one copy of the queue's least number, and replies with it, or `Empty` if there is none.
-    PqTake,
+    /// Adds a number to a counter, and replies with the new sum.
+    CounterAdd(u32, u32),
+    /// Pushes a number on a stack.
+    Push(u32, u32),
+    /// Pops the top of a stack, and replies with it, or `Empty` if there is none.
+    Pop(u32),
+    /// Inserts a key into a tree, and replies whether it was new.
+    TreeInsert(u32, u32),
+    /// Removes a key from a tree, and replies whether it was there.
+    TreeRemove(u32, u32),
+    /// Replies whether a tree has a key.
+    TreeFind(u32, u32),
+    /// Replies with the least key of a tree that is strictly greater than a number, or `Empty` if there is none.
+    TreeNext(u32, u32),
+    /// Inserts a number into a priority queue, which may hold several copies of it.
+    PqInsert(u32, u32),
+    /// Removes one copy of a queue's least number, and replies with it, or `Empty` if there is none.
+    PqTake(u32),
 }
 
-impl fmt::Display for Op {
-    ghost use Rattle.std.specs.Prelude.{Some};
-    ghost use Rattle.seq_objects.specs.Words.{op_words};
-
-    ghost output = { λ op. Some (op_words op) };
-
-    fn fmt<W: fmt::Write>(&self, f: &mut fmt::Formatter<W>) -> fmt::Result {
+impl Op {
+    /// The number of its object among those of its kind.
+    ///
+    /// Memory: none.
+    pub fn number(self) -> u32
+        ensures { result ≡ number_of self }
+    {
         match self {
-            Op::CounterAdd(addend) => write!(f, "counter add {addend}"),
-            Op::Push(item) => write!(f, "stack push {item}"),
-            Op::Pop => write!(f, "stack pop"),
-            Op::TreeInsert(key) => write!(f, "tree insert {key}"),
-            Op::TreeRemove(key) => write!(f, "tree remove {key}"),
-            Op::TreeFind(key) => write!(f, "tree find {key}"),
-            Op::TreeNext(key) => write!(f, "tree next {key}"),
-            Op::PqInsert(item) => write!(f, "queue insert {item}"),
-            Op::PqTake => write!(f, "queue take"),
+            Op::CounterAdd(number, _)
+            | Op::Push(number, _)
+            | Op::Pop(number)
+            | Op::TreeInsert(number, _)
+            | Op::TreeRemove(number, _)
+            | Op::TreeFind(number, _)
+            | Op::TreeNext(number, _)
+            | Op::PqInsert(number, _)
+            | Op::PqTake(number) => number,
         }
+    }
+
+    /// Whether objects at the opening stay as they are.
+    pub(crate) fn inserts_nothing(self) -> bool
+        ensures { IsTrue result ↔ InsertsNothing self }
+    {
+        !matches!(
+            self,
+            Op::CounterAdd(..) | Op::Push(..) | Op::TreeInsert(..) | Op::PqInsert(..)
+        )
     }
 }

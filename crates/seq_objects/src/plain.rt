@@ -1,87 +1,60 @@
 //! The sequential implementation of the shared objects.
 ghost use Rattle.std.specs.Prelude.{◌≡◌, IfOk, OnOk, OnErr, IsOk};
-ghost use Rattle.seq_objects.specs.Objects.{opening, after, reply_to, CanServe, TakesNoMemory, least_above};
+ghost use Rattle.seq_objects.specs.Stores.{opening_store, store_after, store_reply, StoreCanServe, TakesNoMemory};
+ghost use Rattle.seq_objects.specs.Kept.{store_in};
 
-use crate::bag::Bag;
 use crate::op::Op;
 use crate::reply::Reply;
+use crate::slot::Slot;
 use std::alloc::{AllocError, Global};
-use std::collections::BTreeSet;
-use std::marker::Model;
-use std::ops::Bound;
+use std::collections::BTreeMap;
 
-/// All shared objects, which serve one operation at a time. Contracts see them as `Objects`.
+/// All shared objects, which serve one operation at a time. Contracts see them as a `Store`, by `store_in`. The objects
+/// of a number above 0 are kept from the first operation on that may change them.
 #[derive(Drop)]
 pub struct Plain {
-    counter: u64,
-    stack: Vec<u32>,
-    tree: BTreeSet<u32>,
-    queue: Bag,
-}
-
-impl Model for Plain {
-    ghost use Rattle.seq_objects.specs.Objects.{Objects};
-
-    ghost Value = { Objects };
-
-    ghost view = { λ p. record { counter = p.counter; stack = p.stack.items; set = p.tree.keys; bag = p.queue } };
+    alloc: Global,
+    first: Slot,
+    others: BTreeMap<u32, Slot>,
 }
 
 impl Plain {
-    /// The objects at the opening: the counter is 0, and the others are empty.
+    /// The objects at the opening: the counters are 0, and the others are empty.
     ///
     /// Memory: none.
     pub fn new(alloc: Global) -> Plain
-        ensures { result ≡ opening }
+        ensures { store_in result ≡ opening_store }
     {
         Plain {
-            counter: 0,
-            stack: Vec::new(alloc),
-            tree: BTreeSet::new(alloc),
-            queue: Bag::new(alloc),
+            alloc,
+            first: Slot::new(alloc),
+            others: BTreeMap::new(alloc),
         }
     }
 
     /// Serves one operation.
     ///
-    /// Memory: only `Push`, `TreeInsert` and `PqInsert` allocate.
-    #[tactic(auto, using(crate::proofs::Keys::same_has, crate::proofs::Keys::same_with_key, crate::proofs::Keys::same_without_key))]
+    /// Memory: `Push`, `TreeInsert` and `PqInsert` allocate, and so does a `CounterAdd` on a counter with a number above
+    /// 0 that is 0.
     pub fn serve(&mut self, op: Op) -> Result<Reply, AllocError>
-        requires { CanServe self.old op }
-        ensures reply { IfOk result (λ reply. reply ≡ reply_to self.old op) }
-        ensures after { OnOk result (self.new ≡ after self.old op) }
-        ensures err { OnErr result (self.new ≡ self.old) }
-        ensures sure { TakesNoMemory op → IsOk result }
+        requires { StoreCanServe (store_in self.old) op }
+        ensures reply { IfOk result (λ reply. reply ≡ store_reply (store_in self.old) op) }
+        ensures after { OnOk result (store_in self.new ≡ store_after (store_in self.old) op) }
+        ensures err { OnErr result (store_in self.new ≡ store_in self.old) }
+        ensures sure { TakesNoMemory (store_in self.old) op → IsOk result }
     {
-        let reply = match op {
-            Op::CounterAdd(addend) => {
-                self.counter += u64::from(addend);
-                Reply::Number(self.counter)
-            }
-            Op::Push(item) => {
-                self.stack.push(item)?;
-                Reply::Unit
-            }
-            Op::Pop => Reply::number_or_empty(self.stack.pop()),
-            Op::TreeInsert(key) => Reply::yes_or_no(self.tree.insert(key)?),
-            Op::TreeRemove(key) => Reply::yes_or_no(self.tree.remove(&key)),
-            Op::TreeFind(key) => Reply::yes_or_no(self.tree.contains(&key)),
-            Op::TreeNext(key) => Reply::number_or_empty(next_key(&self.tree, key)),
-            Op::PqInsert(item) => {
-                self.queue.insert(item)?;
-                Reply::Unit
-            }
-            Op::PqTake => Reply::number_or_empty(self.queue.take_least()),
-        };
+        let number = op.number();
+        if number == 0 {
+            return self.first.serve(op);
+        }
+        if let Some(objects) = self.others.get_mut(&number) {
+            return objects.serve(op);
+        }
+        let mut objects = Slot::new(self.alloc);
+        let reply = objects.serve(op)?;
+        if !op.inserts_nothing() {
+            self.others.insert(number, objects)?;
+        }
         Ok(reply)
     }
-}
-
-/// The least element of `keys` that is strictly greater than `key`.
-#[tactic(auto, using(crate::proofs::Keys::first_above))]
-fn next_key(keys: &BTreeSet<u32>, key: u32) -> Option<u32>
-    ensures { result ≡ least_above key keys.now.keys }
-{
-    let mut greater = keys.range((Bound::Excluded(key), Bound::Unbounded));
-    greater.next().copied()
 }

@@ -1,5 +1,5 @@
-use Rattle.seq_objects.proofs.Apart.{own_replies, same_replies, each_content}
-use Rattle.seq_objects.proofs.laws.each_object_serves_its_own_calls.Goals as goal
+use Rattle.seq_objects.proofs.Numbers.{own_replies, same_replies, own_content}
+use Rattle.seq_objects.proofs.laws.each_number_serves_its_own_calls.Goals as goal
 
 pub returns-clause-replies : goal.returns-clause-replies
 returns-clause-replies c = own_replies
@@ -8,4 +8,4 @@ pub returns-clause-one : goal.returns-clause-one
 returns-clause-one c = same_replies
 
 pub returns-clause-content : goal.returns-clause-content
-returns-clause-content c = each_content
+returns-clause-content c = own_content

@@ -1,5 +1,5 @@
 use Rattle.seq_objects.proofs.Apart.{replies_alone, content_alone}
-use Rattle.seq_objects.proofs.laws.objects_are_apart.Goals as goal
+use Rattle.seq_objects.proofs.laws.kinds_are_apart.Goals as goal
 
 pub returns-clause-replies : goal.returns-clause-replies
 returns-clause-replies c = replies_alone

@@ -9,7 +9,7 @@ use Rattle.batched_counter.specs.Sums.{total}
 
 -- the addend of an operation; 0 for one that is no addition
 abbrev pub addend_of : Op → ℕ
-addend_of (CounterAdd addend) = addend
+addend_of (CounterAdd number addend) = addend
 addend_of _ = 0
 
 -- the addends of the calls, in call order

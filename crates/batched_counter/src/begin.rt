@@ -13,7 +13,7 @@ fn addend_of(op: Op) -> u32
     ensures { result ≡ addend_of op }
 {
     match op {
-        Op::CounterAdd(addend) => addend,
+        Op::CounterAdd(_, addend) => addend,
         _ => 0,
     }
 }

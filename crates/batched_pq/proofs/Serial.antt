@@ -7,47 +7,47 @@ use Rattle.seq_objects.specs.declared.call.Call.{Call}
 use Rattle.seq_objects.specs.declared.reply.Reply.TheVariants.{Unit as Done}
 use Rattle.seq_objects.specs.Objects.{with_item, least, without_least, number_or_empty}
 use Rattle.seq_objects.specs.BatchOrder.{ComesFirst}
-use Rattle.seq_objects.specs.Batches.{AreInBatchOrder, AreOf, object_of, Queue}
+use Rattle.seq_objects.specs.Batches.{AreInBatchOrder, AreOf, kind_of, Queue}
 use Rattle.seq_objects.specs.Serial.{of_bag, after_all, replies_to_all}
 use Rattle.batched_pq.specs.Code.Bags.{with_items}
 use Rattle.batched_pq.specs.Calls.{item_of, inserts_of, takes_of}
 use Rattle.batched_pq.specs.Code.End.{take_replies, after_takes, insert_replies}
 
 -- in batch order, no insert follows a take
-not_before : (op : Op) (worker worker' : ℕ) → object_of op ≡ Queue
-    → ComesFirst PqTake worker op worker' → item_of op ≡ None
-not_before (CounterAdd a) worker worker' is first = absurd cc
-not_before (Push a) worker worker' is first = absurd cc
-not_before Pop worker worker' is first = absurd cc
-not_before (TreeInsert a) worker worker' is first = absurd cc
-not_before (TreeRemove a) worker worker' is first = absurd cc
-not_before (TreeFind a) worker worker' is first = absurd cc
-not_before (TreeNext a) worker worker' is first = absurd cc
-not_before (PqInsert a) worker worker' is first = absurd (elim first [ inl less ↦ omega (arith, less) | inr same ↦ omega (arith, same.0) ])
-not_before PqTake worker worker' is first = refl
+not_before : (taken : ℕ) (op : Op) (worker worker' : ℕ) → kind_of op ≡ Queue
+    → ComesFirst (PqTake taken) worker op worker' → item_of op ≡ None
+not_before taken (CounterAdd number a) worker worker' is first = absurd cc
+not_before taken (Push number a) worker worker' is first = absurd cc
+not_before taken (Pop number) worker worker' is first = absurd cc
+not_before taken (TreeInsert number a) worker worker' is first = absurd cc
+not_before taken (TreeRemove number a) worker worker' is first = absurd cc
+not_before taken (TreeFind number a) worker worker' is first = absurd cc
+not_before taken (TreeNext number a) worker worker' is first = absurd cc
+not_before taken (PqInsert number a) worker worker' is first = absurd (elim first [ inl less ↦ omega (arith, less) | inr same ↦ omega (arith, same.0) ])
+not_before taken (PqTake number) worker worker' is first = refl
 
-no_inserts : (worker : ℕ) (calls : List Call) → AreOf Queue calls
-    → AllByRecursion (λ call. ComesFirst PqTake worker call.op call.worker) calls
+no_inserts : (taken worker : ℕ) (calls : List Call) → AreOf Queue calls
+    → AllByRecursion (λ call. ComesFirst (PqTake taken) worker call.op call.worker) calls
     → inserts_of calls ≡ []
-no_inserts worker [] is first = refl
-no_inserts worker (call ∷ calls) is first = rw (not_before call.op worker call.worker is.0 first.0) (no_inserts worker calls is.1 first.1)
+no_inserts taken worker [] is first = refl
+no_inserts taken worker (call ∷ calls) is first = rw (not_before taken call.op worker call.worker is.0 first.0) (no_inserts taken worker calls is.1 first.1)
 
 abbrev Replied : List ℕ → List Call → Type 0
 Replied bag calls = replies_to_all (of_bag bag) calls ≡ insert_replies (length (inserts_of calls)) ++ take_replies (takes_of calls) (with_items (inserts_of calls) bag)
 
-replied_step : (bag : List ℕ) (op : Op) (worker leaf : ℕ) (calls : List Call) → object_of op ≡ Queue → AreOf Queue calls → AllByRecursion (λ call. ComesFirst op worker call.op call.worker) calls → ((bag' : List ℕ) → Replied bag' calls) → Replied bag (record { worker = worker; leaf = leaf; op = op } ∷ calls)
-replied_step bag (CounterAdd a) worker leaf calls is all first ih = absurd cc
-replied_step bag (Push a) worker leaf calls is all first ih = absurd cc
-replied_step bag Pop worker leaf calls is all first ih = absurd cc
-replied_step bag (TreeInsert a) worker leaf calls is all first ih = absurd cc
-replied_step bag (TreeRemove a) worker leaf calls is all first ih = absurd cc
-replied_step bag (TreeFind a) worker leaf calls is all first ih = absurd cc
-replied_step bag (TreeNext a) worker leaf calls is all first ih = absurd cc
-replied_step bag (PqInsert a) worker leaf calls is all first ih =
+replied_step : (bag : List ℕ) (op : Op) (worker leaf : ℕ) (calls : List Call) → kind_of op ≡ Queue → AreOf Queue calls → AllByRecursion (λ call. ComesFirst op worker call.op call.worker) calls → ((bag' : List ℕ) → Replied bag' calls) → Replied bag (record { worker = worker; leaf = leaf; op = op } ∷ calls)
+replied_step bag (CounterAdd number a) worker leaf calls is all first ih = absurd cc
+replied_step bag (Push number a) worker leaf calls is all first ih = absurd cc
+replied_step bag (Pop number) worker leaf calls is all first ih = absurd cc
+replied_step bag (TreeInsert number a) worker leaf calls is all first ih = absurd cc
+replied_step bag (TreeRemove number a) worker leaf calls is all first ih = absurd cc
+replied_step bag (TreeFind number a) worker leaf calls is all first ih = absurd cc
+replied_step bag (TreeNext number a) worker leaf calls is all first ih = absurd cc
+replied_step bag (PqInsert number a) worker leaf calls is all first ih =
     let same : 0 + takes_of calls ≡ takes_of calls = omega arith in
     rw same (ap (λ replies. Done ∷ replies) (ih (with_item a bag)))
-replied_step bag PqTake worker leaf calls is all first ih =
-    let none = no_inserts worker calls all first in
+replied_step bag (PqTake number) worker leaf calls is all first ih =
+    let none = no_inserts number worker calls all first in
     let rest = rw none at (ih (without_least bag)) in
     let one : 1 + takes_of calls ≡ suc (takes_of calls) = omega arith in
     rw (none, one) (ap (λ replies. number_or_empty (least bag) ∷ replies) rest)
@@ -60,19 +60,19 @@ serial_replies bag (call ∷ calls) is order = replied_step bag call.op call.wor
 abbrev Served : List ℕ → List Call → Type 0
 Served bag calls = after_all (of_bag bag) calls ≡ of_bag (after_takes (takes_of calls) (with_items (inserts_of calls) bag))
 
-served_step : (bag : List ℕ) (op : Op) (worker leaf : ℕ) (calls : List Call) → object_of op ≡ Queue → AreOf Queue calls → AllByRecursion (λ call. ComesFirst op worker call.op call.worker) calls → ((bag' : List ℕ) → Served bag' calls) → Served bag (record { worker = worker; leaf = leaf; op = op } ∷ calls)
-served_step bag (CounterAdd a) worker leaf calls is all first ih = absurd cc
-served_step bag (Push a) worker leaf calls is all first ih = absurd cc
-served_step bag Pop worker leaf calls is all first ih = absurd cc
-served_step bag (TreeInsert a) worker leaf calls is all first ih = absurd cc
-served_step bag (TreeRemove a) worker leaf calls is all first ih = absurd cc
-served_step bag (TreeFind a) worker leaf calls is all first ih = absurd cc
-served_step bag (TreeNext a) worker leaf calls is all first ih = absurd cc
-served_step bag (PqInsert a) worker leaf calls is all first ih =
+served_step : (bag : List ℕ) (op : Op) (worker leaf : ℕ) (calls : List Call) → kind_of op ≡ Queue → AreOf Queue calls → AllByRecursion (λ call. ComesFirst op worker call.op call.worker) calls → ((bag' : List ℕ) → Served bag' calls) → Served bag (record { worker = worker; leaf = leaf; op = op } ∷ calls)
+served_step bag (CounterAdd number a) worker leaf calls is all first ih = absurd cc
+served_step bag (Push number a) worker leaf calls is all first ih = absurd cc
+served_step bag (Pop number) worker leaf calls is all first ih = absurd cc
+served_step bag (TreeInsert number a) worker leaf calls is all first ih = absurd cc
+served_step bag (TreeRemove number a) worker leaf calls is all first ih = absurd cc
+served_step bag (TreeFind number a) worker leaf calls is all first ih = absurd cc
+served_step bag (TreeNext number a) worker leaf calls is all first ih = absurd cc
+served_step bag (PqInsert number a) worker leaf calls is all first ih =
     let same : 0 + takes_of calls ≡ takes_of calls = omega arith in
     rw same (ih (with_item a bag))
-served_step bag PqTake worker leaf calls is all first ih =
-    let none = no_inserts worker calls all first in
+served_step bag (PqTake number) worker leaf calls is all first ih =
+    let none = no_inserts number worker calls all first in
     let rest = rw none at (ih (without_least bag)) in
     let one : 1 + takes_of calls ≡ suc (takes_of calls) = omega arith in
     rw (none, one) rest

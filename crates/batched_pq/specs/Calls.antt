@@ -9,12 +9,12 @@ use Rattle.seq_objects.specs.Batches.{AreOf, Queue}
 
 -- the item that an operation inserts, if it is an insert
 abbrev pub item_of : Op → Option ℕ
-item_of (PqInsert item) = Some item
+item_of (PqInsert number item) = Some item
 item_of _ = None
 
 -- 1 for a take, 0 for any other operation
 abbrev pub takes_in : Op → ℕ
-takes_in PqTake = 1
+takes_in (PqTake number) = 1
 takes_in _ = 0
 
 -- the item, if there is one, in front of the list

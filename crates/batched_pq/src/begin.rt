@@ -13,7 +13,7 @@ fn item_of(op: Op) -> Option<u32>
     ensures { result ≡ item_of op }
 {
     match op {
-        Op::PqInsert(item) => Some(item),
+        Op::PqInsert(_, item) => Some(item),
         _ => None,
     }
 }
@@ -24,7 +24,7 @@ fn takes_in(op: Op) -> usize
     ensures small { result ≤ 1 }
 {
     match op {
-        Op::PqTake => 1,
+        Op::PqTake(_) => 1,
         _ => 0,
     }
 }

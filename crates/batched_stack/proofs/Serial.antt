@@ -10,7 +10,7 @@ use Rattle.seq_objects.specs.declared.reply.Reply.{Reply}
 use Rattle.seq_objects.specs.declared.reply.Reply.TheVariants as reply
 use Rattle.seq_objects.specs.Objects.{top, without_top, number_or_empty}
 use Rattle.seq_objects.specs.BatchOrder.{ComesFirst}
-use Rattle.seq_objects.specs.Batches.{AreInBatchOrder, AreOf, object_of, Stack}
+use Rattle.seq_objects.specs.Batches.{AreInBatchOrder, AreOf, kind_of, Stack}
 use Rattle.seq_objects.specs.Serial.{replies_to_all, after_all, of_stack}
 use Rattle.batched_stack.specs.Calls.{pushes_of, pops_of}
 
@@ -23,23 +23,24 @@ abbrev pub popped_off : List ℕ → ℕ → List ℕ
 popped_off items zero = items
 popped_off items (suc pops) = popped_off (without_top items) pops
 
-push_is_no_later : (op : Op) (worker later : ℕ) (calls : List Call) → ComesFirst Pop worker op later → object_of op ≡ Stack → pushes_of calls ≡ [] → pushes_of (record { worker = later; leaf = 0; op = op } ∷ calls) ≡ []
-push_is_no_later (Push item) worker later calls first is none = elim first [ inl less ↦ absurd (omega (arith, less)) | inr same ↦ absurd (omega (arith, same.0)) ]
-push_is_no_later Pop worker later calls first is none = none
-push_is_no_later (CounterAdd a) worker later calls first is none = absurd cc
-push_is_no_later (TreeInsert a) worker later calls first is none = absurd cc
-push_is_no_later (TreeRemove a) worker later calls first is none = absurd cc
-push_is_no_later (TreeFind a) worker later calls first is none = absurd cc
-push_is_no_later (TreeNext a) worker later calls first is none = absurd cc
-push_is_no_later (PqInsert a) worker later calls first is none = absurd cc
-push_is_no_later PqTake worker later calls first is none = absurd cc
+push_is_no_later : (popped : ℕ) (op : Op) (worker later : ℕ) (calls : List Call) → ComesFirst (Pop popped) worker op later → kind_of op ≡ Stack → pushes_of calls ≡ [] → pushes_of (record { worker = later; leaf = 0; op = op } ∷ calls) ≡ []
+push_is_no_later popped (Push number item) worker later calls first is none = elim first [ inl less ↦ absurd (omega (arith, less)) | inr same ↦ absurd (omega (arith, same.0)) ]
+push_is_no_later popped (Pop number) worker later calls first is none = none
+push_is_no_later popped (CounterAdd number a) worker later calls first is none = absurd cc
+push_is_no_later popped (TreeInsert number a) worker later calls first is none = absurd cc
+push_is_no_later popped (TreeRemove number a) worker later calls first is none = absurd cc
+push_is_no_later popped (TreeFind number a) worker later calls first is none = absurd cc
+push_is_no_later popped (TreeNext number a) worker later calls first is none = absurd cc
+push_is_no_later popped (PqInsert number a) worker later calls first is none = absurd cc
+push_is_no_later popped (PqTake number) worker later calls first is none = absurd cc
 
 -- no push comes after a pop
-no_push_later : (worker : ℕ) (calls : List Call)
-    → AllByRecursion (λ later. ComesFirst Pop worker later.op later.worker) calls
+no_push_later : (popped worker : ℕ) (calls : List Call)
+    → AllByRecursion (λ later. ComesFirst (Pop popped) worker later.op later.worker) calls
     → AreOf Stack calls → pushes_of calls ≡ []
-no_push_later worker [] first is = refl
-no_push_later worker (call ∷ calls) first is = push_is_no_later call.op worker call.worker calls first.0 is.0 (no_push_later worker calls first.1 is.1)
+no_push_later popped worker [] first is = refl
+no_push_later popped worker (call ∷ calls) first is =
+    push_is_no_later popped call.op worker call.worker calls first.0 is.0 (no_push_later popped worker calls first.1 is.1)
 
 pop_reply : (items puts : List ℕ) (pops : ℕ) → puts ≡ []
     → number_or_empty (top items) ∷ (replicate (length puts) reply.Unit ++ pop_replies (without_top items ++ puts) pops) ≡ replicate (length puts) reply.Unit ++ pop_replies (items ++ puts) (1 + pops)
@@ -53,16 +54,16 @@ pop_leaves items puts pops none =
     let on : 1 + pops ≡ suc pops = omega arith in
     rw on (subst (λ (q : List ℕ). popped_off (without_top items ++ q) pops ≡ popped_off (items ++ q) (suc pops)) (sym none) (rw (append-nil items, append-nil (without_top items)) refl))
 
-replies_step : (items : List ℕ) (op : Op) (worker leaf : ℕ) (calls : List Call) → object_of op ≡ Stack → AllByRecursion (λ later. ComesFirst op worker later.op later.worker) calls → AreOf Stack calls → ((xs : List ℕ) → replies_to_all (of_stack xs) calls ≡ replicate (length (pushes_of calls)) reply.Unit ++ pop_replies (xs ++ pushes_of calls) (pops_of calls)) → replies_to_all (of_stack items) (record { worker = worker; leaf = leaf; op = op } ∷ calls) ≡ replicate (length (pushes_of (record { worker = worker; leaf = leaf; op = op } ∷ calls))) reply.Unit ++ pop_replies (items ++ pushes_of (record { worker = worker; leaf = leaf; op = op } ∷ calls)) (pops_of (record { worker = worker; leaf = leaf; op = op } ∷ calls))
-replies_step items (Push item) worker leaf calls is first of later = let none : 0 + pops_of calls ≡ pops_of calls = omega arith in rw none (ap (λ rs. reply.Unit ∷ rs) (later (items ++ item ∷ []) ∙ ap (λ xs. replicate (length (pushes_of calls)) reply.Unit ++ pop_replies xs (pops_of calls)) (append_assoc items (item ∷ []) (pushes_of calls))))
-replies_step items Pop worker leaf calls is first of later = ap (λ rs. number_or_empty (top items) ∷ rs) (later (without_top items)) ∙ pop_reply items (pushes_of calls) (pops_of calls) (no_push_later worker calls first of)
-replies_step items (CounterAdd a) worker leaf calls is first of later = absurd cc
-replies_step items (TreeInsert a) worker leaf calls is first of later = absurd cc
-replies_step items (TreeRemove a) worker leaf calls is first of later = absurd cc
-replies_step items (TreeFind a) worker leaf calls is first of later = absurd cc
-replies_step items (TreeNext a) worker leaf calls is first of later = absurd cc
-replies_step items (PqInsert a) worker leaf calls is first of later = absurd cc
-replies_step items PqTake worker leaf calls is first of later = absurd cc
+replies_step : (items : List ℕ) (op : Op) (worker leaf : ℕ) (calls : List Call) → kind_of op ≡ Stack → AllByRecursion (λ later. ComesFirst op worker later.op later.worker) calls → AreOf Stack calls → ((xs : List ℕ) → replies_to_all (of_stack xs) calls ≡ replicate (length (pushes_of calls)) reply.Unit ++ pop_replies (xs ++ pushes_of calls) (pops_of calls)) → replies_to_all (of_stack items) (record { worker = worker; leaf = leaf; op = op } ∷ calls) ≡ replicate (length (pushes_of (record { worker = worker; leaf = leaf; op = op } ∷ calls))) reply.Unit ++ pop_replies (items ++ pushes_of (record { worker = worker; leaf = leaf; op = op } ∷ calls)) (pops_of (record { worker = worker; leaf = leaf; op = op } ∷ calls))
+replies_step items (Push number item) worker leaf calls is first of later = let none : 0 + pops_of calls ≡ pops_of calls = omega arith in rw none (ap (λ rs. reply.Unit ∷ rs) (later (items ++ item ∷ []) ∙ ap (λ xs. replicate (length (pushes_of calls)) reply.Unit ++ pop_replies xs (pops_of calls)) (append_assoc items (item ∷ []) (pushes_of calls))))
+replies_step items (Pop number) worker leaf calls is first of later = ap (λ rs. number_or_empty (top items) ∷ rs) (later (without_top items)) ∙ pop_reply items (pushes_of calls) (pops_of calls) (no_push_later number worker calls first of)
+replies_step items (CounterAdd number a) worker leaf calls is first of later = absurd cc
+replies_step items (TreeInsert number a) worker leaf calls is first of later = absurd cc
+replies_step items (TreeRemove number a) worker leaf calls is first of later = absurd cc
+replies_step items (TreeFind number a) worker leaf calls is first of later = absurd cc
+replies_step items (TreeNext number a) worker leaf calls is first of later = absurd cc
+replies_step items (PqInsert number a) worker leaf calls is first of later = absurd cc
+replies_step items (PqTake number) worker leaf calls is first of later = absurd cc
 
 -- the replies to a batch: done for each push, and then those to the pops
 pub serial_replies : (items : List ℕ) (calls : List Call) → AreOf Stack calls
@@ -71,16 +72,16 @@ pub serial_replies : (items : List ℕ) (calls : List Call) → AreOf Stack call
 serial_replies items [] of order = refl
 serial_replies items (call ∷ calls) of order = replies_step items call.op call.worker call.leaf calls of.0 order.0 of.1 (λ xs. serial_replies xs calls of.1 order.1)
 
-after_step : (items : List ℕ) (op : Op) (worker leaf : ℕ) (calls : List Call) → object_of op ≡ Stack → AllByRecursion (λ later. ComesFirst op worker later.op later.worker) calls → AreOf Stack calls → ((xs : List ℕ) → after_all (of_stack xs) calls ≡ of_stack (popped_off (xs ++ pushes_of calls) (pops_of calls))) → after_all (of_stack items) (record { worker = worker; leaf = leaf; op = op } ∷ calls) ≡ of_stack (popped_off (items ++ pushes_of (record { worker = worker; leaf = leaf; op = op } ∷ calls)) (pops_of (record { worker = worker; leaf = leaf; op = op } ∷ calls)))
-after_step items (Push item) worker leaf calls is first of later = let none : 0 + pops_of calls ≡ pops_of calls = omega arith in rw none (later (items ++ item ∷ []) ∙ ap (λ xs. of_stack (popped_off xs (pops_of calls))) (append_assoc items (item ∷ []) (pushes_of calls)))
-after_step items Pop worker leaf calls is first of later = later (without_top items) ∙ ap of_stack (pop_leaves items (pushes_of calls) (pops_of calls) (no_push_later worker calls first of))
-after_step items (CounterAdd a) worker leaf calls is first of later = absurd cc
-after_step items (TreeInsert a) worker leaf calls is first of later = absurd cc
-after_step items (TreeRemove a) worker leaf calls is first of later = absurd cc
-after_step items (TreeFind a) worker leaf calls is first of later = absurd cc
-after_step items (TreeNext a) worker leaf calls is first of later = absurd cc
-after_step items (PqInsert a) worker leaf calls is first of later = absurd cc
-after_step items PqTake worker leaf calls is first of later = absurd cc
+after_step : (items : List ℕ) (op : Op) (worker leaf : ℕ) (calls : List Call) → kind_of op ≡ Stack → AllByRecursion (λ later. ComesFirst op worker later.op later.worker) calls → AreOf Stack calls → ((xs : List ℕ) → after_all (of_stack xs) calls ≡ of_stack (popped_off (xs ++ pushes_of calls) (pops_of calls))) → after_all (of_stack items) (record { worker = worker; leaf = leaf; op = op } ∷ calls) ≡ of_stack (popped_off (items ++ pushes_of (record { worker = worker; leaf = leaf; op = op } ∷ calls)) (pops_of (record { worker = worker; leaf = leaf; op = op } ∷ calls)))
+after_step items (Push number item) worker leaf calls is first of later = let none : 0 + pops_of calls ≡ pops_of calls = omega arith in rw none (later (items ++ item ∷ []) ∙ ap (λ xs. of_stack (popped_off xs (pops_of calls))) (append_assoc items (item ∷ []) (pushes_of calls)))
+after_step items (Pop number) worker leaf calls is first of later = later (without_top items) ∙ ap of_stack (pop_leaves items (pushes_of calls) (pops_of calls) (no_push_later number worker calls first of))
+after_step items (CounterAdd number a) worker leaf calls is first of later = absurd cc
+after_step items (TreeInsert number a) worker leaf calls is first of later = absurd cc
+after_step items (TreeRemove number a) worker leaf calls is first of later = absurd cc
+after_step items (TreeFind number a) worker leaf calls is first of later = absurd cc
+after_step items (TreeNext number a) worker leaf calls is first of later = absurd cc
+after_step items (PqInsert number a) worker leaf calls is first of later = absurd cc
+after_step items (PqTake number) worker leaf calls is first of later = absurd cc
 
 serial_off : (items : List ℕ) (calls : List Call) → AreOf Stack calls → AreInBatchOrder calls
     → after_all (of_stack items) calls ≡ of_stack (popped_off (items ++ pushes_of calls) (pops_of calls))

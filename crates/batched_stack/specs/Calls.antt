@@ -8,12 +8,12 @@ use Rattle.seq_objects.specs.Batches.{AreOf, Stack}
 
 -- the item that an operation pushes, as a list; empty where it is no push
 abbrev pub pushes_in : Op → List ℕ
-pushes_in (Push item) = item ∷ []
+pushes_in (Push number item) = item ∷ []
 pushes_in _ = []
 
 -- 1 for a pop, 0 for any other operation
 abbrev pub pops_in : Op → ℕ
-pops_in Pop = 1
+pops_in (Pop number) = 1
 pops_in _ = 0
 
 -- the pushed items, in call order

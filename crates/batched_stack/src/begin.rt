@@ -21,7 +21,7 @@ fn item_in(op: Op) -> Option<u32>
     ensures { option_to_list result ≡ pushes_in op }
 {
     match op {
-        Op::Push(item) => Some(item),
+        Op::Push(_, item) => Some(item),
         _ => None,
     }
 }
@@ -32,7 +32,7 @@ fn pops_in(op: Op) -> usize
     ensures most { result ≤ 1 }
 {
     match op {
-        Op::Pop => 1,
+        Op::Pop(_) => 1,
         _ => 0,
     }
 }

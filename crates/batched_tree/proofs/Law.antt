@@ -19,7 +19,7 @@ use Rattle.seq_objects.specs.declared.reply.Reply.TheVariants.{Number, Unit as D
 use Rattle.seq_objects.specs.Objects.{Objects, after, reply_to, argument_of}
 use Rattle.seq_objects.specs.BatchOrder.{ComesFirst}
 use Rattle.seq_objects.specs.Pairs.{EachPair}
-use Rattle.seq_objects.specs.Batches.{AreInBatchOrder, AreOf, object_of, Tree}
+use Rattle.seq_objects.specs.Batches.{AreInBatchOrder, AreOf, kind_of, Tree}
 use Rattle.seq_objects.specs.Serial.{of_set, after_all, replies_to_all}
 use Rattle.seq_objects.specs.Pieces.{AllMeet, BatchContext}
 use Rattle.batched_tree.specs.declared.piece.Piece.{Piece}
@@ -63,15 +63,15 @@ or_none Yes = refl
 or_none No = refl
 
 within_none : (op : Op) (reply : Reply) → reply_within None op reply ≡ reply
-within_none (CounterAdd addend) reply = refl
-within_none (Push item) reply = refl
-within_none Pop reply = refl
-within_none (TreeInsert key) reply = refl
-within_none (TreeRemove key) reply = refl
-within_none (TreeFind key) reply = refl
-within_none (TreeNext key) reply = or_none reply
-within_none (PqInsert item) reply = refl
-within_none PqTake reply = refl
+within_none (CounterAdd number addend) reply = refl
+within_none (Push number item) reply = refl
+within_none (Pop number) reply = refl
+within_none (TreeInsert number key) reply = refl
+within_none (TreeRemove number key) reply = refl
+within_none (TreeFind number key) reply = refl
+within_none (TreeNext number key) reply = or_none reply
+within_none (PqInsert number item) reply = refl
+within_none (PqTake number) reply = refl
 
 replies_none : (objects : Objects) (calls : List Call)
     → replies_within None objects calls ≡ replies_to_all objects calls
@@ -93,10 +93,10 @@ order_from : (b : ℕ) (calls : List Call) → AreInBatchOrder calls
 order_from b calls order = pairs_filter (λ first second. ComesFirst first.op first.worker second.op second.worker) (λ call. not (nat_lt (key_of call) b)) calls order
 
 tree_below : (b : ℕ) (calls : List Call) → AreOf Tree calls → AreOf Tree (calls_below b calls)
-tree_below b calls tree = all_filter (λ call. object_of call.op ≡ Tree) (λ call. nat_lt (key_of call) b) calls tree
+tree_below b calls tree = all_filter (λ call. kind_of call.op ≡ Tree) (λ call. nat_lt (key_of call) b) calls tree
 
 tree_from : (b : ℕ) (calls : List Call) → AreOf Tree calls → AreOf Tree (calls_from b calls)
-tree_from b calls tree = all_filter (λ call. object_of call.op ≡ Tree) (λ call. not (nat_lt (key_of call) b)) calls tree
+tree_from b calls tree = all_filter (λ call. kind_of call.op ≡ Tree) (λ call. not (nat_lt (key_of call) b)) calls tree
 
 -- the out that a piece owes, in terms of the whole set and all calls
 no_more : (ins : List Piece) (outs : List Served) → ins ≡ [] → AllMeet Meets ins outs → outs ≡ []

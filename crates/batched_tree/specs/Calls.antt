@@ -9,10 +9,10 @@ use Rattle.seq_objects.specs.Batches.{AreOf, Tree}
 
 -- whether the operation is one of the tree
 abbrev pub is_of_tree : Op → Bool
-is_of_tree (TreeInsert key) = true
-is_of_tree (TreeRemove key) = true
-is_of_tree (TreeFind key) = true
-is_of_tree (TreeNext key) = true
+is_of_tree (TreeInsert number key) = true
+is_of_tree (TreeRemove number key) = true
+is_of_tree (TreeFind number key) = true
+is_of_tree (TreeNext number key) = true
 is_of_tree _ = false
 
 -- the argument of a call's operation, which is the key for a call of the tree

@@ -18,7 +18,7 @@ or_beyond reply.No beyond = reply.No
 
 -- the least key beyond the range matters only to `TreeNext`
 abbrev pub reply_within : Option ℕ → Op → Reply → Reply
-reply_within beyond (TreeNext key) reply = or_beyond reply beyond
+reply_within beyond (TreeNext number key) reply = or_beyond reply beyond
 reply_within beyond _ reply = reply
 
 -- the replies to calls served one after another, where `beyond` is the least key beyond the range

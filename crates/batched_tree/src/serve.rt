@@ -18,10 +18,10 @@ fn serve_one(forest: &mut Forest, beyond: Option<u32>, op: Op) -> Result<Reply, 
     ensures after { OnOk result (of_set forest.new.keys ≡ after (of_set forest.old.keys) op) }
 {
     let reply = match op {
-        Op::TreeInsert(key) => Reply::yes_or_no(forest.insert(key)?),
-        Op::TreeRemove(key) => Reply::yes_or_no(forest.remove(key)),
-        Op::TreeFind(key) => Reply::yes_or_no(forest.find(key)),
-        Op::TreeNext(key) => Reply::number_or_empty(forest.next(key).or(beyond)),
+        Op::TreeInsert(_, key) => Reply::yes_or_no(forest.insert(key)?),
+        Op::TreeRemove(_, key) => Reply::yes_or_no(forest.remove(key)),
+        Op::TreeFind(_, key) => Reply::yes_or_no(forest.find(key)),
+        Op::TreeNext(_, key) => Reply::number_or_empty(forest.next(key).or(beyond)),
         _ => unreachable!(),
     };
     Ok(reply)

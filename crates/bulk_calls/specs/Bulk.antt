@@ -12,9 +12,9 @@ use Rattle.bulk_calls.specs.Views.{BulkView, CallView}
 
 -- the operation on the tree for one key
 abbrev pub asked : BulkKind → ℕ → Op
-asked Insert key = TreeInsert key
-asked Remove key = TreeRemove key
-asked Find key = TreeFind key
+asked Insert key = TreeInsert 0 key
+asked Remove key = TreeRemove 0 key
+asked Find key = TreeFind 0 key
 
 -- whether a reply is a yes
 abbrev pub is_yes : Reply → Bool

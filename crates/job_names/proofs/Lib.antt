@@ -4,3 +4,4 @@ pub mod ScopeLemmas
 pub mod Search
 pub mod SameNames
 pub mod LastLets
+pub mod Spellings

@@ -1,6 +1,6 @@
 -- Names, as tokens spell them.
-use Rattle.std.specs.Prelude.{ℕ, ◌-◌, List, [], ◌∷◌, ◌++◌, length, replicate, Bool, false, ◌||◌, ◌&&◌, ◌==◌, nat_le, bytes_eq}
-use Rattle.std.specs.List.{list_all}
+use Rattle.std.specs.Prelude.{◌≡◌, ℕ, ◌-◌, List, [], ◌∷◌, ◌++◌, length, replicate, take, Bool, true, false, ◌||◌, ◌&&◌, ◌==◌, nat_le, bytes_eq}
+use Rattle.std.specs.List.{AllByRecursion, list_all}
 use Rattle.job_names.specs.declared.name.Name.{Name}
 
 -- `a` to `z`
@@ -15,6 +15,14 @@ is_in_name byte = is_letter byte || (nat_le 48 byte && nat_le byte 57) || byte =
 abbrev pub is_spelled : List ℕ → Bool
 is_spelled [] = false
 is_spelled (byte ∷ text) = is_letter byte && (nat_le (length text) 31 && list_all (λ byte. is_in_name byte) text)
+
+-- each of the texts is spelled as a name
+abbrev pub AreSpelled : List (List ℕ) → Type 0
+AreSpelled texts = AllByRecursion (λ text. is_spelled text ≡ true) texts
+
+-- the text of a name: its own bytes, without the zeros behind them
+abbrev pub spelling : Name → List ℕ
+spelling name = take name.len name.bytes
 
 -- the name of a text of at most 32 bytes: these bytes, and zeros behind them
 abbrev pub name_of : List ℕ → Name

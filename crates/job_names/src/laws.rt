@@ -1,7 +1,8 @@
-//! What a use of a name means.
-ghost use Rattle.std.specs.Prelude.{◌≡◌, ◌≢◌, ℕ, Some, None};
+//! What a use of a name means, and that spellings tell names apart.
+ghost use Rattle.std.specs.Prelude.{◌≡◌, ◌≢◌, ℕ, ◌≤◌, List, length, true, Some, None};
 ghost use Rattle.std.specs.List.{AllByRecursion};
 ghost use Rattle.job_names.specs.declared.name.Name.{Name};
+ghost use Rattle.job_names.specs.Names.{is_spelled, name_of, spelling};
 ghost use Rattle.job_names.specs.Scopes.{Scope, IsLastNamed, last_of, lets_shown};
 
 /// A use of a name means the last of the lets shown that has the name; where it means none, no let shown has it.
@@ -10,4 +11,13 @@ pub fn uses_see_the_last_let_shown()
         → last_of name (lets_shown scope) ≡ Some number → IsLastNamed name number (lets_shown scope) }
     ensures none { (name : Name) (scope : Scope)
         → last_of name (lets_shown scope) ≡ None → AllByRecursion (λ bound. bound.name ≢ name) (lets_shown scope) }
+{}
+
+/// The name of a text of at most 32 bytes, as each that is spelled as a name, has this text as its spelling. So names
+/// with zeros behind their bytes are equal where their spellings are.
+pub fn spellings_tell_names_apart()
+    ensures spelled { (text : List ℕ) → is_spelled text ≡ true → length text ≤ 32 }
+    ensures spelling { (text : List ℕ) → length text ≤ 32 → spelling (name_of text) ≡ text }
+    ensures apart { (left right : Name) → left ≡ name_of (spelling left) → right ≡ name_of (spelling right)
+        → spelling left ≡ spelling right → left ≡ right }
 {}

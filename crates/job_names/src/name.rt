@@ -1,13 +1,48 @@
 //! Names and their spelling.
-ghost use Rattle.std.specs.Prelude.{◌≡◌, ◌≤◌, length};
+ghost use Rattle.std.specs.Prelude.{◌≡◌, ◌≤◌, true, length};
 ghost use Rattle.std.specs.List.{list_all};
-ghost use Rattle.job_names.specs.Names.{is_letter, is_in_name, is_spelled, name_of};
+ghost use Rattle.job_names.specs.Names.{is_letter, is_in_name, is_spelled, name_of, spelling};
 
 /// A name of at most 32 bytes. Behind its own bytes there are zeros.
 #[derive(Clone, Copy, PartialEq, Eq, Hash)]
 pub struct Name {
     pub bytes: [u8; 32],
     pub len: u8,
+}
+
+impl Name {
+    /// The name with this spelling.
+    ///
+    /// Memory: none.
+    pub fn of(bytes: Vec<u8>) -> Name
+        requires { is_spelled bytes.items ≡ true }
+        ensures name { result ≡ name_of bytes.items }
+        ensures spelling { spelling result ≡ bytes.items }
+    {
+        name_of(&bytes)
+    }
+
+    /// Its spelling.
+    ///
+    /// Memory: none.
+    pub fn bytes(&self) -> &[u8]
+        ensures { result.now ≡ spelling self.now }
+    {
+        &self.bytes[..usize::from(self.len).min(32)]
+    }
+
+    /// Its spelling, as text.
+    ///
+    /// Memory: none.
+    pub fn as_str(&self) -> &str
+        requires { is_spelled (spelling self.now) ≡ true }
+        ensures { result.now ≡ spelling self.now }
+    {
+        match std::str::from_utf8(self.bytes()) {
+            Ok(text) => text,
+            Err(_) => "",
+        }
+    }
 }
 
 /// Whether a byte is a letter.

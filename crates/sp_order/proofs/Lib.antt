@@ -1,3 +1,5 @@
+pub mod ObjectLemmas
+pub mod CallWords
 pub mod PlanLemmas
 pub mod BuilderLemmas
 pub mod Depths

@@ -1,8 +1,8 @@
--- Shapes, jobs, sources, plans, the precedence of leaves and totals over a job's operations, with what they take from
--- `seq_objects`. `Code` holds what only the code cites.
-pub use Rattle.seq_objects.specs.Objects
+-- Shapes, jobs, sources, named objects, plans, the precedence of leaves and totals over a job's operations. `Code`
+-- holds what only the code cites.
 pub mod Precedence
 pub mod Sources
+pub mod Objects
 pub mod Jobs
 pub mod TreeEncoding
 pub mod Depth

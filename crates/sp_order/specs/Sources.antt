@@ -9,15 +9,15 @@ use Rattle.sp_order.specs.Precedence.{Tree, IsBefore}
 
 -- the operation with this number as its argument; an operation without an argument stays
 abbrev pub with_argument : Op → ℕ → Op
-with_argument (CounterAdd _) argument = CounterAdd argument
-with_argument (Push _) argument = Push argument
-with_argument Pop argument = Pop
-with_argument (TreeInsert _) argument = TreeInsert argument
-with_argument (TreeRemove _) argument = TreeRemove argument
-with_argument (TreeFind _) argument = TreeFind argument
-with_argument (TreeNext _) argument = TreeNext argument
-with_argument (PqInsert _) argument = PqInsert argument
-with_argument PqTake argument = PqTake
+with_argument (CounterAdd number _) argument = CounterAdd number argument
+with_argument (Push number _) argument = Push number argument
+with_argument (Pop number) argument = Pop number
+with_argument (TreeInsert number _) argument = TreeInsert number argument
+with_argument (TreeRemove number _) argument = TreeRemove number argument
+with_argument (TreeFind number _) argument = TreeFind number argument
+with_argument (TreeNext number _) argument = TreeNext number argument
+with_argument (PqInsert number _) argument = PqInsert number argument
+with_argument (PqTake number) argument = PqTake number
 
 -- the operation with the low 32 bits of a value as its argument
 abbrev pub with_value : Op → ℕ → Op
@@ -25,8 +25,8 @@ with_value op value = with_argument op (value % 2 ^ 32)
 
 -- the operation takes an argument
 abbrev pub has_argument : Op → Bool
-has_argument Pop = false
-has_argument PqTake = false
+has_argument (Pop number) = false
+has_argument (PqTake number) = false
 has_argument _ = true
 
 -- the leaf's act is a call

@@ -10,53 +10,53 @@ use Rattle.seq_objects.specs.Orders.{one_if}
 
 -- the addend of a counter add, else 0
 abbrev pub added : Op → ℕ
-added (CounterAdd addend) = addend
+added (CounterAdd number addend) = addend
 added _ = 0
 
 -- for a push of the stack, 1, and the number that it pushes
 abbrev pub pushes : Op → ℕ
-pushes (Push item) = 1
+pushes (Push number item) = 1
 pushes _ = 0
 
 abbrev pub pushed : Op → ℕ
-pushed (Push item) = item
+pushed (Push number item) = item
 pushed _ = 0
 
 -- 1 for a pop of the stack
 abbrev pub pops : Op → ℕ
-pops Pop = 1
+pops (Pop number) = 1
 pops _ = 0
 
 -- 1 for an insert of the tree, for a removal, for a find
 abbrev pub tree_inserts : Op → ℕ
-tree_inserts (TreeInsert key) = 1
+tree_inserts (TreeInsert number key) = 1
 tree_inserts _ = 0
 
 abbrev pub tree_removes : Op → ℕ
-tree_removes (TreeRemove key) = 1
+tree_removes (TreeRemove number key) = 1
 tree_removes _ = 0
 
 abbrev pub tree_finds : Op → ℕ
-tree_finds (TreeFind key) = 1
+tree_finds (TreeFind number key) = 1
 tree_finds _ = 0
 
 -- 1 for a find of the tree whose key is in the set
 abbrev pub finds_in : List ℕ → Op → ℕ
-finds_in set (TreeFind key) = one_if (has key set)
+finds_in set (TreeFind number key) = one_if (has key set)
 finds_in set _ = 0
 
 -- for an insert of the queue, 1, and the number that it inserts
 abbrev pub queue_inserts : Op → ℕ
-queue_inserts (PqInsert item) = 1
+queue_inserts (PqInsert number item) = 1
 queue_inserts _ = 0
 
 abbrev pub queue_inserted : Op → ℕ
-queue_inserted (PqInsert item) = item
+queue_inserted (PqInsert number item) = item
 queue_inserted _ = 0
 
 -- 1 for a take of the queue
 abbrev pub queue_takes : Op → ℕ
-queue_takes PqTake = 1
+queue_takes (PqTake number) = 1
 queue_takes _ = 0
 
 -- the count of a call's operation, and 0 for work
@@ -71,7 +71,7 @@ total count (act ∷ acts) = count_of_act count act + total count acts
 
 -- the set, with the key of an insert of the tree
 abbrev pub with_key_of : Act → List ℕ → List ℕ
-with_key_of (Call (TreeInsert key)) set = with_key key set
+with_key_of (Call (TreeInsert number key)) set = with_key key set
 with_key_of _ set = set
 
 -- the set of keys that the acts insert into the tree

@@ -1,29 +1,33 @@
-//! Jobs: a shape, and for each of its leaves an act, and a source or none.
-ghost use Rattle.std.specs.Prelude.{◌≡◌, ◌<◌, ◌≤◌, None, Some, IfOk, length, replicate, slice_get};
+//! Jobs: a shape, for each of its leaves an act, and a source or none, and the names of objects.
+ghost use Rattle.std.specs.Prelude.{◌≡◌, ◌<◌, ◌≤◌, [], None, Some, IfOk, length, map, replicate, slice_get};
 ghost use Rattle.std.specs.Option.{option_map};
+ghost use Rattle.job_names.specs.Names.{spelling};
+ghost use Rattle.sp_order.specs.Objects.{AreNumbered, AreUnnamed, with_numbers as numbered_acts};
 ghost use Rattle.sp_order.specs.Precedence.{tree_of, leaf_count};
 ghost use Rattle.sp_order.specs.Sources.{AreSources};
 
+use crate::objects::with_numbers;
 use crate::shape::Shape;
 use crate::sources::Sources;
+use job_names::Name;
 use seq_objects::Act;
 use std::alloc::{AllocError, Global};
 use std::marker::Model;
 
 /// A shape, and the acts and sources of its leaves, from left to right: at most 20,000. A leaf with a source calls with
-/// the reply of that leaf, which is before it, as its argument. A job without leaves has no shape. Contracts see it as
-/// a `JobValue`.
+/// the reply of that leaf, which is before it, as its argument. The objects of its calls with the numbers 1, 2, and so
+/// on have the names, in this order. A job without leaves has no shape. Contracts see it as a `JobValue`.
 #[derive(Drop)]
 pub struct Job {
     shape: Option<Shape>,
     acts: Vec<Act>,
     sources: Sources,
+    names: Vec<Name>,
 }
 
 impl Model for Job {
-    ghost use Rattle.std.specs.Prelude.{length};
     ghost use Rattle.std.specs.Option.{option_map};
-    ghost use Rattle.sp_order.specs.Code.SourcesView.{listed};
+    ghost use Rattle.sp_order.specs.Code.SourcesView.{job_of};
     ghost use Rattle.sp_order.specs.Jobs.{JobValue, coded_job, IsJob};
     ghost use Rattle.sp_order.specs.Precedence.{tree_of};
 
@@ -31,9 +35,9 @@ impl Model for Job {
 
     ghost coded = { coded_job };
 
-    ghost view = { λ j. record { shape = option_map tree_of j.shape; acts = j.acts.items; sources = listed j.sources (length j.acts.items) } };
+    ghost view = { λ j. job_of (option_map tree_of j.shape) j.acts.items j.sources j.names.items };
 
-    ghost invariant = { λ j. IsJob (record { shape = option_map tree_of j.shape; acts = j.acts.items; sources = listed j.sources (length j.acts.items) }) };
+    ghost invariant = { λ j. IsJob (job_of (option_map tree_of j.shape) j.acts.items j.sources j.names.items) };
 }
 
 impl Job {
@@ -41,34 +45,61 @@ impl Job {
     ghost use Rattle.sp_order.specs.Depth.{depth_of};
     ghost use Rattle.sp_order.specs.Code.SourcesView.{listed};
 
-    /// The job of this shape, whose leaves do these acts. No leaf has a source. It takes no memory.
+    /// The job of this shape, whose leaves do these acts. No leaf has a source, and no object has a name. It takes no
+    /// memory.
     pub fn of(shape: Option<Shape>, acts: Vec<Act>) -> Job
         requires leaves { leaf_count (option_map tree_of shape) ≡ length acts.items }
         requires most { length acts.items ≤ 20000 }
+        requires unnamed { AreUnnamed acts.items }
         ensures shape { result.shape ≡ option_map tree_of shape }
         ensures acts { result.acts ≡ acts.items }
         ensures sources { result.sources ≡ replicate (length acts.items) None }
+        ensures names { result.names ≡ [] }
     {
+        let names = Vec::new(*acts.allocator());
         Job {
             shape,
             acts,
             sources: Sources::Absent,
+            names,
         }
     }
 
-    /// The job of this shape, whose leaves do these acts and have these sources. It takes no memory.
+    /// The job of this shape, whose leaves do these acts and have these sources. No object has a name. It takes no
+    /// memory.
     pub fn with_sources(shape: Option<Shape>, acts: Vec<Act>, sources: Vec<Option<u32>>) -> Job
         requires leaves { leaf_count (option_map tree_of shape) ≡ length acts.items }
         requires most { length acts.items ≤ 20000 }
         requires sources { AreSources (option_map tree_of shape) acts.items sources.items }
+        requires unnamed { AreUnnamed acts.items }
         ensures shape { result.shape ≡ option_map tree_of shape }
         ensures acts { result.acts ≡ acts.items }
         ensures sources { result.sources ≡ sources.items }
+        ensures names { result.names ≡ [] }
     {
+        let names = Vec::new(*acts.allocator());
         Job {
             shape,
             acts,
             sources: Sources::Each(sources),
+            names,
+        }
+    }
+
+    /// The job with these names of objects, whose calls are of the objects with these numbers. All else stays. It takes
+    /// no memory.
+    pub fn with_objects(job: Job, objects: Vec<u32>, names: Vec<Name>) -> Job
+        requires { AreNumbered job.acts objects.items (map (λ name. spelling name) names.items) }
+        ensures shape { result.shape ≡ job.shape }
+        ensures acts { result.acts ≡ numbered_acts job.acts objects.items }
+        ensures sources { result.sources ≡ job.sources }
+        ensures names { result.names ≡ map (λ name. spelling name) names.items }
+    {
+        Job {
+            shape: job.shape,
+            acts: with_numbers(job.acts, objects.as_slice()),
+            sources: job.sources,
+            names,
         }
     }
 
@@ -86,6 +117,14 @@ impl Job {
         ensures job { IsJob self.now }
     {
         self.acts.as_slice()
+    }
+
+    /// The names of the objects with the numbers 1, 2, and so on.
+    pub fn names(&self) -> &[Name]
+        ensures names { map (λ name. spelling name) result.now ≡ self.now.names }
+        ensures job { IsJob self.now }
+    {
+        self.names.as_slice()
     }
 
     /// The source of this leaf: the leaf whose reply is its argument, or `None` where it has none.

@@ -8,6 +8,7 @@ use crate::job::Job;
 use crate::node::{Kind, Move};
 use crate::plan::Plan;
 use crate::sources::Sources;
+use job_names::Name;
 use seq_objects::Act;
 use std::alloc::{AllocError, Global};
 use std::marker::Model;
@@ -18,24 +19,25 @@ pub struct PlannedJob {
     plan: Plan,
     acts: Vec<Act>,
     sources: Sources,
+    names: Vec<Name>,
 }
 
 impl Model for PlannedJob {
-    ghost use Rattle.std.specs.Prelude.{Some, length};
-    ghost use Rattle.sp_order.specs.Code.SourcesView.{listed};
+    ghost use Rattle.std.specs.Prelude.{Some};
+    ghost use Rattle.sp_order.specs.Code.SourcesView.{job_of};
     ghost use Rattle.sp_order.specs.Jobs.{JobValue, coded_job, IsJob};
 
     ghost Value = { JobValue };
 
     ghost coded = { coded_job };
 
-    ghost view = { λ p. record { shape = Some p.plan; acts = p.acts.items; sources = listed p.sources (length p.acts.items) } };
+    ghost view = { λ p. job_of (Some p.plan) p.acts.items p.sources p.names.items };
 
-    ghost invariant = { λ p. IsJob (record { shape = Some p.plan; acts = p.acts.items; sources = listed p.sources (length p.acts.items) }) };
+    ghost invariant = { λ p. IsJob (job_of (Some p.plan) p.acts.items p.sources p.names.items) };
 }
 
 impl PlannedJob {
-    /// Plans the job: makes the plan of its shape and copies its acts and sources, in time linear in the leaves.
+    /// Plans the job: makes the plan of its shape and copies its acts, sources and names, in time linear in the leaves.
     pub fn of(alloc: Global, job: &Job) -> Result<PlannedJob, AllocError>
         requires { IsSome job.now.shape }
         ensures { IfOk result (λ planned. planned ≡ job.now) }
@@ -44,10 +46,13 @@ impl PlannedJob {
         let mut acts = Vec::new(alloc);
         acts.extend_from_slice(job.acts())?;
         let sources = job.copied_sources(alloc)?;
+        let mut names = Vec::new(alloc);
+        names.extend_from_slice(job.names())?;
         Ok(PlannedJob {
             plan,
             acts,
             sources,
+            names,
         })
     }
 

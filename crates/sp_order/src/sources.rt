@@ -47,15 +47,15 @@ pub fn with_argument(op: Op, argument: u32) -> Op
     ensures { result ≡ argued op argument }
 {
     match op {
-        Op::CounterAdd(_) => Op::CounterAdd(argument),
-        Op::Push(_) => Op::Push(argument),
-        Op::Pop => Op::Pop,
-        Op::TreeInsert(_) => Op::TreeInsert(argument),
-        Op::TreeRemove(_) => Op::TreeRemove(argument),
-        Op::TreeFind(_) => Op::TreeFind(argument),
-        Op::TreeNext(_) => Op::TreeNext(argument),
-        Op::PqInsert(_) => Op::PqInsert(argument),
-        Op::PqTake => Op::PqTake,
+        Op::CounterAdd(number, _) => Op::CounterAdd(number, argument),
+        Op::Push(number, _) => Op::Push(number, argument),
+        Op::Pop(number) => Op::Pop(number),
+        Op::TreeInsert(number, _) => Op::TreeInsert(number, argument),
+        Op::TreeRemove(number, _) => Op::TreeRemove(number, argument),
+        Op::TreeFind(number, _) => Op::TreeFind(number, argument),
+        Op::TreeNext(number, _) => Op::TreeNext(number, argument),
+        Op::PqInsert(number, _) => Op::PqInsert(number, argument),
+        Op::PqTake(number) => Op::PqTake(number),
     }
 }
 

@@ -1,4 +1,5 @@
 pub mod Chunks
+pub mod KindWords
 pub mod Numbers
 pub mod Quoted
 pub mod Skips

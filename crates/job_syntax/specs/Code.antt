@@ -1,5 +1,4 @@
 -- What only the code and its proofs cite: no public contract speaks of it.
-pub mod Calls
 pub mod Cursors
 pub mod Fronts
 pub mod Machine

@@ -4,36 +4,39 @@
 --   job      = items
 --   items    = nothing | item items
 --   item     = "work" argument | call | "let" name "=" call | block
---   call     = "counter" "add" value
---            | "stack" "push" value | "stack" "pop"
---            | "tree" "insert" value | "tree" "remove" value | "tree" "find" value | "tree" "next" value
---            | "queue" "insert" value | "queue" "take"
+--   call     = counter "add" value
+--            | stack "push" value | stack "pop"
+--            | tree "insert" value | tree "remove" value | tree "find" value | tree "next" value
+--            | queue "insert" value | queue "take"
 --   block    = "seq" "{" items "}" | "par" "{" items "}"
 --            | "for" number "{" items "}" | "pfor" number "{" items "}"
 --   argument = number, or inside a loop a number that depends on the copy
 --   value    = argument | name
-use Rattle.std.specs.Prelude.{◌≡◌, ℕ, List, [], ◌∷◌, ◌++◌, map, Bool, true, false, ◌||◌, IsTrue}
+--
+-- `counter` stands for the word "counter", or for "counter:" and the name of one counter in the same token; `stack`,
+-- `tree` and `queue` likewise.
+use Rattle.std.specs.Prelude.{◌≡◌, ℕ, List, [], ◌∷◌, ◌++◌, map, Bool, true, false, ◌||◌, Option, IsTrue}
 use Rattle.job_names.specs.declared.name.Name.{Name}
 use Rattle.job_syntax.specs.declared.lexer.word.Word.{Word}
 use Rattle.job_syntax.specs.declared.lexer.word.Word.TheVariants.{Open, Close, Work, Counter, Stack, Tree, Queue, Add, Push, Pop, Insert, Remove, Find, Next, Take, Seq, Par, For, Pfor, Let, Equals, Number, Copies, Named}
 use Rattle.job_syntax.specs.Words.{word_of}
 
--- an operation with an argument
+-- an operation with an argument; a call has the name of its object, if the object has one
 pub data UnaryOp : Type 0 where
   work : UnaryOp
-  counter_add : UnaryOp
-  stack_push : UnaryOp
-  tree_insert : UnaryOp
-  tree_remove : UnaryOp
-  tree_find : UnaryOp
-  tree_next : UnaryOp
-  queue_insert : UnaryOp
+  counter_add : (object : Option Name) → UnaryOp
+  stack_push : (object : Option Name) → UnaryOp
+  tree_insert : (object : Option Name) → UnaryOp
+  tree_remove : (object : Option Name) → UnaryOp
+  tree_find : (object : Option Name) → UnaryOp
+  tree_next : (object : Option Name) → UnaryOp
+  queue_insert : (object : Option Name) → UnaryOp
 
 -- an operation, with its argument if it takes one; or a call with a name for its reply
 pub data Leaf : Type 0 where
   with_argument : UnaryOp → (argument : Word) → Leaf
-  stack_pop : Leaf
-  queue_take : Leaf
+  stack_pop : (object : Option Name) → Leaf
+  queue_take : (object : Option Name) → Leaf
   bound : Name → (call : Leaf) → Leaf
 
 -- the head of a block: its word, and for a loop the number of copies
@@ -52,18 +55,18 @@ pub data Items : Type 0 where
 -- the words that each rule writes
 abbrev pub unary_op_words : UnaryOp → List Word
 unary_op_words work = Work ∷ []
-unary_op_words counter_add = Counter ∷ Add ∷ []
-unary_op_words stack_push = Stack ∷ Push ∷ []
-unary_op_words tree_insert = Tree ∷ Insert ∷ []
-unary_op_words tree_remove = Tree ∷ Remove ∷ []
-unary_op_words tree_find = Tree ∷ Find ∷ []
-unary_op_words tree_next = Tree ∷ Next ∷ []
-unary_op_words queue_insert = Queue ∷ Insert ∷ []
+unary_op_words (counter_add object) = Counter object ∷ Add ∷ []
+unary_op_words (stack_push object) = Stack object ∷ Push ∷ []
+unary_op_words (tree_insert object) = Tree object ∷ Insert ∷ []
+unary_op_words (tree_remove object) = Tree object ∷ Remove ∷ []
+unary_op_words (tree_find object) = Tree object ∷ Find ∷ []
+unary_op_words (tree_next object) = Tree object ∷ Next ∷ []
+unary_op_words (queue_insert object) = Queue object ∷ Insert ∷ []
 
 abbrev pub leaf_words : Leaf → List Word
 leaf_words (with_argument op argument) = unary_op_words op ++ argument ∷ []
-leaf_words stack_pop = Stack ∷ Pop ∷ []
-leaf_words queue_take = Queue ∷ Take ∷ []
+leaf_words (stack_pop object) = Stack object ∷ Pop ∷ []
+leaf_words (queue_take object) = Queue object ∷ Take ∷ []
 leaf_words (bound name call) = Let ∷ Named name ∷ Equals ∷ leaf_words call
 
 abbrev pub kind_words : BlockKind → List Word
@@ -113,14 +116,14 @@ is_par (pfor_loop copies) = false
 abbrev pub IsCall : Bool → Leaf → Type 0
 IsCall looped (with_argument work argument) = ⊥
 IsCall looped (with_argument op argument) = IsTrue (is_call_argument looped argument)
-IsCall looped stack_pop = Unit {0}
-IsCall looped queue_take = Unit {0}
+IsCall looped (stack_pop object) = Unit {0}
+IsCall looped (queue_take object) = Unit {0}
 IsCall looped (bound name call) = ⊥
 
 abbrev pub IsLeaf : Bool → Leaf → Type 0
 IsLeaf looped (with_argument op argument) = IsTrue (takes op looped argument)
-IsLeaf looped stack_pop = Unit {0}
-IsLeaf looped queue_take = Unit {0}
+IsLeaf looped (stack_pop object) = Unit {0}
+IsLeaf looped (queue_take object) = Unit {0}
 IsLeaf looped (bound name call) = IsCall looped call
 
 abbrev pub IsBlockKind : BlockKind → Type 0

@@ -22,18 +22,18 @@ argument_word (argument.Reply name) = Named name
 
 abbrev pub unary_op_of : UnaryOp → grammar.UnaryOp
 unary_op_of op.Work = grammar.work
-unary_op_of op.CounterAdd = grammar.counter_add
-unary_op_of op.StackPush = grammar.stack_push
-unary_op_of op.TreeInsert = grammar.tree_insert
-unary_op_of op.TreeRemove = grammar.tree_remove
-unary_op_of op.TreeFind = grammar.tree_find
-unary_op_of op.TreeNext = grammar.tree_next
-unary_op_of op.QueueInsert = grammar.queue_insert
+unary_op_of (op.CounterAdd object) = grammar.counter_add object
+unary_op_of (op.StackPush object) = grammar.stack_push object
+unary_op_of (op.TreeInsert object) = grammar.tree_insert object
+unary_op_of (op.TreeRemove object) = grammar.tree_remove object
+unary_op_of (op.TreeFind object) = grammar.tree_find object
+unary_op_of (op.TreeNext object) = grammar.tree_next object
+unary_op_of (op.QueueInsert object) = grammar.queue_insert object
 
 abbrev pub leaf_of : Leaf → grammar.Leaf
 leaf_of (leaf.WithArgument op argument) = grammar.with_argument (unary_op_of op) (argument_word argument)
-leaf_of leaf.StackPop = grammar.stack_pop
-leaf_of leaf.QueueTake = grammar.queue_take
+leaf_of (leaf.StackPop object) = grammar.stack_pop object
+leaf_of (leaf.QueueTake object) = grammar.queue_take object
 
 abbrev pub block_kind_of : BlockKind → grammar.BlockKind
 block_kind_of kind.Seq = grammar.seq_block

@@ -1,7 +1,8 @@
 -- Which word each token spells.
-use Rattle.std.specs.Prelude.{ℕ, ◌+◌, ◌-◌, ◌*◌, ◌^◌, List, [], ◌∷◌, length, take, drop, map, Bool, false, ◌||◌, ◌&&◌, not, Option, Some, None, if◌then◌else◌, ◌==◌, nat_le, nat_lt, codes}
+use Rattle.std.specs.Prelude.{◌≡◌, ℕ, ◌+◌, ◌-◌, ◌*◌, ◌^◌, List, [], ◌∷◌, ◌++◌, length, take, drop, map, Bool, false, ◌||◌, ◌&&◌, not, Option, Some, None, if◌then◌else◌, ◌==◌, nat_le, nat_lt, codes, IsTrue}
 use Rattle.std.specs.Str.{bytes_eq}
 use Rattle.std.specs.List.{list_all}
+use Rattle.job_names.specs.declared.name.Name.{Name}
 use Rattle.job_names.specs.Names.{is_spelled, name_of}
 use Rattle.job_syntax.specs.Text.{Token, tokens}
 use Rattle.job_syntax.specs.declared.lexer.word.Word.{Word}
@@ -31,14 +32,14 @@ begins_well (digit ∷ digits) = not (digit == 48) || length digits == 0
 abbrev pub number_of : List ℕ → Option ℕ
 number_of digits = if begins_well digits && nat_lt (digits_from 0 digits) (2 ^ 32) then Some (digits_from 0 digits) else None
 
--- the bytes before the first `+`, and those after it
-abbrev pub before_plus : List ℕ → List ℕ
-before_plus [] = []
-before_plus (byte ∷ text) = if byte == 43 then [] else byte ∷ before_plus text
+-- the bytes before the first `mark`, and those after it
+abbrev pub before_first : ℕ → List ℕ → List ℕ
+before_first mark [] = []
+before_first mark (byte ∷ text) = if byte == mark then [] else byte ∷ before_first mark text
 
-abbrev pub behind_plus : List ℕ → List ℕ
-behind_plus [] = []
-behind_plus (byte ∷ text) = if byte == 43 then text else behind_plus text
+abbrev pub behind_first : ℕ → List ℕ → List ℕ
+behind_first mark [] = []
+behind_first mark (byte ∷ text) = if byte == mark then text else behind_first mark text
 
 abbrev pub pair_of : Option ℕ → Option ℕ → Option (ℕ × ℕ)
 pair_of (Some factor) (Some addend) = Some (factor, addend)
@@ -47,8 +48,24 @@ pair_of _ _ = None
 -- the word of a token `@*`, where `text` is the rest of it: digits, a plus sign, digits
 abbrev pub copies_word : List ℕ → Word
 copies_word text =
-    if are_digits (before_plus text) && are_digits (behind_plus text)
-    then Copies (pair_of (number_of (before_plus text)) (number_of (behind_plus text)))
+    if are_digits (before_first 43 text) && are_digits (behind_first 43 text)
+    then Copies (pair_of (number_of (before_first 43 text)) (number_of (behind_first 43 text)))
+    else Other
+
+-- the word of a kind of objects, with the name of one of them
+abbrev pub kind_word : List ℕ → Name → Word
+kind_word text name =
+    if bytes_eq text (codes "counter") then Counter (Some name)
+    else if bytes_eq text (codes "stack") then Stack (Some name)
+    else if bytes_eq text (codes "tree") then Tree (Some name)
+    else if bytes_eq text (codes "queue") then Queue (Some name)
+    else Other
+
+-- The word of a token with a colon: the bytes before the first `:` are a kind word, and those after it a name, which
+-- may be a word of the language.
+abbrev pub object_word : List ℕ → Word
+object_word text =
+    if is_spelled (behind_first 58 text) then kind_word (before_first 58 text) (name_of (behind_first 58 text))
     else Other
 
 -- the word of a token that is not a quoted word
@@ -58,7 +75,7 @@ argument_word text =
     else if bytes_eq text (codes "@") then Copies (Some (1, 0))
     else if bytes_eq (take 2 text) (codes "@*") then copies_word (drop 2 text)
     else if is_spelled text then Named (name_of text)
-    else Other
+    else object_word text
 
 -- the quoted word that a text is, else the other word
 abbrev pub quoted_or : List ℕ → Word → Word
@@ -66,10 +83,10 @@ quoted_or text other =
     if bytes_eq text (codes "{") then Open
     else if bytes_eq text (codes "}") then Close
     else if bytes_eq text (codes "work") then Work
-    else if bytes_eq text (codes "counter") then Counter
-    else if bytes_eq text (codes "stack") then Stack
-    else if bytes_eq text (codes "tree") then Tree
-    else if bytes_eq text (codes "queue") then Queue
+    else if bytes_eq text (codes "counter") then Counter None
+    else if bytes_eq text (codes "stack") then Stack None
+    else if bytes_eq text (codes "tree") then Tree None
+    else if bytes_eq text (codes "queue") then Queue None
     else if bytes_eq text (codes "add") then Add
     else if bytes_eq text (codes "push") then Push
     else if bytes_eq text (codes "pop") then Pop
@@ -95,3 +112,9 @@ word_on_line token = record { word = word_of token.text; line = token.line }
 
 abbrev pub words_on_lines : List ℕ → List WordOnLine
 words_on_lines text = map word_on_line (tokens text)
+
+-- The tokens of this kind word, a colon and a name say the word with this name, and no others do.
+pub record IsKindWord (kind : List ℕ) (word : Option Name → Word) : Type 0 where
+  pub said : (name : List ℕ) → IsTrue (is_spelled name) → word_of (kind ++ 58 ∷ name) ≡ word (Some (name_of name))
+  pub alone : (text : List ℕ) (name : Name) → word_of text ≡ word (Some name)
+      → (spelled : List ℕ) × (text ≡ kind ++ 58 ∷ spelled) × IsTrue (is_spelled spelled) × (name ≡ name_of spelled)

@@ -12,25 +12,25 @@ pub enum Argument {
     Reply(Name),
 }
 
-/// An operation with an argument.
+/// An operation with an argument. A call has the name of its object, if the object has one.
 #[derive(Clone, Copy)]
 pub enum UnaryOp {
     Work,
-    CounterAdd,
-    StackPush,
-    TreeInsert,
-    TreeRemove,
-    TreeFind,
-    TreeNext,
-    QueueInsert,
+    CounterAdd(Option<Name>),
+    StackPush(Option<Name>),
+    TreeInsert(Option<Name>),
+    TreeRemove(Option<Name>),
+    TreeFind(Option<Name>),
+    TreeNext(Option<Name>),
+    QueueInsert(Option<Name>),
 }
 
 /// An operation, and its argument if it has one.
 #[derive(Clone, Copy)]
 pub enum Leaf {
     WithArgument(UnaryOp, Argument),
-    StackPop,
-    QueueTake,
+    StackPop(Option<Name>),
+    QueueTake(Option<Name>),
 }
 
 /// The head of a block: its word, and for a loop the number of copies.

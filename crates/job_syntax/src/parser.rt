@@ -2,10 +2,10 @@
 ghost use Rattle.std.specs.Prelude.{◌≡◌, ◌≤◌, ◌∷◌, Err, IfOk, OnOk, length};
 ghost use Rattle.job_syntax.specs.Faults.{IsReadingFault};
 ghost use Rattle.job_syntax.specs.ItemsOf.{AreItemsOf};
-ghost use Rattle.job_syntax.specs.Code.Machine.{at, start, a_let_name, an_argument, a_call, a_brace, read_from};
+ghost use Rattle.job_syntax.specs.Code.Machine.{at, start, a_let_name, a_brace, read_from};
 ghost use Rattle.job_syntax.specs.Code.OpenBlocks.{ShowsLets, view};
 ghost use Rattle.job_syntax.specs.Code.Steps.{Steps, Gives};
-ghost use Rattle.job_syntax.specs.Views.{items_of, unary_op_of, block_kind_of};
+ghost use Rattle.job_syntax.specs.Views.{items_of, block_kind_of};
 ghost use Rattle.job_syntax.specs.declared.error.JobErr.TheVariants.{Bad};
 
 mod blocks;
@@ -14,57 +14,12 @@ pub(crate) mod cursor;
 
 use crate::error::JobErr;
 use crate::fault::JobFault;
-use crate::item::{BlockKind, Item, Leaf, UnaryOp};
+use crate::item::{BlockKind, Item, UnaryOp};
 use crate::lexer::word::{Word, WordOnLine};
 use crate::parser::blocks::BlockStack;
-use crate::parser::call::{Object, ParsedCall};
+use crate::parser::call::{Object, read_argument, read_call};
 use crate::parser::cursor::Cursor;
-use job_names::Name;
 use std::alloc::Global;
-
-/// Reads the argument of an operation, and adds the leaf. `given` is the name of the `let` before it, if there is one.
-fn read_argument(
-    stack: &mut BlockStack,
-    given: Option<Name>,
-    op: UnaryOp,
-    words: &mut Cursor,
-    last: u32,
-) -> Result<(), JobErr>
-    requires { ShowsLets stack.old }
-    ensures steps { Steps last
-        (at (view stack.old).blocks (view stack.old).items (an_argument given (unary_op_of op))) words.old
-        (view stack.new) words.new result }
-    ensures shows { OnOk result (ShowsLets stack.new) }
-    ensures shorter { length words.new ≤ length words.old }
-{
-    let argument = words.argument(last, op, stack)?;
-    stack.add(given, Leaf::WithArgument(op, argument))?;
-    Ok(())
-}
-
-/// Reads the rest of a call behind its object's name, and adds the leaf.
-fn read_call(
-    stack: &mut BlockStack,
-    given: Option<Name>,
-    object: Object,
-    words: &mut Cursor,
-    last: u32,
-) -> Result<(), JobErr>
-    requires { ShowsLets stack.old }
-    ensures steps { Steps last
-        (at (view stack.old).blocks (view stack.old).items (a_call given object)) words.old
-        (view stack.new) words.new result }
-    ensures shows { OnOk result (ShowsLets stack.new) }
-    ensures shorter { length words.new ≤ length words.old }
-{
-    match words.call(last, object)? {
-        ParsedCall::WithArgument(op) => read_argument(stack, given, op, words, last),
-        ParsedCall::Whole(leaf) => {
-            stack.add(given, leaf)?;
-            Ok(())
-        }
-    }
-}
 
 /// Reads what follows a `let`, and adds its leaf.
 fn read_let(stack: &mut BlockStack, words: &mut Cursor, last: u32) -> Result<(), JobErr>
@@ -114,10 +69,10 @@ fn read_step(
 {
     match token.word {
         Word::Work => read_argument(stack, None, UnaryOp::Work, words, last),
-        Word::Counter => read_call(stack, None, Object::Counter, words, last),
-        Word::Stack => read_call(stack, None, Object::Stack, words, last),
-        Word::Tree => read_call(stack, None, Object::Tree, words, last),
-        Word::Queue => read_call(stack, None, Object::Queue, words, last),
+        Word::Counter(name) => read_call(stack, None, Object::Counter(name), words, last),
+        Word::Stack(name) => read_call(stack, None, Object::Stack(name), words, last),
+        Word::Tree(name) => read_call(stack, None, Object::Tree(name), words, last),
+        Word::Queue(name) => read_call(stack, None, Object::Queue(name), words, last),
         Word::Let => read_let(stack, words, last),
         Word::Close if stack.is_outside() => {
             Err(JobErr::Bad(JobFault::Grammar { line: token.line }))

@@ -62,17 +62,17 @@ goes_on_argument {words} given op reached =
     goes_on_by words (codes "0") (goes_on_item (added_zero given op reached))
 
 goes_on_call : {words : List Word} {blocks : List OpenBlock} {items : Items} (given : Option Name) (of : Object) → IsReached words (at blocks items (a_call given of)) → CanGoOn words
-goes_on_call {words} None object.Counter reached = goes_on_by words (codes "add") (goes_on_argument None counter_add (moved (an_argument None counter_add) Add reached refl tt))
-goes_on_call {words} None object.Stack reached = goes_on_by words (codes "pop") (goes_on_item (added stack_pop Pop reached refl tt))
-goes_on_call {words} None object.Tree reached = goes_on_by words (codes "find") (goes_on_argument None tree_find (moved (an_argument None tree_find) Find reached refl tt))
-goes_on_call {words} None object.Queue reached = goes_on_by words (codes "take") (goes_on_item (added queue_take Take reached refl tt))
-goes_on_call {words} (Some name) object.Counter reached = goes_on_by words (codes "add") (goes_on_argument (Some name) counter_add (moved (an_argument (Some name) counter_add) Add reached refl tt))
-goes_on_call {words} (Some name) object.Stack reached = goes_on_by words (codes "pop") (goes_on_item (added (bound name stack_pop) Pop reached refl tt))
-goes_on_call {words} (Some name) object.Tree reached = goes_on_by words (codes "find") (goes_on_argument (Some name) tree_find (moved (an_argument (Some name) tree_find) Find reached refl tt))
-goes_on_call {words} (Some name) object.Queue reached = goes_on_by words (codes "take") (goes_on_item (added (bound name queue_take) Take reached refl tt))
+goes_on_call {words} None (object.Counter named) reached = goes_on_by words (codes "add") (goes_on_argument None (counter_add named) (moved (an_argument None (counter_add named)) Add reached refl tt))
+goes_on_call {words} None (object.Stack named) reached = goes_on_by words (codes "pop") (goes_on_item (added (stack_pop named) Pop reached refl tt))
+goes_on_call {words} None (object.Tree named) reached = goes_on_by words (codes "find") (goes_on_argument None (tree_find named) (moved (an_argument None (tree_find named)) Find reached refl tt))
+goes_on_call {words} None (object.Queue named) reached = goes_on_by words (codes "take") (goes_on_item (added (queue_take named) Take reached refl tt))
+goes_on_call {words} (Some name) (object.Counter named) reached = goes_on_by words (codes "add") (goes_on_argument (Some name) (counter_add named) (moved (an_argument (Some name) (counter_add named)) Add reached refl tt))
+goes_on_call {words} (Some name) (object.Stack named) reached = goes_on_by words (codes "pop") (goes_on_item (added (bound name (stack_pop named)) Pop reached refl tt))
+goes_on_call {words} (Some name) (object.Tree named) reached = goes_on_by words (codes "find") (goes_on_argument (Some name) (tree_find named) (moved (an_argument (Some name) (tree_find named)) Find reached refl tt))
+goes_on_call {words} (Some name) (object.Queue named) reached = goes_on_by words (codes "take") (goes_on_item (added (bound name (queue_take named)) Take reached refl tt))
 
 goes_on_object : {words : List Word} {blocks : List OpenBlock} {items : Items} (name : Name) → IsReached words (at blocks items (a_let_object name)) → CanGoOn words
-goes_on_object {words} name reached = goes_on_by words (codes "stack") (goes_on_call (Some name) object.Stack (moved (a_call (Some name) object.Stack) Stack reached refl tt))
+goes_on_object {words} name reached = goes_on_by words (codes "stack") (goes_on_call (Some name) (object.Stack None) (moved (a_call (Some name) (object.Stack None)) (Stack None) reached refl tt))
 
 goes_on_equals : {words : List Word} {blocks : List OpenBlock} {items : Items} (name : Name) → IsReached words (at blocks items (an_equals name)) → CanGoOn words
 goes_on_equals {words} name reached = goes_on_by words (codes "=") (goes_on_object name (moved (a_let_object name) Equals reached refl tt))

@@ -25,10 +25,10 @@ depth_item : (blocks : List OpenBlock) (items : Items) (word : Word) → IfSome 
 depth_item [] items Close = tt
 depth_item (block ∷ blocks) items Close = omega arith
 depth_item blocks items Work = refl
-depth_item blocks items Counter = refl
-depth_item blocks items Stack = refl
-depth_item blocks items Tree = refl
-depth_item blocks items Queue = refl
+depth_item blocks items (Counter named) = refl
+depth_item blocks items (Stack named) = refl
+depth_item blocks items (Tree named) = refl
+depth_item blocks items (Queue named) = refl
 depth_item blocks items Let = refl
 depth_item blocks items Seq = refl
 depth_item blocks items Par = refl
@@ -49,13 +49,13 @@ depth_value looped _ n e = cc
 
 pub depth_taken : (op : UnaryOp) (looped : Bool) (word : Word) (n : ℕ) → takes op looped word ≡ true → open_behind n (word ∷ []) ≡ n
 depth_taken work looped word n e = depth_argument looped word n e
-depth_taken counter_add looped word n e = depth_value looped word n e
-depth_taken stack_push looped word n e = depth_value looped word n e
-depth_taken tree_insert looped word n e = depth_value looped word n e
-depth_taken tree_remove looped word n e = depth_value looped word n e
-depth_taken tree_find looped word n e = depth_value looped word n e
-depth_taken tree_next looped word n e = depth_value looped word n e
-depth_taken queue_insert looped word n e = depth_value looped word n e
+depth_taken (counter_add named) looped word n e = depth_value looped word n e
+depth_taken (stack_push named) looped word n e = depth_value looped word n e
+depth_taken (tree_insert named) looped word n e = depth_value looped word n e
+depth_taken (tree_remove named) looped word n e = depth_value looped word n e
+depth_taken (tree_find named) looped word n e = depth_value looped word n e
+depth_taken (tree_next named) looped word n e = depth_value looped word n e
+depth_taken (queue_insert named) looped word n e = depth_value looped word n e
 
 depth_when : (blocks : List OpenBlock) (spelled : Word) (b : Bool) (new : State) → new.blocks ≡ blocks → (b ≡ true → open_behind (length blocks) (spelled ∷ []) ≡ length blocks) →
     IfSome (if b then Some new else None) (λ state. length state.blocks ≡ open_behind (length blocks) (spelled ∷ []))
@@ -72,15 +72,15 @@ depth_found blocks items given spelled None h = tt
 depth_found blocks items given spelled (Some call) h = depth_call blocks items given call ∙ sym h
 
 depth_of_call : (of : Object) (word : Word) (n : ℕ) → IfSome (call_behind of word) (λ call. open_behind n (word ∷ []) ≡ n)
-depth_of_call object.Counter Add n = refl
-depth_of_call object.Stack Push n = refl
-depth_of_call object.Stack Pop n = refl
-depth_of_call object.Tree Insert n = refl
-depth_of_call object.Tree Remove n = refl
-depth_of_call object.Tree Find n = refl
-depth_of_call object.Tree Next n = refl
-depth_of_call object.Queue Insert n = refl
-depth_of_call object.Queue Take n = refl
+depth_of_call (object.Counter named) Add n = refl
+depth_of_call (object.Stack named) Push n = refl
+depth_of_call (object.Stack named) Pop n = refl
+depth_of_call (object.Tree named) Insert n = refl
+depth_of_call (object.Tree named) Remove n = refl
+depth_of_call (object.Tree named) Find n = refl
+depth_of_call (object.Tree named) Next n = refl
+depth_of_call (object.Queue named) Insert n = refl
+depth_of_call (object.Queue named) Take n = refl
 depth_of_call _ _ n = tt
 
 depth : (blocks : List OpenBlock) (items : Items) (place : Place) (word : Word) → IfSome (step_at blocks items place word) (λ state. length state.blocks ≡ open_behind (length blocks) (word ∷ []))
@@ -89,10 +89,10 @@ depth blocks items a_let_name (Named name) = refl
 depth blocks items a_let_name _ = tt
 depth blocks items (an_equals name) Equals = refl
 depth blocks items (an_equals name) _ = tt
-depth blocks items (a_let_object name) Counter = refl
-depth blocks items (a_let_object name) Stack = refl
-depth blocks items (a_let_object name) Tree = refl
-depth blocks items (a_let_object name) Queue = refl
+depth blocks items (a_let_object name) (Counter named) = refl
+depth blocks items (a_let_object name) (Stack named) = refl
+depth blocks items (a_let_object name) (Tree named) = refl
+depth blocks items (a_let_object name) (Queue named) = refl
 depth blocks items (a_let_object name) _ = tt
 depth blocks items (an_argument given op) word = depth_when blocks word (takes op (are_looped blocks) word) _ refl (depth_taken op (are_looped blocks) word (length blocks))
 depth blocks items (a_call given of) word = depth_found blocks items given word (call_behind of word) (depth_of_call of word (length blocks))

@@ -16,8 +16,8 @@ Has (x ∷ xs) n = (x ≡ n) ⊎ Has xs n
 
 abbrev pub names_of : Leaf → List Name
 names_of (with_argument op argument) = []
-names_of stack_pop = []
-names_of queue_take = []
+names_of (stack_pop named) = []
+names_of (queue_take named) = []
 names_of (bound name call) = name ∷ []
 
 -- the names that items give to what comes behind them, the latest first
@@ -53,28 +53,28 @@ flat_value looped _ h = cc
 
 pub flat_call : (looped : Bool) (call : Leaf) → IsCall looped call → IsCall true call
 flat_call looped (with_argument work w) h = h
-flat_call looped (with_argument counter_add w) h = flat_value looped w h
-flat_call looped (with_argument stack_push w) h = flat_value looped w h
-flat_call looped (with_argument tree_insert w) h = flat_value looped w h
-flat_call looped (with_argument tree_remove w) h = flat_value looped w h
-flat_call looped (with_argument tree_find w) h = flat_value looped w h
-flat_call looped (with_argument tree_next w) h = flat_value looped w h
-flat_call looped (with_argument queue_insert w) h = flat_value looped w h
-flat_call looped stack_pop h = h
-flat_call looped queue_take h = h
+flat_call looped (with_argument (counter_add named) w) h = flat_value looped w h
+flat_call looped (with_argument (stack_push named) w) h = flat_value looped w h
+flat_call looped (with_argument (tree_insert named) w) h = flat_value looped w h
+flat_call looped (with_argument (tree_remove named) w) h = flat_value looped w h
+flat_call looped (with_argument (tree_find named) w) h = flat_value looped w h
+flat_call looped (with_argument (tree_next named) w) h = flat_value looped w h
+flat_call looped (with_argument (queue_insert named) w) h = flat_value looped w h
+flat_call looped (stack_pop named) h = h
+flat_call looped (queue_take named) h = h
 flat_call looped (bound name call) h = h
 
 flat_leaf : (looped : Bool) (leaf : Leaf) → IsLeaf looped leaf → IsLeaf true leaf
 flat_leaf looped (with_argument work w) h = flat_argument looped w h
-flat_leaf looped (with_argument counter_add w) h = flat_value looped w h
-flat_leaf looped (with_argument stack_push w) h = flat_value looped w h
-flat_leaf looped (with_argument tree_insert w) h = flat_value looped w h
-flat_leaf looped (with_argument tree_remove w) h = flat_value looped w h
-flat_leaf looped (with_argument tree_find w) h = flat_value looped w h
-flat_leaf looped (with_argument tree_next w) h = flat_value looped w h
-flat_leaf looped (with_argument queue_insert w) h = flat_value looped w h
-flat_leaf looped stack_pop h = h
-flat_leaf looped queue_take h = h
+flat_leaf looped (with_argument (counter_add named) w) h = flat_value looped w h
+flat_leaf looped (with_argument (stack_push named) w) h = flat_value looped w h
+flat_leaf looped (with_argument (tree_insert named) w) h = flat_value looped w h
+flat_leaf looped (with_argument (tree_remove named) w) h = flat_value looped w h
+flat_leaf looped (with_argument (tree_find named) w) h = flat_value looped w h
+flat_leaf looped (with_argument (tree_next named) w) h = flat_value looped w h
+flat_leaf looped (with_argument (queue_insert named) w) h = flat_value looped w h
+flat_leaf looped (stack_pop named) h = h
+flat_leaf looped (queue_take named) h = h
 flat_leaf looped (bound name call) h = flat_call looped call h
 
 pub flat_items : (looped : Bool) (items : Items) → AreItems looped items → AreFlat items

@@ -34,28 +34,28 @@ skip_value looped n _ words fits = absurd (cc fits)
 
 skip_call : (looped : Bool) (n : ℕ) (call : Leaf) (words : List Word) → IsCall looped call → AreNested n (leaf_words call ++ words) ↔ AreNested n words
 skip_call looped n (with_argument work argument) words fits = elim fits [ ]
-skip_call looped n (with_argument counter_add argument) words fits = skip_value looped n argument words fits
-skip_call looped n (with_argument stack_push argument) words fits = skip_value looped n argument words fits
-skip_call looped n (with_argument tree_insert argument) words fits = skip_value looped n argument words fits
-skip_call looped n (with_argument tree_remove argument) words fits = skip_value looped n argument words fits
-skip_call looped n (with_argument tree_find argument) words fits = skip_value looped n argument words fits
-skip_call looped n (with_argument tree_next argument) words fits = skip_value looped n argument words fits
-skip_call looped n (with_argument queue_insert argument) words fits = skip_value looped n argument words fits
-skip_call looped n stack_pop words fits = ((λ h. h), (λ h. h))
-skip_call looped n queue_take words fits = ((λ h. h), (λ h. h))
+skip_call looped n (with_argument (counter_add named) argument) words fits = skip_value looped n argument words fits
+skip_call looped n (with_argument (stack_push named) argument) words fits = skip_value looped n argument words fits
+skip_call looped n (with_argument (tree_insert named) argument) words fits = skip_value looped n argument words fits
+skip_call looped n (with_argument (tree_remove named) argument) words fits = skip_value looped n argument words fits
+skip_call looped n (with_argument (tree_find named) argument) words fits = skip_value looped n argument words fits
+skip_call looped n (with_argument (tree_next named) argument) words fits = skip_value looped n argument words fits
+skip_call looped n (with_argument (queue_insert named) argument) words fits = skip_value looped n argument words fits
+skip_call looped n (stack_pop named) words fits = ((λ h. h), (λ h. h))
+skip_call looped n (queue_take named) words fits = ((λ h. h), (λ h. h))
 skip_call looped n (bound name call) words fits = elim fits [ ]
 
 skip_leaf : (looped : Bool) (n : ℕ) (leaf : Leaf) (words : List Word) → IsLeaf looped leaf → AreNested n (leaf_words leaf ++ words) ↔ AreNested n words
 skip_leaf looped n (with_argument work argument) words fits = skip_argument looped n argument words fits
-skip_leaf looped n (with_argument counter_add argument) words fits = skip_value looped n argument words fits
-skip_leaf looped n (with_argument stack_push argument) words fits = skip_value looped n argument words fits
-skip_leaf looped n (with_argument tree_insert argument) words fits = skip_value looped n argument words fits
-skip_leaf looped n (with_argument tree_remove argument) words fits = skip_value looped n argument words fits
-skip_leaf looped n (with_argument tree_find argument) words fits = skip_value looped n argument words fits
-skip_leaf looped n (with_argument tree_next argument) words fits = skip_value looped n argument words fits
-skip_leaf looped n (with_argument queue_insert argument) words fits = skip_value looped n argument words fits
-skip_leaf looped n stack_pop words fits = ((λ h. h), (λ h. h))
-skip_leaf looped n queue_take words fits = ((λ h. h), (λ h. h))
+skip_leaf looped n (with_argument (counter_add named) argument) words fits = skip_value looped n argument words fits
+skip_leaf looped n (with_argument (stack_push named) argument) words fits = skip_value looped n argument words fits
+skip_leaf looped n (with_argument (tree_insert named) argument) words fits = skip_value looped n argument words fits
+skip_leaf looped n (with_argument (tree_remove named) argument) words fits = skip_value looped n argument words fits
+skip_leaf looped n (with_argument (tree_find named) argument) words fits = skip_value looped n argument words fits
+skip_leaf looped n (with_argument (tree_next named) argument) words fits = skip_value looped n argument words fits
+skip_leaf looped n (with_argument (queue_insert named) argument) words fits = skip_value looped n argument words fits
+skip_leaf looped n (stack_pop named) words fits = ((λ h. h), (λ h. h))
+skip_leaf looped n (queue_take named) words fits = ((λ h. h), (λ h. h))
 skip_leaf looped n (bound name call) words fits = skip_call looped n call words fits
 
 skip_number : (n : ℕ) (number : Word) (words : List Word) → IsTrue (is_number number) → AreNested n (number ∷ words) ↔ AreNested n words

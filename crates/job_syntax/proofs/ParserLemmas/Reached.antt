@@ -54,13 +54,13 @@ given_argument (Some name) op last = refl
 fits_given : (looped : Bool) (given : Option Name) (op : UnaryOp) (last : Word) → IsGiven given op → takes op looped last ≡ true → IsLeaf looped (given_leaf given (with_argument op last))
 fits_given looped None op last is e = e
 fits_given looped (Some name) work last is e = elim is [ ]
-fits_given looped (Some name) counter_add last is e = e
-fits_given looped (Some name) stack_push last is e = e
-fits_given looped (Some name) tree_insert last is e = e
-fits_given looped (Some name) tree_remove last is e = e
-fits_given looped (Some name) tree_find last is e = e
-fits_given looped (Some name) tree_next last is e = e
-fits_given looped (Some name) queue_insert last is e = e
+fits_given looped (Some name) (counter_add named) last is e = e
+fits_given looped (Some name) (stack_push named) last is e = e
+fits_given looped (Some name) (tree_insert named) last is e = e
+fits_given looped (Some name) (tree_remove named) last is e = e
+fits_given looped (Some name) (tree_find named) last is e = e
+fits_given looped (Some name) (tree_next named) last is e = e
+fits_given looped (Some name) (queue_insert named) last is e = e
 
 reach_argument : (words : List Word) (blocks : List OpenBlock) (items : Items) (given : Option Name) (op : UnaryOp) (last : Word) → IsReached words (at blocks items (an_argument given op)) →
     (b : Bool) → takes op (are_looped blocks) last ≡ b →
@@ -71,13 +71,13 @@ reach_argument words blocks items given op last reached true e =
 
 takes_zero : (looped : Bool) (op : UnaryOp) → takes op looped (Number (Some 0)) ≡ true
 takes_zero looped work = refl
-takes_zero looped counter_add = refl
-takes_zero looped stack_push = refl
-takes_zero looped tree_insert = refl
-takes_zero looped tree_remove = refl
-takes_zero looped tree_find = refl
-takes_zero looped tree_next = refl
-takes_zero looped queue_insert = refl
+takes_zero looped (counter_add named) = refl
+takes_zero looped (stack_push named) = refl
+takes_zero looped (tree_insert named) = refl
+takes_zero looped (tree_remove named) = refl
+takes_zero looped (tree_find named) = refl
+takes_zero looped (tree_next named) = refl
+takes_zero looped (queue_insert named) = refl
 
 -- a step by the argument 0
 pub added_zero : {words : List Word} {blocks : List OpenBlock} {items : Items} (given : Option Name) (op : UnaryOp) → IsReached words (at blocks items (an_argument given op)) →
@@ -98,10 +98,10 @@ reach_equals words blocks items name _ reached = tt
 
 reach_object : (words : List Word) (blocks : List OpenBlock) (items : Items) (name : Name) (last : Word) → IsReached words (at blocks items (a_let_object name)) →
     IfSome (object_step blocks items name (object_of last)) (IsReached (words ++ last ∷ []))
-reach_object words blocks items name Counter reached = moved (a_call (Some name) object.Counter) Counter reached refl tt
-reach_object words blocks items name Stack reached = moved (a_call (Some name) object.Stack) Stack reached refl tt
-reach_object words blocks items name Tree reached = moved (a_call (Some name) object.Tree) Tree reached refl tt
-reach_object words blocks items name Queue reached = moved (a_call (Some name) object.Queue) Queue reached refl tt
+reach_object words blocks items name (Counter named) reached = moved (a_call (Some name) (object.Counter named)) (Counter named) reached refl tt
+reach_object words blocks items name (Stack named) reached = moved (a_call (Some name) (object.Stack named)) (Stack named) reached refl tt
+reach_object words blocks items name (Tree named) reached = moved (a_call (Some name) (object.Tree named)) (Tree named) reached refl tt
+reach_object words blocks items name (Queue named) reached = moved (a_call (Some name) (object.Queue named)) (Queue named) reached refl tt
 reach_object words blocks items name _ reached = tt
 
 reach_for : (words : List Word) (blocks : List OpenBlock) (items : Items) (last : Word) → IsReached words (at blocks items for_copies) →
@@ -131,15 +131,15 @@ given_call op h (Some name) = h name
 
 written_call : (looped : Bool) (of : Object) (last : Word) →
     IfSome (call_behind of last) (λ call. (object_words of ++ last ∷ [] ≡ call_words call) × FitsCall looped call)
-written_call looped object.Counter Add = (refl, given_call counter_add (λ name. tt))
-written_call looped object.Stack Push = (refl, given_call stack_push (λ name. tt))
-written_call looped object.Stack Pop = (refl, (tt, tt))
-written_call looped object.Tree Insert = (refl, given_call tree_insert (λ name. tt))
-written_call looped object.Tree Remove = (refl, given_call tree_remove (λ name. tt))
-written_call looped object.Tree Find = (refl, given_call tree_find (λ name. tt))
-written_call looped object.Tree Next = (refl, given_call tree_next (λ name. tt))
-written_call looped object.Queue Insert = (refl, given_call queue_insert (λ name. tt))
-written_call looped object.Queue Take = (refl, (tt, tt))
+written_call looped (object.Counter named) Add = (refl, given_call (counter_add named) (λ name. tt))
+written_call looped (object.Stack named) Push = (refl, given_call (stack_push named) (λ name. tt))
+written_call looped (object.Stack named) Pop = (refl, (tt, tt))
+written_call looped (object.Tree named) Insert = (refl, given_call (tree_insert named) (λ name. tt))
+written_call looped (object.Tree named) Remove = (refl, given_call (tree_remove named) (λ name. tt))
+written_call looped (object.Tree named) Find = (refl, given_call (tree_find named) (λ name. tt))
+written_call looped (object.Tree named) Next = (refl, given_call (tree_next named) (λ name. tt))
+written_call looped (object.Queue named) Insert = (refl, given_call (queue_insert named) (λ name. tt))
+written_call looped (object.Queue named) Take = (refl, (tt, tt))
 written_call looped _ _ = tt
 
 behind_given : (given : Option Name) (of : Object) (last : Word) (words : List Word) → object_words of ++ last ∷ [] ≡ words → place_words (a_call given of) ++ last ∷ [] ≡ given_words given ++ words
@@ -186,10 +186,10 @@ reach_item : (words : List Word) (blocks : List OpenBlock) (items : Items) (last
 reach_item words [] items Close reached = tt
 reach_item words (block ∷ blocks) items Close reached = reach_close block blocks items reached
 reach_item words blocks items Work reached = moved (an_argument None work) Work reached refl tt
-reach_item words blocks items Counter reached = moved (a_call None object.Counter) Counter reached refl tt
-reach_item words blocks items Stack reached = moved (a_call None object.Stack) Stack reached refl tt
-reach_item words blocks items Tree reached = moved (a_call None object.Tree) Tree reached refl tt
-reach_item words blocks items Queue reached = moved (a_call None object.Queue) Queue reached refl tt
+reach_item words blocks items (Counter named) reached = moved (a_call None (object.Counter named)) (Counter named) reached refl tt
+reach_item words blocks items (Stack named) reached = moved (a_call None (object.Stack named)) (Stack named) reached refl tt
+reach_item words blocks items (Tree named) reached = moved (a_call None (object.Tree named)) (Tree named) reached refl tt
+reach_item words blocks items (Queue named) reached = moved (a_call None (object.Queue named)) (Queue named) reached refl tt
 reach_item words blocks items Let reached = moved a_let_name Let reached refl tt
 reach_item words blocks items Seq reached = moved (a_brace seq_block) Seq reached refl tt
 reach_item words blocks items Par reached = moved (a_brace par_block) Par reached refl tt

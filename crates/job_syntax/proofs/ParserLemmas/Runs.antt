@@ -22,25 +22,25 @@ run-none (first ∷ words) = run-none words
 run_leaf : (blocks : List OpenBlock) (items : Items) (leaf : Leaf) (words : List Word) → IsLeaf (are_looped blocks) leaf →
     run (Some (at blocks items an_item)) (leaf_words leaf ++ words) ≡ run (Some (with_leaf blocks items leaf)) words
 run_leaf blocks items (with_argument work argument) words fits = rw fits refl
-run_leaf blocks items (with_argument counter_add argument) words fits = rw fits refl
-run_leaf blocks items (with_argument stack_push argument) words fits = rw fits refl
-run_leaf blocks items (with_argument tree_insert argument) words fits = rw fits refl
-run_leaf blocks items (with_argument tree_remove argument) words fits = rw fits refl
-run_leaf blocks items (with_argument tree_find argument) words fits = rw fits refl
-run_leaf blocks items (with_argument tree_next argument) words fits = rw fits refl
-run_leaf blocks items (with_argument queue_insert argument) words fits = rw fits refl
-run_leaf blocks items stack_pop words fits = refl
-run_leaf blocks items queue_take words fits = refl
+run_leaf blocks items (with_argument (counter_add named) argument) words fits = rw fits refl
+run_leaf blocks items (with_argument (stack_push named) argument) words fits = rw fits refl
+run_leaf blocks items (with_argument (tree_insert named) argument) words fits = rw fits refl
+run_leaf blocks items (with_argument (tree_remove named) argument) words fits = rw fits refl
+run_leaf blocks items (with_argument (tree_find named) argument) words fits = rw fits refl
+run_leaf blocks items (with_argument (tree_next named) argument) words fits = rw fits refl
+run_leaf blocks items (with_argument (queue_insert named) argument) words fits = rw fits refl
+run_leaf blocks items (stack_pop named) words fits = refl
+run_leaf blocks items (queue_take named) words fits = refl
 run_leaf blocks items (bound name (with_argument work argument)) words fits = elim fits [ ]
-run_leaf blocks items (bound name (with_argument counter_add argument)) words fits = rw fits refl
-run_leaf blocks items (bound name (with_argument stack_push argument)) words fits = rw fits refl
-run_leaf blocks items (bound name (with_argument tree_insert argument)) words fits = rw fits refl
-run_leaf blocks items (bound name (with_argument tree_remove argument)) words fits = rw fits refl
-run_leaf blocks items (bound name (with_argument tree_find argument)) words fits = rw fits refl
-run_leaf blocks items (bound name (with_argument tree_next argument)) words fits = rw fits refl
-run_leaf blocks items (bound name (with_argument queue_insert argument)) words fits = rw fits refl
-run_leaf blocks items (bound name stack_pop) words fits = refl
-run_leaf blocks items (bound name queue_take) words fits = refl
+run_leaf blocks items (bound name (with_argument (counter_add named) argument)) words fits = rw fits refl
+run_leaf blocks items (bound name (with_argument (stack_push named) argument)) words fits = rw fits refl
+run_leaf blocks items (bound name (with_argument (tree_insert named) argument)) words fits = rw fits refl
+run_leaf blocks items (bound name (with_argument (tree_remove named) argument)) words fits = rw fits refl
+run_leaf blocks items (bound name (with_argument (tree_find named) argument)) words fits = rw fits refl
+run_leaf blocks items (bound name (with_argument (tree_next named) argument)) words fits = rw fits refl
+run_leaf blocks items (bound name (with_argument (queue_insert named) argument)) words fits = rw fits refl
+run_leaf blocks items (bound name (stack_pop named)) words fits = refl
+run_leaf blocks items (bound name (queue_take named)) words fits = refl
 run_leaf blocks items (bound name (bound other call)) words fits = elim fits [ ]
 
 -- the words that open a block lead to the state inside it

@@ -56,14 +56,14 @@ own_from x name e = subst (λ b. IsTrue (is_some (or_else None (if b then Some 0
 
 leaf_to : (leaf : Leaf) (name : Name) → IsIn name (lets_of leaf) → Has (names_of leaf) name
 leaf_to (with_argument op argument) name h = cc
-leaf_to stack_pop name h = cc
-leaf_to queue_take name h = cc
+leaf_to (stack_pop named) name h = cc
+leaf_to (queue_take named) name h = cc
 leaf_to (bound x call) name h = inl (own_to (same_name x name) x name refl h)
 
 leaf_from : (leaf : Leaf) (name : Name) → Has (names_of leaf) name → IsIn name (lets_of leaf)
 leaf_from (with_argument op argument) name h = elim h [ ]
-leaf_from stack_pop name h = elim h [ ]
-leaf_from queue_take name h = elim h [ ]
+leaf_from (stack_pop named) name h = elim h [ ]
+leaf_from (queue_take named) name h = elim h [ ]
 leaf_from (bound x call) name (inl e) = own_from x name e
 leaf_from (bound x call) name (inr h) = elim h [ ]
 
@@ -154,13 +154,13 @@ ends_state words blocks items place reached =
 
 op_ends : (was : Bool) (op : UnaryOp) → ends_in_let was (unary_op_words op) ≡ false
 op_ends was work = refl
-op_ends was counter_add = refl
-op_ends was stack_push = refl
-op_ends was tree_insert = refl
-op_ends was tree_remove = refl
-op_ends was tree_find = refl
-op_ends was tree_next = refl
-op_ends was queue_insert = refl
+op_ends was (counter_add named) = refl
+op_ends was (stack_push named) = refl
+op_ends was (tree_insert named) = refl
+op_ends was (tree_remove named) = refl
+op_ends was (tree_find named) = refl
+op_ends was (tree_next named) = refl
+op_ends was (queue_insert named) = refl
 
 pub argument_ends : (was : Bool) (given : Option Name) (op : UnaryOp) → ends_in_let was (place_words (an_argument given op)) ≡ false
 argument_ends was None op = op_ends was op
@@ -175,10 +175,10 @@ known_sees words blocks items a_let_name name new reached e known ends =
 known_sees words blocks items an_item name new reached e known ends = cc
 known_sees words blocks items (an_equals other) name new reached e known ends = cc
 known_sees words blocks items (a_let_object other) name new reached e known ends = cc
-known_sees words blocks items (a_call given object.Counter) name new reached e known ends = cc
-known_sees words blocks items (a_call given object.Stack) name new reached e known ends = cc
-known_sees words blocks items (a_call given object.Tree) name new reached e known ends = cc
-known_sees words blocks items (a_call given object.Queue) name new reached e known ends = cc
+known_sees words blocks items (a_call given (object.Counter named)) name new reached e known ends = cc
+known_sees words blocks items (a_call given (object.Stack named)) name new reached e known ends = cc
+known_sees words blocks items (a_call given (object.Tree named)) name new reached e known ends = cc
+known_sees words blocks items (a_call given (object.Queue named)) name new reached e known ends = cc
 known_sees words blocks items for_copies name new reached e known ends = cc
 known_sees words blocks items pfor_copies name new reached e known ends = cc
 known_sees words blocks items (a_brace kind) name new reached e known ends = cc

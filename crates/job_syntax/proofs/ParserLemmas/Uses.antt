@@ -39,13 +39,13 @@ skip (word ∷ front) before rest none h =
 
 op_names : (op : UnaryOp) → NoNames (unary_op_words op)
 op_names work = ((λ name e. cc), tt)
-op_names counter_add = ((λ name e. cc), ((λ name e. cc), tt))
-op_names stack_push = ((λ name e. cc), ((λ name e. cc), tt))
-op_names tree_insert = ((λ name e. cc), ((λ name e. cc), tt))
-op_names tree_remove = ((λ name e. cc), ((λ name e. cc), tt))
-op_names tree_find = ((λ name e. cc), ((λ name e. cc), tt))
-op_names tree_next = ((λ name e. cc), ((λ name e. cc), tt))
-op_names queue_insert = ((λ name e. cc), ((λ name e. cc), tt))
+op_names (counter_add named) = ((λ name e. cc), ((λ name e. cc), tt))
+op_names (stack_push named) = ((λ name e. cc), ((λ name e. cc), tt))
+op_names (tree_insert named) = ((λ name e. cc), ((λ name e. cc), tt))
+op_names (tree_remove named) = ((λ name e. cc), ((λ name e. cc), tt))
+op_names (tree_find named) = ((λ name e. cc), ((λ name e. cc), tt))
+op_names (tree_next named) = ((λ name e. cc), ((λ name e. cc), tt))
+op_names (queue_insert named) = ((λ name e. cc), ((λ name e. cc), tt))
 
 number_names : (copies : Word) → IsTrue (is_number copies) → (name : Name) → copies ≢ Named name
 number_names (Number n) fits name e = cc
@@ -106,22 +106,22 @@ module _ {words : List Word} {blocks : List OpenBlock} {items : Items} (reached 
   call_known : (given : Option Name) (call : Leaf) (looped : Bool) (rest : List Word) → IsCall looped call → IsShownLeaf (scope_at blocks items) call
       → AreKnownWords (words ++ (given_words given ++ leaf_words call)) rest → AreKnownWords (words ++ given_words given) (leaf_words call ++ rest)
   call_known given (with_argument work argument) looped rest fits shown h = elim fits [ ]
-  call_known given (with_argument counter_add argument) looped rest fits shown h = unary_known given counter_add argument rest (given_fits given counter_add (λ name. tt)) shown h
-  call_known given (with_argument stack_push argument) looped rest fits shown h = unary_known given stack_push argument rest (given_fits given stack_push (λ name. tt)) shown h
-  call_known given (with_argument tree_insert argument) looped rest fits shown h = unary_known given tree_insert argument rest (given_fits given tree_insert (λ name. tt)) shown h
-  call_known given (with_argument tree_remove argument) looped rest fits shown h = unary_known given tree_remove argument rest (given_fits given tree_remove (λ name. tt)) shown h
-  call_known given (with_argument tree_find argument) looped rest fits shown h = unary_known given tree_find argument rest (given_fits given tree_find (λ name. tt)) shown h
-  call_known given (with_argument tree_next argument) looped rest fits shown h = unary_known given tree_next argument rest (given_fits given tree_next (λ name. tt)) shown h
-  call_known given (with_argument queue_insert argument) looped rest fits shown h = unary_known given queue_insert argument rest (given_fits given queue_insert (λ name. tt)) shown h
-  call_known given stack_pop looped rest fits shown h = skip (Stack ∷ Pop ∷ []) (words ++ given_words given) rest ((λ name e. cc), ((λ name e. cc), tt)) (subst (λ ws. AreKnownWords ws rest) (sym (append_assoc words (given_words given) (Stack ∷ Pop ∷ []))) h)
-  call_known given queue_take looped rest fits shown h = skip (Queue ∷ Take ∷ []) (words ++ given_words given) rest ((λ name e. cc), ((λ name e. cc), tt)) (subst (λ ws. AreKnownWords ws rest) (sym (append_assoc words (given_words given) (Queue ∷ Take ∷ []))) h)
+  call_known given (with_argument (counter_add named) argument) looped rest fits shown h = unary_known given (counter_add named) argument rest (given_fits given (counter_add named) (λ name. tt)) shown h
+  call_known given (with_argument (stack_push named) argument) looped rest fits shown h = unary_known given (stack_push named) argument rest (given_fits given (stack_push named) (λ name. tt)) shown h
+  call_known given (with_argument (tree_insert named) argument) looped rest fits shown h = unary_known given (tree_insert named) argument rest (given_fits given (tree_insert named) (λ name. tt)) shown h
+  call_known given (with_argument (tree_remove named) argument) looped rest fits shown h = unary_known given (tree_remove named) argument rest (given_fits given (tree_remove named) (λ name. tt)) shown h
+  call_known given (with_argument (tree_find named) argument) looped rest fits shown h = unary_known given (tree_find named) argument rest (given_fits given (tree_find named) (λ name. tt)) shown h
+  call_known given (with_argument (tree_next named) argument) looped rest fits shown h = unary_known given (tree_next named) argument rest (given_fits given (tree_next named) (λ name. tt)) shown h
+  call_known given (with_argument (queue_insert named) argument) looped rest fits shown h = unary_known given (queue_insert named) argument rest (given_fits given (queue_insert named) (λ name. tt)) shown h
+  call_known given (stack_pop named) looped rest fits shown h = skip (Stack named ∷ Pop ∷ []) (words ++ given_words given) rest ((λ name e. cc), ((λ name e. cc), tt)) (subst (λ ws. AreKnownWords ws rest) (sym (append_assoc words (given_words given) (Stack named ∷ Pop ∷ []))) h)
+  call_known given (queue_take named) looped rest fits shown h = skip (Queue named ∷ Take ∷ []) (words ++ given_words given) rest ((λ name e. cc), ((λ name e. cc), tt)) (subst (λ ws. AreKnownWords ws rest) (sym (append_assoc words (given_words given) (Queue named ∷ Take ∷ []))) h)
   call_known given (bound name call) looped rest fits shown h = elim fits [ ]
 
   leaf_known : (leaf : Leaf) (looped : Bool) (rest : List Word) → IsLeaf looped leaf → IsShownLeaf (scope_at blocks items) leaf → AreKnownWords (words ++ leaf_words leaf) rest → AreKnownWords words (leaf_words leaf ++ rest)
   leaf_known (with_argument op argument) looped rest fits shown h =
       subst (λ ws. AreKnownWords ws ((unary_op_words op ++ argument ∷ []) ++ rest)) (append-nil words) (unary_known None op argument rest tt shown h)
-  leaf_known stack_pop looped rest fits shown h = skip (Stack ∷ Pop ∷ []) words rest ((λ name e. cc), ((λ name e. cc), tt)) h
-  leaf_known queue_take looped rest fits shown h = skip (Queue ∷ Take ∷ []) words rest ((λ name e. cc), ((λ name e. cc), tt)) h
+  leaf_known (stack_pop named) looped rest fits shown h = skip (Stack named ∷ Pop ∷ []) words rest ((λ name e. cc), ((λ name e. cc), tt)) h
+  leaf_known (queue_take named) looped rest fits shown h = skip (Queue named ∷ Take ∷ []) words rest ((λ name e. cc), ((λ name e. cc), tt)) h
   leaf_known (bound name call) looped rest fits shown h =
       let call_words = call_known (Some name) call looped rest fits shown h in
       let ends : ends_in_let false (words ++ Let ∷ []) ≡ true = ends_append false words (Let ∷ []) in
@@ -192,22 +192,22 @@ module _ {words : List Word} {blocks : List OpenBlock} {items : Items} (reached 
 
   known_call : (name : Name) (call : Leaf) (looped : Bool) (rest : List Word) → IsCall looped call → AreKnownWords (words ++ given_words (Some name)) (leaf_words call ++ rest) → IsShownLeaf (scope_at blocks items) call
   known_call name (with_argument work argument) looped rest fits h = elim fits [ ]
-  known_call name (with_argument counter_add argument) looped rest fits h = known_unary (Some name) counter_add argument rest tt h
-  known_call name (with_argument stack_push argument) looped rest fits h = known_unary (Some name) stack_push argument rest tt h
-  known_call name (with_argument tree_insert argument) looped rest fits h = known_unary (Some name) tree_insert argument rest tt h
-  known_call name (with_argument tree_remove argument) looped rest fits h = known_unary (Some name) tree_remove argument rest tt h
-  known_call name (with_argument tree_find argument) looped rest fits h = known_unary (Some name) tree_find argument rest tt h
-  known_call name (with_argument tree_next argument) looped rest fits h = known_unary (Some name) tree_next argument rest tt h
-  known_call name (with_argument queue_insert argument) looped rest fits h = known_unary (Some name) queue_insert argument rest tt h
-  known_call name stack_pop looped rest fits h = tt
-  known_call name queue_take looped rest fits h = tt
+  known_call name (with_argument (counter_add named) argument) looped rest fits h = known_unary (Some name) (counter_add named) argument rest tt h
+  known_call name (with_argument (stack_push named) argument) looped rest fits h = known_unary (Some name) (stack_push named) argument rest tt h
+  known_call name (with_argument (tree_insert named) argument) looped rest fits h = known_unary (Some name) (tree_insert named) argument rest tt h
+  known_call name (with_argument (tree_remove named) argument) looped rest fits h = known_unary (Some name) (tree_remove named) argument rest tt h
+  known_call name (with_argument (tree_find named) argument) looped rest fits h = known_unary (Some name) (tree_find named) argument rest tt h
+  known_call name (with_argument (tree_next named) argument) looped rest fits h = known_unary (Some name) (tree_next named) argument rest tt h
+  known_call name (with_argument (queue_insert named) argument) looped rest fits h = known_unary (Some name) (queue_insert named) argument rest tt h
+  known_call name (stack_pop named) looped rest fits h = tt
+  known_call name (queue_take named) looped rest fits h = tt
   known_call name (bound other call) looped rest fits h = elim fits [ ]
 
   known_leaf : (leaf : Leaf) (looped : Bool) (rest : List Word) → IsLeaf looped leaf → AreKnownWords words (leaf_words leaf ++ rest) → IsShownLeaf (scope_at blocks items) leaf
   known_leaf (with_argument op argument) looped rest fits h =
       known_unary None op argument rest tt (subst (λ ws. AreKnownWords ws ((unary_op_words op ++ argument ∷ []) ++ rest)) (sym (append-nil words)) h)
-  known_leaf stack_pop looped rest fits h = tt
-  known_leaf queue_take looped rest fits h = tt
+  known_leaf (stack_pop named) looped rest fits h = tt
+  known_leaf (queue_take named) looped rest fits h = tt
   known_leaf (bound name call) looped rest fits h =
       known_call name call looped rest fits (unskip (given_words (Some name)) words (leaf_words call ++ rest) h)
 

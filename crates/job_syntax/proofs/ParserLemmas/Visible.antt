@@ -41,54 +41,54 @@ open_value _ blocks rest h = cc
 
 pub closed_call : (call : Leaf) (rest : List Word) → IsCall true call → closed_by (leaf_words call ++ rest) ≡ closed_by rest
 closed_call (with_argument work w) rest h = elim h [ ]
-closed_call (with_argument counter_add w) rest h = closed_value w rest h
-closed_call (with_argument stack_push w) rest h = closed_value w rest h
-closed_call (with_argument tree_insert w) rest h = closed_value w rest h
-closed_call (with_argument tree_remove w) rest h = closed_value w rest h
-closed_call (with_argument tree_find w) rest h = closed_value w rest h
-closed_call (with_argument tree_next w) rest h = closed_value w rest h
-closed_call (with_argument queue_insert w) rest h = closed_value w rest h
-closed_call stack_pop rest h = refl
-closed_call queue_take rest h = refl
+closed_call (with_argument (counter_add named) w) rest h = closed_value w rest h
+closed_call (with_argument (stack_push named) w) rest h = closed_value w rest h
+closed_call (with_argument (tree_insert named) w) rest h = closed_value w rest h
+closed_call (with_argument (tree_remove named) w) rest h = closed_value w rest h
+closed_call (with_argument (tree_find named) w) rest h = closed_value w rest h
+closed_call (with_argument (tree_next named) w) rest h = closed_value w rest h
+closed_call (with_argument (queue_insert named) w) rest h = closed_value w rest h
+closed_call (stack_pop named) rest h = refl
+closed_call (queue_take named) rest h = refl
 closed_call (bound name call) rest h = elim h [ ]
 
 open_call : (call : Leaf) (blocks : List BlockKind) (rest : List Word) → IsCall true call → blocks_behind blocks (leaf_words call ++ rest) ≡ blocks_behind blocks rest
 open_call (with_argument work w) blocks rest h = elim h [ ]
-open_call (with_argument counter_add w) blocks rest h = open_value w blocks rest h
-open_call (with_argument stack_push w) blocks rest h = open_value w blocks rest h
-open_call (with_argument tree_insert w) blocks rest h = open_value w blocks rest h
-open_call (with_argument tree_remove w) blocks rest h = open_value w blocks rest h
-open_call (with_argument tree_find w) blocks rest h = open_value w blocks rest h
-open_call (with_argument tree_next w) blocks rest h = open_value w blocks rest h
-open_call (with_argument queue_insert w) blocks rest h = open_value w blocks rest h
-open_call stack_pop blocks rest h = refl
-open_call queue_take blocks rest h = refl
+open_call (with_argument (counter_add named) w) blocks rest h = open_value w blocks rest h
+open_call (with_argument (stack_push named) w) blocks rest h = open_value w blocks rest h
+open_call (with_argument (tree_insert named) w) blocks rest h = open_value w blocks rest h
+open_call (with_argument (tree_remove named) w) blocks rest h = open_value w blocks rest h
+open_call (with_argument (tree_find named) w) blocks rest h = open_value w blocks rest h
+open_call (with_argument (tree_next named) w) blocks rest h = open_value w blocks rest h
+open_call (with_argument (queue_insert named) w) blocks rest h = open_value w blocks rest h
+open_call (stack_pop named) blocks rest h = refl
+open_call (queue_take named) blocks rest h = refl
 open_call (bound name call) blocks rest h = elim h [ ]
 
 closed_leaf : (leaf : Leaf) (rest : List Word) → IsLeaf true leaf → closed_by (leaf_words leaf ++ rest) ≡ closed_by rest
 closed_leaf (with_argument work w) rest h = closed_argument w rest h
-closed_leaf (with_argument counter_add w) rest h = closed_value w rest h
-closed_leaf (with_argument stack_push w) rest h = closed_value w rest h
-closed_leaf (with_argument tree_insert w) rest h = closed_value w rest h
-closed_leaf (with_argument tree_remove w) rest h = closed_value w rest h
-closed_leaf (with_argument tree_find w) rest h = closed_value w rest h
-closed_leaf (with_argument tree_next w) rest h = closed_value w rest h
-closed_leaf (with_argument queue_insert w) rest h = closed_value w rest h
-closed_leaf stack_pop rest h = refl
-closed_leaf queue_take rest h = refl
+closed_leaf (with_argument (counter_add named) w) rest h = closed_value w rest h
+closed_leaf (with_argument (stack_push named) w) rest h = closed_value w rest h
+closed_leaf (with_argument (tree_insert named) w) rest h = closed_value w rest h
+closed_leaf (with_argument (tree_remove named) w) rest h = closed_value w rest h
+closed_leaf (with_argument (tree_find named) w) rest h = closed_value w rest h
+closed_leaf (with_argument (tree_next named) w) rest h = closed_value w rest h
+closed_leaf (with_argument (queue_insert named) w) rest h = closed_value w rest h
+closed_leaf (stack_pop named) rest h = refl
+closed_leaf (queue_take named) rest h = refl
 closed_leaf (bound name call) rest h = closed_call call rest h
 
 pub open_leaf : (leaf : Leaf) (blocks : List BlockKind) (rest : List Word) → IsLeaf true leaf → blocks_behind blocks (leaf_words leaf ++ rest) ≡ blocks_behind blocks rest
 open_leaf (with_argument work w) blocks rest h = open_argument w blocks rest h
-open_leaf (with_argument counter_add w) blocks rest h = open_value w blocks rest h
-open_leaf (with_argument stack_push w) blocks rest h = open_value w blocks rest h
-open_leaf (with_argument tree_insert w) blocks rest h = open_value w blocks rest h
-open_leaf (with_argument tree_remove w) blocks rest h = open_value w blocks rest h
-open_leaf (with_argument tree_find w) blocks rest h = open_value w blocks rest h
-open_leaf (with_argument tree_next w) blocks rest h = open_value w blocks rest h
-open_leaf (with_argument queue_insert w) blocks rest h = open_value w blocks rest h
-open_leaf stack_pop blocks rest h = refl
-open_leaf queue_take blocks rest h = refl
+open_leaf (with_argument (counter_add named) w) blocks rest h = open_value w blocks rest h
+open_leaf (with_argument (stack_push named) w) blocks rest h = open_value w blocks rest h
+open_leaf (with_argument (tree_insert named) w) blocks rest h = open_value w blocks rest h
+open_leaf (with_argument (tree_remove named) w) blocks rest h = open_value w blocks rest h
+open_leaf (with_argument (tree_find named) w) blocks rest h = open_value w blocks rest h
+open_leaf (with_argument (tree_next named) w) blocks rest h = open_value w blocks rest h
+open_leaf (with_argument (queue_insert named) w) blocks rest h = open_value w blocks rest h
+open_leaf (stack_pop named) blocks rest h = refl
+open_leaf (queue_take named) blocks rest h = refl
 open_leaf (bound name call) blocks rest h = open_call call blocks rest h
 
 closed_number : (copies : Word) (rest : List Word) → IsTrue (is_number copies) → closed_by (copies ∷ rest) ≡ closed_by rest
@@ -218,8 +218,8 @@ place_leaf : (leaf : Leaf) (more : Items) (name : Name) → IsLeaf true leaf →
 place_leaf (bound given call) more name fits is (inl same) = subst (λ n. Place (leaf_then (bound given call) more) n) same (at_leaf given call more fits is)
 place_leaf (bound given call) more name fits is (inr never) = absurd never
 place_leaf (with_argument op w) more name fits is never = absurd never
-place_leaf stack_pop more name fits is never = absurd never
-place_leaf queue_take more name fits is never = absurd never
+place_leaf (stack_pop named) more name fits is never = absurd never
+place_leaf (queue_take named) more name fits is never = absurd never
 
 place_block : (kind : BlockKind) (body more : Items) (name : Name) (loop : Bool) → is_loop kind ≡ loop → AreFlat body → AreFlat more → (Has (names_behind body) name → Place body name)
     → Has (if loop then [] else names_behind body) name → Place (block_then kind body more) name

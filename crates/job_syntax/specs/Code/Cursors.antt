@@ -8,7 +8,7 @@ use Rattle.job_syntax.specs.declared.fault.JobFault.TheVariants as fault
 use Rattle.job_syntax.specs.declared.parser.call.Object.{Object}
 use Rattle.job_syntax.specs.Faults.{has_good_numbers}
 use Rattle.job_syntax.specs.Grammar.{Items, UnaryOp, takes}
-use Rattle.job_syntax.specs.Code.Machine.{ParsedCall, call_behind, object_of, are_looped}
+use Rattle.job_syntax.specs.Code.Machine.{object_of, are_looped}
 use Rattle.job_syntax.specs.Code.Shown.{OpenBlock, scope_at, is_shown}
 use Rattle.job_names.specs.declared.name.Name.{Name}
 
@@ -69,12 +69,3 @@ brace_word open_now token tokens _ = Err (fault.Grammar token.line)
 abbrev pub brace_at : ℕ → ℕ → List WordOnLine → Result (List WordOnLine) JobFault
 brace_at last open_now [] = Err (fault.Grammar last)
 brace_at last open_now (token ∷ tokens) = brace_word open_now token tokens token.word
-
--- the call that the word behind an object's name makes
-abbrev pub call_word : WordOnLine → List WordOnLine → Option ParsedCall → Result (ParsedCall × List WordOnLine) JobFault
-call_word token tokens None = Err (fault.Grammar token.line)
-call_word token tokens (Some call) = Ok (call, tokens)
-
-abbrev pub call_at : ℕ → Object → List WordOnLine → Result (ParsedCall × List WordOnLine) JobFault
-call_at last object [] = Err (fault.Grammar last)
-call_at last object (token ∷ tokens) = call_word token tokens (call_behind object token.word)

@@ -18,25 +18,25 @@ pub data ParsedCall : Type 0 where
   unary : UnaryOp → ParsedCall
   whole : Leaf → ParsedCall
 
--- the call that an object's name and the word behind it spell, if any
+-- the call that an object and the word behind it spell, if any
 abbrev pub call_behind : Object → Word → Option ParsedCall
-call_behind object.Counter Add = Some (unary counter_add)
-call_behind object.Stack Push = Some (unary stack_push)
-call_behind object.Stack Pop = Some (whole stack_pop)
-call_behind object.Tree Insert = Some (unary tree_insert)
-call_behind object.Tree Remove = Some (unary tree_remove)
-call_behind object.Tree Find = Some (unary tree_find)
-call_behind object.Tree Next = Some (unary tree_next)
-call_behind object.Queue Insert = Some (unary queue_insert)
-call_behind object.Queue Take = Some (whole queue_take)
+call_behind (object.Counter named) Add = Some (unary (counter_add named))
+call_behind (object.Stack named) Push = Some (unary (stack_push named))
+call_behind (object.Stack named) Pop = Some (whole (stack_pop named))
+call_behind (object.Tree named) Insert = Some (unary (tree_insert named))
+call_behind (object.Tree named) Remove = Some (unary (tree_remove named))
+call_behind (object.Tree named) Find = Some (unary (tree_find named))
+call_behind (object.Tree named) Next = Some (unary (tree_next named))
+call_behind (object.Queue named) Insert = Some (unary (queue_insert named))
+call_behind (object.Queue named) Take = Some (whole (queue_take named))
 call_behind _ _ = None
 
 -- the object that a word names, if it names one
 abbrev pub object_of : Word → Option Object
-object_of Counter = Some object.Counter
-object_of Stack = Some object.Stack
-object_of Tree = Some object.Tree
-object_of Queue = Some object.Queue
+object_of (Counter named) = Some (object.Counter named)
+object_of (Stack named) = Some (object.Stack named)
+object_of (Tree named) = Some (object.Tree named)
+object_of (Queue named) = Some (object.Queue named)
 object_of _ = None
 
 -- the leaf of a call, with the name that a `let` gave, if one did
@@ -89,10 +89,10 @@ after_close (block ∷ blocks) items = Some (at blocks (block.before then block_
 abbrev pub item_step : List OpenBlock → Items → Word → Option State
 item_step blocks items Close = after_close blocks items
 item_step blocks items Work = Some (at blocks items (an_argument None work))
-item_step blocks items Counter = Some (at blocks items (a_call None object.Counter))
-item_step blocks items Stack = Some (at blocks items (a_call None object.Stack))
-item_step blocks items Tree = Some (at blocks items (a_call None object.Tree))
-item_step blocks items Queue = Some (at blocks items (a_call None object.Queue))
+item_step blocks items (Counter named) = Some (at blocks items (a_call None (object.Counter named)))
+item_step blocks items (Stack named) = Some (at blocks items (a_call None (object.Stack named)))
+item_step blocks items (Tree named) = Some (at blocks items (a_call None (object.Tree named)))
+item_step blocks items (Queue named) = Some (at blocks items (a_call None (object.Queue named)))
 item_step blocks items Let = Some (at blocks items a_let_name)
 item_step blocks items Seq = Some (at blocks items (a_brace seq_block))
 item_step blocks items Par = Some (at blocks items (a_brace par_block))

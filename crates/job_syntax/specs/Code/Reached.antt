@@ -14,10 +14,10 @@ opening_words [] = []
 opening_words (block ∷ blocks) = opening_words blocks ++ (items_words block.before ++ (kind_words block.kind ++ Open ∷ []))
 
 abbrev pub object_words : Object → List Word
-object_words object.Counter = Counter ∷ []
-object_words object.Stack = Stack ∷ []
-object_words object.Tree = Tree ∷ []
-object_words object.Queue = Queue ∷ []
+object_words (object.Counter named) = Counter named ∷ []
+object_words (object.Stack named) = Stack named ∷ []
+object_words (object.Tree named) = Tree named ∷ []
+object_words (object.Queue named) = Queue named ∷ []
 
 -- the words of a `let` before its call
 abbrev pub given_words : Option Name → List Word

@@ -16,8 +16,8 @@ pub record OpenBlock : Type 0 where
 abbrev pub lets_of : Leaf → List Let
 lets_of (bound name call) = record { name = name; number = 0 } ∷ []
 lets_of (with_argument op argument) = []
-lets_of stack_pop = []
-lets_of queue_take = []
+lets_of (stack_pop named) = []
+lets_of (queue_take named) = []
 
 -- the lets of items that are shown behind them, in text order
 abbrev pub lets_behind : Items → List Let

@@ -1,10 +1,10 @@
-//! Which word a token spells: a quoted word of the grammar, a number, or one that depends on the copy.
+//! Which word a token spells: a quoted word of the grammar, a number, one that depends on the copy, or a name.
 ghost use Rattle.std.specs.Prelude.{◌≡◌, ◌+◌, ◌<◌, [], IfSome, IfNone, IsTrue, not, length, take, drop};
 ghost use Rattle.job_syntax.specs.declared.lexer.word.Word.{Word};
-ghost use Rattle.job_syntax.specs.Words.{are_digits, begins_well, number_of, before_plus, behind_plus, copies_word, argument_word, word_of, quoted_or};
+ghost use Rattle.job_syntax.specs.Words.{are_digits, begins_well, number_of, before_first, behind_first, copies_word, kind_word, object_word, argument_word, word_of, quoted_or};
 
 use crate::lexer::word::Word;
-use job_names::{is_spelled, name_of};
+use job_names::{Name, is_spelled, name_of};
 
 /// Whether a text is digits alone, at least one.
 fn are_digits(text: &[u8]) -> bool
@@ -38,15 +38,15 @@ fn number_of(digits: &[u8]) -> Option<u32>
     Some(number)
 }
 
-/// The index of the first plus sign.
-fn plus_in(text: &[u8]) -> Option<usize>
-    ensures none { IfNone result (behind_plus text.now ≡ []) }
-    ensures within { IfSome result (λ plus. plus < length text.now) }
-    ensures before { IfSome result (λ plus. before_plus text.now ≡ take plus text.now) }
-    ensures behind { IfSome result (λ plus. behind_plus text.now ≡ drop (plus + 1) text.now) }
+/// The index of the first byte that is `mark`.
+fn first_index(mark: u8, text: &[u8]) -> Option<usize>
+    ensures none { IfNone result (behind_first mark text.now ≡ []) }
+    ensures within { IfSome result (λ index. index < length text.now) }
+    ensures before { IfSome result (λ index. before_first mark text.now ≡ take index text.now) }
+    ensures behind { IfSome result (λ index. behind_first mark text.now ≡ drop (index + 1) text.now) }
 {
     for (index, byte) in text.iter().enumerate() {
-        if *byte == b'+' {
+        if *byte == mark {
             return Some(index);
         }
     }
@@ -57,13 +57,41 @@ fn plus_in(text: &[u8]) -> Option<usize>
 fn copies_word(text: &[u8]) -> Word
     ensures { result ≡ copies_word text.now }
 {
-    let Some(plus) = plus_in(text) else {
+    let Some(plus) = first_index(b'+', text) else {
         return Word::Other;
     };
     let factor = &text[..plus];
     let addend = &text[plus + 1..];
     if are_digits(factor) && are_digits(addend) {
         Word::Copies(number_of(factor).zip(number_of(addend)))
+    } else {
+        Word::Other
+    }
+}
+
+/// The word of a kind of objects, with the name of one of them.
+fn kind_word(text: &[u8], name: Name) -> Word
+    ensures { result ≡ kind_word text.now name }
+{
+    match text {
+        b"counter" => Word::Counter(Some(name)),
+        b"stack" => Word::Stack(Some(name)),
+        b"tree" => Word::Tree(Some(name)),
+        b"queue" => Word::Queue(Some(name)),
+        _ => Word::Other,
+    }
+}
+
+/// The word of a token with a colon.
+fn object_word(text: &[u8]) -> Word
+    ensures { result ≡ object_word text.now }
+{
+    let Some(colon) = first_index(b':', text) else {
+        return Word::Other;
+    };
+    let name = &text[colon + 1..];
+    if is_spelled(name) {
+        kind_word(&text[..colon], name_of(name))
     } else {
         Word::Other
     }
@@ -80,7 +108,7 @@ fn argument_word(text: &[u8]) -> Word
         [b'@'] => Word::Copies(Some((1, 0))),
         [b'@', b'*', rest @ ..] => copies_word(rest),
         _ if is_spelled(text) => Word::Named(name_of(text)),
-        _ => Word::Other,
+        _ => object_word(text),
     }
 }
 
@@ -93,10 +121,10 @@ fn quoted_word(text: &[u8]) -> Option<Word>
         b"{" => Word::Open,
         b"}" => Word::Close,
         b"work" => Word::Work,
-        b"counter" => Word::Counter,
-        b"stack" => Word::Stack,
-        b"tree" => Word::Tree,
-        b"queue" => Word::Queue,
+        b"counter" => Word::Counter(None),
+        b"stack" => Word::Stack(None),
+        b"tree" => Word::Tree(None),
+        b"queue" => Word::Queue(None),
         b"add" => Word::Add,
         b"push" => Word::Push,
         b"pop" => Word::Pop,

@@ -1,25 +1,25 @@
-//! The calls of the four objects, as the language spells them.
-ghost use Rattle.std.specs.Prelude.{◌≡◌};
-ghost use Rattle.job_syntax.specs.Code.Machine.{call_behind, object_of};
-ghost use Rattle.job_syntax.specs.Code.Calls.{found_view};
+//! The calls of the four kinds of objects, as the language spells them.
+ghost use Rattle.std.specs.Prelude.{◌≡◌, ◌≤◌, ◌∷◌, OnOk, length};
+ghost use Rattle.job_syntax.specs.Code.Machine.{at, an_argument, a_call, object_of};
+ghost use Rattle.job_syntax.specs.Code.OpenBlocks.{ShowsLets, view};
+ghost use Rattle.job_syntax.specs.Code.Steps.{Steps};
+ghost use Rattle.job_syntax.specs.Views.{unary_op_of};
 
+use crate::error::JobErr;
+use crate::fault::JobFault;
 use crate::item::{Leaf, UnaryOp};
-use crate::lexer::word::Word;
+use crate::lexer::word::{Word, WordOnLine};
+use crate::parser::blocks::BlockStack;
+use crate::parser::cursor::Cursor;
+use job_names::Name;
 
-/// An object, as the first word of a call names it.
+/// An object, as the first word of a call names it: its kind, and its name, if it has one.
 #[derive(Clone, Copy)]
 pub(crate) enum Object {
-    Counter,
-    Stack,
-    Tree,
-    Queue,
-}
-
-/// A call: one that still needs its argument, or a whole leaf.
-#[derive(Clone, Copy)]
-pub(crate) enum ParsedCall {
-    WithArgument(UnaryOp),
-    Whole(Leaf),
+    Counter(Option<Name>),
+    Stack(Option<Name>),
+    Tree(Option<Name>),
+    Queue(Option<Name>),
 }
 
 /// The object that a word names, if it names one.
@@ -27,63 +27,156 @@ pub(crate) fn object_of(word: Word) -> Option<Object>
     ensures { result ≡ object_of word }
 {
     match word {
-        Word::Counter => Some(Object::Counter),
-        Word::Stack => Some(Object::Stack),
-        Word::Tree => Some(Object::Tree),
-        Word::Queue => Some(Object::Queue),
+        Word::Counter(name) => Some(Object::Counter(name)),
+        Word::Stack(name) => Some(Object::Stack(name)),
+        Word::Tree(name) => Some(Object::Tree(name)),
+        Word::Queue(name) => Some(Object::Queue(name)),
         _ => None,
     }
 }
 
-/// The call that an object's name and the word behind it spell, if any.
-pub(crate) fn call_behind(object: Object, word: Word) -> Option<ParsedCall>
-    ensures { found_view result ≡ call_behind object word }
+/// Reads the argument of an operation, and adds the leaf. `given` is the name of the `let` before it, if there is one.
+pub(crate) fn read_argument(
+    stack: &mut BlockStack,
+    given: Option<Name>,
+    op: UnaryOp,
+    words: &mut Cursor,
+    last: u32,
+) -> Result<(), JobErr>
+    requires { ShowsLets stack.old }
+    ensures steps { Steps last
+        (at (view stack.old).blocks (view stack.old).items (an_argument given (unary_op_of op))) words.old
+        (view stack.new) words.new result }
+    ensures shows { OnOk result (ShowsLets stack.new) }
+    ensures shorter { length words.new ≤ length words.old }
 {
+    let argument = words.argument(last, op, stack)?;
+    stack.add(given, Leaf::WithArgument(op, argument))?;
+    Ok(())
+}
+
+/// Reads the rest of a call of a counter from `token` on, and adds the leaf.
+fn read_counter_call(
+    stack: &mut BlockStack,
+    given: Option<Name>,
+    name: Option<Name>,
+    token: WordOnLine,
+    words: &mut Cursor,
+    last: u32,
+) -> Result<(), JobErr>
+    requires { ShowsLets stack.old }
+    ensures steps { Steps last
+        (at (view stack.old).blocks (view stack.old).items (a_call given (Object.Counter name))) (token ∷ words.old)
+        (view stack.new) words.new result }
+    ensures shows { OnOk result (ShowsLets stack.new) }
+    ensures shorter { length words.new ≤ length words.old }
+{
+    match token.word {
+        Word::Add => read_argument(stack, given, UnaryOp::CounterAdd(name), words, last),
+        _ => Err(JobErr::Bad(JobFault::Grammar { line: token.line })),
+    }
+}
+
+/// Reads the rest of a call of a stack from `token` on, and adds the leaf.
+fn read_stack_call(
+    stack: &mut BlockStack,
+    given: Option<Name>,
+    name: Option<Name>,
+    token: WordOnLine,
+    words: &mut Cursor,
+    last: u32,
+) -> Result<(), JobErr>
+    requires { ShowsLets stack.old }
+    ensures steps { Steps last
+        (at (view stack.old).blocks (view stack.old).items (a_call given (Object.Stack name))) (token ∷ words.old)
+        (view stack.new) words.new result }
+    ensures shows { OnOk result (ShowsLets stack.new) }
+    ensures shorter { length words.new ≤ length words.old }
+{
+    match token.word {
+        Word::Push => read_argument(stack, given, UnaryOp::StackPush(name), words, last),
+        Word::Pop => {
+            stack.add(given, Leaf::StackPop(name))?;
+            Ok(())
+        }
+        _ => Err(JobErr::Bad(JobFault::Grammar { line: token.line })),
+    }
+}
+
+/// Reads the rest of a call of a tree from `token` on, and adds the leaf.
+fn read_tree_call(
+    stack: &mut BlockStack,
+    given: Option<Name>,
+    name: Option<Name>,
+    token: WordOnLine,
+    words: &mut Cursor,
+    last: u32,
+) -> Result<(), JobErr>
+    requires { ShowsLets stack.old }
+    ensures steps { Steps last
+        (at (view stack.old).blocks (view stack.old).items (a_call given (Object.Tree name))) (token ∷ words.old)
+        (view stack.new) words.new result }
+    ensures shows { OnOk result (ShowsLets stack.new) }
+    ensures shorter { length words.new ≤ length words.old }
+{
+    match token.word {
+        Word::Insert => read_argument(stack, given, UnaryOp::TreeInsert(name), words, last),
+        Word::Remove => read_argument(stack, given, UnaryOp::TreeRemove(name), words, last),
+        Word::Find => read_argument(stack, given, UnaryOp::TreeFind(name), words, last),
+        Word::Next => read_argument(stack, given, UnaryOp::TreeNext(name), words, last),
+        _ => Err(JobErr::Bad(JobFault::Grammar { line: token.line })),
+    }
+}
+
+/// Reads the rest of a call of a queue from `token` on, and adds the leaf.
+fn read_queue_call(
+    stack: &mut BlockStack,
+    given: Option<Name>,
+    name: Option<Name>,
+    token: WordOnLine,
+    words: &mut Cursor,
+    last: u32,
+) -> Result<(), JobErr>
+    requires { ShowsLets stack.old }
+    ensures steps { Steps last
+        (at (view stack.old).blocks (view stack.old).items (a_call given (Object.Queue name))) (token ∷ words.old)
+        (view stack.new) words.new result }
+    ensures shows { OnOk result (ShowsLets stack.new) }
+    ensures shorter { length words.new ≤ length words.old }
+{
+    match token.word {
+        Word::Insert => read_argument(stack, given, UnaryOp::QueueInsert(name), words, last),
+        Word::Take => {
+            stack.add(given, Leaf::QueueTake(name))?;
+            Ok(())
+        }
+        _ => Err(JobErr::Bad(JobFault::Grammar { line: token.line })),
+    }
+}
+
+/// Reads the rest of a call behind its object, and adds the leaf.
+#[inline(always)]
+pub(crate) fn read_call(
+    stack: &mut BlockStack,
+    given: Option<Name>,
+    object: Object,
+    words: &mut Cursor,
+    last: u32,
+) -> Result<(), JobErr>
+    requires { ShowsLets stack.old }
+    ensures steps { Steps last
+        (at (view stack.old).blocks (view stack.old).items (a_call given object)) words.old
+        (view stack.new) words.new result }
+    ensures shows { OnOk result (ShowsLets stack.new) }
+    ensures shorter { length words.new ≤ length words.old }
+{
+    let Some(token) = words.next() else {
+        return Err(JobErr::Bad(JobFault::Grammar { line: last }));
+    };
     match object {
-        Object::Counter => counter_call(word),
-        Object::Stack => stack_call(word),
-        Object::Tree => tree_call(word),
-        Object::Queue => queue_call(word),
-    }
-}
-
-fn counter_call(word: Word) -> Option<ParsedCall>
-    ensures { found_view result ≡ call_behind Object.Counter word }
-{
-    match word {
-        Word::Add => Some(ParsedCall::WithArgument(UnaryOp::CounterAdd)),
-        _ => None,
-    }
-}
-
-fn stack_call(word: Word) -> Option<ParsedCall>
-    ensures { found_view result ≡ call_behind Object.Stack word }
-{
-    match word {
-        Word::Push => Some(ParsedCall::WithArgument(UnaryOp::StackPush)),
-        Word::Pop => Some(ParsedCall::Whole(Leaf::StackPop)),
-        _ => None,
-    }
-}
-
-fn tree_call(word: Word) -> Option<ParsedCall>
-    ensures { found_view result ≡ call_behind Object.Tree word }
-{
-    match word {
-        Word::Insert => Some(ParsedCall::WithArgument(UnaryOp::TreeInsert)),
-        Word::Remove => Some(ParsedCall::WithArgument(UnaryOp::TreeRemove)),
-        Word::Find => Some(ParsedCall::WithArgument(UnaryOp::TreeFind)),
-        Word::Next => Some(ParsedCall::WithArgument(UnaryOp::TreeNext)),
-        _ => None,
-    }
-}
-
-fn queue_call(word: Word) -> Option<ParsedCall>
-    ensures { found_view result ≡ call_behind Object.Queue word }
-{
-    match word {
-        Word::Insert => Some(ParsedCall::WithArgument(UnaryOp::QueueInsert)),
-        Word::Take => Some(ParsedCall::Whole(Leaf::QueueTake)),
-        _ => None,
+        Object::Counter(name) => read_counter_call(stack, given, name, token, words, last),
+        Object::Stack(name) => read_stack_call(stack, given, name, token, words, last),
+        Object::Tree(name) => read_tree_call(stack, given, name, token, words, last),
+        Object::Queue(name) => read_queue_call(stack, given, name, token, words, last),
     }
 }

@@ -5,7 +5,7 @@ use crate::fault::JobFault;
 use crate::item::{Argument, UnaryOp};
 use crate::lexer::word::{Word, WordOnLine};
 use crate::parser::blocks::BlockStack;
-use crate::parser::call::{Object, ParsedCall, call_behind, object_of};
+use crate::parser::call::{Object, object_of};
 use job_names::Name;
 use std::marker::Model;
 
@@ -54,8 +54,7 @@ impl<'a> Cursor<'a> {
 
 impl<'a> Cursor<'a> {
     ghost use Rattle.job_syntax.specs.Grammar.{is_number};
-    ghost use Rattle.job_syntax.specs.Code.Calls.{call_view};
-    ghost use Rattle.job_syntax.specs.Code.Cursors.{word_at, argument_at, name_at, equals_at, object_at, brace_at, call_at};
+    ghost use Rattle.job_syntax.specs.Code.Cursors.{word_at, argument_at, name_at, equals_at, object_at, brace_at};
     ghost use Rattle.job_syntax.specs.Code.OpenBlocks.{ShowsLets, view};
     ghost use Rattle.job_syntax.specs.Views.{argument_word, unary_op_of};
     ghost use Rattle.job_syntax.specs.declared.lexer.word.Word.TheVariants.{Number};
@@ -176,22 +175,6 @@ impl<'a> Cursor<'a> {
             }),
             Word::Open => Ok(()),
             _ => Err(JobFault::Grammar { line: token.line }),
-        }
-    }
-
-    /// Takes the word behind an object's name, which makes a call.
-    pub(crate) fn call(&mut self, last: u32, object: Object) -> Result<ParsedCall, JobFault>
-        ensures gives { MatchResult result
-            (λ call. call_at last object self.old ≡ Ok (call_view call, self.new))
-            (λ found. call_at last object self.old ≡ Err found) }
-        ensures shorter { length self.new ≤ length self.old }
-    {
-        let Some(token) = self.next() else {
-            return Err(JobFault::Grammar { line: last });
-        };
-        match call_behind(object, token.word) {
-            Some(call) => Ok(call),
-            None => Err(JobFault::Grammar { line: token.line }),
         }
     }
 }

@@ -3,7 +3,7 @@ use Rattle.job_syntax.specs.Views.{items_of, unary_op_of, argument_word}
 use Rattle.job_syntax.specs.Code.Machine.{read_from}
 use Rattle.job_syntax.specs.Code.OpenBlocks.{blocks_on}
 use Rattle.job_syntax.proofs.ParserLemmas.Arguments.{argument_reads, argument_fails}
-use Rattle.job_syntax.proofs.parser.read_argument.Goals as goal
+use Rattle.job_syntax.proofs.parser.call.read_argument.Goals as goal
 
 pub returns-in_err-argument-clause-steps : goal.returns-in_err-argument-clause-steps
 returns-in_err-argument-clause-steps c =

@@ -9,3 +9,7 @@ pub mod Scoped
 pub mod Sourcing
 pub mod Before
 pub mod Naming
+pub mod Listing
+pub mod Kept
+pub mod Places
+pub mod Numbering

@@ -6,3 +6,4 @@ pub mod Filling
 pub mod Phases
 pub mod Texts
 pub mod Sources
+pub mod Unnamed

@@ -5,3 +5,4 @@ pub mod LimitLemmas
 pub mod ReaderLemmas
 pub mod Weights
 pub mod WriterLemmas
+pub mod Spellings

@@ -5,3 +5,4 @@ pub mod LeavesLines
 pub mod SmallActs
 pub mod TooManyLeaves
 pub mod WordCounts
+pub mod GoodWords

@@ -8,3 +8,5 @@ pub mod Names
 pub mod Sources
 pub mod Shown
 pub mod Marks
+pub mod Again
+pub mod Kinds

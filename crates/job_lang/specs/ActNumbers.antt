@@ -1,4 +1,4 @@
--- The number that an operation or an act carries.
+-- The argument of an operation, and the number that an act carries.
 use Rattle.std.specs.Prelude.{ℕ, ◌<◌, ◌^◌, List, Option, Some, None, IfSome}
 use Rattle.std.specs.List.{AllByRecursion}
 use Rattle.seq_objects.specs.declared.act.Act.{Act}
@@ -7,15 +7,15 @@ use Rattle.seq_objects.specs.declared.op.Op.{Op}
 use Rattle.seq_objects.specs.declared.op.Op.TheVariants.{CounterAdd, Push, Pop, TreeInsert, TreeRemove, TreeFind, TreeNext, PqInsert, PqTake}
 
 abbrev pub op_number : Op → Option ℕ
-op_number (CounterAdd addend) = Some addend
-op_number (Push item) = Some item
-op_number Pop = None
-op_number (TreeInsert key) = Some key
-op_number (TreeRemove key) = Some key
-op_number (TreeFind key) = Some key
-op_number (TreeNext key) = Some key
-op_number (PqInsert item) = Some item
-op_number PqTake = None
+op_number (CounterAdd number addend) = Some addend
+op_number (Push number item) = Some item
+op_number (Pop number) = None
+op_number (TreeInsert number key) = Some key
+op_number (TreeRemove number key) = Some key
+op_number (TreeFind number key) = Some key
+op_number (TreeNext number key) = Some key
+op_number (PqInsert number item) = Some item
+op_number (PqTake number) = None
 
 abbrev pub act_number : Act → Option ℕ
 act_number (Work steps) = Some steps

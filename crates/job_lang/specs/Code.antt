@@ -1,5 +1,6 @@
 -- What only the code and its proofs cite: no public contract speaks of it.
 pub mod Draws
+pub mod Numbered
 pub mod Orders
 pub mod Pruning
 pub mod Ranges
@@ -7,3 +8,4 @@ pub mod Scoped
 pub mod Searches
 pub mod Sides
 pub mod Smalls
+pub mod Writable

@@ -1,6 +1,6 @@
--- The job that a seed and a size give, in three phases. The growing phase inserts into all four structures, in
--- parallel. The asking phase looks for keys in the tree, in parallel. The shrinking phase empties the stack, and then
--- the queue, one call after another.
+-- The job that a seed and a size give, in three phases. It has one object of each kind, with the number 0. The growing
+-- phase inserts into all four, in parallel. The asking phase looks for keys in the tree, in parallel. The shrinking
+-- phase empties the stack, and then the queue, one call after another.
 use Rattle.std.specs.Prelude.{ℕ, zero, suc, ◌+◌, ◌*◌, ◌/◌, ◌%◌, ◌^◌, ◌==◌, if◌then◌else◌, List, [], ◌∷◌, ◌++◌, map, replicate, filter_map, length, Option, Some, None}
 use Rattle.seq_objects.specs.declared.act.Act.{Act}
 use Rattle.seq_objects.specs.declared.act.Act.TheVariants.{Call}
@@ -25,10 +25,10 @@ numbers_after seed (suc count) = next_number seed ∷ numbers_after (next_number
 -- the queue
 abbrev pub op_into : ℕ → ℕ → Op
 op_into structure argument =
-    if structure == 0 then CounterAdd argument
-    else if structure == 1 then Push argument
-    else if structure == 2 then TreeInsert argument
-    else PqInsert argument
+    if structure == 0 then CounterAdd 0 argument
+    else if structure == 1 then Push 0 argument
+    else if structure == 2 then TreeInsert 0 argument
+    else PqInsert 0 argument
 
 -- The operation that a number draws, by its upper 32 bits: the lowest 2 of them choose the structure, and the 16 bits
 -- above these are the argument.
@@ -41,7 +41,7 @@ growing_ops seed size = map op_drawn (numbers_after seed size)
 
 -- the asking phase: for each key that is inserted into the tree, in order, a find of that key plus 1
 abbrev pub find_for : Op → Option Op
-find_for (TreeInsert key) = Some (TreeFind (key + 1))
+find_for (TreeInsert number key) = Some (TreeFind 0 (key + 1))
 find_for _ = None
 
 abbrev pub finds_for : List Op → List Op
@@ -53,10 +53,10 @@ calls ops = map (λ op. Call op) ops
 
 -- the shrinking phase: a pop for each push and one more, and a take for each insert of the queue and one more
 abbrev pub pops_for : List Op → List Op
-pops_for ops = replicate (total pushes (calls ops) + 1) Pop
+pops_for ops = replicate (total pushes (calls ops) + 1) (Pop 0)
 
 abbrev pub takes_for : List Op → List Op
-takes_for ops = replicate (total queue_inserts (calls ops) + 1) PqTake
+takes_for ops = replicate (total queue_inserts (calls ops) + 1) (PqTake 0)
 
 -- a shape with a leaf for each operation, as a list, which is empty where there are none
 abbrev pub part : (Tree → Tree → Tree) → List Op → List Tree
@@ -71,7 +71,12 @@ all_parts ops = part par ops ++ (part par (finds_for ops) ++ (part seq (pops_for
 
 -- the job of these parts, in series
 abbrev pub job_growing_by : List Op → JobValue
-job_growing_by ops = record { shape = join_of seq (all_parts ops); acts = calls (all_ops ops); sources = replicate (length (calls (all_ops ops))) None }
+job_growing_by ops = record {
+  shape = join_of seq (all_parts ops);
+  acts = calls (all_ops ops);
+  sources = replicate (length (calls (all_ops ops))) None;
+  names = [];
+}
 
 -- the job that a seed and a size give
 abbrev pub generated : ℕ → ℕ → JobValue

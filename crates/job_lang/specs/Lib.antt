@@ -7,6 +7,7 @@ pub use Rattle.job_syntax.specs.Faults
 pub use Rattle.job_syntax.specs.ItemsOf
 pub mod Counts
 pub mod Joins
+pub mod Objects
 pub mod Meaning
 pub mod Uses
 pub mod Limits

@@ -1,18 +1,22 @@
--- The meaning of items: the shapes of their copies, and the acts and the sources of the leaves from left to right.
+-- The meaning of items: the shapes of their copies, and the acts, the sources and the objects of the leaves from left
+-- to right.
 use Rattle.std.specs.Prelude.{ℕ, zero, suc, ◌+◌, ◌*◌, Bool, true, false, if◌then◌else◌, List, [], ◌∷◌, ◌++◌, Option, Some, None, option_to_list}
 use Rattle.job_names.specs.declared.name.Name.{Name}
 use Rattle.job_names.specs.Names.{same_name}
 use Rattle.seq_objects.specs.declared.act.Act.{Act}
 use Rattle.seq_objects.specs.declared.act.Act.TheVariants.{Work, Call}
 use Rattle.seq_objects.specs.declared.op.Op.TheVariants.{CounterAdd, Push, Pop, TreeInsert, TreeRemove, TreeFind, TreeNext, PqInsert, PqTake}
+use Rattle.seq_objects.specs.Batches.{ObjectKind, Counter, Stack, Tree as TreeKind, Queue}
 use Rattle.sp_order.specs.Precedence.{Tree, leaf, seq, par}
 use Rattle.sp_order.specs.Jobs.{JobValue}
+use Rattle.sp_order.specs.Objects.{with_numbers}
 use Rattle.job_syntax.specs.declared.lexer.word.Word.{Word}
 use Rattle.job_syntax.specs.declared.lexer.word.Word.TheVariants.{Number, Copies, Named}
 use Rattle.job_syntax.specs.Grammar.{Items, nothing, leaf_then, block_then, seq_block, par_block, for_loop, pfor_loop, Leaf, with_argument, stack_pop, queue_take, bound, is_loop, UnaryOp, work, counter_add, stack_push, tree_insert, tree_remove, tree_find, tree_next, queue_insert}
 use Rattle.job_syntax.specs.Blocks.{word_number, copies_of}
 use Rattle.job_lang.specs.Counts.{count}
 use Rattle.job_lang.specs.Joins.{join_of}
+use Rattle.job_lang.specs.Objects.{NamedObject, numbers_of, names_of}
 
 -- the value of an argument in copy `copy`; a name stands as 0, and the leaf's source gives its value
 abbrev pub number_in : ℕ → Word → ℕ
@@ -20,21 +24,21 @@ number_in copy (Number (Some number)) = number
 number_in copy (Copies (Some by)) = by.0 * copy + by.1
 number_in copy _ = 0
 
--- the act of each operation, by the value of its argument
+-- the act of each operation on the object with the number 0, by the value of its argument
 abbrev pub act_with : UnaryOp → ℕ → Act
 act_with work number = Work number
-act_with counter_add number = Call (CounterAdd number)
-act_with stack_push number = Call (Push number)
-act_with tree_insert number = Call (TreeInsert number)
-act_with tree_remove number = Call (TreeRemove number)
-act_with tree_find number = Call (TreeFind number)
-act_with tree_next number = Call (TreeNext number)
-act_with queue_insert number = Call (PqInsert number)
+act_with (counter_add object) number = Call (CounterAdd 0 number)
+act_with (stack_push object) number = Call (Push 0 number)
+act_with (tree_insert object) number = Call (TreeInsert 0 number)
+act_with (tree_remove object) number = Call (TreeRemove 0 number)
+act_with (tree_find object) number = Call (TreeFind 0 number)
+act_with (tree_next object) number = Call (TreeNext 0 number)
+act_with (queue_insert object) number = Call (PqInsert 0 number)
 
 abbrev pub act_of : ℕ → Leaf → Act
 act_of copy (with_argument op argument) = act_with op (number_in copy argument)
-act_of copy stack_pop = Call Pop
-act_of copy queue_take = Call PqTake
+act_of copy (stack_pop object) = Call (Pop 0)
+act_of copy (queue_take object) = Call (PqTake 0)
 act_of copy (bound name call) = act_of copy call
 
 -- the lists of all copies, one after another, copy 0 first
@@ -50,6 +54,41 @@ acts_in copy (block_then seq_block body more) = acts_in copy body ++ acts_in cop
 acts_in copy (block_then par_block body more) = acts_in copy body ++ acts_in copy more
 acts_in copy (block_then (for_loop copies) body more) = each_copy (word_number copies) (λ k. acts_in k body) ++ acts_in copy more
 acts_in copy (block_then (pfor_loop copies) body more) = each_copy (word_number copies) (λ k. acts_in k body) ++ acts_in copy more
+
+-- what a rule gives for the leaves, from left to right, copy by copy
+abbrev pub each_leaf : {X : Type 0} → (Leaf → X) → Items → List X
+each_leaf rule nothing = []
+each_leaf rule (leaf_then l more) = rule l ∷ each_leaf rule more
+each_leaf rule (block_then seq_block body more) = each_leaf rule body ++ each_leaf rule more
+each_leaf rule (block_then par_block body more) = each_leaf rule body ++ each_leaf rule more
+each_leaf rule (block_then (for_loop copies) body more) = each_copy (word_number copies) (λ k. each_leaf rule body) ++ each_leaf rule more
+each_leaf rule (block_then (pfor_loop copies) body more) = each_copy (word_number copies) (λ k. each_leaf rule body) ++ each_leaf rule more
+
+-- the object of a kind with this name, if there is one
+abbrev pub object_named : ObjectKind → Option Name → Option NamedObject
+object_named kind None = None
+object_named kind (Some name) = Some (record { kind = kind; name = name })
+
+-- the object that an operation names, if it names one
+abbrev pub op_object : UnaryOp → Option NamedObject
+op_object work = None
+op_object (counter_add object) = object_named Counter object
+op_object (stack_push object) = object_named Stack object
+op_object (tree_insert object) = object_named TreeKind object
+op_object (tree_remove object) = object_named TreeKind object
+op_object (tree_find object) = object_named TreeKind object
+op_object (tree_next object) = object_named TreeKind object
+op_object (queue_insert object) = object_named Queue object
+
+abbrev pub object_of : Leaf → Option NamedObject
+object_of (with_argument op argument) = op_object op
+object_of (stack_pop object) = object_named Stack object
+object_of (queue_take object) = object_named Queue object
+object_of (bound name call) = object_of call
+
+-- for each leaf, from left to right, the object that it names, if it names one
+abbrev pub objects_in : Items → List (Option NamedObject)
+objects_in items = each_leaf object_of items
 
 -- the joined shape, as a list, which is empty where there are no shapes
 abbrev pub join_list : (Tree → Tree → Tree) → List Tree → List Tree
@@ -117,6 +156,12 @@ sources_in series known first (block_then (pfor_loop copies) body more) =
     each_copy (word_number copies) (λ k. sources_in true known (first + k * count body) body)
     ++ sources_in series known (first + word_number copies * count body) more
 
--- the job of items outside every loop, which run in series
+-- The job of items outside every loop, which run in series. The objects that leaves name have the numbers 1, 2, and so
+-- on, in the order of the first leaf that names each. A leaf that names none calls the object with the number 0.
 abbrev pub job_of : Items → JobValue
-job_of items = record { shape = join_of seq (shapes_in 0 items); acts = acts_in 0 items; sources = sources_in true [] 0 items }
+job_of items = record {
+  shape = join_of seq (shapes_in 0 items);
+  acts = with_numbers (acts_in 0 items) (numbers_of (objects_in items));
+  sources = sources_in true [] 0 items;
+  names = names_of (objects_in items);
+}

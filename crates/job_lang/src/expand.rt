@@ -4,15 +4,16 @@ ghost use Rattle.std.specs.Option.{option_map};
 ghost use Rattle.sp_order.specs.Precedence.{tree_of, seq};
 ghost use Rattle.job_lang.specs.Counts.{count};
 ghost use Rattle.job_syntax.specs.Grammar.{block_then, nothing, AreItems};
-ghost use Rattle.job_lang.specs.Meaning.{each_copy, join_list, shapes_in, job_of};
-ghost use Rattle.job_names.specs.Code.Kept.{IsKept};
-ghost use Rattle.job_lang.specs.Code.Scoped.{Adds, AddsCopies};
+ghost use Rattle.job_lang.specs.Meaning.{each_copy, join_list, objects_in, shapes_in, job_of};
+ghost use Rattle.job_lang.specs.Code.Numbered.{AreSpelled};
+ghost use Rattle.job_lang.specs.Code.Scoped.{Adds, AddsCopies, AreKept};
 ghost use Rattle.job_lang.specs.Code.Orders.{join_by, join_in};
 ghost use Rattle.job_lang.specs.Code.Ranges.{Fits};
 ghost use Rattle.job_syntax.specs.Views.{block_kind_of, item_of, items_of};
 
 pub(crate) mod join;
 mod leaves;
+pub(crate) mod objects;
 mod prune;
 
 use crate::expand::join::{Order, join};
@@ -43,7 +44,7 @@ fn shapes_in(
 ) -> Result<Vec<Shape>, AllocError>
     requires fits { Fits copy (items_of items.now) }
     requires few { length leaves.old.acts.items + count (items_of items.now) ≤ 20000 }
-    requires kept { IsKept leaves.old.scopes }
+    requires kept { AreKept leaves.old }
     ensures shapes { IfOk result (λ shapes. map tree_of shapes.items ≡ shapes_in copy (items_of items.now)) }
     ensures leaves { OnOk result (Adds copy (items_of items.now) leaves.old leaves.new) }
 {
@@ -67,7 +68,7 @@ fn shape_in(
 ) -> Result<Option<Shape>, AllocError>
     requires fits { Fits copy (item_of item.now) }
     requires few { length leaves.old.acts.items + count (item_of item.now) ≤ 20000 }
-    requires kept { IsKept leaves.old.scopes }
+    requires kept { AreKept leaves.old }
     ensures shapes { IfOk result (λ shape.
         option_to_list (option_map tree_of shape) ≡ shapes_in copy (item_of item.now)) }
     ensures leaves { OnOk result (Adds copy (item_of item.now) leaves.old leaves.new) }
@@ -101,7 +102,7 @@ fn block_shapes(
     requires fits { Fits copy (block_then (block_kind_of kind) (items_of inside.now) nothing) }
     requires few { length leaves.old.acts.items + count (block_then (block_kind_of kind) (items_of inside.now) nothing)
         ≤ 20000 }
-    requires kept { IsKept leaves.old.scopes }
+    requires kept { AreKept leaves.old }
     ensures shapes { IfOk result (λ shapes.
         join_list (join_in (block_kind_of kind)) (map tree_of shapes.items)
         ≡ shapes_in copy (block_then (block_kind_of kind) (items_of inside.now) nothing)) }
@@ -131,7 +132,7 @@ fn shapes_of_copies(
 ) -> Result<Vec<Shape>, AllocError>
     requires fits { (k : ℕ) → k < copies → Fits k (items_of inside.now) }
     requires few { length leaves.old.acts.items + copies * count (items_of inside.now) ≤ 20000 }
-    requires kept { IsKept leaves.old.scopes }
+    requires kept { AreKept leaves.old }
     ensures shapes { IfOk result (λ shapes.
         map tree_of shapes.items
         ≡ each_copy copies (λ k. join_list seq (shapes_in k (items_of inside.now)))) }
@@ -156,12 +157,18 @@ pub(crate) fn expand(alloc: Global, mut items: Vec<Item>) -> Result<Job, AllocEr
     requires few { count (items_of items.items) ≤ 20000 }
     requires fits { Fits 0 (items_of items.items) }
     requires derived { AreItems false (items_of items.items) }
+    requires spelled { AreSpelled (objects_in (items_of items.items)) }
     ensures { IfOk result (λ job. job ≡ job_of (items_of items.items)) }
 {
     take_out_empty(&mut items);
     let mut leaves = Leaves::new(alloc);
     let shapes = shapes_in(alloc, 0, &items, &mut leaves)?;
     let shape = join(alloc, Order::Series, shapes)?;
-    let Leaves { acts, sources, .. } = leaves;
-    Ok(Job::with_sources(shape, acts, sources))
+    let Leaves {
+        acts,
+        sources,
+        objects,
+        ..
+    } = leaves;
+    objects.called_in(alloc, Job::with_sources(shape, acts, sources))
 }

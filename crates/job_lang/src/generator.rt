@@ -1,5 +1,7 @@
 //! The generator: a job that inserts into all structures, queries the tree, and empties the stack and the queue.
 ghost use Rattle.std.specs.Prelude.{◌≡◌, ◌+◌, ◌*◌, ◌≤◌, ◌++◌, map, length, IfOk, OnOk};
+ghost use Rattle.std.specs.List.{AllByRecursion};
+ghost use Rattle.seq_objects.specs.Objects.{number_of};
 ghost use Rattle.sp_order.specs.Precedence.{tree_of, leaf_count};
 ghost use Rattle.job_lang.specs.Code.Draws.{HaveSmallKeys};
 ghost use Rattle.job_lang.specs.Code.Orders.{join_by};
@@ -26,10 +28,10 @@ fn op_drawn(number: u64) -> Op
     let upper = (number >> 32) as u32;
     let argument = upper / 4 % 65_536;
     match upper % 4 {
-        0 => Op::CounterAdd(argument),
-        1 => Op::Push(argument),
-        2 => Op::TreeInsert(argument),
-        _ => Op::PqInsert(argument),
+        0 => Op::CounterAdd(0, argument),
+        1 => Op::Push(0, argument),
+        2 => Op::TreeInsert(0, argument),
+        _ => Op::PqInsert(0, argument),
     }
 }
 
@@ -53,8 +55,8 @@ fn finds_for(alloc: Global, ops: &[Op]) -> Result<Vec<Op>, AllocError>
 {
     let mut finds = Vec::new(alloc);
     for op in ops {
-        if let Op::TreeInsert(key) = op {
-            finds.push(Op::TreeFind(*key + 1))?;
+        if let Op::TreeInsert(_, key) = op {
+            finds.push(Op::TreeFind(0, *key + 1))?;
         }
     }
     Ok(finds)
@@ -64,10 +66,10 @@ fn finds_for(alloc: Global, ops: &[Op]) -> Result<Vec<Op>, AllocError>
 fn pops_for(alloc: Global, ops: &[Op]) -> Result<Vec<Op>, AllocError>
     ensures { IfOk result (λ pops. pops.items ≡ pops_for ops.now) }
 {
-    let mut pops = vec![in alloc; Op::Pop]?;
+    let mut pops = vec![in alloc; Op::Pop(0)]?;
     for op in ops {
-        if let Op::Push(_) = op {
-            pops.push(Op::Pop)?;
+        if let Op::Push(..) = op {
+            pops.push(Op::Pop(0))?;
         }
     }
     Ok(pops)
@@ -77,10 +79,10 @@ fn pops_for(alloc: Global, ops: &[Op]) -> Result<Vec<Op>, AllocError>
 fn takes_for(alloc: Global, ops: &[Op]) -> Result<Vec<Op>, AllocError>
     ensures { IfOk result (λ takes. takes.items ≡ takes_for ops.now) }
 {
-    let mut takes = vec![in alloc; Op::PqTake]?;
+    let mut takes = vec![in alloc; Op::PqTake(0)]?;
     for op in ops {
-        if let Op::PqInsert(_) = op {
-            takes.push(Op::PqTake)?;
+        if let Op::PqInsert(..) = op {
+            takes.push(Op::PqTake(0))?;
         }
     }
     Ok(takes)
@@ -128,10 +130,11 @@ fn push_parts(
 }
 
 /// The job with this growing phase: its parts, in series.
-#[tactic(auto, using(crate::proofs::GeneratorLemmas::Counts::leaves_are_acts, crate::proofs::GeneratorLemmas::Counts::few_acts))]
+#[tactic(auto, using(crate::proofs::GeneratorLemmas::Counts::leaves_are_acts, crate::proofs::GeneratorLemmas::Counts::few_acts, crate::proofs::GeneratorLemmas::Unnamed::all_unnamed))]
 fn job_growing_by(alloc: Global, ops: &[Op]) -> Result<Job, AllocError>
     requires few { length ops.now ≤ 5000 }
     requires small { HaveSmallKeys ops.now }
+    requires first { AllByRecursion (λ op. number_of op ≡ 0) ops.now }
     ensures job { IfOk result (λ job. job ≡ job_growing_by ops.now) }
     ensures leaves { IfOk result (λ job. leaf_count job.shape ≤ 2 * length ops.now + 2) }
 {
@@ -144,7 +147,7 @@ fn job_growing_by(alloc: Global, ops: &[Op]) -> Result<Job, AllocError>
 
 /// The job of `seed` and `size`: a growing phase of `size` calls drawn from the seed, an asking phase and a shrinking
 /// phase.
-#[tactic(auto, using(crate::proofs::GeneratorLemmas::Draws::length_growing, crate::proofs::GeneratorLemmas::Draws::small_keys))]
+#[tactic(auto, using(crate::proofs::GeneratorLemmas::Draws::length_growing, crate::proofs::GeneratorLemmas::Draws::small_keys, crate::proofs::GeneratorLemmas::Draws::first_growing))]
 pub fn generate(alloc: Global, seed: u64, size: u32) -> Result<Job, AllocError>
     requires some { 1 ≤ size }
     requires most { size ≤ 5000 }

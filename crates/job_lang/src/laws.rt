@@ -1,16 +1,20 @@
 //! The laws of the job language, each as the contract of a function that does nothing.
-ghost use Rattle.std.specs.Prelude.{◌≡◌, ◌≤◌, ◌<◌, ◌+◌, ◌*◌, ◌^◌, ◌⊎◌, ℕ, List, [], ◌∷◌, length, map, is_some, Some, None};
+ghost use Rattle.std.specs.Prelude.{◌≡◌, ◌≤◌, ◌<◌, ◌+◌, ◌*◌, ◌^◌, ◌⊎◌, ℕ, List, [], ◌∷◌, length, map, is_some, true, Some, None};
 ghost use Rattle.std.specs.List.{AllByRecursion};
-ghost use Rattle.seq_objects.specs.Objects.{argument_of};
+ghost use Rattle.job_names.specs.Names.{is_spelled};
+ghost use Rattle.seq_objects.specs.Objects.{argument_of, number_of};
 ghost use Rattle.seq_objects.specs.Words.{op_words};
 ghost use Rattle.seq_objects.specs.declared.act.Act.TheVariants.{Call};
 ghost use Rattle.seq_objects.specs.declared.op.Op.{Op};
 ghost use Rattle.sp_order.specs.Depth.{depth_of};
 ghost use Rattle.sp_order.specs.Precedence.{leaf, leaf_count};
-ghost use Rattle.sp_order.specs.Jobs.{JobValue};
+ghost use Rattle.sp_order.specs.Jobs.{JobValue, IsJob};
+ghost use Rattle.sp_order.specs.Objects.{with_number, name_of_number};
 ghost use Rattle.sp_order.specs.Phases.{FillsFirst};
 ghost use Rattle.sp_order.specs.Totals.{count_of_act};
 ghost use Rattle.job_lang.specs.Canonical.{canonical_text};
+ghost use Rattle.job_lang.specs.Meaning.{objects_in};
+ghost use Rattle.job_lang.specs.Objects.{object_called};
 ghost use Rattle.job_lang.specs.Uses.{uses_in};
 ghost use Rattle.job_lang.specs.Generator.{generated};
 ghost use Rattle.job_lang.specs.ActNumbers.{op_number, IsSmall, AreSmall};
@@ -28,9 +32,21 @@ pub fn texts_have_one_job_or_fault()
     ensures either { (text : List ℕ) → Accepts text ⊎ ((fault : JobFault) × IsFaultOf text fault) }
 {}
 
+/// The job of an accepted text is one: its acts are as many as its leaves, each source is one that its leaf may have, and
+/// its objects have the numbers and names of a job.
+pub fn accepted_jobs_are_jobs()
+    ensures { (text : List ℕ) (job : JobValue) → IsJobOf text job → IsJob job }
+{}
+
 /// The leaves of an accepted text that use a name are those that have a source.
 pub fn uses_have_sources()
     ensures { (text : List ℕ) (job : JobValue) (is : IsJobOf text job) → map is_some job.sources ≡ uses_in is.items }
+{}
+
+/// The objects with names that the leaves of an accepted text name are those that the acts of its job call.
+pub fn leaves_call_the_objects_they_name()
+    ensures { (text : List ℕ) (job : JobValue) (is : IsJobOf text job)
+        → map (λ act. object_called job.names act) job.acts ≡ objects_in is.items }
 {}
 
 /// The numbers of an accepted job fit 32 bits: the steps of its work, and the arguments of its calls.
@@ -40,11 +56,16 @@ pub fn accepted_jobs_have_small_arguments()
         → AllByRecursion (λ act. count_of_act argument_of act < 2 ^ 32) job.acts }
 {}
 
-/// The words of an operation in a report, if its number fits 32 bits, are a text of the job with this one call.
-#[tactic(auto, using(crate::proofs::WriterLemmas::Jobs::words_are_a_job))]
+/// The words of an operation in a report, if its argument fits 32 bits, are a text of the job with this one call. Where
+/// its object has a name, this name is the one of the job.
 pub fn reported_words_are_a_job()
-    ensures { (op : Op) → IsSmall (op_number op)
-        → IsJobOf (op_words op) (record { shape = Some leaf; acts = Call op ∷ []; sources = None ∷ [] }) }
+    ensures nameless { (names : List (List ℕ)) (op : Op) → number_of op ≡ 0 → IsSmall (op_number op)
+        → IsJobOf (op_words names op)
+        (record { shape = Some leaf; acts = Call op ∷ []; sources = None ∷ []; names = [] }) }
+    ensures named { (names : List (List ℕ)) (op : Op) → 0 < number_of op
+        → is_spelled (name_of_number names (number_of op)) ≡ true → IsSmall (op_number op)
+        → IsJobOf (op_words names op)
+        (record { shape = Some leaf; acts = Call (with_number op 1) ∷ []; sources = None ∷ []; names = name_of_number names (number_of op) ∷ [] }) }
 {}
 
 /// A generated job has an act for each of its leaves, of which there are from `size + 2` to `2 * size + 2`.

@@ -12,7 +12,7 @@ use sp_order::Job;
 use std::alloc::Global;
 
 /// Reads a text, and gives its job or its fault.
-#[tactic(auto, using(crate::proofs::ReaderLemmas::ReadingFaults::reading_fault, crate::proofs::LimitLemmas::Arguments::numbers_fit))]
+#[tactic(auto, using(crate::proofs::ReaderLemmas::ReadingFaults::reading_fault, crate::proofs::ReaderLemmas::Spelled::objects_spelled, crate::proofs::LimitLemmas::Arguments::numbers_fit))]
 fn read(alloc: Global, text: &[u8]) -> Result<Job, JobErr>
     requires { length text.now ≤ 1048576 }
     ensures job { IfOk result (λ job. IsJobOf text.now job) }

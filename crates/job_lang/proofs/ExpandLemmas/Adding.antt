@@ -3,7 +3,6 @@ use Rattle.std.proofs.Common.{◌≡◌, ℕ, zero, suc, ◌+◌, ◌*◌, ◌<�
 use Rattle.job_names.specs.declared.name.Name.{Name}
 use Rattle.job_names.specs.declared.kind.Kind.TheVariants as kind
 use Rattle.job_names.specs.Scopes.{Scope, job, inside, with_lets, closed}
-use Rattle.job_names.specs.Code.Kept.{IsKept}
 use Rattle.job_names.specs.Code.Kept as names
 use Rattle.job_names.proofs.ScopeLemmas.{with_nothing}
 use Rattle.job_syntax.specs.declared.lexer.word.Word.TheVariants.{Number}
@@ -16,10 +15,12 @@ use Rattle.job_syntax.specs.Views.{items_of, item_of, leaf_of, block_kind_of}
 use Rattle.job_syntax.proofs.ParserLemmas.Levels.{items_of_more, items_of_parts, item_of_leaf, item_of_let, item_of_block}
 use Rattle.job_lang.specs.declared.expand.leaves.Leaves.{Leaves}
 use Rattle.job_lang.specs.Counts.{count}
-use Rattle.job_lang.specs.Meaning.{acts_in, sources_in, each_copy}
-use Rattle.job_lang.specs.Code.Scoped.{lets_behind, scoped_sources, Adds, AddsCopies}
-use Rattle.job_lang.proofs.ExpandLemmas.Copies.{acts_then}
-use Rattle.job_lang.proofs.ExpandLemmas.Leaves.{acts_count}
+use Rattle.job_lang.specs.Meaning.{acts_in, sources_in, object_of, objects_in, each_copy}
+use Rattle.job_lang.specs.Code.Numbered.{AreListed, NamesBehind}
+use Rattle.job_lang.specs.Code.Scoped.{lets_behind, scoped_sources, AreKept, Adds, AddsCopies}
+use Rattle.job_lang.proofs.ExpandLemmas.Copies.{acts_then, each_leaf_then}
+use Rattle.job_lang.proofs.ExpandLemmas.Leaves.{acts_count, each_length, each_leaf_count}
+use Rattle.job_lang.proofs.ExpandLemmas.Listing.{behind_nothing, behind_both}
 use Rattle.job_lang.proofs.ExpandLemmas.Scoped.{sources_then, scope_behind_then, job_sources}
 use Rattle.job_lang.proofs.LimitLemmas.Cuts.{count_then, count_more}
 use Rattle.std.specs.Prelude.{OnOk}
@@ -30,10 +31,11 @@ use Rattle.sp_order.specs.Precedence.{Tree}
 pub added_count : (c : ℕ) (a : Items) (old new : Leaves) → Adds c a old new → length new.acts.items ≡ length old.acts.items + count a
 added_count c a old new h = ap length h.acts ∙ length-append old.acts.items (acts_in c a) ∙ ap (λ n. length old.acts.items + n) (acts_count a c)
 
-pub adds_nothing : (c : ℕ) (leaves : Leaves) → IsKept leaves.scopes → Adds c nothing leaves leaves
+pub adds_nothing : (c : ℕ) (leaves : Leaves) → AreKept leaves → Adds c nothing leaves leaves
 adds_nothing c leaves kept = record {
   acts = sym (append-nil leaves.acts.items);
   sources = sym (append-nil leaves.sources.items);
+  objects = behind_nothing (length leaves.acts.items) leaves.objects;
   scope = sym (with_nothing (names.view leaves.scopes));
   kept = kept;
 }
@@ -50,6 +52,8 @@ adds_then c a b old now new f g =
           ∙ ap (λ all. all ++ scoped_sources (with_lets scope (lets_behind first a)) at b) f.sources
           ∙ append_assoc old.sources.items (scoped_sources scope first a) (scoped_sources (with_lets scope (lets_behind first a)) at b)
           ∙ ap (λ all. old.sources.items ++ all) (sym (sources_then scope first at a b e));
+      objects = subst (NamesBehind first old.objects new.objects) (sym (each_leaf_then object_of a b))
+          (behind_both first at old.objects now.objects new.objects (objects_in a) (objects_in b) (omega (arith, e, each_leaf_count object_of a)) f.objects g.objects);
       scope = g.scope ∙ ap (λ s. with_lets s (lets_behind at b)) f.scope ∙ scope_behind_then scope first at a b e;
       kept = g.kept;
     }
@@ -73,12 +77,14 @@ adds_block c kind body old new h = subst (λ items. Adds c items old new) (sym (
 pub record InBlock (block : BlockKind) (c : ℕ) (body : Items) (old opened filled new : Leaves) : Type 0 where
   pub opened_acts : opened.acts ≡ old.acts
   pub opened_sources : opened.sources ≡ old.sources
+  pub opened_objects : opened.objects ≡ old.objects
   pub opened_scope : names.view opened.scopes ≡ inside (names.view old.scopes) (name_kind block) []
   pub fills : Adds c body opened filled
   pub new_acts : new.acts ≡ filled.acts
   pub new_sources : new.sources ≡ filled.sources
+  pub new_objects : new.objects ≡ filled.objects
   pub new_scope : names.view new.scopes ≡ closed (names.view filled.scopes)
-  pub kept : IsKept new.scopes
+  pub kept : AreKept new
 
 module _ (block : BlockKind) (c : ℕ) (body : Items) (old opened filled new : Leaves) (h : InBlock block c body old opened filled new) where
   first_is : length opened.acts.items ≡ length old.acts.items
@@ -94,6 +100,12 @@ module _ (block : BlockKind) (c : ℕ) (body : Items) (old opened filled new : L
       ∙ ap (λ s. old.sources.items ++ scoped_sources s (length opened.acts.items) body) h.opened_scope
       ∙ ap (λ n. old.sources.items ++ scoped_sources (inside (names.view old.scopes) (name_kind block) []) n body) first_is
 
+  objects_are : NamesBehind (length old.acts.items) old.objects new.objects (objects_in body)
+  objects_are =
+      subst (λ o. NamesBehind (length old.acts.items) old.objects o (objects_in body)) (sym h.new_objects)
+      (subst (λ o. NamesBehind (length old.acts.items) o filled.objects (objects_in body)) h.opened_objects
+      (subst (λ n. NamesBehind n opened.objects filled.objects (objects_in body)) first_is h.fills.objects))
+
   scope_is : names.view new.scopes ≡ closed (inside (names.view old.scopes) (name_kind block) (lets_behind (length old.acts.items) body))
   scope_is =
       h.new_scope ∙ ap closed (h.fills.scope ∙ ap (λ s. with_lets s (lets_behind (length opened.acts.items) body)) h.opened_scope
@@ -104,6 +116,7 @@ adds_series c body old opened filled new h = record {
   acts = acts_are seq_block c body old opened filled new h ∙ ap (λ acts. old.acts.items ++ acts) (sym (append-nil (acts_in c body)));
   sources = sources_are seq_block c body old opened filled new h
       ∙ ap (λ all. old.sources.items ++ all) (sym (append-nil (scoped_sources (inside (names.view old.scopes) kind.Series []) (length old.acts.items) body)));
+  objects = subst (NamesBehind (length old.acts.items) old.objects new.objects) (sym (append-nil (objects_in body))) (objects_are seq_block c body old opened filled new h);
   scope = scope_is seq_block c body old opened filled new h ∙ ap (with_lets (names.view old.scopes)) (sym (append-nil (lets_behind (length old.acts.items) body)));
   kept = h.kept;
 }
@@ -113,6 +126,7 @@ adds_parallel c body old opened filled new h = record {
   acts = acts_are par_block c body old opened filled new h ∙ ap (λ acts. old.acts.items ++ acts) (sym (append-nil (acts_in c body)));
   sources = sources_are par_block c body old opened filled new h
       ∙ ap (λ all. old.sources.items ++ all) (sym (append-nil (scoped_sources (inside (names.view old.scopes) kind.Par []) (length old.acts.items) body)));
+  objects = subst (NamesBehind (length old.acts.items) old.objects new.objects) (sym (append-nil (objects_in body))) (objects_are par_block c body old opened filled new h);
   scope = scope_is par_block c body old opened filled new h ∙ ap (with_lets (names.view old.scopes)) (sym (append-nil (lets_behind (length old.acts.items) body)));
   kept = h.kept;
 }
@@ -120,27 +134,29 @@ adds_parallel c body old opened filled new h = record {
 pub adds_for : (c : ℕ) (n : BlockKind) (copies : ℕ) (body : Items) (old new : Leaves) → AddsCopies copies body old new
     → (acts_in c (block_then n body nothing) ≡ each_copy copies (λ k. acts_in k body) ++ [])
     → ((scope : Scope) (first : ℕ) → scoped_sources scope first (block_then n body nothing) ≡ each_copy copies (λ k. scoped_sources (inside scope kind.Loop []) (first + k * count body) body) ++ [])
+    → objects_in (block_then n body nothing) ≡ each_copy copies (λ k. objects_in body) ++ []
     → ((first : ℕ) → lets_behind first (block_then n body nothing) ≡ [])
     → Adds c (block_then n body nothing) old new
-adds_for c n copies body old new h acts sources lets =
+adds_for c n copies body old new h acts sources objects lets =
     let scope = names.view old.scopes in
     let first = length old.acts.items in
     record {
       acts = h.acts ∙ ap (λ all. old.acts.items ++ all) (sym (acts ∙ append-nil (each_copy copies (λ k. acts_in k body))));
       sources = h.sources ∙ ap (λ all. old.sources.items ++ all) (sym (sources scope first ∙ append-nil (each_copy copies (λ k. scoped_sources (inside scope kind.Loop []) (first + k * count body) body))));
+      objects = subst (NamesBehind first old.objects new.objects) (sym (objects ∙ append-nil (each_copy copies (λ k. objects_in body)))) h.objects;
       scope = h.scope ∙ sym (with_nothing scope) ∙ ap (with_lets scope) (sym (lets first));
       kept = h.kept;
     }
 
 pub adds_for_loop : (c n : ℕ) (body : Items) (old new : Leaves) → AddsCopies n body old new → Adds c (block_then (for_loop (Number (Some n))) body nothing) old new
-adds_for_loop c n body old new h = adds_for c (for_loop (Number (Some n))) n body old new h refl (λ scope first. refl) (λ first. refl)
+adds_for_loop c n body old new h = adds_for c (for_loop (Number (Some n))) n body old new h refl (λ scope first. refl) refl (λ first. refl)
 
 pub adds_pfor_loop : (c n : ℕ) (body : Items) (old new : Leaves) → AddsCopies n body old new → Adds c (block_then (pfor_loop (Number (Some n))) body nothing) old new
-adds_pfor_loop c n body old new h = adds_for c (pfor_loop (Number (Some n))) n body old new h refl (λ scope first. refl) (λ first. refl)
+adds_pfor_loop c n body old new h = adds_for c (pfor_loop (Number (Some n))) n body old new h refl (λ scope first. refl) refl (λ first. refl)
 
 -- copies
-pub no_copies : (body : Items) (leaves : Leaves) → IsKept leaves.scopes → AddsCopies 0 body leaves leaves
-no_copies body leaves kept = record { acts = sym (append-nil leaves.acts.items); sources = sym (append-nil leaves.sources.items); scope = refl; kept = kept }
+pub no_copies : (body : Items) (leaves : Leaves) → AreKept leaves → AddsCopies 0 body leaves leaves
+no_copies body leaves kept = record { acts = sym (append-nil leaves.acts.items); sources = sym (append-nil leaves.sources.items); objects = behind_nothing (length leaves.acts.items) leaves.objects; scope = refl; kept = kept }
 
 each_count : (n : ℕ) (body : Items) → length (each_copy n (λ k. acts_in k body)) ≡ n * count body
 each_count zero body = omega arith
@@ -164,6 +180,8 @@ one_more_copy_at block n body old now opened filled new loop f h =
           ∙ ap (λ m. now.sources.items ++ scoped_sources (inside scope kind.Loop []) m body) at
           ∙ ap (λ all. all ++ sourced) f.sources
           ∙ append_assoc old.sources.items (each_copy n (λ k. scoped_sources (inside scope kind.Loop []) (first + k * count body) body)) sourced;
+      objects = behind_both first (length now.acts.items) old.objects now.objects new.objects (each_copy n (λ k. objects_in body)) (objects_in body)
+          (omega (arith, at, each_length n (count body) (λ k. objects_in body) (λ k. each_leaf_count object_of body))) f.objects (objects_are block n body now opened filled new h);
       scope = scope_is block n body now opened filled new h
           ∙ ap (λ k. closed (inside (names.view now.scopes) k (lets_behind (length now.acts.items) body))) loop
           ∙ with_nothing (names.view now.scopes) ∙ f.scope;
@@ -199,12 +217,13 @@ few_copy k n body old now opened below h same few =
     omega (arith, e, f, m, few)
 
 -- the leaves of a whole job
-pub from_nothing : (items : Items) (old new : Leaves) → old.acts.items ≡ [] → old.sources.items ≡ [] → names.view old.scopes ≡ job [] → Adds 0 items old new
-    → (new.acts.items ≡ acts_in 0 items) × (new.sources.items ≡ sources_in true [] 0 items)
-from_nothing items old new no_acts no_sources at_front h = (
+pub from_nothing : (items : Items) (old new : Leaves) → old.acts.items ≡ [] → old.sources.items ≡ [] → names.view old.scopes ≡ job [] → AreListed old.objects [] → Adds 0 items old new
+    → (new.acts.items ≡ acts_in 0 items) × (new.sources.items ≡ sources_in true [] 0 items) × AreListed new.objects (objects_in items)
+from_nothing items old new no_acts no_sources at_front none h = (
   h.acts ∙ ap (λ acts. acts ++ acts_in 0 items) no_acts,
   h.sources ∙ ap (λ all. all ++ scoped_sources (names.view old.scopes) (length old.acts.items) items) no_sources
       ∙ ap (λ s. scoped_sources s (length old.acts.items) items) at_front ∙ ap (λ acts. scoped_sources (job []) (length acts) items) no_acts ∙ job_sources items,
+  h.objects [] (sym (ap length no_acts)) none,
 )
 
 pub on_ok : {X E : Type 0} (r : Result X E) (A B : Type 0) → (A → B) → OnOk r A → OnOk r B

@@ -4,8 +4,8 @@ use Rattle.seq_objects.specs.declared.act.Act.{Act}
 use Rattle.sp_order.specs.Precedence.{Tree}
 use Rattle.job_syntax.specs.declared.item.Item.{Item, Block}
 use Rattle.job_syntax.specs.declared.item.BlockKind.{BlockKind as CodeBlockKind}
-use Rattle.job_syntax.specs.Grammar.{Items, nothing, leaf_then, block_then, seq_block, par_block, for_loop, pfor_loop, ◌then◌}
-use Rattle.job_lang.specs.Meaning.{shapes_in, acts_in}
+use Rattle.job_syntax.specs.Grammar.{Items, nothing, leaf_then, block_then, seq_block, par_block, for_loop, pfor_loop, ◌then◌, Leaf}
+use Rattle.job_lang.specs.Meaning.{shapes_in, acts_in, each_leaf}
 use Rattle.job_lang.specs.Code.Ranges.{Fits}
 use Rattle.job_syntax.specs.Views.{items_of, item_of, block_kind_of}
 use Rattle.job_syntax.proofs.ParserLemmas.Levels.{items_of_more, item_of_block}
@@ -25,6 +25,14 @@ acts_then c (block_then seq_block x a) b = simp (acts_then c a b, append_assoc) 
 acts_then c (block_then par_block x a) b = simp (acts_then c a b, append_assoc) refl
 acts_then c (block_then (for_loop n) x a) b = simp (acts_then c a b, append_assoc) refl
 acts_then c (block_then (pfor_loop n) x a) b = simp (acts_then c a b, append_assoc) refl
+
+pub each_leaf_then : {X : Type 0} (rule : Leaf → X) (a b : Items) → each_leaf rule (a then b) ≡ each_leaf rule a ++ each_leaf rule b
+each_leaf_then rule nothing b = refl
+each_leaf_then rule (leaf_then l a) b = simp (each_leaf_then rule a b) refl
+each_leaf_then rule (block_then seq_block x a) b = simp (each_leaf_then rule a b, append_assoc) refl
+each_leaf_then rule (block_then par_block x a) b = simp (each_leaf_then rule a b, append_assoc) refl
+each_leaf_then rule (block_then (for_loop n) x a) b = simp (each_leaf_then rule a b, append_assoc) refl
+each_leaf_then rule (block_then (pfor_loop n) x a) b = simp (each_leaf_then rule a b, append_assoc) refl
 
 fits_then : (c : ℕ) (a b : Items) → Fits c (a then b) → Fits c a × Fits c b
 fits_then c nothing b h = (tt, h)

@@ -5,10 +5,10 @@ use Rattle.std.proofs.lemmas.List.Sums.{sum_by-take-drop, sum_by-append, sum_by-
 use Rattle.seq_objects.specs.declared.act.Act.{Act}
 use Rattle.sp_order.specs.Precedence.{Tree, leaf, seq, par, leaves, leaf_count}
 use Rattle.job_lang.specs.Joins.{join_within, join_of, both, half}
-use Rattle.job_syntax.specs.Grammar.{Items, nothing, leaf_then, block_then, seq_block, par_block, for_loop, pfor_loop}
+use Rattle.job_syntax.specs.Grammar.{Items, nothing, leaf_then, block_then, seq_block, par_block, for_loop, pfor_loop, Leaf}
 use Rattle.job_syntax.specs.Blocks.{word_number}
 use Rattle.job_lang.specs.Counts.{count}
-use Rattle.job_lang.specs.Meaning.{shapes_in, acts_in, each_copy, join_list}
+use Rattle.job_lang.specs.Meaning.{shapes_in, acts_in, each_copy, each_leaf, join_list}
 
 module _ (kind : Tree → Tree → Tree) (adds : (a b : Tree) → leaves (kind a b) ≡ leaves a + leaves b) where
   both_leaves : (a b : Option Tree) → IsSome a → IsSome b → IsSome (both kind a b) × (leaf_count (both kind a b) ≡ leaf_count a + leaf_count b)
@@ -72,7 +72,7 @@ shapes_leaves (block_then (pfor_loop n) body more) c =
 pub job_leaves : (items : Items) → leaf_count (join_of seq (shapes_in 0 items)) ≡ length (acts_in 0 items)
 job_leaves items = join_of_leaves seq (λ a b. refl) (shapes_in 0 items) ∙ shapes_leaves items 0
 
-each_length : (n m : ℕ) (g : ℕ → List Act) → ((k : ℕ) → length (g k) ≡ m) → length (each_copy n g) ≡ n * m
+pub each_length : {X : Type 0} (n m : ℕ) (g : ℕ → List X) → ((k : ℕ) → length (g k) ≡ m) → length (each_copy n g) ≡ n * m
 each_length zero m g h = omega arith
 each_length (suc n) m g h = simp length-append (omega (arith, each_length n m g h, h n))
 
@@ -84,3 +84,14 @@ acts_count (block_then seq_block body more) c = simp length-append (omega (arith
 acts_count (block_then par_block body more) c = simp length-append (omega (arith, acts_count body c, acts_count more c))
 acts_count (block_then (for_loop n) body more) c = simp length-append (omega (arith, each_length (word_number n) (count body) (λ k. acts_in k body) (λ k. acts_count body k), acts_count more c))
 acts_count (block_then (pfor_loop n) body more) c = simp length-append (omega (arith, each_length (word_number n) (count body) (λ k. acts_in k body) (λ k. acts_count body k), acts_count more c))
+
+-- and as many of what a rule gives
+pub each_leaf_count : {X : Type 0} (rule : Leaf → X) (items : Items) → length (each_leaf rule items) ≡ count items
+each_leaf_count rule nothing = refl
+each_leaf_count rule (leaf_then _ more) = omega (arith, each_leaf_count rule more)
+each_leaf_count rule (block_then seq_block body more) = simp length-append (omega (arith, each_leaf_count rule body, each_leaf_count rule more))
+each_leaf_count rule (block_then par_block body more) = simp length-append (omega (arith, each_leaf_count rule body, each_leaf_count rule more))
+each_leaf_count rule (block_then (for_loop n) body more) =
+    simp length-append (omega (arith, each_length (word_number n) (count body) (λ k. each_leaf rule body) (λ k. each_leaf_count rule body), each_leaf_count rule more))
+each_leaf_count rule (block_then (pfor_loop n) body more) =
+    simp length-append (omega (arith, each_length (word_number n) (count body) (λ k. each_leaf rule body) (λ k. each_leaf_count rule body), each_leaf_count rule more))

@@ -51,8 +51,8 @@ own_known false number h = cc
 
 leaf_covers : (l : Leaf) (first : ℕ) → Covers (known_by first l) (lets_of l)
 leaf_covers (with_argument op w) first name h = cc
-leaf_covers stack_pop first name h = cc
-leaf_covers queue_take first name h = cc
+leaf_covers (stack_pop object) first name h = cc
+leaf_covers (queue_take object) first name h = cc
 leaf_covers (bound given call) first name h = own_known (same_name given name) first h
 
 kept_covers : (loop : Bool) (known : List Known) (lets : List Let) → Covers known lets → Covers (if loop then [] else known) (if loop then [] else lets)
@@ -95,8 +95,8 @@ step_series (block ∷ blocks) before item = refl
 leaf_used : (known : List Known) (scope : Scope) (l : Leaf) → Covers known (lets_shown scope) → IsShownLeaf scope l → is_some (source_of known l) ≡ uses_name l
 leaf_used known scope (with_argument op (Named name)) e h = e name h
 leaf_used known scope (with_argument op _) e h = refl
-leaf_used known scope stack_pop e h = refl
-leaf_used known scope queue_take e h = refl
+leaf_used known scope (stack_pop object) e h = refl
+leaf_used known scope (queue_take object) e h = refl
 leaf_used known scope (bound name call) e h = leaf_used known scope call e h
 
 copies_used : (n : ℕ) (f : ℕ → List (Option ℕ)) (us : List Bool) → ((k : ℕ) → map is_some (f k) ≡ us) → map is_some (each_copy n f) ≡ each_copy n (λ k. us)

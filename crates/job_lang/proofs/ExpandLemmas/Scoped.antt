@@ -90,8 +90,8 @@ agrees_both new known old lets e f name =
 
 leaf_agrees : (l : Leaf) (first : ℕ) → Agrees (known_by first l) (lets_at first l)
 leaf_agrees (with_argument op w) first name = refl
-leaf_agrees stack_pop first name = refl
-leaf_agrees queue_take first name = refl
+leaf_agrees (stack_pop object) first name = refl
+leaf_agrees (queue_take object) first name = refl
 leaf_agrees (bound given call) first name = refl
 
 kept_agrees : (loop : Bool) (known : List Known) (lets : List Let) → Agrees known lets → Agrees (if loop then [] else known) (if loop then [] else lets)
@@ -135,8 +135,8 @@ with_series (inside outer kind lets) more = refl
 source_agrees : (scope : Scope) (known : List Known) (l : Leaf) → Agrees known (lets_shown scope) → scoped_source scope l ≡ source_of known l
 source_agrees scope known (with_argument op (Named name)) e = sym (e name)
 source_agrees scope known (with_argument op _) e = refl
-source_agrees scope known stack_pop e = refl
-source_agrees scope known queue_take e = refl
+source_agrees scope known (stack_pop object) e = refl
+source_agrees scope known (queue_take object) e = refl
 source_agrees scope known (bound name call) e = source_agrees scope known call e
 
 each_same : (n : ℕ) (f g : ℕ → List (Option ℕ)) → ((k : ℕ) → f k ≡ g k) → each_copy n f ≡ each_copy n g

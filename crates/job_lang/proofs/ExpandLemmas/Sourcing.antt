@@ -17,10 +17,10 @@ use Rattle.job_syntax.specs.Grammar as grammar
 use Rattle.job_syntax.proofs.ParserLemmas.NamesSeen.{AreFlat, flat_items}
 use Rattle.job_lang.specs.Counts.{count}
 use Rattle.job_lang.specs.Joins.{join_of}
-use Rattle.job_lang.specs.Meaning.{each_copy, Known, leaf_known, source_of, known_by, known_behind, known_next, sources_in, number_in, act_of, acts_in, join_list, shapes_in, job_of}
+use Rattle.job_lang.specs.Meaning.{each_copy, Known, leaf_known, source_of, known_by, known_behind, known_next, sources_in, number_in, act_of, acts_in, join_list, shapes_in}
 use Rattle.job_lang.proofs.ExpandLemmas.Before.{total, kind_by, IsBeforeIn, IsBeforeOpt}
 use Rattle.job_lang.proofs.ExpandLemmas.Joined.{total_append, before_left, before_right, before_cross, joined_of, joined_list, total_joined, before_is_smaller}
-use Rattle.job_lang.proofs.ExpandLemmas.Leaves.{acts_count}
+use Rattle.job_lang.proofs.ExpandLemmas.Leaves.{acts_count, each_length}
 
 -- the act calls; and calls with an argument that stands as 0
 abbrev pub Calls : Act → Type 0
@@ -68,8 +68,8 @@ name_known (k ∷ known) name u e = elim (one_of (same_name k.name name) k.leaf 
 source_known : (known : List Known) (l : Leaf) (u : ℕ) → source_of known l ≡ Some u → HasLeaf known u
 source_known known (with_argument op (Named name)) u e = name_known known name u e
 source_known known (with_argument op _) u e = cc
-source_known known stack_pop u e = cc
-source_known known queue_take u e = cc
+source_known known (stack_pop object) u e = cc
+source_known known (queue_take object) u e = cc
 source_known known (bound name call) u e = source_known known call u e
 
 -- lists one behind the other
@@ -99,10 +99,6 @@ act_range P first (x ∷ xs) u (inl h) = let e = h.0 in (omega (arith, e), omega
 act_range P first (x ∷ xs) u (inr h) = let r = act_range P (first + 1) xs u h in let a = r.0 in let b = r.1 in (omega (arith, a), omega (arith, b))
 
 -- how long they are
-each_length : {X : Type 0} (n m : ℕ) (g : ℕ → List X) → ((k : ℕ) → length (g k) ≡ m) → length (each_copy n g) ≡ n * m
-each_length zero m g h = omega arith
-each_length (suc n) m g h = simp length-append (omega (arith, each_length n m g h, h n))
-
 each_total : (n m : ℕ) (g : ℕ → List Tree) → ((k : ℕ) → total (g k) ≡ m) → total (each_copy n g) ≡ n * m
 each_total zero m g h = omega arith
 each_total (suc n) m g h = total_append (each_copy n g) (g n) ∙ omega (arith, each_total n m g h, h n)
@@ -140,23 +136,23 @@ shapes_count (block_then (pfor_loop n) body more) c =
 -- what is known behind items are calls among them
 call_act : (call : Leaf) (c : ℕ) → grammar.IsCall true call → (op : Op) × (act_of c call ≡ Call op)
 call_act (with_argument work w) c is = elim is [ ]
-call_act (with_argument counter_add w) c is = (CounterAdd (number_in c w), refl)
-call_act (with_argument stack_push w) c is = (Push (number_in c w), refl)
-call_act (with_argument tree_insert w) c is = (TreeInsert (number_in c w), refl)
-call_act (with_argument tree_remove w) c is = (TreeRemove (number_in c w), refl)
-call_act (with_argument tree_find w) c is = (TreeFind (number_in c w), refl)
-call_act (with_argument tree_next w) c is = (TreeNext (number_in c w), refl)
-call_act (with_argument queue_insert w) c is = (PqInsert (number_in c w), refl)
-call_act stack_pop c is = (Pop, refl)
-call_act queue_take c is = (PqTake, refl)
+call_act (with_argument (counter_add object) w) c is = (CounterAdd 0 (number_in c w), refl)
+call_act (with_argument (stack_push object) w) c is = (Push 0 (number_in c w), refl)
+call_act (with_argument (tree_insert object) w) c is = (TreeInsert 0 (number_in c w), refl)
+call_act (with_argument (tree_remove object) w) c is = (TreeRemove 0 (number_in c w), refl)
+call_act (with_argument (tree_find object) w) c is = (TreeFind 0 (number_in c w), refl)
+call_act (with_argument (tree_next object) w) c is = (TreeNext 0 (number_in c w), refl)
+call_act (with_argument (queue_insert object) w) c is = (PqInsert 0 (number_in c w), refl)
+call_act (stack_pop object) c is = (Pop 0, refl)
+call_act (queue_take object) c is = (PqTake 0, refl)
 call_act (bound name call) c is = elim is [ ]
 
 given : (l : Leaf) (first c u : ℕ) → grammar.IsLeaf true l → HasLeaf (known_by first l) u → IsCallIn first (act_of c l ∷ []) u
 given (bound name call) first c u is (inl e) = inl (sym e, call_act call c is)
 given (bound name call) first c u is (inr h) = elim h [ ]
 given (with_argument op w) first c u is h = elim h [ ]
-given stack_pop first c u is h = elim h [ ]
-given queue_take first c u is h = elim h [ ]
+given (stack_pop object) first c u is h = elim h [ ]
+given (queue_take object) first c u is h = elim h [ ]
 
 known_calls : (items : Items) (first c u : ℕ) → AreFlat items → HasLeaf (known_behind first items) u → IsCallIn first (acts_in c items) u
 known_calls nothing first c u are h = elim h [ ]
@@ -191,36 +187,36 @@ known_calls (block_then (pfor_loop n) body more) first c u are h =
 -- a leaf that has a source calls, with an argument that stands as 0
 takes_named : (op : UnaryOp) (name : Name) (c : ℕ) → grammar.IsCall true (with_argument op (Named name)) → Takes (act_of c (with_argument op (Named name)))
 takes_named work name c is = elim is [ ]
-takes_named counter_add name c is = (CounterAdd 0, (refl, (refl, refl)))
-takes_named stack_push name c is = (Push 0, (refl, (refl, refl)))
-takes_named tree_insert name c is = (TreeInsert 0, (refl, (refl, refl)))
-takes_named tree_remove name c is = (TreeRemove 0, (refl, (refl, refl)))
-takes_named tree_find name c is = (TreeFind 0, (refl, (refl, refl)))
-takes_named tree_next name c is = (TreeNext 0, (refl, (refl, refl)))
-takes_named queue_insert name c is = (PqInsert 0, (refl, (refl, refl)))
+takes_named (counter_add object) name c is = (CounterAdd 0 0, (refl, (refl, refl)))
+takes_named (stack_push object) name c is = (Push 0 0, (refl, (refl, refl)))
+takes_named (tree_insert object) name c is = (TreeInsert 0 0, (refl, (refl, refl)))
+takes_named (tree_remove object) name c is = (TreeRemove 0 0, (refl, (refl, refl)))
+takes_named (tree_find object) name c is = (TreeFind 0 0, (refl, (refl, refl)))
+takes_named (tree_next object) name c is = (TreeNext 0 0, (refl, (refl, refl)))
+takes_named (queue_insert object) name c is = (PqInsert 0 0, (refl, (refl, refl)))
 
 takes_call : (call : Leaf) (c : ℕ) (known : List Known) (u : ℕ) → grammar.IsCall true call → source_of known call ≡ Some u → Takes (act_of c call)
 takes_call (with_argument op (Named name)) c known u is e = takes_named op name c is
 takes_call (with_argument op _) c known u is e = cc
-takes_call stack_pop c known u is e = cc
-takes_call queue_take c known u is e = cc
+takes_call (stack_pop object) c known u is e = cc
+takes_call (queue_take object) c known u is e = cc
 takes_call (bound name call) c known u is e = elim is [ ]
 
 takes_leaf : (op : UnaryOp) (name : Name) (c : ℕ) → grammar.IsLeaf true (with_argument op (Named name)) → Takes (act_of c (with_argument op (Named name)))
 takes_leaf work name c is = let never : false ≡ true = is in cc
-takes_leaf counter_add name c is = (CounterAdd 0, (refl, (refl, refl)))
-takes_leaf stack_push name c is = (Push 0, (refl, (refl, refl)))
-takes_leaf tree_insert name c is = (TreeInsert 0, (refl, (refl, refl)))
-takes_leaf tree_remove name c is = (TreeRemove 0, (refl, (refl, refl)))
-takes_leaf tree_find name c is = (TreeFind 0, (refl, (refl, refl)))
-takes_leaf tree_next name c is = (TreeNext 0, (refl, (refl, refl)))
-takes_leaf queue_insert name c is = (PqInsert 0, (refl, (refl, refl)))
+takes_leaf (counter_add object) name c is = (CounterAdd 0 0, (refl, (refl, refl)))
+takes_leaf (stack_push object) name c is = (Push 0 0, (refl, (refl, refl)))
+takes_leaf (tree_insert object) name c is = (TreeInsert 0 0, (refl, (refl, refl)))
+takes_leaf (tree_remove object) name c is = (TreeRemove 0 0, (refl, (refl, refl)))
+takes_leaf (tree_find object) name c is = (TreeFind 0 0, (refl, (refl, refl)))
+takes_leaf (tree_next object) name c is = (TreeNext 0 0, (refl, (refl, refl)))
+takes_leaf (queue_insert object) name c is = (PqInsert 0 0, (refl, (refl, refl)))
 
 takes : (l : Leaf) (c : ℕ) (known : List Known) (u : ℕ) → grammar.IsLeaf true l → source_of known l ≡ Some u → Takes (act_of c l)
 takes (with_argument op (Named name)) c known u is e = takes_leaf op name c is
 takes (with_argument op _) c known u is e = cc
-takes stack_pop c known u is e = cc
-takes queue_take c known u is e = cc
+takes (stack_pop object) c known u is e = cc
+takes (queue_take object) c known u is e = cc
 takes (bound name call) c known u is e = takes_call call c known u is e
 
 copies_taken : (n m first u v : ℕ) (f : ℕ → List (Option ℕ)) (a : ℕ → List Act) → ((k : ℕ) → length (f k) ≡ m) → ((k : ℕ) → length (a k) ≡ m)
@@ -443,8 +439,8 @@ before_of : (shape : Option Tree) (u v : ℕ) → IsBeforeOpt 0 shape u v → Is
 before_of None u v h = elim h [ ]
 before_of (Some tree) u v h = (h, (before_is_smaller tree 0 u v h).1.0)
 
--- Each source of a job of items is one that its leaf may have.
-pub sources_are_before : (items : Items) (v u : ℕ) → AreFlat items → slice_get (sources_in true [] 0 items) v ≡ Some (Some u) → IsSource (job_of items).shape (job_of items).acts v u
+-- Each source of a leaf is one that the leaf may have.
+pub sources_are_before : (items : Items) (v u : ℕ) → AreFlat items → slice_get (sources_in true [] 0 items) v ≡ Some (Some u) → IsSource (join_of seq (shapes_in 0 items)) (acts_in 0 items) v u
 sources_are_before items v u are e =
     let number : 0 + v ≡ v = omega arith in
     let here : IsSourceIn 0 (sources_in true [] 0 items) v u = subst (λ n. IsSourceIn 0 (sources_in true [] 0 items) n u) number (get_source (sources_in true [] 0 items) 0 v u e) in
@@ -456,8 +452,8 @@ sources_are_before items v u are e =
           record { op = uses.0; call = uses.1.0; argument = uses.1.1.0; stands_as_zero = uses.1.1.1; calls = get_call (acts_in 0 items) u f.1; before = r.0 }
     ]
 
-pub job_has_sources : (items : Items) → grammar.AreItems false items → AreSources (job_of items).shape (job_of items).acts (job_of items).sources
-job_has_sources items fits = record {
+pub items_have_sources : (items : Items) → grammar.AreItems false items → AreSources (join_of seq (shapes_in 0 items)) (acts_in 0 items) (sources_in true [] 0 items)
+items_have_sources items fits = record {
   as_many = sources_count items true [] 0 ∙ sym (acts_count items 0);
   each = λ leaf source e. sources_are_before items leaf source (flat_items false items fits) e;
 }

@@ -3,10 +3,10 @@ use Rattle.std.proofs.Common.{arith, append-nil, Option, ◌+◌, ◌*◌, ◌�
 use Rattle.std.specs.Prelude.{◌||◌, ◌==◌, if◌then◌else◌}
 use Rattle.seq_objects.specs.declared.act.Act.{Act}
 use Rattle.sp_order.specs.Precedence.{Tree, leaf as one_leaf, seq, par}
-use Rattle.job_syntax.specs.Grammar.{Items, nothing, leaf_then, block_then, BlockKind, seq_block, par_block, for_loop, pfor_loop, is_loop}
+use Rattle.job_syntax.specs.Grammar.{Items, nothing, leaf_then, block_then, BlockKind, seq_block, par_block, for_loop, pfor_loop, is_loop, Leaf}
 use Rattle.job_syntax.specs.Blocks.{word_number, copies_of}
 use Rattle.job_lang.specs.Counts.{count}
-use Rattle.job_lang.specs.Meaning.{shapes_in, acts_in, act_of, each_copy, join_list, Known, source_of, known_by, known_behind, known_next, sources_in}
+use Rattle.job_lang.specs.Meaning.{shapes_in, acts_in, act_of, each_copy, each_leaf, join_list, Known, source_of, known_by, known_behind, known_next, sources_in}
 use Rattle.job_lang.specs.Code.Ranges.{Fits}
 use Rattle.job_lang.specs.Code.Pruning.{is_nothing, full_block_then, without_empty}
 
@@ -78,6 +78,29 @@ same_acts (block_then seq_block body more) c = acts_kept c seq_block (without_em
 same_acts (block_then par_block body more) c = acts_kept c par_block (without_empty body) body more refl (λ b m. refl) (same_acts body c) (same_acts more c)
 same_acts (block_then (for_loop n) body more) c = loop_acts_kept c (word_number n) (for_loop n) (without_empty body) body more refl (λ b m. refl) (λ k. same_acts body k) (same_acts more c)
 same_acts (block_then (pfor_loop n) body more) c = loop_acts_kept c (word_number n) (pfor_loop n) (without_empty body) body more refl (λ b m. refl) (λ k. same_acts body k) (same_acts more c)
+
+each_kept : {X : Type 0} (rule : Leaf → X) (n : ℕ) (kind : BlockKind) (body more : Items) → copies_of kind ≡ n → ((b m : Items) → each_leaf rule (block_then kind b m) ≡ each_copy n (λ k. each_leaf rule b) ++ each_leaf rule m)
+    → each_leaf rule (without_empty body) ≡ each_leaf rule body → each_leaf rule (without_empty more) ≡ each_leaf rule more
+    → each_leaf rule (full_block_then kind (without_empty body) (without_empty more)) ≡ each_leaf rule (block_then kind body more)
+each_kept rule n kind body more copied is same same' =
+    let kept : Items = without_empty body in
+    block_kept (is_nothing kept || copies_of kind == 0) (each_copy n (λ k. each_leaf rule kept)) (each_leaf rule) kind kept (without_empty more)
+    (λ e. loop_gone n kept (λ b k. each_leaf rule b) (λ k. refl) (ap (λ n. is_nothing kept || n == 0) (sym copied) ∙ e)) (is kept (without_empty more))
+    ∙ ap (λ x. each_copy n (λ k. x) ++ each_leaf rule (without_empty more)) same ∙ ap (λ x. each_copy n (λ k. each_leaf rule body) ++ x) same' ∙ sym (is body more)
+
+pub same_each : {X : Type 0} (rule : Leaf → X) (items : Items) → each_leaf rule (without_empty items) ≡ each_leaf rule items
+same_each rule nothing = refl
+same_each rule (leaf_then leaf more) = ap (λ x. rule leaf ∷ x) (same_each rule more)
+same_each rule (block_then seq_block body more) =
+    let kept : Items = without_empty body in
+    block_kept (is_nothing kept || 1 == 0) (each_leaf rule kept) (each_leaf rule) seq_block kept (without_empty more) (λ e. ap (each_leaf rule) (nothing_when kept e)) refl
+    ∙ ap (λ x. x ++ each_leaf rule (without_empty more)) (same_each rule body) ∙ ap (λ x. each_leaf rule body ++ x) (same_each rule more)
+same_each rule (block_then par_block body more) =
+    let kept : Items = without_empty body in
+    block_kept (is_nothing kept || 1 == 0) (each_leaf rule kept) (each_leaf rule) par_block kept (without_empty more) (λ e. ap (each_leaf rule) (nothing_when kept e)) refl
+    ∙ ap (λ x. x ++ each_leaf rule (without_empty more)) (same_each rule body) ∙ ap (λ x. each_leaf rule body ++ x) (same_each rule more)
+same_each rule (block_then (for_loop n) body more) = each_kept rule (word_number n) (for_loop n) body more refl (λ b m. refl) (same_each rule body) (same_each rule more)
+same_each rule (block_then (pfor_loop n) body more) = each_kept rule (word_number n) (pfor_loop n) body more refl (λ b m. refl) (same_each rule body) (same_each rule more)
 
 block_fits_kept : (empty : Bool) (c : ℕ) (kind : BlockKind) (body more : Items) → Fits c (block_then kind body more) → Fits c more → Fits c (if empty then more else block_then kind body more)
 block_fits_kept true c kind body more all rest = rest

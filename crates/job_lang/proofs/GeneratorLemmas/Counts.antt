@@ -24,21 +24,21 @@ length_calls ops = length-map ops (λ op. Call op)
 -- each find, and each pop and take but one of either kind, belongs to another operation of the growing phase
 pub answers : (ops : List Op) → length (finds_for ops) + total pushes (calls ops) + total queue_inserts (calls ops) ≤ length ops
 answers [] = omega arith
-answers (CounterAdd addend ∷ ops) = omega (arith, answers ops)
-answers (Push item ∷ ops) = omega (arith, answers ops)
-answers (Pop ∷ ops) = omega (arith, answers ops)
-answers (TreeInsert key ∷ ops) = omega (arith, answers ops)
-answers (TreeRemove key ∷ ops) = omega (arith, answers ops)
-answers (TreeFind key ∷ ops) = omega (arith, answers ops)
-answers (TreeNext key ∷ ops) = omega (arith, answers ops)
-answers (PqInsert item ∷ ops) = omega (arith, answers ops)
-answers (PqTake ∷ ops) = omega (arith, answers ops)
+answers (CounterAdd number addend ∷ ops) = omega (arith, answers ops)
+answers (Push number item ∷ ops) = omega (arith, answers ops)
+answers (Pop number ∷ ops) = omega (arith, answers ops)
+answers (TreeInsert number key ∷ ops) = omega (arith, answers ops)
+answers (TreeRemove number key ∷ ops) = omega (arith, answers ops)
+answers (TreeFind number key ∷ ops) = omega (arith, answers ops)
+answers (TreeNext number key ∷ ops) = omega (arith, answers ops)
+answers (PqInsert number item ∷ ops) = omega (arith, answers ops)
+answers (PqTake number ∷ ops) = omega (arith, answers ops)
 
 pub length_pops : (ops : List Op) → length (pops_for ops) ≡ total pushes (calls ops) + 1
-length_pops ops = length-replicate (total pushes (calls ops) + 1) Pop
+length_pops ops = length-replicate (total pushes (calls ops) + 1) (Pop 0)
 
 pub length_takes : (ops : List Op) → length (takes_for ops) ≡ total queue_inserts (calls ops) + 1
-length_takes ops = length-replicate (total queue_inserts (calls ops) + 1) PqTake
+length_takes ops = length-replicate (total queue_inserts (calls ops) + 1) (PqTake 0)
 
 pub length_later : (ops : List Op) → length (later_ops ops) ≡ length (finds_for ops) + (length (pops_for ops) + length (takes_for ops))
 length_later ops = simp length-append

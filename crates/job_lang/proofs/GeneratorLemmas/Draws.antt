@@ -4,25 +4,26 @@ use Rattle.std.specs.Prelude.{slice_get, ◌==◌, if◌then◌else◌}
 use Rattle.std.specs.List.{AllByRecursion}
 use Rattle.seq_objects.specs.declared.op.Op.{Op}
 use Rattle.seq_objects.specs.declared.op.Op.TheVariants.{CounterAdd, Push, TreeInsert, PqInsert}
-use Rattle.seq_objects.specs.Objects.{argument_of}
+use Rattle.seq_objects.specs.Objects.{argument_of, number_of}
 use Rattle.sp_order.specs.Totals.{pops, tree_removes, tree_finds, queue_takes}
 use Rattle.job_lang.specs.Code.Draws.{HaveSmallKeys}
 use Rattle.job_lang.specs.Generator.{next_number, op_drawn, growing_ops}
 
--- an operation that inserts: it neither removes nor queries, and its number is small
+-- an operation that inserts: it neither removes nor queries, its argument is small, and its object has the number 0
 pub record Grows (op : Op) : Type 0 where
   pub pops : pops op ≡ 0
   pub removes : tree_removes op ≡ 0
   pub finds : tree_finds op ≡ 0
   pub takes : queue_takes op ≡ 0
+  pub number : number_of op ≡ 0
   pub small : argument_of op < 65536
 
 chosen : (first second third : Bool) (argument : ℕ) → argument < 65536
-    → Grows (if first then CounterAdd argument else if second then Push argument else if third then TreeInsert argument else PqInsert argument)
-chosen true _ _ argument small = record { pops = refl; removes = refl; finds = refl; takes = refl; small = small }
-chosen false true _ argument small = record { pops = refl; removes = refl; finds = refl; takes = refl; small = small }
-chosen false false true argument small = record { pops = refl; removes = refl; finds = refl; takes = refl; small = small }
-chosen false false false argument small = record { pops = refl; removes = refl; finds = refl; takes = refl; small = small }
+    → Grows (if first then CounterAdd 0 argument else if second then Push 0 argument else if third then TreeInsert 0 argument else PqInsert 0 argument)
+chosen true _ _ argument small = record { pops = refl; removes = refl; finds = refl; takes = refl; number = refl; small = small }
+chosen false true _ argument small = record { pops = refl; removes = refl; finds = refl; takes = refl; number = refl; small = small }
+chosen false false true argument small = record { pops = refl; removes = refl; finds = refl; takes = refl; number = refl; small = small }
+chosen false false false argument small = record { pops = refl; removes = refl; finds = refl; takes = refl; number = refl; small = small }
 
 drawn_grows : (number : ℕ) → Grows (op_drawn number)
 drawn_grows number =
@@ -44,4 +45,12 @@ grows_at (o ∷ ops) (suc i) op all is = grows_at ops i op all.1 is
 
 -- the keys inserted into the tree are small, so those of the finds fit
 pub small_keys : (seed size : ℕ) → HaveSmallKeys (growing_ops seed size)
-small_keys seed size i key is = (grows_at (growing_ops seed size) i (TreeInsert key) (all_grow seed size) is).small
+small_keys seed size i number key is = (grows_at (growing_ops seed size) i (TreeInsert number key) (all_grow seed size) is).small
+
+-- all objects have the number 0
+pub first_ops : (ops : List Op) → AllByRecursion Grows ops → AllByRecursion (λ op. number_of op ≡ 0) ops
+first_ops [] all = tt
+first_ops (op ∷ ops) all = (all.0.number, first_ops ops all.1)
+
+pub first_growing : (seed size : ℕ) → AllByRecursion (λ op. number_of op ≡ 0) (growing_ops seed size)
+first_growing seed size = first_ops (growing_ops seed size) (all_grow seed size)

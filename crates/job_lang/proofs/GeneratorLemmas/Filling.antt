@@ -18,7 +18,8 @@ use Rattle.job_lang.proofs.ExpandLemmas.Leaves.{join_within_leaves}
 use Rattle.job_lang.proofs.EachOf.{each_append}
 use Rattle.job_lang.proofs.GeneratorLemmas.Phases.{total_append}
 use Rattle.job_lang.proofs.GeneratorLemmas.Counts.{later_ops, later_parts, later_leaves, length_acts, each_leaf}
-use Rattle.job_lang.proofs.GeneratorLemmas.Draws.{Grows, all_grow, length_growing}
+use Rattle.job_lang.proofs.GeneratorLemmas.Draws.{Grows, all_grow, length_growing, first_ops}
+use Rattle.job_lang.proofs.GeneratorLemmas.Unnamed.{all_unnamed}
 
 -- the tree of a shape that is present, with its number of leaves
 there : (tree : Option Tree) (n : ℕ) → IsSome tree → leaf_count tree ≡ n → (t : Tree) × (tree ≡ Some t) × (leaves t ≡ n)
@@ -112,22 +113,22 @@ total_copies count zero op h = refl
 total_copies count (suc n) op h = omega (arith, h, total_copies count n op h)
 
 -- finds count only as finds
-finds_lack : (count : Op → ℕ) (ops : List Op) → ((key : ℕ) → count (TreeFind key) ≡ 0) → Lacks count (finds_for ops)
+finds_lack : (count : Op → ℕ) (ops : List Op) → ((key : ℕ) → count (TreeFind 0 key) ≡ 0) → Lacks count (finds_for ops)
 finds_lack count [] h = tt
-finds_lack count (TreeInsert key ∷ ops) h = (h (key + 1), finds_lack count ops h)
-finds_lack count (CounterAdd addend ∷ ops) h = finds_lack count ops h
-finds_lack count (Push item ∷ ops) h = finds_lack count ops h
-finds_lack count (Pop ∷ ops) h = finds_lack count ops h
-finds_lack count (TreeRemove key ∷ ops) h = finds_lack count ops h
-finds_lack count (TreeFind key ∷ ops) h = finds_lack count ops h
-finds_lack count (TreeNext key ∷ ops) h = finds_lack count ops h
-finds_lack count (PqInsert item ∷ ops) h = finds_lack count ops h
-finds_lack count (PqTake ∷ ops) h = finds_lack count ops h
+finds_lack count (TreeInsert number key ∷ ops) h = (h (key + 1), finds_lack count ops h)
+finds_lack count (CounterAdd number addend ∷ ops) h = finds_lack count ops h
+finds_lack count (Push number item ∷ ops) h = finds_lack count ops h
+finds_lack count (Pop number ∷ ops) h = finds_lack count ops h
+finds_lack count (TreeRemove number key ∷ ops) h = finds_lack count ops h
+finds_lack count (TreeFind number key ∷ ops) h = finds_lack count ops h
+finds_lack count (TreeNext number key ∷ ops) h = finds_lack count ops h
+finds_lack count (PqInsert number item ∷ ops) h = finds_lack count ops h
+finds_lack count (PqTake number ∷ ops) h = finds_lack count ops h
 
-later_lacks : (count : Op → ℕ) (ops : List Op) → ((key : ℕ) → count (TreeFind key) ≡ 0) → count Pop ≡ 0 → count PqTake ≡ 0 → Lacks count (later_ops ops)
+later_lacks : (count : Op → ℕ) (ops : List Op) → ((key : ℕ) → count (TreeFind 0 key) ≡ 0) → count (Pop 0) ≡ 0 → count (PqTake 0) ≡ 0 → Lacks count (later_ops ops)
 later_lacks count ops find pop take =
     each_append _ (finds_for ops) (pops_for ops ++ takes_for ops) (finds_lack count ops find)
-    (each_append _ (pops_for ops) (takes_for ops) (lacks_copies count (total pushes (calls ops) + 1) Pop pop) (lacks_copies count (total queue_inserts (calls ops) + 1) PqTake take))
+    (each_append _ (pops_for ops) (takes_for ops) (lacks_copies count (total pushes (calls ops) + 1) (Pop 0) pop) (lacks_copies count (total queue_inserts (calls ops) + 1) (PqTake 0) take))
 
 each_grown : (P : Op → Type 0) → ((op : Op) → Grows op → P op) → (ops : List Op) → AllByRecursion Grows ops → AllByRecursion P ops
 each_grown P gives [] all = tt
@@ -156,11 +157,12 @@ module _ (ops : List Op) (some : 0 < length ops) (grow : AllByRecursion Grows op
     queue = comes_before queue_inserts queue_takes (later_lacks queue_inserts ops (λ key. refl) refl refl) (each_grown _ (λ op grows. grows.takes) ops grow);
     tree = comes_before tree_inserts tree_finds (later_lacks tree_inserts ops (λ key. refl) refl refl) (each_grown _ (λ op grows. grows.finds) ops grow);
     empties_stack =
-        omega (arith, total_first pushes (later_lacks pushes ops (λ key. refl) refl refl), total_all pops, total_later pops, total_copies pops (total pushes (calls ops) + 1) Pop refl);
+        omega (arith, total_first pushes (later_lacks pushes ops (λ key. refl) refl refl), total_all pops, total_later pops, total_copies pops (total pushes (calls ops) + 1) (Pop 0) refl);
     empties_queue =
-        omega (arith, total_first queue_inserts (later_lacks queue_inserts ops (λ key. refl) refl refl), total_all queue_takes, total_later queue_takes, total_copies queue_takes (total queue_inserts (calls ops) + 1) PqTake refl);
+        omega (arith, total_first queue_inserts (later_lacks queue_inserts ops (λ key. refl) refl refl), total_all queue_takes, total_later queue_takes, total_copies queue_takes (total queue_inserts (calls ops) + 1) (PqTake 0) refl);
     keeps_keys = total_first tree_removes (later_lacks tree_removes ops (λ key. refl) refl refl) ∙ total_lacks tree_removes ops (each_grown _ (λ op grows. grows.removes) ops grow);
     no_sources = none_each (length (calls (all_ops ops)));
+    unnamed = all_unnamed ops (first_ops ops grow);
   }
 
 pub generated_fills_first : (seed size : ℕ) → 1 ≤ size → FillsFirst (generated seed size)

@@ -44,12 +44,12 @@ no_more count back ops i d less counts =
     ap (λ n. replicate (n + 1) back) same
 
 -- only a push counts as a push, and only an insert of the queue as one
-pub not_push : (op : Op) → ((item : ℕ) → op ≡ Push item → ⊥) → pushes op ≡ 0
-not_push (Push item) other = absurd (other item refl)
+pub not_push : (op : Op) → ((number item : ℕ) → op ≡ Push number item → ⊥) → pushes op ≡ 0
+not_push (Push number item) other = absurd (other number item refl)
 not_push _ other = refl
 
-pub not_queue_insert : (op : Op) → ((item : ℕ) → op ≡ PqInsert item → ⊥) → queue_inserts op ≡ 0
-not_queue_insert (PqInsert item) other = absurd (other item refl)
+pub not_queue_insert : (op : Op) → ((number item : ℕ) → op ≡ PqInsert number item → ⊥) → queue_inserts op ≡ 0
+not_queue_insert (PqInsert number item) other = absurd (other number item refl)
 not_queue_insert _ other = refl
 
 -- the finds so far, after an insert of the tree and after another operation
@@ -57,13 +57,13 @@ finds_more : (ops : List Op) (i : ℕ) (d op : Op) → i < length ops → get_or
 finds_more ops i d op less is =
     ap finds_for (take_more ops i d less ∙ ap (λ o. take i ops ++ o ∷ []) is) ∙ filter_map-append find_for (take i ops) (op ∷ [])
 
-pub find_more : (ops : List Op) (i : ℕ) (d : Op) (key : ℕ) → i < length ops → get_or ops i d ≡ TreeInsert key → finds_for (take (i + 1) ops) ≡ finds_for (take i ops) ++ TreeFind (key + 1) ∷ []
-find_more ops i d key less is = finds_more ops i d (TreeInsert key) less is
+pub find_more : (ops : List Op) (i : ℕ) (d : Op) (number key : ℕ) → i < length ops → get_or ops i d ≡ TreeInsert number key → finds_for (take (i + 1) ops) ≡ finds_for (take i ops) ++ TreeFind 0 (key + 1) ∷ []
+find_more ops i d number key less is = finds_more ops i d (TreeInsert number key) less is
 
-not_tree_insert : (op : Op) → ((key : ℕ) → op ≡ TreeInsert key → ⊥) → finds_for (op ∷ []) ≡ []
-not_tree_insert (TreeInsert key) other = absurd (other key refl)
+not_tree_insert : (op : Op) → ((number key : ℕ) → op ≡ TreeInsert number key → ⊥) → finds_for (op ∷ []) ≡ []
+not_tree_insert (TreeInsert number key) other = absurd (other number key refl)
 not_tree_insert _ other = refl
 
-pub no_find_more : (ops : List Op) (i : ℕ) (d : Op) → i < length ops → ((key : ℕ) → get_or ops i d ≡ TreeInsert key → ⊥) → finds_for (take (i + 1) ops) ≡ finds_for (take i ops)
+pub no_find_more : (ops : List Op) (i : ℕ) (d : Op) → i < length ops → ((number key : ℕ) → get_or ops i d ≡ TreeInsert number key → ⊥) → finds_for (take (i + 1) ops) ≡ finds_for (take i ops)
 no_find_more ops i d less other =
     finds_more ops i d (get_or ops i d) less refl ∙ ap (λ xs. finds_for (take i ops) ++ xs) (not_tree_insert (get_or ops i d) other) ∙ append-nil (finds_for (take i ops))

@@ -18,7 +18,9 @@ use Rattle.job_lang.specs.Generator.{growing_ops, finds_for, calls, pops_for, ta
 use Rattle.job_lang.proofs.GeneratorLemmas.Sources.{none_are_sources, none_each}
 use Rattle.job_lang.specs.Code.Smalls.{AreSmallLeaves}
 use Rattle.job_lang.proofs.GeneratorLemmas.Counts.{later_ops, answers, length_pops, length_takes, length_acts, later_some, few_acts, leaves_are_acts}
-use Rattle.job_lang.proofs.GeneratorLemmas.Draws.{Grows, all_grow, length_growing}
+use Rattle.job_lang.proofs.GeneratorLemmas.Draws.{Grows, all_grow, length_growing, first_growing}
+use Rattle.job_lang.proofs.GeneratorLemmas.Unnamed.{all_unnamed}
+use Rattle.sp_order.proofs.ObjectLemmas.{unnamed_are_named}
 use Rattle.job_lang.proofs.EachOf.{each_append, each_of_first, each_of_rest}
 use Rattle.job_lang.proofs.WriterLemmas.Jobs.{canonical_is_job, plain_is_short, small_from}
 
@@ -84,15 +86,15 @@ depth_few ops few = omega (arith, join_depth seq (λ a b. refl) 13 (length (all_
 
 -- the numbers fit
 small_op : (op : Op) → argument_of op < 65536 → IsSmall (op_number op)
-small_op (CounterAdd addend) h = omega (arith, h)
-small_op (Push item) h = omega (arith, h)
-small_op Pop h = tt
-small_op (TreeInsert key) h = omega (arith, h)
-small_op (TreeRemove key) h = omega (arith, h)
-small_op (TreeFind key) h = omega (arith, h)
-small_op (TreeNext key) h = omega (arith, h)
-small_op (PqInsert item) h = omega (arith, h)
-small_op PqTake h = tt
+small_op (CounterAdd number addend) h = omega (arith, h)
+small_op (Push number item) h = omega (arith, h)
+small_op (Pop number) h = tt
+small_op (TreeInsert number key) h = omega (arith, h)
+small_op (TreeRemove number key) h = omega (arith, h)
+small_op (TreeFind number key) h = omega (arith, h)
+small_op (TreeNext number key) h = omega (arith, h)
+small_op (PqInsert number item) h = omega (arith, h)
+small_op (PqTake number) h = tt
 
 small_append : (xs ys : List Op) → AreSmall (calls xs) → AreSmall (calls ys) → AreSmall (calls (xs ++ ys))
 small_append [] ys h g = g
@@ -104,15 +106,15 @@ small_growing (op ∷ ops) grow = (small_op op grow.0.small, small_growing ops g
 
 small_finds : (ops : List Op) → AllByRecursion Grows ops → AreSmall (calls (finds_for ops))
 small_finds [] grow = tt
-small_finds (TreeInsert key ∷ ops) grow = (omega (arith, grow.0.small), small_finds ops grow.1)
-small_finds (CounterAdd addend ∷ ops) grow = small_finds ops grow.1
-small_finds (Push item ∷ ops) grow = small_finds ops grow.1
-small_finds (Pop ∷ ops) grow = small_finds ops grow.1
-small_finds (TreeRemove key ∷ ops) grow = small_finds ops grow.1
-small_finds (TreeFind key ∷ ops) grow = small_finds ops grow.1
-small_finds (TreeNext key ∷ ops) grow = small_finds ops grow.1
-small_finds (PqInsert item ∷ ops) grow = small_finds ops grow.1
-small_finds (PqTake ∷ ops) grow = small_finds ops grow.1
+small_finds (TreeInsert number key ∷ ops) grow = (omega (arith, grow.0.small), small_finds ops grow.1)
+small_finds (CounterAdd number addend ∷ ops) grow = small_finds ops grow.1
+small_finds (Push number item ∷ ops) grow = small_finds ops grow.1
+small_finds (Pop number ∷ ops) grow = small_finds ops grow.1
+small_finds (TreeRemove number key ∷ ops) grow = small_finds ops grow.1
+small_finds (TreeFind number key ∷ ops) grow = small_finds ops grow.1
+small_finds (TreeNext number key ∷ ops) grow = small_finds ops grow.1
+small_finds (PqInsert number item ∷ ops) grow = small_finds ops grow.1
+small_finds (PqTake number ∷ ops) grow = small_finds ops grow.1
 
 small_copies : (n : ℕ) (op : Op) → IsSmall (op_number op) → AreSmall (calls (replicate n op))
 small_copies zero op h = tt
@@ -122,13 +124,13 @@ pub all_small : (ops : List Op) → AllByRecursion Grows ops → AreSmall (calls
 all_small ops grow =
     small_append ops (later_ops ops) (small_growing ops grow)
     (small_append (finds_for ops) (pops_for ops ++ takes_for ops) (small_finds ops grow)
-    (small_append (pops_for ops) (takes_for ops) (small_copies (total pushes (calls ops) + 1) Pop tt) (small_copies (total queue_inserts (calls ops) + 1) PqTake tt)))
+    (small_append (pops_for ops) (takes_for ops) (small_copies (total pushes (calls ops) + 1) (Pop 0) tt) (small_copies (total queue_inserts (calls ops) + 1) (PqTake 0) tt)))
 
 -- what the laws say of the generated job
 generated_is_job : (seed size : ℕ) → size ≤ 5000 → IsJob (generated seed size)
 generated_is_job seed size few =
     let ops = growing_ops seed size in
-    record { leaves = leaves_are_acts ops; most = omega (arith, few_acts ops, length_growing seed size, few); sources = none_are_sources (generated seed size).shape (generated seed size).acts }
+    record { leaves = leaves_are_acts ops; most = omega (arith, few_acts ops, length_growing seed size, few); sources = none_are_sources (generated seed size).shape (generated seed size).acts; objects = unnamed_are_named (generated seed size).acts (all_unnamed ops (first_growing seed size)) }
 
 pub generated_acts : (seed size : ℕ) → leaf_count (generated seed size).shape ≡ length (generated seed size).acts
 generated_acts seed size = leaves_are_acts (growing_ops seed size)
@@ -153,7 +155,7 @@ generated_small seed size few =
     small_from job.sources 0 job.acts job.sources (omega (arith, most)) (all_small (growing_ops seed size) (all_grow seed size)) (none_each (length job.acts))
 
 pub generated_short : (seed size : ℕ) → size ≤ 5000 → length (canonical_text (generated seed size)) < 700000
-generated_short seed size few = plain_is_short (generated seed size) (generated_is_job seed size few) (generated_small seed size few) (none_each (length (generated seed size).acts))
+generated_short seed size few = plain_is_short (generated seed size) (generated_is_job seed size few) (generated_small seed size few) refl (none_each (length (generated seed size).acts))
 
 pub generated_text : (seed size : ℕ) → size ≤ 5000 → IsJobOf (canonical_text (generated seed size)) (generated seed size)
 generated_text seed size few =

@@ -75,8 +75,8 @@ number_fits by c k below small =
 leaf_fits : (leaf : Leaf) (c k : ℕ) → k < c → AreAllFalse (leaf_range_flags c leaf) → FitsLeaf k leaf
 leaf_fits (with_argument op (Copies (Some by))) c k below small = number_fits by c k below small.0
 leaf_fits (with_argument op _) c k below small = tt
-leaf_fits stack_pop c k below small = tt
-leaf_fits queue_take c k below small = tt
+leaf_fits (stack_pop object) c k below small = tt
+leaf_fits (queue_take object) c k below small = tt
 leaf_fits (bound name call) c k below small = leaf_fits call c k below small
 
 fits_inside : (items : Items) (c k : ℕ) → k < c → AreAllFalse (range_flags c items) → Fits k items
@@ -102,28 +102,28 @@ value_fits _ fits = tt
 
 call_fits_outside : (call : Leaf) → IsCall false call → FitsLeaf 0 call
 call_fits_outside (with_argument work argument) fits = elim fits [ ]
-call_fits_outside (with_argument counter_add argument) fits = value_fits argument fits
-call_fits_outside (with_argument stack_push argument) fits = value_fits argument fits
-call_fits_outside (with_argument tree_insert argument) fits = value_fits argument fits
-call_fits_outside (with_argument tree_remove argument) fits = value_fits argument fits
-call_fits_outside (with_argument tree_find argument) fits = value_fits argument fits
-call_fits_outside (with_argument tree_next argument) fits = value_fits argument fits
-call_fits_outside (with_argument queue_insert argument) fits = value_fits argument fits
-call_fits_outside stack_pop fits = tt
-call_fits_outside queue_take fits = tt
+call_fits_outside (with_argument (counter_add object) argument) fits = value_fits argument fits
+call_fits_outside (with_argument (stack_push object) argument) fits = value_fits argument fits
+call_fits_outside (with_argument (tree_insert object) argument) fits = value_fits argument fits
+call_fits_outside (with_argument (tree_remove object) argument) fits = value_fits argument fits
+call_fits_outside (with_argument (tree_find object) argument) fits = value_fits argument fits
+call_fits_outside (with_argument (tree_next object) argument) fits = value_fits argument fits
+call_fits_outside (with_argument (queue_insert object) argument) fits = value_fits argument fits
+call_fits_outside (stack_pop object) fits = tt
+call_fits_outside (queue_take object) fits = tt
 call_fits_outside (bound name call) fits = elim fits [ ]
 
 leaf_fits_outside : (leaf : Leaf) → IsLeaf false leaf → FitsLeaf 0 leaf
 leaf_fits_outside (with_argument work argument) fits = argument_fits argument fits
-leaf_fits_outside (with_argument counter_add argument) fits = value_fits argument fits
-leaf_fits_outside (with_argument stack_push argument) fits = value_fits argument fits
-leaf_fits_outside (with_argument tree_insert argument) fits = value_fits argument fits
-leaf_fits_outside (with_argument tree_remove argument) fits = value_fits argument fits
-leaf_fits_outside (with_argument tree_find argument) fits = value_fits argument fits
-leaf_fits_outside (with_argument tree_next argument) fits = value_fits argument fits
-leaf_fits_outside (with_argument queue_insert argument) fits = value_fits argument fits
-leaf_fits_outside stack_pop fits = tt
-leaf_fits_outside queue_take fits = tt
+leaf_fits_outside (with_argument (counter_add object) argument) fits = value_fits argument fits
+leaf_fits_outside (with_argument (stack_push object) argument) fits = value_fits argument fits
+leaf_fits_outside (with_argument (tree_insert object) argument) fits = value_fits argument fits
+leaf_fits_outside (with_argument (tree_remove object) argument) fits = value_fits argument fits
+leaf_fits_outside (with_argument (tree_find object) argument) fits = value_fits argument fits
+leaf_fits_outside (with_argument (tree_next object) argument) fits = value_fits argument fits
+leaf_fits_outside (with_argument (queue_insert object) argument) fits = value_fits argument fits
+leaf_fits_outside (stack_pop object) fits = tt
+leaf_fits_outside (queue_take object) fits = tt
 leaf_fits_outside (bound name call) fits = call_fits_outside call fits
 
 fits_outside : (items : Items) → AreItems false items → AreAllFalse (range_flags 0 items) → Fits 0 items

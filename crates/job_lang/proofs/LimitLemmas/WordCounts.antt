@@ -27,8 +27,8 @@ behind_words tokens before rest writes =
 -- each leaf writes at least one word
 pub leaf_writes : (leaf : Leaf) → 0 < length (leaf_words leaf)
 leaf_writes (with_argument op argument) = simp length-append (omega arith)
-leaf_writes stack_pop = omega arith
-leaf_writes queue_take = omega arith
+leaf_writes (stack_pop object) = omega arith
+leaf_writes (queue_take object) = omega arith
 leaf_writes (bound name call) = omega arith
 
 pub front_word_count : (xs : List Item) (i : ℕ) → length (items_words (items_of (take i xs))) ≤ length (items_words (items_of xs))

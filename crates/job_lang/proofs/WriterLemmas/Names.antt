@@ -1,11 +1,10 @@
 -- The names of leaves: each is one token, which spells the name, and no two leaves have one name.
-use Rattle.std.proofs.Common.{◌≡◌, ℕ, ◌+◌, ◌-◌, ◌<◌, ◌≤◌, ◌^◌, List, ◌∷◌, ◌++◌, length, take, drop, true, false, refl, sym, ap, ◌∙◌, arith, replicate}
+use Rattle.std.proofs.Common.{◌≡◌, ℕ, ◌+◌, ◌<◌, ◌≤◌, ◌^◌, List, ◌∷◌, ◌++◌, length, drop, true, false, refl, sym, ap, ◌∙◌, arith}
 use Rattle.std.specs.Fmt.{decimal}
 use Rattle.std.specs.List.{list_all}
 use Rattle.std.proofs.lemmas.Bool.{and_from, le-leb}
 use Rattle.std.proofs.lemmas.Fmt.{length-decimal-le}
 use Rattle.std.proofs.lemmas.Grind.{common_steps}
-use Rattle.std.proofs.Math.Seq.{take-append_seam}
 use Rattle.job_names.specs.declared.name.Name.{Name}
 use Rattle.job_names.specs.Names.{is_in_name, is_spelled, name_of}
 use Rattle.job_syntax.specs.declared.lexer.word.Word.{Word}
@@ -13,6 +12,7 @@ use Rattle.job_syntax.specs.declared.lexer.word.Word.TheVariants.{Named}
 use Rattle.job_syntax.specs.Text.{tokens_from, is_in_chunk, begins_in_chunk}
 use Rattle.job_syntax.specs.Words.{digits_from, quoted_or, argument_word, word_of}
 use Rattle.job_lang.specs.Canonical.{name_text}
+use Rattle.job_lang.proofs.Spellings.{same_front}
 use Rattle.job_lang.proofs.WriterLemmas.Decimals.{each_byte, decimal_in_chunk, chunk_token, decimal_says}
 
 abbrev pub leaf_name : ℕ → Name
@@ -40,14 +40,6 @@ name_in_chunk n small = decimal_in_chunk n small
 
 pub name_token : (line n : ℕ) (rest : List ℕ) → n < 2 ^ 32 → begins_in_chunk rest ≡ false → tokens_from line (name_text n ++ rest) ≡ record { text = name_text n; line = line } ∷ tokens_from line rest
 name_token line n rest small ends = chunk_token line (name_text n) rest (omega arith) (name_in_chunk n small) ends
-
-same_front : (text other : List ℕ) → name_of text ≡ name_of other → text ≡ other
-same_front text other e =
-    let count : length text ≡ length other = ap (λ (name : Name). name.len) e in
-    sym (take-append_seam text (replicate (32 - length text) 0))
-    ∙ ap (λ (name : Name). take (length text) name.bytes) e
-    ∙ ap (λ n. take n (other ++ replicate (32 - length other) 0)) count
-    ∙ take-append_seam other (replicate (32 - length other) 0)
 
 pub one_leaf : (a b : ℕ) → a < 2 ^ 32 → b < 2 ^ 32 → leaf_name a ≡ leaf_name b → a ≡ b
 one_leaf a b small small' e =

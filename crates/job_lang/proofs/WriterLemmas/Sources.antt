@@ -10,7 +10,10 @@ use Rattle.seq_objects.specs.declared.act.Act.{Act}
 use Rattle.seq_objects.specs.declared.act.Act.TheVariants.{Work, Call}
 use Rattle.seq_objects.specs.declared.op.Op.{Op}
 use Rattle.seq_objects.specs.declared.op.Op.TheVariants.{CounterAdd, Push, Pop, TreeInsert, TreeRemove, TreeFind, TreeNext, PqInsert, PqTake}
-use Rattle.seq_objects.specs.Objects.{argument_of}
+use Rattle.seq_objects.specs.Objects.{number_of, argument_of}
+use Rattle.job_names.specs.declared.name.Name.{Name}
+use Rattle.job_syntax.specs.declared.lexer.word.Word.{Word}
+use Rattle.job_syntax.specs.declared.lexer.word.Word.TheVariants.{Number, Named}
 use Rattle.sp_order.specs.Precedence.{Tree, leaf, seq, par, leaves, IsLeafOf, IsBeforeFrom}
 use Rattle.sp_order.specs.Sources.{has_argument}
 use Rattle.job_syntax.specs.Grammar.{Items, nothing, Leaf}
@@ -21,7 +24,7 @@ use Rattle.job_lang.specs.Canonical.{is_leaf, is_source, written_from}
 use Rattle.job_lang.proofs.EachOf.{each_append, each_of_first, each_of_rest}
 use Rattle.job_lang.proofs.ExpandLemmas.Joined.{before_is_smaller}
 use Rattle.job_lang.proofs.ExpandLemmas.Sourcing.{HasLeaf}
-use Rattle.job_lang.proofs.WriterLemmas.Items.{leaf_of_act, named_leaf, given_name, leaf_of_written, tree_items, tree_count, left_length, right_length, IsWell, AreWell, acts_of, sources_of}
+use Rattle.job_lang.proofs.WriterLemmas.Items.{name_at, call_leaf, said, leaf_of_act, given_name, leaf_of_written, tree_items, tree_count, left_length, right_length, Stands, IsWell, AreWell, acts_of, sources_of}
 use Rattle.job_lang.proofs.WriterLemmas.Names.{leaf_name, one_leaf}
 
 -- the leaves of a job as they are written
@@ -94,10 +97,6 @@ pub at_drop : (all : List (Option ℕ)) (first n next : ℕ) (written : List Wri
 at_drop all first zero next written e at = let same : first ≡ next = omega (arith, e) in subst (λ f. AreAt all f written) same at
 at_drop all first (suc n) next [] e at = tt
 at_drop all first (suc n) next (one ∷ written) e at = at_drop all (first + 1) n next written (omega (arith, e)) at.1
-
--- what a source needs of its leaf and itself
-abbrev Stands : Act → Type 0
-Stands act = (op : Op) × ((act ≡ Call op) × ((has_argument op ≡ true) × (argument_of op ≡ 0)))
 
 pub well_from : (all : List (Option ℕ)) (number : ℕ) (acts : List Act) (sources : List (Option ℕ)) →
     ((i u : ℕ) (act : Act) → slice_get acts i ≡ Some act → slice_get sources i ≡ Some (Some u) → Stands act) →
@@ -231,210 +230,208 @@ has_second : (xs ys : List Known) (u : ℕ) → HasLeaf ys u → HasLeaf (xs ++ 
 has_second [] ys u h = h
 has_second (x ∷ xs) ys u h = inr (has_second xs ys u h)
 
--- the source of one leaf
-
-named_source : (op : Op) (u : ℕ) (known : List Known) → has_argument op ≡ true → source_of known (named_leaf op u) ≡ leaf_known known (leaf_name u)
-named_source (CounterAdd addend) u known h = refl
-named_source (Push item) u known h = refl
-named_source (TreeInsert key) u known h = refl
-named_source (TreeRemove key) u known h = refl
-named_source (TreeFind key) u known h = refl
-named_source (TreeNext key) u known h = refl
-named_source (PqInsert item) u known h = refl
-named_source Pop u known h = cc
-named_source PqTake u known h = cc
-
-pub no_source : (act : Act) (known : List Known) → source_of known (leaf_of_act act None) ≡ None
-no_source (Work steps) known = refl
-no_source (Call (CounterAdd addend)) known = refl
-no_source (Call (Push item)) known = refl
-no_source (Call Pop) known = refl
-no_source (Call (TreeInsert key)) known = refl
-no_source (Call (TreeRemove key)) known = refl
-no_source (Call (TreeFind key)) known = refl
-no_source (Call (TreeNext key)) known = refl
-no_source (Call (PqInsert item)) known = refl
-no_source (Call PqTake) known = refl
-
-act_source : (act : Act) (source : Option ℕ) (known : List Known) → ((u : ℕ) → source ≡ Some u → Stands act) → ((u : ℕ) → source ≡ Some u → leaf_known known (leaf_name u) ≡ Some u) → source_of known (leaf_of_act act source) ≡ source
-act_source act None known stands found = no_source act known
-act_source act (Some u) known stands found =
-    let s = stands u refl in
-    ap (λ a. source_of known (leaf_of_act a (Some u))) s.1.0 ∙ named_source s.0 u known s.1.1.0 ∙ found u refl
-
-given_source : (named : Bool) (number : ℕ) (call : Leaf) (known : List Known) → source_of known (given_name named number call) ≡ source_of known call
-given_source true number call known = refl
-given_source false number call known = refl
-
--- what the leaves of a shape make known
-
-given_known : (b : Bool) (number first : ℕ) (call : Leaf) (u : ℕ) → b ≡ true → u ≡ first → HasLeaf (known_by first (given_name b number call)) u
-given_known true number first call u e is = inl (sym is)
-given_known false number first call u e is = cc
-
-given_regular : (b : Bool) (number first : ℕ) (act : Act) (source : Option ℕ) → number ≡ first → first < 2 ^ 32 → AreRegular (known_by first (given_name b number (leaf_of_act act source)))
-given_regular true number first act source e small = ((ap leaf_name e, small), tt)
-given_regular false number first (Work steps) source e small = tt
-given_regular false number first (Call (CounterAdd addend)) None e small = tt
-given_regular false number first (Call (CounterAdd addend)) (Some u) e small = tt
-given_regular false number first (Call (Push item)) None e small = tt
-given_regular false number first (Call (Push item)) (Some u) e small = tt
-given_regular false number first (Call Pop) None e small = tt
-given_regular false number first (Call Pop) (Some u) e small = tt
-given_regular false number first (Call (TreeInsert key)) None e small = tt
-given_regular false number first (Call (TreeInsert key)) (Some u) e small = tt
-given_regular false number first (Call (TreeRemove key)) None e small = tt
-given_regular false number first (Call (TreeRemove key)) (Some u) e small = tt
-given_regular false number first (Call (TreeFind key)) None e small = tt
-given_regular false number first (Call (TreeFind key)) (Some u) e small = tt
-given_regular false number first (Call (TreeNext key)) None e small = tt
-given_regular false number first (Call (TreeNext key)) (Some u) e small = tt
-given_regular false number first (Call (PqInsert item)) None e small = tt
-given_regular false number first (Call (PqInsert item)) (Some u) e small = tt
-given_regular false number first (Call PqTake) None e small = tt
-given_regular false number first (Call PqTake) (Some u) e small = tt
-
--- the count of the two sides of a block
-both_count : (left right : Tree) (written : List WrittenLeaf) → length written ≡ leaves left + leaves right
-    → count (tree_items left (take (leaves left) written) (tree_items right (drop (leaves left) written) nothing)) ≡ leaves left + leaves right
-both_count left right written same =
-    let back = tree_count right (drop (leaves left) written) nothing (right_length left right written same) in
-    let front = tree_count left (take (leaves left) written) (tree_items right (drop (leaves left) written) nothing) (left_length left right written same) in
-    omega (arith, front, back)
-
-pub behind_more : (tree : Tree) (first : ℕ) (written : List WrittenLeaf) (more : Items) (u : ℕ) → length written ≡ leaves tree → HasLeaf (known_behind (first + leaves tree) more) u → HasLeaf (known_behind first (tree_items tree written more)) u
-behind_more leaf first [] more u same h = absurd (omega (arith, same))
-behind_more leaf first (one ∷ []) more u same h = has_first (known_behind (first + 1) more) (known_by first (leaf_of_written one)) u h
-behind_more leaf first (one ∷ next ∷ written) more u same h = absurd (omega (arith, same))
-behind_more (seq left right) first written more u same h =
-    let body = tree_items left (take (leaves left) written) (tree_items right (drop (leaves left) written) nothing) in
-    let e = both_count left right written same in
-    let at : first + (leaves left + leaves right) ≡ first + 1 * count body = omega (arith, e) in
-    has_first (known_behind (first + 1 * count body) more) (known_behind first body) u (subst (λ n. HasLeaf (known_behind n more) u) at h)
-behind_more (par left right) first written more u same h =
-    let body = tree_items left (take (leaves left) written) (tree_items right (drop (leaves left) written) nothing) in
-    let e = both_count left right written same in
-    let at : first + (leaves left + leaves right) ≡ first + 1 * count body = omega (arith, e) in
-    has_first (known_behind (first + 1 * count body) more) (known_behind first body) u (subst (λ n. HasLeaf (known_behind n more) u) at h)
-
 pub either : (v m : ℕ) → (v < m) ⊎ (m ≤ v)
 either v zero = inr (omega arith)
 either zero (suc m) = inl (omega arith)
 either (suc v) (suc m) = elim (either v m) [ inl h ↦ inl (omega (arith, h)) | inr h ↦ inr (omega (arith, h)) ]
 
-pub behind_holds : (all : List (Option ℕ)) (tree : Tree) (first : ℕ) (written : List WrittenLeaf) (more : Items) (u : ℕ) → length written ≡ leaves tree → AreAt all first written → first ≤ u → u < first + leaves tree → is_source all u ≡ true
-    → HasLeaf (known_behind first (tree_items tree written more)) u
-behind_holds all leaf first [] more u same at low high named = absurd (omega (arith, same))
-behind_holds all leaf first (one ∷ []) more u same at low high named =
-    let is : u ≡ first = omega (arith, low, high) in
-    has_second (known_behind (first + 1) more) (known_by first (leaf_of_written one)) u
-    (given_known one.named one.number first (leaf_of_act one.act one.source) u (at.0.named_is ∙ ap (is_source all) (sym is) ∙ named) is)
-behind_holds all leaf first (one ∷ next ∷ written) more u same at low high named = absurd (omega (arith, same))
-behind_holds all (seq left right) first written more u same at low high named =
-    let wl = take (leaves left) written in
-    let wr = drop (leaves left) written in
-    let body = tree_items left wl (tree_items right wr nothing) in
-    has_second (known_behind (first + 1 * count body) more) (known_behind first body) u
-    (elim (either u (first + leaves left)) [
-      | inl l ↦ behind_holds all left first wl (tree_items right wr nothing) u (left_length left right written same) (at_take all first (leaves left) written at) low l named
-      | inr r ↦ behind_more left first wl (tree_items right wr nothing) u (left_length left right written same)
-          (behind_holds all right (first + leaves left) wr nothing u (right_length left right written same) (at_drop all first (leaves left) (first + leaves left) written refl at) r (omega (arith, high)) named)
-    ])
-behind_holds all (par left right) first written more u same at low high named =
-    let wl = take (leaves left) written in
-    let wr = drop (leaves left) written in
-    let body = tree_items left wl (tree_items right wr nothing) in
-    has_second (known_behind (first + 1 * count body) more) (known_behind first body) u
-    (elim (either u (first + leaves left)) [
-      | inl l ↦ behind_holds all left first wl (tree_items right wr nothing) u (left_length left right written same) (at_take all first (leaves left) written at) low l named
-      | inr r ↦ behind_more left first wl (tree_items right wr nothing) u (left_length left right written same)
-          (behind_holds all right (first + leaves left) wr nothing u (right_length left right written same) (at_drop all first (leaves left) (first + leaves left) written refl at) r (omega (arith, high)) named)
-    ])
-
-pub behind_regular : (all : List (Option ℕ)) (tree : Tree) (first : ℕ) (written : List WrittenLeaf) (more : Items) → length written ≡ leaves tree → AreAt all first written → first + leaves tree ≤ 2 ^ 32 → AreRegular (known_behind (first + leaves tree) more)
-    → AreRegular (known_behind first (tree_items tree written more))
-behind_regular all leaf first [] more same at small are = absurd (omega (arith, same))
-behind_regular all leaf first (one ∷ []) more same at small are =
-    each_append IsRegular (known_behind (first + 1) more) (known_by first (leaf_of_written one)) are
-    (given_regular one.named one.number first one.act one.source at.0.number_is (omega (arith, small)))
-behind_regular all leaf first (one ∷ next ∷ written) more same at small are = absurd (omega (arith, same))
-behind_regular all (seq left right) first written more same at small are =
-    let wl = take (leaves left) written in
-    let wr = drop (leaves left) written in
-    let body = tree_items left wl (tree_items right wr nothing) in
-    let e = both_count left right written same in
-    let next : first + (leaves left + leaves right) ≡ first + 1 * count body = omega (arith, e) in
-    each_append IsRegular (known_behind (first + 1 * count body) more) (known_behind first body) (subst (λ n. AreRegular (known_behind n more)) next are)
-    (behind_regular all left first wl (tree_items right wr nothing) (left_length left right written same) (at_take all first (leaves left) written at) (omega (arith, small))
-    (behind_regular all right (first + leaves left) wr nothing (right_length left right written same) (at_drop all first (leaves left) (first + leaves left) written refl at) (omega (arith, small)) tt))
-behind_regular all (par left right) first written more same at small are =
-    let wl = take (leaves left) written in
-    let wr = drop (leaves left) written in
-    let body = tree_items left wl (tree_items right wr nothing) in
-    let e = both_count left right written same in
-    let next : first + (leaves left + leaves right) ≡ first + 1 * count body = omega (arith, e) in
-    each_append IsRegular (known_behind (first + 1 * count body) more) (known_behind first body) (subst (λ n. AreRegular (known_behind n more)) next are)
-    (behind_regular all left first wl (tree_items right wr nothing) (left_length left right written same) (at_take all first (leaves left) written at) (omega (arith, small))
-    (behind_regular all right (first + leaves left) wr nothing (right_length left right written same) (at_drop all first (leaves left) (first + leaves left) written refl at) (omega (arith, small)) tt))
-
--- the sources of the items
-
-sources_split : (n : ℕ) (written : List WrittenLeaf) → sources_of (take n written) ++ sources_of (drop n written) ≡ sources_of written
-sources_split n written = sym (map-append (λ (one : WrittenLeaf). one.source) (take n written) (drop n written)) ∙ ap sources_of (take-append-drop n written)
-
 pub leaf_range : (tree : Tree) (first u : ℕ) → IsLeafOf tree first u → (first ≤ u) × (u < first + leaves tree)
 leaf_range tree first u h = h
 
-pub tree_sources : (all : List (Option ℕ)) (tree : Tree) (written : List WrittenLeaf) (first : ℕ) (series : Bool) (known : List Known) (K : ℕ → Type 0) (more : Items) → length written ≡ leaves tree → AreAt all first written → AreWell written
-    → Sourced all tree first written K → ((u : ℕ) → K u → HasLeaf known u × (u < 2 ^ 32)) → AreRegular known → first + leaves tree ≤ 2 ^ 32
-    → sources_in series known first (tree_items tree written more)
-    ≡ sources_of written ++ sources_in series (known_next series (known_behind first (tree_items tree written nothing)) known) (first + leaves tree) more
-tree_sources all leaf [] first series known K more same at well src holds are small = absurd (omega (arith, same))
-tree_sources all leaf (one ∷ []) first series known K more same at well src holds are small =
-    ap (λ s. s ∷ sources_in series (known_next series (known_by first (leaf_of_written one)) known) (first + 1) more)
-    (given_source one.named one.number (leaf_of_act one.act one.source) known
-    ∙ act_source one.act one.source known well.0.stands (λ u e. let k = holds u (src u e) in known_leaf known u are k.1 k.0))
-tree_sources all leaf (one ∷ next ∷ written) first series known K more same at well src holds are small = absurd (omega (arith, same))
-tree_sources all (seq left right) written first series known K more same at well src holds are small =
-    let wl = take (leaves left) written in
-    let wr = drop (leaves left) written in
-    let body = tree_items left wl (tree_items right wr nothing) in
-    let e = both_count left right written same in
-    let long = left_length left right written same in
-    let long' = right_length left right written same in
-    let atl = at_take all first (leaves left) written at in
-    let atr = at_drop all first (leaves left) (first + leaves left) written refl at in
-    let wwl = each_of_first IsWell (leaves left) written well in
-    let wwr = each_of_rest IsWell (leaves left) written well in
-    let gives = known_behind first (tree_items left wl nothing) in
-    let regular : AreRegular (gives ++ known) = each_append IsRegular gives known (behind_regular all left first wl nothing long atl (omega (arith, small)) tt) are in
-    let front = tree_sources all left wl first true known K (tree_items right wr nothing) long atl wwl src.0 holds are (omega (arith, small)) in
-    let back = tree_sources all right wr (first + leaves left) true (gives ++ known) (λ u. K u ⊎ IsNamedIn all left first u) nothing long' atr wwr src.1
-    (λ u k. elim k [
-      | inl old ↦ let h = holds u old in (has_second gives known u h.0, h.1)
-      | inr new ↦
-          let r = leaf_range left first u new.0 in
-          let high = r.1 in
-          (has_first gives known u (behind_holds all left first wl nothing u long atl r.0 r.1 new.1), omega (arith, high, small))
-    ]) regular (omega (arith, small)) in
-    let next : first + 1 * count body ≡ first + (leaves left + leaves right) = omega (arith, e) in
-    ap (λ x. x ++ sources_in series (known_next series (known_behind first body) known) (first + 1 * count body) more)
-    (front ∙ ap (λ x. sources_of wl ++ x) (back ∙ append-nil (sources_of wr)) ∙ sources_split (leaves left) written)
-    ∙ ap (λ n. sources_of written ++ sources_in series (known_next series (known_behind first body) known) n more) next
-tree_sources all (par left right) written first series known K more same at well src holds are small =
-    let wl = take (leaves left) written in
-    let wr = drop (leaves left) written in
-    let body = tree_items left wl (tree_items right wr nothing) in
-    let e = both_count left right written same in
-    let long = left_length left right written same in
-    let long' = right_length left right written same in
-    let atl = at_take all first (leaves left) written at in
-    let atr = at_drop all first (leaves left) (first + leaves left) written refl at in
-    let wwl = each_of_first IsWell (leaves left) written well in
-    let wwr = each_of_rest IsWell (leaves left) written well in
-    let front = tree_sources all left wl first false known K (tree_items right wr nothing) long atl wwl src.0 holds are (omega (arith, small)) in
-    let back = tree_sources all right wr (first + leaves left) false known K nothing long' atr wwr src.1 holds are (omega (arith, small)) in
-    let next : first + 1 * count body ≡ first + (leaves left + leaves right) = omega (arith, e) in
-    ap (λ x. x ++ sources_in series (known_next series (known_behind first body) known) (first + 1 * count body) more)
-    (front ∙ ap (λ x. sources_of wl ++ x) (back ∙ append-nil (sources_of wr)) ∙ sources_split (leaves left) written)
-    ∙ ap (λ n. sources_of written ++ sources_in series (known_next series (known_behind first body) known) n more) next
+module _ (names : List (List ℕ)) where
+  -- the source of one leaf
+
+  call_source : (op : Op) (object : Option Name) (u : ℕ) (known : List Known) → has_argument op ≡ true → source_of known (call_leaf op object (Named (leaf_name u))) ≡ leaf_known known (leaf_name u)
+  call_source (CounterAdd _ addend) object u known h = refl
+  call_source (Push _ item) object u known h = refl
+  call_source (Pop _) object u known h = cc
+  call_source (TreeInsert _ key) object u known h = refl
+  call_source (TreeRemove _ key) object u known h = refl
+  call_source (TreeFind _ key) object u known h = refl
+  call_source (TreeNext _ key) object u known h = refl
+  call_source (PqInsert _ item) object u known h = refl
+  call_source (PqTake _) object u known h = cc
+
+  no_call_source : (op : Op) (object : Option Name) (number : ℕ) (known : List Known) → source_of known (call_leaf op object (Number (Some number))) ≡ None
+  no_call_source (CounterAdd _ addend) object number known = refl
+  no_call_source (Push _ item) object number known = refl
+  no_call_source (Pop _) object number known = refl
+  no_call_source (TreeInsert _ key) object number known = refl
+  no_call_source (TreeRemove _ key) object number known = refl
+  no_call_source (TreeFind _ key) object number known = refl
+  no_call_source (TreeNext _ key) object number known = refl
+  no_call_source (PqInsert _ item) object number known = refl
+  no_call_source (PqTake _) object number known = refl
+
+  pub no_source : (act : Act) (known : List Known) → source_of known (leaf_of_act names act None) ≡ None
+  no_source (Work steps) known = refl
+  no_source (Call op) known = no_call_source op (name_at names (number_of op)) (argument_of op) known
+
+  act_source : (act : Act) (source : Option ℕ) (known : List Known) → ((u : ℕ) → source ≡ Some u → Stands act) → ((u : ℕ) → source ≡ Some u → leaf_known known (leaf_name u) ≡ Some u) → source_of known (leaf_of_act names act source) ≡ source
+  act_source act None known stands found = no_source act known
+  act_source act (Some u) known stands found =
+      let s = stands u refl in
+      ap (λ a. source_of known (leaf_of_act names a (Some u))) s.1.0 ∙ call_source s.0 (name_at names (number_of s.0)) u known s.1.1.0 ∙ found u refl
+
+  given_source : (named : Bool) (number : ℕ) (call : Leaf) (known : List Known) → source_of known (given_name named number call) ≡ source_of known call
+  given_source true number call known = refl
+  given_source false number call known = refl
+
+  -- what the leaves of a shape make known
+
+  given_known : (b : Bool) (number first : ℕ) (call : Leaf) (u : ℕ) → b ≡ true → u ≡ first → HasLeaf (known_by first (given_name b number call)) u
+  given_known true number first call u e is = inl (sym is)
+  given_known false number first call u e is = cc
+
+  call_regular : (op : Op) (object : Option Name) (word : Word) (first : ℕ) → AreRegular (known_by first (call_leaf op object word))
+  call_regular (CounterAdd _ addend) object word first = tt
+  call_regular (Push _ item) object word first = tt
+  call_regular (Pop _) object word first = tt
+  call_regular (TreeInsert _ key) object word first = tt
+  call_regular (TreeRemove _ key) object word first = tt
+  call_regular (TreeFind _ key) object word first = tt
+  call_regular (TreeNext _ key) object word first = tt
+  call_regular (PqInsert _ item) object word first = tt
+  call_regular (PqTake _) object word first = tt
+
+  given_regular : (b : Bool) (number first : ℕ) (act : Act) (source : Option ℕ) → number ≡ first → first < 2 ^ 32 → AreRegular (known_by first (given_name b number (leaf_of_act names act source)))
+  given_regular true number first act source e small = ((ap leaf_name e, small), tt)
+  given_regular false number first (Work steps) source e small = tt
+  given_regular false number first (Call op) source e small = call_regular op (name_at names (number_of op)) (said (argument_of op) source) first
+
+  -- the count of the two sides of a block
+  both_count : (left right : Tree) (written : List WrittenLeaf) → length written ≡ leaves left + leaves right
+      → count (tree_items names left (take (leaves left) written) (tree_items names right (drop (leaves left) written) nothing)) ≡ leaves left + leaves right
+  both_count left right written same =
+      let back = tree_count names right (drop (leaves left) written) nothing (right_length left right written same) in
+      let front = tree_count names left (take (leaves left) written) (tree_items names right (drop (leaves left) written) nothing) (left_length left right written same) in
+      omega (arith, front, back)
+
+  pub behind_more : (tree : Tree) (first : ℕ) (written : List WrittenLeaf) (more : Items) (u : ℕ) → length written ≡ leaves tree → HasLeaf (known_behind (first + leaves tree) more) u → HasLeaf (known_behind first (tree_items names tree written more)) u
+  behind_more leaf first [] more u same h = absurd (omega (arith, same))
+  behind_more leaf first (one ∷ []) more u same h = has_first (known_behind (first + 1) more) (known_by first (leaf_of_written names one)) u h
+  behind_more leaf first (one ∷ next ∷ written) more u same h = absurd (omega (arith, same))
+  behind_more (seq left right) first written more u same h =
+      let body = tree_items names left (take (leaves left) written) (tree_items names right (drop (leaves left) written) nothing) in
+      let e = both_count left right written same in
+      let at : first + (leaves left + leaves right) ≡ first + 1 * count body = omega (arith, e) in
+      has_first (known_behind (first + 1 * count body) more) (known_behind first body) u (subst (λ n. HasLeaf (known_behind n more) u) at h)
+  behind_more (par left right) first written more u same h =
+      let body = tree_items names left (take (leaves left) written) (tree_items names right (drop (leaves left) written) nothing) in
+      let e = both_count left right written same in
+      let at : first + (leaves left + leaves right) ≡ first + 1 * count body = omega (arith, e) in
+      has_first (known_behind (first + 1 * count body) more) (known_behind first body) u (subst (λ n. HasLeaf (known_behind n more) u) at h)
+
+  pub behind_holds : (all : List (Option ℕ)) (tree : Tree) (first : ℕ) (written : List WrittenLeaf) (more : Items) (u : ℕ) → length written ≡ leaves tree → AreAt all first written → first ≤ u → u < first + leaves tree → is_source all u ≡ true
+      → HasLeaf (known_behind first (tree_items names tree written more)) u
+  behind_holds all leaf first [] more u same at low high named = absurd (omega (arith, same))
+  behind_holds all leaf first (one ∷ []) more u same at low high named =
+      let is : u ≡ first = omega (arith, low, high) in
+      has_second (known_behind (first + 1) more) (known_by first (leaf_of_written names one)) u
+      (given_known one.named one.number first (leaf_of_act names one.act one.source) u (at.0.named_is ∙ ap (is_source all) (sym is) ∙ named) is)
+  behind_holds all leaf first (one ∷ next ∷ written) more u same at low high named = absurd (omega (arith, same))
+  behind_holds all (seq left right) first written more u same at low high named =
+      let wl = take (leaves left) written in
+      let wr = drop (leaves left) written in
+      let body = tree_items names left wl (tree_items names right wr nothing) in
+      has_second (known_behind (first + 1 * count body) more) (known_behind first body) u
+      (elim (either u (first + leaves left)) [
+        | inl l ↦ behind_holds all left first wl (tree_items names right wr nothing) u (left_length left right written same) (at_take all first (leaves left) written at) low l named
+        | inr r ↦ behind_more left first wl (tree_items names right wr nothing) u (left_length left right written same)
+            (behind_holds all right (first + leaves left) wr nothing u (right_length left right written same) (at_drop all first (leaves left) (first + leaves left) written refl at) r (omega (arith, high)) named)
+      ])
+  behind_holds all (par left right) first written more u same at low high named =
+      let wl = take (leaves left) written in
+      let wr = drop (leaves left) written in
+      let body = tree_items names left wl (tree_items names right wr nothing) in
+      has_second (known_behind (first + 1 * count body) more) (known_behind first body) u
+      (elim (either u (first + leaves left)) [
+        | inl l ↦ behind_holds all left first wl (tree_items names right wr nothing) u (left_length left right written same) (at_take all first (leaves left) written at) low l named
+        | inr r ↦ behind_more left first wl (tree_items names right wr nothing) u (left_length left right written same)
+            (behind_holds all right (first + leaves left) wr nothing u (right_length left right written same) (at_drop all first (leaves left) (first + leaves left) written refl at) r (omega (arith, high)) named)
+      ])
+
+  pub behind_regular : (all : List (Option ℕ)) (tree : Tree) (first : ℕ) (written : List WrittenLeaf) (more : Items) → length written ≡ leaves tree → AreAt all first written → first + leaves tree ≤ 2 ^ 32 → AreRegular (known_behind (first + leaves tree) more)
+      → AreRegular (known_behind first (tree_items names tree written more))
+  behind_regular all leaf first [] more same at small are = absurd (omega (arith, same))
+  behind_regular all leaf first (one ∷ []) more same at small are =
+      each_append IsRegular (known_behind (first + 1) more) (known_by first (leaf_of_written names one)) are
+      (given_regular one.named one.number first one.act one.source at.0.number_is (omega (arith, small)))
+  behind_regular all leaf first (one ∷ next ∷ written) more same at small are = absurd (omega (arith, same))
+  behind_regular all (seq left right) first written more same at small are =
+      let wl = take (leaves left) written in
+      let wr = drop (leaves left) written in
+      let body = tree_items names left wl (tree_items names right wr nothing) in
+      let e = both_count left right written same in
+      let next : first + (leaves left + leaves right) ≡ first + 1 * count body = omega (arith, e) in
+      each_append IsRegular (known_behind (first + 1 * count body) more) (known_behind first body) (subst (λ n. AreRegular (known_behind n more)) next are)
+      (behind_regular all left first wl (tree_items names right wr nothing) (left_length left right written same) (at_take all first (leaves left) written at) (omega (arith, small))
+      (behind_regular all right (first + leaves left) wr nothing (right_length left right written same) (at_drop all first (leaves left) (first + leaves left) written refl at) (omega (arith, small)) tt))
+  behind_regular all (par left right) first written more same at small are =
+      let wl = take (leaves left) written in
+      let wr = drop (leaves left) written in
+      let body = tree_items names left wl (tree_items names right wr nothing) in
+      let e = both_count left right written same in
+      let next : first + (leaves left + leaves right) ≡ first + 1 * count body = omega (arith, e) in
+      each_append IsRegular (known_behind (first + 1 * count body) more) (known_behind first body) (subst (λ n. AreRegular (known_behind n more)) next are)
+      (behind_regular all left first wl (tree_items names right wr nothing) (left_length left right written same) (at_take all first (leaves left) written at) (omega (arith, small))
+      (behind_regular all right (first + leaves left) wr nothing (right_length left right written same) (at_drop all first (leaves left) (first + leaves left) written refl at) (omega (arith, small)) tt))
+
+  -- the sources of the items
+
+  sources_split : (n : ℕ) (written : List WrittenLeaf) → sources_of (take n written) ++ sources_of (drop n written) ≡ sources_of written
+  sources_split n written = sym (map-append (λ (one : WrittenLeaf). one.source) (take n written) (drop n written)) ∙ ap sources_of (take-append-drop n written)
+
+  pub tree_sources : (all : List (Option ℕ)) (tree : Tree) (written : List WrittenLeaf) (first : ℕ) (series : Bool) (known : List Known) (K : ℕ → Type 0) (more : Items) → length written ≡ leaves tree → AreAt all first written → AreWell written
+      → Sourced all tree first written K → ((u : ℕ) → K u → HasLeaf known u × (u < 2 ^ 32)) → AreRegular known → first + leaves tree ≤ 2 ^ 32
+      → sources_in series known first (tree_items names tree written more)
+      ≡ sources_of written ++ sources_in series (known_next series (known_behind first (tree_items names tree written nothing)) known) (first + leaves tree) more
+  tree_sources all leaf [] first series known K more same at well src holds are small = absurd (omega (arith, same))
+  tree_sources all leaf (one ∷ []) first series known K more same at well src holds are small =
+      ap (λ s. s ∷ sources_in series (known_next series (known_by first (leaf_of_written names one)) known) (first + 1) more)
+      (given_source one.named one.number (leaf_of_act names one.act one.source) known
+      ∙ act_source one.act one.source known well.0.stands (λ u e. let k = holds u (src u e) in known_leaf known u are k.1 k.0))
+  tree_sources all leaf (one ∷ next ∷ written) first series known K more same at well src holds are small = absurd (omega (arith, same))
+  tree_sources all (seq left right) written first series known K more same at well src holds are small =
+      let wl = take (leaves left) written in
+      let wr = drop (leaves left) written in
+      let body = tree_items names left wl (tree_items names right wr nothing) in
+      let e = both_count left right written same in
+      let long = left_length left right written same in
+      let long' = right_length left right written same in
+      let atl = at_take all first (leaves left) written at in
+      let atr = at_drop all first (leaves left) (first + leaves left) written refl at in
+      let wwl = each_of_first IsWell (leaves left) written well in
+      let wwr = each_of_rest IsWell (leaves left) written well in
+      let gives = known_behind first (tree_items names left wl nothing) in
+      let regular : AreRegular (gives ++ known) = each_append IsRegular gives known (behind_regular all left first wl nothing long atl (omega (arith, small)) tt) are in
+      let front = tree_sources all left wl first true known K (tree_items names right wr nothing) long atl wwl src.0 holds are (omega (arith, small)) in
+      let back = tree_sources all right wr (first + leaves left) true (gives ++ known) (λ u. K u ⊎ IsNamedIn all left first u) nothing long' atr wwr src.1
+      (λ u k. elim k [
+        | inl old ↦ let h = holds u old in (has_second gives known u h.0, h.1)
+        | inr new ↦
+            let r = leaf_range left first u new.0 in
+            let high = r.1 in
+            (has_first gives known u (behind_holds all left first wl nothing u long atl r.0 r.1 new.1), omega (arith, high, small))
+      ]) regular (omega (arith, small)) in
+      let next : first + 1 * count body ≡ first + (leaves left + leaves right) = omega (arith, e) in
+      ap (λ x. x ++ sources_in series (known_next series (known_behind first body) known) (first + 1 * count body) more)
+      (front ∙ ap (λ x. sources_of wl ++ x) (back ∙ append-nil (sources_of wr)) ∙ sources_split (leaves left) written)
+      ∙ ap (λ n. sources_of written ++ sources_in series (known_next series (known_behind first body) known) n more) next
+  tree_sources all (par left right) written first series known K more same at well src holds are small =
+      let wl = take (leaves left) written in
+      let wr = drop (leaves left) written in
+      let body = tree_items names left wl (tree_items names right wr nothing) in
+      let e = both_count left right written same in
+      let long = left_length left right written same in
+      let long' = right_length left right written same in
+      let atl = at_take all first (leaves left) written at in
+      let atr = at_drop all first (leaves left) (first + leaves left) written refl at in
+      let wwl = each_of_first IsWell (leaves left) written well in
+      let wwr = each_of_rest IsWell (leaves left) written well in
+      let front = tree_sources all left wl first false known K (tree_items names right wr nothing) long atl wwl src.0 holds are (omega (arith, small)) in
+      let back = tree_sources all right wr (first + leaves left) false known K nothing long' atr wwr src.1 holds are (omega (arith, small)) in
+      let next : first + 1 * count body ≡ first + (leaves left + leaves right) = omega (arith, e) in
+      ap (λ x. x ++ sources_in series (known_next series (known_behind first body) known) (first + 1 * count body) more)
+      (front ∙ ap (λ x. sources_of wl ++ x) (back ∙ append-nil (sources_of wr)) ∙ sources_split (leaves left) written)
+      ∙ ap (λ n. sources_of written ++ sources_in series (known_next series (known_behind first body) known) n more) next

@@ -11,8 +11,8 @@ FitsArgument copy _ = Unit {0}
 
 abbrev pub FitsLeaf : ℕ → Leaf → Type 0
 FitsLeaf copy (with_argument op argument) = FitsArgument copy argument
-FitsLeaf copy stack_pop = Unit {0}
-FitsLeaf copy queue_take = Unit {0}
+FitsLeaf copy (stack_pop object) = Unit {0}
+FitsLeaf copy (queue_take object) = Unit {0}
 FitsLeaf copy (bound name call) = FitsLeaf copy call
 
 -- the arguments of the items fit in copy `copy` of the innermost loop around them, and in each copy of the loops inside

@@ -1,5 +1,5 @@
--- The sources of leaves, by the scopes in which the code makes its copies.
-use Rattle.std.specs.Prelude.{◌≡◌, ℕ, ◌+◌, ◌*◌, List, [], ◌∷◌, ◌++◌, length, Option, None, if◌then◌else◌}
+-- The leaves that the code adds, and their sources, by the scopes in which it makes its copies.
+use Rattle.std.specs.Prelude.{◌≡◌, ℕ, ◌+◌, ◌*◌, ◌≤◌, List, [], ◌∷◌, ◌++◌, length, Option, None, if◌then◌else◌}
 use Rattle.job_names.specs.declared.kind.Kind.TheVariants as kind
 use Rattle.job_names.specs.declared.scopes.Let.{Let}
 use Rattle.job_names.specs.Scopes.{Scope, inside, last_of, lets_shown, with_lets}
@@ -10,7 +10,8 @@ use Rattle.job_syntax.specs.Blocks.{word_number, copies_of}
 use Rattle.job_syntax.specs.Grammar.{Items, nothing, leaf_then, block_then, seq_block, par_block, for_loop, pfor_loop, Leaf, with_argument, bound, is_loop}
 use Rattle.job_lang.specs.declared.expand.leaves.Leaves.{Leaves}
 use Rattle.job_lang.specs.Counts.{count}
-use Rattle.job_lang.specs.Meaning.{acts_in, each_copy}
+use Rattle.job_lang.specs.Meaning.{acts_in, objects_in, each_copy}
+use Rattle.job_lang.specs.Code.Numbered.{NamesBehind}
 
 -- the let that a leaf with this number makes
 abbrev pub lets_at : ℕ → Leaf → List Let
@@ -46,12 +47,18 @@ scoped_sources scope first (block_then (pfor_loop copies) body more) =
     each_copy (word_number copies) (λ k. scoped_sources (inside scope kind.Loop []) (first + k * count body) body)
     ++ scoped_sources scope (first + word_number copies * count body) more
 
+-- What is kept of the leaves made so far: their scopes, and at most as many objects as leaves.
+pub record AreKept (leaves : Leaves) : Type 0 where
+  pub scopes : IsKept leaves.scopes
+  pub objects : length leaves.objects.named.keys ≤ length leaves.acts.items
+
 -- The leaves of the items in copy `copy` are added to the old ones, and their lets are shown.
 pub record Adds (copy : ℕ) (items : Items) (old new : Leaves) : Type 0 where
   pub acts : new.acts.items ≡ old.acts.items ++ acts_in copy items
   pub sources : new.sources.items ≡ old.sources.items ++ scoped_sources (names.view old.scopes) (length old.acts.items) items
+  pub objects : NamesBehind (length old.acts.items) old.objects new.objects (objects_in items)
   pub scope : names.view new.scopes ≡ with_lets (names.view old.scopes) (lets_behind (length old.acts.items) items)
-  pub kept : IsKept new.scopes
+  pub kept : AreKept new
 
 -- The leaves of the first copies of a loop are added to the old ones. Their lets are gone.
 pub record AddsCopies (copies : ℕ) (body : Items) (old new : Leaves) : Type 0 where
@@ -59,5 +66,6 @@ pub record AddsCopies (copies : ℕ) (body : Items) (old new : Leaves) : Type 0 
   pub sources : new.sources.items
       ≡ old.sources.items
       ++ each_copy copies (λ k. scoped_sources (inside (names.view old.scopes) kind.Loop []) (length old.acts.items + k * count body) body)
+  pub objects : NamesBehind (length old.acts.items) old.objects new.objects (each_copy copies (λ k. objects_in body))
   pub scope : names.view new.scopes ≡ names.view old.scopes
-  pub kept : IsKept new.scopes
+  pub kept : AreKept new

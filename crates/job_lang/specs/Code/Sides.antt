@@ -4,6 +4,6 @@ use Rattle.sp_order.specs.Precedence.{Tree, leaves}
 use Rattle.job_lang.specs.declared.writer.written.WrittenLeaf.{WrittenLeaf}
 use Rattle.job_lang.specs.Canonical.{tree_text}
 
-abbrev pub sides_text : Tree → Tree → List WrittenLeaf → List ℕ
-sides_text left right written =
-    codes "{ " ++ tree_text left written ++ codes " " ++ tree_text right (drop (leaves left) written) ++ codes " }"
+abbrev pub sides_text : List (List ℕ) → Tree → Tree → List WrittenLeaf → List ℕ
+sides_text names left right written =
+    codes "{ " ++ tree_text names left written ++ codes " " ++ tree_text names right (drop (leaves left) written) ++ codes " }"

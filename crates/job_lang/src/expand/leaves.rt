@@ -8,19 +8,22 @@ ghost use Rattle.job_syntax.specs.Grammar.{leaf_then, nothing, bound};
 ghost use Rattle.job_syntax.specs.Views.{argument_word, unary_op_of, leaf_of, block_kind_of};
 ghost use Rattle.job_lang.specs.Meaning.{number_in, act_with, act_of};
 ghost use Rattle.job_lang.specs.Code.Ranges.{FitsArgument, FitsLeaf};
-ghost use Rattle.job_lang.specs.Code.Scoped.{Adds, scoped_source};
+ghost use Rattle.job_lang.specs.Code.Numbered.{AreListed};
+ghost use Rattle.job_lang.specs.Code.Scoped.{Adds, AreKept, scoped_source};
 
+use crate::expand::objects::{Objects, object_of};
 use job_names::{Name, Scopes};
 use job_syntax::{Argument, BlockKind, Leaf, UnaryOp};
 use seq_objects::{Act, Op};
 use std::alloc::{AllocError, Global};
 
-/// The leaves made so far: their acts and their sources. Beside them the lets that the next leaf sees, each with the
-/// number of its leaf. A copy of a loop is a block of its own.
+/// The leaves made so far: their acts, their sources and the objects that they name. Beside them the lets that the next
+/// leaf sees, each with the number of its leaf. A copy of a loop is a block of its own.
 #[derive(Drop)]
 pub(crate) struct Leaves {
     pub(crate) acts: Vec<Act>,
     pub(crate) sources: Vec<Option<u32>>,
+    pub(crate) objects: Objects,
     pub(crate) scopes: Scopes,
 }
 
@@ -36,19 +39,19 @@ fn number_in(copy: u32, argument: Argument) -> u32
     }
 }
 
-/// The act of an operation whose argument has this value.
+/// The act of an operation whose argument has this value, on the object with the number 0.
 fn act_with(op: UnaryOp, number: u32) -> Act
     ensures { result ≡ act_with (unary_op_of op) number }
 {
     match op {
         UnaryOp::Work => Act::Work(number),
-        UnaryOp::CounterAdd => Act::Call(Op::CounterAdd(number)),
-        UnaryOp::StackPush => Act::Call(Op::Push(number)),
-        UnaryOp::TreeInsert => Act::Call(Op::TreeInsert(number)),
-        UnaryOp::TreeRemove => Act::Call(Op::TreeRemove(number)),
-        UnaryOp::TreeFind => Act::Call(Op::TreeFind(number)),
-        UnaryOp::TreeNext => Act::Call(Op::TreeNext(number)),
-        UnaryOp::QueueInsert => Act::Call(Op::PqInsert(number)),
+        UnaryOp::CounterAdd(_) => Act::Call(Op::CounterAdd(0, number)),
+        UnaryOp::StackPush(_) => Act::Call(Op::Push(0, number)),
+        UnaryOp::TreeInsert(_) => Act::Call(Op::TreeInsert(0, number)),
+        UnaryOp::TreeRemove(_) => Act::Call(Op::TreeRemove(0, number)),
+        UnaryOp::TreeFind(_) => Act::Call(Op::TreeFind(0, number)),
+        UnaryOp::TreeNext(_) => Act::Call(Op::TreeNext(0, number)),
+        UnaryOp::QueueInsert(_) => Act::Call(Op::PqInsert(0, number)),
     }
 }
 
@@ -59,8 +62,8 @@ fn act_in(copy: u32, leaf: Leaf) -> Act
 {
     match leaf {
         Leaf::WithArgument(op, argument) => act_with(op, number_in(copy, argument)),
-        Leaf::StackPop => Act::Call(Op::Pop),
-        Leaf::QueueTake => Act::Call(Op::PqTake),
+        Leaf::StackPop(_) => Act::Call(Op::Pop(0)),
+        Leaf::QueueTake(_) => Act::Call(Op::PqTake(0)),
     }
 }
 
@@ -69,12 +72,14 @@ impl Leaves {
     pub(crate) fn new(alloc: Global) -> Leaves
         ensures acts { result.acts.items ≡ [] }
         ensures sources { result.sources.items ≡ [] }
+        ensures objects { AreListed result.objects [] }
         ensures scope { names.view result.scopes ≡ job [] }
-        ensures kept { IsKept result.scopes }
+        ensures kept { AreKept result }
     {
         Leaves {
             acts: Vec::new(alloc),
             sources: Vec::new(alloc),
+            objects: Objects::new(alloc),
             scopes: Scopes::new(alloc),
         }
     }
@@ -93,10 +98,12 @@ impl Leaves {
     /// Adds a leaf in copy `copy`.
     pub(crate) fn add(&mut self, copy: u32, leaf: Leaf) -> Result<(), AllocError>
         requires fits { FitsLeaf copy (leaf_of leaf) }
-        requires kept { IsKept self.old.scopes }
+        requires few { length self.old.acts.items < 20000 }
+        requires kept { AreKept self.old }
         ensures { OnOk result (Adds copy (leaf_then (leaf_of leaf) nothing) self.old self.new) }
     {
         let source = self.source_of(leaf);
+        self.objects.add(self.acts.len(), object_of(leaf))?;
         self.acts.push(act_in(copy, leaf))?;
         self.sources.push(source)?;
         Ok(())
@@ -106,7 +113,7 @@ impl Leaves {
     pub(crate) fn add_let(&mut self, copy: u32, name: Name, call: Leaf) -> Result<(), AllocError>
         requires fits { FitsLeaf copy (leaf_of call) }
         requires few { length self.old.acts.items < 20000 }
-        requires kept { IsKept self.old.scopes }
+        requires kept { AreKept self.old }
         ensures { OnOk result (Adds copy (leaf_then (bound name (leaf_of call)) nothing) self.old self.new) }
     {
         let number = self.acts.len() as u32;
@@ -117,12 +124,13 @@ impl Leaves {
 
     /// Opens a block.
     pub(crate) fn open(&mut self, kind: BlockKind) -> Result<(), AllocError>
-        requires { IsKept self.old.scopes }
+        requires { AreKept self.old }
         ensures acts { self.new.acts ≡ self.old.acts }
         ensures sources { self.new.sources ≡ self.old.sources }
+        ensures objects { self.new.objects ≡ self.old.objects }
         ensures scope { OnOk result
             (names.view self.new.scopes ≡ inside (names.view self.old.scopes) (name_kind (block_kind_of kind)) []) }
-        ensures kept { OnOk result (IsKept self.new.scopes) }
+        ensures kept { OnOk result (AreKept self.new) }
     {
         self.scopes.open(kind.name_kind())?;
         Ok(())
@@ -130,11 +138,12 @@ impl Leaves {
 
     /// Closes the innermost block.
     pub(crate) fn close(&mut self)
-        requires { IsKept self.old.scopes }
+        requires { AreKept self.old }
         ensures acts { self.new.acts ≡ self.old.acts }
         ensures sources { self.new.sources ≡ self.old.sources }
+        ensures objects { self.new.objects ≡ self.old.objects }
         ensures scope { names.view self.new.scopes ≡ closed (names.view self.old.scopes) }
-        ensures kept { IsKept self.new.scopes }
+        ensures kept { AreKept self.new }
     {
         self.scopes.close();
     }

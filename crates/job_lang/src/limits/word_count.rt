@@ -10,13 +10,13 @@ fn unary_op_word_count(op: UnaryOp) -> usize
 {
     match op {
         UnaryOp::Work => 1,
-        UnaryOp::CounterAdd
-        | UnaryOp::StackPush
-        | UnaryOp::TreeInsert
-        | UnaryOp::TreeRemove
-        | UnaryOp::TreeFind
-        | UnaryOp::TreeNext
-        | UnaryOp::QueueInsert => 2,
+        UnaryOp::CounterAdd(_)
+        | UnaryOp::StackPush(_)
+        | UnaryOp::TreeInsert(_)
+        | UnaryOp::TreeRemove(_)
+        | UnaryOp::TreeFind(_)
+        | UnaryOp::TreeNext(_)
+        | UnaryOp::QueueInsert(_) => 2,
     }
 }
 
@@ -25,7 +25,7 @@ fn leaf_word_count(leaf: Leaf) -> usize
 {
     match leaf {
         Leaf::WithArgument(op, _) => unary_op_word_count(op) + 1,
-        Leaf::StackPop | Leaf::QueueTake => 2,
+        Leaf::StackPop(_) | Leaf::QueueTake(_) => 2,
     }
 }
 

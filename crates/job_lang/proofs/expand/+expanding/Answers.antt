@@ -88,10 +88,12 @@ shapes_of_copies-loop-copy-preserved t c =
           (record {
             opened_acts = c.open.ensures.acts;
             opened_sources = c.open.ensures.sources;
+            opened_objects = c.open.ensures.objects;
             opened_scope = c.in_ok-open.ensures.scope;
             fills = c.in_ok-in_copy.ensures.leaves;
             new_acts = c.close.ensures.acts;
             new_sources = c.close.ensures.sources;
+            new_objects = c.close.ensures.objects;
             new_scope = c.close.ensures.scope;
             kept = c.close.ensures.kept;
           });

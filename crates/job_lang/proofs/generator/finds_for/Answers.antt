@@ -8,6 +8,6 @@ loop-op-preserved c =
     let ops = c.args.ops.now in
     let i = c.loop-op.op-index in
     elim c.match-op.branch [
-      | in-TreeInsert+in_ok-push w ↦ let more = find_more ops i (CounterAdd 0) _ c.loop-op-test.true w.in-TreeInsert.is in cc (more, w.in_ok-push.ensures.items)
-      | in_default w ↦ let same = no_find_more ops i (CounterAdd 0) c.loop-op-test.true w.in_default.not-TreeInsert in cc same
+      | in-TreeInsert+in_ok-push w ↦ let more = find_more ops i (CounterAdd 0 0) _ _ c.loop-op-test.true w.in-TreeInsert.is in cc (more, w.in_ok-push.ensures.items)
+      | in_default w ↦ let same = no_find_more ops i (CounterAdd 0 0) c.loop-op-test.true w.in_default.not-TreeInsert in cc same
     ]

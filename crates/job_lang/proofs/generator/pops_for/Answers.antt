@@ -10,6 +10,6 @@ loop-op-preserved c =
     let ops = c.args.ops.now in
     let i = c.loop-op.op-index in
     elim c.match-op.branch [
-      | in-Push+in_ok-push w ↦ let more = one_more pushes Pop ops i (CounterAdd 0) c.loop-op-test.true (ap pushes w.in-Push.is) in cc (more, w.in_ok-push.ensures.items)
-      | in_default w ↦ let same = no_more pushes Pop ops i (CounterAdd 0) c.loop-op-test.true (not_push _ w.in_default.not-Push) in cc same
+      | in-Push+in_ok-push w ↦ let more = one_more pushes (Pop 0) ops i (CounterAdd 0 0) c.loop-op-test.true (ap pushes w.in-Push.is) in cc (more, w.in_ok-push.ensures.items)
+      | in_default w ↦ let same = no_more pushes (Pop 0) ops i (CounterAdd 0 0) c.loop-op-test.true (not_push _ w.in_default.not-Push) in cc same
     ]

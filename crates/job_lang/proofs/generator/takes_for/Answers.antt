@@ -10,6 +10,6 @@ loop-op-preserved c =
     let ops = c.args.ops.now in
     let i = c.loop-op.op-index in
     elim c.match-op.branch [
-      | in-PqInsert+in_ok-push w ↦ let more = one_more queue_inserts PqTake ops i (CounterAdd 0) c.loop-op-test.true (ap queue_inserts w.in-PqInsert.is) in cc (more, w.in_ok-push.ensures.items)
-      | in_default w ↦ let same = no_more queue_inserts PqTake ops i (CounterAdd 0) c.loop-op-test.true (not_queue_insert _ w.in_default.not-PqInsert) in cc same
+      | in-PqInsert+in_ok-push w ↦ let more = one_more queue_inserts (PqTake 0) ops i (CounterAdd 0 0) c.loop-op-test.true (ap queue_inserts w.in-PqInsert.is) in cc (more, w.in_ok-push.ensures.items)
+      | in_default w ↦ let same = no_more queue_inserts (PqTake 0) ops i (CounterAdd 0 0) c.loop-op-test.true (not_queue_insert _ w.in_default.not-PqInsert) in cc same
     ]

@@ -1,5 +1,8 @@
-use Rattle.job_lang.proofs.WriterLemmas.Jobs.{words_are_a_job}
+use Rattle.job_lang.proofs.WriterLemmas.Jobs.{nameless_words, named_words}
 use Rattle.job_lang.proofs.laws.reported_words_are_a_job.Goals as goal
 
-pub returns : goal.returns
-returns c = λ op small. words_are_a_job op small
+pub returns-clause-nameless : goal.returns-clause-nameless
+returns-clause-nameless c = nameless_words
+
+pub returns-clause-named : goal.returns-clause-named
+returns-clause-named c = named_words

@@ -1,5 +1,5 @@
 -- The acts of leaves whose operations are known, and their operations in a longer book.
-use Rattle.std.proofs.Common.{◌≡◌, ◌≢◌, ℕ, zero, suc, ◌<◌, ◌^◌, ◌⊎◌, List, [], ◌∷◌, ◌++◌, length, Option, None, Some, inl, inr, refl, sym, ap, ◌∙◌, arith}
+use Rattle.std.proofs.Common.{◌≡◌, ◌≢◌, ℕ, zero, suc, ◌<◌, ◌^◌, ◌⊎◌, List, [], ◌∷◌, ◌++◌, length, Option, None, Some, inl, inr, refl, sym, ap, subst, ◌∙◌, arith}
 use Rattle.std.specs.Prelude.{slice_get, slice_index_or}
 use Rattle.std.specs.List.{AllByRecursion}
 use Rattle.seq_objects.specs.Objects.{argument_of, value_of}
@@ -8,10 +8,12 @@ use Rattle.seq_objects.specs.declared.act.Act.TheVariants.{Work, Call}
 use Rattle.seq_objects.specs.declared.op.Op.{Op}
 use Rattle.seq_objects.specs.declared.op.Op.TheVariants.{CounterAdd, Push, Pop, TreeInsert, TreeRemove, TreeFind, TreeNext, PqInsert, PqTake}
 use Rattle.sp_order.specs.Jobs.{JobValue}
+use Rattle.sp_order.specs.Objects.{number_in, AreUnnamed}
 use Rattle.sp_order.specs.Phases.{HasNoSources}
 use Rattle.sp_order.specs.Sources.{with_value}
 use Rattle.batch_history.specs.Operations.{act_of, source_of, op_in, op_with, op_from, op_of}
 use Rattle.batch_history.specs.Places.{place_in, or_else, place_of}
+use Rattle.batch_history.specs.Serving.{acts_in}
 use Rattle.batch_history.specs.declared.batch.Entry.{Entry}
 use Rattle.batch_history.specs.declared.place.Place.{Place}
 use Rattle.batch_history.proofs.BookLemmas.Books.{place_append}
@@ -22,6 +24,19 @@ act_at [] leaf op is = cc
 act_at (Work steps ∷ acts) zero op is = cc
 act_at (Call other ∷ acts) zero op is = let same : other ≡ op = cc in ap (λ o. Some (Call o)) same
 act_at (act ∷ acts) (suc leaf) op is = act_at acts leaf op is
+
+-- what holds of all acts holds of the call of a leaf
+pub at_leaf : (P : Act → Type 0) (acts : List Act) (leaf : ℕ) (op : Op) → AllByRecursion P acts → slice_get acts leaf ≡ Some (Call op) → P (Call op)
+at_leaf P [] leaf op all is = cc
+at_leaf P (act ∷ acts) zero op all is = let same : act ≡ Call op = cc in subst P same all.0
+at_leaf P (act ∷ acts) (suc leaf) op all is = at_leaf P acts leaf op all.1 is
+
+-- calls of unnamed acts are unnamed
+pub unnamed_at : (acts : List Act) (entries : List Entry) → AreUnnamed acts
+    → AllByRecursion (λ entry. slice_get acts entry.leaf ≡ Some (Call entry.op)) entries → AreUnnamed (acts_in entries)
+unnamed_at acts [] unnamed all = tt
+unnamed_at acts (entry ∷ entries) unnamed all =
+    (at_leaf (λ act. number_in act ≡ 0) acts entry.leaf entry.op unnamed all.0, unnamed_at acts entries unnamed all.1)
 
 -- no source where no leaf has one
 none_at : (sources : List (Option ℕ)) (leaf : ℕ) → AllByRecursion (λ source. source ≡ None) sources → slice_index_or sources leaf None ≡ None
@@ -66,15 +81,15 @@ called_as job book leaf op is =
 
 -- an argument that is the low bits of a value has 32 bits
 pub narrow : (op : Op) (value : ℕ) → argument_of (with_value op value) < 2 ^ 32
-narrow (CounterAdd _) value = omega arith
-narrow (Push _) value = omega arith
-narrow Pop value = omega arith
-narrow (TreeInsert _) value = omega arith
-narrow (TreeRemove _) value = omega arith
-narrow (TreeFind _) value = omega arith
-narrow (TreeNext _) value = omega arith
-narrow (PqInsert _) value = omega arith
-narrow PqTake value = omega arith
+narrow (CounterAdd number _) value = omega arith
+narrow (Push number _) value = omega arith
+narrow (Pop number) value = omega arith
+narrow (TreeInsert number _) value = omega arith
+narrow (TreeRemove number _) value = omega arith
+narrow (TreeFind number _) value = omega arith
+narrow (TreeNext number _) value = omega arith
+narrow (PqInsert number _) value = omega arith
+narrow (PqTake number) value = omega arith
 
 -- with a first place there is an operation as before
 with_kept : (given : Option Op) (p q : Option Place) (op : Op) → op_with given p ≡ Some op → op_with given (or_else p q) ≡ Some op

@@ -1,6 +1,7 @@
 pub mod Adding
 pub mod Bounds
 pub mod Items
+pub mod Unnamed
 pub mod Emptied
 pub mod Keys
 pub mod Finds

@@ -1,7 +1,7 @@
 -- A book is a list of batches, and a batch is a list of entries. Batches, and places in a batch, are numbered from 0.
 use Rattle.std.specs.Prelude.{◌≡◌, ◌≢◌, ◌<◌, ◌^◌, List, [], ◌∷◌, ◌++◌, map}
 use Rattle.std.specs.List.{AllByRecursion}
-use Rattle.seq_objects.specs.Objects.{Objects, opening, after, reply_to}
+use Rattle.seq_objects.specs.Stores.{Store, opening_store, store_after, store_reply}
 use Rattle.seq_objects.specs.BatchOrder.{ComesFirst}
 use Rattle.seq_objects.specs.Pairs.{EachPair, AreDistinct}
 use Rattle.batch_history.specs.declared.batch.Entry.{Entry}
@@ -12,13 +12,13 @@ flat [] = []
 flat (batch ∷ book) = batch ++ flat book
 
 -- each reply is the serial one: that of serving the operations one after another, from these objects on
-abbrev pub IsLegalFrom : Objects → List Entry → Type 0
-IsLegalFrom objects [] = Unit {0}
-IsLegalFrom objects (entry ∷ entries) = (entry.reply ≡ reply_to objects entry.op) × IsLegalFrom (after objects entry.op) entries
+abbrev pub IsLegalFrom : Store → List Entry → Type 0
+IsLegalFrom store [] = Unit {0}
+IsLegalFrom store (entry ∷ entries) = (entry.reply ≡ store_reply store entry.op) × IsLegalFrom (store_after store entry.op) entries
 
 -- the book is legal from the opening objects on
 abbrev pub IsLegal : List (List Entry) → Type 0
-IsLegal book = IsLegalFrom opening (flat book)
+IsLegal book = IsLegalFrom opening_store (flat book)
 
 -- a batch is not empty, in batch order, and of distinct workers
 pub record IsBatch (batch : List Entry) : Type 0 where

@@ -12,4 +12,4 @@ StandsBefore early late entries = EachPair (λ first second. 1 ≤ late first.op
 
 -- if the entry is a find, it replies whether the set has its key
 abbrev pub FindsIn : List ℕ → Entry → Type 0
-FindsIn set entry = (key : ℕ) → entry.op ≡ TreeFind key → entry.reply ≡ yes_or_no (has key set)
+FindsIn set entry = (number key : ℕ) → entry.op ≡ TreeFind number key → entry.reply ≡ yes_or_no (has key set)

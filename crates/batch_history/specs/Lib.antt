@@ -1,6 +1,7 @@
 -- Books, lawful reports, their text and their summary, with the specifications they use of `seq_objects` and
 -- `sp_order`. `Code` is cited by code and proofs only.
 pub use Rattle.seq_objects.specs.Objects
+pub use Rattle.seq_objects.specs.Stores
 pub use Rattle.seq_objects.specs.BatchOrder
 pub use Rattle.seq_objects.specs.Spin
 pub use Rattle.seq_objects.specs.Words

@@ -1,6 +1,6 @@
 -- Entries as calls, acts and replies, and the shared objects after serving them.
 use Rattle.std.specs.Prelude.{List, [], ◌∷◌, map}
-use Rattle.seq_objects.specs.Objects.{Objects, opening, after}
+use Rattle.seq_objects.specs.Stores.{Store, opening_store, store_after}
 use Rattle.seq_objects.specs.declared.act.Act.{Act}
 use Rattle.seq_objects.specs.declared.act.Act.TheVariants as act
 use Rattle.seq_objects.specs.declared.call.Call.{Call}
@@ -9,13 +9,13 @@ use Rattle.batch_history.specs.declared.batch.Entry.{Entry}
 use Rattle.batch_history.specs.Book.{flat}
 
 -- the objects after these entries' operations, one after another
-abbrev pub served : Objects → List Entry → Objects
-served objects [] = objects
-served objects (entry ∷ entries) = served (after objects entry.op) entries
+abbrev pub served : Store → List Entry → Store
+served store [] = store
+served store (entry ∷ entries) = served (store_after store entry.op) entries
 
 -- the objects after all batches of a book, from the opening objects on
-abbrev pub served_book : List (List Entry) → Objects
-served_book book = served opening (flat book)
+abbrev pub served_book : List (List Entry) → Store
+served_book book = served opening_store (flat book)
 
 -- the call of an entry
 abbrev pub call_in : Entry → Call

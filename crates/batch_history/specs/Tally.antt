@@ -22,21 +22,21 @@ yes_of _ = 0
 
 -- the number that a pop replied; 0 for other operations
 abbrev pub popped : Op → Reply → ℕ
-popped Pop reply = number_of reply
+popped (Pop number) reply = number_of reply
 popped _ reply = 0
 
 -- the number that a take of the queue replied; 0 for other operations
 abbrev pub queue_taken : Op → Reply → ℕ
-queue_taken PqTake reply = number_of reply
+queue_taken (PqTake number) reply = number_of reply
 queue_taken _ reply = 0
 
 -- 1 for an insert into the tree that replied yes; `keys_found` is the same for a find
 abbrev pub new_keys : Op → Reply → ℕ
-new_keys (TreeInsert key) reply = yes_of reply
+new_keys (TreeInsert number key) reply = yes_of reply
 new_keys _ reply = 0
 
 abbrev pub keys_found : Op → Reply → ℕ
-keys_found (TreeFind key) reply = yes_of reply
+keys_found (TreeFind number key) reply = yes_of reply
 keys_found _ reply = 0
 
 -- the sum of a count over entries
@@ -44,15 +44,15 @@ abbrev pub over_replies : (Op → Reply → ℕ) → List Entry → ℕ
 over_replies count [] = 0
 over_replies count (entry ∷ entries) = count entry.op entry.reply + over_replies count entries
 
--- the reply of a counter add; for another operation, the number before it
+-- the reply of a counter add; for another operation, the sum before it
 abbrev pub sum_after : ℕ → Op → Reply → ℕ
-sum_after number (CounterAdd addend) reply = number_of reply
-sum_after number _ reply = number
+sum_after sum (CounterAdd number addend) reply = number_of reply
+sum_after sum _ reply = sum
 
--- the reply of the last counter add; without one, the number before the entries
+-- the reply of the last counter add; without one, the sum before the entries
 abbrev pub last_sum : ℕ → List Entry → ℕ
-last_sum number [] = number
-last_sum number (entry ∷ entries) = last_sum (sum_after number entry.op entry.reply) entries
+last_sum sum [] = sum
+last_sum sum (entry ∷ entries) = last_sum (sum_after sum entry.op entry.reply) entries
 
 -- the tally of entries that start at the opening objects
 abbrev pub tally_of : List Entry → Tally

@@ -1,14 +1,17 @@
 //! The text of a report: a head line, the calls batch by batch, and the leaves.
-ghost use Rattle.std.specs.Prelude.{◌≡◌, ◌++◌, ◌+◌, ◌<◌, ◌^◌, length, IfOk, OnOk, string_bytes};
+ghost use Rattle.std.specs.Prelude.{◌≡◌, ◌++◌, ◌+◌, ◌<◌, ◌≤◌, ◌^◌, length, map, IfOk, OnOk, string_bytes};
 ghost use Rattle.std.specs.List.{flat_map};
+ghost use Rattle.job_names.specs.Names.{AreSpelled, spelling};
+ghost use Rattle.seq_objects.specs.Objects.{number_of};
 ghost use Rattle.sp_order.specs.Precedence.{leaf_count};
 ghost use Rattle.batch_history.specs.Book.{flat};
-ghost use Rattle.batch_history.specs.Text.{batch_lines, book_lines, row_line, report_text, head_line, entry_line};
+ghost use Rattle.batch_history.specs.Text.{HaveNames, batch_lines, book_lines, row_line, report_text, head_line, entry_line};
 
 use crate::batch::{Batch, Entry};
 use crate::report::Report;
 use crate::row::Row;
 use crate::words::{push_number, push_op, push_reply};
+use job_names::Name;
 use sp_order::Job;
 use std::alloc::{AllocError, Global};
 
@@ -44,37 +47,49 @@ fn push_head(
 #[tactic(auto, unfolding(crate::specs::Text::entry_line))]
 fn push_entry(
     text: &mut String,
+    names: &[Name],
     batch: usize,
     place: usize,
     entry: &Entry,
 ) -> Result<(), AllocError>
-    ensures { OnOk result (string_bytes text.new ≡ string_bytes text.old ++ entry_line batch place entry.now) }
+    requires number { number_of entry.now.op ≤ length names.now }
+    requires spelled { AreSpelled (map (λ name. spelling name) names.now) }
+    ensures { OnOk result (string_bytes text.new ≡ string_bytes text.old ++ entry_line (map (λ name. spelling name) names.now) batch place entry.now) }
 {
     push_number(text, "batch ", batch)?;
     push_number(text, " place ", place)?;
     push_number(text, " worker ", entry.worker)?;
     push_number(text, " leaf ", entry.leaf)?;
     text.push_str(" ")?;
-    push_op(text, entry.op)?;
+    push_op(text, names, entry.op)?;
     text.push_str(" -> ")?;
     push_reply(text, entry.reply)?;
     text.push_str("\n")
 }
 
-fn push_batch(text: &mut String, batch: usize, entries: &[Entry]) -> Result<(), AllocError>
-    ensures { OnOk result (string_bytes text.new ≡ string_bytes text.old ++ batch_lines batch 0 entries.now) }
+fn push_batch(
+    text: &mut String,
+    names: &[Name],
+    batch: usize,
+    entries: &[Entry],
+) -> Result<(), AllocError>
+    requires numbers { HaveNames (map (λ name. spelling name) names.now) entries.now }
+    requires spelled { AreSpelled (map (λ name. spelling name) names.now) }
+    ensures { OnOk result (string_bytes text.new ≡ string_bytes text.old ++ batch_lines (map (λ name. spelling name) names.now) batch 0 entries.now) }
 {
     for (place, entry) in entries.iter().enumerate() {
-        push_entry(text, batch, place, entry)?;
+        push_entry(text, names, batch, place, entry)?;
     }
     Ok(())
 }
 
-fn push_book(text: &mut String, book: &[Batch]) -> Result<(), AllocError>
-    ensures { OnOk result (string_bytes text.new ≡ string_bytes text.old ++ book_lines 0 book.now) }
+fn push_book(text: &mut String, names: &[Name], book: &[Batch]) -> Result<(), AllocError>
+    requires numbers { HaveNames (map (λ name. spelling name) names.now) (flat book.now) }
+    requires spelled { AreSpelled (map (λ name. spelling name) names.now) }
+    ensures { OnOk result (string_bytes text.new ≡ string_bytes text.old ++ book_lines (map (λ name. spelling name) names.now) 0 book.now) }
 {
     for (number, batch) in book.iter().enumerate() {
-        push_batch(text, number, batch.entries())?;
+        push_batch(text, names, number, batch.entries())?;
     }
     Ok(())
 }
@@ -103,8 +118,9 @@ fn push_rows(text: &mut String, rows: &[Row]) -> Result<(), AllocError>
 /// The text of a report: a head line, a line for each call in the order of the batches, and a line for each leaf, each
 /// with a final line feed. Time and memory: linear in the length of the text.
 pub fn text(alloc: Global, job: &Job, report: &Report) -> Result<Vec<u8>, AllocError>
-    requires { length report.now.rows ≡ leaf_count job.now.shape }
-    ensures { IfOk result (λ bytes. bytes.items ≡ report_text report.now) }
+    requires rows { length report.now.rows ≡ leaf_count job.now.shape }
+    requires numbers { HaveNames job.now.names (flat report.now.history) }
+    ensures { IfOk result (λ bytes. bytes.items ≡ report_text job.now.names report.now) }
 {
     let mut text = String::new(alloc);
     let book = report.history.batches();
@@ -115,7 +131,7 @@ pub fn text(alloc: Global, job: &Job, report: &Report) -> Result<Vec<u8>, AllocE
         count_calls(book),
         book.len(),
     )?;
-    push_book(&mut text, book)?;
+    push_book(&mut text, job.names(), book)?;
     push_rows(&mut text, report.rows.list())?;
     Ok(text.into_bytes())
 }

@@ -13,19 +13,19 @@ use seq_objects::{Op, Reply};
 pub struct Tally {
     /// The number of calls.
     pub calls: u64,
-    /// The reply of the last counter add, or 0 without one.
+    /// The reply of the last add to a counter, or 0 without one.
     pub counter: u64,
-    /// The number of pushes of the stack.
+    /// The number of pushes on stacks.
     pub pushed: u64,
-    /// The sum of the numbers that pops of the stack replied.
+    /// The sum of the numbers that pops of stacks replied.
     pub popped: u64,
-    /// The number of inserts of the tree that replied yes.
+    /// The number of inserts into trees that replied yes.
     pub keys: u64,
-    /// The number of finds of the tree that replied yes.
+    /// The number of finds in trees that replied yes.
     pub found: u64,
-    /// The number of inserts of the queue.
+    /// The number of inserts into queues.
     pub inserted: u64,
-    /// The sum of the numbers that takes of the queue replied.
+    /// The sum of the numbers that takes from queues replied.
     pub taken: u64,
 }
 
@@ -89,14 +89,14 @@ impl Tally {
     {
         self.calls += 1;
         match entry.op {
-            Op::CounterAdd(_) => self.counter = number(entry.reply),
-            Op::Push(_) => self.pushed += 1,
-            Op::Pop => self.popped += number(entry.reply),
-            Op::TreeInsert(_) => self.keys += count_yes(entry.reply),
-            Op::TreeFind(_) => self.found += count_yes(entry.reply),
-            Op::TreeRemove(_) | Op::TreeNext(_) => {}
-            Op::PqInsert(_) => self.inserted += 1,
-            Op::PqTake => self.taken += number(entry.reply),
+            Op::CounterAdd(..) => self.counter = number(entry.reply),
+            Op::Push(..) => self.pushed += 1,
+            Op::Pop(_) => self.popped += number(entry.reply),
+            Op::TreeInsert(..) => self.keys += count_yes(entry.reply),
+            Op::TreeFind(..) => self.found += count_yes(entry.reply),
+            Op::TreeRemove(..) | Op::TreeNext(..) => {}
+            Op::PqInsert(..) => self.inserted += 1,
+            Op::PqTake(_) => self.taken += number(entry.reply),
         }
     }
 }

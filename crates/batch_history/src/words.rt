@@ -1,9 +1,13 @@
 //! Appending words and numbers to a text.
-ghost use Rattle.std.specs.Prelude.{◌≡◌, ◌++◌, OnOk, string_bytes};
-ghost use Rattle.seq_objects.specs.Words.{op_words, reply_words};
+ghost use Rattle.std.specs.Prelude.{◌≡◌, ◌≤◌, ◌++◌, OnOk, length, map, string_bytes};
+ghost use Rattle.job_names.specs.Names.{AreSpelled, spelling};
+ghost use Rattle.seq_objects.specs.Objects.{number_of};
+ghost use Rattle.seq_objects.specs.Words.{op_words, argument_words, reply_words};
 
 use itoa::{Buffer, Integer};
+use job_names::Name;
 use seq_objects::{Op, Reply};
+use sp_order::push_call;
 use std::alloc::AllocError;
 
 /// Appends `words` and then the number in decimal.
@@ -21,21 +25,31 @@ pub(crate) fn push_number<I: Integer>(
     text.push_str(buffer.format(number))
 }
 
-/// Appends the name of an operation, with its argument.
-pub(crate) fn push_op(text: &mut String, op: Op) -> Result<(), AllocError>
-    ensures { OnOk result (string_bytes text.new ≡ string_bytes text.old ++ op_words op) }
+/// Appends the argument of an operation, if it takes one.
+fn push_argument(text: &mut String, op: Op) -> Result<(), AllocError>
+    ensures { OnOk result (string_bytes text.new ≡ string_bytes text.old ++ argument_words op) }
 {
     match op {
-        Op::CounterAdd(addend) => push_number(text, "counter add ", addend),
-        Op::Push(item) => push_number(text, "stack push ", item),
-        Op::Pop => text.push_str("stack pop"),
-        Op::TreeInsert(key) => push_number(text, "tree insert ", key),
-        Op::TreeRemove(key) => push_number(text, "tree remove ", key),
-        Op::TreeFind(key) => push_number(text, "tree find ", key),
-        Op::TreeNext(key) => push_number(text, "tree next ", key),
-        Op::PqInsert(item) => push_number(text, "queue insert ", item),
-        Op::PqTake => text.push_str("queue take"),
+        Op::CounterAdd(_, argument)
+        | Op::Push(_, argument)
+        | Op::TreeInsert(_, argument)
+        | Op::TreeRemove(_, argument)
+        | Op::TreeFind(_, argument)
+        | Op::TreeNext(_, argument)
+        | Op::PqInsert(_, argument) => push_number(text, "", argument),
+        Op::Pop(_) | Op::PqTake(_) => Ok(()),
     }
+}
+
+/// Appends an operation with the name of its object and its argument.
+pub(crate) fn push_op(text: &mut String, names: &[Name], op: Op) -> Result<(), AllocError>
+    requires number { number_of op ≤ length names.now }
+    requires spelled { AreSpelled (map (λ name. spelling name) names.now) }
+    ensures { OnOk result
+        (string_bytes text.new ≡ string_bytes text.old ++ op_words (map (λ name. spelling name) names.now) op) }
+{
+    push_call(text, names, op)?;
+    push_argument(text, op)
 }
 
 /// Appends the words of a reply.

@@ -1,7 +1,7 @@
 -- Where entries stand in a book, and what a longer book is.
-use Rattle.std.proofs.Common.{ℕ, ◌≡◌, ◌≢◌, ◌<◌, ◌+◌, ◌==◌, Bool, true, false, if◌then◌else◌, Option, Some, None, List, [], ◌⊎◌, inl, inr, ◌∷◌, ◌++◌, length, arith, refl, inl, inr, subst, sym, ◌∙◌, ap, add-zero, zero-add}
+use Rattle.std.proofs.Common.{ℕ, zero, suc, get_or, ◌≡◌, ◌≢◌, ◌<◌, ◌+◌, ◌==◌, Bool, true, false, if◌then◌else◌, Option, Some, None, List, [], ◌⊎◌, inl, inr, ◌∷◌, ◌++◌, length, arith, refl, inl, inr, subst, sym, ◌∙◌, ap, add-zero, zero-add}
 use Rattle.std.proofs.Common.{append-nil, append_assoc}
-use Rattle.seq_objects.specs.Objects.{Objects, opening, after}
+use Rattle.seq_objects.specs.Stores.{Store, opening_store, store_after}
 use Rattle.std.specs.List.{AllByRecursion}
 use Rattle.std.proofs.lemmas.Bool.Decides.{nat_tests}
 use Rattle.std.proofs.lemmas.Bool.{cases_eq}
@@ -119,15 +119,21 @@ pub flat_append : (bs : List (List Entry)) (b : List Entry) → flat (bs ++ b �
 flat_append [] b = append-nil b
 flat_append (c ∷ cs) b = ap (λ l. c ++ l) (flat_append cs b) ∙ sym (append_assoc c (flat cs) b)
 
+-- what holds of each entry of a book holds of each in one of its batches
+pub each_in_batch : (P : Entry → Type 0) (bs : List (List Entry)) (n : ℕ) (d : List Entry) → n < length bs → AllByRecursion P (flat bs) → AllByRecursion P (get_or bs n d)
+each_in_batch P [] n d below all = absurd (omega (arith, below))
+each_in_batch P (b ∷ bs) zero d below all = (each_front P b (flat bs) all).0
+each_in_batch P (b ∷ bs) (suc n) d below all = each_in_batch P bs n d (omega (arith, below)) (each_front P b (flat bs) all).1
+
 -- the objects after serving two lists
-pub served_append : (o : Objects) (xs ys : List Entry) → served o (xs ++ ys) ≡ served (served o xs) ys
-served_append o [] ys = refl
-served_append o (x ∷ xs) ys = served_append (after o x.op) xs ys
+pub served_append : (store : Store) (xs ys : List Entry) → served store (xs ++ ys) ≡ served (served store xs) ys
+served_append store [] ys = refl
+served_append store (x ∷ xs) ys = served_append (store_after store x.op) xs ys
 
 -- two lists that are legal one after the other
-pub legal_append : (o : Objects) (xs ys : List Entry) → IsLegalFrom o xs → IsLegalFrom (served o xs) ys → IsLegalFrom o (xs ++ ys)
-legal_append o [] ys h g = g
-legal_append o (x ∷ xs) ys h g = (h.0, legal_append (after o x.op) xs ys h.1 g)
+pub legal_append : (store : Store) (xs ys : List Entry) → IsLegalFrom store xs → IsLegalFrom (served store xs) ys → IsLegalFrom store (xs ++ ys)
+legal_append store [] ys h g = g
+legal_append store (x ∷ xs) ys h g = (h.0, legal_append (store_after store x.op) xs ys h.1 g)
 
 -- which of two places the first of them is
 pub which_place : (p q : Option Place) (x : Place) → or_else p q ≡ Some x → (p ≡ Some x) ⊎ (q ≡ Some x)
@@ -151,7 +157,7 @@ found_in_book P bs u p h e = found_from P 0 bs u p h e
 
 -- one more batch is served after those before it
 pub served_then : (book : List (List Entry)) (batch : List Entry) → served_book (book ++ batch ∷ []) ≡ served (served_book book) batch
-served_then book batch = ap (served opening) (flat_append book batch) ∙ served_append opening (flat book) batch
+served_then book batch = ap (served opening_store) (flat_append book batch) ∙ served_append opening_store (flat book) batch
 
 -- what is found in the batches from a number on has a number below their end
 place_from_below : (k : ℕ) (bs : List (List Entry)) (u : ℕ) (p : Place) → place_from k bs u ≡ Some p → p.batch < k + length bs

@@ -21,26 +21,26 @@ few_replies count one [] = omega arith
 few_replies count one (e ∷ entries) = omega (arith, one e.op e.reply, few_replies count one entries)
 
 one_push : (op : Op) → pushes op ≤ 1
-one_push (CounterAdd addend) = omega arith
-one_push (Push item) = omega arith
-one_push Pop = omega arith
-one_push (TreeInsert key) = omega arith
-one_push (TreeRemove key) = omega arith
-one_push (TreeFind key) = omega arith
-one_push (TreeNext key) = omega arith
-one_push (PqInsert item) = omega arith
-one_push PqTake = omega arith
+one_push (CounterAdd number addend) = omega arith
+one_push (Push number item) = omega arith
+one_push (Pop number) = omega arith
+one_push (TreeInsert number key) = omega arith
+one_push (TreeRemove number key) = omega arith
+one_push (TreeFind number key) = omega arith
+one_push (TreeNext number key) = omega arith
+one_push (PqInsert number item) = omega arith
+one_push (PqTake number) = omega arith
 
 one_insert : (op : Op) → queue_inserts op ≤ 1
-one_insert (CounterAdd addend) = omega arith
-one_insert (Push item) = omega arith
-one_insert Pop = omega arith
-one_insert (TreeInsert key) = omega arith
-one_insert (TreeRemove key) = omega arith
-one_insert (TreeFind key) = omega arith
-one_insert (TreeNext key) = omega arith
-one_insert (PqInsert item) = omega arith
-one_insert PqTake = omega arith
+one_insert (CounterAdd number addend) = omega arith
+one_insert (Push number item) = omega arith
+one_insert (Pop number) = omega arith
+one_insert (TreeInsert number key) = omega arith
+one_insert (TreeRemove number key) = omega arith
+one_insert (TreeFind number key) = omega arith
+one_insert (TreeNext number key) = omega arith
+one_insert (PqInsert number item) = omega arith
+one_insert (PqTake number) = omega arith
 
 one_yes : (r : Reply) → yes_of r ≤ 1
 one_yes (reply.Number number) = omega arith
@@ -50,26 +50,26 @@ one_yes reply.Yes = omega arith
 one_yes reply.No = omega arith
 
 one_key : (op : Op) (r : Reply) → new_keys op r ≤ 1
-one_key (CounterAdd addend) r = omega arith
-one_key (Push item) r = omega arith
-one_key Pop r = omega arith
-one_key (TreeInsert key) r = one_yes r
-one_key (TreeRemove key) r = omega arith
-one_key (TreeFind key) r = omega arith
-one_key (TreeNext key) r = omega arith
-one_key (PqInsert item) r = omega arith
-one_key PqTake r = omega arith
+one_key (CounterAdd number addend) r = omega arith
+one_key (Push number item) r = omega arith
+one_key (Pop number) r = omega arith
+one_key (TreeInsert number key) r = one_yes r
+one_key (TreeRemove number key) r = omega arith
+one_key (TreeFind number key) r = omega arith
+one_key (TreeNext number key) r = omega arith
+one_key (PqInsert number item) r = omega arith
+one_key (PqTake number) r = omega arith
 
 one_find : (op : Op) (r : Reply) → keys_found op r ≤ 1
-one_find (CounterAdd addend) r = omega arith
-one_find (Push item) r = omega arith
-one_find Pop r = omega arith
-one_find (TreeInsert key) r = omega arith
-one_find (TreeRemove key) r = omega arith
-one_find (TreeFind key) r = one_yes r
-one_find (TreeNext key) r = omega arith
-one_find (PqInsert item) r = omega arith
-one_find PqTake r = omega arith
+one_find (CounterAdd number addend) r = omega arith
+one_find (Push number item) r = omega arith
+one_find (Pop number) r = omega arith
+one_find (TreeInsert number key) r = omega arith
+one_find (TreeRemove number key) r = omega arith
+one_find (TreeFind number key) r = one_yes r
+one_find (TreeNext number key) r = omega arith
+one_find (PqInsert number item) r = omega arith
+one_find (PqTake number) r = omega arith
 
 pub tally_fits : (book : List (List Entry)) → IsHistory book → (tally_of (flat book)).popped < 2 ^ 64 → (tally_of (flat book)).taken < 2 ^ 64
     → Fits (tally_of (flat book))

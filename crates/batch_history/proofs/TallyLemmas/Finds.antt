@@ -11,13 +11,16 @@ use Rattle.seq_objects.specs.declared.op.Op.TheVariants.{CounterAdd, Push, Pop, 
 use Rattle.seq_objects.specs.declared.act.Act.TheVariants.{Call}
 use Rattle.seq_objects.specs.Objects.{Objects, opening, after, reply_to, has, with_key, yes_or_no}
 use Rattle.seq_objects.specs.Orders.{StrictlyAscends, one_if}
+use Rattle.seq_objects.specs.Stores.{opening_store}
+use Rattle.sp_order.specs.Objects.{AreUnnamed}
 use Rattle.sp_order.specs.Totals.{tree_inserts, tree_removes, tree_finds, finds_in, with_key_of, keys_inserted, total}
 use Rattle.batch_history.specs.Book.{IsLegalFrom}
-use Rattle.batch_history.specs.Serving.{served, acts_in}
+use Rattle.batch_history.specs.Serving.{acts_in}
 use Rattle.batch_history.specs.Filling.{StandsBefore, FindsIn}
 use Rattle.batch_history.specs.Tally.{over_replies, yes_of, new_keys, keys_found}
 use Rattle.batch_history.specs.declared.batch.Entry.{Entry}
 use Rattle.batch_history.proofs.TallyLemmas.Emptied.{none_later}
+use Rattle.batch_history.proofs.TallyLemmas.Unnamed.{served_alone, IsLegalAlone, legal_alone}
 use Rattle.batch_history.proofs.TallyLemmas.Keys.{or_none, inserts_key, ascends_step, has_step, inserted_ascend, has_inserted}
 
 yes_one : (b : Bool) → yes_of (yes_or_no b) ≡ one_if b
@@ -35,26 +38,26 @@ grows key (k ∷ set) up =
 
 -- the tree's set, when nothing is removed
 set_step : (o : Objects) (op : Op) → tree_removes op ≡ 0 → (after o op).set ≡ with_key_of (Call op) o.set
-set_step o (CounterAdd addend) kept = refl
-set_step o (Push item) kept = refl
-set_step o Pop kept = refl
-set_step o (TreeInsert key) kept = refl
-set_step o (TreeRemove key) kept = absurd (omega (arith, kept))
-set_step o (TreeFind key) kept = refl
-set_step o (TreeNext key) kept = refl
-set_step o (PqInsert item) kept = refl
-set_step o PqTake kept = refl
+set_step o (CounterAdd number addend) kept = refl
+set_step o (Push number item) kept = refl
+set_step o (Pop number) kept = refl
+set_step o (TreeInsert number key) kept = refl
+set_step o (TreeRemove number key) kept = absurd (omega (arith, kept))
+set_step o (TreeFind number key) kept = refl
+set_step o (TreeNext number key) kept = refl
+set_step o (PqInsert number item) kept = refl
+set_step o (PqTake number) kept = refl
 
 keys_step : (o : Objects) (op : Op) → StrictlyAscends o.set → new_keys op (reply_to o op) + length o.set ≡ length (with_key_of (Call op) o.set)
-keys_step o (CounterAdd addend) up = omega arith
-keys_step o (Push item) up = omega arith
-keys_step o Pop up = omega arith
-keys_step o (TreeInsert key) up = omega (arith, grows key o.set up, yes_one (not (has key o.set)))
-keys_step o (TreeRemove key) up = omega arith
-keys_step o (TreeFind key) up = omega arith
-keys_step o (TreeNext key) up = omega arith
-keys_step o (PqInsert item) up = omega arith
-keys_step o PqTake up = omega arith
+keys_step o (CounterAdd number addend) up = omega arith
+keys_step o (Push number item) up = omega arith
+keys_step o (Pop number) up = omega arith
+keys_step o (TreeInsert number key) up = omega (arith, grows key o.set up, yes_one (not (has key o.set)))
+keys_step o (TreeRemove number key) up = omega arith
+keys_step o (TreeFind number key) up = omega arith
+keys_step o (TreeNext number key) up = omega arith
+keys_step o (PqInsert number item) up = omega arith
+keys_step o (PqTake number) up = omega arith
 
 -- the keys of a set and of inserts, taken one entry at a time
 or_sum : (b : Bool) (m n : ℕ) → ((b || nat_lt 0 m) || nat_lt 0 n) ≡ (b || nat_lt 0 (m + n))
@@ -62,11 +65,11 @@ or_sum true m n = refl
 or_sum false m n = grind (arith, nat_tests)
 
 record SetAfter (o : Objects) (entries : List Entry) : Type 0 where
-  up : StrictlyAscends (served o entries).set
-  keys : over_replies new_keys entries + length o.set ≡ length (served o entries).set
-  has_key : (q : ℕ) → has q (served o entries).set ≡ (has q o.set || nat_lt 0 (total (inserts_key q) (acts_in entries)))
+  up : StrictlyAscends (served_alone o entries).set
+  keys : over_replies new_keys entries + length o.set ≡ length (served_alone o entries).set
+  has_key : (q : ℕ) → has q (served_alone o entries).set ≡ (has q o.set || nat_lt 0 (total (inserts_key q) (acts_in entries)))
 
-set_after : (o : Objects) (entries : List Entry) → StrictlyAscends o.set → IsLegalFrom o entries → total tree_removes (acts_in entries) ≡ 0 → SetAfter o entries
+set_after : (o : Objects) (entries : List Entry) → StrictlyAscends o.set → IsLegalAlone o entries → total tree_removes (acts_in entries) ≡ 0 → SetAfter o entries
 set_after o [] up legal kept = record { up = up; keys = omega arith; has_key = λ q. or_none (has q o.set) }
 set_after o (e ∷ entries) up legal kept =
     let is = set_step o e.op (omega (arith, kept)) in
@@ -82,74 +85,76 @@ set_after o (e ∷ entries) up legal kept =
     }
 
 -- the final set consists of the inserted keys
-pub set_is : (entries : List Entry) → IsLegalFrom opening entries → total tree_removes (acts_in entries) ≡ 0
-    → (served opening entries).set ≡ keys_inserted (acts_in entries)
+set_is : (entries : List Entry) → IsLegalAlone opening entries → total tree_removes (acts_in entries) ≡ 0
+    → (served_alone opening entries).set ≡ keys_inserted (acts_in entries)
 set_is entries legal kept =
     let left = set_after opening entries tt legal kept in
-    same_set (served opening entries).set (keys_inserted (acts_in entries)) left.up (inserted_ascend (acts_in entries))
+    same_set (served_alone opening entries).set (keys_inserted (acts_in entries)) left.up (inserted_ascend (acts_in entries))
     (λ q. left.has_key q ∙ sym (has_inserted q (acts_in entries)))
 
 and_none : (m n : ℕ) → m + 0 ≡ n → m ≡ n
 and_none m n h = omega (arith, h)
 
 -- the inserts that reply yes number the inserted keys
-pub keys_are : (entries : List Entry) → IsLegalFrom opening entries → total tree_removes (acts_in entries) ≡ 0
+pub keys_are : (entries : List Entry) → AreUnnamed (acts_in entries) → IsLegalFrom opening_store entries → total tree_removes (acts_in entries) ≡ 0
     → over_replies new_keys entries ≡ length (keys_inserted (acts_in entries))
-keys_are entries legal kept =
-    and_none (over_replies new_keys entries) (length (served opening entries).set) (set_after opening entries tt legal kept).keys
-    ∙ ap length (set_is entries legal kept)
+keys_are entries unnamed legal kept =
+    let alone = legal_alone opening_store entries unnamed legal in
+    and_none (over_replies new_keys entries) (length (served_alone opening entries).set) (set_after opening entries tt alone kept).keys
+    ∙ ap length (set_is entries alone kept)
 
 -- if nothing is inserted later, the set stays
 stays_step : (o : Objects) (op : Op) → tree_inserts op ≡ 0 → tree_removes op ≡ 0 → (after o op).set ≡ o.set
-stays_step o (CounterAdd addend) none kept = refl
-stays_step o (Push item) none kept = refl
-stays_step o Pop none kept = refl
-stays_step o (TreeInsert key) none kept = absurd (omega (arith, none))
-stays_step o (TreeRemove key) none kept = absurd (omega (arith, kept))
-stays_step o (TreeFind key) none kept = refl
-stays_step o (TreeNext key) none kept = refl
-stays_step o (PqInsert item) none kept = refl
-stays_step o PqTake none kept = refl
+stays_step o (CounterAdd number addend) none kept = refl
+stays_step o (Push number item) none kept = refl
+stays_step o (Pop number) none kept = refl
+stays_step o (TreeInsert number key) none kept = absurd (omega (arith, none))
+stays_step o (TreeRemove number key) none kept = absurd (omega (arith, kept))
+stays_step o (TreeFind number key) none kept = refl
+stays_step o (TreeNext number key) none kept = refl
+stays_step o (PqInsert number item) none kept = refl
+stays_step o (PqTake number) none kept = refl
 
 stays : (o : Objects) (entries : List Entry) → total tree_inserts (acts_in entries) ≡ 0 → total tree_removes (acts_in entries) ≡ 0
-    → (served o entries).set ≡ o.set
+    → (served_alone o entries).set ≡ o.set
 stays o [] none kept = refl
 stays o (e ∷ entries) none kept =
     stays (after o e.op) entries (omega (arith, none)) (omega (arith, kept)) ∙ stays_step o e.op (omega (arith, none)) (omega (arith, kept))
 
 -- a find replies whether the final set has its key
-finds_left : (o : Objects) (entries : List Entry) → IsLegalFrom o entries → StandsBefore tree_inserts tree_finds entries → total tree_removes (acts_in entries) ≡ 0
-    → AllByRecursion (FindsIn (served o entries).set) entries
+finds_left : (o : Objects) (entries : List Entry) → IsLegalAlone o entries → StandsBefore tree_inserts tree_finds entries → total tree_removes (acts_in entries) ≡ 0
+    → AllByRecursion (FindsIn (served_alone o entries).set) entries
 finds_left o [] legal apart kept = tt
 finds_left o (e ∷ entries) legal apart kept =
     let later : total tree_removes (acts_in entries) ≡ 0 = omega (arith, kept) in (
       says (λ some. stays (after o e.op) entries (none_later tree_inserts tree_finds e.op entries apart.0 some) later),
       finds_left (after o e.op) entries legal.1 apart.1 later,
     ) where
-      says : (1 ≤ tree_finds e.op → (served (after o e.op) entries).set ≡ (after o e.op).set) → FindsIn (served (after o e.op) entries).set e
-      says same key is =
+      says : (1 ≤ tree_finds e.op → (served_alone (after o e.op) entries).set ≡ (after o e.op).set) → FindsIn (served_alone (after o e.op) entries).set e
+      says same number key is =
           let replies : reply_to o e.op ≡ yes_or_no (has key o.set) = subst (λ op. reply_to o op ≡ yes_or_no (has key o.set)) (sym is) refl in
           let find : 1 ≤ tree_finds e.op = subst (λ op. 1 ≤ tree_finds op) (sym is) (omega arith) in
           let kept : (after o e.op).set ≡ o.set = subst (λ op. (after o op).set ≡ o.set) (sym is) refl in
           legal.0 ∙ replies ∙ ap (λ set. yes_or_no (has key set)) (sym (same find ∙ kept))
 
 -- a find after all inserts replies whether its key was inserted
-pub finds_say : (entries : List Entry) → IsLegalFrom opening entries → total tree_removes (acts_in entries) ≡ 0 → StandsBefore tree_inserts tree_finds entries
-    → AllByRecursion (FindsIn (keys_inserted (acts_in entries))) entries
-finds_say entries legal kept apart =
-    subst (λ set. AllByRecursion (FindsIn set) entries) (set_is entries legal kept) (finds_left opening entries legal apart kept)
+pub finds_say : (entries : List Entry) → AreUnnamed (acts_in entries) → IsLegalFrom opening_store entries → total tree_removes (acts_in entries) ≡ 0
+    → StandsBefore tree_inserts tree_finds entries → AllByRecursion (FindsIn (keys_inserted (acts_in entries))) entries
+finds_say entries unnamed legal kept apart =
+    let alone = legal_alone opening_store entries unnamed legal in
+    subst (λ set. AllByRecursion (FindsIn set) entries) (set_is entries alone kept) (finds_left opening entries alone apart kept)
 
 -- so the yes replies number the finds of inserted keys
 found_step : (set : List ℕ) (op : Op) (e : Entry) → e.op ≡ op → FindsIn set e → keys_found op e.reply ≡ finds_in set op
-found_step set (CounterAdd addend) e is says = refl
-found_step set (Push item) e is says = refl
-found_step set Pop e is says = refl
-found_step set (TreeInsert key) e is says = refl
-found_step set (TreeRemove key) e is says = refl
-found_step set (TreeFind key) e is says = ap yes_of (says key is) ∙ yes_one (has key set)
-found_step set (TreeNext key) e is says = refl
-found_step set (PqInsert item) e is says = refl
-found_step set PqTake e is says = refl
+found_step set (CounterAdd number addend) e is says = refl
+found_step set (Push number item) e is says = refl
+found_step set (Pop number) e is says = refl
+found_step set (TreeInsert number key) e is says = refl
+found_step set (TreeRemove number key) e is says = refl
+found_step set (TreeFind number key) e is says = ap yes_of (says number key is) ∙ yes_one (has key set)
+found_step set (TreeNext number key) e is says = refl
+found_step set (PqInsert number item) e is says = refl
+found_step set (PqTake number) e is says = refl
 
 pub found_are : (set : List ℕ) (entries : List Entry) → AllByRecursion (FindsIn set) entries → over_replies keys_found entries ≡ total (finds_in set) (acts_in entries)
 found_are set [] say = refl

@@ -1,12 +1,14 @@
 -- The totals of a lawful report, from its job.
 use Rattle.std.proofs.Common.{◌≡◌, ℕ, ◌+◌, ◌*◌, ◌-◌, ◌<◌, ◌≤◌, ◌^◌, List, [], ◌∷◌, length, refl, ap, subst, ◌∙◌, arith}
+use Rattle.std.specs.Prelude.{slice_get, Some}
 use Rattle.std.specs.List.{AllByRecursion}
 use Rattle.seq_objects.specs.declared.op.Op.{Op}
 use Rattle.seq_objects.specs.declared.op.Op.TheVariants.{CounterAdd, Push, Pop, TreeInsert, TreeRemove, TreeFind, TreeNext, PqInsert, PqTake}
 use Rattle.seq_objects.specs.declared.act.Act.{Act}
 use Rattle.seq_objects.specs.declared.act.Act.TheVariants.{Work, Call}
-use Rattle.seq_objects.specs.Objects.{opening, argument_of}
+use Rattle.seq_objects.specs.Objects.{argument_of}
 use Rattle.sp_order.specs.Jobs.{JobValue}
+use Rattle.sp_order.specs.Objects.{AreUnnamed}
 use Rattle.sp_order.specs.Phases.{ComesBefore, HasNoSources, FillsFirst}
 use Rattle.sp_order.specs.Totals.{added, pushes, pushed, pops, queue_inserts, queue_inserted, queue_takes, tree_inserts, tree_removes, tree_finds, finds_in, keys_inserted, count_of_act, total}
 use Rattle.batch_history.specs.Book.{flat}
@@ -17,7 +19,7 @@ use Rattle.batch_history.specs.Summary.{CanBeSummed, summary_of_report, summary_
 use Rattle.batch_history.specs.Tally.{over_replies, popped, queue_taken, new_keys, keys_found, last_sum, tally_of, tally_of_acts}
 use Rattle.batch_history.specs.declared.batch.Entry.{Entry}
 use Rattle.batch_history.specs.declared.report.Report.{Report}
-use Rattle.batch_history.proofs.ActLemmas.{acts_at}
+use Rattle.batch_history.proofs.ActLemmas.{acts_at, unnamed_at}
 use Rattle.batch_history.proofs.TallyLemmas.Adding.{same_tally}
 use Rattle.batch_history.proofs.TallyLemmas.Emptied.{last_is, stack_left, pops_all, bag_left, takes_all}
 use Rattle.batch_history.proofs.TallyLemmas.Finds.{keys_are, finds_say, found_are}
@@ -35,26 +37,26 @@ count_is (e ∷ entries) = omega (arith, count_is entries)
 
 -- the item that an operation adds is its argument
 pushed_at_most : (op : Op) → pushed op ≤ argument_of op
-pushed_at_most (CounterAdd addend) = omega arith
-pushed_at_most (Push item) = omega arith
-pushed_at_most Pop = omega arith
-pushed_at_most (TreeInsert key) = omega arith
-pushed_at_most (TreeRemove key) = omega arith
-pushed_at_most (TreeFind key) = omega arith
-pushed_at_most (TreeNext key) = omega arith
-pushed_at_most (PqInsert item) = omega arith
-pushed_at_most PqTake = omega arith
+pushed_at_most (CounterAdd number addend) = omega arith
+pushed_at_most (Push number item) = omega arith
+pushed_at_most (Pop number) = omega arith
+pushed_at_most (TreeInsert number key) = omega arith
+pushed_at_most (TreeRemove number key) = omega arith
+pushed_at_most (TreeFind number key) = omega arith
+pushed_at_most (TreeNext number key) = omega arith
+pushed_at_most (PqInsert number item) = omega arith
+pushed_at_most (PqTake number) = omega arith
 
 inserted_at_most : (op : Op) → queue_inserted op ≤ argument_of op
-inserted_at_most (CounterAdd addend) = omega arith
-inserted_at_most (Push item) = omega arith
-inserted_at_most Pop = omega arith
-inserted_at_most (TreeInsert key) = omega arith
-inserted_at_most (TreeRemove key) = omega arith
-inserted_at_most (TreeFind key) = omega arith
-inserted_at_most (TreeNext key) = omega arith
-inserted_at_most (PqInsert item) = omega arith
-inserted_at_most PqTake = omega arith
+inserted_at_most (CounterAdd number addend) = omega arith
+inserted_at_most (Push number item) = omega arith
+inserted_at_most (Pop number) = omega arith
+inserted_at_most (TreeInsert number key) = omega arith
+inserted_at_most (TreeRemove number key) = omega arith
+inserted_at_most (TreeFind number key) = omega arith
+inserted_at_most (TreeNext number key) = omega arith
+inserted_at_most (PqInsert number item) = omega arith
+inserted_at_most (PqTake number) = omega arith
 
 -- small arguments have small sums
 small_sum : (count : Op → ℕ) → ((op : Op) → count op ≤ argument_of op) → (acts : List Act)
@@ -70,8 +72,11 @@ module _ (job : JobValue) (workers : ℕ) (report : Report) (lawful : Lawful job
   abbrev entries : List Entry
   entries = flat report.history
 
+  calls : AllByRecursion (λ entry. slice_get job.acts entry.leaf ≡ Some (Call entry.op)) entries
+  calls = acts_at job report.history entries none lawful.calls.operations
+
   pub totals : (count : Op → ℕ) → total count (acts_in entries) ≡ total count job.acts
-  totals = total_is job entries lawful.calls.leaves (acts_at job report.history entries none lawful.calls.operations)
+  totals = total_is job entries lawful.calls.leaves calls
 
   pub keys : keys_inserted (acts_in entries) ≡ keys_inserted job.acts
   keys = same_keys (acts_in entries) job.acts (λ q. totals (inserts_key q))
@@ -79,45 +84,51 @@ module _ (job : JobValue) (workers : ℕ) (report : Report) (lawful : Lawful job
   abbrev order : (early late : Op → ℕ) → ComesBefore job early late → StandsBefore early late entries
   order = apart job workers report lawful none
 
-  pub counter_is : last_sum 0 entries ≡ total added job.acts
-  counter_is = last_is opening entries lawful.replies ∙ omega (arith, totals added)
+  unnamed_entries : AreUnnamed job.acts → AreUnnamed (acts_in entries)
+  unnamed_entries unnamed = unnamed_at job.acts entries unnamed calls
 
-  pub stack_is : ComesBefore job pushes pops → total pushes job.acts ≤ total pops job.acts
-      → ((served_book report.history).stack ≡ []) × (over_replies popped entries ≡ total pushed job.acts)
-  stack_is before enough =
+  pub counter_is : AreUnnamed job.acts → last_sum 0 entries ≡ total added job.acts
+  counter_is unnamed = last_is entries (unnamed_entries unnamed) lawful.replies ∙ totals added
+
+  pub stack_is : AreUnnamed job.acts → ComesBefore job pushes pops → total pushes job.acts ≤ total pops job.acts
+      → ((served_book report.history 0).stack ≡ []) × (over_replies popped entries ≡ total pushed job.acts)
+  stack_is unnamed before enough =
+      let unnamed' = unnamed_entries unnamed in
       let stands = order pushes pops before in
       let enough' : total pushes (acts_in entries) ≤ total pops (acts_in entries) = omega (arith, totals pushes, totals pops, enough) in (
-        none_left (served_book report.history).stack (total pushes (acts_in entries)) (total pops (acts_in entries)) (stack_left entries stands) enough',
-        pops_all entries lawful.replies stands enough' ∙ totals pushed,
+        none_left (served_book report.history 0).stack (total pushes (acts_in entries)) (total pops (acts_in entries)) (stack_left entries unnamed' stands) enough',
+        pops_all entries unnamed' lawful.replies stands enough' ∙ totals pushed,
       )
 
-  pub queue_is : ComesBefore job queue_inserts queue_takes → total queue_inserts job.acts ≤ total queue_takes job.acts
-      → ((served_book report.history).bag ≡ []) × (over_replies queue_taken entries ≡ total queue_inserted job.acts)
-  queue_is before enough =
+  pub queue_is : AreUnnamed job.acts → ComesBefore job queue_inserts queue_takes → total queue_inserts job.acts ≤ total queue_takes job.acts
+      → ((served_book report.history 0).bag ≡ []) × (over_replies queue_taken entries ≡ total queue_inserted job.acts)
+  queue_is unnamed before enough =
+      let unnamed' = unnamed_entries unnamed in
       let stands = order queue_inserts queue_takes before in
       let enough' : total queue_inserts (acts_in entries) ≤ total queue_takes (acts_in entries) = omega (arith, totals queue_inserts, totals queue_takes, enough) in (
-        none_left (served_book report.history).bag (total queue_inserts (acts_in entries)) (total queue_takes (acts_in entries)) (bag_left entries stands) enough',
-        takes_all entries lawful.replies stands enough' ∙ totals queue_inserted,
+        none_left (served_book report.history 0).bag (total queue_inserts (acts_in entries)) (total queue_takes (acts_in entries)) (bag_left entries unnamed' stands) enough',
+        takes_all entries unnamed' lawful.replies stands enough' ∙ totals queue_inserted,
       )
 
   no_removes : total tree_removes job.acts ≡ 0 → total tree_removes (acts_in entries) ≡ 0
   no_removes kept = totals tree_removes ∙ kept
 
-  keys_count : total tree_removes job.acts ≡ 0 → over_replies new_keys entries ≡ length (keys_inserted job.acts)
-  keys_count kept = keys_are entries lawful.replies (no_removes kept) ∙ ap length keys
+  keys_count : AreUnnamed job.acts → total tree_removes job.acts ≡ 0 → over_replies new_keys entries ≡ length (keys_inserted job.acts)
+  keys_count unnamed kept = keys_are entries (unnamed_entries unnamed) lawful.replies (no_removes kept) ∙ ap length keys
 
-  pub finds_are : total tree_removes job.acts ≡ 0 → ComesBefore job tree_inserts tree_finds
+  pub finds_are : AreUnnamed job.acts → total tree_removes job.acts ≡ 0 → ComesBefore job tree_inserts tree_finds
       → AllByRecursion (FindsIn (keys_inserted job.acts)) entries × (over_replies keys_found entries ≡ total (finds_in (keys_inserted job.acts)) job.acts)
-  finds_are kept before =
-      let say = subst (λ set. AllByRecursion (FindsIn set) entries) keys (finds_say entries lawful.replies (no_removes kept) (order tree_inserts tree_finds before)) in
+  finds_are unnamed kept before =
+      let found = finds_say entries (unnamed_entries unnamed) lawful.replies (no_removes kept) (order tree_inserts tree_finds before) in
+      let say = subst (λ set. AllByRecursion (FindsIn set) entries) keys found in
       (say, found_are (keys_inserted job.acts) entries say ∙ totals (finds_in (keys_inserted job.acts)))
 
   pub tally_is : FillsFirst job → tally_of entries ≡ tally_of_acts job.acts
   tally_is fills = same_tally (tally_of entries) (tally_of_acts job.acts)
-      (count_is entries ∙ totals (λ op. 1)) counter_is
-      (totals pushes) (stack_is fills.stack fills.empties_stack).1
-      (keys_count fills.keeps_keys) (finds_are fills.keeps_keys fills.tree).1
-      (totals queue_inserts) (queue_is fills.queue fills.empties_queue).1
+      (count_is entries ∙ totals (λ op. 1)) (counter_is fills.unnamed)
+      (totals pushes) (stack_is fills.unnamed fills.stack fills.empties_stack).1
+      (keys_count fills.unnamed fills.keeps_keys) (finds_are fills.unnamed fills.keeps_keys fills.tree).1
+      (totals queue_inserts) (queue_is fills.unnamed fills.queue fills.empties_queue).1
 
   pub lines_are : (seed size : ℕ) → FillsFirst job → summary_of_report seed size report ≡ summary_of_job seed size workers job
   lines_are seed size fills =
@@ -128,8 +139,8 @@ module _ (job : JobValue) (workers : ℕ) (report : Report) (lawful : Lawful job
   pub can_be_summed : FillsFirst job → total pushed job.acts < 2 ^ 64 → total queue_inserted job.acts < 2 ^ 64 → CanBeSummed job report
   can_be_summed fills stack queue = record {
     rows = rows_long job workers report lawful;
-    popped = omega (arith, (stack_is fills.stack fills.empties_stack).1, stack);
-    taken = omega (arith, (queue_is fills.queue fills.empties_queue).1, queue);
+    popped = omega (arith, (stack_is fills.unnamed fills.stack fills.empties_stack).1, stack);
+    taken = omega (arith, (queue_is fills.unnamed fills.queue fills.empties_queue).1, queue);
   }
 
   pub small_can_be : FillsFirst job → length job.acts ≤ 20000 → AllByRecursion (λ act. count_of_act argument_of act < 2 ^ 32) job.acts → CanBeSummed job report

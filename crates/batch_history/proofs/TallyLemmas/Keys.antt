@@ -15,7 +15,7 @@ use Rattle.sp_order.specs.Totals.{with_key_of, keys_inserted, count_of_act, tota
 
 -- 1 for an insert of this key
 abbrev pub inserts_key : ℕ → Op → ℕ
-inserts_key q (TreeInsert key) = one_if (q == key)
+inserts_key q (TreeInsert number key) = one_if (q == key)
 inserts_key q _ = 0
 
 pub or_none : (b : Bool) → b ≡ (b || nat_lt 0 0)
@@ -30,26 +30,26 @@ or_one false false = refl
 
 -- a set with the key of an operation
 pub ascends_step : (op : Op) (set : List ℕ) → StrictlyAscends set → StrictlyAscends (with_key_of (Call op) set)
-ascends_step (CounterAdd addend) set up = up
-ascends_step (Push item) set up = up
-ascends_step Pop set up = up
-ascends_step (TreeInsert key) set up = ascends_with key set up
-ascends_step (TreeRemove key) set up = up
-ascends_step (TreeFind key) set up = up
-ascends_step (TreeNext key) set up = up
-ascends_step (PqInsert item) set up = up
-ascends_step PqTake set up = up
+ascends_step (CounterAdd number addend) set up = up
+ascends_step (Push number item) set up = up
+ascends_step (Pop number) set up = up
+ascends_step (TreeInsert number key) set up = ascends_with key set up
+ascends_step (TreeRemove number key) set up = up
+ascends_step (TreeFind number key) set up = up
+ascends_step (TreeNext number key) set up = up
+ascends_step (PqInsert number item) set up = up
+ascends_step (PqTake number) set up = up
 
 pub has_step : (q : ℕ) (op : Op) (set : List ℕ) → has q (with_key_of (Call op) set) ≡ (has q set || nat_lt 0 (inserts_key q op))
-has_step q (CounterAdd addend) set = or_none (has q set)
-has_step q (Push item) set = or_none (has q set)
-has_step q Pop set = or_none (has q set)
-has_step q (TreeInsert key) set = has_with key q set ∙ or_one (has q set) (q == key)
-has_step q (TreeRemove key) set = or_none (has q set)
-has_step q (TreeFind key) set = or_none (has q set)
-has_step q (TreeNext key) set = or_none (has q set)
-has_step q (PqInsert item) set = or_none (has q set)
-has_step q PqTake set = or_none (has q set)
+has_step q (CounterAdd number addend) set = or_none (has q set)
+has_step q (Push number item) set = or_none (has q set)
+has_step q (Pop number) set = or_none (has q set)
+has_step q (TreeInsert number key) set = has_with key q set ∙ or_one (has q set) (q == key)
+has_step q (TreeRemove number key) set = or_none (has q set)
+has_step q (TreeFind number key) set = or_none (has q set)
+has_step q (TreeNext number key) set = or_none (has q set)
+has_step q (PqInsert number item) set = or_none (has q set)
+has_step q (PqTake number) set = or_none (has q set)
 
 -- the keys that are inserted
 pub inserted_ascend : (acts : List Act) → StrictlyAscends (keys_inserted acts)
@@ -79,47 +79,49 @@ same_keys acts others same = same_set (keys_inserted acts) (keys_inserted others
     (λ q. has_inserted q acts ∙ ap (nat_lt 0) (same q) ∙ sym (has_inserted q others))
 
 -- they are those of the acts that insert one
-is_here : (q : ℕ) (act : Act) → 1 ≤ count_of_act (inserts_key q) act → act ≡ Call (TreeInsert q)
+is_here : (q : ℕ) (act : Act) → 1 ≤ count_of_act (inserts_key q) act → (number : ℕ) × (act ≡ Call (TreeInsert number q))
 is_here q (Work steps) counts = absurd (omega (arith, counts))
-is_here q (Call (CounterAdd addend)) counts = absurd (omega (arith, counts))
-is_here q (Call (Push item)) counts = absurd (omega (arith, counts))
-is_here q (Call Pop) counts = absurd (omega (arith, counts))
-is_here q (Call (TreeInsert key)) counts = step (q == key) refl counts where
-  step : (b : Bool) → (q == key) ≡ b → 1 ≤ one_if b → Call (TreeInsert key) ≡ Call (TreeInsert q)
-  step true is some = let same : key ≡ q = grind (arith, nat_tests) in ap (λ k. Call (TreeInsert k)) same
+is_here q (Call (CounterAdd number addend)) counts = absurd (omega (arith, counts))
+is_here q (Call (Push number item)) counts = absurd (omega (arith, counts))
+is_here q (Call (Pop number)) counts = absurd (omega (arith, counts))
+is_here q (Call (TreeInsert number key)) counts = (number, step (q == key) refl counts) where
+  step : (b : Bool) → (q == key) ≡ b → 1 ≤ one_if b → Call (TreeInsert number key) ≡ Call (TreeInsert number q)
+  step true is some = let same : key ≡ q = grind (arith, nat_tests) in ap (λ k. Call (TreeInsert number k)) same
   step false is some = absurd (omega (arith, some))
-is_here q (Call (TreeRemove key)) counts = absurd (omega (arith, counts))
-is_here q (Call (TreeFind key)) counts = absurd (omega (arith, counts))
-is_here q (Call (TreeNext key)) counts = absurd (omega (arith, counts))
-is_here q (Call (PqInsert item)) counts = absurd (omega (arith, counts))
-is_here q (Call PqTake) counts = absurd (omega (arith, counts))
+is_here q (Call (TreeRemove number key)) counts = absurd (omega (arith, counts))
+is_here q (Call (TreeFind number key)) counts = absurd (omega (arith, counts))
+is_here q (Call (TreeNext number key)) counts = absurd (omega (arith, counts))
+is_here q (Call (PqInsert number item)) counts = absurd (omega (arith, counts))
+is_here q (Call (PqTake number)) counts = absurd (omega (arith, counts))
 
 none_or_some : (n : ℕ) → (n ≡ 0) ⊎ (1 ≤ n)
 none_or_some zero = inl refl
 none_or_some (suc n) = inr (omega arith)
 
-is_there : (q : ℕ) (acts : List Act) → 1 ≤ total (inserts_key q) acts → Contains acts (Call (TreeInsert q))
+is_there : (q : ℕ) (acts : List Act) → 1 ≤ total (inserts_key q) acts → (number : ℕ) × Contains acts (Call (TreeInsert number q))
 is_there q [] counts = absurd (omega (arith, counts))
 is_there q (act ∷ acts) counts = elim (none_or_some (count_of_act (inserts_key q) act)) [
-  | inl none ↦ Contains-append_right (act ∷ []) acts (Call (TreeInsert q)) (is_there q acts (omega (arith, none, counts)))
-  | inr some ↦ (0, omega arith, is_here q act some)
+  | inl none ↦
+      let there = is_there q acts (omega (arith, none, counts)) in
+      (there.0, Contains-append_right (act ∷ []) acts (Call (TreeInsert there.0 q)) there.1)
+  | inr some ↦ let here = is_here q act some in (here.0, (0, omega arith, here.1))
 ]
 
-one_here : (q : ℕ) (act : Act) → act ≡ Call (TreeInsert q) → 1 ≤ count_of_act (inserts_key q) act
-one_here q act is = rw is (step (q == q) (grind (arith, nat_tests))) where
+one_here : (q number : ℕ) (act : Act) → act ≡ Call (TreeInsert number q) → 1 ≤ count_of_act (inserts_key q) act
+one_here q number act is = rw is (step (q == q) (grind (arith, nat_tests))) where
   step : (b : Bool) → b ≡ true → 1 ≤ one_if b
   step true same = omega arith
   step false same = cc
 
-some_there : (q : ℕ) (acts : List Act) (k : ℕ) (d : Act) → k < length acts → get_or acts k d ≡ Call (TreeInsert q) → 1 ≤ total (inserts_key q) acts
-some_there q [] k d within is = absurd (omega (arith, within))
-some_there q (act ∷ acts) zero d within is = omega (arith, one_here q act is)
-some_there q (act ∷ acts) (suc k) d within is = omega (arith, some_there q acts k d (omega (arith, within)) is)
+some_there : (q number : ℕ) (acts : List Act) (k : ℕ) (d : Act) → k < length acts → get_or acts k d ≡ Call (TreeInsert number q) → 1 ≤ total (inserts_key q) acts
+some_there q number [] k d within is = absurd (omega (arith, within))
+some_there q number (act ∷ acts) zero d within is = omega (arith, one_here q number act is)
+some_there q number (act ∷ acts) (suc k) d within is = omega (arith, some_there q number acts k d (omega (arith, within)) is)
 
-pub inserted_are : (q : ℕ) (acts : List Act) → (has q (keys_inserted acts) ≡ true) ↔ Contains acts (Call (TreeInsert q))
+pub inserted_are : (q : ℕ) (acts : List Act) → (has q (keys_inserted acts) ≡ true) ↔ ((number : ℕ) × Contains acts (Call (TreeInsert number q)))
 inserted_are q acts = (
   λ has_one. is_there q acts (positive (total (inserts_key q) acts) (sym (has_inserted q acts) ∙ has_one)),
-  λ there. has_inserted q acts ∙ tested (total (inserts_key q) acts) (some_there q acts there.0 (Call (TreeInsert q)) there.1 there.2),
+  λ there. has_inserted q acts ∙ tested (total (inserts_key q) acts) (some_there q there.0 acts there.1.0 (Call (TreeInsert there.0 q)) there.1.1 there.1.2),
 ) where
   positive : (n : ℕ) → nat_lt 0 n ≡ true → 1 ≤ n
   positive n has_one = grind (arith, nat_tests)

@@ -3,7 +3,8 @@ use Rattle.std.proofs.Common.{◌≡◌, ℕ, zero, suc, ◌+◌, ◌-◌, ◌*�
 use Rattle.std.specs.Prelude.{nat_le, nat_lt, ◌==◌, not, slice_get, if◌then◌else◌, cond}
 use Rattle.std.specs.List.{AllByRecursion}
 use Rattle.key_sets.specs.Keys.{has, with_key, without_key, least_above}
-use Rattle.seq_objects.specs.Objects.{Objects, opening, after, reply_to, value_of, argument_of, with_item, top, least, number_or_empty, yes_or_no}
+use Rattle.seq_objects.specs.Objects.{Objects, after, reply_to, number_of, value_of, argument_of, with_item, top, least, number_or_empty, yes_or_no}
+use Rattle.seq_objects.specs.Stores.{Store, opening_store, store_after}
 use Rattle.seq_objects.specs.declared.act.Act.{Act}
 use Rattle.seq_objects.specs.declared.act.Act.TheVariants.{Work, Call}
 use Rattle.seq_objects.specs.declared.op.Op.{Op}
@@ -18,7 +19,7 @@ use Rattle.batch_history.specs.Serving.{acts_in}
 use Rattle.batch_history.specs.Lawful.{Lawful}
 use Rattle.batch_history.specs.Operations.{op_of}
 use Rattle.batch_history.proofs.TallyLemmas.Leaves.{CountsAlike, alike_total}
-use Rattle.batch_history.proofs.ActLemmas.{IsGiven, called_as, narrow}
+use Rattle.batch_history.proofs.ActLemmas.{IsGiven, at_leaf, called_as, narrow}
 
 abbrev AreSmall : List ℕ → Type 0
 AreSmall numbers = AllByRecursion (λ n. n < 2 ^ 32) numbers
@@ -89,31 +90,37 @@ fewer : (objects : Objects) (room : ℕ) → AreSmallObjects objects (suc room) 
 fewer objects room small = record { counter = omega (arith, small.counter); stack = small.stack; set = small.set; bag = small.bag }
 
 served : (objects : Objects) (op : Op) (room : ℕ) → argument_of op < 2 ^ 32 → AreSmallObjects objects (suc room) → AreSmallObjects (after objects op) room × (value_of (reply_to objects op) < 2 ^ 64)
-served objects (CounterAdd a) room one small = (record { counter = omega (arith, small.counter, one); stack = small.stack; set = small.set; bag = small.bag }, omega (arith, small.counter, one))
-served objects (Push a) room one small = (record { counter = omega (arith, small.counter); stack = pushed objects.stack a small.stack one; set = small.set; bag = small.bag }, omega arith)
-served objects Pop room one small = (record { counter = omega (arith, small.counter); stack = taken (length objects.stack - 1) objects.stack small.stack; set = small.set; bag = small.bag }, number_small (top objects.stack) (got objects.stack (length objects.stack - 1) small.stack))
-served objects (TreeInsert k) room one small = (record { counter = omega (arith, small.counter); stack = small.stack; set = with_key_small k objects.set one small.set; bag = small.bag }, yes_small (not (has k objects.set)))
-served objects (TreeRemove k) room one small = (record { counter = omega (arith, small.counter); stack = small.stack; set = without_key_small k objects.set small.set; bag = small.bag }, yes_small (has k objects.set))
-served objects (TreeFind k) room one small = (fewer objects room small, yes_small (has k objects.set))
-served objects (TreeNext k) room one small = (fewer objects room small, number_small (least_above k objects.set) (above_small k objects.set small.set))
-served objects (PqInsert a) room one small = (record { counter = omega (arith, small.counter); stack = small.stack; set = small.set; bag = with_item_small a objects.bag one small.bag }, omega arith)
-served objects PqTake room one small = (record { counter = omega (arith, small.counter); stack = small.stack; set = small.set; bag = dropped objects.bag small.bag }, number_small (least objects.bag) (got objects.bag 0 small.bag))
+served objects (CounterAdd number a) room one small = (record { counter = omega (arith, small.counter, one); stack = small.stack; set = small.set; bag = small.bag }, omega (arith, small.counter, one))
+served objects (Push number a) room one small = (record { counter = omega (arith, small.counter); stack = pushed objects.stack a small.stack one; set = small.set; bag = small.bag }, omega arith)
+served objects (Pop number) room one small = (record { counter = omega (arith, small.counter); stack = taken (length objects.stack - 1) objects.stack small.stack; set = small.set; bag = small.bag }, number_small (top objects.stack) (got objects.stack (length objects.stack - 1) small.stack))
+served objects (TreeInsert number k) room one small = (record { counter = omega (arith, small.counter); stack = small.stack; set = with_key_small k objects.set one small.set; bag = small.bag }, yes_small (not (has k objects.set)))
+served objects (TreeRemove number k) room one small = (record { counter = omega (arith, small.counter); stack = small.stack; set = without_key_small k objects.set small.set; bag = small.bag }, yes_small (has k objects.set))
+served objects (TreeFind number k) room one small = (fewer objects room small, yes_small (has k objects.set))
+served objects (TreeNext number k) room one small = (fewer objects room small, number_small (least_above k objects.set) (above_small k objects.set small.set))
+served objects (PqInsert number a) room one small = (record { counter = omega (arith, small.counter); stack = small.stack; set = small.set; bag = with_item_small a objects.bag one small.bag }, omega arith)
+served objects (PqTake number) room one small = (record { counter = omega (arith, small.counter); stack = small.stack; set = small.set; bag = dropped objects.bag small.bag }, number_small (least objects.bag) (got objects.bag 0 small.bag))
 
-all_served : (objects : Objects) (entries : List Entry) → AreSmallObjects objects (length entries) → IsLegalFrom objects entries → AllByRecursion (λ entry. argument_of entry.op < 2 ^ 32) entries → AllByRecursion (λ entry. value_of entry.reply < 2 ^ 64) entries
-all_served objects [] small legal args = tt
-all_served objects (entry ∷ entries) small legal args =
-    let next = served objects entry.op (length entries) args.0 small in
-    (subst (λ (r : Reply). value_of r < 2 ^ 64) (sym legal.0) next.1, all_served (after objects entry.op) entries next.0 legal.1 args.1)
+-- the objects of each number are small
+abbrev IsSmallStore : Store → ℕ → Type 0
+IsSmallStore store room = (number : ℕ) → AreSmallObjects (store number) room
 
-pub small_replies : (entries : List Entry) → IsLegalFrom opening entries → AllByRecursion (λ entry. argument_of entry.op < 2 ^ 32) entries → length entries ≤ 2 ^ 32 → AllByRecursion (λ entry. value_of entry.reply < 2 ^ 64) entries
-small_replies entries legal args few = all_served opening entries (record { counter = omega (arith, few); stack = tt; set = tt; bag = tt }) legal args
+either_small : (b : Bool) (one other : Objects) (room : ℕ) → AreSmallObjects one room → AreSmallObjects other room → AreSmallObjects (if b then one else other) room
+either_small true one other room a b = a
+either_small false one other room a b = b
+
+all_served : (store : Store) (entries : List Entry) → IsSmallStore store (length entries) → IsLegalFrom store entries → AllByRecursion (λ entry. argument_of entry.op < 2 ^ 32) entries → AllByRecursion (λ entry. value_of entry.reply < 2 ^ 64) entries
+all_served store [] small legal args = tt
+all_served store (entry ∷ entries) small legal args =
+    let own = store (number_of entry.op) in
+    let next = served own entry.op (length entries) args.0 (small (number_of entry.op)) in
+    let rest : IsSmallStore (store_after store entry.op) (length entries) = λ number.
+    either_small (number == number_of entry.op) (after own entry.op) (store number) (length entries) next.0 (fewer (store number) (length entries) (small number)) in
+    (subst (λ (r : Reply). value_of r < 2 ^ 64) (sym legal.0) next.1, all_served (store_after store entry.op) entries rest legal.1 args.1)
+
+pub small_replies : (entries : List Entry) → IsLegalFrom opening_store entries → AllByRecursion (λ entry. argument_of entry.op < 2 ^ 32) entries → length entries ≤ 2 ^ 32 → AllByRecursion (λ entry. value_of entry.reply < 2 ^ 64) entries
+small_replies entries legal args few = all_served opening_store entries (λ number. record { counter = omega (arith, few); stack = tt; set = tt; bag = tt }) legal args
 
 -- the argument of a call is that of its act, or the low bits of a value
-at_leaf : (acts : List Act) (leaf : ℕ) (op : Op) → AllByRecursion (λ act. count_of_act argument_of act < 2 ^ 32) acts → slice_get acts leaf ≡ Some (Call op) → argument_of op < 2 ^ 32
-at_leaf [] leaf op small is = cc
-at_leaf (act ∷ acts) zero op small is = let same : act ≡ Call op = cc in subst (λ (a : Act). count_of_act argument_of a < 2 ^ 32) same small.0
-at_leaf (act ∷ acts) (suc leaf) op small is = at_leaf acts leaf op small.1 is
-
 given_small : (op given : Op) → argument_of given < 2 ^ 32 → IsGiven op given → argument_of op < 2 ^ 32
 given_small op given small (inl same) = subst (λ (o : Op). argument_of o < 2 ^ 32) (sym same) small
 given_small op given small (inr value) = subst (λ (o : Op). argument_of o < 2 ^ 32) (sym value.1) (narrow given value.0)
@@ -123,7 +130,7 @@ called : (job : JobValue) (book : List (List Entry)) (entries : List Entry) → 
 called job book [] small operations = tt
 called job book (entry ∷ entries) small operations =
     let given = called_as job book entry.leaf entry.op operations.0 in
-    (given_small entry.op given.0 (at_leaf job.acts entry.leaf given.0 small given.1.0) given.1.1, called job book entries small operations.1)
+    (given_small entry.op given.0 (at_leaf (λ act. count_of_act argument_of act < 2 ^ 32) job.acts entry.leaf given.0 small given.1.0) given.1.1, called job book entries small operations.1)
 
 -- each entry counts as one, as its act does
 count_one : (job : JobValue) (book : List (List Entry)) (entries : List Entry) → AllByRecursion (λ entry. op_of job book entry.leaf ≡ Some entry.op) entries

@@ -1,81 +1,99 @@
 -- Lists of lines of calls, and the lines of a book.
-use Rattle.std.proofs.Common.{◌≡◌, ◌≢◌, ℕ, ◌+◌, ◌<◌, ◌≤◌, ◌^◌, List, [], ◌∷◌, ◌++◌, length, get_or, refl, sym, ap, ◌∙◌, append_assoc, append-nil, length-append, codes, arith}
+use Rattle.std.proofs.Common.{◌≡◌, ◌≢◌, ℕ, ◌+◌, ◌<◌, ◌≤◌, ◌^◌, true, List, [], ◌∷◌, ◌++◌, length, map, get_or, refl, sym, ap, ◌∙◌, append_assoc, append-nil, length-append, codes, arith}
 use Rattle.std.specs.List.{flat_map, AllByRecursion}
 use Rattle.std.specs.Fmt.{decimal}
-use Rattle.std.proofs.lemmas.Fmt.{decimal_injective}
 use Rattle.std.proofs.lemmas.Grind.{flat_map-append}
 use Rattle.batch_history.specs.Book.{flat}
 use Rattle.batch_history.specs.Text.{entry_line, batch_lines, book_lines, row_line}
 use Rattle.batch_history.specs.declared.batch.Entry.{Entry}
 use Rattle.batch_history.specs.declared.row.Row.{Row}
 use Rattle.report_reader.specs.Raw.{FitsEntry}
-use Rattle.report_reader.specs.Code.Lines.{IsCallThen, AreCallsThen, FitsCall, call_line}
+use Rattle.report_reader.specs.Code.Objects.{is_mark, mark_of, names_in}
+use Rattle.report_reader.specs.Code.Operations.{kind_of_verb}
+use Rattle.report_reader.specs.Code.Lines.{line_text, IsLineThen, FitsCall, call_line, IsCallThen}
 use Rattle.report_reader.specs.Code.Groups.{numbered_batch, numbered_book}
+use Rattle.report_reader.specs.declared.object.Kind.{Kind}
+use Rattle.report_reader.specs.declared.call.Line.{Line}
 use Rattle.report_reader.specs.declared.call.Numbered.{Numbered}
-use Rattle.report_reader.proofs.Digits.{next_decimal}
+use Rattle.report_reader.specs.declared.table.Table.{Table}
 use Rattle.report_reader.proofs.Fields.{some_length}
-use Rattle.report_reader.proofs.CallLines.{place_from, entry_whole, calls_apart}
+use Rattle.report_reader.proofs.Operations.{verb_of}
+use Rattle.report_reader.proofs.CallLines.{place_from, line_whole, line_of, call_marked, line_at, one_line}
 use Rattle.report_reader.proofs.Rows.{worker_from, row_whole}
 
--- calls of the same numbers and entry are one call
-same_call : (b b' p p' : ℕ) (e e' : Entry) → b ≡ b' → p ≡ p' → e ≡ e' → ◌≡◌ {A = Numbered} (record { batch = b; place = p; entry = e }) (record { batch = b'; place = p'; entry = e' })
-same_call b b' p p' e e' eb ep ee = cc
-
--- two calls at the front of one text are one call, with one rest
-pub one_call : (text : List ℕ) (a b : Numbered) (rest rest' : List ℕ) → IsCallThen text a rest → IsCallThen text b rest' → (a ≡ b) × (rest ≡ rest')
-one_call text a b rest rest' is is' =
-    let parts = calls_apart a.batch b.batch a.place b.place a.entry b.entry rest rest' is.fits.entry is'.fits.entry (is.written ∙ sym is'.written) in
-    (same_call a.batch b.batch a.place b.place a.entry b.entry (decimal_injective a.batch b.batch is.fits.batch is'.fits.batch parts.0) (decimal_injective a.place b.place is.fits.place is'.fits.place parts.1) parts.2, parts.3)
-
 -- the line of a call is not empty
-some_entry : (batch place : ℕ) (entry : Entry) (rest : List ℕ) → entry_line batch place entry ++ rest ≡ [] → ⊥
-some_entry batch place entry rest none =
-    let begins : codes "batch " ++ (decimal batch ++ place_from place entry rest) ≡ [] = sym (entry_whole batch place entry rest) ∙ none in
+some_line : (line : Line) (mark rest : List ℕ) → line_text line mark ++ rest ≡ [] → ⊥
+some_line line mark rest none =
+    let begins : codes "batch " ++ (decimal line.batch ++ place_from line mark rest) ≡ [] = sym (line_whole line mark rest) ∙ none in
     cc (begins)
 
-long_entry : (batch place : ℕ) (entry : Entry) → 0 < length (entry_line batch place entry)
-long_entry batch place entry = some_length (entry_line batch place entry) (λ none. some_entry batch place entry [] (append-nil (entry_line batch place entry) ∙ none))
+some_call : (names : List (List ℕ)) (call : Numbered) (rest : List ℕ) → call_line names call ++ rest ≡ [] → ⊥
+some_call names call rest none = some_line (line_of call) (mark_of names call.entry.op) rest (ap (λ (t : List ℕ). t ++ rest) (sym (call_marked names call)) ∙ none)
 
--- each call that is read takes some of the text
-pub shorter : (text : List ℕ) (call : Numbered) (rest : List ℕ) → IsCallThen text call rest → length rest < length text
-shorter text call rest is =
-    let whole : length (entry_line call.batch call.place call.entry ++ rest) ≡ length text = ap length is.written in
-    omega (arith, length-append (entry_line call.batch call.place call.entry) rest, whole, long_entry call.batch call.place call.entry)
+pub long_call : (names : List (List ℕ)) (call : Numbered) → 0 < length (call_line names call)
+long_call names call = some_length (call_line names call) (λ none. some_call names call [] (append-nil (call_line names call) ∙ none))
 
--- the calls that a text begins with, as far as there are any, are one list, with one rest
-pub calls_way : (text : List ℕ) (calls calls' : List Numbered) (rest rest' : List ℕ) → AreCallsThen text calls rest → AreCallsThen text calls' rest' → (calls ≡ calls') × (rest ≡ rest')
-calls_way text [] [] rest rest' a b = (refl, a.written ∙ sym b.written)
-calls_way text [] (call ∷ calls') rest rest' a b =
-    absurd (a.ends call (flat_map call_line calls' ++ rest') (record { written = sym (append_assoc (call_line call) (flat_map call_line calls') rest') ∙ b.written ∙ sym a.written; fits = b.fits.0 }))
-calls_way text (call ∷ calls) [] rest rest' a b =
-    absurd (b.ends call (flat_map call_line calls ++ rest) (record { written = sym (append_assoc (call_line call) (flat_map call_line calls) rest) ∙ a.written ∙ sym b.written; fits = a.fits.0 }))
-calls_way text (call ∷ calls) (call' ∷ calls') rest rest' a b =
-    let first = one_call text call call' (flat_map call_line calls ++ rest) (flat_map call_line calls' ++ rest')
-    (record { written = sym (append_assoc (call_line call) (flat_map call_line calls) rest) ∙ a.written; fits = a.fits.0 })
-    (record { written = sym (append_assoc (call_line call') (flat_map call_line calls') rest') ∙ b.written; fits = b.fits.0 }) in
-    let more = calls_way (flat_map call_line calls' ++ rest') calls calls' rest rest'
-    (record { written = first.1; fits = a.fits.1; ends = a.ends }) (record { written = refl; fits = b.fits.1; ends = b.ends }) in
-    (cc (first.0, more.0), more.1)
+-- a call as its line tells it: the line without its object, and the mark
+abbrev pub told : List (List ℕ) → Numbered → Line × List ℕ
+told names call = (line_of call, mark_of names call.entry.op)
+
+-- The text is the lines of these calls with known marks, and then the rest, which does not begin with the line of one.
+pub record AreLinesThen (Known : Kind → List ℕ → Type 0) (names : List (List ℕ)) (text : List ℕ) (calls : List Numbered) (rest : List ℕ) : Type 0 where
+  pub written : flat_map (call_line names) calls ++ rest ≡ text
+  pub fits : AllByRecursion FitsCall calls
+  pub marked : AllByRecursion (λ (call : Numbered). is_mark (mark_of names call.entry.op) ≡ true) calls
+  pub known : AllByRecursion (λ (call : Numbered). Known (kind_of_verb (verb_of call.entry.op)) (mark_of names call.entry.op)) calls
+  pub ends : (line : Line) (mark more : List ℕ) → IsLineThen rest line mark more → Known (kind_of_verb line.spoken.verb) mark → ⊥
+
+same_told : (l l' : Line) (m m' : List ℕ) (xs ys : List (Line × List ℕ)) → l ≡ l' → m ≡ m' → xs ≡ ys → ◌≡◌ {A = List (Line × List ℕ)} ((l, m) ∷ xs) ((l', m') ∷ ys)
+same_told l l' m m' xs ys el em es = cc
+
+-- the calls that a text begins with, as far as there are any, are told in one way, with one rest
+pub calls_way : (Known : Kind → List ℕ → Type 0) (names names' : List (List ℕ)) (text : List ℕ) (calls calls' : List Numbered) (rest rest' : List ℕ) → AreLinesThen Known names text calls rest → AreLinesThen Known names' text calls' rest'
+    → (map (told names) calls ≡ map (told names') calls') × (rest ≡ rest')
+calls_way Known names names' text [] [] rest rest' a b = (refl, a.written ∙ sym b.written)
+calls_way Known names names' text [] (call ∷ calls') rest rest' a b =
+    absurd (a.ends (line_of call) (mark_of names' call.entry.op) (flat_map (call_line names') calls' ++ rest')
+    (line_at names' call rest (flat_map (call_line names') calls' ++ rest') b.fits.0 b.marked.0 (sym (append_assoc (call_line names' call) (flat_map (call_line names') calls') rest') ∙ b.written ∙ sym a.written)) b.known.0)
+calls_way Known names names' text (call ∷ calls) [] rest rest' a b =
+    absurd (b.ends (line_of call) (mark_of names call.entry.op) (flat_map (call_line names) calls ++ rest)
+    (line_at names call rest' (flat_map (call_line names) calls ++ rest) a.fits.0 a.marked.0 (sym (append_assoc (call_line names call) (flat_map (call_line names) calls) rest) ∙ a.written ∙ sym b.written)) a.known.0)
+calls_way Known names names' text (call ∷ calls) (call' ∷ calls') rest rest' a b =
+    let first = one_line text (line_of call) (line_of call') (mark_of names call.entry.op) (mark_of names' call'.entry.op) (flat_map (call_line names) calls ++ rest) (flat_map (call_line names') calls' ++ rest')
+    (line_at names call text (flat_map (call_line names) calls ++ rest) a.fits.0 a.marked.0 (sym (append_assoc (call_line names call) (flat_map (call_line names) calls) rest) ∙ a.written))
+    (line_at names' call' text (flat_map (call_line names') calls' ++ rest') b.fits.0 b.marked.0 (sym (append_assoc (call_line names' call') (flat_map (call_line names') calls') rest') ∙ b.written)) in
+    let more = calls_way Known names names' (flat_map (call_line names') calls' ++ rest') calls calls' rest rest'
+    (record { written = first.2; fits = a.fits.1; marked = a.marked.1; known = a.known.1; ends = a.ends }) (record { written = refl; fits = b.fits.1; marked = b.marked.1; known = b.known.1; ends = b.ends }) in
+    (same_told (line_of call) (line_of call') (mark_of names call.entry.op) (mark_of names' call'.entry.op) (map (told names) calls) (map (told names') calls') first.0 first.1 more.0, more.1)
 
 -- the lines of rows do not begin with the line of a call
-pub rows_no_call : (rows : List Row) (batch place : ℕ) (entry : Entry) (rest : List ℕ) → entry_line batch place entry ++ rest ≡ flat_map row_line rows → ⊥
-rows_no_call [] batch place entry rest is = some_entry batch place entry rest is
-rows_no_call (row ∷ rows) batch place entry rest is =
-    let wrong : codes "batch " ++ (decimal batch ++ place_from place entry rest) ≡ codes "leaf " ++ (decimal row.leaf ++ worker_from row (flat_map row_line rows)) =
-    sym (entry_whole batch place entry rest) ∙ is ∙ row_whole row (flat_map row_line rows) in
+pub rows_no_line : (rows : List Row) (line : Line) (mark rest : List ℕ) → line_text line mark ++ rest ≡ flat_map row_line rows → ⊥
+rows_no_line [] line mark rest is = some_line line mark rest is
+rows_no_line (row ∷ rows) line mark rest is =
+    let wrong : codes "batch " ++ (decimal line.batch ++ place_from line mark rest) ≡ codes "leaf " ++ (decimal row.leaf ++ worker_from row (flat_map row_line rows)) =
+    sym (line_whole line mark rest) ∙ is ∙ row_whole row (flat_map row_line rows) in
     let first : 98 ≡ 108 = ap (λ (text : List ℕ). get_or text 0 0) wrong in
     absurd (omega (arith, first))
 
 -- the lines of a book are those of its calls
-batch_numbered : (b p : ℕ) (es : List Entry) → batch_lines b p es ≡ flat_map call_line (numbered_batch b p es)
-batch_numbered b p [] = refl
-batch_numbered b p (e ∷ es) = ap (λ t. entry_line b p e ++ t) (batch_numbered b (p + 1) es)
+batch_numbered : (names : List (List ℕ)) (b p : ℕ) (es : List Entry) → batch_lines names b p es ≡ flat_map (call_line names) (numbered_batch b p es)
+batch_numbered names b p [] = refl
+batch_numbered names b p (e ∷ es) = ap (λ t. entry_line names b p e ++ t) (batch_numbered names b (p + 1) es)
 
-pub book_numbered : (b : ℕ) (book : List (List Entry)) → book_lines b book ≡ flat_map call_line (numbered_book b book)
-book_numbered b [] = refl
-book_numbered b (es ∷ book) =
-    ap (λ t. t ++ book_lines (b + 1) book) (batch_numbered b 0 es) ∙ ap (λ t. flat_map call_line (numbered_batch b 0 es) ++ t) (book_numbered (b + 1) book)
-    ∙ sym (flat_map-append call_line (numbered_batch b 0 es) (numbered_book (b + 1) book))
+pub book_numbered : (names : List (List ℕ)) (b : ℕ) (book : List (List Entry)) → book_lines names b book ≡ flat_map (call_line names) (numbered_book b book)
+book_numbered names b [] = refl
+book_numbered names b (es ∷ book) =
+    ap (λ t. t ++ book_lines names (b + 1) book) (batch_numbered names b 0 es) ∙ ap (λ t. flat_map (call_line names) (numbered_batch b 0 es) ++ t) (book_numbered names (b + 1) book)
+    ∙ sym (flat_map-append (call_line names) (numbered_batch b 0 es) (numbered_book (b + 1) book))
+
+few_batch_calls : (names : List (List ℕ)) (b p : ℕ) (es : List Entry) → length es ≤ length (batch_lines names b p es)
+few_batch_calls names b p [] = omega arith
+few_batch_calls names b p (e ∷ es) =
+    omega (arith, length-append (entry_line names b p e) (batch_lines names b (p + 1) es), few_batch_calls names b (p + 1) es, long_call names (record { batch = b; place = p; entry = e }))
+
+pub few_calls : (names : List (List ℕ)) (b : ℕ) (book : List (List Entry)) → length (flat book) ≤ length (book_lines names b book)
+few_calls names b [] = omega arith
+few_calls names b (es ∷ book) = omega (arith, length-append (batch_lines names b 0 es) (book_lines names (b + 1) book), length-append es (flat book), few_batch_calls names b 0 es, few_calls names (b + 1) book)
 
 -- how many calls and batches there are
 batch_count : (b p : ℕ) (es : List Entry) → length (numbered_batch b p es) ≡ length es
@@ -91,14 +109,6 @@ pub few_batches : (book : List (List Entry)) → AllByRecursion (λ (entries : L
 few_batches [] some = omega arith
 few_batches ([] ∷ book) some = absurd (some.0 refl)
 few_batches ((e ∷ es) ∷ book) some = omega (arith, length-append (e ∷ es) (flat book), few_batches book some.1)
-
-few_batch_calls : (b p : ℕ) (es : List Entry) → length es ≤ length (batch_lines b p es)
-few_batch_calls b p [] = omega arith
-few_batch_calls b p (e ∷ es) = omega (arith, length-append (entry_line b p e) (batch_lines b (p + 1) es), few_batch_calls b (p + 1) es, long_entry b p e)
-
-pub few_calls : (b : ℕ) (book : List (List Entry)) → length (flat book) ≤ length (book_lines b book)
-few_calls b [] = omega arith
-few_calls b (es ∷ book) = omega (arith, length-append (batch_lines b 0 es) (book_lines (b + 1) book), length-append es (flat book), few_batch_calls b 0 es, few_calls (b + 1) book)
 
 -- what holds of the elements of two lists together
 both : {A : Type 0} (P : A → Type 0) (xs ys : List A) → AllByRecursion P xs → AllByRecursion P ys → AllByRecursion P (xs ++ ys)
@@ -137,51 +147,28 @@ book_entries b (es ∷ book) fits =
     both FitsEntry es (flat book) (batch_entries b 0 es (front FitsCall (numbered_batch b 0 es) (numbered_book (b + 1) book) fits))
     (book_entries (b + 1) book (back FitsCall (numbered_batch b 0 es) (numbered_book (b + 1) book) fits))
 
--- the text does not begin with the line of a call of this batch
-abbrev BeginsElsewhere : ℕ → List ℕ → Type 0
-BeginsElsewhere b text = (place : ℕ) (entry : Entry) (rest : List ℕ) → FitsEntry entry → entry_line b place entry ++ rest ≡ text → ⊥
+-- the entries of a book, by what holds of each of its calls
+batch_all : (P : Entry → Type 0) (b p : ℕ) (es : List Entry) → AllByRecursion P es → AllByRecursion (λ (call : Numbered). P call.entry) (numbered_batch b p es)
+batch_all P b p [] all = tt
+batch_all P b p (e ∷ es) all = (all.0, batch_all P b (p + 1) es all.1)
 
--- the lines of a batch are told apart from what follows in one way
-batch_apart : (b p : ℕ) (es es' : List Entry) (rest rest' : List ℕ) → AllByRecursion FitsEntry es → AllByRecursion FitsEntry es' → BeginsElsewhere b rest → BeginsElsewhere b rest'
-    → batch_lines b p es ++ rest ≡ batch_lines b p es' ++ rest' → (es ≡ es') × (rest ≡ rest')
-batch_apart b p [] [] rest rest' fits fits' ends ends' is = (refl, is)
-batch_apart b p [] (e ∷ es') rest rest' fits fits' ends ends' is =
-    absurd (ends p e (batch_lines b (p + 1) es' ++ rest') fits'.0 (sym (append_assoc (entry_line b p e) (batch_lines b (p + 1) es') rest') ∙ sym is))
-batch_apart b p (e ∷ es) [] rest rest' fits fits' ends ends' is =
-    absurd (ends' p e (batch_lines b (p + 1) es ++ rest) fits.0 (sym (append_assoc (entry_line b p e) (batch_lines b (p + 1) es) rest) ∙ is))
-batch_apart b p (e ∷ es) (e' ∷ es') rest rest' fits fits' ends ends' is =
-    let first = calls_apart b b p p e e' (batch_lines b (p + 1) es ++ rest) (batch_lines b (p + 1) es' ++ rest') fits.0 fits'.0
-    (sym (append_assoc (entry_line b p e) (batch_lines b (p + 1) es) rest) ∙ is ∙ append_assoc (entry_line b p e') (batch_lines b (p + 1) es') rest') in
-    let more = batch_apart b (p + 1) es es' rest rest' fits.1 fits'.1 ends ends' first.3 in
-    (cc (first.2, more.0), more.1)
+pub book_all : (P : Entry → Type 0) (b : ℕ) (book : List (List Entry)) → AllByRecursion P (flat book) → AllByRecursion (λ (call : Numbered). P call.entry) (numbered_book b book)
+book_all P b [] all = tt
+book_all P b (es ∷ book) all =
+    both (λ (call : Numbered). P call.entry) (numbered_batch b 0 es) (numbered_book (b + 1) book) (batch_all P b 0 es (front P es (flat book) all)) (book_all P (b + 1) book (back P es (flat book) all))
 
--- behind a batch stands no line of its calls
-next_elsewhere : (b : ℕ) (book : List (List Entry)) (rows : List Row) → AllByRecursion (λ (entries : List Entry). entries ≢ []) book → AllByRecursion FitsEntry (flat book)
-    → BeginsElsewhere b (book_lines (b + 1) book ++ flat_map row_line rows)
-next_elsewhere b [] rows some fits place entry rest fit is = rows_no_call rows b place entry rest is
-next_elsewhere b ([] ∷ book) rows some fits place entry rest fit is = some.0 refl
-next_elsewhere b ((e ∷ es) ∷ book) rows some fits place entry rest fit is =
-    let behind : List ℕ = batch_lines (b + 1) (0 + 1) es ++ (book_lines (b + 1 + 1) book ++ flat_map row_line rows) in
-    let whole : (entry_line (b + 1) 0 e ++ batch_lines (b + 1) (0 + 1) es ++ book_lines (b + 1 + 1) book) ++ flat_map row_line rows ≡ entry_line (b + 1) 0 e ++ behind = simp append_assoc in
-    next_decimal b (calls_apart b (b + 1) place 0 entry e rest behind fit fits.0 (is ∙ whole)).0
+batch_every : (P : Entry → Type 0) (b p : ℕ) (es : List Entry) → AllByRecursion (λ (call : Numbered). P call.entry) (numbered_batch b p es) → AllByRecursion P es
+batch_every P b p [] all = tt
+batch_every P b p (e ∷ es) all = (all.0, batch_every P b (p + 1) es all.1)
 
--- the lines of a book, and those of rows behind them, are those of one book, and of one text of rows
-pub books_apart : (b : ℕ) (book book' : List (List Entry)) (rows rows' : List Row)
-    → AllByRecursion (λ (entries : List Entry). entries ≢ []) book → AllByRecursion (λ (entries : List Entry). entries ≢ []) book' → AllByRecursion FitsEntry (flat book) → AllByRecursion FitsEntry (flat book')
-    → book_lines b book ++ flat_map row_line rows ≡ book_lines b book' ++ flat_map row_line rows' → (book ≡ book') × (flat_map row_line rows ≡ flat_map row_line rows')
-books_apart b [] [] rows rows' some some' fits fits' is = (refl, is)
-books_apart b [] ([] ∷ book') rows rows' some some' fits fits' is = absurd (some'.0 refl)
-books_apart b [] ((e ∷ es) ∷ book') rows rows' some some' fits fits' is =
-    let whole : (entry_line b 0 e ++ batch_lines b (0 + 1) es ++ book_lines (b + 1) book') ++ flat_map row_line rows' ≡ entry_line b 0 e ++ (batch_lines b (0 + 1) es ++ (book_lines (b + 1) book' ++ flat_map row_line rows')) = simp append_assoc in
-    absurd (rows_no_call rows b 0 e (batch_lines b (0 + 1) es ++ (book_lines (b + 1) book' ++ flat_map row_line rows')) (sym whole ∙ sym is))
-books_apart b ([] ∷ book) [] rows rows' some some' fits fits' is = absurd (some.0 refl)
-books_apart b ((e ∷ es) ∷ book) [] rows rows' some some' fits fits' is =
-    let whole : (entry_line b 0 e ++ batch_lines b (0 + 1) es ++ book_lines (b + 1) book) ++ flat_map row_line rows ≡ entry_line b 0 e ++ (batch_lines b (0 + 1) es ++ (book_lines (b + 1) book ++ flat_map row_line rows)) = simp append_assoc in
-    absurd (rows_no_call rows' b 0 e (batch_lines b (0 + 1) es ++ (book_lines (b + 1) book ++ flat_map row_line rows)) (sym whole ∙ is))
-books_apart b (es ∷ book) (es' ∷ book') rows rows' some some' fits fits' is =
-    let first = batch_apart b 0 es es' (book_lines (b + 1) book ++ flat_map row_line rows) (book_lines (b + 1) book' ++ flat_map row_line rows')
-    (front FitsEntry es (flat book) fits) (front FitsEntry es' (flat book') fits')
-    (next_elsewhere b book rows some.1 (back FitsEntry es (flat book) fits)) (next_elsewhere b book' rows' some'.1 (back FitsEntry es' (flat book') fits'))
-    (sym (append_assoc (batch_lines b 0 es) (book_lines (b + 1) book) (flat_map row_line rows)) ∙ is ∙ append_assoc (batch_lines b 0 es') (book_lines (b + 1) book') (flat_map row_line rows')) in
-    let more = books_apart (b + 1) book book' rows rows' some.1 some'.1 (back FitsEntry es (flat book) fits) (back FitsEntry es' (flat book') fits') first.1 in
-    (cc (first.0, more.0), more.1)
+pub book_every : (P : Entry → Type 0) (b : ℕ) (book : List (List Entry)) → AllByRecursion (λ (call : Numbered). P call.entry) (numbered_book b book) → AllByRecursion P (flat book)
+book_every P b [] all = tt
+book_every P b (es ∷ book) all =
+    both P es (flat book) (batch_every P b 0 es (front (λ (call : Numbered). P call.entry) (numbered_batch b 0 es) (numbered_book (b + 1) book) all))
+    (book_every P (b + 1) book (back (λ (call : Numbered). P call.entry) (numbered_batch b 0 es) (numbered_book (b + 1) book) all))
+
+-- each call that is read takes some of the text
+pub shorter : (table : Table) (text : List ℕ) (call : Numbered) (rest : List ℕ) → IsCallThen table text call rest → length rest < length text
+shorter table text call rest is =
+    let whole : length (call_line (names_in table) call ++ rest) ≡ length text = ap length is.written in
+    omega (arith, length-append (call_line (names_in table) call) rest, whole, long_call (names_in table) call)

@@ -1,9 +1,20 @@
-//! The law of reading reports, stated as the contract of an empty function.
+//! The laws of reading reports, each stated as the contract of an empty function.
 ghost use Rattle.std.specs.Prelude.{◌≡◌, ℕ, List};
+ghost use Rattle.sp_order.specs.Jobs.{JobValue, IsJob};
 ghost use Rattle.batch_history.specs.declared.report.Report.{Report};
-ghost use Rattle.report_reader.specs.Texts.{HasText};
+ghost use Rattle.report_reader.specs.Texts.{HasText, HasNamedText, Named, AreAlike};
 
-/// No two raw reports have one text.
+/// No two raw reports of a job have one text.
 pub fn texts_have_one_report()
-    ensures { (text : List ℕ) (report report' : Report) → HasText text report → HasText text report' → report ≡ report' }
+    ensures { (job : JobValue) (text : List ℕ) (report report' : Report) → IsJob job
+        → HasText job text report → HasText job text report' → report ≡ report' }
+{}
+
+/// A raw report of a job needs no job: with the names of the job it has its text. Reports and names that have one text
+/// differ by the numbers of their objects alone.
+pub fn texts_have_one_wording()
+    ensures named { (job : JobValue) (text : List ℕ) (report : Report) → IsJob job → HasText job text report
+        → HasNamedText text (record { names = job.names; report = report }) }
+    ensures alike { (text : List ℕ) (named named' : Named)
+        → HasNamedText text named → HasNamedText text named' → AreAlike named named' }
 {}

@@ -1,35 +1,21 @@
-use Rattle.report_reader.proofs.CallLines.{call_read, no_batch, no_place, no_worker, no_leaf, no_blank, no_op, no_reply}
+use Rattle.std.proofs.Common.{List, ℕ, sym, ap, subst, ◌∙◌}
+use Rattle.report_reader.specs.Code.Objects.{found, IsKnown}
+use Rattle.report_reader.specs.Code.Operations.{kind_of_verb}
+use Rattle.report_reader.specs.declared.call.Line.{Line}
+use Rattle.report_reader.proofs.CallLines.{one_line}
+use Rattle.report_reader.proofs.Calls.{call_read, unknown}
 use Rattle.report_reader.proofs.call.read_call.Goals as goal
 
-pub returns-in_err-batch-clause-none : goal.returns-in_err-batch-clause-none
-returns-in_err-batch-clause-none c = rw c.from_residual.ensures (λ call rest is. no_batch is c.in_err-batch.ensures.none)
+pub returns-in-Some-2-clause-some : goal.returns-in-Some-2-clause-some
+returns-in-Some-2-clause-some c =
+    rw c.with_number.ensures (call_read c.number.new.self c.args.text.now c.in-Some.line c.in-Some.mark.now c.in-Some.rest.now c.in-Some-2.number c.in_ok-number.ensures.kept c.in-Some.ensures.some
+    (ap (λ k. found c.number.new.self k c.in-Some.mark.now) (sym c.kind.ensures) ∙ sym c.in_ok-number.ensures.found ∙ c.in-Some-2.is))
 
-pub returns-in_err-place-clause-none : goal.returns-in_err-place-clause-none
-returns-in_err-place-clause-none c = rw c.from_residual-in_err-place.ensures (λ call rest is. no_place is c.in_ok-batch.ensures.some c.in_err-place.ensures.none)
-
-pub returns-in_err-worker-clause-none : goal.returns-in_err-worker-clause-none
-returns-in_err-worker-clause-none c =
-    rw c.from_residual-in_err-worker.ensures (λ call rest is. no_worker is c.in_ok-batch.ensures.some c.in_ok-place.ensures.some c.in_err-worker.ensures.none)
-
-pub returns-in_err-leaf-clause-none : goal.returns-in_err-leaf-clause-none
-returns-in_err-leaf-clause-none c =
-    rw c.from_residual-in_err-leaf.ensures (λ call rest is. no_leaf is c.in_ok-batch.ensures.some c.in_ok-place.ensures.some c.in_ok-worker.ensures.some c.in_err-leaf.ensures.none)
-
-pub returns-in_err-rest-clause-none : goal.returns-in_err-rest-clause-none
-returns-in_err-rest-clause-none c =
-    rw c.from_residual-in_err-rest.ensures (λ call rest is.
-    no_blank is c.in_ok-batch.ensures.some c.in_ok-place.ensures.some c.in_ok-worker.ensures.some c.in_ok-leaf.ensures.some c.in_err-rest.ensures.none)
-
-pub returns-in_err-op-clause-none : goal.returns-in_err-op-clause-none
-returns-in_err-op-clause-none c =
-    rw c.from_residual-in_err-op.ensures (λ call rest is.
-    no_op is c.in_ok-batch.ensures.some c.in_ok-place.ensures.some c.in_ok-worker.ensures.some c.in_ok-leaf.ensures.some c.in_ok-rest.ensures.some c.in_err-op.ensures.none)
-
-pub returns-in_err-reply-clause-none : goal.returns-in_err-reply-clause-none
-returns-in_err-reply-clause-none c =
-    rw c.from_residual-in_err-reply.ensures (λ call rest is.
-    no_reply is c.in_ok-batch.ensures.some c.in_ok-place.ensures.some c.in_ok-worker.ensures.some c.in_ok-leaf.ensures.some c.in_ok-rest.ensures.some c.in_ok-op.ensures.some c.in_err-reply.ensures.none)
-
-pub returns-clause-some : goal.returns-clause-some
-returns-clause-some c =
-    call_read c.in_ok-batch.ensures.some c.in_ok-place.ensures.some c.in_ok-worker.ensures.some c.in_ok-leaf.ensures.some c.in_ok-rest.ensures.some c.in_ok-op.ensures.some c.in_ok-reply.ensures.some
+pub returns-in-None-clause-none : goal.returns-in-None-clause-none
+returns-in-None-clause-none c line mark rest is known =
+    let same = one_line c.args.text.now line c.in-Some.line mark c.in-Some.mark.now rest c.in-Some.rest.now is c.in-Some.ensures.some in
+    let own : IsKnown c.number.new.self (kind_of_verb c.in-Some.line.spoken.verb) c.in-Some.mark.now =
+    subst (λ (l : Line). IsKnown c.number.new.self (kind_of_verb l.spoken.verb) c.in-Some.mark.now) same.0 (subst (λ (m : List ℕ). IsKnown c.number.new.self (kind_of_verb line.spoken.verb) m) same.1 known) in
+    let closed = c.in_ok-number.ensures.extends.grows ∙ (rw c.in-None.is at c.in_ok-number.ensures.none) in
+    unknown c.number.new.self (kind_of_verb c.in-Some.line.spoken.verb) c.in-Some.mark.now closed
+    (ap (λ k. found c.number.new.self k c.in-Some.mark.now) (sym c.kind.ensures) ∙ sym c.in_ok-number.ensures.found ∙ c.in-None.is) own

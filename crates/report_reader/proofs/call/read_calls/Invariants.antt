@@ -1,14 +1,14 @@
-use Rattle.std.proofs.Common.{◌≡◌, ◌++◌, length}
-use Rattle.std.specs.List.{flat_map, AllByRecursion}
-use Rattle.report_reader.specs.Code.Lines.{call_line, FitsCall}
+use Rattle.std.proofs.Common.{length}
+use Rattle.report_reader.specs.Code.Objects.{Extends}
+use Rattle.report_reader.proofs.Calls.{HaveRead}
 use Rattle.report_reader.proofs.call.read_calls.Given as goal
 
 -- what was read, and what is left
-abbrev pub invariant-loop-call : goal.invariant-loop-call
-invariant-loop-call l = record {
-  read : flat_map call_line l.calls.items ++ l.rest ≡ l.text;
-  fits : AllByRecursion FitsCall l.calls.items;
+abbrev pub invariant-loop-calls : goal.invariant-loop-calls
+invariant-loop-calls l = record {
+  extends : Extends l.fn.table l.table;
+  read : HaveRead l.table l.text l.calls.items l.rest;
 }
 
-abbrev pub decreases-loop-call : goal.decreases-loop-call
-decreases-loop-call l = length l.rest
+abbrev pub decreases-loop-calls : goal.decreases-loop-calls
+decreases-loop-calls l = length l.rest

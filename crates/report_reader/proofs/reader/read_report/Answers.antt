@@ -1,56 +1,10 @@
-use Rattle.std.proofs.Common.{◌≡◌, Option, Some, None, IfSome, IfNone, true, refl, arith}
-use Rattle.report_reader.proofs.Reports.{one_report, head_is, no_report_rows, no_report_batches, no_report_counts, report_read}
+use Rattle.report_reader.proofs.Jobs.{reading}
+use Rattle.report_reader.proofs.OneReport.{reads}
 use Rattle.report_reader.proofs.reader.read_report.Goals as goal
-
-none_of : {T : Type 0} (r : Option T) (P : Type 0) → r ≡ None → IfNone r P → P
-none_of None P is none = none
-none_of (Some x) P is none = cc (is)
-
-some_of : {T : Type 0} (r : Option T) (x : T) (P : T → Type 0) → r ≡ Some x → IfSome r P → P x
-some_of None x P is some = cc (is)
-some_of (Some y) x P is some = let same : y ≡ x = cc in rw (← same) some
-
-pub returns-in_default-clause-reading : goal.returns-in_default-clause-reading
-returns-in_default-clause-reading c report has = c.in_default.ensures.none _ _ (head_is has refl)
-
-pub returns-in_default-2-clause-reading : goal.returns-in_default-2-clause-reading
-returns-in_default-2-clause-reading c report has =
-    no_report_rows has (omega arith) refl c.in-Some.ensures.some c.in_ok-calls.ensures (none_of c.in_ok-rows.field-0 _ c.in_default-2.is c.in_ok-rows.ensures.none)
-
-pub returns-in_default-3-clause-reading : goal.returns-in_default-3-clause-reading
-returns-in_default-3-clause-reading c report has =
-    let none = none_of c.in_ok-batches.field-0 _ c.in_default-3.is c.in_ok-batches.ensures.none in
-    no_report_batches has (omega arith) refl c.in-Some.ensures.some c.in_ok-calls.ensures (rw c.as_slice.ensures.value at none)
-
-pub returns-then-not-counts-clause-reading : goal.returns-then-not-counts-clause-reading
-returns-then-not-counts-clause-reading c report has =
-    let batches = some_of c.in_ok-batches.field-0 c.in-Some-3.batches _ c.in-Some-3.is c.in_ok-batches.ensures.some in
-    no_report_counts has (omega arith) refl c.in-Some.ensures.some c.in_ok-calls.ensures (some_of c.in_ok-rows.field-0 c.in-Some-2.rows _ c.in-Some-2.is c.in_ok-rows.ensures.some)
-    (rw c.as_slice.ensures.value at batches)
-    (λ counts.
-    let yes : c.counts.result ≡ true = c.counts.ensures.1 (omega (arith, counts.0, c.len.ensures, c.in-Some-2.rows.ok.0), omega (arith, counts.1, c.len-2.ensures, c.in_ok-calls.calls.ok.0), omega (arith, counts.2, c.len-3.ensures, c.in-Some-3.batches.ok.0)) in
-    cc (yes, c.if-not-counts.true))
-
-pub invariant_of-result : goal.invariant_of-result
-invariant_of-result c =
-    let counts = c.counts.ensures.0 c.if-not-counts.false in
-    let batches = some_of c.in_ok-batches.field-0 c.in-Some-3.batches _ c.in-Some-3.is c.in_ok-batches.ensures.some in
-    let has = report_read c.in-Some.ensures.some c.in_ok-calls.ensures (some_of c.in_ok-rows.field-0 c.in-Some-2.rows _ c.in-Some-2.is c.in_ok-rows.ensures.some) (rw c.as_slice.ensures.value at batches)
-    (omega (arith, counts.0, c.len.ensures, c.in-Some-2.rows.ok.0), omega (arith, counts.1, c.len-2.ensures, c.in_ok-calls.calls.ok.0), omega (arith, counts.2, c.len-3.ensures, c.in-Some-3.batches.ok.0)) in
-    rw c.of.ensures has.raw
 
 pub returns-clause-reading : goal.returns-clause-reading
 returns-clause-reading c =
-    let counts = c.counts.ensures.0 c.if-not-counts.false in
-    let batches = some_of c.in_ok-batches.field-0 c.in-Some-3.batches _ c.in-Some-3.is c.in_ok-batches.ensures.some in
-    let has = report_read c.in-Some.ensures.some c.in_ok-calls.ensures (some_of c.in_ok-rows.field-0 c.in-Some-2.rows _ c.in-Some-2.is c.in_ok-rows.ensures.some) (rw c.as_slice.ensures.value at batches)
-    (omega (arith, counts.0, c.len.ensures, c.in-Some-2.rows.ok.0), omega (arith, counts.1, c.len-2.ensures, c.in_ok-calls.calls.ok.0), omega (arith, counts.2, c.len-3.ensures, c.in-Some-3.batches.ok.0)) in
-    rw c.of.ensures has
+    reading c.args.job.now c.in_ok-table.table c.in_ok-table.ensures c.read_by.new.table c.args.text.now c.read_by.result c.read_by.ensures.extends c.read_by.ensures.some c.read_by.ensures.none
 
 pub returns-clause-reads : goal.returns-clause-reads
-returns-clause-reads c = λ report is. (
-    let counts = c.counts.ensures.0 c.if-not-counts.false in
-    let batches = some_of c.in_ok-batches.field-0 c.in-Some-3.batches _ c.in-Some-3.is c.in_ok-batches.ensures.some in
-    let has = report_read c.in-Some.ensures.some c.in_ok-calls.ensures (some_of c.in_ok-rows.field-0 c.in-Some-2.rows _ c.in-Some-2.is c.in_ok-rows.ensures.some) (rw c.as_slice.ensures.value at batches)
-    (omega (arith, counts.0, c.len.ensures, c.in-Some-2.rows.ok.0), omega (arith, counts.1, c.len-2.ensures, c.in_ok-calls.calls.ok.0), omega (arith, counts.2, c.len-3.ensures, c.in-Some-3.batches.ok.0)) in
-    rw c.of.ensures (one_report c.args.text.now _ report has is))
+returns-clause-reads c report has = reads c.args.job.now c.in_ok-table.ensures.job_is c.args.text.now c.read_by.result report has (returns-clause-reading c)

@@ -21,7 +21,7 @@ pub record Laws : Type 0 where
   pub one_job : (text : List ℕ) (job job' : JobValue) → IsJobOf text job → IsJobOf text job' → job ≡ job'
   pub one_fault : (text : List ℕ) (fault fault' : JobFault) → IsFaultOf text fault → IsFaultOf text fault' → fault ≡ fault'
   pub not_both : (text : List ℕ) (job : JobValue) (fault : JobFault) → IsJobOf text job → IsFaultOf text fault → ⊥
-  pub one_flaw : (job : JobValue) (text : List ℕ) (flaw flaw' : Option Flaw) → IsFlawOf job text flaw → IsFlawOf job text flaw' → flaw ≡ flaw'
+  pub one_flaw : (bytes text : List ℕ) (job : JobValue) (flaw flaw' : Option Flaw) → IsJobOf bytes job → IsFlawOf job text flaw → IsFlawOf job text flaw' → flaw ≡ flaw'
   pub no_flaw : (bytes text : List ℕ) (job : JobValue) → IsJobOf bytes job → HasLawfulReport job text → IsFlawOf job text None
 
 -- where the bytes held are known, they are the bytes that were read
@@ -110,9 +110,9 @@ module _ (laws : Laws) (files : Files) (held : List ℕ → Option (List ℕ)) w
         → (job : JobValue) (text : List ℕ) (flaw : Option Flaw) → Holds files held job text → length text ≤ 8388608 → IsFlawOf job text flaw
         → (ended ≡ verdict.ReadFault → ⊥) → (ended ≡ verdict.WriteFault → ⊥) → IsUnlessMemory ended (verdict_on flaw)
     judged_so verdict.Lawful why line job text flaw holds short is reads writes =
-        inl (ap verdict_on (laws.one_flaw job text None flaw (judged_held job text None holds line.0) is))
+        inl (ap verdict_on (laws.one_flaw holds.bytes text job None flaw holds.accepted (judged_held job text None holds line.0) is))
     judged_so (verdict.Flawed found) why line job text flaw holds short is reads writes =
-        inl (ap verdict_on (laws.one_flaw job text (Some found) flaw (judged_held job text (Some found) holds line.0) is))
+        inl (ap verdict_on (laws.one_flaw holds.bytes text job (Some found) flaw holds.accepted (judged_held job text (Some found) holds line.0) is))
     judged_so verdict.Usage why line job text flaw holds short is reads writes = absurd why
     judged_so verdict.ReadFault why line job text flaw holds short is reads writes = absurd (reads refl)
     judged_so (verdict.Refused JobTooLong) why line job text flaw holds short is reads writes = absurd (held_short 1048576 (held files.job) holds.bytes holds.told why holds.short)
@@ -141,7 +141,7 @@ module _ (laws : Laws) (files : Files) (held : List ℕ → Option (List ℕ)) w
     fits : (job : JobValue) (text : List ℕ) (flaw : Option Flaw) (room : ℕ) → Holds files held job text → IsFlawOf job text flaw → length (verdict_text flaw) ≤ room
         → FailsPast (IsJudged files held) verdict.WriteFault room → ⊥
     fits job text flaw room holds is within past =
-        let same = laws.one_flaw job text past.0 flaw (judged_held job text past.0 holds past.1) is in
+        let same = laws.one_flaw holds.bytes text job past.0 flaw holds.accepted (judged_held job text past.0 holds past.1) is in
         omega (arith, within, past.2, ap (λ f. length (verdict_text f)) same)
 
     pub assured : (ended : Verdict) (never_fails : Bool) (room : ℕ) → HasCause files held ended R W → Prints (IsJudged files held) ended old new

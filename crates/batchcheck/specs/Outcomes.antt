@@ -93,7 +93,7 @@ pub record HasLawfulReport (job : JobValue) (text : List ℕ) : Type 0 where
   pub some : 1 ≤ report.workers
   pub few : report.workers ≤ 32
   pub lawful : Lawful job report.workers report
-  pub written : report_text report ≡ text
+  pub written : report_text job.names report ≡ text
 
 -- Which verdict comes where the bytes of the files are known and no read fails, and for a text that is judged no write:
 -- the one that the bytes call for, unless memory runs out.

@@ -89,7 +89,7 @@ fn read_text_of<I: Shelf>(
 fn flaw_of(alloc: Global, job: &Job, text: &[u8]) -> Result<Option<Flaw>, AllocError>
     ensures { IfOk result (IsFlawOf job.now text.now) }
 {
-    match read_report(alloc, text) {
+    match read_report(alloc, job, text) {
         Ok(raw) => check(alloc, job, &raw),
         Err(ReadReportErr::NoReport) => Ok(Some(Flaw::Text)),
         Err(ReadReportErr::Memory) => Err(AllocError),

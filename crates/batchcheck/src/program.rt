@@ -8,13 +8,12 @@ ghost use Rattle.batchcheck.specs.Lines.{verdict_line, verdict_without_words};
 ghost use Rattle.batchcheck.specs.Outcomes.{IsJudged, Judges, Prints, HasCause, Completes, IsAssured};
 ghost use Rattle.batchcheck.specs.Code.{files_in, FailsPast};
 
-use crate::laws::lawful_texts_have_no_flaw;
+use crate::laws::{accepted_jobs_have_one_flaw, lawful_texts_have_no_flaw};
 use crate::verdict::{Verdict, stopped};
 use crate::words::{Check, check_in};
 use bt_io::{Shelf, Sink};
 use job_lang::laws::texts_have_one_job_or_fault;
 use program_io::{End, WordsErr, run_program, tell};
-use report_check::laws::texts_have_one_flaw;
 use std::alloc::Global;
 
 /// Checks the report of one file against the job of another, and writes the verdict on `out`, or the line that says why
@@ -83,7 +82,7 @@ pub fn batchcheck<I: Shelf, O: Sink, E: Sink>(
         (Rose (E.faults err.old) (E.faults err.new)) }
 {
     texts_have_one_job_or_fault();
-    texts_have_one_flaw();
+    accepted_jobs_have_one_flaw();
     lawful_texts_have_no_flaw();
     match check_in(words) {
         Some(check) => check_files(alloc, &check, shelf, out, err),

@@ -19,9 +19,9 @@ one_first job report flaw other first first' = elim (cases_order (rank flaw) (ra
   ]
 ]
 
-module _ (job : JobValue) (text : List ℕ) (one : (report report' : Report) → HasText text report → HasText text report' → report ≡ report') where
+module _ (job : JobValue) (text : List ℕ) (one : (report report' : Report) → HasText job text report → HasText job text report' → report ≡ report') where
   abbrev Found : Flaw → Type 0
-  Found flaw = ((flaw ≡ Text) × ((report : Report) → HasText text report → ⊥)) ⊎ ((report : Report) × HasText text report × FailsFirst job report flaw)
+  Found flaw = ((flaw ≡ Text) × ((report : Report) → HasText job text report → ⊥)) ⊎ ((report : Report) × HasText job text report × FailsFirst job report flaw)
 
   -- the flaw is that there is no report, or the first one of a report
   found : (flaw : Flaw) → IsFlawOf job text (Some flaw) → Found flaw

@@ -1,28 +1,32 @@
--- Lawful reports are raw: their numbers fit.
-use Rattle.std.proofs.Common.{◌≡◌, ◌≢◌, ℕ, zero, suc, ◌+◌, ◌*◌, ◌<◌, ◌≤◌, ◌^◌, inl, inr, List, [], ◌∷◌, length, get_or, map, Some, refl, sym, subst, arith}
+-- Lawful reports are raw: their numbers fit, and their operations are on objects of the job.
+use Rattle.std.proofs.Common.{◌≡◌, ◌≢◌, ℕ, zero, suc, ◌+◌, ◌*◌, ◌<◌, ◌≤◌, ◌^◌, inl, inr, List, [], ◌∷◌, length, get_or, map, Some, refl, sym, ap, subst, arith}
 use Rattle.std.specs.Prelude.{slice_get, Contains}
 use Rattle.std.specs.Option.{ForSome}
 use Rattle.std.specs.List.{AllByRecursion, range_with_len}
 use Rattle.std.proofs.lemmas.List.Elements.{recursion_from_All}
 use Rattle.std.proofs.lemmas.Option.{slice_get-get_or}
-use Rattle.seq_objects.specs.Objects.{argument_of, value_of}
+use Rattle.seq_objects.specs.Batches.{kind_of}
+use Rattle.seq_objects.specs.Objects.{argument_of, number_of, value_of}
 use Rattle.seq_objects.specs.Spin.{spin_of}
 use Rattle.seq_objects.specs.declared.act.Act.{Act}
 use Rattle.seq_objects.specs.declared.act.Act.TheVariants.{Work, Call}
 use Rattle.seq_objects.specs.declared.op.Op.{Op}
+use Rattle.seq_objects.specs.declared.op.Op.TheVariants.{CounterAdd, Push, Pop, TreeInsert, TreeRemove, TreeFind, TreeNext, PqInsert, PqTake}
 use Rattle.seq_objects.proofs.Elements.{each_so}
 use Rattle.sp_order.specs.Precedence.{leaf_count}
 use Rattle.sp_order.specs.Jobs.{JobValue}
+use Rattle.sp_order.specs.Sources.{with_value}
 use Rattle.sp_order.specs.Totals.{count_of_act}
 use Rattle.batch_history.specs.Book.{flat, IsBatch}
 use Rattle.batch_history.specs.Lawful.{Lawful}
 use Rattle.batch_history.specs.Operations.{op_of}
+use Rattle.batch_history.specs.Text.{HaveNames}
 use Rattle.batch_history.specs.declared.batch.Entry.{Entry}
 use Rattle.batch_history.specs.declared.report.Report.{Report}
 use Rattle.batch_history.specs.declared.row.Row.{Row}
 use Rattle.batch_history.proofs.ActLemmas.{IsGiven, called_as, narrow}
 use Rattle.batch_history.proofs.BookLemmas.EntryLists.{each_at, each_both}
-use Rattle.report_reader.specs.Raw.{FitsEntry, FitsRow, IsRaw}
+use Rattle.report_reader.specs.Raw.{FitsEntry, FitsRow, HasOwnObject, IsRaw}
 use Rattle.report_walks.proofs.CallWalk.{leaves_in, leaves_within}
 use Rattle.report_walks.proofs.RowWalk.{rows_long}
 use Rattle.report_walks.proofs.Timed.{row_each, start_each, end_each}
@@ -57,6 +61,30 @@ entry_of : (entries : List Entry) (leaf : ℕ) → Contains (leaves_in entries) 
 entry_of [] leaf (k, low, is) = absurd (omega (arith, low))
 entry_of (entry ∷ entries) leaf (zero, low, is) = (entry, (is, (0, omega arith, refl)))
 entry_of (entry ∷ entries) leaf (suc k, low, is) = let more = entry_of entries leaf (k, omega (arith, low), is) in (more.0, (more.1.0, (suc more.1.1.0, omega (arith, more.1.1.1), more.1.1.2)))
+
+-- an argument from a reply leaves the object
+abbrev AreOfOneObject : Op → Op → Type 0
+AreOfOneObject op other = (number_of op ≡ number_of other) × (kind_of op ≡ kind_of other)
+
+keeps_object : (op : Op) (value : ℕ) → AreOfOneObject (with_value op value) op
+keeps_object (CounterAdd number addend) value = (refl, refl)
+keeps_object (Push number item) value = (refl, refl)
+keeps_object (Pop number) value = (refl, refl)
+keeps_object (TreeInsert number key) value = (refl, refl)
+keeps_object (TreeRemove number key) value = (refl, refl)
+keeps_object (TreeFind number key) value = (refl, refl)
+keeps_object (TreeNext number key) value = (refl, refl)
+keeps_object (PqInsert number item) value = (refl, refl)
+keeps_object (PqTake number) value = (refl, refl)
+
+given_object : (op given : Op) → IsGiven op given → AreOfOneObject op given
+given_object op given (inl same) = (ap number_of same, ap kind_of same)
+given_object op given (inr value) = subst (λ (o : Op). AreOfOneObject o given) (sym value.1) (keeps_object given value.0)
+
+at_contained : (acts : List Act) (leaf : ℕ) (act : Act) → slice_get acts leaf ≡ Some act → Contains acts act
+at_contained [] leaf act is = cc
+at_contained (x ∷ acts) zero act is = let same : x ≡ act = cc in (0, omega arith, same)
+at_contained (x ∷ acts) (suc leaf) act is = let more = at_contained acts leaf act is in (suc more.0, omega (arith, more.1), more.2)
 
 module _ (job : JobValue) (report : Report) (small : IsSmallJob job) (few : report.workers ≤ 32) (lawful : Lawful job report.workers report)
     (replies : AllByRecursion (λ entry. value_of entry.reply < 2 ^ 64) (flat report.history)) where
@@ -118,11 +146,30 @@ module _ (job : JobValue) (report : Report) (small : IsSmallJob job) (few : repo
         value = row_value leaf row (get_or job.acts leaf (Work 0)) is (slice_get-get_or job.acts leaf (Work 0) (omega (arith, low, long, small.is_job.leaves)));
       }
 
-  pub raw_of_lawful : 1 ≤ report.workers → IsRaw report
-  raw_of_lawful some = record {
-    some = some;
-    few = few;
-    batches = each_so IsBatch (λ batch. batch ≢ []) (λ batch is. is.some) report.history lawful.batches;
-    entries = each_so Serves FitsEntry fits_entry (flat report.history) serves;
-    rows = recursion_from_All FitsRow report.rows (λ leaf d low. fits_row leaf (get_or report.rows leaf d) (slice_get-get_or report.rows leaf d low) low);
+  -- the object of an entry is that of its leaf's act
+  own_object : (entry : Entry) → Serves entry → number_of entry.op ≤ length job.names → HasOwnObject job entry.op
+  own_object entry is low =
+      let given = called_as job report.history entry.leaf entry.op is.1 in
+      let same = given_object entry.op given.0 given.1.1 in
+      record {
+        number = low;
+        called = λ some. record {
+          by = given.0;
+          among = at_contained job.acts entry.leaf (Call given.0) given.1.0;
+          number = sym same.0;
+          kind = sym same.1;
+        };
+      }
+
+  pub raw_of_lawful : HaveNames job.names (flat report.history) → 1 ≤ report.workers → IsRaw job report
+  raw_of_lawful names some = record {
+    fits = record {
+      some = some;
+      few = few;
+      batches = each_so IsBatch (λ batch. batch ≢ []) (λ batch is. is.some) report.history lawful.batches;
+      entries = each_so Serves FitsEntry fits_entry (flat report.history) serves;
+      rows = recursion_from_All FitsRow report.rows (λ leaf d low. fits_row leaf (get_or report.rows leaf d) (slice_get-get_or report.rows leaf d low) low);
+    };
+    objects = each_so (λ (entry : Entry). Serves entry × (number_of entry.op ≤ length job.names)) (λ (entry : Entry). HasOwnObject job entry.op) (λ entry is. own_object entry is.0 is.1) (flat report.history)
+        (each_both Serves (λ (entry : Entry). number_of entry.op ≤ length job.names) (flat report.history) serves names);
   }

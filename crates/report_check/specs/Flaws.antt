@@ -41,6 +41,6 @@ pub record FailsFirst (job : JobValue) (report : Report) (flaw : Flaw) : Type 0 
 -- job and its own number of workers. The flaw is `Text` where the text is that of no raw report, and else the first
 -- flaw of the report whose text it is.
 abbrev pub IsFlawOf : JobValue → List ℕ → Option Flaw → Type 0
-IsFlawOf job text None = (report : Report) × HasText text report × Lawful job report.workers report
-IsFlawOf job text (Some Text) = (report : Report) → HasText text report → ⊥
-IsFlawOf job text (Some flaw) = (report : Report) × HasText text report × FailsFirst job report flaw
+IsFlawOf job text None = (report : Report) × HasText job text report × Lawful job report.workers report
+IsFlawOf job text (Some Text) = (report : Report) → HasText job text report → ⊥
+IsFlawOf job text (Some flaw) = (report : Report) × HasText job text report × FailsFirst job report flaw

@@ -20,7 +20,7 @@ use std::alloc::{AllocError, Global};
 pub fn check(alloc: Global, job: &Job, raw: &RawReport) -> Result<Option<Flaw>, AllocError>
     ensures lawful { IfOk result (λ flaw. IfNone flaw (Lawful job.now raw.now.workers raw.now)) }
     ensures flaw { IfOk result (λ flaw. IfSome flaw (FailsFirst job.now raw.now)) }
-    ensures text { (text : List ℕ) → HasText text raw.now → IfOk result (IsFlawOf job.now text) }
+    ensures text { (text : List ℕ) → HasText job.now text raw.now → IfOk result (IsFlawOf job.now text) }
 {
     let (book, rows) = (raw.batches(), raw.rows());
     if !has_rows(alloc, job, raw.workers(), rows)? {

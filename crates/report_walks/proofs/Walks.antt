@@ -77,7 +77,7 @@ batch_done P book i left far = left.0 (begun (λ b. AllByRecursion P (flat b)) b
 
 -- an entry and a row, for what is read past the end of a list
 abbrev pub no_entry : Entry
-no_entry = record { leaf = 0; worker = 0; op = CounterAdd 0; reply = reply.Number 0 }
+no_entry = record { leaf = 0; worker = 0; op = CounterAdd 0 0; reply = reply.Number 0 }
 
 abbrev pub no_row : Row
 no_row = record { leaf = 0; worker = 0; start = 0; end = 0; value = 0 }

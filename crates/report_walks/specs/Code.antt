@@ -5,3 +5,4 @@ pub mod Calls
 pub mod Ticks
 pub mod Neighbours
 pub mod Maps
+pub mod Rooms

@@ -11,7 +11,7 @@ returns-in-Some-clause-completes g c =
       one_job = jobs.one_job;
       one_fault = jobs.one_fault;
       not_both = jobs.not_both;
-      one_flaw = c.texts_have_one_flaw.ensures;
+      one_flaw = c.accepted_jobs_have_one_flaw.ensures;
       no_flaw = c.lawful_texts_have_no_flaw.ensures;
     } in
     let run = c.check_files.ensures in
@@ -28,7 +28,7 @@ returns-in-Some-clause-assured g c =
       one_job = jobs.one_job;
       one_fault = jobs.one_fault;
       not_both = jobs.not_both;
-      one_flaw = c.texts_have_one_flaw.ensures;
+      one_flaw = c.accepted_jobs_have_one_flaw.ensures;
       no_flaw = c.lawful_texts_have_no_flaw.ensures;
     } in
     let run = c.check_files.ensures in

@@ -1,4 +1,4 @@
-use Rattle.std.proofs.Common.{◌≡◌, sym}
+use Rattle.std.proofs.Common.{sym}
 use Rattle.std.proofs.lemmas.Bool.{iff_false}
 use Rattle.report_check.proofs.Parts.{Sees, rows_part, order_part, calls_part, ticks_part, fails_rows, fails_order, fails_calls, fails_replies, fails_ticks, fails_batches, fails_values, is_lawful}
 use Rattle.report_check.proofs.Entries.{long, few, leaves_below, batch_below}

@@ -7,9 +7,10 @@ use Rattle.batch_history.specs.declared.batch.Entry.{Entry}
 use Rattle.batch_history.specs.declared.report.Report.{Report}
 use Rattle.report_picture.specs.Markup.{text_of}
 use Rattle.report_picture.specs.Boxes.{span_of, scale_of}
-use Rattle.report_picture.specs.Picture.{box_drawing, bare_drawing, has_boxes, picture}
-use Rattle.report_picture.specs.Code.Texts.{drawing_text, bare_text}
-use Rattle.report_picture.proofs.Written.{drawing_is, bare_is}
+use Rattle.report_picture.specs.Picture.{box_drawing, column_drawing, has_boxes, picture}
+use Rattle.report_picture.specs.Code.Texts.{drawing_text, columns_text}
+use Rattle.report_picture.proofs.Written.{drawing_is}
+use Rattle.report_picture.proofs.ColumnTexts.{columns_are}
 
 both : (a b : Bool) → (a && b) ≡ true → (a ≡ true) × (b ≡ true)
 both true true e = (refl, refl)
@@ -31,13 +32,13 @@ few_batches [] some = omega arith
 few_batches ([] ∷ book) some = absurd (some.0 refl)
 few_batches ((entry ∷ entries) ∷ book) some = let h = few_batches book some.1 in omega (arith, h, length-append entries (flat book))
 
-pub boxed : (report : Report) → has_boxes report ≡ true → picture report ≡ drawing_text (span_of (length report.rows)) (scale_of (span_of (length report.rows))) report
+pub boxed : (names : List (List ℕ)) (report : Report) → has_boxes report ≡ true → picture names report ≡ drawing_text names (span_of (length report.rows)) (scale_of (span_of (length report.rows))) report
 unfolding picture
-boxed report e =
-    ap (λ b. text_of (if b then box_drawing (span_of (length report.rows)) (scale_of (span_of (length report.rows))) report else bare_drawing report)) e
-    ∙ drawing_is (span_of (length report.rows)) (scale_of (span_of (length report.rows))) report
+boxed names report e =
+    ap (λ b. text_of (if b then box_drawing names (span_of (length report.rows)) (scale_of (span_of (length report.rows))) report else column_drawing report)) e
+    ∙ drawing_is names (span_of (length report.rows)) (scale_of (span_of (length report.rows))) report
 
-pub bare : (report : Report) → has_boxes report ≡ false → picture report ≡ bare_text report
+pub joined : (names : List (List ℕ)) (report : Report) → has_boxes report ≡ false → picture names report ≡ columns_text report
 unfolding picture
-bare report e =
-    ap (λ b. text_of (if b then box_drawing (span_of (length report.rows)) (scale_of (span_of (length report.rows))) report else bare_drawing report)) e ∙ bare_is report
+joined names report e =
+    ap (λ b. text_of (if b then box_drawing names (span_of (length report.rows)) (scale_of (span_of (length report.rows))) report else column_drawing report)) e ∙ columns_are report

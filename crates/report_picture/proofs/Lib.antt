@@ -3,5 +3,8 @@ pub mod BracketLaws
 pub mod Choice
 pub mod Finding
 pub mod Ranges
+pub mod DrawnNames
 pub mod WellFormed
+pub mod Wording
 pub mod Written
+pub mod ColumnTexts

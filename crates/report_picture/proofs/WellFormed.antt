@@ -1,11 +1,13 @@
 -- The text of markup is well-formed.
 use Rattle.std.proofs.Common.{ℕ, zero, suc, ◌≡◌, ◌≢◌, ◌+◌, ◌/◌, ◌%◌, ◌<◌, Bool, true, false, List, [], ◌∷◌, ◌++◌, refl, sym, subst, append_assoc, arith}
-use Rattle.std.specs.Prelude.{codes, IsTrue, ◌==◌, if◌then◌else◌, nat_lt}
+use Rattle.std.specs.Prelude.{codes, IsTrue, ◌&&◌, ◌==◌, if◌then◌else◌, nat_lt}
 use Rattle.std.specs.Fmt.{decimal, digits, digits_onto, digit_glyph}
 use Rattle.batch_history.specs.declared.report.Report.{Report}
 use Rattle.report_picture.specs.Markup.{Part, Say, Number, Tag, Svg, Group, Title, Label, Rect, Path, Key, Namespace, Version, Width, Height, ViewBox, X, Y, Transform, Fill, Stroke, Data, Family, Size, Anchor, Attribute, Markup, Nothing, Words, Element, tag_name, key_name, escaped_byte, escaped, parts_onto, attributes_onto, markup_onto, text_of}
-use Rattle.report_picture.specs.WellFormed.{IsPlain, amp, lt, gt, quot, apos, AreWords, no_words, plain, named, is_name, AreAttributes, no_attributes, another, AreContents, no_contents, some_words, element}
+use Rattle.report_picture.specs.WellFormed.{IsPlain, amp, lt, gt, quot, apos, AreWords, no_words, plain, named, is_name, is_new, AreAttributes, no_attributes, another, AreContents, no_contents, some_words, element}
+use Rattle.report_picture.specs.Names.{names_of, are_apart, NamesDiffer}
 use Rattle.report_picture.specs.Picture.{drawing, picture}
+use Rattle.report_picture.proofs.DrawnNames.{names_differ}
 use Rattle.report_picture.proofs.Written.{parts_behind, attributes_behind, markup_behind}
 
 both_words : (first second : List ℕ) → AreWords first → AreWords second → AreWords (first ++ second)
@@ -86,19 +88,26 @@ key_is_name Family = refl
 key_is_name Size = refl
 key_is_name Anchor = refl
 
-are_attributes : (list : List Attribute) → AreAttributes (attributes_onto list [])
-are_attributes [] = no_attributes
-are_attributes (attribute ∷ list) =
+both : (a b : Bool) → (a && b) ≡ true → (a ≡ true) × (b ≡ true)
+both true true e = (refl, refl)
+both true false e = cc
+both false b e = cc
+
+are_attributes : (list : List Attribute) → IsTrue (are_apart (names_of list)) → AreAttributes (names_of list) (attributes_onto list [])
+are_attributes [] apart = no_attributes
+are_attributes (attribute ∷ list) apart =
+    let differ = both (is_new (key_name attribute.key) (names_of list)) (are_apart (names_of list)) apart in
     let more = codes "\"" ++ attributes_onto list [] in
     let e : parts_onto attribute.value more ≡ parts_onto attribute.value [] ++ more = parts_behind attribute.value [] more in
-    subst (λ t. AreAttributes (codes " " ++ (key_name attribute.key ++ (codes "=\"" ++ t)))) (sym e)
-    (another (key_name attribute.key) (parts_onto attribute.value []) (attributes_onto list []) (key_is_name attribute.key) (parts_words attribute.value) (are_attributes list))
+    subst (λ t. AreAttributes (names_of (attribute ∷ list)) (codes " " ++ (key_name attribute.key ++ (codes "=\"" ++ t)))) (sym e)
+    (another (key_name attribute.key) (parts_onto attribute.value []) (attributes_onto list []) (names_of list) (key_is_name attribute.key) differ.0
+    (parts_words attribute.value) (are_attributes list differ.1))
 
-pub are_contents : (markup : Markup) → AreContents (markup_onto markup [])
-are_contents Nothing = no_contents
-are_contents (Words parts behind) =
-    subst AreContents (sym (parts_behind parts [] (markup_onto behind []))) (some_words (parts_onto parts []) (markup_onto behind []) (parts_words parts) (are_contents behind))
-are_contents (Element tag list inside behind) =
+pub are_contents : (markup : Markup) → NamesDiffer markup → AreContents (markup_onto markup [])
+are_contents Nothing differ = no_contents
+are_contents (Words parts behind) differ =
+    subst AreContents (sym (parts_behind parts [] (markup_onto behind []))) (some_words (parts_onto parts []) (markup_onto behind []) (parts_words parts) (are_contents behind differ))
+are_contents (Element tag list inside behind) differ =
     let name = tag_name tag in
     let rest = codes "\n" ++ markup_onto behind [] in
     let newline : AreWords (codes "\n") = plain 10 [] (record { ampersand = λ e. omega (arith, e); less = λ e. omega (arith, e); greater = λ e. omega (arith, e); quote = λ e. omega (arith, e); apostrophe = λ e. omega (arith, e) }) no_words in
@@ -108,13 +117,13 @@ are_contents (Element tag list inside behind) =
     let f : attributes_onto list filled ≡ attributes_onto list [] ++ filled = attributes_behind list [] filled in
     subst (λ t. AreContents (codes "<" ++ (name ++ t))) (sym f)
     (subst (λ t. AreContents (codes "<" ++ (name ++ (attributes_onto list [] ++ (codes ">" ++ t))))) (sym e)
-    (element name (attributes_onto list []) (markup_onto inside []) rest (tag_is_name tag) (are_attributes list) (are_contents inside)
-    (some_words (codes "\n") (markup_onto behind []) newline (are_contents behind))))
+    (element name (attributes_onto list []) (markup_onto inside []) rest (names_of list) (tag_is_name tag) (are_attributes list differ.0)
+    (are_contents inside differ.1) (some_words (codes "\n") (markup_onto behind []) newline (are_contents behind differ.2))))
 
-pub texts_are_contents : (markup : Markup) → AreContents (text_of markup)
+pub texts_are_contents : (markup : Markup) → NamesDiffer markup → AreContents (text_of markup)
 unfolding text_of
-texts_are_contents markup = are_contents markup
+texts_are_contents markup differ = are_contents markup differ
 
-pub pictures_are_contents : (report : Report) → AreContents (picture report)
+pub pictures_are_contents : (names : List (List ℕ)) (report : Report) → AreContents (picture names report)
 unfolding picture
-pictures_are_contents report = texts_are_contents (drawing report)
+pictures_are_contents names report = texts_are_contents (drawing names report) (names_differ names report)

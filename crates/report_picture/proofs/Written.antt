@@ -11,10 +11,10 @@ use Rattle.batch_history.specs.declared.place.Place.{Place}
 use Rattle.batch_history.specs.declared.row.Row.{Row}
 use Rattle.batch_history.specs.declared.report.Report.{Report}
 use Rattle.report_picture.specs.Markup.{Part, Say, Number, Tag, Attribute, Markup, Nothing, Words, Element, escaped, key_name, tag_name, parts_onto, attributes_onto, markup_onto, text_of, each}
-use Rattle.report_picture.specs.Boxes.{lane_top, across, batch_colour, box_for, box_of, Bracket, brackets_of, sized, bar_width}
-use Rattle.report_picture.specs.Drawing.{draw_box, draw_line, draw_words, draw_lane, draw_tick, draw_ticks, draw_rect, call_title, draw_calls, draw_number, draw_bracket, draw_legend, draw_bar, draw_bars}
-use Rattle.report_picture.specs.Code.Texts.{rect_front, ticks_text, work_text, called_text, box_text, words_front, light_end, lane_text, tick_text, call_front, served_text, call_text, calls_text, number_text, line_text, under_text, bracket_line, bracket_text, legend_text, lanes_text, marks_text, boxes_text, group_text, strip_name, brackets_text, sheet_start, sheet_style, sheet_top, sheet_front, caption_text, drawing_text, note_text, bar_end, bar_text, bars_text, bare_text}
-use Rattle.report_picture.specs.Picture.{sheet, caption, draw_boxes, box_drawing, bare_drawing}
+use Rattle.report_picture.specs.Boxes.{lane_top, across, batch_colour, box_for, box_of, Bracket, brackets_of}
+use Rattle.report_picture.specs.Drawing.{draw_box, draw_line, draw_words, draw_lane, draw_tick, draw_ticks, draw_rect, call_title, draw_calls, draw_number, draw_bracket, draw_legend}
+use Rattle.report_picture.specs.Code.Texts.{rect_front, ticks_text, work_text, called_text, box_text, words_front, light_end, lane_text, tick_text, call_front, served_text, call_text, calls_text, number_text, line_text, under_text, bracket_line, bracket_text, legend_text, lanes_text, marks_text, boxes_text, group_text, strip_name, brackets_text, sheet_start, sheet_style, sheet_top, sheet_front, caption_text, drawing_text}
+use Rattle.report_picture.specs.Picture.{sheet, caption, draw_boxes, box_drawing}
 
 -- what is drawn of each of several things is one text behind another
 pub each_drawn : {A : Type 0} (draw : A → Markup → Markup) (line : A → List ℕ)
@@ -81,52 +81,17 @@ pub words_behind : (left base : ℕ) (rest : List ℕ) → words_front left base
 unfolding words_front
 words_behind left base rest = simp append_assoc refl
 
-work_is : (row : Row) → work_text row ≡ markup_onto (draw_box (box_for None row) Nothing) []
+work_is : (row : Row) → work_text row ≡ markup_onto (draw_box (box_for [] None row) Nothing) []
 unfolding ticks_text work_text
 work_is row = rect_behind row.start (lane_top row.worker + 9) (row.end - row.start) 10 (codes "#6e7781") (codes "<title>leaf " ++ (decimal row.leaf ++ (codes ": work" ++ ticks_text row)))
-
-called_is : (place : Place) (row : Row) → called_text place row ≡ markup_onto (draw_box (box_for (Some place) row) Nothing) []
-unfolding ticks_text called_text
-called_is place row = rect_behind row.start (lane_top row.worker + 4) (row.end - row.start) 20 (batch_colour place.batch)
-    (codes "<title>leaf " ++ (decimal row.leaf ++ (codes ": " ++ (escaped (op_words place.entry.op) ++ (codes ", batch " ++ (decimal place.batch ++ ticks_text row))))))
-
-box_is : (found : Option Place) (row : Row) → box_text found row ≡ markup_onto (draw_box (box_for found row) Nothing) []
-box_is None row = work_is row
-box_is (Some place) row = called_is place row
-
-pub box_drawn : (found : Option Place) (row : Row) (behind : Markup) (rest : List ℕ)
-    → markup_onto (draw_box (box_for found row) behind) rest ≡ box_text found row ++ markup_onto behind rest
-box_drawn found row behind rest =
-    markup_behind (draw_box (box_for found row) Nothing) [] (markup_onto behind rest) ∙ ap (λ t. t ++ markup_onto behind rest) (sym (box_is found row))
 
 pub lane_drawn : (right worker : ℕ) (behind : Markup) (rest : List ℕ) → markup_onto (draw_lane right worker behind) rest ≡ lane_text right worker ++ markup_onto behind rest
 unfolding words_front light_end lane_text
 lane_drawn right worker behind rest = simp append_assoc refl
 
-pub tick_drawn : (scale foot tick : ℕ) (behind : Markup) (rest : List ℕ) → markup_onto (draw_tick scale foot tick behind) rest ≡ tick_text scale foot tick ++ markup_onto behind rest
+pub tick_drawn : (left foot tick : ℕ) (behind : Markup) (rest : List ℕ) → markup_onto (draw_tick left foot tick behind) rest ≡ tick_text left foot tick ++ markup_onto behind rest
 unfolding words_front light_end tick_text
-tick_drawn scale foot tick behind rest = simp append_assoc refl
-
-call_is : (scale foot batch place serial : ℕ) (entry : Entry) → call_text scale foot batch place serial entry
-    ≡ markup_onto (draw_rect (across (2 * scale) serial) (foot + 44) (2 * scale - 1) 20 (batch_colour batch) (call_title batch place entry) Nothing) []
-unfolding call_front served_text call_text
-call_is scale foot batch place serial entry = rect_behind (across (2 * scale) serial) (foot + 44) (2 * scale - 1) 20 (batch_colour batch)
-    (codes "<title>batch " ++ (decimal batch ++ (codes " place " ++ (decimal place ++ (codes ": leaf " ++ (decimal entry.leaf ++ (codes " of worker " ++ (decimal entry.worker ++ served_text entry))))))))
-
-call_drawn : (scale foot batch place serial : ℕ) (entry : Entry) (behind : Markup) (rest : List ℕ)
-    → markup_onto (draw_rect (across (2 * scale) serial) (foot + 44) (2 * scale - 1) 20 (batch_colour batch) (call_title batch place entry) behind) rest
-    ≡ call_text scale foot batch place serial entry ++ markup_onto behind rest
-call_drawn scale foot batch place serial entry behind rest =
-    markup_behind (draw_rect (across (2 * scale) serial) (foot + 44) (2 * scale - 1) 20 (batch_colour batch) (call_title batch place entry) Nothing) [] (markup_onto behind rest)
-    ∙ ap (λ t. t ++ markup_onto behind rest) (sym (call_is scale foot batch place serial entry))
-
-calls_drawn : (scale foot batch place serial : ℕ) (entries : List Entry) (behind : Markup) (rest : List ℕ)
-    → markup_onto (draw_calls scale foot batch place serial entries behind) rest ≡ calls_text scale foot batch place serial entries ++ markup_onto behind rest
-calls_drawn scale foot batch place serial [] behind rest = refl
-calls_drawn scale foot batch place serial (entry ∷ entries) behind rest =
-    call_drawn scale foot batch place serial entry (draw_calls scale foot batch (place + 1) (serial + 1) entries behind) rest
-    ∙ (ap (λ t. call_text scale foot batch place serial entry ++ t) (calls_drawn scale foot batch (place + 1) (serial + 1) entries behind rest)
-    ∙ sym (append_assoc (call_text scale foot batch place serial entry) (calls_text scale foot batch (place + 1) (serial + 1) entries) (markup_onto behind rest)))
+tick_drawn left foot tick behind rest = simp append_assoc refl
 
 legend_is : (foot : ℕ) → legend_text foot ≡ markup_onto (draw_legend foot Nothing) []
 unfolding legend_text
@@ -164,24 +129,7 @@ under_drawn foot left right batch rest =
     ∙ (ap (λ t. line_text left (foot + 67) right ++ t) (number_drawn left (foot + 89) batch (nat_le 32 (right - left)) Nothing rest)
     ∙ sym (append_assoc (line_text left (foot + 67) right) (if nat_le 32 (right - left) then number_text left (foot + 89) batch else []) rest))
 
-bracket_is : (scale foot : ℕ) (bracket : Bracket) → bracket_text scale foot bracket ≡ markup_onto (draw_bracket scale foot bracket Nothing) []
-unfolding bracket_line bracket_text
-bracket_is scale foot bracket =
-    let left = across (2 * scale) bracket.first in
-    let right = across (2 * scale) (bracket.first + length bracket.entries) - 3 in
-    let calls = calls_text scale foot bracket.batch 0 bracket.first bracket.entries in
-    let under : Markup = draw_line (Say (codes "M") ∷ Number left ∷ Say (codes " ") ∷ Number (foot + 67) ∷ Say (codes "v6H") ∷ Number right ∷ Say (codes "v-6") ∷ []) (codes "#57606a")
-    (draw_number left (right - left) (foot + 89) bracket.batch Nothing) in
-    let inner : markup_onto (draw_calls scale foot bracket.batch 0 bracket.first bracket.entries under) (codes "</g>\n") ≡ calls ++ (under_text foot left right bracket.batch ++ codes "</g>\n") =
-    calls_drawn scale foot bracket.batch 0 bracket.first bracket.entries under (codes "</g>\n") ∙ ap (λ t. calls ++ t) (under_drawn foot left right bracket.batch (codes "</g>\n")) in
-    sym (ap (λ t. codes "<g><title>batch " ++ (decimal bracket.batch ++ (codes "</title>\n" ++ t))) inner)
-
-pub bracket_drawn : (scale foot : ℕ) (bracket : Bracket) (behind : Markup) (rest : List ℕ)
-    → markup_onto (draw_bracket scale foot bracket behind) rest ≡ bracket_text scale foot bracket ++ markup_onto behind rest
-bracket_drawn scale foot bracket behind rest =
-    markup_behind (draw_bracket scale foot bracket Nothing) [] (markup_onto behind rest) ∙ ap (λ t. t ++ markup_onto behind rest) (sym (bracket_is scale foot bracket))
-
-sheet_is : (width height : ℕ) (inside : Markup) → markup_onto (sheet width height inside) [] ≡ sheet_front width height ++ markup_onto inside (codes "</svg>\n")
+pub sheet_is : (width height : ℕ) (inside : Markup) → markup_onto (sheet width height inside) [] ≡ sheet_front width height ++ markup_onto inside (codes "</svg>\n")
 unfolding sheet_start sheet_style sheet_top sheet_front
 sheet_is width height inside =
     let end = markup_onto inside (codes "</svg>\n") in
@@ -196,7 +144,7 @@ plain_drawn left base parts behind rest =
     markup_behind (draw_words left base parts Nothing) [] (markup_onto behind rest)
     ∙ ap (λ t. t ++ markup_onto behind rest) (sym (words_behind left base (parts_onto parts (codes "</text>\n"))))
 
-caption_drawn : (report : Report) (behind : Markup) (rest : List ℕ) → markup_onto (draw_words 16 28 (caption report) behind) rest
+pub caption_drawn : (report : Report) (behind : Markup) (rest : List ℕ) → markup_onto (draw_words 16 28 (caption report) behind) rest
     ≡ caption_text report.workers (length report.rows) (length (flat report.history)) (length report.history) ++ markup_onto behind rest
 unfolding caption_text
 caption_drawn report behind rest = plain_drawn 16 28 (caption report) behind rest
@@ -205,93 +153,110 @@ strip_drawn : (foot : ℕ) (behind : Markup) (rest : List ℕ) → markup_onto (
 unfolding strip_name
 strip_drawn foot behind rest = plain_drawn 16 (foot + 59) (Say (codes "batches") ∷ []) behind rest
 
-boxes_are : (book : List (List Entry)) (rows : List Row) (rest : List ℕ) → markup_onto (each draw_box (map (box_of book) rows) Nothing) rest ≡ boxes_text book rows ++ rest
-unfolding boxes_text
-boxes_are book [] rest = refl
-boxes_are book (row ∷ rows) rest =
-    box_drawn (place_of book row.leaf) row (each draw_box (map (box_of book) rows) Nothing) rest
-    ∙ (ap (λ t. box_text (place_of book row.leaf) row ++ t) (boxes_are book rows rest) ∙ sym (append_assoc (box_text (place_of book row.leaf) row) (flat_map (λ r. box_text (place_of book r.leaf) r) rows) rest))
-
-group_drawn : (scale : ℕ) (report : Report) (behind : Markup) (rest : List ℕ)
-    → markup_onto (draw_boxes scale report behind) rest ≡ group_text scale report.history report.rows ++ markup_onto behind rest
-unfolding group_text
-group_drawn scale report behind rest =
-    markup_behind (draw_boxes scale report Nothing) [] (markup_onto behind rest)
-    ∙ ap (λ t. (codes "<g transform=\"translate(96 0) scale(" ++ (decimal scale ++ (codes " 1)\">" ++ t))) ++ markup_onto behind rest) (boxes_are report.history report.rows (codes "</g>\n"))
-
 ticks_drawn : (scale foot span : ℕ) (behind : Markup) (rest : List ℕ) → markup_onto (draw_ticks scale foot span behind) rest ≡ marks_text scale foot span ++ markup_onto behind rest
 unfolding marks_text
 ticks_drawn scale foot span behind rest =
-    each_drawn (λ mark. draw_tick scale foot (mark * (span / 8 + 1))) (λ mark. tick_text scale foot (mark * (span / 8 + 1)))
-    (λ mark b r. tick_drawn scale foot (mark * (span / 8 + 1)) b r) (range_with_len 0 8) behind rest
+    each_drawn (λ mark. draw_tick (across scale (mark * (span / 8 + 1))) foot (mark * (span / 8 + 1)))
+    (λ mark. tick_text (across scale (mark * (span / 8 + 1))) foot (mark * (span / 8 + 1)))
+    (λ mark b r. tick_drawn (across scale (mark * (span / 8 + 1))) foot (mark * (span / 8 + 1)) b r) (range_with_len 0 8) behind rest
 
-lanes_drawn : (right workers : ℕ) (behind : Markup) (rest : List ℕ) → markup_onto (each (draw_lane right) (range_with_len 0 workers) behind) rest ≡ lanes_text right workers ++ markup_onto behind rest
+pub lanes_drawn : (right workers : ℕ) (behind : Markup) (rest : List ℕ) → markup_onto (each (draw_lane right) (range_with_len 0 workers) behind) rest ≡ lanes_text right workers ++ markup_onto behind rest
 unfolding lanes_text
 lanes_drawn right workers behind rest = each_drawn (draw_lane right) (lane_text right) (λ worker b r. lane_drawn right worker b r) (range_with_len 0 workers) behind rest
 
-brackets_drawn : (scale foot : ℕ) (brackets : List Bracket) (behind : Markup) (rest : List ℕ)
-    → markup_onto (each (draw_bracket scale foot) brackets behind) rest ≡ brackets_text scale foot brackets ++ markup_onto behind rest
-unfolding brackets_text
-brackets_drawn scale foot brackets behind rest = each_drawn (draw_bracket scale foot) (bracket_text scale foot) (λ bracket b r. bracket_drawn scale foot bracket b r) brackets behind rest
+-- the parts that name objects
+module _ (names : List (List ℕ)) where
+  called_is : (place : Place) (row : Row) → called_text names place row ≡ markup_onto (draw_box (box_for names (Some place) row) Nothing) []
+  unfolding ticks_text called_text
+  called_is place row = rect_behind row.start (lane_top row.worker + 4) (row.end - row.start) 20 (batch_colour place.batch)
+      (codes "<title>leaf " ++ (decimal row.leaf ++ (codes ": " ++ (escaped (op_words names place.entry.op) ++ (codes ", batch " ++ (decimal place.batch ++ ticks_text row))))))
 
--- the text of the drawing with boxes
-pub drawing_is : (span scale : ℕ) (report : Report) → text_of (box_drawing span scale report) ≡ drawing_text span scale report
-unfolding text_of drawing_text
-drawing_is span scale report =
-    let foot = lane_top report.workers in
-    let right = across scale span in
-    let end = codes "</svg>\n" in
-    let m8 : Markup = draw_legend foot Nothing in
-    let m7 : Markup = each (draw_bracket scale foot) (brackets_of report) m8 in
-    let m6 : Markup = draw_words 16 (foot + 59) (Say (codes "batches") ∷ []) m7 in
-    let m5 : Markup = draw_boxes scale report m6 in
-    let m4 : Markup = each (draw_lane right) (range_with_len 0 report.workers) m5 in
-    let m3 : Markup = draw_ticks scale foot span m4 in
-    let m2 : Markup = draw_words 16 28 (caption report) m3 in
-    let captioned = caption_text report.workers (length report.rows) (length (flat report.history)) (length report.history) in
-    sheet_is (right + 24) (foot + 140) m2
-    ∙ ap (λ t. sheet_front (right + 24) (foot + 140) ++ t) (caption_drawn report m3 end
-    ∙ ap (λ t. captioned ++ t) (ticks_drawn scale foot span m4 end
-    ∙ ap (λ t. marks_text scale foot span ++ t) (lanes_drawn right report.workers m5 end
-    ∙ ap (λ t. lanes_text right report.workers ++ t) (group_drawn scale report m6 end
-    ∙ ap (λ t. group_text scale report.history report.rows ++ t) (strip_drawn foot m7 end
-    ∙ ap (λ t. strip_name foot ++ t) (brackets_drawn scale foot (brackets_of report) m8 end
-    ∙ ap (λ t. brackets_text scale foot (brackets_of report) ++ t) (legend_drawn foot Nothing end)))))))
+  box_is : (found : Option Place) (row : Row) → box_text names found row ≡ markup_onto (draw_box (box_for names found row) Nothing) []
+  box_is None row = work_is row
+  box_is (Some place) row = called_is place row
 
-note_drawn : (behind : Markup) (rest : List ℕ)
-    → markup_onto (draw_words 16 60 (Say (codes "batches by their number of calls (no boxes are drawn past 2000 leaves)") ∷ []) behind) rest ≡ note_text ++ markup_onto behind rest
-unfolding note_text
-note_drawn behind rest = plain_drawn 16 60 (Say (codes "batches by their number of calls (no boxes are drawn past 2000 leaves)") ∷ []) behind rest
+  pub box_drawn : (found : Option Place) (row : Row) (behind : Markup) (rest : List ℕ)
+      → markup_onto (draw_box (box_for names found row) behind) rest ≡ box_text names found row ++ markup_onto behind rest
+  box_drawn found row behind rest =
+      markup_behind (draw_box (box_for names found row) Nothing) [] (markup_onto behind rest) ∙ ap (λ t. t ++ markup_onto behind rest) (sym (box_is found row))
 
-bar_is : (mark count batches : ℕ) → bar_text mark count batches ≡ markup_onto (draw_bar mark count batches Nothing) []
-unfolding bar_text bar_end
-bar_is mark count batches =
-    let base = 96 + 20 * mark in
-    let width = bar_width count batches in
-    let last = words_front (104 + width) base ++ (decimal count ++ codes "</text>\n</g>\n") in
-    ap (λ t. codes "<g>" ++ (words_front 16 base ++ (decimal (mark + 1) ++ (codes "</text>\n" ++ (rect_front 96 (84 + 20 * mark) width 14 (codes "#6e7781") ++ (codes "</rect>\n" ++ t))))))
-    (words_behind (104 + width) base (decimal count ++ codes "</text>\n</g>\n"))
-    ∙ (ap (λ t. codes "<g>" ++ (words_front 16 base ++ (decimal (mark + 1) ++ (codes "</text>\n" ++ t)))) (rect_behind 96 (84 + 20 * mark) width 14 (codes "#6e7781") _)
-    ∙ ap (λ t. codes "<g>" ++ t) (words_behind 16 base _))
+  call_is : (scale foot batch place serial : ℕ) (entry : Entry) → call_text names scale foot batch place serial entry
+      ≡ markup_onto (draw_rect (across (2 * scale) serial) (foot + 44) (2 * scale - 1) 20 (batch_colour batch) (call_title names batch place entry) Nothing) []
+  unfolding call_front served_text call_text
+  call_is scale foot batch place serial entry = rect_behind (across (2 * scale) serial) (foot + 44) (2 * scale - 1) 20 (batch_colour batch)
+      (codes "<title>batch " ++ (decimal batch ++ (codes " place " ++ (decimal place ++ (codes ": leaf " ++ (decimal entry.leaf ++ (codes " of worker " ++ (decimal entry.worker ++ served_text names entry))))))))
 
-bar_drawn : (mark count batches : ℕ) (behind : Markup) (rest : List ℕ) → markup_onto (draw_bar mark count batches behind) rest ≡ bar_text mark count batches ++ markup_onto behind rest
-bar_drawn mark count batches behind rest =
-    markup_behind (draw_bar mark count batches Nothing) [] (markup_onto behind rest) ∙ ap (λ t. t ++ markup_onto behind rest) (sym (bar_is mark count batches))
+  call_drawn : (scale foot batch place serial : ℕ) (entry : Entry) (behind : Markup) (rest : List ℕ)
+      → markup_onto (draw_rect (across (2 * scale) serial) (foot + 44) (2 * scale - 1) 20 (batch_colour batch) (call_title names batch place entry) behind) rest
+      ≡ call_text names scale foot batch place serial entry ++ markup_onto behind rest
+  call_drawn scale foot batch place serial entry behind rest =
+      markup_behind (draw_rect (across (2 * scale) serial) (foot + 44) (2 * scale - 1) 20 (batch_colour batch) (call_title names batch place entry) Nothing) [] (markup_onto behind rest)
+      ∙ ap (λ t. t ++ markup_onto behind rest) (sym (call_is scale foot batch place serial entry))
 
-bars_drawn : (book : List (List Entry)) (behind : Markup) (rest : List ℕ) → markup_onto (draw_bars book behind) rest ≡ bars_text book ++ markup_onto behind rest
-unfolding bars_text
-bars_drawn book behind rest =
-    each_drawn (λ mark. draw_bar mark (sized (mark + 1) book) (length book)) (λ mark. bar_text mark (sized (mark + 1) book) (length book))
-    (λ mark b r. bar_drawn mark (sized (mark + 1) book) (length book) b r) (range_with_len 0 32) behind rest
+  calls_drawn : (scale foot batch place serial : ℕ) (entries : List Entry) (behind : Markup) (rest : List ℕ)
+      → markup_onto (draw_calls names scale foot batch place serial entries behind) rest ≡ calls_text names scale foot batch place serial entries ++ markup_onto behind rest
+  calls_drawn scale foot batch place serial [] behind rest = refl
+  calls_drawn scale foot batch place serial (entry ∷ entries) behind rest =
+      call_drawn scale foot batch place serial entry (draw_calls names scale foot batch (place + 1) (serial + 1) entries behind) rest
+      ∙ (ap (λ t. call_text names scale foot batch place serial entry ++ t) (calls_drawn scale foot batch (place + 1) (serial + 1) entries behind rest)
+      ∙ sym (append_assoc (call_text names scale foot batch place serial entry) (calls_text names scale foot batch (place + 1) (serial + 1) entries) (markup_onto behind rest)))
 
--- the text of the drawing without boxes
-pub bare_is : (report : Report) → text_of (bare_drawing report) ≡ bare_text report
-unfolding text_of bare_text
-bare_is report =
-    let end = codes "</svg>\n" in
-    let m4 : Markup = draw_bars report.history Nothing in
-    let m3 : Markup = draw_words 16 60 (Say (codes "batches by their number of calls (no boxes are drawn past 2000 leaves)") ∷ []) m4 in
-    sheet_is 840 740 (draw_words 16 28 (caption report) m3)
-    ∙ ap (λ t. sheet_front 840 740 ++ t) (caption_drawn report m3 end
-    ∙ ap (λ t. caption_text report.workers (length report.rows) (length (flat report.history)) (length report.history) ++ t) (note_drawn m4 end
-    ∙ ap (λ t. note_text ++ t) (bars_drawn report.history Nothing end)))
+  bracket_is : (scale foot : ℕ) (bracket : Bracket) → bracket_text names scale foot bracket ≡ markup_onto (draw_bracket names scale foot bracket Nothing) []
+  unfolding bracket_line bracket_text
+  bracket_is scale foot bracket =
+      let left = across (2 * scale) bracket.first in
+      let right = across (2 * scale) (bracket.first + length bracket.entries) - 3 in
+      let calls = calls_text names scale foot bracket.batch 0 bracket.first bracket.entries in
+      let under : Markup = draw_line (Say (codes "M") ∷ Number left ∷ Say (codes " ") ∷ Number (foot + 67) ∷ Say (codes "v6H") ∷ Number right ∷ Say (codes "v-6") ∷ []) (codes "#57606a")
+      (draw_number left (right - left) (foot + 89) bracket.batch Nothing) in
+      let inner : markup_onto (draw_calls names scale foot bracket.batch 0 bracket.first bracket.entries under) (codes "</g>\n") ≡ calls ++ (under_text foot left right bracket.batch ++ codes "</g>\n") =
+      calls_drawn scale foot bracket.batch 0 bracket.first bracket.entries under (codes "</g>\n") ∙ ap (λ t. calls ++ t) (under_drawn foot left right bracket.batch (codes "</g>\n")) in
+      sym (ap (λ t. codes "<g><title>batch " ++ (decimal bracket.batch ++ (codes "</title>\n" ++ t))) inner)
+
+  pub bracket_drawn : (scale foot : ℕ) (bracket : Bracket) (behind : Markup) (rest : List ℕ)
+      → markup_onto (draw_bracket names scale foot bracket behind) rest ≡ bracket_text names scale foot bracket ++ markup_onto behind rest
+  bracket_drawn scale foot bracket behind rest =
+      markup_behind (draw_bracket names scale foot bracket Nothing) [] (markup_onto behind rest) ∙ ap (λ t. t ++ markup_onto behind rest) (sym (bracket_is scale foot bracket))
+
+  boxes_are : (book : List (List Entry)) (rows : List Row) (rest : List ℕ) → markup_onto (each draw_box (map (box_of names book) rows) Nothing) rest ≡ boxes_text names book rows ++ rest
+  unfolding boxes_text
+  boxes_are book [] rest = refl
+  boxes_are book (row ∷ rows) rest =
+      box_drawn (place_of book row.leaf) row (each draw_box (map (box_of names book) rows) Nothing) rest
+      ∙ (ap (λ t. box_text names (place_of book row.leaf) row ++ t) (boxes_are book rows rest) ∙ sym (append_assoc (box_text names (place_of book row.leaf) row) (flat_map (λ r. box_text names (place_of book r.leaf) r) rows) rest))
+
+  group_drawn : (scale : ℕ) (report : Report) (behind : Markup) (rest : List ℕ)
+      → markup_onto (draw_boxes names scale report behind) rest ≡ group_text names scale report.history report.rows ++ markup_onto behind rest
+  unfolding group_text
+  group_drawn scale report behind rest =
+      markup_behind (draw_boxes names scale report Nothing) [] (markup_onto behind rest)
+      ∙ ap (λ t. (codes "<g transform=\"translate(96 0) scale(" ++ (decimal scale ++ (codes " 1)\">" ++ t))) ++ markup_onto behind rest) (boxes_are report.history report.rows (codes "</g>\n"))
+
+  brackets_drawn : (scale foot : ℕ) (brackets : List Bracket) (behind : Markup) (rest : List ℕ)
+      → markup_onto (each (draw_bracket names scale foot) brackets behind) rest ≡ brackets_text names scale foot brackets ++ markup_onto behind rest
+  unfolding brackets_text
+  brackets_drawn scale foot brackets behind rest = each_drawn (draw_bracket names scale foot) (bracket_text names scale foot) (λ bracket b r. bracket_drawn scale foot bracket b r) brackets behind rest
+
+  -- the text of the drawing with boxes
+  pub drawing_is : (span scale : ℕ) (report : Report) → text_of (box_drawing names span scale report) ≡ drawing_text names span scale report
+  unfolding text_of drawing_text
+  drawing_is span scale report =
+      let foot = lane_top report.workers in
+      let right = across scale span in
+      let end = codes "</svg>\n" in
+      let m8 : Markup = draw_legend foot Nothing in
+      let m7 : Markup = each (draw_bracket names scale foot) (brackets_of report) m8 in
+      let m6 : Markup = draw_words 16 (foot + 59) (Say (codes "batches") ∷ []) m7 in
+      let m5 : Markup = draw_boxes names scale report m6 in
+      let m4 : Markup = each (draw_lane right) (range_with_len 0 report.workers) m5 in
+      let m3 : Markup = draw_ticks scale foot span m4 in
+      let m2 : Markup = draw_words 16 28 (caption report) m3 in
+      let captioned = caption_text report.workers (length report.rows) (length (flat report.history)) (length report.history) in
+      sheet_is (right + 24) (foot + 140) m2
+      ∙ ap (λ t. sheet_front (right + 24) (foot + 140) ++ t) (caption_drawn report m3 end
+      ∙ ap (λ t. captioned ++ t) (ticks_drawn scale foot span m4 end
+      ∙ ap (λ t. marks_text scale foot span ++ t) (lanes_drawn right report.workers m5 end
+      ∙ ap (λ t. lanes_text right report.workers ++ t) (group_drawn scale report m6 end
+      ∙ ap (λ t. group_text names scale report.history report.rows ++ t) (strip_drawn foot m7 end
+      ∙ ap (λ t. strip_name foot ++ t) (brackets_drawn scale foot (brackets_of report) m8 end
+      ∙ ap (λ t. brackets_text names scale foot (brackets_of report) ++ t) (legend_drawn foot Nothing end)))))))

@@ -1,5 +1,5 @@
 -- The boxes of the rows, the brackets of the batches, and where they stand. All lengths are in pixels, but that a box
--- lies along its lane in ticks.
+-- lies along its lane in ticks. The names are those of the objects with the numbers 1, 2, and so on.
 use Rattle.std.specs.Prelude.{ℕ, ◌+◌, ◌*◌, ◌-◌, ◌/◌, ◌%◌, ◌==◌, if◌then◌else◌, List, [], ◌∷◌, map, length, codes, Option, None, Some}
 use Rattle.seq_objects.specs.Words.{op_words}
 use Rattle.batch_history.specs.Places.{place_of}
@@ -49,38 +49,38 @@ abbrev pub ticks_words : Row → List Part
 ticks_words row = Say (codes ", value ") ∷ Number row.value ∷ Say (codes ", ticks ") ∷ Number row.start ∷ Say (codes " to ") ∷ Number row.end ∷ []
 
 -- the title of a row whose call, if it has one, has this place
-abbrev pub title_of : Option Place → Row → List Part
-title_of None row = Say (codes "leaf ") ∷ Number row.leaf ∷ Say (codes ": work") ∷ ticks_words row
-title_of (Some place) row =
-    Say (codes "leaf ") ∷ Number row.leaf ∷ Say (codes ": ") ∷ Say (op_words place.entry.op) ∷ Say (codes ", batch ") ∷ Number place.batch ∷ ticks_words row
+abbrev pub title_of : List (List ℕ) → Option Place → Row → List Part
+title_of names None row = Say (codes "leaf ") ∷ Number row.leaf ∷ Say (codes ": work") ∷ ticks_words row
+title_of names (Some place) row =
+    Say (codes "leaf ") ∷ Number row.leaf ∷ Say (codes ": ") ∷ Say (op_words names place.entry.op) ∷ Say (codes ", batch ") ∷ Number place.batch ∷ ticks_words row
 
 -- the box of such a row: that of a call is 20 high and has the colour of its batch, and that of work is 10 high and
 -- grey
-abbrev pub box_for : Option Place → Row → Box
-box_for None row = record {
+abbrev pub box_for : List (List ℕ) → Option Place → Row → Box
+box_for names None row = record {
   left = row.start;
   top = lane_top row.worker + 9;
   width = row.end - row.start;
   height = 10;
   colour = codes "#6e7781";
-  title = title_of None row;
+  title = title_of names None row;
 }
-box_for (Some place) row = record {
+box_for names (Some place) row = record {
   left = row.start;
   top = lane_top row.worker + 4;
   width = row.end - row.start;
   height = 20;
   colour = batch_colour place.batch;
-  title = title_of (Some place) row;
+  title = title_of names (Some place) row;
 }
 
 -- the box of a row in a report with this book
-abbrev pub box_of : List (List Entry) → Row → Box
-box_of book row = box_for (place_of book row.leaf) row
+abbrev pub box_of : List (List ℕ) → List (List Entry) → Row → Box
+box_of names book row = box_for names (place_of book row.leaf) row
 
 -- the boxes of a report, one for each row
-abbrev pub boxes_of : Report → List Box
-boxes_of report = map (box_of report.history) report.rows
+abbrev pub boxes_of : List (List ℕ) → Report → List Box
+boxes_of names report = map (box_of names report.history) report.rows
 
 -- A bracket: the number of its batch, how many calls stand before it in the book, and its calls.
 pub record Bracket : Type 0 where

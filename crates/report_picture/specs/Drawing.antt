@@ -1,5 +1,5 @@
 -- How each part of the picture is drawn. Below, `scale` is the number of pixels that a tick takes, `foot` the bottom of
--- the lanes, and `behind` the markup that stands behind.
+-- the lanes, `names` are those of the objects, and `behind` is the markup that stands behind.
 use Rattle.std.specs.Prelude.{ℕ, ◌+◌, ◌*◌, ◌-◌, ◌/◌, List, [], ◌∷◌, length, codes, nat_le, if◌then◌else◌}
 use Rattle.std.specs.List.{range_with_len}
 use Rattle.seq_objects.specs.Words.{op_words, reply_words}
@@ -44,40 +44,41 @@ draw_lane right worker behind =
     Element Group [] (draw_words 16 (lane_top worker + 19) (Say (codes "worker ") ∷ Number worker ∷ [])
     (draw_line (Say (codes "M96 ") ∷ Number (lane_top worker + 30) ∷ Say (codes "H") ∷ Number right ∷ []) (codes "#d0d7de") Nothing)) behind
 
--- the number of a tick under the lanes, and a light line up from it
+-- the number of a tick under the lanes, at this place from the left, and a light line up from it
 abbrev pub draw_tick : ℕ → ℕ → ℕ → Markup → Markup
-draw_tick scale foot tick behind =
-    Element Group [] (draw_words (across scale tick) (foot + 16) (Number tick ∷ [])
-    (draw_line (Say (codes "M") ∷ Number (across scale tick) ∷ Say (codes " 46V") ∷ Number (foot + 4) ∷ []) (codes "#d0d7de") Nothing)) behind
+draw_tick left foot tick behind =
+    Element Group [] (draw_words left (foot + 16) (Number tick ∷ [])
+    (draw_line (Say (codes "M") ∷ Number left ∷ Say (codes " 46V") ∷ Number (foot + 4) ∷ []) (codes "#d0d7de") Nothing)) behind
 
 -- the ticks that are numbered, where this many are drawn: 8 at equal distances
 abbrev pub draw_ticks : ℕ → ℕ → ℕ → Markup → Markup
-draw_ticks scale foot span behind = each (λ mark. draw_tick scale foot (mark * (span / 8 + 1))) (range_with_len 0 8) behind
+draw_ticks scale foot span behind =
+    each (λ mark. draw_tick (across scale (mark * (span / 8 + 1))) foot (mark * (span / 8 + 1))) (range_with_len 0 8) behind
 
 -- the title of a call: its place in the book, its leaf and its worker, its operation and its reply
-abbrev pub call_title : ℕ → ℕ → Entry → List Part
-call_title batch place entry =
+abbrev pub call_title : List (List ℕ) → ℕ → ℕ → Entry → List Part
+call_title names batch place entry =
     Say (codes "batch ") ∷ Number batch ∷ Say (codes " place ") ∷ Number place ∷ Say (codes ": leaf ") ∷ Number entry.leaf
-    ∷ Say (codes " of worker ") ∷ Number entry.worker ∷ Say (codes ", ") ∷ Say (op_words entry.op) ∷ Say (codes " -> ") ∷ Say (reply_words entry.reply) ∷ []
+    ∷ Say (codes " of worker ") ∷ Number entry.worker ∷ Say (codes ", ") ∷ Say (op_words names entry.op) ∷ Say (codes " -> ") ∷ Say (reply_words entry.reply) ∷ []
 
 -- the calls of a batch from this place on, side by side; `serial` calls of the book stand before them
-abbrev pub draw_calls : ℕ → ℕ → ℕ → ℕ → ℕ → List Entry → Markup → Markup
-draw_calls scale foot batch place serial [] behind = behind
-draw_calls scale foot batch place serial (entry ∷ entries) behind =
-    draw_rect (across (2 * scale) serial) (foot + 44) (2 * scale - 1) 20 (batch_colour batch) (call_title batch place entry)
-    (draw_calls scale foot batch (place + 1) (serial + 1) entries behind)
+abbrev pub draw_calls : List (List ℕ) → ℕ → ℕ → ℕ → ℕ → ℕ → List Entry → Markup → Markup
+draw_calls names scale foot batch place serial [] behind = behind
+draw_calls names scale foot batch place serial (entry ∷ entries) behind =
+    draw_rect (across (2 * scale) serial) (foot + 44) (2 * scale - 1) 20 (batch_colour batch) (call_title names batch place entry)
+    (draw_calls names scale foot batch (place + 1) (serial + 1) entries behind)
 
 -- the number of a batch, where the bracket is wide enough for it
 abbrev pub draw_number : ℕ → ℕ → ℕ → ℕ → Markup → Markup
 draw_number left width base batch behind = if nat_le 32 width then draw_words left base (Number batch ∷ []) behind else behind
 
 -- a bracket: its calls in the order of their places, a line that takes them together, and the number of their batch
-abbrev pub draw_bracket : ℕ → ℕ → Bracket → Markup → Markup
-draw_bracket scale foot bracket behind =
+abbrev pub draw_bracket : List (List ℕ) → ℕ → ℕ → Bracket → Markup → Markup
+draw_bracket names scale foot bracket behind =
     let left = across (2 * scale) bracket.first in
     let right = across (2 * scale) (bracket.first + length bracket.entries) - 3 in
     Element Group [] (Element Title [] (Words (Say (codes "batch ") ∷ Number bracket.batch ∷ []) Nothing)
-    (draw_calls scale foot bracket.batch 0 bracket.first bracket.entries
+    (draw_calls names scale foot bracket.batch 0 bracket.first bracket.entries
     (draw_line (Say (codes "M") ∷ Number left ∷ Say (codes " ") ∷ Number (foot + 67) ∷ Say (codes "v6H") ∷ Number right ∷ Say (codes "v-6") ∷ []) (codes "#57606a")
     (draw_number left (right - left) (foot + 89) bracket.batch Nothing)))) behind
 
@@ -88,13 +89,14 @@ draw_legend foot behind =
     (draw_plain 192 (foot + 108) 24 20 (batch_colour 0) (draw_words 224 (foot + 123) (Say (codes "a call, in the colour of its batch") ∷ [])
     Nothing)))) behind
 
--- a bar: a number, a rectangle as wide as its share of all batches, and the count of batches
-abbrev pub draw_bar : ℕ → ℕ → ℕ → Markup → Markup
-draw_bar mark count batches behind =
-    Element Group [] (draw_words 16 (96 + 20 * mark) (Number (mark + 1) ∷ [])
-    (draw_plain 96 (84 + 20 * mark) (bar_width count batches) 14 (codes "#6e7781")
-    (draw_words (104 + bar_width count batches) (96 + 20 * mark) (Number count ∷ []) Nothing))) behind
+-- a bar: a number, a rectangle as wide as its share of all batches, and the count of batches; `top` is where the bars
+-- begin
+abbrev pub draw_bar : ℕ → ℕ → ℕ → ℕ → Markup → Markup
+draw_bar top mark count batches behind =
+    Element Group [] (draw_words 16 (top + 12 + 20 * mark) (Number (mark + 1) ∷ [])
+    (draw_plain 96 (top + 20 * mark) (bar_width count batches) 14 (codes "#6e7781")
+    (draw_words (104 + bar_width count batches) (top + 12 + 20 * mark) (Number count ∷ []) Nothing))) behind
 
 -- the batches by their numbers of calls, from 1 to 32: a bar for each
-abbrev pub draw_bars : List (List Entry) → Markup → Markup
-draw_bars book behind = each (λ mark. draw_bar mark (sized (mark + 1) book) (length book)) (range_with_len 0 32) behind
+abbrev pub draw_bars : ℕ → List (List Entry) → Markup → Markup
+draw_bars top book behind = each (λ mark. draw_bar top mark (sized (mark + 1) book) (length book)) (range_with_len 0 32) behind

@@ -4,8 +4,10 @@ pub use Rattle.batch_history.specs.Book
 pub use Rattle.batch_history.specs.Lawful
 pub mod Markup
 pub mod WellFormed
+pub mod Names
 pub mod Boxes
 pub mod Drawing
+pub mod Columns
 pub mod Picture
 pub mod Meaning
 pub mod Code

@@ -1,5 +1,5 @@
 -- What boxes and brackets mean, in the words of reports.
-use Rattle.std.specs.Prelude.{◌≡◌, ◌≢◌, ℕ, ◌+◌, ◌-◌, ◌<◌, ◌≤◌, ◌⊎◌, length, slice_get, Some}
+use Rattle.std.specs.Prelude.{◌≡◌, ◌≢◌, ℕ, ◌+◌, ◌-◌, ◌<◌, ◌≤◌, ◌⊎◌, List, length, slice_get, Some}
 use Rattle.std.specs.List.{AllZip}
 use Rattle.batch_history.specs.Book.{flat}
 use Rattle.batch_history.specs.declared.batch.Entry.{Entry}
@@ -19,17 +19,17 @@ pub record IsBoxOf (row : Row) (box : Box) : Type 0 where
   pub ends : row.start ≤ row.end → box.left + box.width ≡ row.end
 
 -- the report has exactly one box for each row, in the order of the rows
-abbrev pub HasBoxes : Report → Type 0
-HasBoxes report = AllZip IsBoxOf report.rows (boxes_of report)
+abbrev pub HasBoxes : List (List ℕ) → Report → Type 0
+HasBoxes names report = AllZip IsBoxOf report.rows (boxes_of names report)
 
 -- one of the boxes ends left of where the other begins
 abbrev pub AreApart : Box → Box → Type 0
 AreApart box other = (box.left + box.width < other.left) ⊎ (other.left + other.width < box.left)
 
 -- two boxes of the report that stand in one lane are apart
-abbrev pub KeepsApart : Report → Type 0
-KeepsApart report = (u v worker : ℕ) (box other : Box) → u ≢ v
-    → slice_get (boxes_of report) u ≡ Some box → slice_get (boxes_of report) v ≡ Some other
+abbrev pub KeepsApart : List (List ℕ) → Report → Type 0
+KeepsApart names report = (u v worker : ℕ) (box other : Box) → u ≢ v
+    → slice_get (boxes_of names report) u ≡ Some box → slice_get (boxes_of names report) v ≡ Some other
     → IsInLane worker box → IsInLane worker other → AreApart box other
 
 -- the bracket is over the call that has `serial` calls before it in the book

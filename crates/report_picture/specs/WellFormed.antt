@@ -1,6 +1,7 @@
 -- When a text is well-formed: a grammar of words and closed elements, apart from the writer of markup.
-use Rattle.std.specs.Prelude.{◌≢◌, ℕ, Bool, false, IsTrue, ◌&&◌, ◌||◌, ◌==◌, nat_le, List, [], ◌∷◌, ◌++◌, codes}
-use Rattle.std.specs.List.{list_all}
+use Rattle.std.specs.Prelude.{◌≢◌, ℕ, Bool, false, IsTrue, ◌&&◌, ◌||◌, ◌==◌, nat_le, not, List, [], ◌∷◌, ◌++◌, codes}
+use Rattle.std.specs.List.{list_all, list_any}
+use Rattle.std.specs.Str.{bytes_eq}
 
 -- the byte is none of `&`, `<`, `>` and the two quotes
 pub record IsPlain (byte : ℕ) : Type 0 where
@@ -33,16 +34,22 @@ abbrev pub is_name : List ℕ → Bool
 is_name [] = false
 is_name (first ∷ rest) = is_letter first && list_all (λ byte. is_letter byte || (byte == 45)) rest
 
--- attributes: a name and words between quotes, each behind a blank
-pub data AreAttributes : List ℕ → Type 0 where
-  no_attributes : AreAttributes []
-  another : (name value rest : List ℕ) → IsTrue (is_name name) → AreWords value → AreAttributes rest
-      → AreAttributes (codes " " ++ (name ++ (codes "=\"" ++ (value ++ (codes "\"" ++ rest)))))
+-- whether none of the names is this one
+abbrev pub is_new : List ℕ → List (List ℕ) → Bool
+is_new name names = not (list_any (bytes_eq name) names)
 
--- contents: words, and elements that are closed by their own names, with contents inside
+-- attributes with these names: a name that none behind it has and words between quotes, each behind a blank
+pub data AreAttributes : List (List ℕ) → List ℕ → Type 0 where
+  no_attributes : AreAttributes [] []
+  another : (name value rest : List ℕ) (names : List (List ℕ)) → IsTrue (is_name name) → IsTrue (is_new name names)
+      → AreWords value → AreAttributes names rest
+      → AreAttributes (name ∷ names) (codes " " ++ (name ++ (codes "=\"" ++ (value ++ (codes "\"" ++ rest)))))
+
+-- contents: words, and elements that are closed by their own names, with attributes of different names and with
+-- contents inside
 pub data AreContents : List ℕ → Type 0 where
   no_contents : AreContents []
   some_words : (bytes rest : List ℕ) → AreWords bytes → AreContents rest → AreContents (bytes ++ rest)
-  element : (name attributes inside rest : List ℕ) → IsTrue (is_name name) → AreAttributes attributes → AreContents inside
-      → AreContents rest
+  element : (name attributes inside rest : List ℕ) (names : List (List ℕ)) → IsTrue (is_name name)
+      → AreAttributes names attributes → AreContents inside → AreContents rest
       → AreContents (codes "<" ++ (name ++ (attributes ++ (codes ">" ++ (inside ++ (codes "</" ++ (name ++ (codes ">" ++ rest))))))))

@@ -1,23 +1,19 @@
 //! The batches below the lanes: calls side by side, under the bracket of their batch.
-ghost use Rattle.std.specs.Prelude.{◌≡◌, ◌++◌, ◌+◌, ◌*◌, ◌-◌, ◌<◌, ◌≤◌, ◌^◌, length, OnOk, IfOk, string_bytes};
-ghost use Rattle.seq_objects.specs.Words.{op_words, reply_words};
+ghost use Rattle.std.specs.Prelude.{◌≡◌, ◌++◌, ◌+◌, ◌*◌, ◌-◌, ◌<◌, ◌≤◌, ◌^◌, length, map, OnOk, IfOk, string_bytes};
+ghost use Rattle.job_names.specs.Names.{AreSpelled, spelling};
+ghost use Rattle.seq_objects.specs.Objects.{number_of};
+ghost use Rattle.seq_objects.specs.Words.{reply_words};
 ghost use Rattle.batch_history.specs.Book.{flat};
+ghost use Rattle.batch_history.specs.Text.{HaveNames};
 ghost use Rattle.report_picture.specs.Boxes.{across, brackets_from};
 ghost use Rattle.report_picture.specs.Code.Texts.{call_front, served_text, call_text, calls_text, number_text, line_text, under_text, bracket_line, bracket_text, brackets_text};
 
-use crate::boxes::op_words;
 use crate::bytes::{push_escaped, push_number, push_text};
 use crate::shapes::{across, batch_colour, push_rect, push_words};
+use crate::words::{op_words, reply_words};
 use batch_history::{Batch, Entry};
-use seq_objects::Reply;
+use job_names::Name;
 use std::alloc::{AllocError, Global};
-
-/// The words of a reply.
-fn reply_words(alloc: Global, reply: Reply) -> Result<String, AllocError>
-    ensures { IfOk result (λ words. string_bytes words ≡ reply_words reply) }
-{
-    format!(in alloc; "{reply}")
-}
 
 /// Where the batches are drawn: the pixels that a call takes, half of that, and the bottom of the lanes.
 #[derive(Clone, Copy)]
@@ -48,10 +44,17 @@ fn push_call_front(
 
 /// Appends what a call asked for and what it got, and the end of its box.
 #[tactic(auto, unfolding(crate::specs::Code::Texts::served_text))]
-fn push_served(alloc: Global, text: &mut Vec<u8>, entry: &Entry) -> Result<(), AllocError>
-    ensures { OnOk result (text.new.items ≡ text.old.items ++ served_text entry.now) }
+fn push_served(
+    alloc: Global,
+    text: &mut Vec<u8>,
+    names: &[Name],
+    entry: &Entry,
+) -> Result<(), AllocError>
+    requires number { number_of entry.now.op ≤ length names.now }
+    requires spelled { AreSpelled (map spelling names.now) }
+    ensures { OnOk result (text.new.items ≡ text.old.items ++ served_text (map spelling names.now) entry.now) }
 {
-    let op = op_words(alloc, entry.op)?;
+    let op = op_words(alloc, names, entry.op)?;
     let reply = reply_words(alloc, entry.reply)?;
     text.extend_from_slice(b", ")?;
     push_escaped(text, op.as_bytes())?;
@@ -69,20 +72,23 @@ fn push_call(
     batch: u32,
     place: u32,
     serial: u32,
+    names: &[Name],
     entry: &Entry,
 ) -> Result<(), AllocError>
+    requires number { number_of entry.now.op ≤ length names.now }
+    requires spelled { AreSpelled (map spelling names.now) }
     requires some { 1 ≤ strip.scale }
     requires scale { strip.scale ≤ 2000 }
     requires foot { strip.foot ≤ 2000 }
     ensures { OnOk result (text.new.items ≡ text.old.items
-        ++ call_text strip.scale strip.foot batch place serial entry.now) }
+        ++ call_text (map spelling names.now) strip.scale strip.foot batch place serial entry.now) }
 {
     push_call_front(text, strip, batch, serial)?;
     push_number(text, b"<title>batch ", batch)?;
     push_number(text, b" place ", place)?;
     push_number(text, b": leaf ", entry.leaf)?;
     push_number(text, b" of worker ", entry.worker)?;
-    push_served(alloc, text, entry)
+    push_served(alloc, text, names, entry)
 }
 
 /// Appends the calls of a batch, before which `first` calls of the book stand.
@@ -92,18 +98,30 @@ fn push_calls(
     strip: Strip,
     batch: u32,
     first: u32,
+    names: &[Name],
     entries: &[Entry],
 ) -> Result<(), AllocError>
+    requires numbers { HaveNames (map spelling names.now) entries.now }
+    requires spelled { AreSpelled (map spelling names.now) }
     requires some { 1 ≤ strip.scale }
     requires scale { strip.scale ≤ 2000 }
     requires foot { strip.foot ≤ 2000 }
     requires few { first + length entries.now < 2 ^ 32 }
     ensures { OnOk result (text.new.items ≡ text.old.items
-        ++ calls_text strip.scale strip.foot batch 0 first entries.now) }
+        ++ calls_text (map spelling names.now) strip.scale strip.foot batch 0 first entries.now) }
 {
     for (place, entry) in entries.iter().enumerate() {
         let place = place as u32;
-        push_call(alloc, text, strip, batch, place, first + place, entry)?;
+        push_call(
+            alloc,
+            text,
+            strip,
+            batch,
+            place,
+            first + place,
+            names,
+            entry,
+        )?;
     }
     Ok(())
 }
@@ -175,18 +193,21 @@ fn push_bracket(
     strip: Strip,
     batch: u32,
     first: u32,
+    names: &[Name],
     entries: &[Entry],
 ) -> Result<(), AllocError>
+    requires numbers { HaveNames (map spelling names.now) entries.now }
+    requires spelled { AreSpelled (map spelling names.now) }
     requires some { 1 ≤ strip.scale }
     requires scale { strip.scale ≤ 2000 }
     requires foot { strip.foot ≤ 2000 }
     requires few { first + length entries.now < 2 ^ 32 }
-    ensures { OnOk result (text.new.items ≡ text.old.items ++ bracket_text strip.scale strip.foot
+    ensures { OnOk result (text.new.items ≡ text.old.items ++ bracket_text (map spelling names.now) strip.scale strip.foot
         (record { batch = batch; first = first; entries = entries.now })) }
 {
     push_number(text, b"<g><title>batch ", batch)?;
     text.extend_from_slice(b"</title>\n")?;
-    push_calls(alloc, text, strip, batch, first, entries)?;
+    push_calls(alloc, text, strip, batch, first, names, entries)?;
     push_bracket_line(text, strip, batch, first, entries.len() as u32)?;
     push_text(text, b"</g>\n")
 }
@@ -197,20 +218,23 @@ pub(crate) fn push_brackets(
     alloc: Global,
     text: &mut Vec<u8>,
     strip: Strip,
+    names: &[Name],
     book: &[Batch],
 ) -> Result<(), AllocError>
+    requires numbers { HaveNames (map spelling names.now) (flat book.now) }
+    requires spelled { AreSpelled (map spelling names.now) }
     requires some { 1 ≤ strip.scale }
     requires scale { strip.scale ≤ 2000 }
     requires foot { strip.foot ≤ 2000 }
     requires few_batches { length book.now < 2 ^ 32 }
     requires few { length (flat book.now) < 2 ^ 32 }
     ensures { OnOk result (text.new.items ≡ text.old.items
-        ++ brackets_text strip.scale strip.foot (brackets_from 0 0 book.now)) }
+        ++ brackets_text (map spelling names.now) strip.scale strip.foot (brackets_from 0 0 book.now)) }
 {
     let mut first = 0;
     for (number, batch) in book.iter().enumerate() {
         let entries = batch.entries();
-        push_bracket(alloc, text, strip, number as u32, first, entries)?;
+        push_bracket(alloc, text, strip, number as u32, first, names, entries)?;
         first += entries.len() as u32;
     }
     Ok(())

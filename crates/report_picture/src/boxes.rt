@@ -1,23 +1,19 @@
 //! The boxes of the rows.
-ghost use Rattle.std.specs.Prelude.{◌≡◌, ◌++◌, ◌-◌, ◌<◌, ◌^◌, length, OnOk, IfOk, string_bytes};
-ghost use Rattle.seq_objects.specs.Words.{op_words};
+ghost use Rattle.std.specs.Prelude.{◌≡◌, ◌++◌, ◌-◌, ◌<◌, ◌≤◌, ◌^◌, length, map, OnOk};
+ghost use Rattle.job_names.specs.Names.{AreSpelled, spelling};
+ghost use Rattle.seq_objects.specs.Objects.{number_of};
 ghost use Rattle.batch_history.specs.Book.{flat};
+ghost use Rattle.batch_history.specs.Text.{HaveNames};
 ghost use Rattle.batch_history.specs.Places.{place_of};
 ghost use Rattle.report_picture.specs.Code.Texts.{rect_front, work_text, called_text, ticks_text, box_text, boxes_text, group_text};
 
 use crate::bytes::{push_escaped, push_number, push_text};
 use crate::find::place_of;
 use crate::shapes::{batch_colour, push_rect};
+use crate::words::op_words;
 use batch_history::{Batch, Place, Row};
-use seq_objects::Op;
+use job_names::Name;
 use std::alloc::{AllocError, Global};
-
-/// The name of an operation, with its argument.
-pub(crate) fn op_words(alloc: Global, op: Op) -> Result<String, AllocError>
-    ensures { IfOk result (λ words. string_bytes words ≡ op_words op) }
-{
-    format!(in alloc; "{op}")
-}
 
 /// Appends the end of a row's title, and that of its box.
 #[tactic(auto, unfolding(crate::specs::Code::Texts::ticks_text))]
@@ -62,13 +58,16 @@ fn push_work(text: &mut Vec<u8>, row: &Row) -> Result<(), AllocError>
 fn push_called(
     alloc: Global,
     text: &mut Vec<u8>,
+    names: &[Name],
     place: &Place,
     row: &Row,
 ) -> Result<(), AllocError>
-    ensures { OnOk result (text.new.items ≡ text.old.items ++ called_text place.now row.now) }
+    requires number { number_of place.now.entry.op ≤ length names.now }
+    requires spelled { AreSpelled (map spelling names.now) }
+    ensures { OnOk result (text.new.items ≡ text.old.items ++ called_text (map spelling names.now) place.now row.now) }
 {
     let top = 48 + 32 * row.worker as u64 + 4;
-    let op = op_words(alloc, place.entry.op)?;
+    let op = op_words(alloc, names, place.entry.op)?;
     push_span(text, row, top, 20, batch_colour(place.batch))?;
     push_number(text, b"<title>leaf ", row.leaf)?;
     text.extend_from_slice(b": ")?;
@@ -78,15 +77,23 @@ fn push_called(
 }
 
 /// Appends the box of a row.
-fn push_box(alloc: Global, text: &mut Vec<u8>, book: &[Batch], row: &Row) -> Result<(), AllocError>
+fn push_box(
+    alloc: Global,
+    text: &mut Vec<u8>,
+    names: &[Name],
+    book: &[Batch],
+    row: &Row,
+) -> Result<(), AllocError>
+    requires numbers { HaveNames (map spelling names.now) (flat book.now) }
+    requires spelled { AreSpelled (map spelling names.now) }
     requires few_batches { length book.now < 2 ^ 32 }
     requires few_entries { length (flat book.now) < 2 ^ 32 }
     ensures { OnOk result (text.new.items
-        ≡ text.old.items ++ box_text (place_of book.now row.now.leaf) row.now) }
+        ≡ text.old.items ++ box_text (map spelling names.now) (place_of book.now row.now.leaf) row.now) }
 {
     match place_of(book, row.leaf) {
         None => push_work(text, row),
-        Some(place) => push_called(alloc, text, &place, row),
+        Some(place) => push_called(alloc, text, names, &place, row),
     }
 }
 
@@ -95,15 +102,18 @@ fn push_box(alloc: Global, text: &mut Vec<u8>, book: &[Batch], row: &Row) -> Res
 fn push_boxes(
     alloc: Global,
     text: &mut Vec<u8>,
+    names: &[Name],
     book: &[Batch],
     rows: &[Row],
 ) -> Result<(), AllocError>
+    requires numbers { HaveNames (map spelling names.now) (flat book.now) }
+    requires spelled { AreSpelled (map spelling names.now) }
     requires few_batches { length book.now < 2 ^ 32 }
     requires few_entries { length (flat book.now) < 2 ^ 32 }
-    ensures { OnOk result (text.new.items ≡ text.old.items ++ boxes_text book.now rows.now) }
+    ensures { OnOk result (text.new.items ≡ text.old.items ++ boxes_text (map spelling names.now) book.now rows.now) }
 {
     for row in rows {
-        push_box(alloc, text, book, row)?;
+        push_box(alloc, text, names, book, row)?;
     }
     Ok(())
 }
@@ -114,15 +124,18 @@ pub(crate) fn push_group(
     alloc: Global,
     text: &mut Vec<u8>,
     scale: u32,
+    names: &[Name],
     book: &[Batch],
     rows: &[Row],
 ) -> Result<(), AllocError>
+    requires numbers { HaveNames (map spelling names.now) (flat book.now) }
+    requires spelled { AreSpelled (map spelling names.now) }
     requires few_batches { length book.now < 2 ^ 32 }
     requires few_entries { length (flat book.now) < 2 ^ 32 }
-    ensures { OnOk result (text.new.items ≡ text.old.items ++ group_text scale book.now rows.now) }
+    ensures { OnOk result (text.new.items ≡ text.old.items ++ group_text (map spelling names.now) scale book.now rows.now) }
 {
     push_number(text, b"<g transform=\"translate(96 0) scale(", scale)?;
     text.extend_from_slice(b" 1)\">")?;
-    push_boxes(alloc, text, book, rows)?;
+    push_boxes(alloc, text, names, book, rows)?;
     push_text(text, b"</g>\n")
 }

@@ -1,20 +1,25 @@
 //! The picture of a report, drawn part by part.
-ghost use Rattle.std.specs.Prelude.{◌≡◌, ◌≤◌, ◌<◌, ◌^◌, length, IfOk};
+ghost use Rattle.std.specs.Prelude.{◌≡◌, ◌≤◌, ◌<◌, ◌^◌, length, map, IfOk};
+ghost use Rattle.job_names.specs.Names.{AreSpelled, spelling};
 ghost use Rattle.batch_history.specs.Book.{flat};
+ghost use Rattle.batch_history.specs.Text.{HaveNames};
 ghost use Rattle.report_picture.specs.Boxes.{span_of, scale_of};
-ghost use Rattle.report_picture.specs.Picture.{has_boxes, picture};
-ghost use Rattle.report_picture.specs.Code.Texts.{drawing_text, bare_text};
+ghost use Rattle.report_picture.specs.Picture.{CanBeDrawn, has_boxes, picture};
+ghost use Rattle.report_picture.specs.Code.Texts.{drawing_text, columns_text};
 
 use crate::batches::{Strip, push_brackets};
 use crate::boxes::push_group;
 use crate::bytes::push_text;
+use crate::columns::{push_edges, push_keys, push_shares};
 use crate::frame::{
-    push_caption, push_lanes, push_legend, push_note, push_sheet, push_strip_name, push_ticks,
+    push_caption, push_lanes, push_legend, push_sheet, push_strip_name, push_ticks,
 };
 use crate::shapes::across;
-use crate::sizes::push_bars;
+use crate::sizes::{push_bars, push_note};
 use batch_history::Batch;
+use job_names::Name;
 use report_reader::RawReport;
+use report_shares::{shares, width_of};
 use std::alloc::{AllocError, Global};
 
 /// The number of entries in all batches.
@@ -31,12 +36,19 @@ fn count_calls(book: &[Batch]) -> usize
 
 /// The text of the drawing with boxes.
 #[tactic(auto, unfolding(crate::specs::Code::Texts::drawing_text))]
-fn box_drawing(alloc: Global, raw: &RawReport, calls: usize) -> Result<Vec<u8>, AllocError>
+fn box_drawing(
+    alloc: Global,
+    names: &[Name],
+    raw: &RawReport,
+    calls: usize,
+) -> Result<Vec<u8>, AllocError>
     requires rows { length raw.now.rows ≤ 2000 }
     requires calls { calls ≡ length (flat raw.now.history) }
     requires few { calls ≤ 2000 }
     requires batches { length raw.now.history ≤ 2000 }
-    ensures { IfOk result (λ text. text.items ≡ drawing_text (span_of (length raw.now.rows))
+    requires numbers { HaveNames (map spelling names.now) (flat raw.now.history) }
+    requires spelled { AreSpelled (map spelling names.now) }
+    ensures { IfOk result (λ text. text.items ≡ drawing_text (map spelling names.now) (span_of (length raw.now.rows))
         (scale_of (span_of (length raw.now.rows))) raw.now) }
 {
     let rows = raw.rows();
@@ -51,32 +63,37 @@ fn box_drawing(alloc: Global, raw: &RawReport, calls: usize) -> Result<Vec<u8>, 
     push_caption(&mut text, workers, rows.len(), calls, book.len())?;
     push_ticks(&mut text, scale, foot, span)?;
     push_lanes(&mut text, right, workers)?;
-    push_group(alloc, &mut text, scale, book, rows)?;
+    push_group(alloc, &mut text, scale, names, book, rows)?;
     push_strip_name(&mut text, foot)?;
-    push_brackets(alloc, &mut text, Strip { scale, foot }, book)?;
+    push_brackets(alloc, &mut text, Strip { scale, foot }, names, book)?;
     push_legend(&mut text, foot)?;
     push_text(&mut text, b"</svg>\n")?;
     Ok(text)
 }
 
-/// The text of the drawing without boxes.
-#[tactic(auto, unfolding(crate::specs::Code::Texts::bare_text))]
-fn bare_drawing(alloc: Global, raw: &RawReport, calls: usize) -> Result<Vec<u8>, AllocError>
+/// The text of the drawing with columns.
+#[tactic(auto, unfolding(crate::specs::Code::Texts::columns_text))]
+fn column_drawing(alloc: Global, raw: &RawReport, calls: usize) -> Result<Vec<u8>, AllocError>
+    requires rows { length raw.now.rows < 2 ^ 32 }
     requires calls { calls ≡ length (flat raw.now.history) }
     requires batches { length raw.now.history < 2 ^ 32 }
-    ensures { IfOk result (λ text. text.items ≡ bare_text raw.now) }
+    ensures { IfOk result (λ text. text.items ≡ columns_text raw.now) }
 {
+    let rows = raw.rows();
+    let book = raw.batches();
+    let workers = raw.workers();
+    let width = width_of(rows.len() as u32);
+    let foot = 48 + 32 * workers;
+    let shares = shares(alloc, workers, rows, book)?;
     let mut text = Vec::new(alloc);
-    push_sheet(&mut text, 840, 740)?;
-    push_caption(
-        &mut text,
-        raw.workers(),
-        raw.rows().len(),
-        calls,
-        raw.batches().len(),
-    )?;
-    push_note(&mut text)?;
-    push_bars(&mut text, raw.batches())?;
+    push_sheet(&mut text, 1080, (foot + 752) as u64)?;
+    push_caption(&mut text, workers, rows.len(), calls, book.len())?;
+    push_edges(&mut text, foot, width)?;
+    push_lanes(&mut text, 1056, workers)?;
+    push_shares(&mut text, width, shares.as_slice())?;
+    push_keys(&mut text, foot, width)?;
+    push_note(&mut text, foot)?;
+    push_bars(&mut text, foot + 96, book)?;
     push_text(&mut text, b"</svg>\n")?;
     Ok(text)
 }
@@ -89,17 +106,20 @@ fn has_boxes(raw: &RawReport, calls: usize) -> bool
     raw.rows().len() <= 2000 && calls <= 2000
 }
 
-/// The picture of a raw report.
+/// The picture of a raw report, whose objects with the numbers 1, 2, and so on have these names.
 ///
-/// Time: linear in the report, but that the call of each of at most 2000 rows is looked for among at most 2000 calls.
-pub fn picture(alloc: Global, raw: &RawReport) -> Result<Vec<u8>, AllocError>
-    requires { length (flat raw.now.history) < 2 ^ 32 }
-    ensures { IfOk result (λ text. text.items ≡ picture raw.now) }
+/// Time: linear in the report, but that the call of each of at most 2000 rows is looked for among at most 2000 calls,
+/// and that of more rows each is looked at in each of 120 columns.
+pub fn picture(alloc: Global, names: &[Name], raw: &RawReport) -> Result<Vec<u8>, AllocError>
+    requires few { CanBeDrawn raw.now }
+    requires numbers { HaveNames (map spelling names.now) (flat raw.now.history) }
+    requires spelled { AreSpelled (map spelling names.now) }
+    ensures { IfOk result (λ text. text.items ≡ picture (map spelling names.now) raw.now) }
 {
     let calls = count_calls(raw.batches());
     if has_boxes(raw, calls) {
-        box_drawing(alloc, raw, calls)
+        box_drawing(alloc, names, raw, calls)
     } else {
-        bare_drawing(alloc, raw, calls)
+        column_drawing(alloc, raw, calls)
     }
 }

@@ -1,6 +1,6 @@
 //! What stands around the boxes and the brackets.
-ghost use Rattle.std.specs.Prelude.{◌≡◌, ◌++◌, ◌+◌, ◌*◌, ◌/◌, ◌≤◌, ◌<◌, OnOk, codes};
-ghost use Rattle.report_picture.specs.Code.Texts.{light_end, lane_text, lanes_text, tick_text, marks_text, strip_name, note_text, legend_text, sheet_start, sheet_style, sheet_top, sheet_front, caption_text};
+ghost use Rattle.std.specs.Prelude.{◌≡◌, ◌++◌, ◌+◌, ◌*◌, ◌/◌, ◌≤◌, ◌<◌, OnOk};
+ghost use Rattle.report_picture.specs.Code.Texts.{light_end, lane_text, lanes_text, tick_text, marks_text, strip_name, legend_text, sheet_start, sheet_style, sheet_top, sheet_front, caption_text};
 
 use crate::bytes::{push_number, push_text};
 use crate::shapes::{across, push_rect, push_words};
@@ -101,13 +101,17 @@ pub(crate) fn push_lanes(text: &mut Vec<u8>, right: u64, workers: u32) -> Result
     Ok(())
 }
 
-/// Appends a tick under the lanes, and the line up from it.
+/// Appends a tick under the lanes, at this place from the left, and the line up from it.
 #[tactic(auto, unfolding(crate::specs::Code::Texts::tick_text))]
-fn push_tick(text: &mut Vec<u8>, scale: u32, foot: u32, tick: u32) -> Result<(), AllocError>
-    requires { foot ≤ 2000 }
-    ensures { OnOk result (text.new.items ≡ text.old.items ++ tick_text scale foot tick) }
+pub(crate) fn push_tick(
+    text: &mut Vec<u8>,
+    left: u64,
+    foot: u32,
+    tick: u64,
+) -> Result<(), AllocError>
+    requires foot { foot ≤ 2000 }
+    ensures { OnOk result (text.new.items ≡ text.old.items ++ tick_text left foot tick) }
 {
-    let left = across(scale, tick);
     text.extend_from_slice(b"<g>")?;
     push_words(text, left, (foot + 16) as u64)?;
     push_number(text, b"", tick)?;
@@ -130,7 +134,7 @@ pub(crate) fn push_ticks(
 {
     let step = span / 8 + 1;
     for mark in 0..8 {
-        push_tick(text, scale, foot, mark * step)?;
+        push_tick(text, across(scale, mark * step), foot, (mark * step) as u64)?;
     }
     Ok(())
 }
@@ -143,24 +147,6 @@ pub(crate) fn push_strip_name(text: &mut Vec<u8>, foot: u32) -> Result<(), Alloc
 {
     push_words(text, 16, (foot + 59) as u64)?;
     text.extend_from_slice(b"batches</text>\n")
-}
-
-/// Appends the words over the bars.
-fn push_note_words(text: &mut Vec<u8>) -> Result<(), AllocError>
-    ensures { OnOk result (text.new.items ≡ text.old.items
-        ++ codes "batches by their number of calls (no boxes are drawn past 2000 leaves)</text>\n") }
-{
-    let words = b"batches by their number of calls (no boxes are drawn past 2000 leaves)</text>\n";
-    text.extend_from_slice(words)
-}
-
-/// Appends the words over the bars, at their place.
-#[tactic(auto, unfolding(crate::specs::Code::Texts::note_text))]
-pub(crate) fn push_note(text: &mut Vec<u8>) -> Result<(), AllocError>
-    ensures { OnOk result (text.new.items ≡ text.old.items ++ note_text) }
-{
-    push_words(text, 16, 60)?;
-    push_note_words(text)
 }
 
 /// Appends what the two kinds of boxes are.

@@ -1,21 +1,26 @@
 //! The laws of the picture, each stated as the contract of an empty function.
-ghost use Rattle.std.specs.Prelude.{ℕ};
+ghost use Rattle.std.specs.Prelude.{◌≡◌, ℕ, List};
 ghost use Rattle.sp_order.specs.Jobs.{JobValue};
 ghost use Rattle.batch_history.specs.Lawful.{Lawful};
 ghost use Rattle.batch_history.specs.declared.report.Report.{Report};
+ghost use Rattle.report_reader.specs.Texts.{HasNamedText, Named};
 ghost use Rattle.report_picture.specs.Markup.{Markup, text_of};
 ghost use Rattle.report_picture.specs.WellFormed.{AreContents};
+ghost use Rattle.report_picture.specs.Names.{NamesDiffer};
 ghost use Rattle.report_picture.specs.Picture.{picture};
 ghost use Rattle.report_picture.specs.Meaning.{HasBoxes, KeepsApart, HasBrackets, KeepsBrackets};
 
+use report_reader::laws::texts_have_one_wording;
+
 /// Each row has exactly one box, in its worker's lane, from its start to its end.
 pub fn rows_have_one_box_each()
-    ensures { (report : Report) → HasBoxes report }
+    ensures { (names : List (List ℕ)) (report : Report) → HasBoxes names report }
 {}
 
 /// The boxes in one lane of a lawful report do not overlap.
 pub fn lawful_boxes_are_apart()
-    ensures { (job : JobValue) (workers : ℕ) (report : Report) → Lawful job workers report → KeepsApart report }
+    ensures { (job : JobValue) (workers : ℕ) (names : List (List ℕ)) (report : Report)
+        → Lawful job workers report → KeepsApart names report }
 {}
 
 /// Each entry stands under exactly one bracket, that of its batch, at its own place.
@@ -24,8 +29,16 @@ pub fn entries_have_one_bracket_each()
     ensures one { (report : Report) → KeepsBrackets report }
 {}
 
-/// The text of each markup is well-formed, and so is each picture.
+/// The text of each markup whose attributes have different names is well-formed, and so is each picture.
 pub fn pictures_are_well_formed()
-    ensures markup { (markup : Markup) → AreContents (text_of markup) }
-    ensures picture { (report : Report) → AreContents (picture report) }
+    ensures markup { (markup : Markup) → NamesDiffer markup → AreContents (text_of markup) }
+    ensures picture { (names : List (List ℕ)) (report : Report) → AreContents (picture names report) }
 {}
+
+/// Reports and names that have one text have one picture.
+pub fn texts_have_one_picture()
+    ensures { (text : List ℕ) (named named' : Named) → HasNamedText text named → HasNamedText text named'
+        → picture named.names named.report ≡ picture named'.names named'.report }
+{
+    texts_have_one_wording();
+}

@@ -7,7 +7,7 @@ use crate::bytes::{push_escaped, push_number};
 use std::alloc::AllocError;
 
 /// A product that fits.
-fn product(factor: u32, number: u32) -> u64
+pub(crate) fn product(factor: u32, number: u32) -> u64
     ensures { result ≡ factor * number }
 {
     factor as u64 * number as u64

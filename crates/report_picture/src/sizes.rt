@@ -1,7 +1,7 @@
 //! The batches by their numbers of calls, as bars.
-ghost use Rattle.std.specs.Prelude.{◌≡◌, ◌++◌, ◌+◌, ◌*◌, ◌<◌, ◌≤◌, ◌^◌, length, OnOk};
+ghost use Rattle.std.specs.Prelude.{◌≡◌, ◌++◌, ◌+◌, ◌*◌, ◌<◌, ◌≤◌, ◌^◌, length, OnOk, codes};
 ghost use Rattle.report_picture.specs.Boxes.{sized, bar_width};
-ghost use Rattle.report_picture.specs.Code.Texts.{bar_end, bar_text, bars_text};
+ghost use Rattle.report_picture.specs.Code.Texts.{bar_end, bar_text, bars_text, note_text};
 
 use crate::bytes::{push_number, push_text};
 use crate::shapes::{push_rect, push_words};
@@ -42,34 +42,62 @@ fn push_bar_end(text: &mut Vec<u8>, left: u64, base: u64, count: usize) -> Resul
     push_text(text, b"</text>\n</g>\n")
 }
 
-/// Appends a bar.
+/// Appends a bar, where the bars begin at `top`.
 #[tactic(auto, unfolding(crate::specs::Code::Texts::bar_text))]
-fn push_bar(text: &mut Vec<u8>, mark: u32, count: usize, batches: usize) -> Result<(), AllocError>
+fn push_bar(
+    text: &mut Vec<u8>,
+    top: u32,
+    mark: u32,
+    count: usize,
+    batches: usize,
+) -> Result<(), AllocError>
+    requires top { top ≤ 2000 }
     requires mark { mark ≤ 32 }
     requires count { count < 2 ^ 32 }
     requires batches { batches < 2 ^ 32 }
-    ensures { OnOk result (text.new.items ≡ text.old.items ++ bar_text mark count batches) }
+    ensures { OnOk result (text.new.items ≡ text.old.items ++ bar_text top mark count batches) }
 {
-    let base = (96 + 20 * mark) as u64;
+    let base = (top + 12 + 20 * mark) as u64;
     let width = bar_width(count, batches);
     text.extend_from_slice(b"<g>")?;
     push_words(text, 16, base)?;
     push_number(text, b"", mark + 1)?;
     text.extend_from_slice(b"</text>\n")?;
-    push_rect(text, 96, (84 + 20 * mark) as u64, width, 14, b"#6e7781")?;
+    push_rect(text, 96, (top + 20 * mark) as u64, width, 14, b"#6e7781")?;
     text.extend_from_slice(b"</rect>\n")?;
     push_bar_end(text, 104 + width, base, count)
 }
 
 /// Appends the bars of a book, one for each number of calls from 1 to 32.
 #[tactic(auto, unfolding(crate::specs::Code::Texts::bars_text), using(crate::proofs::Ranges::flat_more))]
-pub(crate) fn push_bars(text: &mut Vec<u8>, book: &[Batch]) -> Result<(), AllocError>
-    requires { length book.now < 2 ^ 32 }
-    ensures { OnOk result (text.new.items ≡ text.old.items ++ bars_text book.now) }
+pub(crate) fn push_bars(text: &mut Vec<u8>, top: u32, book: &[Batch]) -> Result<(), AllocError>
+    requires top { top ≤ 2000 }
+    requires batches { length book.now < 2 ^ 32 }
+    ensures { OnOk result (text.new.items ≡ text.old.items ++ bars_text top book.now) }
 {
     for mark in 0..32 {
         let count = count_sized(book, mark as usize + 1);
-        push_bar(text, mark, count, book.len())?;
+        push_bar(text, top, mark, count, book.len())?;
     }
     Ok(())
+}
+
+/// Appends the words over the bars.
+fn push_note_words(text: &mut Vec<u8>) -> Result<(), AllocError>
+    ensures { OnOk result (text.new.items ≡ text.old.items
+        ++ codes "batches by their number of calls (past 2000 leaves no box is drawn for a leaf)</text>\n") }
+{
+    let words =
+        b"batches by their number of calls (past 2000 leaves no box is drawn for a leaf)</text>\n";
+    text.extend_from_slice(words)
+}
+
+/// Appends the words over the bars, at their place.
+#[tactic(auto, unfolding(crate::specs::Code::Texts::note_text))]
+pub(crate) fn push_note(text: &mut Vec<u8>, foot: u32) -> Result<(), AllocError>
+    requires { foot ≤ 2000 }
+    ensures { OnOk result (text.new.items ≡ text.old.items ++ note_text foot) }
+{
+    push_words(text, 16, (foot + 84) as u64)?;
+    push_note_words(text)
 }

@@ -1,4 +1,4 @@
--- The text of each part of the picture, in the pieces that the code writes.
+-- The text of each part of the picture, in the pieces that the code writes. The names are those of the objects.
 use Rattle.std.specs.Prelude.{ℕ, ◌+◌, ◌*◌, ◌-◌, ◌/◌, List, [], ◌∷◌, ◌++◌, length, codes, nat_le, if◌then◌else◌, Option, None, Some}
 use Rattle.std.specs.List.{flat_map, range_with_len}
 use Rattle.std.specs.Fmt.{decimal}
@@ -10,6 +10,9 @@ use Rattle.report_picture.specs.Markup.{escaped}
 use Rattle.batch_history.specs.Book.{flat}
 use Rattle.batch_history.specs.Places.{place_of}
 use Rattle.batch_history.specs.declared.report.Report.{Report}
+use Rattle.report_shares.specs.Shares.{width_of, shares_of}
+use Rattle.report_shares.specs.declared.share.Share.{Share}
+use Rattle.report_picture.specs.Columns.{column_left, height_in}
 use Rattle.report_picture.specs.Boxes.{lane_top, across, batch_colour, Bracket, brackets_of, sized, bar_width}
 
 unfoldable pub rect_front : ℕ → ℕ → ℕ → ℕ → List ℕ → List ℕ
@@ -28,15 +31,15 @@ work_text row =
     rect_front row.start (lane_top row.worker + 9) (row.end - row.start) 10 (codes "#6e7781")
     ++ (codes "<title>leaf " ++ (decimal row.leaf ++ (codes ": work" ++ ticks_text row)))
 
-unfoldable pub called_text : Place → Row → List ℕ
-called_text place row =
+unfoldable pub called_text : List (List ℕ) → Place → Row → List ℕ
+called_text names place row =
     rect_front row.start (lane_top row.worker + 4) (row.end - row.start) 20 (batch_colour place.batch)
-    ++ (codes "<title>leaf " ++ (decimal row.leaf ++ (codes ": " ++ (escaped (op_words place.entry.op)
+    ++ (codes "<title>leaf " ++ (decimal row.leaf ++ (codes ": " ++ (escaped (op_words names place.entry.op)
     ++ (codes ", batch " ++ (decimal place.batch ++ ticks_text row))))))
 
-abbrev pub box_text : Option Place → Row → List ℕ
-box_text None row = work_text row
-box_text (Some place) row = called_text place row
+abbrev pub box_text : List (List ℕ) → Option Place → Row → List ℕ
+box_text names None row = work_text row
+box_text names (Some place) row = called_text names place row
 
 unfoldable pub words_front : ℕ → ℕ → List ℕ
 words_front left base =
@@ -54,31 +57,31 @@ lane_text right worker =
     ++ light_end)))))))
 
 unfoldable pub tick_text : ℕ → ℕ → ℕ → List ℕ
-tick_text scale foot tick =
-    codes "<g>" ++ (words_front (across scale tick) (foot + 16) ++ (decimal tick ++ (codes "</text>\n<path d=\"M"
-    ++ (decimal (across scale tick) ++ (codes " 46V" ++ (decimal (foot + 4) ++ light_end))))))
+tick_text left foot tick =
+    codes "<g>" ++ (words_front left (foot + 16) ++ (decimal tick ++ (codes "</text>\n<path d=\"M"
+    ++ (decimal left ++ (codes " 46V" ++ (decimal (foot + 4) ++ light_end))))))
 
 unfoldable pub call_front : ℕ → ℕ → ℕ → ℕ → List ℕ
 call_front scale foot batch serial =
     rect_front (across (2 * scale) serial) (foot + 44) (2 * scale - 1) 20 (batch_colour batch)
 
 -- what a call asked for and what it got, and the end of its box
-unfoldable pub served_text : Entry → List ℕ
-served_text entry =
-    codes ", " ++ (escaped (op_words entry.op) ++ (codes " -&gt; " ++ (escaped (reply_words entry.reply)
+unfoldable pub served_text : List (List ℕ) → Entry → List ℕ
+served_text names entry =
+    codes ", " ++ (escaped (op_words names entry.op) ++ (codes " -&gt; " ++ (escaped (reply_words entry.reply)
     ++ codes "</title>\n</rect>\n")))
 
-unfoldable pub call_text : ℕ → ℕ → ℕ → ℕ → ℕ → Entry → List ℕ
-call_text scale foot batch place serial entry =
+unfoldable pub call_text : List (List ℕ) → ℕ → ℕ → ℕ → ℕ → ℕ → Entry → List ℕ
+call_text names scale foot batch place serial entry =
     call_front scale foot batch serial ++ (codes "<title>batch " ++ (decimal batch ++ (codes " place "
     ++ (decimal place ++ (codes ": leaf " ++ (decimal entry.leaf ++ (codes " of worker " ++ (decimal entry.worker
-    ++ served_text entry))))))))
+    ++ served_text names entry))))))))
 
 -- the texts of the calls of a batch from this place on
-abbrev pub calls_text : ℕ → ℕ → ℕ → ℕ → ℕ → List Entry → List ℕ
-calls_text scale foot batch place serial [] = []
-calls_text scale foot batch place serial (entry ∷ entries) =
-    call_text scale foot batch place serial entry ++ calls_text scale foot batch (place + 1) (serial + 1) entries
+abbrev pub calls_text : List (List ℕ) → ℕ → ℕ → ℕ → ℕ → ℕ → List Entry → List ℕ
+calls_text names scale foot batch place serial [] = []
+calls_text names scale foot batch place serial (entry ∷ entries) =
+    call_text names scale foot batch place serial entry ++ calls_text names scale foot batch (place + 1) (serial + 1) entries
 
 unfoldable pub number_text : ℕ → ℕ → ℕ → List ℕ
 number_text left base batch =
@@ -99,10 +102,10 @@ unfoldable pub bracket_line : ℕ → ℕ → ℕ → ℕ → ℕ → List ℕ
 bracket_line scale foot batch first count =
     under_text foot (across (2 * scale) first) (across (2 * scale) (first + count) - 3) batch
 
-unfoldable pub bracket_text : ℕ → ℕ → Bracket → List ℕ
-bracket_text scale foot bracket =
+unfoldable pub bracket_text : List (List ℕ) → ℕ → ℕ → Bracket → List ℕ
+bracket_text names scale foot bracket =
     codes "<g><title>batch " ++ (decimal bracket.batch ++ (codes "</title>\n"
-    ++ (calls_text scale foot bracket.batch 0 bracket.first bracket.entries
+    ++ (calls_text names scale foot bracket.batch 0 bracket.first bracket.entries
     ++ (bracket_line scale foot bracket.batch bracket.first (length bracket.entries) ++ codes "</g>\n"))))
 
 unfoldable pub legend_text : ℕ → List ℕ
@@ -140,52 +143,95 @@ lanes_text right workers =
 
 unfoldable pub marks_text : ℕ → ℕ → ℕ → List ℕ
 marks_text scale foot span =
-    flat_map (λ mark. tick_text scale foot (mark * (span / 8 + 1))) (range_with_len 0 8)
+    flat_map (λ mark. tick_text (across scale (mark * (span / 8 + 1))) foot (mark * (span / 8 + 1))) (range_with_len 0 8)
 
-unfoldable pub boxes_text : List (List Entry) → List Row → List ℕ
-boxes_text book rows =
-    flat_map (λ row. box_text (place_of book row.leaf) row) rows
+unfoldable pub boxes_text : List (List ℕ) → List (List Entry) → List Row → List ℕ
+boxes_text names book rows =
+    flat_map (λ row. box_text names (place_of book row.leaf) row) rows
 
-unfoldable pub group_text : ℕ → List (List Entry) → List Row → List ℕ
-group_text scale book rows =
-    codes "<g transform=\"translate(96 0) scale(" ++ (decimal scale ++ (codes " 1)\">" ++ (boxes_text book rows
+unfoldable pub group_text : List (List ℕ) → ℕ → List (List Entry) → List Row → List ℕ
+group_text names scale book rows =
+    codes "<g transform=\"translate(96 0) scale(" ++ (decimal scale ++ (codes " 1)\">" ++ (boxes_text names book rows
     ++ codes "</g>\n")))
 
 unfoldable pub strip_name : ℕ → List ℕ
 strip_name foot =
     words_front 16 (foot + 59) ++ codes "batches</text>\n"
 
-unfoldable pub brackets_text : ℕ → ℕ → List Bracket → List ℕ
-brackets_text scale foot brackets =
-    flat_map (bracket_text scale foot) brackets
+unfoldable pub brackets_text : List (List ℕ) → ℕ → ℕ → List Bracket → List ℕ
+brackets_text names scale foot brackets =
+    flat_map (bracket_text names scale foot) brackets
 
 -- the text of the drawing with boxes
-unfoldable pub drawing_text : ℕ → ℕ → Report → List ℕ
-drawing_text span scale report =
+unfoldable pub drawing_text : List (List ℕ) → ℕ → ℕ → Report → List ℕ
+drawing_text names span scale report =
     sheet_front (across scale span + 24) (lane_top report.workers + 140)
     ++ (caption_text report.workers (length report.rows) (length (flat report.history)) (length report.history)
     ++ (marks_text scale (lane_top report.workers) span ++ (lanes_text (across scale span) report.workers
-    ++ (group_text scale report.history report.rows ++ (strip_name (lane_top report.workers)
-    ++ (brackets_text scale (lane_top report.workers) (brackets_of report) ++ (legend_text (lane_top report.workers)
+    ++ (group_text names scale report.history report.rows ++ (strip_name (lane_top report.workers)
+    ++ (brackets_text names scale (lane_top report.workers) (brackets_of report) ++ (legend_text (lane_top report.workers)
     ++ codes "</svg>\n")))))))
 
-unfoldable pub note_text : List ℕ
-note_text = words_front 16 60 ++ codes "batches by their number of calls (no boxes are drawn past 2000 leaves)</text>\n"
+unfoldable pub note_text : ℕ → List ℕ
+note_text foot =
+    words_front 16 (foot + 84) ++ codes "batches by their number of calls (past 2000 leaves no box is drawn for a leaf)</text>\n"
 
 unfoldable pub bar_end : ℕ → ℕ → ℕ → List ℕ
 bar_end left base count = words_front left base ++ (decimal count ++ codes "</text>\n</g>\n")
 
-unfoldable pub bar_text : ℕ → ℕ → ℕ → List ℕ
-bar_text mark count batches =
-    codes "<g>" ++ (words_front 16 (96 + 20 * mark) ++ (decimal (mark + 1) ++ (codes "</text>\n"
-    ++ (rect_front 96 (84 + 20 * mark) (bar_width count batches) 14 (codes "#6e7781") ++ (codes "</rect>\n"
-    ++ bar_end (104 + bar_width count batches) (96 + 20 * mark) count)))))
+unfoldable pub bar_text : ℕ → ℕ → ℕ → ℕ → List ℕ
+bar_text top mark count batches =
+    codes "<g>" ++ (words_front 16 (top + 12 + 20 * mark) ++ (decimal (mark + 1) ++ (codes "</text>\n"
+    ++ (rect_front 96 (top + 20 * mark) (bar_width count batches) 14 (codes "#6e7781") ++ (codes "</rect>\n"
+    ++ bar_end (104 + bar_width count batches) (top + 12 + 20 * mark) count)))))
 
-unfoldable pub bars_text : List (List Entry) → List ℕ
-bars_text book = flat_map (λ mark. bar_text mark (sized (mark + 1) book) (length book)) (range_with_len 0 32)
+unfoldable pub bars_text : ℕ → List (List Entry) → List ℕ
+bars_text top book = flat_map (λ mark. bar_text top mark (sized (mark + 1) book) (length book)) (range_with_len 0 32)
 
--- the text of the drawing without boxes
-unfoldable pub bare_text : Report → List ℕ
-bare_text report =
-    sheet_front 840 740 ++ (caption_text report.workers (length report.rows) (length (flat report.history)) (length report.history)
-    ++ (note_text ++ (bars_text report.history ++ codes "</svg>\n")))
+-- a rectangle without a title
+unfoldable pub plain_text : ℕ → ℕ → ℕ → ℕ → List ℕ → List ℕ
+plain_text left top width height colour = rect_front left top width height colour ++ codes "</rect>\n"
+
+-- the title of a share
+unfoldable pub title_text : Share → List ℕ
+title_text share =
+    codes "<g><title>worker " ++ (decimal share.worker ++ (codes ", ticks " ++ (decimal share.from ++ (codes " to "
+    ++ (decimal share.to ++ (codes ": work " ++ (decimal share.work ++ (codes ", calls " ++ (decimal share.calls
+    ++ (codes ", idle " ++ (decimal (share.to - share.from - share.work - share.calls) ++ codes "</title>\n")))))))))))
+
+-- the rectangles of a share with these heights
+unfoldable pub parts_text : ℕ → ℕ → ℕ → ℕ → ℕ → List ℕ
+parts_text left foot all work calls =
+    plain_text left (foot - all) 8 all (codes "#eaeef2") ++ (plain_text left (foot - work) 8 work (codes "#6e7781")
+    ++ plain_text left (foot - work - calls) 8 calls (codes "#0072b2"))
+
+unfoldable pub share_text : ℕ → Share → List ℕ
+share_text width share =
+    title_text share ++ (parts_text (column_left share.column) (lane_top share.worker + 28) (height_in 28 width (share.to - share.from)) (height_in 28 width share.work)
+    (height_in (28 - height_in 28 width share.work) width share.calls) ++ codes "</g>\n")
+
+unfoldable pub shares_text : ℕ → List Share → List ℕ
+shares_text width shares = flat_map (share_text width) shares
+
+unfoldable pub edges_text : ℕ → ℕ → List ℕ
+edges_text foot width = flat_map (λ mark. tick_text (column_left (15 * mark)) foot (15 * mark * width)) (range_with_len 0 8)
+
+-- a colour, and the front of what it is
+unfoldable pub key_front : ℕ → ℕ → List ℕ → List ℕ
+key_front left foot colour = plain_text left (foot + 40) 24 14 colour ++ words_front (left + 32) (foot + 52)
+
+unfoldable pub keys_text : ℕ → ℕ → List ℕ
+keys_text foot width =
+    codes "<g>" ++ (key_front 96 foot (codes "#6e7781") ++ (codes "work</text>\n" ++ (key_front 192 foot (codes "#0072b2")
+    ++ (codes "calls</text>\n" ++ (key_front 288 foot (codes "#eaeef2") ++ (codes "idle, of the " ++ (decimal width
+    ++ codes " ticks of a column</text>\n</g>\n")))))))
+
+-- the text of the drawing with columns
+unfoldable pub columns_text : Report → List ℕ
+columns_text report =
+    sheet_front 1080 (lane_top report.workers + 752)
+    ++ (caption_text report.workers (length report.rows) (length (flat report.history)) (length report.history)
+    ++ (edges_text (lane_top report.workers) (width_of (length report.rows)) ++ (lanes_text 1056 report.workers
+    ++ (shares_text (width_of (length report.rows)) (shares_of report) ++ (keys_text (lane_top report.workers) (width_of (length report.rows))
+    ++ (note_text (lane_top report.workers) ++ (bars_text (lane_top report.workers + 96) report.history
+    ++ codes "</svg>\n")))))))

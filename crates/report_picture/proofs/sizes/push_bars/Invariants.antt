@@ -5,4 +5,4 @@ use Rattle.report_picture.specs.Code.Texts.{bar_text}
 use Rattle.report_picture.proofs.sizes.push_bars.Given as goal
 
 abbrev pub invariant-loop-mark : goal.invariant-loop-mark
-invariant-loop-mark l = l.text.items ≡ l.fn.text.items ++ flat_map (λ mark. bar_text mark (sized (mark + 1) l.book) (length l.book)) (range_with_len 0 l.mark)
+invariant-loop-mark l = l.text.items ≡ l.fn.text.items ++ flat_map (λ mark. bar_text l.top mark (sized (mark + 1) l.book) (length l.book)) (range_with_len 0 l.mark)

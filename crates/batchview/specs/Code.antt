@@ -1,5 +1,5 @@
 -- What only the code and its proofs cite: the file of a view, why it was not read, and the status of a run by its end.
-use Rattle.std.specs.Prelude.{ℕ, ◌<◌, List, [], length, Option}
+use Rattle.std.specs.Prelude.{ℕ, ◌<◌, List, length}
 use Rattle.program_io.specs.declared.program.Stop.{Stop}
 use Rattle.program_io.specs.declared.program.Stop.TheVariants as stop
 use Rattle.program_io.specs.declared.program.End.{End}

@@ -4,19 +4,18 @@ use Rattle.std.specs.Prelude.{◌≡◌, ℕ, ◌<◌, ◌≤◌, ◌⊎◌, Lis
 use Rattle.std.specs.Io.KnownBytes.{Appends, Keeps}
 use Rattle.bt_io.specs.Bytes.{AppendsFront}
 use Rattle.program_io.specs.Reading.{WasRead}
-use Rattle.batch_history.specs.declared.report.Report.{Report}
-use Rattle.report_reader.specs.Texts.{HasText}
+use Rattle.report_reader.specs.Texts.{Named, HasNamedText}
 use Rattle.report_picture.specs.Picture.{picture}
 use Rattle.batchview.specs.declared.status.ViewRefusal.{ViewRefusal}
 use Rattle.batchview.specs.declared.status.ViewRefusal.TheVariants.{TooLong, NoReport}
 use Rattle.batchview.specs.declared.status.ViewStatus.{ViewStatus}
 use Rattle.batchview.specs.declared.status.ViewStatus.TheVariants as status
 
--- the text is that of a raw report, and these bytes are its picture
+-- the text is that of a report with names for its objects, and these bytes are its picture
 pub record Pictures (text drawn : List ℕ) : Type 0 where
-  pub report : Report
-  pub has_text : HasText text report
-  pub is : drawn ≡ picture report
+  pub named : Named
+  pub has_text : HasNamedText text named
+  pub is : drawn ≡ picture named.names named.report
 
 -- these are the picture of the report whose text was read
 pub record IsPicture (held : Option (List ℕ)) (drawn : List ℕ) : Type 0 where
@@ -35,9 +34,9 @@ Prints Drawn status.Done old new = (drawn : List ℕ) × Drawn drawn × Appends 
 Prints Drawn status.WriteFault old new = (drawn : List ℕ) × Drawn drawn × AppendsFront old new drawn
 Prints Drawn _ old new = Keeps old new
 
--- no raw report has the text
+-- no report has the text, whatever the names of its objects are
 abbrev pub HasNoReport : List ℕ → Type 0
-HasNoReport text = (report : Report) → HasText text report → ⊥
+HasNoReport text = (named : Named) → HasNamedText text named → ⊥
 
 -- the bytes that were read are the text of no report
 pub record IsRefused (held : Option (List ℕ)) : Type 0 where
@@ -71,12 +70,12 @@ pub record Completes (held : Option (List ℕ)) (ended : ViewStatus) (ReadsFaile
       → 8388608 < length text → IsUnlessMemory ended (status.Refused TooLong)
   pub no_report : (text : List ℕ) → held ≡ Some text → ¬ ReadsFailed
       → length text ≤ 8388608 → HasNoReport text → IsUnlessMemory ended (status.Refused NoReport)
-  pub drawn : (text : List ℕ) (report : Report) → held ≡ Some text → ¬ ReadsFailed → ¬ WritesFailed
-      → length text ≤ 8388608 → HasText text report → IsUnlessMemory ended status.Done
+  pub drawn : (text : List ℕ) (named : Named) → held ≡ Some text → ¬ ReadsFailed → ¬ WritesFailed
+      → length text ≤ 8388608 → HasNamedText text named → IsUnlessMemory ended status.Done
 
 -- Where the shelf never fails and holds the text of a report, and its picture is within the room that out has left, the
 -- picture is drawn, unless memory runs out.
 abbrev pub IsAssured : Option (List ℕ) → ViewStatus → Bool → ℕ → Type 0
 IsAssured held ended never_fails room =
-    (text : List ℕ) (report : Report) → held ≡ Some text → length text ≤ 8388608 → HasText text report
-    → IsTrue never_fails → length (picture report) ≤ room → IsUnlessMemory ended status.Done
+    (text : List ℕ) (named : Named) → held ≡ Some text → length text ≤ 8388608 → HasNamedText text named
+    → IsTrue never_fails → length (picture named.names named.report) ≤ room → IsUnlessMemory ended status.Done

@@ -1,7 +1,7 @@
 //! The drawing of a report: its file is read, and its picture is made.
 ghost use Rattle.std.specs.Prelude.{◌≡◌, ◌≤◌, ◌^◌, ◌<◌, length, IfOk, IfErr, IsTrue, IsSome};
 ghost use Rattle.batch_history.specs.Book.{flat};
-ghost use Rattle.report_reader.specs.Texts.{HasText};
+ghost use Rattle.report_reader.specs.Texts.{HasNamedText};
 ghost use Rattle.program_io.specs.Lines.{told_text};
 ghost use Rattle.batchview.specs.Outcomes.{IsPicture, Refuses, Pictures, HasNoReport};
 ghost use Rattle.batchview.specs.Code.{file_in, end_line, StopsDrawing};
@@ -11,7 +11,7 @@ use crate::words::View;
 use bt_io::{ReadErr, Shelf};
 use program_io::{End, Line, Program, Stop, read_file};
 use report_picture::picture;
-use report_reader::{ReadReportErr, read_report};
+use report_reader::{ReadReportErr, read_alone};
 use std::alloc::{AllocError, Global};
 
 /// The most bytes that a report's file may have.
@@ -23,8 +23,8 @@ fn draw(alloc: Global, text: &[u8]) -> Result<Vec<u8>, Stop<ViewRefusal>>
     ensures ok { IfOk result (λ drawn. Pictures text.now drawn.items) }
     ensures err { IfErr result (λ stop. StopsDrawing stop text.now) }
 {
-    match read_report(alloc, text) {
-        Ok(raw) => match picture(alloc, &raw) {
+    match read_alone(alloc, text) {
+        Ok(read) => match picture(alloc, read.names.as_slice(), &read.raw) {
             Ok(drawn) => Ok(drawn),
             Err(AllocError) => Err(Stop::Memory),
         },

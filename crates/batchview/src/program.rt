@@ -12,7 +12,7 @@ use crate::status::{ViewStatus, status_of};
 use crate::words::{View, view_in};
 use bt_io::{Shelf, Sink};
 use program_io::{End, WordsErr, run_program, tell};
-use report_reader::laws::texts_have_one_report;
+use report_picture::laws::texts_have_one_picture;
 use std::alloc::Global;
 
 /// Draws the report of a file, and writes its picture on `out`, or the line that says why there is none on `err`.
@@ -74,7 +74,7 @@ pub fn batchview<I: Shelf, O: Sink, E: Sink>(
     ensures tells { Tells (status_line result) (E.taken err.old) (E.taken err.new)
         (Rose (E.faults err.old) (E.faults err.new)) }
 {
-    texts_have_one_report();
+    texts_have_one_picture();
     match view_in(words) {
         Some(view) => draw_file(alloc, &view, shelf, out, err),
         None => {

@@ -1,0 +1,9 @@
+pub mod ListLemmas
+pub mod Structures
+pub mod Numbering
+pub mod Adding
+pub mod Taking
+pub mod Dealing
+pub mod Putting
+pub mod Opening
+pub mod Closing

@@ -1,0 +1,10 @@
+use Rattle.std.proofs.Common.{◌≡◌, ◌++◌}
+use Rattle.seq_objects.specs.Pieces.{AllMeet}
+use Rattle.object_rows.proofs.run.run_all.Given as goal
+
+-- the outs so far meet the pieces that were run
+abbrev pub invariant-loop-input : goal.invariant-loop-input
+invariant-loop-input g l = record {
+  met : AllMeet g.T.Batched.meets l.yielded l.outs.items;
+  all : l.yielded ++ l.input-iterator.rest.items ≡ l.initial.input-iterator.rest.items;
+}

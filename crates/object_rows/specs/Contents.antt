@@ -1,0 +1,21 @@
+-- The structures of a row, and their contents as a store.
+use Rattle.std.specs.Prelude.{ℕ, ◌==◌, if◌then◌else◌, Some, None}
+use Rattle.std.specs.declared.option.Option.{Option}
+use Rattle.std.specs.BTreeMap.{get}
+use Rattle.std.specs.Ordering.{nat_cmp}
+use Rattle.seq_objects.specs.Objects.{Objects, opening}
+use Rattle.seq_objects.specs.Stores.{Store}
+use Rattle.object_rows.specs.declared.by_number.ByNumber.{ByNumber}
+
+-- the structure of a number, if there is one
+unfoldable pub structure_at : {T : Type 0} → ByNumber T → ℕ → Option T
+structure_at structures number = if number == 0 then structures.first else get nat_cmp structures.others number
+
+-- the content of a structure; the opening one where there is none
+abbrev pub content_or_opening : {T : Type 0} → (T → Objects) → Option T → Objects
+content_or_opening content (Some structure) = content structure
+content_or_opening content None = opening
+
+-- the content of each number
+abbrev pub store_of : {T : Type 0} → (T → Objects) → ByNumber T → Store
+store_of content structures = λ number. content_or_opening content (structure_at structures number)

@@ -1,0 +1,62 @@
+//! Closes the structures that a batch has called.
+ghost use Rattle.std.specs.Prelude.{◌≡◌, ◌==◌, ◌<◌, ℕ, [], Some, if◌then◌else◌, List, length, IfOk};
+ghost use Rattle.seq_objects.specs.Stores.{Store};
+ghost use Rattle.seq_objects.specs.Serial.{after_all, replies_to_all};
+ghost use Rattle.seq_objects.specs.Batches.{calls_at};
+ghost use Rattle.seq_objects.specs.Pieces.{AllMeet};
+ghost use Rattle.seq_objects.specs.declared.call.Call.{Call as CallOf};
+ghost use Rattle.object_rows.specs.Rows.{MembersMeet};
+ghost use Rattle.object_rows.specs.Contents.{structure_at};
+ghost use Rattle.object_rows.specs.Contexts.{IsOpenFor, RowContext, IsRowContextOf, HasServed};
+ghost use Rattle.object_rows.specs.Code.Closing.{ClosesOne};
+
+use crate::by_number::ByNumber;
+use crate::replies::{empty_replies, put_own};
+use crate::row::{Called, Row};
+use crate::rows::take_lasts;
+use seq_objects::{Batched, Call, Reply};
+use std::alloc::{AllocError, Global};
+
+/// Closes an open structure with the outs of its pieces, and returns the replies to its calls.
+fn close_one<T: Batched>(
+    alloc: Global,
+    closed: &mut ByNumber<T>,
+    called: Called<T::Rest>,
+    outs: Vec<T::Out>,
+) -> Result<Vec<Reply>, AllocError>
+    requires { (store : Store) × (calls : List CallOf) × (ins : List T.In)
+        × IsOpenFor T.content T.is_context_of store calls called ins × AllMeet T.meets ins outs.items }
+    ensures { IfOk result (λ v. (store : Store) (calls : List CallOf) (ins : List T.In)
+        → IsOpenFor T.content T.is_context_of store calls called ins → AllMeet T.meets ins outs.items
+        → ClosesOne T.content closed.old closed.new called.number store calls v.items) }
+{
+    let number = called.number;
+    let (structure, replies) = T::end(alloc, called.rest, outs)?;
+    closed.put(number, structure)?;
+    Ok(replies)
+}
+
+/// Closes the structures that a batch of these calls has opened, with the outs of each place, and returns the replies
+/// in the order of the calls.
+pub fn close_row<T: Batched>(
+    alloc: Global,
+    row: &mut Row<T, T::Rest>,
+    calls: &[Call],
+    outs: Vec<Vec<T::Out>>,
+) -> Result<Vec<Reply>, AllocError>
+    requires met { (o : RowContext T.In) × IsRowContextOf T.content T.is_context_of row.old o × (o.calls ≡ calls.now)
+        × AllMeet (MembersMeet T.meets) o.ins outs.items }
+    ensures { IfOk result (λ v. (o : RowContext T.In) → IsRowContextOf T.content T.is_context_of row.old o
+        → o.calls ≡ calls.now → AllMeet (MembersMeet T.meets) o.ins outs.items
+        → HasServed T.content row.new o.before o.calls v.items) }
+{
+    let mut outs = outs;
+    let mut replies = empty_replies(alloc, calls)?;
+    while let Some(called) = row.called.pop() {
+        let number = called.number;
+        let own = take_lasts(alloc, &mut outs, called.count)?;
+        let told = close_one(alloc, &mut row.closed, called, own)?;
+        put_own(&mut replies, calls, number, &told);
+    }
+    Ok(replies)
+}

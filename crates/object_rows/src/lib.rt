@@ -1,0 +1,23 @@
+//! The structures of one kind, told apart by their numbers, which serve a batch together.
+//!
+//! A `Row` has a structure for each number that some batch has called: it is made at its first call. `open_row` opens
+//! those that a batch calls, each for its own calls, and puts their pieces into rows: those that are at one place of
+//! their lists go together, in the order of the numbers. `run_all` runs the pieces of a place. `close_row` deals the
+//! outs back, ends each structure, and returns the replies in the order of the calls: those of serving the calls one
+//! after another. The crate stands on `Batched` alone, and on no structure.
+#![tactic(auto)]
+
+pub mod by_number;
+mod calls;
+pub mod close;
+pub mod fresh;
+mod numbers;
+pub mod open;
+mod replies;
+pub mod row;
+mod rows;
+pub mod run;
+
+pub use by_number::ByNumber;
+pub use fresh::Fresh;
+pub use row::{Called, Row};

@@ -1,7 +1,6 @@
--- Definitions that only the code cites: the forms of a structure, a batch that was served, how outs are sorted by
--- structure, the rows of places, and how the structures' replies are merged.
+-- Definitions that only the code cites: a batch that was served, how outs are sorted by kind, the rows of
+-- places, and how the kinds' replies are merged.
 pub mod Committing
-pub mod Phases
 pub mod Merging
 pub mod Outs
 pub mod Rows

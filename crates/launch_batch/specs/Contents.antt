@@ -1,42 +1,41 @@
 -- The contents of a shop's structures, and the calls of a batch of it.
-use Rattle.std.specs.Prelude.{ℕ, ◌≡◌, ◌<◌, ◌≤◌, ◌*◌, ◌^◌, List, length}
+use Rattle.std.specs.Prelude.{ℕ, ◌≡◌, ◌<◌, ◌≤◌, ◌*◌, ◌^◌, List, [], length}
 use Rattle.std.specs.List.{AllByRecursion}
 use Rattle.seq_objects.specs.declared.call.Call.{Call}
-use Rattle.seq_objects.specs.Batches.{AreInBatchOrder}
+use Rattle.seq_objects.specs.Batches.{ObjectKind, Counter, Stack, Tree, Queue, AreInBatchOrder}
 use Rattle.seq_objects.specs.Objects.{Objects, argument_of}
-use Rattle.batched_stack.specs.Stripes.{StackView}
+use Rattle.seq_objects.specs.Stores.{Store}
+use Rattle.seq_objects.specs.Serial.{alone, of_counter, of_stack, of_set, of_bag}
+use Rattle.object_rows.specs.declared.row.Row.{Row}
+use Rattle.object_rows.specs.Contents.{store_of}
 use Rattle.batch_history.specs.declared.batch.Entry.{Entry}
 use Rattle.batch_history.specs.Book.{flat}
 use Rattle.batch_history.specs.Serving.{served_book}
-use Rattle.launch_batch.specs.declared.phase.Phase.TheVariants.{Closed}
 use Rattle.launch_batch.specs.declared.structures.Structures.{Structures}
 use Rattle.launch_batch.specs.Calls.{MayServe, AreSame}
 
--- what contracts see of the four structures
-pub record Views : Type 0 where
-  pub counter : ℕ
-  pub stack : StackView
-  pub tree : List ℕ
-  pub queue : List ℕ
+-- the objects of one kind alone; all others are as at the opening
+abbrev pub store_of_kind : ObjectKind → Store → Store
+store_of_kind kind store = λ number. alone kind (store number)
 
--- the serial objects with the contents of the structures
-abbrev pub contents : Views → Objects
-contents views =
-    record { counter = views.counter; stack = views.stack.items; set = views.tree; bag = views.queue }
+-- the structures of one kind are closed, and contain what serving the history gives; a number without a structure
+-- counts as one with the opening content
+pub record MatchesHistory {T R : Type 0} (content : T → Objects) (kind : ObjectKind) (row : Row T R)
+    (history : List (List Entry)) : Type 0 where
+  pub closed : row.called.items ≡ []
+  pub contents : (number : ℕ) → store_of content row.closed number ≡ store_of_kind kind (served_book history) number
 
--- the contents are those that serving the history gives, and the counter is at most 2^32 for each entry of it
-pub record MatchesHistory (views : Views) (history : List (List Entry)) : Type 0 where
-  pub contents : contents views ≡ served_book history
-  pub room : views.counter ≤ length (flat history) * 2 ^ 32
+-- each counter is at most 2^32 for each entry of the history
+abbrev pub HasRoom : List (List Entry) → Type 0
+HasRoom history = (number : ℕ) → (served_book history number).counter ≤ length (flat history) * 2 ^ 32
 
--- each structure of the shop is closed, and their contents satisfy `MatchesHistory`
+-- the structures of each kind match the history, which leaves room in the counters
 pub record ShopInvariant (structures : Structures) (history : List (List Entry)) : Type 0 where
-  pub views : Views
-  pub counter : structures.counter ≡ Closed views.counter
-  pub stack : structures.stack ≡ Closed views.stack
-  pub tree : structures.tree ≡ Closed views.tree
-  pub queue : structures.queue ≡ Closed views.queue
-  pub kept : MatchesHistory views history
+  pub counter : MatchesHistory of_counter Counter structures.counter history
+  pub stack : MatchesHistory (λ stack. of_stack stack.items) Stack structures.stack history
+  pub tree : MatchesHistory of_set Tree structures.tree history
+  pub queue : MatchesHistory of_bag Queue structures.queue history
+  pub room : HasRoom history
 
 -- the call's leaf and its operation's argument fit 32 bits
 abbrev pub IsNarrow : Call → Type 0

@@ -5,6 +5,5 @@ pub mod Contents
 pub mod Pieces
 pub mod ByStructure
 pub mod Places
-pub mod Phases
 pub mod Contexts
 pub mod Code

@@ -5,6 +5,7 @@ use Rattle.batched_counter.specs.Pieces.{Meets as CounterMeets}
 use Rattle.batched_stack.specs.Pieces.{Meets as StackMeets}
 use Rattle.batched_tree.specs.Pieces.{Meets as TreeMeets}
 use Rattle.batched_pq.specs.Pieces.{Meets as QueueMeets}
+use Rattle.object_rows.specs.Rows.{MembersMeet}
 use Rattle.launch_batch.specs.declared.piece.PieceIn.{PieceIn}
 use Rattle.launch_batch.specs.declared.piece.PieceIn.TheVariants as piece
 use Rattle.launch_batch.specs.declared.piece.PieceOut.{PieceOut}
@@ -12,17 +13,18 @@ use Rattle.launch_batch.specs.declared.piece.PieceOut.TheVariants as done
 
 -- the place of a piece
 abbrev pub place_of : PieceIn → ℕ
-place_of (piece.Counter place input) = place
-place_of (piece.Stack place input) = place
-place_of (piece.Tree place input) = place
-place_of (piece.Queue place input) = place
+place_of (piece.Counter place ins) = place
+place_of (piece.Stack place ins) = place
+place_of (piece.Tree place ins) = place
+place_of (piece.Queue place ins) = place
 
--- the out is of the piece's structure, and meets the piece by that structure's own rule
+-- The out is of the piece's kind, and has as many members as the piece. Each of them meets the piece's member at its
+-- position, by that structure's own rule.
 abbrev pub Meets : PieceIn → PieceOut → Type 0
-Meets (piece.Counter place input) (done.Counter out) = CounterMeets input out
-Meets (piece.Stack place input) (done.Stack out) = StackMeets input out
-Meets (piece.Tree place input) (done.Tree out) = TreeMeets input out
-Meets (piece.Queue place input) (done.Queue out) = QueueMeets input out
+Meets (piece.Counter place ins) (done.Counter outs) = MembersMeet CounterMeets ins outs
+Meets (piece.Stack place ins) (done.Stack outs) = MembersMeet StackMeets ins outs
+Meets (piece.Tree place ins) (done.Tree outs) = MembersMeet TreeMeets ins outs
+Meets (piece.Queue place ins) (done.Queue outs) = MembersMeet QueueMeets ins outs
 Meets _ _ = ⊥
 
 -- one run of a piece: the piece and its out

@@ -13,7 +13,7 @@ use batch_history::{Batch, History};
 use seq_objects::Call;
 use std::alloc::{AllocError, Global};
 
-/// The shop after a batch, made from the structures, the history before the batch, its calls, and each structure's
+/// The shop after a batch, made from the structures, the history before the batch, its calls, and each kind's
 /// replies. The entries are built once, directly for the history.
 pub(crate) fn commit(
     alloc: Global,

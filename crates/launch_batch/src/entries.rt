@@ -8,7 +8,7 @@ use batch_history::Entry;
 use seq_objects::{Call, Reply};
 use std::alloc::{AllocError, Global};
 
-/// The entries of the calls. Each call takes the next reply of its structure.
+/// The entries of the calls. Each call takes the next reply of its kind.
 pub(crate) fn entries_of(
     alloc: Global,
     calls: &[Call],

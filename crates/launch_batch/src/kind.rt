@@ -1,7 +1,10 @@
-//! The four kinds of structures: the object of each, and its pieces among those of a batch.
-ghost use Rattle.std.specs.Prelude.{◌≡◌, ℕ};
+//! The four kinds of structures: which operations are their own, and their pieces among those of a batch.
+ghost use Rattle.std.specs.Prelude.{◌≡◌, ℕ, IfOk};
+ghost use Rattle.seq_objects.specs.Objects.{opening};
+ghost use Rattle.std.specs.declared.vec.Vec.{Vec as VecOf};
+ghost use Rattle.std.specs.declared.alloc.Global.{Global as GlobalOf};
 ghost use Rattle.seq_objects.specs.Batches as objects;
-ghost use Rattle.seq_objects.specs.Batches.{Object, object_of, same_object};
+ghost use Rattle.seq_objects.specs.Batches.{ObjectKind, kind_of, same_kind};
 ghost use Rattle.launch_batch.specs.declared.piece.PieceIn.{PieceIn as Input};
 ghost use Rattle.launch_batch.specs.declared.piece.PieceIn.TheVariants as piece;
 
@@ -10,80 +13,119 @@ use batched_counter::Counter;
 use batched_pq::Queue;
 use batched_stack::Stack;
 use batched_tree::TreeSet;
+use object_rows::Fresh;
 use seq_objects::{Batched, Op};
+use std::alloc::{AllocError, Global};
 
 /// A kind of structure: which operations are its own, and how its pieces are pieces of a batch.
 pub(crate) trait Kind: Batched {
-    /// The object that it implements.
-    ghost object: { Object };
+    /// The kind of its objects.
+    ghost kind: { ObjectKind };
 
     /// `at`, for contracts.
-    ghost at: { ℕ → Self.In → Input };
+    ghost at: { ℕ → VecOf Self.In GlobalOf → Input };
+
+    /// A structure with the opening content.
+    fn fresh(alloc: Global) -> Result<Self, AllocError>
+        ensures { IfOk result (λ structure. Self.content structure ≡ opening) };
 
     /// Whether the operation is its own.
     fn has(op: Op) -> bool
-        ensures { result ≡ same_object object (object_of op) };
+        ensures { result ≡ same_kind kind (kind_of op) };
 
-    /// Its piece as a piece of the batch, at this place.
-    fn at(place: u32, input: Self::In) -> PieceIn
-        ensures { result ≡ at place input };
+    /// Its pieces at this place as a piece of the batch.
+    fn at(place: u32, ins: Vec<Self::In>) -> PieceIn
+        ensures { result ≡ at place ins };
+}
+
+/// Makes a structure of any kind.
+pub(crate) struct Maker;
+
+impl<T: Kind> Fresh<T> for Maker {
+    fn fresh(alloc: Global) -> Result<T, AllocError> {
+        T::fresh(alloc)
+    }
 }
 
 impl Kind for Counter {
-    ghost object = { objects.Counter };
+    ghost kind = { objects.Counter };
 
     ghost at = { piece.Counter };
 
-    fn has(op: Op) -> bool {
-        matches!(op, Op::CounterAdd(_))
+    fn fresh(alloc: Global) -> Result<Counter, AllocError> {
+        Counter::new(alloc)
     }
 
-    fn at(place: u32, input: Self::In) -> PieceIn {
-        PieceIn::Counter(place, input)
+    fn has(op: Op) -> bool {
+        matches!(op, Op::CounterAdd(..))
+    }
+
+    fn at(place: u32, ins: Vec<Self::In>) -> PieceIn
+        ensures { result ≡ piece.Counter place ins }
+    {
+        PieceIn::Counter(place, ins)
     }
 }
 
 impl Kind for Stack {
-    ghost object = { objects.Stack };
+    ghost kind = { objects.Stack };
 
     ghost at = { piece.Stack };
 
-    fn has(op: Op) -> bool {
-        matches!(op, Op::Push(_) | Op::Pop)
+    fn fresh(alloc: Global) -> Result<Stack, AllocError> {
+        Stack::new(alloc)
     }
 
-    fn at(place: u32, input: Self::In) -> PieceIn {
-        PieceIn::Stack(place, input)
+    fn has(op: Op) -> bool {
+        matches!(op, Op::Push(..) | Op::Pop(_))
+    }
+
+    fn at(place: u32, ins: Vec<Self::In>) -> PieceIn
+        ensures { result ≡ piece.Stack place ins }
+    {
+        PieceIn::Stack(place, ins)
     }
 }
 
 impl Kind for TreeSet {
-    ghost object = { objects.Tree };
+    ghost kind = { objects.Tree };
 
     ghost at = { piece.Tree };
+
+    fn fresh(alloc: Global) -> Result<TreeSet, AllocError> {
+        TreeSet::new(alloc)
+    }
 
     fn has(op: Op) -> bool {
         matches!(
             op,
-            Op::TreeInsert(_) | Op::TreeRemove(_) | Op::TreeFind(_) | Op::TreeNext(_)
+            Op::TreeInsert(..) | Op::TreeRemove(..) | Op::TreeFind(..) | Op::TreeNext(..)
         )
     }
 
-    fn at(place: u32, input: Self::In) -> PieceIn {
-        PieceIn::Tree(place, input)
+    fn at(place: u32, ins: Vec<Self::In>) -> PieceIn
+        ensures { result ≡ piece.Tree place ins }
+    {
+        PieceIn::Tree(place, ins)
     }
 }
 
 impl Kind for Queue {
-    ghost object = { objects.Queue };
+    ghost kind = { objects.Queue };
 
     ghost at = { piece.Queue };
 
-    fn has(op: Op) -> bool {
-        matches!(op, Op::PqInsert(_) | Op::PqTake)
+    fn fresh(alloc: Global) -> Result<Queue, AllocError> {
+        Queue::new(alloc)
     }
 
-    fn at(place: u32, input: Self::In) -> PieceIn {
-        PieceIn::Queue(place, input)
+    fn has(op: Op) -> bool {
+        matches!(op, Op::PqInsert(..) | Op::PqTake(_))
+    }
+
+    fn at(place: u32, ins: Vec<Self::In>) -> PieceIn
+        ensures { result ≡ piece.Queue place ins }
+    {
+        PieceIn::Queue(place, ins)
     }
 }

@@ -1,11 +1,11 @@
-//! One batch over the four batched structures.
+//! One batch over any number of counters, stacks, trees and queues.
 //!
-//! A `Shop` holds the counter, the stack, the set and the queue, and the history of the batches that they served.
-//! `Shop::begin` takes the calls of a batch and returns its pieces. Any thread may run a piece by `run_piece`, in any
-//! order. `Opened::end` returns the shop, its history extended by this batch, and the batch's entries, whose replies
-//! are those of serving the calls one after another in batch order. `laws` states that the pieces may run in any order,
-//! and that the calls and the book before them determine the batch. The crate combines the laws of batches of the four
-//! structures, and builds on `batch_history`.
+//! A `Shop` holds the structures of the four kinds, each made at its first call, and the history of the batches that
+//! they served. `Shop::begin` takes the calls of a batch and returns its pieces. Any thread may run a piece by
+//! `run_piece`, in any order. `Opened::end` returns the shop, its history extended by this batch, and the batch's
+//! entries, whose replies are those of serving the calls one after another in batch order. `laws` states that the
+//! pieces may run in any order, and that the calls and the book before them determine the batch. The crate combines the
+//! laws of batches of the four structures by `object_rows`, and builds on `batch_history`.
 #![tactic(auto)]
 
 mod commit;
@@ -16,7 +16,6 @@ mod merge;
 pub mod opened;
 mod order;
 mod outs;
-pub mod phase;
 pub mod piece;
 mod pieces;
 pub mod row;
@@ -25,9 +24,8 @@ pub mod shop;
 pub mod structures;
 
 pub use opened::Opened;
-pub use phase::Phase;
 pub use piece::{PieceIn, PieceOut, run_piece};
-pub use row::Row;
+pub use row::RowOf;
 pub use serving::serve;
 pub use shop::Shop;
 pub use structures::Structures;

@@ -1,12 +1,12 @@
-//! The replies of the four structures, which the calls of a batch consume in order.
+//! The replies of the four kinds, which the calls of a batch consume in order.
 ghost use Rattle.std.specs.Prelude.{◌≡◌, drop, slice_get};
-ghost use Rattle.seq_objects.specs.Batches.{object_of};
+ghost use Rattle.seq_objects.specs.Batches.{kind_of};
 ghost use Rattle.launch_batch.specs.Code.Merging.{left_of, without_first};
 
 use seq_objects::{Op, Reply};
 use std::marker::Model;
 
-/// A structure's replies from `at` on, which no call has yet. Contracts see them as a list.
+/// The replies of one kind from `at` on, which no call has yet. Contracts see them as a list.
 #[derive(Drop)]
 pub(crate) struct ReplyCursor {
     all: Vec<Reply>,
@@ -43,7 +43,7 @@ impl ReplyCursor {
     }
 }
 
-/// The remaining replies of each structure.
+/// The remaining replies of each kind.
 #[derive(Drop)]
 pub(crate) struct ReplyCursors {
     pub(crate) counter: ReplyCursor,
@@ -53,18 +53,18 @@ pub(crate) struct ReplyCursors {
 }
 
 impl ReplyCursors {
-    /// Takes the next reply of the structure that the operation belongs to.
+    /// Takes the next reply of the kind that the operation belongs to.
     pub(crate) fn next(&mut self, op: Op) -> Option<Reply>
-        ensures reply { result ≡ slice_get (left_of (object_of op) self.old) 0 }
-        ensures rest { self.new ≡ without_first (object_of op) self.old }
+        ensures reply { result ≡ slice_get (left_of (kind_of op) self.old) 0 }
+        ensures rest { self.new ≡ without_first (kind_of op) self.old }
     {
         match op {
-            Op::CounterAdd(_) => self.counter.next(),
-            Op::Push(_) | Op::Pop => self.stack.next(),
-            Op::TreeInsert(_) | Op::TreeRemove(_) | Op::TreeFind(_) | Op::TreeNext(_) => {
+            Op::CounterAdd(..) => self.counter.next(),
+            Op::Push(..) | Op::Pop(_) => self.stack.next(),
+            Op::TreeInsert(..) | Op::TreeRemove(..) | Op::TreeFind(..) | Op::TreeNext(..) => {
                 self.tree.next()
             }
-            Op::PqInsert(_) | Op::PqTake => self.queue.next(),
+            Op::PqInsert(..) | Op::PqTake(_) => self.queue.next(),
         }
     }
 }

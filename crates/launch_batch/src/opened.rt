@@ -16,6 +16,10 @@ use crate::row::close;
 use crate::shop::Shop;
 use crate::structures::Structures;
 use batch_history::{Batch, History};
+use batched_counter::Counter;
+use batched_pq::Queue;
+use batched_stack::Stack;
+use batched_tree::TreeSet;
 use seq_objects::Call;
 use std::alloc::{AllocError, Global};
 
@@ -29,7 +33,7 @@ pub struct Opened {
 }
 
 impl Opened {
-    /// Closes the structures with the outs of each, and returns the shop after the batch.
+    /// Closes the structures with the outs of each kind, and returns the shop after the batch.
     pub(crate) fn into_shop(self, alloc: Global, outs: Outs) -> Result<Shop, AllocError>
         requires { (o : BatchContext (List (List EntryOf)) Input) × IsContextOf self o
             × HaveMet o.ins outs }
@@ -43,14 +47,15 @@ impl Opened {
             history,
             calls,
         } = self;
+        let all = calls.as_slice();
         let inner = &mut *structures;
         let replies = ReplyCursors {
-            counter: close(alloc, &mut inner.counter, outs.counter)?,
-            stack: close(alloc, &mut inner.stack, outs.stack)?,
-            tree: close(alloc, &mut inner.tree, outs.tree)?,
-            queue: close(alloc, &mut inner.queue, outs.queue)?,
+            counter: close::<Counter>(alloc, &mut inner.counter, all, outs.counter)?,
+            stack: close::<Stack>(alloc, &mut inner.stack, all, outs.stack)?,
+            tree: close::<TreeSet>(alloc, &mut inner.tree, all, outs.tree)?,
+            queue: close::<Queue>(alloc, &mut inner.queue, all, outs.queue)?,
         };
-        let shop = commit(alloc, structures, history, &calls, replies)?;
+        let shop = commit(alloc, structures, history, all, replies)?;
         Ok(shop)
     }
 

@@ -6,30 +6,30 @@ use batched_counter::{Counter, Piece as CounterPiece, Served as CounterServed};
 use batched_pq::{Piece as QueuePiece, Queue, Served as QueueServed};
 use batched_stack::{Piece as StackPiece, Served as StackServed, Stack};
 use batched_tree::{Piece as TreePiece, Served as TreeServed, TreeSet};
-use seq_objects::Batched;
+use object_rows::run::run_all;
 use std::alloc::{AllocError, Global};
 
-/// A piece of a batch: its place, and the input that its structure gave it. It owns all its data and is `Send`.
+/// A piece of a batch: its place, and the inputs that structures of one kind gave it, in the order of their numbers. It
+/// owns all its data and is `Send`.
 #[derive(Drop)]
 pub enum PieceIn {
-    Counter(u32, CounterPiece),
-    Stack(u32, StackPiece),
-    Tree(u32, TreePiece),
-    Queue(u32, QueuePiece),
+    Counter(u32, Vec<CounterPiece>),
+    Stack(u32, Vec<StackPiece>),
+    Tree(u32, Vec<TreePiece>),
+    Queue(u32, Vec<QueuePiece>),
 }
 
-/// The output of a piece. It is `Send`.
+/// The outputs of a piece, one for each of its inputs. It is `Send`.
 #[derive(Drop)]
 pub enum PieceOut {
-    Counter(CounterServed),
-    Stack(StackServed),
-    Tree(TreeServed),
-    Queue(QueueServed),
+    Counter(Vec<CounterServed>),
+    Stack(Vec<StackServed>),
+    Tree(Vec<TreeServed>),
+    Queue(Vec<QueueServed>),
 }
 
 impl PieceIn {
-    /// The place of the piece. The counter's places start at 0, the stack's at 16, the tree's at 32 and the queue's at
-    /// 48.
+    /// The place of the piece. Those of counters start at 0, of stacks at 16, of trees at 32 and of queues at 48.
     ///
     /// Memory: none.
     pub fn place(&self) -> u32
@@ -44,15 +44,15 @@ impl PieceIn {
     }
 }
 
-/// Runs one piece. Any thread may do so.
+/// Runs one piece, one input after another. Any thread may do so.
 pub fn run_piece(alloc: Global, input: PieceIn) -> Result<PieceOut, AllocError>
     ensures { IfOk result (λ out. Meets input out) }
 {
     let out = match input {
-        PieceIn::Counter(_, input) => PieceOut::Counter(Counter::piece(alloc, input)?),
-        PieceIn::Stack(_, input) => PieceOut::Stack(Stack::piece(alloc, input)?),
-        PieceIn::Tree(_, input) => PieceOut::Tree(TreeSet::piece(alloc, input)?),
-        PieceIn::Queue(_, input) => PieceOut::Queue(Queue::piece(alloc, input)?),
+        PieceIn::Counter(_, ins) => PieceOut::Counter(run_all::<Counter>(alloc, ins)?),
+        PieceIn::Stack(_, ins) => PieceOut::Stack(run_all::<Stack>(alloc, ins)?),
+        PieceIn::Tree(_, ins) => PieceOut::Tree(run_all::<TreeSet>(alloc, ins)?),
+        PieceIn::Queue(_, ins) => PieceOut::Queue(run_all::<Queue>(alloc, ins)?),
     };
     Ok(out)
 }

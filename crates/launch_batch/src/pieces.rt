@@ -10,13 +10,13 @@ use batched_stack::{Piece as StackPiece, Stack};
 use batched_tree::{Piece as TreePiece, TreeSet};
 use std::alloc::{AllocError, Global};
 
-/// The pieces of the four structures, in ascending order of place.
+/// The pieces of the four kinds, in ascending order of place.
 pub(crate) fn pieces_of(
     alloc: Global,
-    counter: Vec<CounterPiece>,
-    stack: Vec<StackPiece>,
-    tree: Vec<TreePiece>,
-    queue: Vec<QueuePiece>,
+    counter: Vec<Vec<CounterPiece>>,
+    stack: Vec<Vec<StackPiece>>,
+    tree: Vec<Vec<TreePiece>>,
+    queue: Vec<Vec<QueuePiece>>,
 ) -> Result<Vec<PieceIn>, AllocError>
     requires counter { length counter.items ≤ 16 }
     requires stack { length stack.items ≤ 16 }

@@ -1,25 +1,28 @@
-//! The structures of one kind, which share a row of places: today there is one of each kind.
-ghost use Rattle.std.specs.Prelude.{◌≡◌, ◌+◌, ◌^◌, ◌<◌, ◌≤◌, ◌++◌, [], length, true, IfOk, OnOk};
-ghost use Rattle.seq_objects.specs.Batches.{AreOneBatch, calls_of};
-ghost use Rattle.seq_objects.specs.Pieces.{AllMeet, BatchContext};
-ghost use Rattle.launch_batch.specs.declared.phase.Phase.TheVariants.{Closed as ClosedOf};
+//! The structures of one kind, which share a row of places.
+ghost use Rattle.std.specs.Prelude.{◌≡◌, ◌+◌, ◌^◌, ◌<◌, ◌≤◌, ◌++◌, ℕ, [], length, true, IfOk, OnOk};
+ghost use Rattle.seq_objects.specs.Batches.{AreOneBatch, calls_of, calls_at};
+ghost use Rattle.seq_objects.specs.Pieces.{AllMeet};
+ghost use Rattle.object_rows.specs.Rows.{MembersMeet};
+ghost use Rattle.object_rows.specs.Contents.{store_of};
+ghost use Rattle.object_rows.specs.Cuts.{AreCut};
+ghost use Rattle.object_rows.specs.Contexts.{RowContext, IsRowContextOf, HasServed};
 ghost use Rattle.launch_batch.specs.ByStructure.{placed};
-ghost use Rattle.launch_batch.specs.Phases.{IsPhaseContextOf, IsCutIfCalled};
-ghost use Rattle.launch_batch.specs.Code.Phases.{CanServe, HasServed};
 
-use crate::kind::Kind;
+use crate::kind::{Kind, Maker};
 use crate::merge::ReplyCursor;
-use crate::phase::Phase;
 use crate::piece::PieceIn;
+use object_rows::Row;
+use object_rows::close::close_row;
+use object_rows::open::open_row;
 use seq_objects::{Batched, Call};
 use std::alloc::{AllocError, Global};
 
-/// The structures of one kind: one, which is closed or open.
-pub type Row<T> = Phase<T, <T as Batched>::Rest>;
+/// The structures of one kind.
+pub type RowOf<T> = Row<T, <T as Batched>::Rest>;
 
 /// True implies that all calls belong to the row.
 fn are_all_of<T: Kind>(calls: &[Call]) -> bool
-    ensures { result ≡ true → calls_of T.object calls.now ≡ calls.now }
+    ensures { result ≡ true → calls_of T.kind calls.now ≡ calls.now }
 {
     for place in 0..calls.len() {
         if !T::has(calls[place].op) {
@@ -36,7 +39,7 @@ fn calls_of<'a, T: Kind>(
     own: &'a mut Vec<Call>,
 ) -> Result<&'a [Call], AllocError>
     requires { own.old.items ≡ [] }
-    ensures { IfOk result (λ v. v.now ≡ calls_of T.object calls.now) }
+    ensures { IfOk result (λ v. v.now ≡ calls_of T.kind calls.now) }
 {
     if are_all_of::<T>(calls) {
         return Ok(calls);
@@ -50,38 +53,32 @@ fn calls_of<'a, T: Kind>(
     Ok(own.as_slice())
 }
 
-/// Opens a row for those calls of a batch that belong to it, and returns its pieces. Without such calls it stays
-/// closed, and there are none.
+/// Opens the structures of a row that a batch calls, and returns the pieces of each place.
 pub(crate) fn open<T: Kind>(
     alloc: Global,
-    row: &mut Row<T>,
+    row: &mut RowOf<T>,
     calls: &[Call],
-) -> Result<Vec<T::In>, AllocError>
+) -> Result<Vec<Vec<T::In>>, AllocError>
     requires batch { AreOneBatch calls.now }
-    requires may { CanServe T.content T.may_serve row.old (calls_of T.object calls.now) }
+    requires closed { row.old.called.items ≡ [] }
+    requires may { (number : ℕ)
+        → T.may_serve (store_of T.content row.old.closed number) (calls_at number (calls_of T.kind calls.now)) }
     ensures most { IfOk result (λ v. length v.items ≤ T.MOST) }
-    ensures some { IfOk result (λ v. 0 < length (calls_of T.object calls.now) → 1 ≤ length v.items) }
-    ensures cut { IfOk result (λ v. (before : T) → row.old ≡ ClosedOf before
-        → IsCutIfCalled T.cut (T.content before) (calls_of T.object calls.now) v.items) }
-    ensures context { IfOk result (λ v. (before : T) → row.old ≡ ClosedOf before
-        → IsPhaseContextOf T.is_context_of row.new
-        (record { before = before; calls = calls_of T.object calls.now; ins = v.items })) }
+    ensures some { IfOk result (λ v. 0 < length (calls_of T.kind calls.now) → 1 ≤ length v.items) }
+    ensures cut { IfOk result (λ v.
+        AreCut T.cut (store_of T.content row.old.closed) (calls_of T.kind calls.now) v.items) }
+    ensures context { IfOk result (λ v. IsRowContextOf T.content T.is_context_of row.new
+        (record { before = store_of T.content row.old.closed; calls = calls_of T.kind calls.now; ins = v.items })) }
 {
     let mut own = Vec::new(alloc);
     let calls = calls_of::<T>(calls, &mut own)?;
-    if calls.is_empty() {
-        return Ok(Vec::new(alloc));
-    }
-    let structure = row.take_structure();
-    let (rest, ins) = structure.begin(alloc, calls)?;
-    *row = Phase::Open(rest);
-    Ok(ins)
+    open_row::<T, Maker>(alloc, row, calls)
 }
 
 /// Appends the pieces of a row, at consecutive places from `first` on.
 pub(crate) fn place<T: Kind>(
     pieces: &mut Vec<PieceIn>,
-    ins: Vec<T::In>,
+    ins: Vec<Vec<T::In>>,
     first: u32,
 ) -> Result<(), AllocError>
     requires { first + length ins.items < 2 ^ 32 }
@@ -95,22 +92,25 @@ pub(crate) fn place<T: Kind>(
     Ok(())
 }
 
-/// Closes a row, and returns the replies to its calls. A row that is not open stays as it is, without replies.
+/// Closes the structures of a row that a batch has called, with the outs of each place, and returns the replies to its
+/// calls.
 pub(crate) fn close<T: Kind>(
     alloc: Global,
-    row: &mut Row<T>,
-    outs: Vec<T::Out>,
+    row: &mut RowOf<T>,
+    calls: &[Call],
+    outs: Vec<Vec<T::Out>>,
 ) -> Result<ReplyCursor, AllocError>
-    requires met { (o : BatchContext T T.In) × IsPhaseContextOf T.is_context_of row.old o
-        × AllMeet T.meets o.ins outs.items }
-    ensures { IfOk result (λ v. (o : BatchContext T T.In) → IsPhaseContextOf T.is_context_of row.old o
-        → AllMeet T.meets o.ins outs.items → HasServed T.content row.new o.before o.calls v) }
+    requires met { (o : RowContext T.In) × IsRowContextOf T.content T.is_context_of row.old o
+        × (o.calls ≡ calls_of T.kind calls.now) × AllMeet (MembersMeet T.meets) o.ins outs.items }
+    ensures { IfOk result (λ v. (o : RowContext T.In) → IsRowContextOf T.content T.is_context_of row.old o
+        → o.calls ≡ calls_of T.kind calls.now → AllMeet (MembersMeet T.meets) o.ins outs.items
+        → HasServed T.content row.new o.before o.calls v) }
 {
-    if !row.is_open() {
+    if row.called.is_empty() {
         return Ok(ReplyCursor::new(Vec::new(alloc)));
     }
-    let rest = row.take_rest();
-    let (structure, replies) = T::end(alloc, rest, outs)?;
-    *row = Phase::Closed(structure);
+    let mut own = Vec::new(alloc);
+    let calls = calls_of::<T>(calls, &mut own)?;
+    let replies = close_row(alloc, row, calls, outs)?;
     Ok(ReplyCursor::new(replies))
 }

@@ -10,7 +10,7 @@ use crate::shop::Shop;
 use seq_objects::Call;
 use std::alloc::{AllocError, Global};
 
-/// Runs the pieces one after another, and sorts their outs by structure.
+/// Runs the pieces one after another, and sorts their outs by kind.
 fn run_pieces(alloc: Global, pieces: Vec<PieceIn>) -> Result<Outs, AllocError>
     ensures { IfOk result (HaveMet pieces.items) }
 {

@@ -12,7 +12,6 @@ ghost use Rattle.launch_batch.specs.Contexts.{IsContextOf};
 
 use crate::opened::Opened;
 use crate::order::in_batch_order;
-use crate::phase::Phase;
 use crate::piece::PieceIn;
 use crate::pieces::pieces_of;
 use crate::row::open;
@@ -22,11 +21,12 @@ use batched_counter::Counter;
 use batched_pq::Queue;
 use batched_stack::Stack;
 use batched_tree::TreeSet;
+use object_rows::Row;
 use seq_objects::Call;
 use std::alloc::{AllocError, Global};
 use std::marker::Model;
 
-/// The four structures, and the history of the batches that they served. Contracts see it as this history.
+/// The structures of each kind, and the history of the batches that they served. Contracts see it as this history.
 #[derive(Drop)]
 pub struct Shop {
     pub(crate) structures: Box<Structures>,
@@ -46,15 +46,15 @@ impl Model for Shop {
 }
 
 impl Shop {
-    /// A shop with empty structures, the counter at 0, and no batch in its history.
+    /// A shop without structures, and with no batch in its history. A structure is made at its first call.
     pub fn new(alloc: Global) -> Result<Shop, AllocError>
         ensures { IfOk result (λ s. s ≡ []) }
     {
         let structures = Structures {
-            counter: Phase::Closed(Counter::new(alloc)?),
-            stack: Phase::Closed(Stack::new(alloc)?),
-            tree: Phase::Closed(TreeSet::new(alloc)?),
-            queue: Phase::Closed(Queue::new(alloc)?),
+            counter: Row::new(alloc),
+            stack: Row::new(alloc),
+            tree: Row::new(alloc),
+            queue: Row::new(alloc),
         };
         Ok(Shop {
             structures: Box::new(alloc, structures)?,
@@ -80,8 +80,9 @@ impl Shop {
         self.history
     }
 
-    /// Opens a batch of these calls, given in any order. Each called structure gets pieces, at places in its own row;
-    /// all pieces stand in ascending order of place. The shop is lost if memory runs out.
+    /// Opens a batch of these calls, given in any order. Each called structure gets pieces, at places in its kind's
+    /// row; those at one place go together. The pieces stand in ascending order of place. The shop is lost if memory
+    /// runs out.
     pub fn begin(
         self,
         alloc: Global,
@@ -104,10 +105,10 @@ impl Shop {
         let calls = in_batch_order(alloc, calls)?;
         let all = calls.as_slice();
         let inner = &mut *structures;
-        let counter = open(alloc, &mut inner.counter, all)?;
-        let stack = open(alloc, &mut inner.stack, all)?;
-        let tree = open(alloc, &mut inner.tree, all)?;
-        let queue = open(alloc, &mut inner.queue, all)?;
+        let counter = open::<Counter>(alloc, &mut inner.counter, all)?;
+        let stack = open::<Stack>(alloc, &mut inner.stack, all)?;
+        let tree = open::<TreeSet>(alloc, &mut inner.tree, all)?;
+        let queue = open::<Queue>(alloc, &mut inner.queue, all)?;
         let pieces = pieces_of(alloc, counter, stack, tree, queue)?;
         let opened = Opened {
             structures,

@@ -1,17 +1,17 @@
-//! The four structures, stored in one box.
+//! The structures of the four kinds, stored in one box.
 
-use crate::row::Row;
+use crate::row::RowOf;
 use batched_counter::Counter;
 use batched_pq::Queue;
 use batched_stack::Stack;
 use batched_tree::TreeSet;
 
-/// The four rows, each closed or open. They stay in one box across batches. A batch moves only the structures that it
-/// calls out of the box and back, so a shop moves as a pointer, and the other structures do not move.
+/// A row of structures for each kind. They stay in one box across batches, so a shop moves as a pointer, and a batch
+/// moves only the structures that it calls.
 #[derive(Drop)]
 pub struct Structures {
-    pub counter: Row<Counter>,
-    pub stack: Row<Stack>,
-    pub tree: Row<TreeSet>,
-    pub queue: Row<Queue>,
+    pub counter: RowOf<Counter>,
+    pub stack: RowOf<Stack>,
+    pub tree: RowOf<TreeSet>,
+    pub queue: RowOf<Queue>,
 }

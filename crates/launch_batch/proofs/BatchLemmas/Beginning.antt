@@ -1,11 +1,20 @@
 -- The facts at the opening of a batch.
-use Rattle.std.proofs.Common.{ℕ, ◌≤◌, ◌<◌, ◌+◌, ◌*◌, ◌^◌, List, length, map, arith}
-use Rattle.launch_batch.proofs.Words.{AllByRecursion, Call, AreDistinct, Counter, Stack, Tree, Queue, AreInBatchOrder, AreOneBatch, object_of, same_object, calls_of, of_counter, Entry, flat, MayServe, AreSame, IsNarrow}
+use Rattle.std.proofs.Common.{ℕ, ◌≡◌, ◌==◌, ◌≤◌, ◌<◌, ◌+◌, ◌*◌, ◌^◌, List, [], length, map, None, refl, ap, sym, subst, ◌∙◌, arith}
+use Rattle.launch_batch.proofs.Words.{AllByRecursion, Call, number_of, AreDistinct, ObjectKind, Counter, Stack, Tree, Queue, AreInBatchOrder, AreOneBatch, kind_of, same_kind, calls_of, calls_at, of_counter, Entry, flat, MayServe, AreSame, IsNarrow, Vec, Global, Objects, opening, alone, served_book, BatchContext, store_of_kind, MatchesHistory}
+use Rattle.seq_objects.specs.Batches.{AreOf}
 use Rattle.seq_objects.proofs.Filters.{each_filter, are_of}
+use Rattle.object_rows.specs.declared.row.Row.{Row}
+use Rattle.object_rows.specs.Contents.{structure_at, content_or_opening, store_of}
+use Rattle.object_rows.specs.Contexts.{IsRowContextOf}
+use Rattle.object_rows.specs.Cuts.{AreCut}
 use Rattle.batched_counter.specs.Calls.{MayServe as MayAdd}
 use Rattle.launch_batch.proofs.ListLemmas.Same.{each_same, distinct_same, length_same}
-use Rattle.launch_batch.proofs.MergeLemmas.Dealing.{few_own, all_by_object}
+use Rattle.launch_batch.proofs.MergeLemmas.Dealing.{few_pass, all_by_kind}
 use Rattle.launch_batch.proofs.BatchLemmas.Serial.{total_small}
+
+-- the calls of a kind and a number are of the kind
+pub own_at : (kind : ObjectKind) (number : ℕ) (calls : List Call) → AreOf kind (calls_at number (calls_of kind calls))
+own_at kind number calls = each_filter (λ (call : Call). kind_of call.op ≡ kind) (λ (call : Call). number_of call.op == number) (calls_of kind calls) (are_of kind calls)
 
 pub some_same : (calls ordered : List Call) → AreSame calls ordered → 0 < length calls → 0 < length ordered
 some_same calls ordered same some = let n = length_same calls ordered same in omega (arith, n, some)
@@ -20,23 +29,57 @@ one_batch calls ordered some workers below same order = record {
   below = each_same (λ (c : Call). c.worker < 32) calls ordered same below;
 }
 
--- the counter does not overflow
-pub may_add : (book : List (List Entry)) (calls ordered : List Call) (number : ℕ) → MayServe book calls → AreSame calls ordered → AllByRecursion IsNarrow ordered
-    → number ≤ length (flat book) * 2 ^ 32 → MayAdd (of_counter number) (calls_of Counter ordered)
-may_add book calls ordered number may same narrow room = record {
-  adds = are_of Counter ordered;
+-- a counter does not overflow
+pub may_add : (book : List (List Entry)) (calls ordered : List Call) (number counter : ℕ) → MayServe book calls → AreSame calls ordered → AllByRecursion IsNarrow ordered
+    → counter ≤ length (flat book) * 2 ^ 32 → MayAdd (of_counter counter) (calls_at number (calls_of Counter ordered))
+may_add book calls ordered number counter may same narrow room = record {
+  adds = own_at Counter number ordered;
   fits =
-      let small = total_small (calls_of Counter ordered) (each_filter IsNarrow (λ (call : Call). same_object Counter (object_of call.op)) ordered narrow) in
-      let few = few_own Counter ordered in
+      let own = calls_of Counter ordered in
+      let small = total_small (calls_at number own)
+      (each_filter IsNarrow (λ (call : Call). number_of call.op == number) own (each_filter IsNarrow (λ (call : Call). same_kind Counter (kind_of call.op)) ordered narrow)) in
+      let few = few_pass (λ (call : Call). number_of call.op == number) own in
+      let fewer = few_pass (λ (call : Call). same_kind Counter (kind_of call.op)) ordered in
       let many = length_same calls ordered same in
       let most = may.most in
-      omega (arith, small, few, many, most, room);
+      omega (arith, small, few, fewer, many, most, room);
 }
 
--- some object has a call
-pub some_by_object : (calls ordered : List Call) → AreSame calls ordered → 0 < length calls
+-- some kind has a call
+pub some_by_kind : (calls ordered : List Call) → AreSame calls ordered → 0 < length calls
     → 0 < length (calls_of Counter ordered) + length (calls_of Stack ordered) + length (calls_of Tree ordered) + length (calls_of Queue ordered)
-some_by_object calls ordered same some =
+some_by_kind calls ordered same some =
     let n = some_same calls ordered same some in
-    let all = all_by_object ordered in
+    let all = all_by_kind ordered in
     omega (arith, n, all)
+
+opening_alone : (kind : ObjectKind) → opening ≡ alone kind opening
+opening_alone Counter = refl
+opening_alone Stack = refl
+opening_alone Tree = refl
+opening_alone Queue = refl
+
+-- without structures and batches
+pub none_kept : {T R : Type 0} (content : T → Objects) (kind : ObjectKind) (row : Row T R) (history : List (List Entry)) → row.called.items ≡ [] → ((number : ℕ) → structure_at row.closed number ≡ None)
+    → history ≡ [] → MatchesHistory content kind row history
+none_kept content kind row history closed none is = record {
+  closed = closed;
+  contents = λ number. ap (content_or_opening content) (none number) ∙ opening_alone kind ∙ ap (λ h. alone kind (served_book h number)) (sym is);
+}
+
+-- the contents of a row that matches the history
+store_is : {T R : Type 0} (content : T → Objects) (kind : ObjectKind) (row : Row T R) (history : List (List Entry)) → MatchesHistory content kind row history
+    → store_of content row.closed ≡ store_of_kind kind (served_book history)
+store_is content kind row history m = λ i number. m.contents number i
+
+pub cut_for : {T R In : Type 0} (content : T → Objects) (kind : ObjectKind) (cut : Objects → List Call → List In → Type 0) (row : Row T R) (history : List (List Entry)) (calls : List Call) (ins : List (Vec In Global))
+    → MatchesHistory content kind row history → AreCut cut (store_of content row.closed) calls ins → AreCut cut (store_of_kind kind (served_book history)) calls ins
+cut_for content kind cut row history calls ins m is = subst (λ store. AreCut cut store calls ins) (store_is content kind row history m) is
+
+pub context_for : {T R In : Type 0} (content : T → Objects) (kind : ObjectKind) (is_context_of : R → BatchContext T In → Type 0) (row now : Row T R) (history : List (List Entry)) (calls : List Call)
+    (ins own : List (Vec In Global)) → MatchesHistory content kind row history → own ≡ ins
+    → IsRowContextOf content is_context_of now (record { before = store_of content row.closed; calls = calls; ins = ins })
+    → IsRowContextOf content is_context_of now (record { before = store_of_kind kind (served_book history); calls = calls; ins = own })
+context_for content kind is_context_of row now history calls ins own m are is =
+    subst (λ l. IsRowContextOf content is_context_of now (record { before = store_of_kind kind (served_book history); calls = calls; ins = l })) (sym are)
+    (subst (λ store. IsRowContextOf content is_context_of now (record { before = store; calls = calls; ins = ins })) (store_is content kind row history m) is)

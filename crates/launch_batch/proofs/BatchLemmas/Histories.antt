@@ -2,7 +2,7 @@
 use Rattle.std.proofs.Common.{ℕ, ◌≡◌, ◌≢◌, ◌<◌, ◌+◌, ◌^◌, List, [], ◌∷◌, ◌++◌, length, map, arith, refl, sym, ap, subst, ◌∙◌, append-nil, append_assoc, length-append}
 use Rattle.std.proofs.lemmas.List.{length-map}
 use Rattle.std.proofs.lemmas.Simd.{map-map}
-use Rattle.launch_batch.proofs.Words.{AllByRecursion, Call, Objects, opening, after, EachPair, AreDistinct, Entry, flat, IsLegalFrom, IsBatch, IsHistory, served, call_in, calls_in, MayServe, IsServiceOf, IsNarrow}
+use Rattle.launch_batch.proofs.Words.{AllByRecursion, Call, Store, opening_store, store_after, EachPair, AreDistinct, Entry, flat, IsLegalFrom, IsBatch, IsHistory, served, call_in, calls_in, MayServe, IsServiceOf, IsNarrow}
 use Rattle.seq_objects.specs.BatchOrder.{ComesFirst}
 use Rattle.seq_objects.proofs.Elements.{each_append}
 use Rattle.launch_batch.proofs.ListLemmas.Elements.{each_mapped, each_unmapped, distinct_append, apart_turned, map_append}
@@ -12,13 +12,13 @@ pub flat_append : (book : List (List Entry)) (batch : List Entry) → flat (book
 flat_append [] batch = append-nil batch
 flat_append (first ∷ book) batch = ap (λ l. first ++ l) (flat_append book batch) ∙ sym (append_assoc first (flat book) batch)
 
-pub served_append : (o : Objects) (xs ys : List Entry) → served o (xs ++ ys) ≡ served (served o xs) ys
-served_append o [] ys = refl
-served_append o (e ∷ xs) ys = served_append (after o e.op) xs ys
+pub served_append : (store : Store) (xs ys : List Entry) → served store (xs ++ ys) ≡ served (served store xs) ys
+served_append store [] ys = refl
+served_append store (e ∷ xs) ys = served_append (store_after store e.op) xs ys
 
-legal_append : (o : Objects) (xs ys : List Entry) → IsLegalFrom o xs → IsLegalFrom (served o xs) ys → IsLegalFrom o (xs ++ ys)
-legal_append o [] ys h g = g
-legal_append o (e ∷ xs) ys h g = (h.0, legal_append (after o e.op) xs ys h.1 g)
+legal_append : (store : Store) (xs ys : List Entry) → IsLegalFrom store xs → IsLegalFrom (served store xs) ys → IsLegalFrom store (xs ++ ys)
+legal_append store [] ys h g = g
+legal_append store (e ∷ xs) ys h g = (h.0, legal_append (store_after store e.op) xs ys h.1 g)
 
 pairs_unmapped : {A B : Type 0} (f : A → B) (R : B → B → Type 0) (xs : List A) → EachPair R (map f xs) → EachPair (λ a b. R (f a) (f b)) xs
 pairs_unmapped f R [] h = tt
@@ -50,7 +50,7 @@ module _ (book : List (List Entry)) (calls : List Call) (batch : List Entry) (ma
 
   pub history_made : IsHistory book → AllByRecursion IsNarrow (calls_in batch) → IsHistory (book ++ batch ∷ [])
   history_made h narrow = record {
-    legal = subst (IsLegalFrom opening) (sym (flat_append book batch)) (legal_append opening (flat book) batch h.legal is.replies);
+    legal = subst (IsLegalFrom opening_store) (sym (flat_append book batch)) (legal_append opening_store (flat book) batch h.legal is.replies);
     batches = each_append IsBatch book (batch ∷ []) h.batches (is_batch, tt);
     workers = subst (AllByRecursion (λ (e : Entry). e.worker < 32)) (sym (flat_append book batch)) (each_append (λ (e : Entry). e.worker < 32) (flat book) batch h.workers
         (each_unmapped call_in (λ (c : Call). c.worker < 32) batch (each_same (λ (c : Call). c.worker < 32) calls (calls_in batch) is.same may.below)));

@@ -1,6 +1,6 @@
 -- Calls have at most one batch order, and at most one service.
 use Rattle.std.proofs.Common.{◌≡◌, inl, inr, List, [], ◌∷◌, refl, sym, ap, subst, ◌∙◌}
-use Rattle.launch_batch.proofs.Words.{AllByRecursion, Call, Reply, Objects, after, reply_to, AreInBatchOrder, Entry, IsLegalFrom, served_book, call_in, calls_in, IsServiceOf}
+use Rattle.launch_batch.proofs.Words.{AllByRecursion, Call, Reply, Store, store_after, store_reply, AreInBatchOrder, Entry, IsLegalFrom, served_book, call_in, calls_in, IsServiceOf}
 use Rattle.seq_objects.proofs.CallOrder.{IsFirst, one_way}
 use Rattle.launch_batch.proofs.ListLemmas.Among.{Among, each_among, among_same, same_among}
 
@@ -35,18 +35,18 @@ make call reply = record { leaf = call.leaf; worker = call.worker; op = call.op;
 entry_same : (e f : Entry) → call_in e ≡ call_in f → e.reply ≡ f.reply → e ≡ f
 entry_same e f calls replies = ap (λ c. make c e.reply) calls ∙ ap (make (call_in f)) replies
 
--- the calls and the objects before them determine the replies
-one_reply_each : (objects : Objects) (batch other : List Entry) → calls_in batch ≡ calls_in other → IsLegalFrom objects batch → IsLegalFrom objects other → batch ≡ other
-one_reply_each objects [] [] same legal legal' = refl
-one_reply_each objects [] (f ∷ other) same legal legal' = absurd cc
-one_reply_each objects (e ∷ batch) [] same legal legal' = absurd cc
-one_reply_each objects (e ∷ batch) (f ∷ other) same legal legal' =
+-- the calls and the store before them determine the replies
+one_reply_each : (store : Store) (batch other : List Entry) → calls_in batch ≡ calls_in other → IsLegalFrom store batch → IsLegalFrom store other → batch ≡ other
+one_reply_each store [] [] same legal legal' = refl
+one_reply_each store [] (f ∷ other) same legal legal' = absurd cc
+one_reply_each store (e ∷ batch) [] same legal legal' = absurd cc
+one_reply_each store (e ∷ batch) (f ∷ other) same legal legal' =
     let same_list : call_in e ∷ calls_in batch ≡ call_in f ∷ calls_in other = same in
     let call : call_in e ≡ call_in f = cc in
     let op = ap (λ (c : Call). c.op) call in
-    let reply : e.reply ≡ f.reply = legal.0 ∙ ap (reply_to objects) op ∙ sym legal'.0 in
-    let later = subst (λ o. IsLegalFrom (after objects o) batch) op legal.1 in
-    let rest = one_reply_each (after objects f.op) batch other (cc) later legal'.1 in
+    let reply : e.reply ≡ f.reply = legal.0 ∙ ap (store_reply store) op ∙ sym legal'.0 in
+    let later = subst (λ o. IsLegalFrom (store_after store o) batch) op legal.1 in
+    let rest = one_reply_each (store_after store f.op) batch other (cc) later legal'.1 in
     ap (λ g. g ∷ batch) (entry_same e f call reply) ∙ ap (λ l. f ∷ l) rest
 
 pub one_service : (book : List (List Entry)) (calls : List Call) (batch other : List Entry) → IsServiceOf book calls batch → IsServiceOf book calls other → batch ≡ other

@@ -1,21 +1,21 @@
--- The calls of one structure among those of a batch.
-use Rattle.std.proofs.Common.{◌≡◌, ◌+◌, ◌≤◌, Bool, true, false, cond, List, [], ◌∷◌, length, refl, arith}
-use Rattle.launch_batch.proofs.Words.{Call, Object, Counter, Stack, Tree, Queue, object_of, same_object, calls_of}
+-- The calls of one kind among those of a batch.
+use Rattle.std.proofs.Common.{◌≡◌, ◌+◌, ◌≤◌, Bool, true, false, cond, List, [], ◌∷◌, length, filter, refl, arith}
+use Rattle.launch_batch.proofs.Words.{Call, ObjectKind, Counter, Stack, Tree, Queue, kind_of, same_kind, calls_of}
 
--- one object has at most as many calls as all together
-pub few_own : (object : Object) (calls : List Call) → length (calls_of object calls) ≤ length calls
-few_own object [] = omega arith
-few_own object (call ∷ calls) = step (same_object object (object_of call.op)) (few_own object calls) where
-  step : (b : Bool) → length (calls_of object calls) ≤ length calls → length (cond b (call ∷ calls_of object calls) (calls_of object calls)) ≤ length (call ∷ calls)
+-- those that pass are at most as many as all together
+pub few_pass : (passes : Call → Bool) (calls : List Call) → length (filter passes calls) ≤ length calls
+few_pass passes [] = omega arith
+few_pass passes (call ∷ calls) = step (passes call) (few_pass passes calls) where
+  step : (b : Bool) → length (filter passes calls) ≤ length calls → length (cond b (call ∷ filter passes calls) (filter passes calls)) ≤ length (call ∷ calls)
   step true rest = omega (arith, rest)
   step false rest = omega (arith, rest)
 
--- each call belongs to one of the four objects
-pub all_by_object : (calls : List Call) → length calls ≡ length (calls_of Counter calls) + length (calls_of Stack calls) + length (calls_of Tree calls) + length (calls_of Queue calls)
-all_by_object [] = refl
-all_by_object (call ∷ calls) = step (object_of call.op) (all_by_object calls) where
-  step : (o : Object) → length calls ≡ length (calls_of Counter calls) + length (calls_of Stack calls) + length (calls_of Tree calls) + length (calls_of Queue calls)
-      → length (call ∷ calls) ≡ length (cond (same_object Counter o) (call ∷ calls_of Counter calls) (calls_of Counter calls)) + length (cond (same_object Stack o) (call ∷ calls_of Stack calls) (calls_of Stack calls))
-      + length (cond (same_object Tree o) (call ∷ calls_of Tree calls) (calls_of Tree calls)) + length (cond (same_object Queue o) (call ∷ calls_of Queue calls) (calls_of Queue calls))
+-- each call belongs to one of the four kinds
+pub all_by_kind : (calls : List Call) → length calls ≡ length (calls_of Counter calls) + length (calls_of Stack calls) + length (calls_of Tree calls) + length (calls_of Queue calls)
+all_by_kind [] = refl
+all_by_kind (call ∷ calls) = step (kind_of call.op) (all_by_kind calls) where
+  step : (k : ObjectKind) → length calls ≡ length (calls_of Counter calls) + length (calls_of Stack calls) + length (calls_of Tree calls) + length (calls_of Queue calls)
+      → length (call ∷ calls) ≡ length (cond (same_kind Counter k) (call ∷ calls_of Counter calls) (calls_of Counter calls)) + length (cond (same_kind Stack k) (call ∷ calls_of Stack calls) (calls_of Stack calls))
+      + length (cond (same_kind Tree k) (call ∷ calls_of Tree calls) (calls_of Tree calls)) + length (cond (same_kind Queue k) (call ∷ calls_of Queue calls) (calls_of Queue calls))
   step Counter rest = omega (arith, rest)
   step _ rest = omega (arith, rest)

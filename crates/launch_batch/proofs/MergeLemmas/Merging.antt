@@ -1,21 +1,22 @@
--- Merging the structures' replies, call by call.
+-- Merging the replies of the kinds, call by call.
 use Rattle.std.proofs.Common.{◌≡◌, ℕ, suc, Bool, true, false, cond, List, [], ◌∷◌, length, get_or, drop, refl, ap, sym, ◌∙◌, arith}
-use Rattle.launch_batch.proofs.Words.{Call, Reply, Objects, after, Object, Counter, Stack, Tree, Queue, object_of, same_object, calls_of, replies_to_all, replies_of, alone, left_of, without_first, merged_replies}
+use Rattle.launch_batch.proofs.Words.{Call, Reply, Store, store_replies, ObjectKind, Counter, Stack, Tree, Queue, kind_of, same_kind, calls_of, replies_of, store_of_kind, left_of, without_first, merged_replies}
 use Rattle.seq_objects.specs.declared.reply.Reply.TheVariants.{Empty}
 use Rattle.seq_objects.proofs.Filters.{same_is}
-use Rattle.seq_objects.proofs.Apart.{own_replies, same_replies}
+use Rattle.seq_objects.proofs.Apart.{same_replies}
+use Rattle.launch_batch.proofs.MergeLemmas.ByKind.{kind_replies, length_told}
 use Rattle.launch_batch.specs.declared.merge.ReplyCursors.{ReplyCursors}
 
 pub length_merged : (calls : List Call) (remaining : ReplyCursors) → length (merged_replies calls remaining) ≡ length calls
 length_merged [] remaining = refl
-length_merged (call ∷ calls) remaining = omega (arith, length_merged calls (without_first (object_of call.op) remaining))
+length_merged (call ∷ calls) remaining = omega (arith, length_merged calls (without_first (kind_of call.op) remaining))
 
--- the remaining replies of an object, and of the others
-own_left : (object : Object) (remaining : ReplyCursors) → left_of object (without_first object remaining) ≡ drop 1 (left_of object remaining)
+-- the remaining replies of a kind, and of the others
+own_left : (kind : ObjectKind) (remaining : ReplyCursors) → left_of kind (without_first kind remaining) ≡ drop 1 (left_of kind remaining)
 own_left Counter remaining = refl
 own_left _ remaining = refl
 
-other_left : (object other : Object) (remaining : ReplyCursors) → same_object object other ≡ false → left_of object (without_first other remaining) ≡ left_of object remaining
+other_left : (kind other : ObjectKind) (remaining : ReplyCursors) → same_kind kind other ≡ false → left_of kind (without_first other remaining) ≡ left_of kind remaining
 other_left Counter Counter remaining differ = absurd cc
 other_left Stack Stack remaining differ = absurd cc
 other_left Tree Tree remaining differ = absurd cc
@@ -33,40 +34,36 @@ fewer : (replies : List Reply) (n : ℕ) → length replies ≡ suc n → length
 fewer [] n is = absurd (omega (arith, is))
 fewer (reply ∷ replies) n is = omega (arith, is)
 
-module _ (object : Object) where
-  -- an object has as many remaining replies as remaining calls, so each of its calls gets its own reply
-  pub merged_are : (calls : List Call) (remaining : ReplyCursors) → length (left_of object remaining) ≡ length (calls_of object calls)
-      → replies_of object calls (merged_replies calls remaining) ≡ left_of object remaining
-  merged_are [] remaining count = none (left_of object remaining) count where
+module _ (kind : ObjectKind) where
+  -- a kind has as many remaining replies as remaining calls, so each of its calls gets its own reply
+  pub merged_are : (calls : List Call) (remaining : ReplyCursors) → length (left_of kind remaining) ≡ length (calls_of kind calls)
+      → replies_of kind calls (merged_replies calls remaining) ≡ left_of kind remaining
+  merged_are [] remaining count = none (left_of kind remaining) count where
     none : (replies : List Reply) → length replies ≡ 0 → [] ≡ replies
     none [] is = refl
     none (reply ∷ replies) is = absurd (omega (arith, is))
-  merged_are (call ∷ calls) remaining count = step (same_object object (object_of call.op)) refl count (merged_are calls (without_first (object_of call.op) remaining)) where
+  merged_are (call ∷ calls) remaining count = step (same_kind kind (kind_of call.op)) refl count (merged_are calls (without_first (kind_of call.op) remaining)) where
     next : ReplyCursors
-    next = without_first (object_of call.op) remaining
+    next = without_first (kind_of call.op) remaining
 
     rest : List Reply
-    rest = replies_of object calls (merged_replies calls next)
+    rest = replies_of kind calls (merged_replies calls next)
 
-    step : (b : Bool) → same_object object (object_of call.op) ≡ b → length (left_of object remaining) ≡ length (cond b (call ∷ calls_of object calls) (calls_of object calls))
-        → (length (left_of object next) ≡ length (calls_of object calls) → rest ≡ left_of object next)
-        → cond b (get_or (left_of (object_of call.op) remaining) 0 Empty ∷ rest) rest ≡ left_of object remaining
+    step : (b : Bool) → same_kind kind (kind_of call.op) ≡ b → length (left_of kind remaining) ≡ length (cond b (call ∷ calls_of kind calls) (calls_of kind calls))
+        → (length (left_of kind next) ≡ length (calls_of kind calls) → rest ≡ left_of kind next)
+        → cond b (get_or (left_of (kind_of call.op) remaining) 0 Empty ∷ rest) rest ≡ left_of kind remaining
     step true own many more_of =
-        let is = same_is object (object_of call.op) own in
-        let left : left_of object next ≡ drop 1 (left_of object remaining) = ap (λ o. left_of object (without_first o remaining)) is ∙ own_left object remaining in
-        let more = more_of (ap length left ∙ fewer (left_of object remaining) (length (calls_of object calls)) many) in
-        ap (λ o. get_or (left_of o remaining) 0 Empty ∷ rest) is ∙ ap (λ l. get_or (left_of object remaining) 0 Empty ∷ l) (more ∙ left) ∙ first_again (left_of object remaining) (length (calls_of object calls)) many
+        let is = same_is kind (kind_of call.op) own in
+        let left : left_of kind next ≡ drop 1 (left_of kind remaining) = ap (λ o. left_of kind (without_first o remaining)) is ∙ own_left kind remaining in
+        let more = more_of (ap length left ∙ fewer (left_of kind remaining) (length (calls_of kind calls)) many) in
+        ap (λ o. get_or (left_of o remaining) 0 Empty ∷ rest) is ∙ ap (λ l. get_or (left_of kind remaining) 0 Empty ∷ l) (more ∙ left) ∙ first_again (left_of kind remaining) (length (calls_of kind calls)) many
     step false other many more_of =
-        let left = other_left object (object_of call.op) remaining other in
+        let left = other_left kind (kind_of call.op) remaining other in
         more_of (ap length left ∙ many) ∙ left
 
-pub length_replies : (objects : Objects) (calls : List Call) → length (replies_to_all objects calls) ≡ length calls
-length_replies objects [] = refl
-length_replies objects (call ∷ calls) = omega (arith, length_replies (after objects call.op) calls)
-
--- if each object's replies are those to its own calls alone, the merged replies are the serial ones
-pub merged_serial : (objects : Objects) (calls : List Call) (remaining : ReplyCursors) → ((object : Object) → left_of object remaining ≡ replies_to_all (alone object objects) (calls_of object calls))
-    → merged_replies calls remaining ≡ replies_to_all objects calls
-merged_serial objects calls remaining are =
-    same_replies calls (merged_replies calls remaining) (replies_to_all objects calls) (length_merged calls remaining) (length_replies objects calls)
-    (λ object. merged_are object calls remaining (ap length (are object) ∙ length_replies (alone object objects) (calls_of object calls)) ∙ are object ∙ sym (own_replies object objects calls))
+-- if each kind's replies are those to its own calls alone, the merged replies are the serial ones
+pub merged_serial : (store : Store) (calls : List Call) (remaining : ReplyCursors) → ((kind : ObjectKind) → left_of kind remaining ≡ store_replies (store_of_kind kind store) (calls_of kind calls))
+    → merged_replies calls remaining ≡ store_replies store calls
+merged_serial store calls remaining are =
+    same_replies calls (merged_replies calls remaining) (store_replies store calls) (length_merged calls remaining) (length_told store calls)
+    (λ kind. merged_are kind calls remaining (ap length (are kind) ∙ length_told (store_of_kind kind store) (calls_of kind calls)) ∙ are kind ∙ sym (kind_replies kind store calls))

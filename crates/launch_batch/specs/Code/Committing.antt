@@ -1,23 +1,30 @@
--- A batch that the four structures have served.
+-- A batch that the structures have served.
 use Rattle.std.specs.Prelude.{List}
 use Rattle.seq_objects.specs.declared.call.Call.{Call}
-use Rattle.seq_objects.specs.Batches.{Counter, Stack, Tree, Queue, calls_of}
+use Rattle.seq_objects.specs.declared.reply.Reply.{Reply}
+use Rattle.seq_objects.specs.Objects.{Objects}
+use Rattle.seq_objects.specs.Batches.{ObjectKind, Counter, Stack, Tree, Queue, calls_of}
 use Rattle.seq_objects.specs.Serial.{of_counter, of_stack, of_set, of_bag}
+use Rattle.object_rows.specs.declared.row.Row.{Row}
+use Rattle.object_rows.specs.Contexts.{HasServed}
 use Rattle.batch_history.specs.declared.batch.Entry.{Entry}
+use Rattle.batch_history.specs.Serving.{served_book}
 use Rattle.launch_batch.specs.declared.merge.ReplyCursors.{ReplyCursors}
 use Rattle.launch_batch.specs.declared.structures.Structures.{Structures}
-use Rattle.launch_batch.specs.Contents.{Views, MatchesHistory, AreOrdered}
-use Rattle.launch_batch.specs.Code.Phases.{HasServed}
+use Rattle.launch_batch.specs.Contents.{HasRoom, AreOrdered, store_of_kind}
+
+-- the structures of one kind had the contents of the book, and have served their own calls, with these replies
+abbrev pub HasServedOwn : {T R : Type 0} → (T → Objects) → ObjectKind → Row T R → List (List Entry) → List Call → List Reply → Type 0
+HasServedOwn content kind row book ordered replies =
+    HasServed content row (store_of_kind kind (served_book book)) (calls_of kind ordered) replies
 
 -- `ordered` is `calls` in batch order, and `calls` may be served after the book. The structures had the contents of the
--- book; each has served its own calls of `ordered`, with its part of the replies.
+-- book; those of each kind have served their own calls of `ordered`, with their part of the replies.
 pub record HaveServed (structures : Structures) (book : List (List Entry)) (ordered : List Call)
     (replies : ReplyCursors) (calls : List Call) : Type 0 where
   pub given : AreOrdered book calls ordered
-  pub before : Views
-  pub kept : MatchesHistory before book
-  pub counter : HasServed of_counter structures.counter before.counter (calls_of Counter ordered) replies.counter
-  pub stack : HasServed (λ stack. of_stack stack.items) structures.stack before.stack (calls_of Stack ordered)
-      replies.stack
-  pub tree : HasServed of_set structures.tree before.tree (calls_of Tree ordered) replies.tree
-  pub queue : HasServed of_bag structures.queue before.queue (calls_of Queue ordered) replies.queue
+  pub room : HasRoom book
+  pub counter : HasServedOwn of_counter Counter structures.counter book ordered replies.counter
+  pub stack : HasServedOwn (λ stack. of_stack stack.items) Stack structures.stack book ordered replies.stack
+  pub tree : HasServedOwn of_set Tree structures.tree book ordered replies.tree
+  pub queue : HasServedOwn of_bag Queue structures.queue book ordered replies.queue

@@ -1,6 +1,8 @@
--- The pieces of the four structures in one list, each structure's in its row of places.
+-- The pieces of the four kinds in one list, each kind's in its row of places.
 use Rattle.std.specs.Prelude.{ℕ, ◌≡◌, ◌<◌, List, length, map, ◌++◌, filter_map}
 use Rattle.std.specs.List.{AllByRecursion, range_with_len}
+use Rattle.std.specs.declared.vec.Vec.{Vec}
+use Rattle.std.specs.declared.alloc.Global.{Global}
 use Rattle.seq_objects.specs.Orders.{StrictlyAscends}
 use Rattle.batched_counter.specs.declared.piece.Piece.{Piece as CounterPiece}
 use Rattle.batched_stack.specs.declared.piece.Piece.{Piece as StackPiece}
@@ -11,14 +13,15 @@ use Rattle.launch_batch.specs.Pieces.{place_of}
 use Rattle.launch_batch.specs.Places.{IsInOwnRow}
 use Rattle.launch_batch.specs.ByStructure.{counter_piece, stack_piece, tree_piece, queue_piece}
 
--- the places of a, b, c and d pieces of the counter, the stack, the tree and the queue
+-- the places of a, b, c and d pieces of counters, stacks, trees and queues
 abbrev pub four_rows : ℕ → ℕ → ℕ → ℕ → List ℕ
 four_rows a b c d = range_with_len 0 a ++ range_with_len 16 b ++ range_with_len 32 c ++ range_with_len 48 d
 
--- the list has the pieces of the four structures, each at consecutive places in its structure's row; the places ascend
+-- the list has the pieces of the four kinds, each at consecutive places in its kind's row; the places ascend
 -- and are below 56
-pub record AreInRows (pieces : List PieceIn) (for_counter : List CounterPiece)
-    (for_stack : List StackPiece) (for_tree : List TreePiece) (for_queue : List QueuePiece) : Type 0 where
+pub record AreInRows (pieces : List PieceIn) (for_counter : List (Vec CounterPiece Global))
+    (for_stack : List (Vec StackPiece Global)) (for_tree : List (Vec TreePiece Global))
+    (for_queue : List (Vec QueuePiece Global)) : Type 0 where
   pub counter : filter_map counter_piece pieces ≡ for_counter
   pub stack : filter_map stack_piece pieces ≡ for_stack
   pub tree : filter_map tree_piece pieces ≡ for_tree

@@ -1,4 +1,4 @@
-use Rattle.std.proofs.Common.{sym}
+use Rattle.std.proofs.Common.{refl, sym}
 use Rattle.launch_batch.proofs.Words.{Counter, Stack, Tree, Queue, counter_piece, stack_piece, tree_piece, queue_piece, part}
 use Rattle.launch_batch.proofs.BatchLemmas.Closing.{own_meet, have_served}
 use Rattle.launch_batch.proofs.opened.Opened.into_shop.Goals as goal
@@ -6,37 +6,37 @@ use Rattle.launch_batch.proofs.opened.Opened.into_shop.Goals as goal
 pub close-requires-clause-met : goal.close-requires-clause-met
 close-requires-clause-met c = λ lifetimes.
     let r = c.requires.1 in
-    rw c.deref_mut-inner.ensures.value
-    (part Counter counter_piece r.before.counter c.args.self.calls.items c.requires.0.ins, r.counter, (own_meet c.args.self c.requires.0 r c.args.outs c.requires.2).counter)
+    rw (c.deref_mut-inner.ensures.value, c.as_slice-all.ensures.value)
+    (part Counter counter_piece c.requires.0.before c.args.self.calls.items c.requires.0.ins, r.counter, refl, (own_meet c.args.self c.requires.0 r c.args.outs c.requires.2).counter)
 
 pub close-requires-2-clause-met : goal.close-requires-2-clause-met
 close-requires-2-clause-met c = λ lifetimes.
     let r = c.requires.1 in
-    rw c.deref_mut-inner.ensures.value
-    (part Stack stack_piece r.before.stack c.args.self.calls.items c.requires.0.ins, r.stack, (own_meet c.args.self c.requires.0 r c.args.outs c.requires.2).stack)
+    rw (c.deref_mut-inner.ensures.value, c.as_slice-all.ensures.value)
+    (part Stack stack_piece c.requires.0.before c.args.self.calls.items c.requires.0.ins, r.stack, refl, (own_meet c.args.self c.requires.0 r c.args.outs c.requires.2).stack)
 
 pub close-requires-3-clause-met : goal.close-requires-3-clause-met
 close-requires-3-clause-met c = λ lifetimes.
     let r = c.requires.1 in
-    rw c.deref_mut-inner.ensures.value
-    (part Tree tree_piece r.before.tree c.args.self.calls.items c.requires.0.ins, r.tree, (own_meet c.args.self c.requires.0 r c.args.outs c.requires.2).tree)
+    rw (c.deref_mut-inner.ensures.value, c.as_slice-all.ensures.value)
+    (part Tree tree_piece c.requires.0.before c.args.self.calls.items c.requires.0.ins, r.tree, refl, (own_meet c.args.self c.requires.0 r c.args.outs c.requires.2).tree)
 
 pub close-requires-4-clause-met : goal.close-requires-4-clause-met
 close-requires-4-clause-met c = λ lifetimes.
     let r = c.requires.1 in
-    rw c.deref_mut-inner.ensures.value
-    (part Queue queue_piece r.before.queue c.args.self.calls.items c.requires.0.ins, r.queue, (own_meet c.args.self c.requires.0 r c.args.outs c.requires.2).queue)
+    rw (c.deref_mut-inner.ensures.value, c.as_slice-all.ensures.value)
+    (part Queue queue_piece c.requires.0.before c.args.self.calls.items c.requires.0.ins, r.queue, refl, (own_meet c.args.self c.requires.0 r c.args.outs c.requires.2).queue)
 
 pub commit-requires : goal.commit-requires
 commit-requires c =
-    rw c.deref.ensures.value (
+    rw c.as_slice-all.ensures.value (
       c.requires.0.calls,
-      have_served c.args.self c.requires.0 c.requires.1 c.args.outs c.requires.2 _ _ _ c.deref_mut-inner.ensures.value
+      have_served c.args.self c.requires.0 c.requires.1 c.args.outs c.requires.2 _ _ _ _ c.deref_mut-inner.ensures.value c.as_slice-all.ensures.value
           c.in_ok-close.ensures c.in_ok-close-2.ensures c.in_ok-close-3.ensures c.in_ok-close-4.ensures,
     )
 
 pub returns : goal.returns
 returns c = λ o r met.
-    rw (sym r.book) (c.in_ok-shop.ensures o.calls (rw c.deref.ensures.value
-    (have_served c.args.self o r c.args.outs met _ _ _ c.deref_mut-inner.ensures.value
+    rw (sym r.book) (c.in_ok-shop.ensures o.calls (rw c.as_slice-all.ensures.value
+    (have_served c.args.self o r c.args.outs met _ _ _ _ c.deref_mut-inner.ensures.value c.as_slice-all.ensures.value
     c.in_ok-close.ensures c.in_ok-close-2.ensures c.in_ok-close-3.ensures c.in_ok-close-4.ensures)))

@@ -1,33 +1,43 @@
 use Rattle.std.proofs.Common.{◌∙◌, length, sym, ap, subst}
 use Rattle.std.proofs.lemmas.List.{length-map}
-use Rattle.launch_batch.proofs.Words.{Stack, Tree, Queue, place_of, MatchesHistory}
-use Rattle.seq_objects.proofs.Filters.{are_of}
+use Rattle.batched_counter.specs.Calls.{MayServe as MayAdd}
+use Rattle.batched_counter.specs.Pieces.{Cut as CounterCut, IsContextOf as IsCounterContext}
+use Rattle.batched_stack.specs.Pieces.{Cut as StackCut, IsContextOf as IsStackContext}
+use Rattle.batched_tree.specs.Pieces.{Cut as TreeCut, IsContextOf as IsTreeContext}
+use Rattle.batched_pq.specs.Pieces.{Cut as QueueCut, IsContextOf as IsQueueContext}
+use Rattle.launch_batch.proofs.Words.{Counter, Stack, Tree, Queue, calls_of, calls_at, of_counter, of_stack, of_set, of_bag, place_of, MatchesHistory, HasRoom}
 use Rattle.launch_batch.proofs.PieceLemmas.Ascending.{some_and_few, length_of_four}
 use Rattle.launch_batch.proofs.PieceLemmas.Counting.{rows_are}
-use Rattle.launch_batch.proofs.BatchLemmas.Beginning.{may_add, some_by_object}
+use Rattle.launch_batch.proofs.BatchLemmas.Beginning.{own_at, may_add, some_by_kind, cut_for, context_for}
 use Rattle.launch_batch.proofs.shop.Shop.begin.Goals as goal
 
 pub open-requires-clause-may : goal.open-requires-clause-may
-open-requires-clause-may c = λ lifetimes.
+open-requires-clause-may c = λ lifetimes number.
     let i = c.self.invariant in
-    record {
-      before = i.views.counter;
-      closed = rw c.deref_mut-inner.ensures.value i.counter;
-      may = rw c.as_slice-all.ensures.value
-          (may_add c.self.inside.history c.args.calls.items c.in_ok-calls.calls.items i.views.counter (rw c.self.view_is c.requires) c.in_ok-calls.ensures.same c.in_ok-calls.ensures.narrow i.kept.room);
-    }
+    rw (c.deref_mut-inner.ensures.value, c.as_slice-all.ensures.value)
+    (subst (λ objects. MayAdd objects (calls_at number (calls_of Counter c.in_ok-calls.calls.items))) (sym (i.counter.contents number))
+    (may_add c.self.inside.history c.args.calls.items c.in_ok-calls.calls.items number _ (rw c.self.view_is c.requires) c.in_ok-calls.ensures.same c.in_ok-calls.ensures.narrow (i.room number)))
 
 pub open-requires-2-clause-may : goal.open-requires-2-clause-may
-open-requires-2-clause-may c = λ lifetimes.
-    record { before = c.self.invariant.views.stack; closed = rw c.deref_mut-inner.ensures.value c.self.invariant.stack; may = are_of Stack c.as_slice-all.result.now }
+open-requires-2-clause-may c = λ lifetimes number. own_at Stack number c.as_slice-all.result.now
 
 pub open-requires-3-clause-may : goal.open-requires-3-clause-may
-open-requires-3-clause-may c = λ lifetimes.
-    record { before = c.self.invariant.views.tree; closed = rw c.deref_mut-inner.ensures.value c.self.invariant.tree; may = are_of Tree c.as_slice-all.result.now }
+open-requires-3-clause-may c = λ lifetimes number. own_at Tree number c.as_slice-all.result.now
 
 pub open-requires-4-clause-may : goal.open-requires-4-clause-may
-open-requires-4-clause-may c = λ lifetimes.
-    record { before = c.self.invariant.views.queue; closed = rw c.deref_mut-inner.ensures.value c.self.invariant.queue; may = are_of Queue c.as_slice-all.result.now }
+open-requires-4-clause-may c = λ lifetimes number. own_at Queue number c.as_slice-all.result.now
+
+pub open-requires-clause-closed : goal.open-requires-clause-closed
+open-requires-clause-closed c = λ lifetimes. rw c.deref_mut-inner.ensures.value c.self.invariant.counter.closed
+
+pub open-requires-2-clause-closed : goal.open-requires-2-clause-closed
+open-requires-2-clause-closed c = λ lifetimes. rw c.deref_mut-inner.ensures.value c.self.invariant.stack.closed
+
+pub open-requires-3-clause-closed : goal.open-requires-3-clause-closed
+open-requires-3-clause-closed c = λ lifetimes. rw c.deref_mut-inner.ensures.value c.self.invariant.tree.closed
+
+pub open-requires-4-clause-closed : goal.open-requires-4-clause-closed
+open-requires-4-clause-closed c = λ lifetimes. rw c.deref_mut-inner.ensures.value c.self.invariant.queue.closed
 
 pub returns-clause-count : goal.returns-clause-count
 returns-clause-count c =
@@ -35,31 +45,31 @@ returns-clause-count c =
     c.in_ok-counter.ensures.most c.in_ok-stack.ensures.most c.in_ok-tree.ensures.most c.in_ok-queue.ensures.most
     c.in_ok-counter.ensures.some c.in_ok-stack.ensures.some c.in_ok-tree.ensures.some c.in_ok-queue.ensures.some
     (rw c.as_slice-all.ensures.value
-    (some_by_object c.args.calls.items c.in_ok-calls.calls.items c.in_ok-calls.ensures.same c.requires.some))
+    (some_by_kind c.args.calls.items c.in_ok-calls.calls.items c.in_ok-calls.ensures.same c.requires.some))
 
 pub returns-clause-places : goal.returns-clause-places
 returns-clause-places c =
     let i = c.self.invariant in
-    let inner = c.deref_mut-inner.ensures.value in
-    let all = c.as_slice-all.ensures.value in (
-      c.in_ok-calls.calls.items,
+    let ordered = c.in_ok-calls.calls.items in (
+      ordered,
       c.in_ok-calls.ensures.same,
       c.in_ok-calls.ensures.batch.order,
       c.in_ok-pieces.ensures.places
-          ∙ rows_are c.args.self c.in_ok-calls.calls.items i.views
-          c.in_ok-counter.counter.items c.in_ok-stack.stack.items c.in_ok-tree.tree.items c.in_ok-queue.queue.items
-          (subst (MatchesHistory i.views) c.self.view_is i.kept)
-          (rw (sym all) (c.in_ok-counter.ensures.cut i.views.counter (rw inner i.counter)))
-          (rw (sym all) (c.in_ok-stack.ensures.cut i.views.stack (rw inner i.stack)))
-          (rw (sym all) (c.in_ok-tree.ensures.cut i.views.tree (rw inner i.tree)))
-          (rw (sym all) (c.in_ok-queue.ensures.cut i.views.queue (rw inner i.queue))),
+          ∙ rows_are c.args.self ordered c.in_ok-counter.counter.items c.in_ok-stack.stack.items c.in_ok-tree.tree.items c.in_ok-queue.queue.items
+          (cut_for of_counter Counter CounterCut c.self.inside.structures.value.counter c.args.self (calls_of Counter ordered) c.in_ok-counter.counter.items
+          (subst (MatchesHistory of_counter Counter c.self.inside.structures.value.counter) c.self.view_is i.counter) (rw (c.deref_mut-inner.ensures.value, c.as_slice-all.ensures.value) at c.in_ok-counter.ensures.cut))
+          (cut_for (λ stack. of_stack stack.items) Stack StackCut c.self.inside.structures.value.stack c.args.self (calls_of Stack ordered) c.in_ok-stack.stack.items
+          (subst (MatchesHistory (λ stack. of_stack stack.items) Stack c.self.inside.structures.value.stack) c.self.view_is i.stack) (rw (c.deref_mut-inner.ensures.value, c.as_slice-all.ensures.value) at c.in_ok-stack.ensures.cut))
+          (cut_for of_set Tree TreeCut c.self.inside.structures.value.tree c.args.self (calls_of Tree ordered) c.in_ok-tree.tree.items
+          (subst (MatchesHistory of_set Tree c.self.inside.structures.value.tree) c.self.view_is i.tree) (rw (c.deref_mut-inner.ensures.value, c.as_slice-all.ensures.value) at c.in_ok-tree.ensures.cut))
+          (cut_for of_bag Queue QueueCut c.self.inside.structures.value.queue c.args.self (calls_of Queue ordered) c.in_ok-queue.queue.items
+          (subst (MatchesHistory of_bag Queue c.self.inside.structures.value.queue) c.self.view_is i.queue) (rw (c.deref_mut-inner.ensures.value, c.as_slice-all.ensures.value) at c.in_ok-queue.ensures.cut)),
     )
 
 pub returns-clause-context : goal.returns-clause-context
 returns-clause-context c =
     let i = c.self.invariant in
-    let inner = c.deref_mut-inner.ensures.value in
-    let all = c.as_slice-all.ensures.value in
+    let ordered = c.in_ok-calls.calls.items in
     record {
       book = c.self.view_is;
       given = record {
@@ -68,10 +78,13 @@ returns-clause-context c =
         order = c.in_ok-calls.ensures.batch.order;
         narrow = c.in_ok-calls.ensures.narrow;
       };
-      before = i.views;
-      kept = subst (MatchesHistory i.views) c.self.view_is i.kept;
-      counter = rw (c.in_ok-pieces.ensures.counter, sym all) (c.in_ok-counter.ensures.context i.views.counter (rw inner i.counter));
-      stack = rw (c.in_ok-pieces.ensures.stack, sym all) (c.in_ok-stack.ensures.context i.views.stack (rw inner i.stack));
-      tree = rw (c.in_ok-pieces.ensures.tree, sym all) (c.in_ok-tree.ensures.context i.views.tree (rw inner i.tree));
-      queue = rw (c.in_ok-pieces.ensures.queue, sym all) (c.in_ok-queue.ensures.context i.views.queue (rw inner i.queue));
+      room = subst HasRoom c.self.view_is i.room;
+      counter = context_for of_counter Counter IsCounterContext c.self.inside.structures.value.counter _ c.args.self (calls_of Counter ordered) c.in_ok-counter.counter.items _
+          (subst (MatchesHistory of_counter Counter c.self.inside.structures.value.counter) c.self.view_is i.counter) c.in_ok-pieces.ensures.counter (rw (c.deref_mut-inner.ensures.value, c.as_slice-all.ensures.value) at c.in_ok-counter.ensures.context);
+      stack = context_for (λ stack. of_stack stack.items) Stack IsStackContext c.self.inside.structures.value.stack _ c.args.self (calls_of Stack ordered) c.in_ok-stack.stack.items _
+          (subst (MatchesHistory (λ stack. of_stack stack.items) Stack c.self.inside.structures.value.stack) c.self.view_is i.stack) c.in_ok-pieces.ensures.stack (rw (c.deref_mut-inner.ensures.value, c.as_slice-all.ensures.value) at c.in_ok-stack.ensures.context);
+      tree = context_for of_set Tree IsTreeContext c.self.inside.structures.value.tree _ c.args.self (calls_of Tree ordered) c.in_ok-tree.tree.items _
+          (subst (MatchesHistory of_set Tree c.self.inside.structures.value.tree) c.self.view_is i.tree) c.in_ok-pieces.ensures.tree (rw (c.deref_mut-inner.ensures.value, c.as_slice-all.ensures.value) at c.in_ok-tree.ensures.context);
+      queue = context_for of_bag Queue IsQueueContext c.self.inside.structures.value.queue _ c.args.self (calls_of Queue ordered) c.in_ok-queue.queue.items _
+          (subst (MatchesHistory of_bag Queue c.self.inside.structures.value.queue) c.self.view_is i.queue) c.in_ok-pieces.ensures.queue (rw (c.deref_mut-inner.ensures.value, c.as_slice-all.ensures.value) at c.in_ok-queue.ensures.context);
     }

@@ -1,6 +1,7 @@
 -- The rules of the core over plain states: events, turns, runs, reports and the invariant, with the specifications they
 -- use of the crates below.
 pub use Rattle.seq_objects.specs.Objects
+pub use Rattle.seq_objects.specs.Stores
 pub use Rattle.seq_objects.specs.Spin
 pub use Rattle.sp_order.specs.Precedence
 pub use Rattle.sp_order.specs.Jobs

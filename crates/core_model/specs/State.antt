@@ -1,7 +1,6 @@
 -- The model's state, as functions of node and worker numbers.
-use Rattle.seq_objects.specs.Objects as objects
 use Rattle.core_model.specs.Words.{Entry, Progress, Ready, Waiting, CallState, NotCalled, Status, Free, Task, Idle, Act, Nodes}
-use Rattle.seq_objects.specs.Objects.{Objects}
+use Rattle.seq_objects.specs.Stores.{Store, opening_store}
 use Rattle.batch_history.specs.Operations.{act_of, source_of}
 use Rattle.sp_order.specs.Jobs.{JobValue, job_tree}
 use Rattle.sp_order.specs.Preorder.{nodes_of}
@@ -47,7 +46,7 @@ pub record State : Type 0 where
   pub tick : ℕ
   pub book : List (List Entry)
   -- the shared objects after all operations of the book
-  pub objects : objects.Objects
+  pub objects : Store
 
 -- the state with each worker's list of ready nodes, oldest first
 pub record CoreState : Type 0 where
@@ -66,7 +65,7 @@ opening_state = record {
   hold = None;
   tick = 0;
   book = [];
-  objects = objects.opening;
+  objects = opening_store;
 }
 
 -- the opening lists: worker 0 has the root

@@ -1,7 +1,7 @@
 -- When a publish and a release are due: which batch serves the calls that a hold has taken.
 use Rattle.std.specs.Prelude.{ℕ, ◌≡◌, true, false, Some, List, map, Contains}
 use Rattle.std.specs.List.{AllByRecursion}
-use Rattle.seq_objects.specs.Objects.{opening}
+use Rattle.seq_objects.specs.Stores.{opening_store}
 use Rattle.batch_history.specs.declared.batch.Entry.{Entry}
 use Rattle.batch_history.specs.Book.{flat, IsBatch, IsLegalFrom}
 use Rattle.batch_history.specs.Serving.{served}
@@ -19,7 +19,7 @@ pub record ServesTaken (h : HoldView) (batch : List Entry) : Type 0 where
   pub is_batch : IsBatch batch
   pub only : AllByRecursion (λ entry. record_in h.taken entry.worker ≡ Some (call_of entry)) batch
   pub each : (w : ℕ) → took_in h.taken w ≡ true → Contains (map (λ entry. entry.worker) batch) w
-  pub replies : IsLegalFrom (served opening (flat h.book)) batch
+  pub replies : IsLegalFrom (served opening_store (flat h.book)) batch
 
 -- A publish of this batch is due: the hold has looked at all workers, has taken at least one call, has not published,
 -- and the batch serves exactly the calls that it took.

@@ -16,38 +16,39 @@ use Rattle.core_model.specs.Invariant.Tasks.{TaskFits}
 use Rattle.core_model.specs.Batches.{IsCallOf, AreTakenCalls}
 use Rattle.core_model.proofs.Inductive.Parts.{InductiveParts}
 use Rattle.batch_history.proofs.BookLemmas.EntryLists.{each_append, each_front, each_so}
-use Rattle.seq_objects.specs.BatchOrder.{ComesFirst, class_of, key_of}
+use Rattle.seq_objects.specs.BatchOrder.{ComesFirst, RanksLower, class_of, key_of}
+use Rattle.seq_objects.specs.Objects.{number_of}
 use Rattle.seq_objects.proofs.CallOrder.{IsFirst, first_through, first_or_second}
 use Rattle.core_model.proofs.BatchLemmas.TakenCalls.{at_call_started, TakenOf, one_among}
 use Rattle.core_model.proofs.BatchLemmas.Replied.{replied, replied_are, replied_legal}
 use Rattle.core_model.proofs.BatchLemmas.Made.{taken_at_call, batch_made}
 
--- a class, a key and a worker come before others
-abbrev RanksFirst : (c k v d l w : ℕ) → Type 0
-RanksFirst c k v d l w = (c < d) ⊎ ((c ≡ d) × ((k < l) ⊎ ((k ≡ l) × (v < w))))
+-- the lower of two numbers comes before the other, and of two equal numbers what comes before by the rest
+abbrev Lower : (m n : ℕ) → Type 0 → Type 0
+Lower m n Rest = (m < n) ⊎ ((m ≡ n) × Rest)
 
--- that can be decided
-ranks_or_not : (c k v d l w : ℕ) → RanksFirst c k v d l w ⊎ (RanksFirst c k v d l w → ⊥)
-ranks_or_not c k v d l w = elim (cases_lt c d) [
+-- that can be decided, where the rest can be
+lower_or_not : (m n : ℕ) (Rest : Type 0) → Rest ⊎ (Rest → ⊥) → Lower m n Rest ⊎ (Lower m n Rest → ⊥)
+lower_or_not m n Rest rest = elim (cases_lt m n) [
   | inl less ↦ inl (inl less)
-  | inr le ↦ elim (cases_eq c d) [
+  | inr le ↦ elim (cases_eq m n) [
     | inr other ↦ inr (λ h. grind arith)
-    | inl same ↦ elim (cases_lt k l) [
-      | inl less ↦ inl (inr (same, inl less))
-      | inr le' ↦ elim (cases_eq k l) [
-        | inr other ↦ inr (λ h. grind arith)
-        | inl same' ↦ elim (cases_lt v w) [
-          | inl less ↦ inl (inr (same, inr (same', less)))
-          | inr le'' ↦ inr (λ h. grind arith)
-        ]
-      ]
+    | inl same ↦ elim rest [
+      | inl is ↦ inl (inr (same, is))
+      | inr not ↦ inr (λ h. grind arith)
     ]
   ]
 ]
 
+less_or_not : (m n : ℕ) → (m < n) ⊎ ((m < n) → ⊥)
+less_or_not m n = elim (cases_lt m n) [ inl less ↦ inl less | inr le ↦ inr (λ h. grind arith) ]
+
 -- a call is served before another one, or it is not
 first_or_not : (a b : Op) (v w : ℕ) → ComesFirst a v b w ⊎ (ComesFirst a v b w → ⊥)
-first_or_not a b v w = ranks_or_not (class_of a) (key_of a) v (class_of b) (key_of b) w
+first_or_not a b v w =
+    let keys = lower_or_not (key_of a) (key_of b) (v < w) (less_or_not v w) in
+    let ranks = lower_or_not (number_of a) (number_of b) (Lower (key_of a) (key_of b) (v < w)) keys in
+    lower_or_not (class_of a) (class_of b) (RanksLower a v b w) ranks
 
 -- two parts of a list of calls, between which a call stands in batch order
 record Places (call : Call) (calls : List Call) : Type 0 where

@@ -1,7 +1,8 @@
 -- What the proofs carry of statuses, of the book, and of the values of leaves.
 use Rattle.std.specs.Prelude.{ℕ, ◌≡◌, ◌<◌, Bool, true, false, if◌then◌else◌, Option, None, Some, List, length, map}
 use Rattle.std.specs.List.{AllByRecursion}
-use Rattle.seq_objects.specs.Objects as objects
+use Rattle.seq_objects.specs.Objects.{value_of}
+use Rattle.seq_objects.specs.Stores.{Store, opening_store}
 use Rattle.seq_objects.specs.Spin.{spin_of}
 use Rattle.core_model.proofs.Words.{Act, Work, Call, LeafNode, Entry, Progress, Waiting, Ready, Taken, Done, Ran, Task, Idle, Run, Half, Started, Kept, Ended, Whole, Handed, Status, Free, Pending, Executing, Served, CallState, NotCalled, Out, Got, CoreJob}
 use Rattle.seq_objects.specs.Pairs.{AreDistinct}
@@ -43,9 +44,9 @@ IsEarlier None (Some later) = ⊥
 IsEarlier (Some earlier) (Some later) = earlier.batch < later.batch
 
 -- the book, and the objects after it, with the stamps of the leaves
-pub record InductiveBook (job : CoreJob) (book : List (List Entry)) (after : objects.Objects) (stamps : ℕ → Option Stamp) : Type 0 where
+pub record InductiveBook (job : CoreJob) (book : List (List Entry)) (after : Store) (stamps : ℕ → Option Stamp) : Type 0 where
   pub legal : IsLegal book
-  pub objects_after : after ≡ served objects.opening (flat book)
+  pub objects_after : after ≡ served opening_store (flat book)
   pub batches : AllByRecursion IsBatch book
   pub leaves : AreDistinct (map (λ entry. entry.leaf) (flat book))
   pub among : AllByRecursion (λ entry. entry.worker < job.workers) (flat book)
@@ -107,7 +108,7 @@ valued_by (Ran w s e) holder task = true
 
 abbrev pub value_at : Option Place → Option ℕ
 value_at None = None
-value_at (Some place) = Some (objects.value_of place.entry.reply)
+value_at (Some place) = Some (value_of place.entry.reply)
 
 -- the value that a leaf is to have, which does this and whose entry stands here
 abbrev pub value_due : Act → Option Place → Option ℕ

@@ -3,7 +3,7 @@ use Rattle.std.proofs.Common.{ℕ, ◌≡◌, ◌≢◌, ◌<◌, Bool, true, fa
 use Rattle.std.proofs.lemmas.List.{map-append}
 use Rattle.std.specs.List.{AllByRecursion}
 use Rattle.core_model.proofs.Words.{Act, Work, Call, LeafNode, IsPlan, Entry, Progress, Taken, Task, Started, Status, Executing, CallState, Out, Publish, CoreJob, Hold, State, names}
-use Rattle.seq_objects.specs.Objects.{opening}
+use Rattle.seq_objects.specs.Stores.{opening_store}
 use Rattle.seq_objects.specs.Pairs.{AreDistinct}
 use Rattle.batch_history.specs.Book.{flat, IsBatch}
 use Rattle.core_model.specs.Operations.{leaf_of, op_in, op_of, Place, place_in, or_else, place_of}
@@ -138,8 +138,8 @@ publish_keeps job s w b laws h needs batch =
       statuses = λ v. rw (taken_same s.hold v) (status_kept job s.book b (s.task v) (s.status v) (s.call v) (is_taken_by s.hold v) (h.statuses v));
       hold = rw there (hold_kept job s hd hold needs.2 needs.3);
       book = record {
-        legal = rw (flat_append s.book b) (legal_append opening (flat s.book) b h.book.legal (rw h.book.objects_after at batch.replies));
-        objects_after = rw (flat_append s.book b) (ap (λ o. served o b) h.book.objects_after ∙ sym (served_append opening (flat s.book) b));
+        legal = rw (flat_append s.book b) (legal_append opening_store (flat s.book) b h.book.legal (rw h.book.objects_after at batch.replies));
+        objects_after = rw (flat_append s.book b) (ap (λ o. served o b) h.book.objects_after ∙ sym (served_append opening_store (flat s.book) b));
         batches = each_append IsBatch s.book (b ∷ []) h.book.batches (batch.is_batch, tt);
         leaves = leaves_apart job s hd b h laws there unpublished batch.only batch.is_batch.workers;
         among = rw (flat_append s.book b) (each_append (λ (e : Entry). e.worker < job.workers) (flat s.book) b h.book.among

@@ -2,7 +2,7 @@
 use Rattle.std.proofs.Common.{ℕ, zero, suc, ◌≡◌, ◌≢◌, ◌<◌, ◌≤◌, ◌+◌, ◌==◌, if◌then◌else◌, Bool, true, false, Option, Some, None, List, arith, refl, inl, inr, sym, ◌∙◌, ap}
 use Rattle.std.proofs.lemmas.Bool.{cases_eq}
 use Rattle.std.proofs.lemmas.Bool.Decides.{nat_tests}
-use Rattle.seq_objects.specs.Objects.{Objects}
+use Rattle.seq_objects.specs.Stores.{Store}
 use Rattle.core_model.proofs.Words.{Kind, LeafNode, Entry, Task, Started, Kept, Status, Free, Pending, Executing, Served, CallState, NotCalled, Out, Got, Receipt, Post, Win, Take, Publish, Answer, Release, Leave, Keep, put, CoreJob, Hold, State}
 use Rattle.core_model.specs.Operations.{leaf_of, op_in}
 use Rattle.core_model.specs.Invariant.Tasks.{TaskFits}
@@ -78,7 +78,7 @@ module _ (job : CoreJob) (s : State) (w : ℕ) (below : w < job.workers) (h : In
       let b : cost_of job (record s { status = put s.status w Free; call = put s.call w (Got r) }) w ≡ task_cost job (s.task w) + 0 = rw (put_at s.status w w Free refl, put_at s.call w w (Got r) refl) refl in
       let c : cost_of job s w ≡ task_cost job (s.task w) + 1 = rw needs.0 refl in omega arith
 
-  pub publish_lowers : (book : List (List Entry)) (objects : Objects) → Needs job s w Publish → measure job (record s { book = book; objects = objects; hold = published s.hold }) < measure job s
+  pub publish_lowers : (book : List (List Entry)) (objects : Store) → Needs job s w Publish → measure job (record s { book = book; objects = objects; hold = published s.hold }) < measure job s
   publish_lowers book objects needs = let e = needs.1.0 in let f = needs.4 in rw (e, f) (omega arith)
 
   pub take_lowers : (u : ℕ) → Needs job s w (Take u) → measure job (record s { status = if is_pending (s.status u) then put s.status u Executing else s.status; hold = looked s.hold (is_pending (s.status u)) u }) < measure job s

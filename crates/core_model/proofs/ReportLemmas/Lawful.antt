@@ -27,20 +27,20 @@ in_some : {A : Type 0} (P : A → Type 0) (o : Option A) → IsSomeAnd o P → (
 in_some P None h = absurd h
 in_some P (Some x) h = (x, refl, h)
 
--- the job of this tree, whose leaves do these acts and have these sources
-abbrev pub job_with : Tree → List Act → List (Option ℕ) → JobValue
-job_with tree acts sources = record { shape = Some tree; acts = acts; sources = sources }
+-- the job with this tree as its shape
+abbrev pub job_with : Tree → JobValue → JobValue
+job_with tree job = record job { shape = Some tree }
 
-module _ (tree : Tree) (acts : List Act) (sources : List (Option ℕ)) (workers : ℕ) (s : State) (report : Report) (fits : length acts ≡ leaves tree)
+module _ (tree : Tree) (given : JobValue) (workers : ℕ) (s : State) (report : Report) (fits : length given.acts ≡ leaves tree)
     (series : (u v : ℕ) → u < leaves tree → v < leaves tree → IsBefore (Some tree) u v → IsBySeries (nodes_of tree) ((nodes_of tree).node_of u) ((nodes_of tree).node_of v))
-    (h : IsEnded (core_job (job_with tree acts sources) workers) (leaves tree) s) (r : IsReportOf (core_job (job_with tree acts sources) workers) (leaves tree) s report) where
+    (h : IsEnded (core_job (job_with tree given) workers) (leaves tree) s) (r : IsReportOf (core_job (job_with tree given) workers) (leaves tree) s report) where
   -- the job, as reports know it
   abbrev value : JobValue
-  value = job_with tree acts sources
+  value = job_with tree given
 
   -- and as the core does
   abbrev job : CoreJob
-  job = core_job (job_with tree acts sources) workers
+  job = core_job (job_with tree given) workers
 
   -- the row at the place of a leaf
   row_of : (leaf : ℕ) (row : Row) → slice_get report.rows leaf ≡ Some row → IsRowAt job (leaves tree) s leaf row
@@ -65,22 +65,22 @@ module _ (tree : Tree) (acts : List Act) (sources : List (Option ℕ)) (workers 
   }
 
   -- what a leaf does
-  does : (leaf : ℕ) (act : Act) → slice_get acts leaf ≡ Some act → act_of acts leaf ≡ act
-  does leaf act is = get_or_from_slice_get acts leaf act (Work 0) is
+  does : (leaf : ℕ) (act : Act) → slice_get given.acts leaf ≡ Some act → act_of given.acts leaf ≡ act
+  does leaf act is = get_or_from_slice_get given.acts leaf act (Work 0) is
 
   -- an entry is that of a leaf that calls
-  entry_calls : (e : Entry) → Contains (flat s.book) e → IsCallLeaf acts e.leaf
+  entry_calls : (e : Entry) → Contains (flat s.book) e → IsCallLeaf given.acts e.leaf
   entry_calls e there =
       let call = called_as value s.book e.leaf e.op (each_at (λ (x : Entry). op_of value s.book x.leaf ≡ Some x.op) (flat s.book) e h.parts.book.operations there) in
       (call.0, call.1.0)
 
   -- the leaves of the book
-  calls_each_once : HasEachOnce (IsCallLeaf acts) (map (λ (e : Entry). e.leaf) (flat s.book))
+  calls_each_once : HasEachOnce (IsCallLeaf given.acts) (map (λ (e : Entry). e.leaf) (flat s.book))
   calls_each_once = record {
     distinct = h.parts.book.leaves;
-    only = each_mapped (λ (e : Entry). e.leaf) (Contains (flat s.book)) (IsCallLeaf acts) entry_calls (flat s.book) (contained (flat s.book));
+    only = each_mapped (λ (e : Entry). e.leaf) (Contains (flat s.book)) (IsCallLeaf given.acts) entry_calls (flat s.book) (contained (flat s.book));
     each = λ leaf call.
-        let low = slice_get_within acts leaf (Call call.0) call.1 in
+        let low = slice_get_within given.acts leaf (Call call.0) call.1 in
         call_in job (leaves tree) s h leaf (rw fits at low)
         (calls job (leaves tree) s h leaf call.0 (ap op_in (does leaf (Call call.0) call.1)));
   }

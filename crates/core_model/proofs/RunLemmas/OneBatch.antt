@@ -2,7 +2,7 @@
 use Rattle.std.proofs.Common.{ℕ, ◌≡◌, ◌≢◌, ◌⊎◌, true, List, [], ◌∷◌, ◌++◌, map, refl, inl, inr, subst, sym, ◌∙◌, ap}
 use Rattle.std.specs.Prelude.{Contains}
 use Rattle.std.specs.List.{AllByRecursion}
-use Rattle.seq_objects.specs.Objects.{Objects, after, reply_to}
+use Rattle.seq_objects.specs.Stores.{Store, store_after, store_reply}
 use Rattle.seq_objects.specs.BatchOrder.{ComesFirst}
 use Rattle.core_model.proofs.Words.{Op, Entry, Event, Claim, Start, OpenParRight, OpenParLeft, OpenSeqLeft, OpenSeqRight, Post, Win, Take, Publish, Answer, Release, Leave, Keep, End, FinishLeaf, FinishSeq, FinishPar, ArriveFirst, ArriveSecond, CoreJob, State}
 use Rattle.seq_objects.specs.Pairs.{EachPair, AreDistinct}
@@ -60,19 +60,19 @@ module _ (P : Entry → Type 0) (tells : (a b : Entry) → P a → P b → a.wor
   ]
 
   -- a list whose entries have these workers, in batch order
-  record Ordered (Q : ℕ → Type 0) (objects : Objects) (xs : List Entry) : Type 0 where
+  record Ordered (Q : ℕ → Type 0) (store : Store) (xs : List Entry) : Type 0 where
     calls : AllByRecursion P xs
     only : AllByRecursion (λ (e : Entry). Q e.worker) xs
     each : (w : ℕ) → Q w → HasWorker xs w
     order : EachPair (λ (a b : Entry). IsFirst a b) xs
     workers : AreDistinct (map (λ (e : Entry). e.worker) xs)
-    legal : IsLegalFrom objects xs
+    legal : IsLegalFrom store xs
 
   tail_each : (Q : ℕ → Type 0) (x : Entry) (xs : List Entry) → ((w : ℕ) → Q w → HasWorker (x ∷ xs) w) → (w : ℕ) → Q w × (x.worker ≢ w) → HasWorker xs w
   tail_each Q x xs each w q = elim (each w q.0) [ inl e ↦ absurd (q.1 e) | inr h ↦ h ]
 
-  tail : (Q : ℕ → Type 0) (objects : Objects) (x : Entry) (xs : List Entry) → Ordered Q objects (x ∷ xs) → Ordered (λ w. Q w × (x.worker ≢ w)) (after objects x.op) xs
-  tail Q objects x xs h = record {
+  tail : (Q : ℕ → Type 0) (store : Store) (x : Entry) (xs : List Entry) → Ordered Q store (x ∷ xs) → Ordered (λ w. Q w × (x.worker ≢ w)) (store_after store x.op) xs
+  tail Q store x xs h = record {
     calls = h.calls.1;
     only = each_both (λ (e : Entry). Q e.worker) (λ (e : Entry). x.worker ≢ e.worker) xs h.only.1 (unmapped (λ w. x.worker ≢ w) xs h.workers.0);
     each = tail_each Q x xs h.each;
@@ -81,18 +81,18 @@ module _ (P : Entry → Type 0) (tells : (a b : Entry) → P a → P b → a.wor
     legal = h.legal.1;
   }
 
-  one_order : (Q : ℕ → Type 0) (objects : Objects) (xs ys : List Entry) → Ordered Q objects xs → Ordered Q objects ys → xs ≡ ys
-  one_order Q objects [] [] h g = refl
-  one_order Q objects [] (y ∷ ys) h g = absurd (h.each y.worker g.only.0)
-  one_order Q objects (x ∷ xs) [] h g = absurd (g.each x.worker h.only.0)
-  one_order Q objects (x ∷ xs) (y ∷ ys) h g =
+  one_order : (Q : ℕ → Type 0) (store : Store) (xs ys : List Entry) → Ordered Q store xs → Ordered Q store ys → xs ≡ ys
+  one_order Q store [] [] h g = refl
+  one_order Q store [] (y ∷ ys) h g = absurd (h.each y.worker g.only.0)
+  one_order Q store (x ∷ xs) [] h g = absurd (g.each x.worker h.only.0)
+  one_order Q store (x ∷ xs) (y ∷ ys) h g =
       let worker : x.worker ≡ y.worker = heads_same x y xs ys h.calls.0 g.calls.0 h.calls.1 g.calls.1 h.order.0 g.order.0 (h.each y.worker g.only.0) (g.each x.worker h.only.0) in
       let told = tells x y h.calls.0 g.calls.0 worker in
-      let reply : x.reply ≡ y.reply = h.legal.0 ∙ (ap (reply_to objects) told.1 ∙ sym g.legal.0) in
+      let reply : x.reply ≡ y.reply = h.legal.0 ∙ (ap (store_reply store) told.1 ∙ sym g.legal.0) in
       let head : x ≡ y = entry_same x y worker told.0 told.1 reply in
-      let rest = tail Q objects y ys g in
-      let more : Ordered (λ w. Q w × (x.worker ≢ w)) (after objects x.op) ys = subst (λ (z : Entry). Ordered (λ w. Q w × (z.worker ≢ w)) (after objects z.op) ys) (sym head) rest in
-      let same : xs ≡ ys = one_order (λ w. Q w × (x.worker ≢ w)) (after objects x.op) xs ys (tail Q objects x xs h) more in
+      let rest = tail Q store y ys g in
+      let more : Ordered (λ w. Q w × (x.worker ≢ w)) (store_after store x.op) ys = subst (λ (z : Entry). Ordered (λ w. Q w × (z.worker ≢ w)) (store_after store z.op) ys) (sym head) rest in
+      let same : xs ≡ ys = one_order (λ w. Q w × (x.worker ≢ w)) (store_after store x.op) xs ys (tail Q store x xs h) more in
       λ i. head i ∷ same i
 
 -- the worker of a taken call determines its leaf and its operation

@@ -1,5 +1,5 @@
 -- The invariant of the book.
-use Rattle.seq_objects.specs.Objects as objects
+use Rattle.seq_objects.specs.Stores.{opening_store}
 use Rattle.batch_history.specs.Book.{IsBatch, IsLegal, flat}
 use Rattle.core_model.specs.Invariant.Ticks.{HasEnd, HasStart}
 use Rattle.core_model.specs.Operations.{IsCall, Place, op_of, place_of}
@@ -14,7 +14,7 @@ use Rattle.std.specs.Prelude.{Some, map, ℕ, ◌<◌, ◌≡◌}
 pub record BookInvariant (job : CoreJob) (s : State) : Type 0 where
   -- the book is legal, and the objects are those after serving it
   pub legal : IsLegal s.book
-  pub objects_after : s.objects ≡ served objects.opening (flat s.book)
+  pub objects_after : s.objects ≡ served opening_store (flat s.book)
   -- each batch is not empty, in batch order and of distinct workers; all workers are workers of the job
   pub batches : AllByRecursion IsBatch s.book
   pub among : AllByRecursion (λ entry. entry.worker < job.workers) (flat s.book)

@@ -6,7 +6,7 @@ use native.Mathlib.Decide.{dec_le}
 use Rattle.std.proofs.Common.{lt_of_not-le}
 use Rattle.batch_history.specs.declared.batch.Entry.{Entry}
 use Rattle.batch_history.specs.Book.{flat}
-use Rattle.seq_objects.specs.Objects as objects
+use Rattle.seq_objects.specs.Stores.{opening_store}
 use Rattle.core_model.specs.State.{CoreJob, Hold, State}
 use Rattle.core_model.specs.Tasks.{is_done}
 use Rattle.core_model.specs.Invariant.{Parts}
@@ -199,5 +199,5 @@ one_state job room laws t a b few =
       hold = held.hold;
       tick = sym a.words.ticks ∙ b.words.ticks;
       book = held.book;
-      objects = a.parts.book.objects_after ∙ (ap (λ (book : List (List Entry)). served objects.opening (flat book)) held.book ∙ sym b.parts.book.objects_after);
+      objects = a.parts.book.objects_after ∙ (ap (λ (book : List (List Entry)). served opening_store (flat book)) held.book ∙ sym b.parts.book.objects_after);
     }

@@ -6,7 +6,7 @@ use Rattle.sp_order.specs.PlanOf.{IsPlanOf}
 use Rattle.sp_order.specs.Precedence.{Tree, IsBefore, leaf_count, leaves}
 use Rattle.sp_order.specs.Preorder.{nodes_of}
 use Rattle.sp_order.specs.Sources.{IsSource}
-use Rattle.core_model.proofs.Words.{Act, Work, Call, LeafNode, IsBySeries, core_job}
+use Rattle.core_model.proofs.Words.{Work, Call, LeafNode, IsBySeries, core_job}
 use Rattle.core_model.specs.LeafSources.{IsSourceAt}
 use Rattle.core_model.specs.Operations.{op_in}
 use Rattle.core_model.proofs.laws.book.job_has_its_sources.Goals as goal
@@ -22,18 +22,18 @@ record Planned (tree : Tree) : Type 0 where
   node : (leaf n : ℕ) → leaf < leaves tree → ((nodes_of tree).kind n ≡ Some (LeafNode leaf)) ↔ (n ≡ (nodes_of tree).node_of leaf)
   series : (u v : ℕ) → u < leaves tree → v < leaves tree → IsBefore (Some tree) u v → IsBySeries (nodes_of tree) ((nodes_of tree).node_of u) ((nodes_of tree).node_of v)
 
-abbrev job_with : Option Tree → List Act → List (Option ℕ) → JobValue
-job_with shape acts sources = record { shape = shape; acts = acts; sources = sources }
+abbrev job_with : Option Tree → JobValue → JobValue
+job_with shape job = record job { shape = shape }
 
-at_source : ((tree : Tree) → Planned tree) → (shape : Option Tree) (acts : List Act) (sources : List (Option ℕ)) (workers n leaf source : ℕ)
-    → leaf_count shape ≡ length acts → IsSource shape acts leaf source → (core_job (job_with shape acts sources) workers).plan.kind n ≡ Some (LeafNode leaf)
-    → IsSourceAt (core_job (job_with shape acts sources) workers) n source
-at_source planned None acts sources workers n leaf source fits is kind = absurd is.before
-at_source planned (Some tree) acts sources workers n leaf source fits is kind =
+at_source : ((tree : Tree) → Planned tree) → (shape : Option Tree) (job : JobValue) (workers n leaf source : ℕ)
+    → leaf_count shape ≡ length job.acts → IsSource shape job.acts leaf source → (core_job (job_with shape job) workers).plan.kind n ≡ Some (LeafNode leaf)
+    → IsSourceAt (core_job (job_with shape job) workers) n source
+at_source planned None job workers n leaf source fits is kind = absurd is.before
+at_source planned (Some tree) job workers n leaf source fits is kind =
     let plan = planned tree in
-    let low : leaf < leaves tree = rw fits (slice_get_within acts leaf (Call is.op) is.call) in
-    let low' : source < leaves tree = rw fits (slice_get_within acts source (Call is.calls.0) is.calls.1) in
-    let act = get_or_from_slice_get acts source (Call is.calls.0) (Work 0) is.calls.1 in
+    let low : leaf < leaves tree = rw fits (slice_get_within job.acts leaf (Call is.op) is.call) in
+    let low' : source < leaves tree = rw fits (slice_get_within job.acts source (Call is.calls.0) is.calls.1) in
+    let act = get_or_from_slice_get job.acts source (Call is.calls.0) (Work 0) is.calls.1 in
     record {
       calls = λ none. let e = sym (ap op_in act) ∙ none in cc;
       stands = (plan.node source ((nodes_of tree).node_of source) low').1 refl;
@@ -47,4 +47,4 @@ returns c job workers is n leaf source kind of =
       node = λ leaf n low. c.leaf_has_one_node.ensures (nodes_of tree) tree stands leaf n low;
       series = λ u v low low' before. (c.before_is_by_series.ensures (nodes_of tree) tree stands u v low low').0 before;
     })
-    job.shape job.acts job.sources workers n leaf source is.leaves (is.sources.each leaf source (listed job.sources leaf source of)) kind
+    job.shape job workers n leaf source is.leaves (is.sources.each leaf source (listed job.sources leaf source of)) kind

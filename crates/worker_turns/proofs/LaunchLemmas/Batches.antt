@@ -9,7 +9,7 @@ use Rattle.seq_objects.specs.declared.call.Call.{Call}
 use Rattle.core_model.specs.Words.{Entry}
 use Rattle.table_rule.specs.declared.view.HoldView.{HoldView}
 use Rattle.table_rule.specs.Passes.{after_publish, in_hold, publishing}
-use Rattle.worker_crew.specs.Holds.{workers_in}
+use Rattle.worker_crew.specs.Holds.{IsPublishDue, workers_in}
 use Rattle.table_rule.specs.declared.view.PassView.{PassView}
 use Rattle.worker_crew.specs.Passes.{Holds, IsHeld, is_trapped}
 use Rattle.core_model.specs.declared.event.Event.TheVariants.{Publish}
@@ -36,6 +36,14 @@ few_in number batch (Some h) due =
 
 pub few_answers : (p : PassView) (number : ℕ) (batch : List Entry) → IsHeld p (IsAnswerable number batch) → length batch ≤ 20000
 few_answers p number batch held = few_in number batch p.hold held.1
+
+-- the batch that serves the taken calls can be published
+pub publishable : (p q : PassView) (workers : ℕ) (calls : List Call) (book : List (List Entry)) (batch : List Entry) → is_trapped p.call ≡ true
+    → HasTaken workers calls book p.hold → MayServe book calls → IsServiceOf book calls batch → HasOnlyLooked p q → IsHeld q (IsPublishDue workers batch)
+publishable p q workers calls book batch trapped (found, hold) may service looks = let same = looks.same in (
+  ap (λ (s : PassView). is_trapped s.call) same ∙ trapped,
+  subst (Holds (IsPublishDue workers batch)) (sym (ap (λ (s : PassView). s.hold) same ∙ hold)) (record { looked = refl; early = refl; may = may; service = service }),
+)
 
 -- the batch that was published can be answered
 pub answerable : (p q r : PassView) (workers number : ℕ) (calls : List Call) (book : List (List Entry)) (batch entries : List Entry) → is_trapped p.call ≡ true

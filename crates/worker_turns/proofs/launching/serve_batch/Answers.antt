@@ -1,9 +1,9 @@
-use Rattle.std.proofs.Common.{rules, ◌≡◌, List, length, map, ap, arith}
+use Rattle.std.proofs.Common.{rules, ◌≡◌, List, [], ◌∷◌, length, map, ap, ◌∙◌, arith, length-append}
 use Rattle.core_model.specs.Words.{Entry}
 use Rattle.seq_objects.specs.Pieces.{BatchContext}
 use Rattle.launch_batch.specs.declared.piece.PieceIn.{PieceIn}
 use Rattle.launch_batch.specs.Pieces.{place_of}
-use Rattle.worker_turns.proofs.LaunchLemmas.Batches.{few_before, answerable, pass_served, served_looks, last_at}
+use Rattle.worker_turns.proofs.LaunchLemmas.Batches.{few_before, publishable, answerable, pass_served, served_looks, last_at}
 use Rattle.worker_turns.proofs.launching.serve_batch.Goals as goal
 
 pub overflow_cast-number : goal.overflow_cast-number
@@ -12,6 +12,22 @@ overflow_cast-number g c =
     let few = few_before c.args.shop c.args.calls.items (search rules) c.requires.may in
     let long = ap (λ (l : List (List Entry)). length l) book in
     omega (arith, few, long)
+
+pub publish-requires-clause-held : goal.publish-requires-clause-held
+publish-requires-clause-held g c =
+    let o : BatchContext (List (List Entry)) PieceIn = record { before = c.args.shop; calls = c.args.calls.items; ins = c.in_ok-opened.ins.items } in
+    publishable (g.T.Table.seen c.args.me.now.pass) _ _ c.args.calls.items c.args.shop c.in_ok-shop.batch c.requires.trapped c.requires.hold c.requires.may
+    (c.in_ok-shop.ensures.batch o c.in_ok-opened.ensures.context c.in_ok-outs.ensures.meet) c.in_ok-outs.ensures.seen
+
+pub bounds-batches-number : goal.bounds-batches-number
+bounds-batches-number g c =
+    let o : BatchContext (List (List Entry)) PieceIn = record { before = c.args.shop; calls = c.args.calls.items; ins = c.in_ok-opened.ins.items } in
+    let book : c.batches-number.result.now ≡ c.args.shop = search rules in
+    let grown = c.in_ok-shop.ensures.history o c.in_ok-opened.ensures.context c.in_ok-outs.ensures.meet in
+    let after : c.batches.result.now ≡ c.in_ok-shop.shop = search rules in
+    let long = ap (λ (l : List (List Entry)). length l) book in
+    let longer = ap (λ (l : List (List Entry)). length l) (after ∙ grown) in
+    omega (arith, long, longer, length-append c.args.shop (c.in_ok-shop.batch ∷ []))
 
 pub answer_all-requires-clause-published : goal.answer_all-requires-clause-published
 answer_all-requires-clause-published g c =

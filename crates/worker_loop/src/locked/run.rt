@@ -27,7 +27,7 @@ pub trait JobBrand {
 }
 
 impl JobBrand for Brand {
-    ghost job = { record { shape = None; acts = []; sources = [] } };
+    ghost job = { record { shape = None; acts = []; sources = []; names = [] } };
 
     ghost workers = { 1 };
 }

@@ -1,11 +1,11 @@
 //! A core can be sent to another thread.
 //!
-//! The search for `Send` on the whole core exceeds its budget, so `Shop` is shown first.
+//! The search for `Send` on the whole core exceeds its budget, so its shop is shown first.
 ghost use denote.Param.Send.{IsSend};
 ghost use Rattle.batcher_core.specs.contracts.scheduler.Core.{the_row};
 
 use batcher_core::Core;
-use launch_batch::Shop;
+use core_table::laws::shops_go_to_threads;
 
 /// The row of a `Send` type satisfies `IsSend`. For proofs only; it does nothing.
 fn is_sent<T: Send>()
@@ -16,6 +16,6 @@ fn is_sent<T: Send>()
 pub(crate) fn cores_are_sent()
     ensures { IsSend the_row }
 {
-    is_sent::<Shop>();
+    shops_go_to_threads();
     is_sent::<Core>();
 }

@@ -12,11 +12,11 @@ state_is_sent part = search (sendable, crosses) depth 40 fits 20000
 setting_is_sent : IsSend (setting.the_field).row
 setting_is_sent = search (sendable, crosses) depth 40 fits 20000
 
-pub is_sent-requires-2-send-T : goal.is_sent-requires-2-send-T
-is_sent-requires-2-send-T c κs =
-    let state = state_is_sent (record { owned = c.is_sent.ensures.owned; leaving = λ k. c.is_sent.ensures.leaving yes }) in
+pub is_sent-requires-send-T : goal.is_sent-requires-send-T
+is_sent-requires-send-T c κs =
+    let state = state_is_sent c.shops_go_to_threads.ensures in
     let setting = setting_is_sent in
     search (sendable, crosses) depth 40 fits 20000
 
 pub returns : goal.returns
-returns c = record { owned = c.is_sent-2.ensures.owned; leaving = λ k. c.is_sent-2.ensures.leaving yes }
+returns c = record { owned = c.is_sent.ensures.owned; leaving = λ k. c.is_sent.ensures.leaving yes }

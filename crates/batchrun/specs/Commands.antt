@@ -1,14 +1,13 @@
 -- What each command owes: which run its report is of, what it prints, and why each status comes.
-use Rattle.std.specs.Prelude.{ℕ, ◌≤◌, List, length, Bool, IsTrue, Option, None, Some, IfSome}
+use Rattle.std.specs.Prelude.{◌≡◌, ℕ, ◌≤◌, List, length, Bool, IsTrue, Option, None, Some, IfSome}
 use Rattle.std.specs.Io.KnownBytes.{Appends}
 use Rattle.batch_history.specs.declared.report.Report.{Report}
 use Rattle.batch_history.specs.Lawful.{Lawful}
-use Rattle.batch_history.specs.Text.{report_text}
 use Rattle.batch_history.specs.Summary.{summary_of_report, summary_of_job}
 use Rattle.core_model.specs.Reports.{IsRunReport}
 use Rattle.job_lang.specs.Generator.{generated}
 use Rattle.batchrun.specs.Words.{Command, step, run, gen}
-use Rattle.batchrun.specs.Outcomes.{HasRun, HasDriven, IsModelRun, FileCause, MadeCause, FileCompletes, IsFileAssured, FailsPast, IsUnlessMemory}
+use Rattle.batchrun.specs.Outcomes.{PrintsRun, HasDriven, IsModelRun, FileCause, MadeCause, FileCompletes, IsFileAssured, FailsPast, IsUnlessMemory}
 use Rattle.batchrun.specs.declared.status.Status.{Status}
 use Rattle.batchrun.specs.declared.status.Status.TheVariants.{Made}
 
@@ -20,18 +19,18 @@ MayRead may (Some (step file workers schedule)) = IsTrue (may file)
 MayRead may (Some (run file workers)) = IsTrue (may file)
 MayRead may _ = Unit {0}
 
--- what a command prints of its report: the summary for `gen`, and the text for the others
-abbrev pub lines_of : Option Command → Report → List ℕ
-lines_of (Some (gen size seed workers)) = summary_of_report seed size
-lines_of _ = report_text
+-- the report is lawful for the generated job, and the lines are its summary
+abbrev pub PrintsMade : ℕ → ℕ → ℕ → Report → List ℕ → Type 0
+PrintsMade size seed workers report lines =
+    Lawful (generated seed size) workers report × (summary_of_report seed size report ≡ lines)
 
--- The report is lawful: for the job of the command's file, or for the generated job, and for the command's number of
--- workers. Words that are no command have no report.
-abbrev pub Runs : Option Command → (List ℕ → Option (List ℕ)) → Report → Type 0
-Runs (Some (step file workers schedule)) held = HasRun (held file) workers
-Runs (Some (run file workers)) held = HasRun (held file) workers
-Runs (Some (gen size seed workers)) held = Lawful (generated seed size) workers
-Runs None held = λ report. ⊥
+-- The report is lawful, for the job of the command's file or for the generated job, and for the command's number of
+-- workers; the lines are the summary for `gen`, and the text for the others. Words that are no command have no report.
+abbrev pub Runs : Option Command → (List ℕ → Option (List ℕ)) → Report → List ℕ → Type 0
+Runs (Some (step file workers schedule)) held = PrintsRun (held file) workers
+Runs (Some (run file workers)) held = PrintsRun (held file) workers
+Runs (Some (gen size seed workers)) held = PrintsMade size seed workers
+Runs None held = λ report lines. ⊥
 
 -- the report of a `step` command is the one that its turns make
 abbrev pub Driven : Option Command → (List ℕ → Option (List ℕ)) → Report → Type 0
@@ -70,7 +69,7 @@ pub record Owes (command : Command) (held : List ℕ → Option (List ℕ)) (sta
   pub model : IfSome report (RunsModel (Some command) held)
   pub cause : HasCause command held status ReadsFailed WritesFailed
   pub completes : Completes command held status ReadsFailed WritesFailed
-  pub writes : FailsPast (lines_of (Some command)) status report room
+  pub writes : FailsPast (Runs (Some command) held) status report room
   pub assured : IsAssured command held status report never_fails room
 
 -- where a generated job was made, the printed summary is determined by the words alone: it is the summary of that job

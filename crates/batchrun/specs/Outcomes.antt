@@ -23,6 +23,11 @@ pub record HasRun (held : Option (List ℕ)) (workers : ℕ) (report : Report) :
   pub accepted : IsJobOf bytes job
   pub lawful : Lawful job workers report
 
+-- Such a run prints these lines: the text of its report, in which objects have the names that the job gives them.
+pub record PrintsRun (held : Option (List ℕ)) (workers : ℕ) (report : Report) (lines : List ℕ) : Type 0 where
+  pub run : HasRun held workers report
+  pub text : report_text run.job.names report ≡ lines
+
 -- The bytes that were read are a text of a job, and the report is lawful and the one that turns make of this job: those
 -- of the schedule, and then those of all workers round robin from worker 0 on.
 pub record HasDriven (held : Option (List ℕ)) (workers : ℕ) (schedule : List ℕ) (report : Report) : Type 0 where
@@ -42,17 +47,17 @@ pub record IsRefused (held : Option (List ℕ)) (fault : JobFault) : Type 0 wher
   pub read : WasRead 1048576 held bytes
   pub why : IsFaultOf bytes fault
 
--- Whether there is a report, and what out took. `Runs` is what a run owes of its report, and `lines` what it prints of
--- it. Where the status is none of `Done`, `Made` and `WriteFault`, there is no report and out takes nothing.
-abbrev pub Prints : (Report → Type 0) → (Report → List ℕ) → Status → Option Report → Option (List ℕ) → Option (List ℕ) → Type 0
-Prints Runs lines Done (Some report) old new = Runs report × Appends old new (lines report)
-Prints Runs lines Made (Some report) old new = Runs report × Appends old new (lines report)
-Prints Runs lines WriteFault (Some report) old new = Runs report × AppendsFront old new (lines report)
-Prints Runs lines Done None old new = ⊥
-Prints Runs lines Made None old new = ⊥
-Prints Runs lines WriteFault None old new = ⊥
-Prints Runs lines status None old new = Keeps old new
-Prints Runs lines status (Some report) old new = ⊥
+-- Whether there is a report, and what out took. `Runs` is what a run owes of its report and of the lines that it prints
+-- of it. Where the status is none of `Done`, `Made` and `WriteFault`, there is no report and out takes nothing.
+abbrev pub Prints : (Report → List ℕ → Type 0) → Status → Option Report → Option (List ℕ) → Option (List ℕ) → Type 0
+Prints Runs Done (Some report) old new = (lines : List ℕ) × Runs report lines × Appends old new lines
+Prints Runs Made (Some report) old new = (lines : List ℕ) × Runs report lines × Appends old new lines
+Prints Runs WriteFault (Some report) old new = (lines : List ℕ) × Runs report lines × AppendsFront old new lines
+Prints Runs Done None old new = ⊥
+Prints Runs Made None old new = ⊥
+Prints Runs WriteFault None old new = ⊥
+Prints Runs status None old new = Keeps old new
+Prints Runs status (Some report) old new = ⊥
 
 -- Why a status comes where a file is read: by the bytes held under its name, and by whether the fault count of the
 -- shelf or of out rose.
@@ -88,21 +93,21 @@ pub record FileCompletes (status : Status) (held : Option (List ℕ)) (ReadsFail
       → length bytes ≤ 1048576 → IsJobOf bytes job → IsUnlessMemory status Done
 
 -- a write fault comes only where the lines of the report are longer than the room that out has left
-abbrev pub FailsPast : (Report → List ℕ) → Status → Option Report → ℕ → Type 0
-FailsPast lines WriteFault (Some report) room = room < length (lines report)
-FailsPast lines status report room = Unit {0}
+abbrev pub FailsPast : (Report → List ℕ → Type 0) → Status → Option Report → ℕ → Type 0
+FailsPast Runs WriteFault (Some report) room = (lines : List ℕ) × Runs report lines × (room < length lines)
+FailsPast Runs status report room = Unit {0}
 
 -- the text of the report, if there is one, fits the room
-abbrev pub TextFits : Option Report → ℕ → Type 0
-TextFits None room = Unit {0}
-TextFits (Some report) room = length (report_text report) ≤ room
+abbrev pub TextFits : JobValue → Option Report → ℕ → Type 0
+TextFits job None room = Unit {0}
+TextFits job (Some report) room = length (report_text job.names report) ≤ room
 
 -- Where the shelf never fails and holds an accepted job, and the text of the report fits the room that out has left,
 -- the run is done, unless memory runs out.
 abbrev pub IsFileAssured : Status → Option Report → Option (List ℕ) → Bool → ℕ → Type 0
 IsFileAssured status report held never_fails room =
     (bytes : List ℕ) (job : JobValue) → held ≡ Some bytes → length bytes ≤ 1048576 → IsJobOf bytes job
-    → IsTrue never_fails → TextFits report room → IsUnlessMemory status Done
+    → IsTrue never_fails → TextFits job report room → IsUnlessMemory status Done
 
 -- the bytes held are known, at most 1,048,576, and a text of a job
 pub record HoldsJob (held : Option (List ℕ)) : Type 0 where

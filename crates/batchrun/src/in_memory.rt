@@ -4,7 +4,6 @@ ghost use Rattle.std.specs.Option.{ForSome, option_and_then};
 ghost use Rattle.bt_io.specs.Causes.{Rose};
 ghost use Rattle.bt_io.specs.Memory.{file_named};
 ghost use Rattle.program_io.specs.Lines.{Tells};
-ghost use Rattle.batch_history.specs.Text.{report_text};
 ghost use Rattle.batchrun.specs.Words.{command_of, spelled, file_of, IsStep};
 ghost use Rattle.batchrun.specs.Lines.{fault_line};
 ghost use Rattle.batchrun.specs.Outcomes.{Prints, HoldsJob, IsUnlessMemory, TextFits, FailsPast};
@@ -29,13 +28,13 @@ pub fn step_in_memory(
     requires no_read_fails { shelf.old.fails ≡ [] }
     requires no_write_fails { out.old.fails ≡ [] }
     ensures answer { ForSome (option_and_then file_of (command_of (spelled words.now)))
-        (λ file. HoldsJob (file_named shelf.old.files file)
-        → TextFits result.report (out.old.room - length out.old.taken)
+        (λ file. (holds : HoldsJob (file_named shelf.old.files file))
+        → TextFits holds.job result.report (out.old.room - length out.old.taken)
         → IsUnlessMemory result.status Status.Done) }
-    ensures writes { FailsPast report_text result.status result.report
-        (out.old.room - length out.old.taken) }
+    ensures writes { FailsPast (Runs (command_of (spelled words.now)) (file_named shelf.old.files))
+        result.status result.report (out.old.room - length out.old.taken) }
     ensures headline { Prints (Runs (command_of (spelled words.now)) (file_named shelf.old.files))
-        report_text result.status result.report (Some out.old.taken) (Some out.new.taken) }
+        result.status result.report (Some out.old.taken) (Some out.new.taken) }
     ensures driven { IfSome result.report
         (Driven (command_of (spelled words.now)) (file_named shelf.old.files)) }
     ensures model { IfSome result.report

@@ -6,7 +6,7 @@ ghost use Rattle.program_io.specs.Lines.{Tells};
 ghost use Rattle.batchrun.specs.Words.{command_of, spelled, IsStep};
 ghost use Rattle.batchrun.specs.Lines.{fault_line};
 ghost use Rattle.batchrun.specs.Outcomes.{Prints};
-ghost use Rattle.batchrun.specs.Commands.{MayRead, Runs, lines_of, Owes, PrintsSummary};
+ghost use Rattle.batchrun.specs.Commands.{MayRead, Runs, Owes, PrintsSummary};
 ghost use Rattle.batchrun.specs.Code.Commands.{command_in, step_in};
 ghost use Rattle.batchrun.specs.Code.Runs.{IsRun};
 
@@ -132,7 +132,7 @@ pub fn run_step<I: Shelf, O: Sink, E: Sink>(
     requires may { MayRead (I.may shelf.old) (command_of (spelled words.now)) }
 
     ensures headline { Prints (Runs (command_of (spelled words.now)) (I.held shelf.old))
-        (lines_of (command_of (spelled words.now))) result.status result.report
+        result.status result.report
         (O.taken out.old) (O.taken out.new) }
     ensures owes { ForSome (command_of (spelled words.now))
         (λ c. Owes c (I.held shelf.old) result.status result.report
@@ -160,7 +160,7 @@ pub fn batchrun<R: Threads + Wait + Sync, I: Shelf, O: Sink, E: Sink, G: Pause +
     requires may { MayRead (I.may shelf.old) (command_of (spelled words.now)) }
 
     ensures headline { Prints (Runs (command_of (spelled words.now)) (I.held shelf.old))
-        (lines_of (command_of (spelled words.now))) result.status result.report
+        result.status result.report
         (O.taken out.old) (O.taken out.new) }
     ensures summary { PrintsSummary (command_of (spelled words.now)) result.status
         (O.taken out.old) (O.taken out.new) }

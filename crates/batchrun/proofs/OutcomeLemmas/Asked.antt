@@ -3,13 +3,12 @@ use Rattle.std.proofs.Common.{◌≡◌, ℕ, List, Bool, true, false, Option, S
 use Rattle.std.specs.Prelude.{IsTrue}
 use Rattle.std.specs.Option.{ForSome}
 use Rattle.batch_history.specs.declared.report.Report.{Report}
-use Rattle.batch_history.specs.Text.{report_text}
 use Rattle.batchrun.specs.Words.{Command, step, run, gen}
-use Rattle.batchrun.specs.Outcomes.{HasRun, Prints, FileCause, IsFileAssured, FailsPast}
+use Rattle.batchrun.specs.Outcomes.{PrintsRun, Prints, FileCause, IsFileAssured, FailsPast}
 use Rattle.batchrun.specs.Commands.{HasCause}
 use Rattle.batchrun.specs.declared.status.Status.{Status}
 use Rattle.batchrun.specs.declared.status.Status.TheVariants.{Usage, ReadFault}
-use Rattle.batchrun.proofs.OutcomeLemmas.Ends.{NoFault, is_assured}
+use Rattle.batchrun.proofs.OutcomeLemmas.Ends.{OneJob, NoFault, is_assured}
 
 -- the words are one command only
 one_command : (words : Option Command) (command other : Command) → words ≡ Some command → words ≡ Some other → command ≡ other
@@ -23,12 +22,12 @@ some_held : (held : Option (List ℕ)) (told : List ℕ) → held ≡ Some told 
 some_held held told is = rw is refl
 
 -- a run is assured where no read of a held file fails
-pub assured : NoFault → (status : Status) (report : Option Report) (held : Option (List ℕ)) (workers : ℕ) (R W : Type 0) (old new : Option (List ℕ)) (never_fails : Bool) (room : ℕ)
-    → FileCause status held R W → Prints (HasRun held workers) report_text status report old new
-    → (IsTrue never_fails → IsSome held → status ≡ ReadFault → ⊥) → FailsPast report_text status report room
+pub assured : OneJob → NoFault → (status : Status) (report : Option Report) (held : Option (List ℕ)) (workers : ℕ) (R W : Type 0) (old new : Option (List ℕ)) (never_fails : Bool) (room : ℕ)
+    → FileCause status held R W → Prints (PrintsRun held workers) status report old new
+    → (IsTrue never_fails → IsSome held → status ≡ ReadFault → ⊥) → FailsPast (PrintsRun held workers) status report room
     → IsFileAssured status report held never_fails room
-assured no_fault status report held workers R W old new never_fails room why line reads past =
-    is_assured no_fault status report held workers R W old new never_fails room why line
+assured one_job no_fault status report held workers R W old new never_fails room why line reads past =
+    is_assured one_job no_fault status report held workers R W old new never_fails room why line
     (λ never told holds. reads never (some_held held told holds)) past
 
 no_cause : (command : Command) (held : List ℕ → Option (List ℕ)) (status : Status) (R W : Type 0) → HasCause command held status R W → status ≡ Usage → ⊥

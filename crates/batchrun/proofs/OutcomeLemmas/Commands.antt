@@ -2,28 +2,26 @@
 use Rattle.std.proofs.Common.{◌≡◌, ℕ, ◌≤◌, List, length, Bool, Option, Some, None, IsSome, IfSome, refl}
 use Rattle.std.specs.Prelude.{IsTrue}
 use Rattle.batch_history.specs.declared.report.Report.{Report}
-use Rattle.batch_history.specs.Lawful.{Lawful}
-use Rattle.batch_history.specs.Text.{report_text}
-use Rattle.batch_history.specs.Summary.{summary_of_report, summary_of_job}
+use Rattle.batch_history.specs.Summary.{summary_of_job}
 use Rattle.core_model.specs.Reports.{IsRunReport}
 use Rattle.job_lang.specs.Generator.{generated}
 use Rattle.batchrun.specs.Words.{step, run, gen}
-use Rattle.batchrun.specs.Outcomes.{HasRun, HasDriven, IsModelRun, Prints, FileCause, MadeCause, FailsPast, IsUnlessMemory}
-use Rattle.batchrun.specs.Commands.{PrintsSummary, Driven, Owes}
+use Rattle.batchrun.specs.Outcomes.{PrintsRun, HasDriven, IsModelRun, Prints, FileCause, MadeCause, FailsPast, IsUnlessMemory}
+use Rattle.batchrun.specs.Commands.{PrintsMade, PrintsSummary, Driven, Owes}
 use Rattle.batchrun.specs.Code.Runs.{IsRun}
 use Rattle.batchrun.specs.declared.status.Status.{Status}
 use Rattle.batchrun.specs.declared.status.Status.TheVariants.{Made, ReadFault}
 use Rattle.batchrun.proofs.OutcomeLemmas.Asked.{asked, assured, no_usage}
-use Rattle.batchrun.proofs.OutcomeLemmas.Ends.{NoFault, OneFault, completes}
+use Rattle.batchrun.proofs.OutcomeLemmas.Ends.{OneJob, NoFault, OneFault, completes}
 use Rattle.batchrun.proofs.OutcomeLemmas.Made.{made_completes}
 
 not_driven : (report : Option Report) → IfSome report (λ _. Unit {0})
 not_driven None = tt
 not_driven (Some report) = tt
 
-module _ (no_fault : NoFault) (one_fault : OneFault) (file : List ℕ) (workers : ℕ) (held : List ℕ → Option (List ℕ)) (status : Status) (report : Option Report) (old new : Option (List ℕ)) (R W : Type 0) (never_fails : Bool) (room : ℕ)
-    (line : Prints (HasRun (held file) workers) report_text status report old new) (why : FileCause status (held file) R W)
-    (reads : IsTrue never_fails → IsSome (held file) → status ≡ ReadFault → ⊥) (past : FailsPast report_text status report room) (model : IfSome report (IsModelRun (held file) workers)) where
+module _ (one_job : OneJob) (no_fault : NoFault) (one_fault : OneFault) (file : List ℕ) (workers : ℕ) (held : List ℕ → Option (List ℕ)) (status : Status) (report : Option Report) (old new : Option (List ℕ)) (R W : Type 0) (never_fails : Bool) (room : ℕ)
+    (line : Prints (PrintsRun (held file) workers) status report old new) (why : FileCause status (held file) R W)
+    (reads : IsTrue never_fails → IsSome (held file) → status ≡ ReadFault → ⊥) (past : FailsPast (PrintsRun (held file) workers) status report room) (model : IfSome report (IsModelRun (held file) workers)) where
   -- a run by turns
   pub stepped : (schedule : List ℕ) → IfSome report (HasDriven (held file) workers schedule) → IsRun (Some (step file workers schedule)) held status report old new R W never_fails room
   stepped schedule driven = record {
@@ -36,7 +34,7 @@ module _ (no_fault : NoFault) (one_fault : OneFault) (file : List ℕ) (workers 
       cause = why;
       completes = completes one_fault no_fault status report _ _ _ _ _ _ why line;
       writes = past;
-      assured = assured no_fault status report (held file) workers R W old new never_fails room why line reads past;
+      assured = assured one_job no_fault status report (held file) workers R W old new never_fails room why line reads past;
     });
   }
 
@@ -52,14 +50,14 @@ module _ (no_fault : NoFault) (one_fault : OneFault) (file : List ℕ) (workers 
       cause = why;
       completes = completes one_fault no_fault status report _ _ _ _ _ _ why line;
       writes = past;
-      assured = assured no_fault status report (held file) workers R W old new never_fails room why line reads past;
+      assured = assured one_job no_fault status report (held file) workers R W old new never_fails room why line reads past;
     });
   }
 
 -- a run of a generated job
 pub run_of_made : (size seed workers : ℕ) (held : List ℕ → Option (List ℕ)) (status : Status) (report : Option Report) (old new : Option (List ℕ)) (R W : Type 0) (never_fails : Bool) (room : ℕ)
-    → Prints (Lawful (generated seed size) workers) (summary_of_report seed size) status report old new → PrintsSummary (Some (gen size seed workers)) status old new
-    → MadeCause status W → FailsPast (summary_of_report seed size) status report room
+    → Prints (PrintsMade size seed workers) status report old new → PrintsSummary (Some (gen size seed workers)) status old new
+    → MadeCause status W → FailsPast (PrintsMade size seed workers) status report room
     → (length (summary_of_job seed size workers (generated seed size)) ≤ room → IsUnlessMemory status Made)
     → IfSome report (IsRunReport (generated seed size) workers)
     → IsRun (Some (gen size seed workers)) held status report old new R W never_fails room

@@ -3,11 +3,10 @@ use Rattle.std.proofs.Common.{◌≡◌, ℕ, ◌-◌, List, [], length, Option,
 use Rattle.std.specs.Prelude.{◌==◌}
 use Rattle.std.specs.Option.{ForSome, option_and_then}
 use Rattle.batch_history.specs.declared.report.Report.{Report}
-use Rattle.batch_history.specs.Text.{report_text}
 use Rattle.bt_io.specs.Memory.{File, MemorySink, file_named, room_left_of}
 use Rattle.batchrun.specs.Words.{Command, step, run, gen, file_of, IsStep}
 use Rattle.batchrun.specs.Outcomes.{HoldsJob, IsUnlessMemory, TextFits, FailsPast}
-use Rattle.batchrun.specs.Commands.{Driven, RunsModel, IsAssured, lines_of}
+use Rattle.batchrun.specs.Commands.{Runs, Driven, RunsModel, IsAssured}
 use Rattle.batchrun.specs.declared.status.Status.{Status}
 use Rattle.batchrun.specs.declared.status.Status.TheVariants.{Done}
 
@@ -17,7 +16,7 @@ all_room out none = rw none refl
 
 pub in_memory : (words : Option Command) (status : Status) (report : Option Report) (files : List File) (fails : List ℕ) (out : MemorySink) → IsStep words → fails ≡ [] → out.fails ≡ []
     → ForSome words (λ c. IsAssured c (file_named files) status report (length fails == 0) (room_left_of out))
-    → ForSome (option_and_then file_of words) (λ file. HoldsJob (file_named files file) → TextFits report (out.room - length out.taken) → IsUnlessMemory status Done)
+    → ForSome (option_and_then file_of words) (λ file. (holds : HoldsJob (file_named files file)) → TextFits holds.job report (out.room - length out.taken) → IsUnlessMemory status Done)
 in_memory None status report files fails out asks none none' assured file is held fits = absurd asks
 in_memory (Some (run named workers)) status report files fails out asks none none' assured file is held fits = absurd asks
 in_memory (Some (gen size seed workers)) status report files fails out asks none none' assured file is held fits = absurd asks
@@ -25,20 +24,11 @@ in_memory (Some (step named workers schedule)) status report files fails out ask
     let same : named ≡ file = cc in
     assured (step named workers schedule) refl held.bytes held.job (rw same held.told) held.short held.accepted (rw none refl) (rw (all_room out none') fits)
 
--- a run by turns prints the text of its report
-pub step_lines : (words : Option Command) → IsStep words → lines_of words ≡ report_text
-step_lines None asks = absurd asks
-step_lines (Some (step file workers schedule)) asks = refl
-step_lines (Some (run file workers)) asks = absurd asks
-step_lines (Some (gen size seed workers)) asks = absurd asks
-
 -- a run by turns fails to write only past the room
-pub step_writes : (words : Option Command) (status : Status) (report : Option Report) (room : ℕ) → IsStep words
-    → ForSome words (λ command. FailsPast (lines_of (Some command)) status report room) → FailsPast report_text status report room
-step_writes None status report room asks past = absurd asks
-step_writes (Some (step file workers schedule)) status report room asks past = past (step file workers schedule) refl
-step_writes (Some (run file workers)) status report room asks past = absurd asks
-step_writes (Some (gen size seed workers)) status report room asks past = absurd asks
+pub step_writes : (words : Option Command) (held : List ℕ → Option (List ℕ)) (status : Status) (report : Option Report) (room : ℕ) → IsStep words
+    → ForSome words (λ command. FailsPast (Runs (Some command) held) status report room) → FailsPast (Runs words held) status report room
+step_writes None held status report room asks past = absurd asks
+step_writes (Some command) held status report room asks past = past command refl
 
 pub step_driven : (words : Option Command) (report : Option Report) (held : List ℕ → Option (List ℕ)) → IsStep words
     → ForSome words (λ command. IfSome report (Driven (Some command) held)) → IfSome report (Driven words held)

@@ -1,6 +1,7 @@
 //! The job of a command's file: its bytes, read to their end, and the job that they are.
 ghost use Rattle.std.specs.Prelude.{◌≡◌, Err, IsSome, IfOk, IfErr, IsTrue};
 ghost use Rattle.bt_io.specs.Causes.{Rose};
+ghost use Rattle.sp_order.specs.Jobs.{IsJob};
 ghost use Rattle.batchrun.specs.Code.Reading.{HasJob, EndsReading};
 
 use crate::status::{Refusal, Status};
@@ -17,6 +18,7 @@ const MOST_BYTES: usize = 1_048_576;
 pub(crate) fn read_job_of<I: Shelf>(alloc: Global, shelf: &mut I, file: &str) -> Result<Job, Status>
     requires { IsTrue (I.may shelf.old file.now) }
     ensures ok { IfOk result (HasJob (I.held shelf.old file.now)) }
+    ensures job { IfOk result IsJob }
     ensures err { IfErr result (λ status. EndsReading status (I.held shelf.old file.now)
         (Rose (I.faults shelf.old) (I.faults shelf.new))) }
     ensures sure { IsTrue (I.never_fails shelf.old)

@@ -1,11 +1,10 @@
 //! What a run prints of its report: its text, or its summary.
-ghost use Rattle.std.specs.Prelude.{◌≡◌, Ok, length, IfOk};
+ghost use Rattle.std.specs.Prelude.{IfOk};
 ghost use Rattle.bt_io.specs.Causes.{Rose};
-ghost use Rattle.sp_order.specs.Precedence.{leaf_count};
 ghost use Rattle.batch_history.specs.Text.{report_text};
 ghost use Rattle.batch_history.specs.Summary.{summary_of_report, CanBeSummed};
 ghost use Rattle.batchrun.specs.Outcomes.{Prints, MadeCause, FailsPast};
-ghost use Rattle.batchrun.specs.Code.Writing.{WritesLines, EndsWriting};
+ghost use Rattle.batchrun.specs.Code.Writing.{CanBeWritten, WritesReport, WritesLines, EndsWriting};
 
 use crate::command::GenCommand;
 use crate::outcome::Outcome;
@@ -33,11 +32,12 @@ pub(crate) fn write_report<O: Sink>(
     run: Result<Report, AllocError>,
     out: &mut O,
 ) -> Outcome
-    requires { IfOk run (λ report. length report.rows ≡ leaf_count job.now.shape) }
-    ensures headline { Prints (λ report. run ≡ Ok report) report_text result.status result.report
-        (O.taken out.old) (O.taken out.new) }
+    requires { IfOk run (CanBeWritten job.now) }
+    ensures headline { Prints (WritesReport run (report_text job.now.names))
+        result.status result.report (O.taken out.old) (O.taken out.new) }
     ensures ends { EndsWriting result.status (Rose (O.faults out.old) (O.faults out.new)) }
-    ensures writes { FailsPast report_text result.status result.report (O.room_left out.old) }
+    ensures writes { FailsPast (WritesReport run (report_text job.now.names))
+        result.status result.report (O.room_left out.old) }
 {
     let Ok(report) = run else {
         return Outcome::stopped(Status::Memory);
@@ -61,12 +61,13 @@ pub(crate) fn write_summary<O: Sink>(
     out: &mut O,
 ) -> Outcome
     requires { IfOk run (CanBeSummed job.now) }
-    ensures headline { Prints (λ report. run ≡ Ok report)
-        (summary_of_report command.now.seed command.now.size) result.status result.report
-        (O.taken out.old) (O.taken out.new) }
+    ensures headline { Prints (WritesReport run
+        (summary_of_report command.now.seed command.now.size))
+        result.status result.report (O.taken out.old) (O.taken out.new) }
     ensures ends { MadeCause result.status (Rose (O.faults out.old) (O.faults out.new)) }
-    ensures writes { FailsPast (summary_of_report command.now.seed command.now.size) result.status
-        result.report (O.room_left out.old) }
+    ensures writes { FailsPast (WritesReport run
+        (summary_of_report command.now.seed command.now.size))
+        result.status result.report (O.room_left out.old) }
 {
     let Ok(report) = run else {
         return Outcome::stopped(Status::Memory);

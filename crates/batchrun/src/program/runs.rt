@@ -2,14 +2,13 @@
 ghost use Rattle.std.specs.Prelude.{◌≡◌, ◌≤◌, ℕ, Some, Err, length, IsSome, IfOk, IfSome, IsTrue};
 ghost use Rattle.bt_io.specs.Causes.{Rose};
 ghost use Rattle.batch_history.specs.Lawful.{Lawful};
-ghost use Rattle.batch_history.specs.Text.{report_text};
 ghost use Rattle.batch_history.specs.Summary.{CanBeSummed, summary_of_report, summary_of_job};
 ghost use Rattle.batch_history.specs.declared.report.Report.{Report};
 ghost use Rattle.core_model.specs.Reports.{IsDrivenReport, IsRunReport};
 ghost use Rattle.job_lang.specs.Generator.{generated};
 ghost use Rattle.batchrun.specs.Words.{workers_named};
-ghost use Rattle.batchrun.specs.Outcomes.{HasRun, HasDriven, IsModelRun, Prints, FileCause, MadeCause, FailsPast, IsUnlessMemory};
-ghost use Rattle.batchrun.specs.Commands.{PrintsSummary};
+ghost use Rattle.batchrun.specs.Outcomes.{PrintsRun, HasDriven, IsModelRun, Prints, FileCause, MadeCause, FailsPast, IsUnlessMemory};
+ghost use Rattle.batchrun.specs.Commands.{PrintsMade, PrintsSummary};
 ghost use Rattle.batchrun.specs.Code.Commands.{gen_in};
 
 use crate::command::{GenCommand, RunCommand, StepCommand};
@@ -19,7 +18,7 @@ use crate::program::output::{write_report, write_summary};
 use crate::run::run_by_turns;
 use crate::status::Status;
 use batch_history::Report;
-use batch_history::laws::summary_is_the_jobs;
+use batch_history::laws::{lawful_reports_name_their_objects, summary_is_the_jobs};
 use bt_io::{Pause, Shelf, Sink};
 use job_lang::generate;
 use job_lang::laws::{
@@ -54,7 +53,7 @@ pub(crate) fn step_file<I: Shelf, O: Sink>(
     out: &mut O,
 ) -> Outcome
     requires may { IsTrue (I.may shelf.old command.now.file.now) }
-    ensures headline { Prints (HasRun (I.held shelf.old command.now.file.now) command.now.workers) report_text
+    ensures headline { Prints (PrintsRun (I.held shelf.old command.now.file.now) command.now.workers)
         result.status result.report (O.taken out.old) (O.taken out.new) }
     ensures driven { IfSome result.report (HasDriven (I.held shelf.old command.now.file.now)
         command.now.workers (workers_named command.now.schedule.now)) }
@@ -67,8 +66,10 @@ pub(crate) fn step_file<I: Shelf, O: Sink>(
         → IsSome (I.held shelf.old command.now.file.now)
         → result.status ≡ Status.ReadFault
         → ⊥ }
-    ensures writes { FailsPast report_text result.status result.report (O.room_left out.old) }
+    ensures writes { FailsPast (PrintsRun (I.held shelf.old command.now.file.now) command.now.workers)
+        result.status result.report (O.room_left out.old) }
 {
+    lawful_reports_name_their_objects();
     match read_job_of(alloc, shelf, command.file) {
         Ok(job) => write_report(alloc, &job, run_by_schedule(alloc, command, &job), out),
         Err(status) => Outcome::stopped(status),
@@ -85,7 +86,7 @@ pub(crate) fn run_file<R: Threads + Wait + Sync, I: Shelf, O: Sink, G: Pause + S
     pause: &G,
 ) -> Outcome
     requires may { IsTrue (I.may shelf.old command.now.file.now) }
-    ensures headline { Prints (HasRun (I.held shelf.old command.now.file.now) command.now.workers) report_text
+    ensures headline { Prints (PrintsRun (I.held shelf.old command.now.file.now) command.now.workers)
         result.status result.report (O.taken out.old) (O.taken out.new) }
     ensures model { IfSome result.report
         (IsModelRun (I.held shelf.old command.now.file.now) command.now.workers) }
@@ -96,8 +97,10 @@ pub(crate) fn run_file<R: Threads + Wait + Sync, I: Shelf, O: Sink, G: Pause + S
         → IsSome (I.held shelf.old command.now.file.now)
         → result.status ≡ Status.ReadFault
         → ⊥ }
-    ensures writes { FailsPast report_text result.status result.report (O.room_left out.old) }
+    ensures writes { FailsPast (PrintsRun (I.held shelf.old command.now.file.now) command.now.workers)
+        result.status result.report (O.room_left out.old) }
 {
+    lawful_reports_name_their_objects();
     match read_job_of(alloc, shelf, command.file) {
         Ok(job) => {
             let run = run_table(rt, alloc, &job, command.workers, pause);
@@ -130,16 +133,15 @@ pub(crate) fn run_made<R: Threads + Wait + Sync, O: Sink, G: Pause + Sync>(
     out: &mut O,
     pause: &G,
 ) -> Outcome
-    ensures headline { Prints (Lawful (generated command.now.seed command.now.size) command.now.workers)
-        (summary_of_report command.now.seed command.now.size) result.status result.report
-        (O.taken out.old) (O.taken out.new) }
+    ensures headline { Prints (PrintsMade command.now.size command.now.seed command.now.workers)
+        result.status result.report (O.taken out.old) (O.taken out.new) }
     ensures model { IfSome result.report
         (IsRunReport (generated command.now.seed command.now.size) command.now.workers) }
     ensures summary { PrintsSummary (Some (gen_in command.now)) result.status
         (O.taken out.old) (O.taken out.new) }
     ensures cause { MadeCause result.status (Rose (O.faults out.old) (O.faults out.new)) }
-    ensures writes { FailsPast (summary_of_report command.now.seed command.now.size) result.status
-        result.report (O.room_left out.old) }
+    ensures writes { FailsPast (PrintsMade command.now.size command.now.seed command.now.workers)
+        result.status result.report (O.room_left out.old) }
     ensures assured { length (summary_of_job command.now.seed command.now.size command.now.workers
         (generated command.now.seed command.now.size)) ≤ O.room_left out.old
         → IsUnlessMemory result.status Status.Made }

@@ -1,5 +1,5 @@
 use Rattle.batchrun.specs.Words.{command_of, spelled}
-use Rattle.batchrun.proofs.OutcomeLemmas.InMemory.{in_memory, all_room, step_lines, step_writes, step_driven, step_model}
+use Rattle.batchrun.proofs.OutcomeLemmas.InMemory.{in_memory, all_room, step_writes, step_driven, step_model}
 use Rattle.batchrun.proofs.in_memory.step_in_memory.Goals as goal
 
 pub returns-clause-answer : goal.returns-clause-answer
@@ -10,10 +10,7 @@ returns-clause-answer c =
 pub returns-clause-writes : goal.returns-clause-writes
 returns-clause-writes c =
     rw (all_room c.args.out.now c.requires.no_write_fails) at
-    (step_writes (command_of (spelled c.args.words.now)) c.run_step.result.status c.run_step.result.report _ c.requires.command (λ command is. (c.run_step.ensures.owes command is).writes))
-
-pub returns-clause-headline : goal.returns-clause-headline
-returns-clause-headline c = rw (step_lines (command_of (spelled c.args.words.now)) c.requires.command) at c.run_step.ensures.headline
+    (step_writes (command_of (spelled c.args.words.now)) _ c.run_step.result.status c.run_step.result.report _ c.requires.command (λ command is. (c.run_step.ensures.owes command is).writes))
 
 pub returns-clause-driven : goal.returns-clause-driven
 returns-clause-driven c =

@@ -6,7 +6,7 @@ returns-in-Run g c =
     let laws = c.texts_have_one_job_or_fault.ensures in
     let run = c.run_file.ensures in
     rw c.in-Run.is
-    (run_of_file laws.not_both laws.one_fault _ _ (g.I.Shelf.held c.args.shelf.now) c.run_file.result.status c.run_file.result.report _ _ _ _ _ _ run.headline run.cause run.reads run.writes run.model)
+    (run_of_file laws.one_job laws.not_both laws.one_fault _ _ (g.I.Shelf.held c.args.shelf.now) c.run_file.result.status c.run_file.result.report _ _ _ _ _ _ run.headline run.cause run.reads run.writes run.model)
 
 pub returns-in-Gen : goal.returns-in-Gen
 returns-in-Gen g c =

@@ -1,20 +1,25 @@
-use Rattle.batch_history.specs.Text.{report_text}
 use Rattle.batchrun.specs.Words.{workers_named}
-use Rattle.batchrun.specs.Outcomes.{HasDriven}
-use Rattle.batchrun.proofs.OutcomeLemmas.Ends.{rows_counted, drove, models}
-use Rattle.batchrun.proofs.OutcomeLemmas.Headlines.{report_runs}
+use Rattle.batchrun.proofs.OutcomeLemmas.Ends.{run_can_be_written, ran, ran_past, drove, models}
 use Rattle.batchrun.proofs.program.runs.step_file.Goals as goal
 
 pub write_report-requires : goal.write_report-requires
-write_report-requires g c = rows_counted c.in-Ok.job c.args.command.now.workers c.run_by_schedule.result c.run_by_schedule.ensures.lawful
+write_report-requires g c =
+    run_can_be_written c.lawful_reports_name_their_objects.ensures c.in-Ok.job c.args.command.now.workers c.run_by_schedule.result c.in-Ok.ensures.job c.run_by_schedule.ensures.lawful
+
+pub returns-in-Ok-clause-headline : goal.returns-in-Ok-clause-headline
+returns-in-Ok-clause-headline g c =
+    ran (g.I.Shelf.held c.args.shelf.now c.args.command.now.file.now) c.args.command.now.workers c.in-Ok.job c.run_by_schedule.result c.in-Ok.ensures.ok c.run_by_schedule.ensures.lawful
+    c.write_report.result.status c.write_report.result.report _ _ c.write_report.ensures.headline
+
+pub returns-in-Ok-clause-writes : goal.returns-in-Ok-clause-writes
+returns-in-Ok-clause-writes g c =
+    ran_past (g.I.Shelf.held c.args.shelf.now c.args.command.now.file.now) c.args.command.now.workers c.in-Ok.job c.run_by_schedule.result c.in-Ok.ensures.ok c.run_by_schedule.ensures.lawful
+    c.write_report.result.status c.write_report.result.report _ c.write_report.ensures.writes
 
 pub returns-in-Ok-clause-driven : goal.returns-in-Ok-clause-driven
 returns-in-Ok-clause-driven g c =
-    let held = g.I.Shelf.held c.args.shelf.now c.args.command.now.file.now in
-    let turns = workers_named c.args.command.now.schedule.now in
-    report_runs (HasDriven held c.args.command.now.workers turns) report_text c.write_report.result.status c.write_report.result.report _ _
-    (drove held c.args.command.now.workers c.in-Ok.job turns c.run_by_schedule.result c.write_report.result.status c.write_report.result.report _ _ c.in-Ok.ensures.ok c.run_by_schedule.ensures.lawful c.run_by_schedule.ensures.driven
-    c.write_report.ensures.headline)
+    drove (g.I.Shelf.held c.args.shelf.now c.args.command.now.file.now) c.args.command.now.workers c.in-Ok.job c.run_by_schedule.result c.in-Ok.ensures.ok c.run_by_schedule.ensures.lawful
+    (workers_named c.args.command.now.schedule.now) c.write_report.result.status c.write_report.result.report _ _ c.run_by_schedule.ensures.driven c.write_report.ensures.headline
 
 pub returns-in-Ok-clause-model : goal.returns-in-Ok-clause-model
 returns-in-Ok-clause-model g c =

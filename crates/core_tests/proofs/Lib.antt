@@ -1,1 +1,2 @@
 mod Sourced
+mod Within

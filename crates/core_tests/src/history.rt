@@ -15,20 +15,20 @@ leaf 1 worker 1 start 1 end 3 value 1\n";
 /// A batch of two updates, with the replies of the serial objects.
 fn by_hand(alloc: Global) -> Result<History, AllocError> {
     let mut objects = Plain::new(alloc);
-    let removed = objects.serve(Op::TreeRemove(7))?;
-    let inserted = objects.serve(Op::TreeInsert(7))?;
+    let removed = objects.serve(Op::TreeRemove(0, 7))?;
+    let inserted = objects.serve(Op::TreeInsert(0, 7))?;
     let mut history = History::new(alloc);
     history.append(Batch::of(vec![in alloc;
         Entry {
             leaf: 0,
             worker: 0,
-            op: Op::TreeRemove(7),
+            op: Op::TreeRemove(0, 7),
             reply: removed
         },
         Entry {
             leaf: 1,
             worker: 1,
-            op: Op::TreeInsert(7),
+            op: Op::TreeInsert(0, 7),
             reply: inserted
         },
     ]?))?;

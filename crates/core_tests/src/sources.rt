@@ -41,9 +41,9 @@ fn one_add(alloc: Global) -> Result<Job, AllocError>
 {
     let shape = series(alloc)?;
     let acts = vec![in alloc;
-        Act::Call(Op::CounterAdd(5)),
-        Act::Call(Op::TreeInsert(0)),
-        Act::Call(Op::Push(0)),
+        Act::Call(Op::CounterAdd(0, 5)),
+        Act::Call(Op::TreeInsert(0, 0)),
+        Act::Call(Op::Push(0, 0)),
     ]?;
     let sources = vec![in alloc; None, Some(0), Some(0)]?;
     Ok(Job::with_sources(Some(shape), acts, sources))
@@ -55,9 +55,9 @@ fn two_adds(alloc: Global) -> Result<Job, AllocError>
 {
     let shape = series(alloc)?;
     let acts = vec![in alloc;
-        Act::Call(Op::CounterAdd(4_294_967_295)),
-        Act::Call(Op::CounterAdd(2)),
-        Act::Call(Op::Push(0)),
+        Act::Call(Op::CounterAdd(0, 4_294_967_295)),
+        Act::Call(Op::CounterAdd(0, 2)),
+        Act::Call(Op::Push(0, 0)),
     ]?;
     let sources = vec![in alloc; None, None, Some(1)]?;
     Ok(Job::with_sources(Some(shape), acts, sources))

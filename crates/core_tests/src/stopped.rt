@@ -1,5 +1,6 @@
 //! Runs of the core in which a worker has stopped for good.
-ghost use Rattle.std.specs.Prelude.{◌≡◌, ◌<◌, ◌≤◌, ◌+◌, ◌^◌, length, IsSome};
+ghost use Rattle.std.specs.Prelude.{◌≡◌, ◌<◌, ◌≤◌, ◌+◌, ◌^◌, ℕ, length, IsSome};
+ghost use Rattle.seq_objects.specs.Kept.{store_in};
 
 use crate::jobs::{job_of, text_of};
 use batch_history::Entry;
@@ -44,14 +45,15 @@ fn entries_of(alloc: Global, core: &Core) -> Result<Vec<Entry>, AllocError> {
     Ok(entries)
 }
 
-/// Serves one operation where the counter is far from its end. The match has two arms alike, so that the range
+/// Serves one operation where the counters are far from their end. The match has two arms alike, so that the range
 /// of the addend is known.
+#[tactic(auto, using(batch_history::proofs::Counters::grown))]
 fn serve_one(plain: &mut Plain, op: Op) -> Result<Reply, AllocError>
-    requires { plain.old.counter < 2 ^ 63 }
-    ensures { plain.new.counter ≤ plain.old.counter + 2 ^ 32 }
+    requires { (number : ℕ) → (store_in plain.old number).counter < 2 ^ 63 }
+    ensures { (number : ℕ) → (store_in plain.new number).counter ≤ (store_in plain.old number).counter + 2 ^ 32 }
 {
     match op {
-        Op::CounterAdd(addend) => plain.serve(Op::CounterAdd(addend)),
+        Op::CounterAdd(number, addend) => plain.serve(Op::CounterAdd(number, addend)),
         _ => plain.serve(op),
     }
 }

@@ -192,7 +192,7 @@ fn sources(alloc: Global, text: &[u8]) -> Result<String, AllocError> {
 }
 
 /// The canonical text of a text's job, or what is told of its fault.
-fn canonical(alloc: Global, text: &[u8]) -> Result<Vec<u8>, AllocError> {
+pub(crate) fn canonical(alloc: Global, text: &[u8]) -> Result<Vec<u8>, AllocError> {
     if text.len() > 1_048_576 {
         return Ok(Vec::new(alloc));
     }

@@ -11,17 +11,17 @@ fn additions_reply_their_sums(rt: HostRuntime) -> Result<(), Fail> {
         Call {
             worker: 0,
             leaf: 5,
-            op: Op::CounterAdd(7),
+            op: Op::CounterAdd(0, 7),
         },
         Call {
             worker: 1,
             leaf: 2,
-            op: Op::CounterAdd(4294967295),
+            op: Op::CounterAdd(0, 4294967295),
         },
         Call {
             worker: 4,
             leaf: 3,
-            op: Op::CounterAdd(0),
+            op: Op::CounterAdd(0, 0),
         },
     ];
     let (_, replies) = serve_batch(rt.alloc(), Counter::new(rt.alloc())?, &calls)?;

@@ -1,5 +1,7 @@
-//! The serial objects, the texts of operations and replies, the batch order and the work of a leaf.
-ghost use Rattle.std.specs.Prelude.{◌<◌, ◌≤◌, ◌+◌, ◌^◌, length};
+//! The serial objects, the texts of replies, the batch order and the work of a leaf.
+ghost use Rattle.std.specs.Prelude.{ℕ, ◌<◌, ◌+◌, ◌^◌, length};
+ghost use Rattle.seq_objects.specs.Kept.{store_in};
+ghost use Rattle.structure_tests.specs.Counters.{AreAtMost};
 
 use seq_objects::{Call, Op, Plain, Reply, comes_first, spin, value};
 use std::alloc::{AllocError, Global};
@@ -8,27 +10,63 @@ use std::test::Fail;
 
 /// One row an operation, with its reply after the rows before it.
 const CALLS: [(Op, &str); 11] = [
-    (Op::CounterAdd(4294967295), "4294967295"),
-    (Op::CounterAdd(2), "4294967297"),
-    (Op::Push(7), "ok"),
-    (Op::Pop, "7"),
-    (Op::Pop, "empty"),
-    (Op::TreeInsert(5), "yes"),
-    (Op::TreeFind(5), "yes"),
-    (Op::TreeNext(4), "5"),
-    (Op::TreeRemove(5), "yes"),
-    (Op::PqInsert(9), "ok"),
-    (Op::PqTake, "9"),
+    (Op::CounterAdd(0, 4294967295), "4294967295"),
+    (Op::CounterAdd(0, 2), "4294967297"),
+    (Op::Push(0, 7), "ok"),
+    (Op::Pop(0), "7"),
+    (Op::Pop(0), "empty"),
+    (Op::TreeInsert(0, 5), "yes"),
+    (Op::TreeFind(0, 5), "yes"),
+    (Op::TreeNext(0, 4), "5"),
+    (Op::TreeRemove(0, 5), "yes"),
+    (Op::PqInsert(0, 9), "ok"),
+    (Op::PqTake(0), "9"),
 ];
 
-/// Serves one operation where the counter is far from its end. The match has two arms alike, so that the range
+/// Two objects of each kind, in turn.
+const TWO_OF_EACH: [(Op, &str); 20] = [
+    (Op::CounterAdd(1, 5), "5"),
+    (Op::CounterAdd(4294967295, 7), "7"),
+    (Op::CounterAdd(0, 1), "1"),
+    (Op::CounterAdd(1, 4294967295), "4294967300"),
+    (Op::CounterAdd(4294967295, 0), "7"),
+    (Op::Push(1, 10), "ok"),
+    (Op::Push(2, 20), "ok"),
+    (Op::Pop(1), "10"),
+    (Op::Pop(1), "empty"),
+    (Op::Pop(2), "20"),
+    (Op::TreeInsert(1, 5), "yes"),
+    (Op::TreeInsert(2, 9), "yes"),
+    (Op::TreeFind(2, 5), "no"),
+    (Op::TreeNext(1, 0), "5"),
+    (Op::TreeRemove(1, 9), "no"),
+    (Op::TreeRemove(2, 9), "yes"),
+    (Op::PqInsert(1, 3), "ok"),
+    (Op::PqInsert(2, 2), "ok"),
+    (Op::PqTake(1), "3"),
+    (Op::PqTake(2), "2"),
+];
+
+/// Operations on objects that no operation has called before, and on such an object after an addition of 0.
+const UNCALLED: [(Op, &str); 8] = [
+    (Op::Pop(9), "empty"),
+    (Op::TreeFind(9, 1), "no"),
+    (Op::TreeNext(9, 0), "empty"),
+    (Op::TreeRemove(9, 1), "no"),
+    (Op::PqTake(9), "empty"),
+    (Op::CounterAdd(9, 0), "0"),
+    (Op::CounterAdd(9, 3), "3"),
+    (Op::CounterAdd(8, 0), "0"),
+];
+
+/// Serves one operation where its counter is far from its end. The match has two arms alike, so that the range
 /// of the addend is known.
 fn serve_one(plain: &mut Plain, op: Op) -> Result<Reply, AllocError>
-    requires { plain.old.counter < 2 ^ 63 }
-    ensures { plain.new.counter ≤ plain.old.counter + 2 ^ 32 }
+    requires { AreAtMost (2 ^ 63) (store_in plain.old) }
+    ensures { (most : ℕ) → AreAtMost most (store_in plain.old) → AreAtMost (most + 2 ^ 32) (store_in plain.new) }
 {
     match op {
-        Op::CounterAdd(addend) => plain.serve(Op::CounterAdd(addend)),
+        Op::CounterAdd(number, addend) => plain.serve(Op::CounterAdd(number, addend)),
         _ => plain.serve(op),
     }
 }
@@ -54,17 +92,17 @@ fn objects_reply_as_one_thread_has_them(rt: HostRuntime) -> Result<(), Fail> {
     Ok(())
 }
 
-const OPS: [Op; 9] = [
-    Op::CounterAdd(4294967295),
-    Op::Push(9),
-    Op::Pop,
-    Op::TreeInsert(0),
-    Op::TreeRemove(7),
-    Op::TreeFind(10),
-    Op::TreeNext(6993),
-    Op::PqInsert(4),
-    Op::PqTake,
-];
+#[test]
+fn objects_of_one_kind_are_apart(rt: HostRuntime) -> Result<(), Fail> {
+    assert_eq!(rt; first_wrong(rt.alloc(), &TWO_OF_EACH)?, None);
+    Ok(())
+}
+
+#[test]
+fn uncalled_objects_are_as_at_the_opening(rt: HostRuntime) -> Result<(), Fail> {
+    assert_eq!(rt; first_wrong(rt.alloc(), &UNCALLED)?, None);
+    Ok(())
+}
 
 const REPLIES: [Reply; 5] = [
     Reply::Number(4294967296),
@@ -74,28 +112,16 @@ const REPLIES: [Reply; 5] = [
     Reply::No,
 ];
 
-/// A line for each of the operations, and one for each of the replies with its value.
+/// A line for each of the replies, with its value.
 fn lines(alloc: Global) -> Result<String, AllocError> {
     let mut lines = String::new(alloc);
-    for op in OPS {
-        writeln!(lines, "{op}")?;
-    }
     for reply in REPLIES {
         writeln!(lines, "{reply}: {}", value(reply))?;
     }
     Ok(lines)
 }
 
-const LINES: &str = "counter add 4294967295
-stack push 9
-stack pop
-tree insert 0
-tree remove 7
-tree find 10
-tree next 6993
-queue insert 4
-queue take
-4294967296: 4294967296
+const LINES: &str = "4294967296: 4294967296
 ok: 0
 empty: 0
 yes: 1
@@ -103,27 +129,30 @@ no: 0
 ";
 
 #[test]
-fn operations_and_replies_are_written_in_words(rt: HostRuntime) -> Result<(), Fail> {
+fn replies_are_written_in_words(rt: HostRuntime) -> Result<(), Fail> {
     assert_eq!(rt; lines(rt.alloc())?.as_str(), LINES);
     Ok(())
 }
 
 /// Workers and operations in batch order.
-const IN_ORDER: [(u32, Op); 14] = [
-    (9, Op::CounterAdd(1)),
-    (12, Op::CounterAdd(0)),
-    (8, Op::Push(5)),
-    (7, Op::Pop),
-    (3, Op::TreeNext(30)),
-    (6, Op::TreeFind(10)),
-    (11, Op::TreeRemove(7)),
-    (5, Op::TreeInsert(9)),
-    (13, Op::TreeRemove(9)),
-    (2, Op::TreeInsert(10)),
-    (1, Op::PqInsert(3)),
-    (4, Op::PqInsert(2)),
-    (0, Op::PqTake),
-    (10, Op::PqTake),
+const IN_ORDER: [(u32, Op); 17] = [
+    (14, Op::CounterAdd(0, 1)),
+    (15, Op::CounterAdd(0, 0)),
+    (9, Op::CounterAdd(1, 2)),
+    (8, Op::Push(0, 5)),
+    (16, Op::Pop(0)),
+    (7, Op::Pop(2)),
+    (3, Op::TreeNext(0, 30)),
+    (6, Op::TreeFind(0, 10)),
+    (11, Op::TreeRemove(0, 7)),
+    (5, Op::TreeInsert(0, 9)),
+    (13, Op::TreeRemove(0, 9)),
+    (2, Op::TreeInsert(0, 10)),
+    (12, Op::TreeInsert(1, 4)),
+    (1, Op::PqInsert(0, 3)),
+    (4, Op::PqInsert(0, 2)),
+    (10, Op::PqTake(0)),
+    (0, Op::PqTake(1)),
 ];
 
 fn call_of((worker, op): (u32, Op)) -> Call {
@@ -136,9 +165,9 @@ fn call_of((worker, op): (u32, Op)) -> Call {
 
 /// The first two places whose calls are not in the order of the places, if there are any.
 fn first_misplaced() -> Option<(usize, usize)> {
-    for first in 0..14 {
+    for first in 0..17 {
         let a = call_of(IN_ORDER[first]);
-        for second in 0..14 {
+        for second in 0..17 {
             if comes_first(&a, &call_of(IN_ORDER[second])) != (first < second) {
                 return Some((first, second));
             }

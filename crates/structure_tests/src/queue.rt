@@ -7,26 +7,41 @@ use std::test::Fail;
 
 /// Inserts before takes, equal items in several shards, and takes of an empty queue.
 const ROWS: [Row; 5] = [
-    (&[Op::PqTake, Op::PqTake, Op::PqTake], "empty empty empty"),
     (
-        &[Op::PqTake, Op::PqInsert(9), Op::PqInsert(4294967295)],
+        &[Op::PqTake(0), Op::PqTake(0), Op::PqTake(0)],
+        "empty empty empty",
+    ),
+    (
+        &[
+            Op::PqTake(0),
+            Op::PqInsert(0, 9),
+            Op::PqInsert(0, 4294967295),
+        ],
         "ok ok 9",
     ),
     (
-        &[Op::PqInsert(7), Op::PqInsert(3), Op::PqInsert(3)],
+        &[Op::PqInsert(0, 7), Op::PqInsert(0, 3), Op::PqInsert(0, 3)],
         "ok ok ok",
     ),
     (
-        &[Op::PqTake, Op::PqTake, Op::PqInsert(3), Op::PqTake],
+        &[
+            Op::PqTake(0),
+            Op::PqTake(0),
+            Op::PqInsert(0, 3),
+            Op::PqTake(0),
+        ],
         "ok 3 3 3",
     ),
-    (&[Op::PqTake, Op::PqTake, Op::PqTake], "7 4294967295 empty"),
+    (
+        &[Op::PqTake(0), Op::PqTake(0), Op::PqTake(0)],
+        "7 4294967295 empty",
+    ),
 ];
 
 #[test]
 fn the_least_items_are_taken(rt: HostRuntime) -> Result<(), Fail> {
     let queue = Queue::new(rt.alloc())?;
-    assert_eq!(rt; first_wrong(rt.alloc(), queue, Op::PqTake, &ROWS)?, None);
+    assert_eq!(rt; first_wrong(rt.alloc(), queue, Op::PqTake(0), &ROWS)?, None);
     Ok(())
 }
 

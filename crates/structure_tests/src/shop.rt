@@ -86,30 +86,38 @@ fn first_wrong(alloc: Global, rows: &[Row]) -> Result<Option<usize>, AllocError>
 const ROWS: [Row; 4] = [
     (
         &[
-            Op::Pop,
-            Op::Pop,
-            Op::Pop,
-            Op::Pop,
-            Op::Push(10),
-            Op::Push(20),
+            Op::Pop(0),
+            Op::Pop(0),
+            Op::Pop(0),
+            Op::Pop(0),
+            Op::Push(0, 10),
+            Op::Push(0, 20),
         ],
         "4:ok 5:ok 0:20 1:10 2:empty 3:empty",
     ),
     (
-        &[Op::TreeInsert(10), Op::TreeInsert(20), Op::TreeInsert(30)],
+        &[
+            Op::TreeInsert(0, 10),
+            Op::TreeInsert(0, 20),
+            Op::TreeInsert(0, 30),
+        ],
         "0:yes 1:yes 2:yes",
     ),
     (
-        &[Op::TreeNext(10), Op::TreeInsert(15), Op::TreeNext(30)],
+        &[
+            Op::TreeNext(0, 10),
+            Op::TreeInsert(0, 15),
+            Op::TreeNext(0, 30),
+        ],
         "0:20 2:empty 1:yes",
     ),
     (
         &[
-            Op::TreeNext(0),
-            Op::TreeNext(10),
-            Op::TreeNext(15),
-            Op::TreeNext(20),
-            Op::TreeNext(30),
+            Op::TreeNext(0, 0),
+            Op::TreeNext(0, 10),
+            Op::TreeNext(0, 15),
+            Op::TreeNext(0, 20),
+            Op::TreeNext(0, 30),
         ],
         "0:10 1:15 2:20 3:30 4:empty",
     ),
@@ -157,28 +165,118 @@ fn serve_backwards(alloc: Global, ops: &[Op]) -> Result<(String, String), AllocE
     Ok((places, words))
 }
 
-/// A batch that calls all structures, and one of 32 takes.
-const BACKWARDS: [(&[Op], &str, &str); 2] = [
+/// A batch of all kinds, one of 32 takes, and batches on several objects: pops of two empty stacks, 17 additions to a
+/// counter and one to another, takes of two queues, a tree and a stack of one number, two stacks whose pieces go
+/// together, and 32 objects.
+const BACKWARDS: [(&[Op], &str, &str); 8] = [
     (
         &[
-            Op::PqTake,
-            Op::TreeFind(7),
-            Op::Pop,
-            Op::CounterAdd(5),
-            Op::TreeInsert(7),
-            Op::PqInsert(9),
-            Op::Push(3),
-            Op::CounterAdd(2),
+            Op::PqTake(0),
+            Op::TreeFind(0, 7),
+            Op::Pop(0),
+            Op::CounterAdd(0, 5),
+            Op::TreeInsert(0, 7),
+            Op::PqInsert(0, 9),
+            Op::Push(0, 3),
+            Op::CounterAdd(0, 2),
         ],
         "0 1 16 32 48 49 50 51 52 53 54 55 in batch 1",
         "3:5 7:7 6:ok 2:3 1:no 4:yes 5:ok 0:9",
     ),
     (
-        &[Op::PqTake; 32],
+        &[Op::PqTake(0); 32],
         "48 49 50 51 52 53 54 55 in batch 1",
         "0:empty 1:empty 2:empty 3:empty 4:empty 5:empty 6:empty 7:empty 8:empty 9:empty \
 10:empty 11:empty 12:empty 13:empty 14:empty 15:empty 16:empty 17:empty 18:empty 19:empty 20:empty \
 21:empty 22:empty 23:empty 24:empty 25:empty 26:empty 27:empty 28:empty 29:empty 30:empty 31:empty",
+    ),
+    (
+        &[Op::Pop(1), Op::Pop(2)],
+        "16 in batch 1",
+        "0:empty 1:empty",
+    ),
+    (
+        &[
+            Op::CounterAdd(0, 1),
+            Op::CounterAdd(0, 1),
+            Op::CounterAdd(0, 1),
+            Op::CounterAdd(0, 1),
+            Op::CounterAdd(0, 1),
+            Op::CounterAdd(0, 1),
+            Op::CounterAdd(0, 1),
+            Op::CounterAdd(0, 1),
+            Op::CounterAdd(0, 1),
+            Op::CounterAdd(0, 1),
+            Op::CounterAdd(0, 1),
+            Op::CounterAdd(0, 1),
+            Op::CounterAdd(0, 1),
+            Op::CounterAdd(0, 1),
+            Op::CounterAdd(0, 1),
+            Op::CounterAdd(0, 1),
+            Op::CounterAdd(0, 1),
+            Op::CounterAdd(1, 1),
+        ],
+        "0 1 2 3 4 5 6 7 8 in batch 1",
+        "0:1 1:2 2:3 3:4 4:5 5:6 6:7 7:8 8:9 9:10 10:11 11:12 12:13 13:14 14:15 15:16 16:17 17:1",
+    ),
+    (
+        &[Op::PqTake(1), Op::PqTake(2)],
+        "48 49 50 51 52 53 54 55 in batch 1",
+        "0:empty 1:empty",
+    ),
+    (
+        &[
+            Op::TreeInsert(3, 5),
+            Op::Push(3, 9),
+            Op::TreeFind(3, 5),
+            Op::Pop(3),
+        ],
+        "16 32 in batch 1",
+        "1:ok 3:9 2:no 0:yes",
+    ),
+    (
+        &[Op::Pop(1), Op::Push(0, 3), Op::Push(1, 7)],
+        "16 in batch 1",
+        "1:ok 2:ok 0:7",
+    ),
+    (
+        &[
+            Op::CounterAdd(0, 5),
+            Op::CounterAdd(1, 6),
+            Op::CounterAdd(2, 7),
+            Op::CounterAdd(3, 8),
+            Op::CounterAdd(4, 9),
+            Op::CounterAdd(5, 10),
+            Op::CounterAdd(6, 11),
+            Op::CounterAdd(7, 12),
+            Op::Push(0, 1),
+            Op::Push(1, 1),
+            Op::Push(2, 1),
+            Op::Push(3, 1),
+            Op::Push(4, 1),
+            Op::Push(5, 1),
+            Op::Push(6, 1),
+            Op::Push(7, 1),
+            Op::TreeFind(0, 1),
+            Op::TreeFind(1, 1),
+            Op::TreeFind(2, 1),
+            Op::TreeFind(3, 1),
+            Op::TreeFind(4, 1),
+            Op::TreeFind(5, 1),
+            Op::TreeFind(6, 1),
+            Op::TreeFind(7, 1),
+            Op::PqInsert(0, 1),
+            Op::PqInsert(1, 1),
+            Op::PqInsert(2, 1),
+            Op::PqInsert(3, 1),
+            Op::PqInsert(4, 1),
+            Op::PqInsert(5, 1),
+            Op::PqInsert(6, 1),
+            Op::PqInsert(7, 1),
+        ],
+        "0 16 32 48 49 50 51 52 53 54 55 in batch 1",
+        "0:5 1:6 2:7 3:8 4:9 5:10 6:11 7:12 8:ok 9:ok 10:ok 11:ok 12:ok 13:ok 14:ok 15:ok 16:no 17:no 18:no \
+19:no 20:no 21:no 22:no 23:no 24:ok 25:ok 26:ok 27:ok 28:ok 29:ok 30:ok 31:ok",
     ),
 ];
 

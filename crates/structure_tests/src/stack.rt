@@ -8,14 +8,19 @@ use std::test::Fail;
 
 /// Pushes before pops, pops of later batches, and pops of an empty stack.
 const ROWS: [Row; 4] = [
-    (&[Op::Pop, Op::Pop], "empty empty"),
+    (&[Op::Pop(0), Op::Pop(0)], "empty empty"),
     (
-        &[Op::Pop, Op::Push(10), Op::Push(20), Op::Push(30)],
+        &[
+            Op::Pop(0),
+            Op::Push(0, 10),
+            Op::Push(0, 20),
+            Op::Push(0, 30),
+        ],
         "ok ok ok 30",
     ),
-    (&[Op::Push(4294967295)], "ok"),
+    (&[Op::Push(0, 4294967295)], "ok"),
     (
-        &[Op::Pop, Op::Pop, Op::Pop, Op::Pop],
+        &[Op::Pop(0), Op::Pop(0), Op::Pop(0), Op::Pop(0)],
         "4294967295 20 10 empty",
     ),
 ];
@@ -23,7 +28,7 @@ const ROWS: [Row; 4] = [
 #[test]
 fn pushes_come_before_pops(rt: HostRuntime) -> Result<(), Fail> {
     let stack = Stack::new(rt.alloc())?;
-    assert_eq!(rt; first_wrong(rt.alloc(), stack, Op::Pop, &ROWS)?, None);
+    assert_eq!(rt; first_wrong(rt.alloc(), stack, Op::Pop(0), &ROWS)?, None);
     Ok(())
 }
 
@@ -35,7 +40,7 @@ fn after(alloc: Global, stack: Stack, batches: u32, ops: &[Op]) -> Result<Stack,
             return Ok(stack);
         }
         let calls = calls_of(alloc, ops)?;
-        if !are_of(&calls, Op::Pop) {
+        if !are_of(&calls, Op::Pop(0)) {
             return Ok(stack);
         }
         let (next, _replies) = serve_batch(alloc, stack, &calls)?;
@@ -46,11 +51,11 @@ fn after(alloc: Global, stack: Stack, batches: u32, ops: &[Op]) -> Result<Stack,
 
 /// How many batches of which operations come before the first stripe has a room.
 const ROOMS: [(u32, &[Op], u64); 5] = [
-    (8, &[Op::Push(1); 32], 16),
-    (1, &[Op::Push(1)], 64),
-    (4, &[Op::Pop; 32], 64),
-    (1, &[Op::Pop], 64),
-    (1, &[Op::Pop; 16], 16),
+    (8, &[Op::Push(0, 1); 32], 16),
+    (1, &[Op::Push(0, 1)], 64),
+    (4, &[Op::Pop(0); 32], 64),
+    (1, &[Op::Pop(0)], 64),
+    (1, &[Op::Pop(0); 16], 16),
 ];
 
 /// The place of the first row after which the first stripe has another room, if there is one.

@@ -1,4 +1,6 @@
 //! Runs in threads: over the scheduler's core under one lock, and over the running table.
+ghost use Rattle.std.specs.Prelude.{◌≡◌, IfOk, Some};
+ghost use Rattle.sp_order.specs.Precedence.{tree_of, leaf_count};
 
 use batch_history::{Batch, Report};
 use bt_io::NoPause;
@@ -9,37 +11,33 @@ use std::test::Fail;
 use test_gates::{AtCalls, AtPosts, AtStarts, AtWin, Meeting};
 use worker_loop::{run_locked, run_table};
 
-/// `par { A B C D }`, where each leaf makes one of these calls.
-fn four_calls(alloc: Global, calls: [Op; 4]) -> Result<Job, AllocError> {
+/// The shape of `par { A B C D }`.
+fn par_of_four(alloc: Global) -> Result<Shape, AllocError>
+    ensures { IfOk result (λ shape. leaf_count (Some (tree_of shape)) ≡ 4) }
+{
     let left = Shape::Par(Box::new(alloc, Shape::Leaf)?, Box::new(alloc, Shape::Leaf)?);
     let right = Shape::Par(Box::new(alloc, Shape::Leaf)?, Box::new(alloc, Shape::Leaf)?);
-    let shape = Shape::Par(Box::new(alloc, left)?, Box::new(alloc, right)?);
-    let [first, second, third, fourth] = calls;
-    let acts = vec![in alloc;
-        Act::Call(first),
-        Act::Call(second),
-        Act::Call(third),
-        Act::Call(fourth),
-    ]?;
-    Ok(Job::of(Some(shape), acts))
+    Ok(Shape::Par(Box::new(alloc, left)?, Box::new(alloc, right)?))
 }
 
 /// `par { counter add 1 counter add 2 counter add 3 counter add 4 }`.
 fn four_adds(alloc: Global) -> Result<Job, AllocError> {
-    four_calls(
-        alloc,
-        [
-            Op::CounterAdd(1),
-            Op::CounterAdd(2),
-            Op::CounterAdd(3),
-            Op::CounterAdd(4),
-        ],
-    )
+    let shape = par_of_four(alloc)?;
+    let acts = vec![in alloc;
+        Act::Call(Op::CounterAdd(0, 1)),
+        Act::Call(Op::CounterAdd(0, 2)),
+        Act::Call(Op::CounterAdd(0, 3)),
+        Act::Call(Op::CounterAdd(0, 4)),
+    ]?;
+    Ok(Job::of(Some(shape), acts))
 }
 
 /// `par { queue take queue take queue take queue take }`.
 fn four_takes(alloc: Global) -> Result<Job, AllocError> {
-    four_calls(alloc, [Op::PqTake, Op::PqTake, Op::PqTake, Op::PqTake])
+    let shape = par_of_four(alloc)?;
+    let take = Act::Call(Op::PqTake(0));
+    let acts = vec![in alloc; take, take, take, take]?;
+    Ok(Job::of(Some(shape), acts))
 }
 
 /// Whether each of two workers ran a leaf.

@@ -13,10 +13,10 @@ use tree23::Tree23;
 fn push_answers(words: &mut String, tree: &mut Tree23, ops: &[Op]) -> Result<(), AllocError> {
     for op in ops {
         match *op {
-            Op::TreeInsert(key) => write!(words, "{} ", tree.insert(key)?)?,
-            Op::TreeRemove(key) => write!(words, "{} ", tree.remove(key))?,
-            Op::TreeFind(key) => write!(words, "{} ", tree.find(key))?,
-            Op::TreeNext(key) => write!(words, "{} ", Reply::number_or_empty(tree.next(key)))?,
+            Op::TreeInsert(_, key) => write!(words, "{} ", tree.insert(key)?)?,
+            Op::TreeRemove(_, key) => write!(words, "{} ", tree.remove(key))?,
+            Op::TreeFind(_, key) => write!(words, "{} ", tree.find(key))?,
+            Op::TreeNext(_, key) => write!(words, "{} ", Reply::number_or_empty(tree.next(key)))?,
             _ => {}
         }
     }
@@ -53,21 +53,25 @@ fn rejoined(words: &mut String, tree: Tree23, key: u32) -> Result<Tree23, AllocE
 
 /// The operations before a cut at 5.
 const BEFORE: [Op; 11] = [
-    Op::TreeInsert(1),
-    Op::TreeInsert(2),
-    Op::TreeInsert(3),
-    Op::TreeInsert(4),
-    Op::TreeInsert(5),
-    Op::TreeInsert(6),
-    Op::TreeInsert(7),
-    Op::TreeInsert(4),
-    Op::TreeFind(4),
-    Op::TreeNext(4),
-    Op::TreeNext(7),
+    Op::TreeInsert(0, 1),
+    Op::TreeInsert(0, 2),
+    Op::TreeInsert(0, 3),
+    Op::TreeInsert(0, 4),
+    Op::TreeInsert(0, 5),
+    Op::TreeInsert(0, 6),
+    Op::TreeInsert(0, 7),
+    Op::TreeInsert(0, 4),
+    Op::TreeFind(0, 4),
+    Op::TreeNext(0, 4),
+    Op::TreeNext(0, 7),
 ];
 
 /// Those after it, where the sides are joined again.
-const AFTER: [Op; 3] = [Op::TreeRemove(8), Op::TreeRemove(4), Op::TreeFind(4)];
+const AFTER: [Op; 3] = [
+    Op::TreeRemove(0, 8),
+    Op::TreeRemove(0, 4),
+    Op::TreeFind(0, 4),
+];
 
 /// What a tree answers before the cut and after it.
 fn words_of_cut(alloc: Global) -> Result<String, AllocError> {

@@ -8,39 +8,50 @@ use std::test::Fail;
 /// Queries see the keys before the updates, also those of another piece, and updates go by their keys.
 const ROWS: [Row; 5] = [
     (
-        &[Op::TreeInsert(30), Op::TreeInsert(10), Op::TreeInsert(20)],
+        &[
+            Op::TreeInsert(0, 30),
+            Op::TreeInsert(0, 10),
+            Op::TreeInsert(0, 20),
+        ],
         "yes yes yes",
     ),
     (
-        &[Op::TreeNext(10), Op::TreeInsert(15), Op::TreeNext(30)],
+        &[
+            Op::TreeNext(0, 10),
+            Op::TreeInsert(0, 15),
+            Op::TreeNext(0, 30),
+        ],
         "20 empty yes",
     ),
     (
         &[
-            Op::TreeFind(0),
-            Op::TreeNext(0),
-            Op::TreeNext(10),
-            Op::TreeNext(15),
-            Op::TreeNext(4294967295),
+            Op::TreeFind(0, 0),
+            Op::TreeNext(0, 0),
+            Op::TreeNext(0, 10),
+            Op::TreeNext(0, 15),
+            Op::TreeNext(0, 4294967295),
         ],
         "no 10 15 20 empty",
     ),
     (
         &[
-            Op::TreeRemove(15),
-            Op::TreeInsert(15),
-            Op::TreeFind(15),
-            Op::TreeRemove(11),
+            Op::TreeRemove(0, 15),
+            Op::TreeInsert(0, 15),
+            Op::TreeFind(0, 15),
+            Op::TreeRemove(0, 11),
         ],
         "yes no yes yes",
     ),
-    (&[Op::TreeFind(15), Op::TreeNext(15)], "yes 20"),
+    (&[Op::TreeFind(0, 15), Op::TreeNext(0, 15)], "yes 20"),
 ];
 
 #[test]
 fn queries_come_before_updates(rt: HostRuntime) -> Result<(), Fail> {
     let set = TreeSet::new(rt.alloc())?;
     set.keys_ascend();
-    assert_eq!(rt; first_wrong(rt.alloc(), set, Op::TreeFind(0), &ROWS)?, None);
+    assert_eq!(rt;
+        first_wrong(rt.alloc(), set, Op::TreeFind(0, 0), &ROWS)?,
+        None
+    );
     Ok(())
 }

@@ -46,13 +46,13 @@ move_in (suc (suc (suc n))) some few = absurd (omega (arith, few))
 pub leaf_move : (t : CoreTable) (n : ℕ) → IsTwoAdds t → 0 < n → n < 3 → (job_in t).plan.after n ≡ Arrive 0
 leaf_move t n two some few = ap (λ (tree : Tree). (nodes_of tree).after n) (ap tree_or_leaf two.shape) ∙ move_in n some few
 
-act_at : (n : ℕ) → 0 < n → n < 3 → slice_index_or (Call (CounterAdd 1) ∷ Call (CounterAdd 2) ∷ []) (n - 1) (Work 0) ≡ Call (CounterAdd n)
+act_at : (n : ℕ) → 0 < n → n < 3 → slice_index_or (Call (CounterAdd 0 1) ∷ Call (CounterAdd 0 2) ∷ []) (n - 1) (Work 0) ≡ Call (CounterAdd 0 n)
 act_at zero some few = absurd (omega (arith, some))
 act_at (suc zero) some few = refl
 act_at (suc (suc zero)) some few = refl
 act_at (suc (suc (suc n))) some few = absurd (omega (arith, few))
 
-pub leaf_act : (t : CoreTable) (n : ℕ) → IsTwoAdds t → 0 < n → n < 3 → (job_in t).act (n - 1) ≡ Call (CounterAdd n)
+pub leaf_act : (t : CoreTable) (n : ℕ) → IsTwoAdds t → 0 < n → n < 3 → (job_in t).act (n - 1) ≡ Call (CounterAdd 0 n)
 leaf_act t n two some few = ap (λ (acts : List Act). slice_index_or acts (n - 1) (Work 0)) two.acts ∙ act_at n some few
 
 no_source_at : (n : ℕ) → 0 < n → n < 3 → slice_index_or (None ∷ None ∷ []) (n - 1) None ≡ (let none : Maybe ℕ = None in none)
@@ -88,16 +88,16 @@ module _ (t : CoreTable) (two : IsTwoAdds t) (task : Task) (call : CallState) wh
     pub leaf_starts : task ≡ Run n → next_act (job_in t) task call ≡ Some (acts.Start n (n - 1))
     leaf_starts is = at_task (Run n) _ is (ap (λ (k : Maybe Kind). act_of_run k n) (leaf_kind t n two some few))
 
-    started : (start : ℕ) → act_of_started ((job_in t).act (leaf_of ((job_in t).plan.kind n))) call n start (leaf_of ((job_in t).plan.kind n)) ≡ act_of_started (Call (CounterAdd n)) call n start (n - 1)
+    started : (start : ℕ) → act_of_started ((job_in t).act (leaf_of ((job_in t).plan.kind n))) call n start (leaf_of ((job_in t).plan.kind n)) ≡ act_of_started (Call (CounterAdd 0 n)) call n start (n - 1)
     started start =
         ap (λ (k : Maybe Kind). act_of_started ((job_in t).act (leaf_of k)) call n start (leaf_of k)) (leaf_kind t n two some few)
         ∙ ap (λ (a : Act). act_of_started a call n start (n - 1)) (leaf_act t n two some few)
 
-    pub leaf_posts : (start : ℕ) → task ≡ Started n start → call ≡ NotCalled → next_act (job_in t) task call ≡ Some (acts.Call n start (n - 1) (CounterAdd n))
-    leaf_posts start is free = at_task (Started n start) _ is (started start ∙ ap (λ (c : CallState). act_of_started (Call (CounterAdd n)) c n start (n - 1)) free)
+    pub leaf_posts : (start : ℕ) → task ≡ Started n start → call ≡ NotCalled → next_act (job_in t) task call ≡ Some (acts.Call n start (n - 1) (CounterAdd 0 n))
+    leaf_posts start is free = at_task (Started n start) _ is (started start ∙ ap (λ (c : CallState). act_of_started (Call (CounterAdd 0 n)) c n start (n - 1)) free)
 
     pub leaf_keeps : (start : ℕ) (receipt : Receipt) → task ≡ Started n start → call ≡ Got receipt → next_act (job_in t) task call ≡ Some (acts.Got n start receipt.reply)
-    leaf_keeps start receipt is got = at_task (Started n start) _ is (started start ∙ ap (λ (c : CallState). act_of_started (Call (CounterAdd n)) c n start (n - 1)) got)
+    leaf_keeps start receipt is got = at_task (Started n start) _ is (started start ∙ ap (λ (c : CallState). act_of_started (Call (CounterAdd 0 n)) c n start (n - 1)) got)
 
     pub side_arrives : task ≡ Whole n → next_act (job_in t) task call ≡ Some (acts.Arrive 0 1 2 n)
     side_arrives is = at_task (Whole n) _ is

@@ -10,31 +10,31 @@ use Rattle.table_tests.specs.Sourced.{four_shape, four_acts, four_sources}
 
 second_source : IsSource (Some four_shape) four_acts 1 0
 second_source = record {
-  op = TreeInsert 0;
+  op = TreeInsert 0 0;
   call = refl;
   argument = refl;
   stands_as_zero = refl;
-  calls = (CounterAdd 5, refl);
+  calls = (CounterAdd 0 5, refl);
   before = inl (inr (inr ((omega arith, omega arith), (omega arith, omega arith))));
 }
 
 third_source : IsSource (Some four_shape) four_acts 2 0
 third_source = record {
-  op = Push 0;
+  op = Push 0 0;
   call = refl;
   argument = refl;
   stands_as_zero = refl;
-  calls = (CounterAdd 5, refl);
+  calls = (CounterAdd 0 5, refl);
   before = inr (inr ((omega arith, omega arith), (omega arith, omega arith)));
 }
 
 fourth_source : IsSource (Some four_shape) four_acts 3 1
 fourth_source = record {
-  op = Push 0;
+  op = Push 0 0;
   call = refl;
   argument = refl;
   stands_as_zero = refl;
-  calls = (TreeInsert 0, refl);
+  calls = (TreeInsert 0 0, refl);
   before = inr (inr ((omega arith, omega arith), (omega arith, omega arith)));
 }
 

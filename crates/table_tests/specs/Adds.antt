@@ -13,7 +13,7 @@ use Rattle.core_table.specs.Passes.{IsPassOf, planned_in, job_in, pass_view}
 -- the table is for `par { counter add 1 counter add 2 }`, and for two workers
 pub record IsTwoAdds (table : CoreTable) : Type 0 where
   pub shape : (planned_in table).shape ≡ Some (par leaf leaf)
-  pub acts : (planned_in table).acts ≡ Call (CounterAdd 1) ∷ Call (CounterAdd 2) ∷ []
+  pub acts : (planned_in table).acts ≡ Call (CounterAdd 0 1) ∷ Call (CounterAdd 0 2) ∷ []
   pub sources : (planned_in table).sources ≡ None ∷ None ∷ []
   pub workers : (job_in table).workers ≡ 2
 

@@ -9,7 +9,7 @@ abbrev pub four_shape : Tree
 four_shape = seq (seq leaf leaf) (seq leaf leaf)
 
 abbrev pub four_acts : List Act
-four_acts = Call (CounterAdd 5) ∷ Call (TreeInsert 0) ∷ Call (Push 0) ∷ Call (Push 0) ∷ []
+four_acts = Call (CounterAdd 0 5) ∷ Call (TreeInsert 0 0) ∷ Call (Push 0 0) ∷ Call (Push 0 0) ∷ []
 
 -- the first leaf is the source of the second and the third, and the second of the fourth
 abbrev pub four_sources : List (Option ℕ)

@@ -18,11 +18,14 @@ use table_rule::OpRecord;
 /// `par { counter add 1 counter add 2 }`.
 pub(crate) fn two_adds(alloc: Global) -> Result<Job, AllocError>
     ensures tree { IfOk result (λ job. job.shape ≡ Some (par leaf leaf)) }
-    ensures acts { IfOk result (λ job. job.acts ≡ Call (CounterAdd 1) ∷ Call (CounterAdd 2) ∷ []) }
+    ensures acts { IfOk result (λ job. job.acts ≡ Call (CounterAdd 0 1) ∷ Call (CounterAdd 0 2) ∷ []) }
     ensures sources { IfOk result (λ job. job.sources ≡ None ∷ None ∷ []) }
 {
     let shape = Shape::Par(Box::new(alloc, Shape::Leaf)?, Box::new(alloc, Shape::Leaf)?);
-    let acts = vec![in alloc; Act::Call(Op::CounterAdd(1)), Act::Call(Op::CounterAdd(2))]?;
+    let acts = vec![in alloc;
+        Act::Call(Op::CounterAdd(0, 1)),
+        Act::Call(Op::CounterAdd(0, 2)),
+    ]?;
     Ok(Job::of(Some(shape), acts))
 }
 
@@ -71,7 +74,7 @@ pub(crate) fn post(table: &CoreTable, pass: &mut Pass, node: u32)
 {
     let call = OpRecord {
         leaf: node - 1,
-        op: Op::CounterAdd(node),
+        op: Op::CounterAdd(0, node),
     };
     table.post(pass, call);
 }

@@ -1,5 +1,6 @@
 //! Runs over the running table in two threads: their reports replayed by the serial objects, and beside the receipts.
-ghost use Rattle.std.specs.Prelude.{◌≡◌, ◌<◌, ◌≤◌, ◌+◌, ◌*◌, ◌^◌, IfOk};
+ghost use Rattle.std.specs.Prelude.{◌≡◌, ◌<◌, ◌≤◌, ◌+◌, ◌*◌, ◌^◌, ℕ, IfOk};
+ghost use Rattle.seq_objects.specs.Kept.{store_in};
 ghost use Rattle.core_table.specs.Passes.{job_in, pass_view, IsPassOf};
 ghost use Rattle.worker_crew.specs.Workers.{IsReady};
 
@@ -29,14 +30,15 @@ fn is_same(one: Reply, other: Reply) -> bool {
     }
 }
 
-/// Serves one operation where the counter is far from its end. The match has two arms alike, so that the range of the
+/// Serves one operation where the counters are far from their end. The match has two arms alike, so that the range of the
 /// addend is known.
+#[tactic(auto, using(batch_history::proofs::Counters::grown))]
 fn serve_one(objects: &mut Plain, op: Op) -> Result<Reply, AllocError>
-    requires { objects.old.counter < 2 ^ 63 }
-    ensures { objects.new.counter ≤ objects.old.counter + 2 ^ 32 }
+    requires { (number : ℕ) → (store_in objects.old number).counter < 2 ^ 63 }
+    ensures { (number : ℕ) → (store_in objects.new number).counter ≤ (store_in objects.old number).counter + 2 ^ 32 }
 {
     match op {
-        Op::CounterAdd(addend) => objects.serve(Op::CounterAdd(addend)),
+        Op::CounterAdd(number, addend) => objects.serve(Op::CounterAdd(number, addend)),
         _ => objects.serve(op),
     }
 }

@@ -30,10 +30,10 @@ fn acts_of_four(alloc: Global) -> Result<Vec<Act>, AllocError>
     ensures { IfOk result (λ acts. acts.items ≡ four_acts) }
 {
     let acts = vec![in alloc;
-        Act::Call(Op::CounterAdd(5)),
-        Act::Call(Op::TreeInsert(0)),
-        Act::Call(Op::Push(0)),
-        Act::Call(Op::Push(0)),
+        Act::Call(Op::CounterAdd(0, 5)),
+        Act::Call(Op::TreeInsert(0, 0)),
+        Act::Call(Op::Push(0, 0)),
+        Act::Call(Op::Push(0, 0)),
     ]?;
     Ok(acts)
 }
@@ -114,9 +114,9 @@ fn ops_in(alloc: Global, report: &Report) -> Result<Vec<(u32, u32)>, AllocError>
     for batch in report.history.batches() {
         for entry in batch.entries() {
             let op = match entry.op {
-                Op::CounterAdd(argument) => (argument, 0),
-                Op::TreeInsert(argument) => (argument, 1),
-                Op::Push(argument) => (argument, 2),
+                Op::CounterAdd(_, argument) => (argument, 0),
+                Op::TreeInsert(_, argument) => (argument, 1),
+                Op::Push(_, argument) => (argument, 2),
                 _ => (0, 3),
             };
             ops.push(op)?;

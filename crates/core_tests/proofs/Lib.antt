@@ -1,2 +1,1 @@
 mod Sourced
-mod Within

@@ -1,9 +1,10 @@
 //! The history of a run, made by hand: one batch, served by the serial objects.
-use crate::jobs::{job_of, text_of};
+use crate::jobs::job_of;
 use batch_history::{Batch, Entry, History, Report, Row, Rows};
 use seq_objects::{Op, Plain};
 use std::alloc::{AllocError, Global};
 use std::test::Fail;
+use test_texts::text_of;
 
 /// The report of the history.
 const REMOVED_AND_INSERTED: &[u8] = b"workers 2 leaves 2 calls 2 batches 1\n\

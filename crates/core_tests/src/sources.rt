@@ -2,12 +2,12 @@
 ghost use Rattle.std.specs.Prelude.{◌≡◌, Some, IfOk, IsSome};
 ghost use Rattle.sp_order.specs.Precedence.{tree_of, leaf, seq};
 
-use crate::jobs::text_of;
 use batcher_core::{Core, drive};
 use seq_objects::{Act, Op};
 use sp_order::{Job, Shape};
 use std::alloc::{AllocError, Global};
 use std::test::Fail;
+use test_texts::text_of;
 
 /// The report of an add of 5, whose reply is inserted and then pushed.
 const ONE_ADD: &[u8] = b"workers 1 leaves 3 calls 3 batches 3\n\

@@ -2,13 +2,14 @@
 ghost use Rattle.std.specs.Prelude.{◌≡◌, ◌<◌, ◌≤◌, ◌+◌, ◌^◌, ℕ, length, IsSome};
 ghost use Rattle.seq_objects.specs.Kept.{store_in};
 
-use crate::jobs::{job_of, text_of};
+use crate::jobs::job_of;
 use batch_history::Entry;
 use batcher_core::{Core, Ended, Spun, Turn, drive_some};
 use seq_objects::{Op, Plain, Reply, value};
 use sp_order::Job;
 use std::alloc::{AllocError, Global};
 use std::test::Fail;
+use test_texts::text_of;
 
 const TWO_ADDS: &[u8] = b"par { counter add 1 counter add 2 }";
 

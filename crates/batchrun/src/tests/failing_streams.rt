@@ -2,11 +2,11 @@
 ghost use Rattle.std.specs.Prelude.{◌<◌};
 
 use crate::tests::{ONE_ADD, Ran, STEP, run, unhindered};
-use batch_history::text;
 use job_lang::read_job;
 use sp_order::Job;
 use std::alloc::{AllocError, Global};
 use std::test::Fail;
+use test_texts::text_of;
 
 const ADD: &[u8] = b"counter add 5";
 
@@ -109,10 +109,7 @@ fn wrote_report(alloc: Global, job: &Job, ran: &Ran, before: usize) -> Result<bo
     let Some(report) = &ran.outcome.report else {
         return Ok(false);
     };
-    if report.rows.list().len() != job.acts().len() {
-        return Ok(false);
-    }
-    let lines = text(alloc, job, report)?;
+    let lines = text_of(alloc, job, report)?;
     // A line of a call has at least 48 bytes and one of a leaf 38, and the job has 3,012 calls.
     Ok(3012 * (48 + 38) <= lines.len() && wrote(lines.as_slice(), ran, before))
 }

@@ -1,8 +1,8 @@
 use Rattle.std.proofs.Common.{rules, ◌≡◌, length, true, ap, sym, ◌∙◌}
 use Rattle.std.proofs.lemmas.List.{length-map}
 use Rattle.job_names.specs.Names.{spelling}
-use Rattle.core_tests.proofs.Within.{all_within}
-use Rattle.core_tests.proofs.jobs.text_of.Goals as goal
+use Rattle.test_texts.proofs.Within.{all_within}
+use Rattle.test_texts.proofs.text_of.Goals as goal
 
 -- each number that was tested is at most the count of the job's names
 pub text-requires-clause-numbers : goal.text-requires-clause-numbers

@@ -1,28 +1,28 @@
 -- Lists added to rows.
-use Rattle.std.proofs.Common.{ℕ, zero, suc, ◌≡◌, ◌<◌, ◌≤◌, ◌+◌, max, List, [], ◌∷◌, ◌++◌, length, get_or, slice_set, refl, ap, sym, ◌∙◌, arith}
+use Rattle.std.proofs.Common.{ℕ, zero, suc, ◌≡◌, ◌<◌, ◌≤◌, ◌+◌, max, List, [], ◌∷◌, ◌++◌, length, get_or, slice_set, map, refl, ap, sym, ◌∙◌, arith}
 use Rattle.std.proofs.lemmas.List.{length-map}
-use Rattle.std.specs.declared.vec.Vec.{Vec}
-use Rattle.std.specs.declared.alloc.Global.{Global}
-use Rattle.object_rows.specs.Rows.{members, added, all_added, in_rows}
+use Rattle.object_rows.specs.declared.members.Members.{Members}
+use Rattle.object_rows.specs.declared.members.Members.TheVariants.{One}
+use Rattle.object_rows.specs.Rows.{list_of, members, added, all_added, in_rows}
 use Rattle.object_rows.specs.Cuts.{longest}
 use Rattle.object_rows.specs.Code.Members.{with_member, added_from}
 
-pub length_members : {X : Type 0} (rows : List (Vec X Global)) → length (members rows) ≡ length rows
-length_members rows = length-map rows (λ (v : Vec _ Global). v.items)
+pub length_members : {X : Type 0} (rows : List (Members X)) → length (members rows) ≡ length rows
+length_members rows = length-map rows list_of
 
 -- a member is pushed to a row that is there, or to one that is new
-pub put_there : {X : Type 0} (rows : List (Vec X Global)) (place : ℕ) (row now : Vec X Global) (x : X) → place < length rows → row ≡ get_or rows place row → now.items ≡ row.items ++ x ∷ []
+pub put_there : {X : Type 0} (rows : List (Members X)) (place : ℕ) (row now : Members X) (x : X) → place < length rows → row ≡ get_or rows place row → list_of now ≡ list_of row ++ x ∷ []
     → members (slice_set rows place now) ≡ with_member place x (members rows)
 put_there [] place row now x below is more = absurd (omega (arith, below))
-put_there (v ∷ rows) zero row now x below is more = ap (λ l. l ∷ members rows) (more ∙ ap (λ (r : Vec _ Global). r.items ++ x ∷ []) is)
-put_there (v ∷ rows) (suc place) row now x below is more = ap (λ l. v.items ∷ l) (put_there rows place row now x (omega (arith, below)) is more)
+put_there (v ∷ rows) zero row now x below is more = ap (λ l. l ∷ members rows) (more ∙ ap (λ (r : Members _). list_of r ++ x ∷ []) is)
+put_there (v ∷ rows) (suc place) row now x below is more = ap (λ l. list_of v ∷ l) (put_there rows place row now x (omega (arith, below)) is more)
 
-pub put_behind : {X : Type 0} (rows : List (Vec X Global)) (place : ℕ) (now : Vec X Global) (x : X) → place ≡ length rows → now.items ≡ x ∷ []
+pub put_behind : {X : Type 0} (rows : List (Members X)) (place : ℕ) (now : Members X) (x : X) → place ≡ length rows → list_of now ≡ x ∷ []
     → members (rows ++ now ∷ []) ≡ with_member place x (members rows)
 put_behind [] zero now x is more = ap (λ l. l ∷ []) more
 put_behind [] (suc place) now x is more = absurd (omega (arith, is))
 put_behind (v ∷ rows) zero now x is more = absurd (omega (arith, is))
-put_behind (v ∷ rows) (suc place) now x is more = ap (λ l. v.items ∷ l) (put_behind rows place now x (omega (arith, is)) more)
+put_behind (v ∷ rows) (suc place) now x is more = ap (λ l. list_of v ∷ l) (put_behind rows place now x (omega (arith, is)) more)
 
 pub length_with : {X : Type 0} (place : ℕ) (x : X) (rows : List (List X)) → place ≤ length rows → place + 1 ≤ length (with_member place x rows)
 length_with zero x [] le = omega arith
@@ -48,6 +48,11 @@ pub all_added_more : {X : Type 0} (rows lists : List (List X)) (list : List X) �
 all_added_more rows [] list = refl
 all_added_more rows (l ∷ lists) list = all_added_more (added rows l) lists list
 
+-- each member of a list in a row of its own
+pub added_ones : {X : Type 0} (list : List X) → members (map One list) ≡ added [] list
+added_ones [] = refl
+added_ones (x ∷ xs) = ap (λ rows. (x ∷ []) ∷ rows) (added_ones xs)
+
 -- there are as many rows as the longest list has members
 length_added : {X : Type 0} (rows : List (List X)) (xs : List X) → length (added rows xs) ≡ max (length rows) (length xs)
 length_added rows [] = omega arith
@@ -58,5 +63,5 @@ length_all : {X : Type 0} (rows lists : List (List X)) → length (all_added row
 length_all rows [] = omega arith
 length_all rows (list ∷ lists) = let rest = length_all (added rows list) lists in let first = length_added rows list in omega (arith, rest, first)
 
-pub length_in_rows : {X : Type 0} (ins : List (Vec X Global)) (lists : List (List X)) → members ins ≡ in_rows lists → length ins ≡ longest lists
-length_in_rows ins lists is = let all = length_all [] lists in let same = sym (length-map ins (λ (v : Vec _ Global). v.items)) ∙ ap length is in omega (arith, all, same)
+pub length_in_rows : {X : Type 0} (ins : List (Members X)) (lists : List (List X)) → members ins ≡ in_rows lists → length ins ≡ longest lists
+length_in_rows ins lists is = let all = length_all [] lists in let same = sym (length-map ins list_of) ∙ ap length is in omega (arith, all, same)

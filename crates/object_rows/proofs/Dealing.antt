@@ -1,8 +1,7 @@
 -- Outs of rows, dealt back to the lists that were added.
 use Rattle.std.proofs.Common.{◌≡◌, ◌-◌, List, [], ◌∷◌, ◌++◌, length, refl, sym, subst}
-use Rattle.std.specs.declared.vec.Vec.{Vec}
-use Rattle.std.specs.declared.alloc.Global.{Global}
 use Rattle.seq_objects.specs.Pieces.{AllMeet}
+use Rattle.object_rows.specs.declared.members.Members.{Members}
 use Rattle.object_rows.specs.Rows.{members, added, MembersMeet}
 use Rattle.object_rows.specs.Code.Lasts.{last_of, front_of, lasts, fronts}
 use Rattle.object_rows.proofs.ListLemmas.{last_meets, take_front, drop_front}
@@ -15,7 +14,7 @@ module _ {In Out : Type 0} (meets : In → Out → Type 0) where
   RowsMeet (row ∷ rows) [] = ⊥
   RowsMeet (row ∷ rows) (outs ∷ rest) = AllMeet meets row outs × RowsMeet rows rest
 
-  pub rows_meet : (ins : List (Vec In Global)) (outs : List (Vec Out Global)) → AllMeet (MembersMeet meets) ins outs → RowsMeet (members ins) (members outs)
+  pub rows_meet : (ins : List (Members In)) (outs : List (Members Out)) → AllMeet (MembersMeet meets) ins outs → RowsMeet (members ins) (members outs)
   rows_meet [] [] m = tt
   rows_meet [] (out ∷ outs) m = absurd m
   rows_meet (input ∷ ins) [] m = absurd m

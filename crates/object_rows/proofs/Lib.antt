@@ -5,5 +5,6 @@ pub mod Adding
 pub mod Taking
 pub mod Dealing
 pub mod Putting
+pub mod RowLists
 pub mod Opening
 pub mod Closing

@@ -1,6 +1,7 @@
 -- The numbers of calls.
-use Rattle.std.proofs.Common.{ℕ, zero, suc, ◌≡◌, ◌==◌, ◌<◌, ◌||◌, max, nat_lt, if◌then◌else◌, Bool, true, false, cond, List, [], ◌∷◌, length, map, take, get_or, refl, ap, sym, ◌∙◌, arith}
+use Rattle.std.proofs.Common.{ℕ, zero, suc, ◌≡◌, ◌==◌, ◌<◌, ◌||◌, max, nat_lt, if◌then◌else◌, Bool, true, false, cond, List, [], ◌∷◌, length, map, take, get_or, refl, ap, sym, subst, ◌∙◌, arith}
 use Rattle.std.specs.List.{AllByRecursion}
+use Rattle.std.proofs.lemmas.Bool.{false≢true}
 use Rattle.std.proofs.lemmas.Bool.Decides.{nat_tests}
 use Rattle.key_sets.specs.Keys.{has, with_key, StrictlyAscends}
 use Rattle.key_sets.specs.Groups.{with_keys}
@@ -11,6 +12,7 @@ use Rattle.seq_objects.specs.declared.call.Call.{Call}
 use Rattle.seq_objects.specs.Objects.{number_of}
 use Rattle.seq_objects.specs.Batches.{calls_at}
 use Rattle.seq_objects.specs.Pieces.{AllMeet}
+use Rattle.seq_objects.proofs.Numbers.{are_at}
 use Rattle.object_rows.specs.Numbers.{numbers_of, greatest}
 use Rattle.object_rows.specs.Cuts.{longest}
 
@@ -45,6 +47,57 @@ numbers_ascend calls = distinct_ascends (map (λ call. number_of call.op) calls)
 pub some_numbers : (calls : List Call) → 0 < length calls → 0 < length (numbers_of calls)
 some_numbers [] some = absurd (omega (arith, some))
 some_numbers (call ∷ calls) some = some_distinct (map (λ call. number_of call.op) (call ∷ calls)) (omega arith)
+
+pub at_again : (number : ℕ) (calls : List Call) → calls_at number (calls_at number calls) ≡ calls_at number calls
+at_again number [] = refl
+at_again number (call ∷ calls) = step (number_of call.op == number) refl (at_again number calls) where
+  step : (b : Bool) → (number_of call.op == number) ≡ b → calls_at number (calls_at number calls) ≡ calls_at number calls
+      → calls_at number (cond b (call ∷ calls_at number calls) (calls_at number calls)) ≡ cond b (call ∷ calls_at number calls) (calls_at number calls)
+  step true is rest = ap (λ b. cond b (call ∷ calls_at number (calls_at number calls)) (calls_at number (calls_at number calls))) is ∙ ap (λ l. call ∷ l) rest
+  step false is rest = rest
+
+-- calls of one number have this number alone
+same_key : (number key : ℕ) → key ≡ number → with_key key (number ∷ []) ≡ number ∷ []
+same_key number key is = step (nat_lt key number) (key == number) refl refl where
+  step : (less same : Bool) → nat_lt key number ≡ less → (key == number) ≡ same → (if less then key ∷ number ∷ [] else (if same then number ∷ [] else number ∷ key ∷ [])) ≡ number ∷ []
+  step true same lt eq = absurd (grind (arith, nat_tests))
+  step false true lt eq = refl
+  step false false lt eq = absurd (grind (arith, nat_tests))
+
+same_keys : (number : ℕ) (calls : List Call) → AllByRecursion (λ call. number_of call.op ≡ number) calls → with_keys (number ∷ []) (map (λ call. number_of call.op) calls) ≡ number ∷ []
+same_keys number [] each = refl
+same_keys number (call ∷ calls) each =
+    ap (λ set. with_keys set (map (λ (call : Call). number_of call.op) calls)) (same_key number (number_of call.op) each.0) ∙ same_keys number calls each.1
+
+pub only_number : (number : ℕ) (calls : List Call) → 0 < length calls → calls_at number calls ≡ calls → numbers_of calls ≡ number ∷ []
+only_number number [] some all = absurd (omega (arith, some))
+only_number number (call ∷ calls) some all =
+    let each : AllByRecursion (λ (call : Call). number_of call.op ≡ number) (call ∷ calls) = subst (AllByRecursion (λ (call : Call). number_of call.op ≡ number)) all (are_at number (call ∷ calls)) in
+    ap (λ n. with_keys (n ∷ []) (map (λ (call : Call). number_of call.op) calls)) each.0 ∙ same_keys number calls each.1
+
+-- where there is one number, all calls have it
+has_later : (q n : ℕ) (set : List ℕ) → has q set ≡ true → has q (n ∷ set) ≡ true
+has_later q n set is = step (q == n) where
+  step : (b : Bool) → (b || has q set) ≡ true
+  step true = refl
+  step false = is
+
+has_one : (q n : ℕ) → has q (n ∷ []) ≡ true → q ≡ n
+has_one q n is = step (q == n) refl is where
+  step : (b : Bool) → (q == n) ≡ b → (b || false) ≡ true → q ≡ n
+  step true same held = grind (arith, nat_tests)
+  step false same held = absurd (false≢true held)
+
+each_one : (number : ℕ) (calls : List Call) → ((q : ℕ) → has q (map (λ call. number_of call.op) calls) ≡ true → q ≡ number) → AllByRecursion (λ call. number_of call.op ≡ number) calls
+each_one number [] only = tt
+each_one number (call ∷ calls) only = (
+  only (number_of call.op) (has_first (number_of call.op) (map (λ (call : Call). number_of call.op) calls)),
+  each_one number calls (λ q is. only q (has_later q (number_of call.op) (map (λ (call : Call). number_of call.op) calls) is)),
+)
+
+pub all_of_one : (number : ℕ) (calls : List Call) → numbers_of calls ≡ number ∷ [] → AllByRecursion (λ call. number_of call.op ≡ number) calls
+all_of_one number calls one =
+    each_one number calls (λ q is. has_one q number (ap (has q) (sym one) ∙ has_distinct q (map (λ (call : Call). number_of call.op) calls) ∙ is))
 
 not_below : (key : ℕ) (xs : List ℕ) → AllByRecursion (λ x. x < key) xs → has key xs ≡ false
 not_below key [] below = refl

@@ -1,8 +1,6 @@
 -- The opening of structures, one after another.
 use Rattle.std.proofs.Common.{ℕ, ◌≡◌, ◌==◌, ◌<◌, ◌≤◌, ◌||◌, Bool, true, false, if◌then◌else◌, None, List, [], ◌∷◌, ◌++◌, length, map, refl, ap, sym, subst, ◌∙◌, arith}
 use Rattle.std.specs.List.{AllByRecursion}
-use Rattle.std.specs.declared.vec.Vec.{Vec}
-use Rattle.std.specs.declared.alloc.Global.{Global}
 use Rattle.std.proofs.lemmas.List.{map-append}
 use Rattle.key_sets.specs.Keys.{has}
 use Rattle.seq_objects.specs.declared.call.Call.{Call}
@@ -11,6 +9,7 @@ use Rattle.seq_objects.specs.Batches.{calls_at}
 use Rattle.seq_objects.specs.Pieces.{AllMeet, BatchContext}
 use Rattle.seq_objects.proofs.Elements.{each_append}
 use Rattle.seq_objects.proofs.Meets.{meets_more}
+use Rattle.object_rows.specs.declared.members.Members.{Members}
 use Rattle.object_rows.specs.declared.row.Called.{Called}
 use Rattle.object_rows.specs.declared.row.Row.{Row}
 use Rattle.object_rows.specs.Numbers.{numbers_of}
@@ -20,12 +19,12 @@ use Rattle.object_rows.specs.Contexts.{IsOpenFor, IsRowContextOf}
 use Rattle.object_rows.specs.Cuts.{longest, AreCut}
 use Rattle.object_rows.specs.Code.Opening.{OpensOne}
 use Rattle.object_rows.proofs.ListLemmas.{meets_length, has_more, no_members}
-use Rattle.object_rows.proofs.Numbering.{some_numbers}
+use Rattle.object_rows.proofs.Numbering.{some_numbers, only_number}
 use Rattle.object_rows.proofs.Adding.{all_added_more, length_in_rows}
 
 -- the structures of these numbers are open, and their pieces in rows
 pub record AreOpened {T R In : Type 0} (content : T → Objects) (is_context_of : R → BatchContext T In → Type 0) (cut : Objects → List Call → List In → Type 0)
-    (most : ℕ) (was : Row T R) (calls : List Call) (now : Row T R) (numbers : List ℕ) (ins : List (Vec In Global)) : Type 0 where
+    (most : ℕ) (was : Row T R) (calls : List Call) (now : Row T R) (numbers : List ℕ) (ins : List (Members In)) : Type 0 where
   pub lists : List (List In)
   pub opened : AllMeet (IsOpenFor content is_context_of (store_of content was.closed) calls) now.called.items lists
   pub are : map (λ called. called.number) now.called.items ≡ numbers
@@ -47,11 +46,11 @@ module _ {T R In : Type 0} (content : T → Objects) (is_context_of : R → Batc
     others = λ q. refl;
   }
 
-  module _ (now : Row T R) (numbers : List ℕ) (ins : List (Vec In Global)) (a : AreOpened content is_context_of cut most was calls now numbers ins) where
+  module _ (now : Row T R) (numbers : List ℕ) (ins : List (Members In)) (a : AreOpened content is_context_of cut most was calls now numbers ins) where
     pub same_store : (number : ℕ) → has number numbers ≡ false → store_of content now.closed number ≡ store_of content was.closed number
     same_store number new = ap (content_or_opening content) (a.others number ∙ ap (λ b. if b then None else structure_at was.closed number) new)
 
-    pub opened_more : (next : Row T R) (number : ℕ) (list : List In) (rows : List (Vec In Global)) → OpensOne content is_context_of now next number calls list → has number numbers ≡ false
+    pub opened_more : (next : Row T R) (number : ℕ) (list : List In) (rows : List (Members In)) → OpensOne content is_context_of now next number calls list → has number numbers ≡ false
         → cut (store_of content now.closed number) (calls_at number calls) list → (1 ≤ length list) × (length list ≤ most) → members rows ≡ added (members ins) list
         → AreOpened content is_context_of cut most was calls next (numbers ++ number ∷ []) rows
     opened_more next number list rows opens new is_cut few more = record {
@@ -83,7 +82,7 @@ module _ {T R In : Type 0} (content : T → Objects) (is_context_of : R → Batc
         step false true is = is
         step false false is = is
 
-  module _ (now : Row T R) (ins : List (Vec In Global)) (a : AreOpened content is_context_of cut most was calls now (numbers_of calls) ins) where
+  module _ (now : Row T R) (ins : List (Members In)) (a : AreOpened content is_context_of cut most was calls now (numbers_of calls) ins) where
     pub context : IsRowContextOf content is_context_of now (record { before = store_of content was.closed; calls = calls; ins = ins })
     context = record {
       lists = a.lists;
@@ -115,8 +114,16 @@ module _ {T R In : Type 0} (content : T → Objects) (is_context_of : R → Batc
         let m = longest_some a.lists a.few (omega (arith, many, numbers)) in
         omega (arith, n, m)
 
+  -- the structure of one number is open, and has all calls
+  pub only_opened : (next : Row T R) (number : ℕ) (list : List In) (rows : List (Members In)) → was.called.items ≡ [] → 0 < length calls → calls_at number calls ≡ calls
+      → OpensOne content is_context_of was next number calls list → cut (store_of content was.closed number) calls list → (1 ≤ length list) × (length list ≤ most) → members rows ≡ added [] list
+      → AreOpened content is_context_of cut most was calls next (numbers_of calls) rows
+  only_opened next number list rows none some all opens is_cut few more =
+      subst (λ numbers. AreOpened content is_context_of cut most was calls next numbers rows) (sym (only_number number calls some all))
+      (opened_more was [] [] (none_opened none) next number list rows opens refl (subst (λ own. cut (store_of content was.closed number) own list) (sym all) is_cut) few more)
+
 -- no calls open none
-pub none_called : {T R In : Type 0} (content : T → Objects) (is_context_of : R → BatchContext T In → Type 0) (cut : Objects → List Call → List In → Type 0) (was : Row T R) (calls : List Call) (ins : List (Vec In Global))
+pub none_called : {T R In : Type 0} (content : T → Objects) (is_context_of : R → BatchContext T In → Type 0) (cut : Objects → List Call → List In → Type 0) (was : Row T R) (calls : List Call) (ins : List (Members In))
     → was.called.items ≡ [] → ins ≡ [] → length calls ≡ 0 → IsRowContextOf content is_context_of was (record { before = store_of content was.closed; calls = calls; ins = ins })
 none_called content is_context_of cut was calls ins closed none no_calls =
     let empty = no_members calls (λ some. omega (arith, some, no_calls)) in

@@ -1,5 +1,6 @@
 -- Replies put at the places of the calls of one number.
 use Rattle.std.proofs.Common.{ℕ, ◌≡◌, ◌==◌, ◌+◌, Bool, true, false, cond, if◌then◌else◌, List, [], ◌∷◌, ◌++◌, length, take, drop, slice_index_or, refl, ap, ◌∙◌, arith, append_assoc}
+use Rattle.std.specs.List.{AllByRecursion}
 use Rattle.std.proofs.lemmas.List.{get_or-drop, drop-drop}
 use Rattle.std.proofs.lemmas.Bool.Decides.{nat_tests}
 use Rattle.seq_objects.specs.declared.call.Call.{Call}
@@ -33,6 +34,18 @@ own_put number (call ∷ calls) (reply ∷ replies) own count many = step (numbe
   step true is rest [] many = absurd (omega (arith, many))
   step true is rest (o ∷ own) many = rw is (ap (λ l. o ∷ l) (rest own (omega (arith, many))))
   step false is rest own many = rw is (rest own many)
+
+-- where all calls are of the number, it has all replies
+pub replies_of_one : (number : ℕ) (calls : List Call) (replies : List Reply) → AllByRecursion (λ call. number_of call.op ≡ number) calls → length replies ≡ length calls
+    → replies_at number calls replies ≡ replies
+replies_of_one number [] [] each count = refl
+replies_of_one number [] (reply ∷ replies) each count = absurd (omega (arith, count))
+replies_of_one number (call ∷ calls) [] each count = absurd (omega (arith, count))
+replies_of_one number (call ∷ calls) (reply ∷ replies) each count = step (number_of call.op == number) refl each.0 (replies_of_one number calls replies each.1 (omega (arith, count))) where
+  step : (b : Bool) → (number_of call.op == number) ≡ b → number_of call.op ≡ number → replies_at number calls replies ≡ replies
+      → cond b (reply ∷ replies_at number calls replies) (replies_at number calls replies) ≡ reply ∷ replies
+  step true is same rest = ap (λ l. reply ∷ l) rest
+  step false is same rest = absurd (grind (arith, nat_tests))
 
 -- all other calls keep theirs
 pub others_kept : (number other : ℕ) (calls : List Call) (replies own : List Reply) → (other == number) ≡ false

@@ -1,40 +1,40 @@
 -- The last members taken out of rows.
-use Rattle.std.proofs.Common.{ℕ, zero, suc, ◌≡◌, ◌<◌, ◌≤◌, ◌+◌, ◌-◌, Option, Some, None, option_to_list, List, [], ◌∷◌, ◌++◌, length, take, drop, get_or, slice_set, refl, ap, sym, ◌∙◌, arith, append-nil, append_assoc}
-use Rattle.std.specs.declared.vec.Vec.{Vec}
-use Rattle.std.specs.declared.alloc.Global.{Global}
-use Rattle.object_rows.specs.Rows.{members}
+use Rattle.std.proofs.Common.{ℕ, zero, suc, ◌≡◌, ◌<◌, ◌≤◌, ◌+◌, ◌-◌, Option, Some, None, option_to_list, List, [], ◌∷◌, ◌++◌, length, take, drop, get_or, slice_set, map, refl, ap, sym, ◌∙◌, arith, append-nil, append_assoc}
+use Rattle.object_rows.specs.declared.members.Members.{Members}
+use Rattle.object_rows.specs.declared.members.Members.TheVariants.{One}
+use Rattle.object_rows.specs.Rows.{list_of, members}
 use Rattle.object_rows.specs.Code.Lasts.{last_of, front_of, lasts, fronts, last_at, without_last}
 use Rattle.object_rows.proofs.ListLemmas.{take_front, drop_front}
 
 -- a list that a pop has shortened
-popped_last : {X : Type 0} (row now : List X) (last : Option X) → row ≡ now ++ option_to_list last → (last ≡ None → row ≡ []) → option_to_list last ≡ last_of row
+pub popped_last : {X : Type 0} (row now : List X) (last : Option X) → row ≡ now ++ option_to_list last → (last ≡ None → row ≡ []) → option_to_list last ≡ last_of row
 popped_last row now (Some x) is none = rw is (sym (drop_front now x (length (now ++ x ∷ []) - 1) refl))
 popped_last row now None is none = rw (none refl) refl
 
-popped_front : {X : Type 0} (row now : List X) (last : Option X) → row ≡ now ++ option_to_list last → (last ≡ None → row ≡ []) → now ≡ front_of row
+pub popped_front : {X : Type 0} (row now : List X) (last : Option X) → row ≡ now ++ option_to_list last → (last ≡ None → row ≡ []) → now ≡ front_of row
 popped_front row now (Some x) is none = rw is (sym (take_front now x (length (now ++ x ∷ []) - 1) refl))
 popped_front row now None is none = let same : now ≡ row = sym (append-nil now) ∙ sym is in same ∙ (rw (none refl) refl)
 
-module _ {X : Type 0} (last : Option X) (row now : Vec X Global) (is : row.items ≡ now.items ++ option_to_list last) (none : last ≡ None → row.items ≡ []) where
-  pub taken_there : (rows : List (Vec X Global)) (place : ℕ) → place < length rows → row ≡ get_or rows place row → option_to_list last ≡ last_at place (members rows)
+module _ {X : Type 0} (last : Option X) (row now : Members X) (taken : option_to_list last ≡ last_of (list_of row)) (left : list_of now ≡ front_of (list_of row)) where
+  pub taken_there : (rows : List (Members X)) (place : ℕ) → place < length rows → row ≡ get_or rows place row → option_to_list last ≡ last_at place (members rows)
   taken_there [] place below at = absurd (omega (arith, below))
-  taken_there (v ∷ rows) zero below at = popped_last row.items now.items last is none ∙ ap (λ (r : Vec X Global). last_of r.items) at
+  taken_there (v ∷ rows) zero below at = taken ∙ ap (λ (r : Members X). last_of (list_of r)) at
   taken_there (v ∷ rows) (suc place) below at = taken_there rows place (omega (arith, below)) at
 
-  pub left_there : (rows : List (Vec X Global)) (place : ℕ) → place < length rows → row ≡ get_or rows place row → members (slice_set rows place now) ≡ without_last place (members rows)
+  pub left_there : (rows : List (Members X)) (place : ℕ) → place < length rows → row ≡ get_or rows place row → members (slice_set rows place now) ≡ without_last place (members rows)
   left_there [] place below at = absurd (omega (arith, below))
-  left_there (v ∷ rows) zero below at = ap (λ l. l ∷ members rows) (popped_front row.items now.items last is none ∙ ap (λ (r : Vec X Global). front_of r.items) at)
-  left_there (v ∷ rows) (suc place) below at = ap (λ l. v.items ∷ l) (left_there rows place (omega (arith, below)) at)
+  left_there (v ∷ rows) zero below at = ap (λ l. l ∷ members rows) (left ∙ ap (λ (r : Members X). front_of (list_of r)) at)
+  left_there (v ∷ rows) (suc place) below at = ap (λ l. list_of v ∷ l) (left_there rows place (omega (arith, below)) at)
 
-pub taken_beyond : {X : Type 0} (rows : List (Vec X Global)) (place : ℕ) → length rows ≤ place → [] ≡ last_at place (members rows)
+pub taken_beyond : {X : Type 0} (rows : List (Members X)) (place : ℕ) → length rows ≤ place → [] ≡ last_at place (members rows)
 taken_beyond [] place beyond = refl
 taken_beyond (v ∷ rows) zero beyond = absurd (omega (arith, beyond))
 taken_beyond (v ∷ rows) (suc place) beyond = taken_beyond rows place (omega (arith, beyond))
 
-pub left_beyond : {X : Type 0} (rows : List (Vec X Global)) (place : ℕ) → length rows ≤ place → members rows ≡ without_last place (members rows)
+pub left_beyond : {X : Type 0} (rows : List (Members X)) (place : ℕ) → length rows ≤ place → members rows ≡ without_last place (members rows)
 left_beyond [] place beyond = refl
 left_beyond (v ∷ rows) zero beyond = absurd (omega (arith, beyond))
-left_beyond (v ∷ rows) (suc place) beyond = ap (λ l. v.items ∷ l) (left_beyond rows place (omega (arith, beyond)))
+left_beyond (v ∷ rows) (suc place) beyond = ap (λ l. list_of v ∷ l) (left_beyond rows place (omega (arith, beyond)))
 
 no_lasts : {X : Type 0} (count : ℕ) → lasts {X = X} count [] ≡ []
 no_lasts zero = refl
@@ -71,3 +71,10 @@ fronts_step place next left more rows is one =
     let next_is : next ≡ suc place = omega (arith, is) in
     let more_is : more ≡ suc left = omega (arith, one) in
     rw (next_is, more_is) (sym (fronts_at place left rows))
+
+-- the last members of rows that have one each
+pub lasts_ones : {X : Type 0} (count : ℕ) (list : List X) → count ≡ length list → lasts count (members (map One list)) ≡ list
+lasts_ones zero [] is = refl
+lasts_ones (suc count) [] is = absurd (omega (arith, is))
+lasts_ones zero (x ∷ xs) is = absurd (omega (arith, is))
+lasts_ones (suc count) (x ∷ xs) is = ap (λ rest. x ∷ rest) (lasts_ones count xs (omega (arith, is)))

@@ -1,7 +1,5 @@
 -- The context of a batch of the structures of one kind, and what they have served at its end.
 use Rattle.std.specs.Prelude.{◌≡◌, ℕ, false, List, [], length, map}
-use Rattle.std.specs.declared.vec.Vec.{Vec}
-use Rattle.std.specs.declared.alloc.Global.{Global}
 use Rattle.key_sets.specs.Keys.{has}
 use Rattle.seq_objects.specs.declared.call.Call.{Call}
 use Rattle.seq_objects.specs.declared.reply.Reply.{Reply}
@@ -9,6 +7,7 @@ use Rattle.seq_objects.specs.Objects.{Objects}
 use Rattle.seq_objects.specs.Stores.{Store, store_after_all, store_replies}
 use Rattle.seq_objects.specs.Batches.{calls_at}
 use Rattle.seq_objects.specs.Pieces.{AllMeet, BatchContext}
+use Rattle.object_rows.specs.declared.members.Members.{Members}
 use Rattle.object_rows.specs.declared.row.Called.{Called}
 use Rattle.object_rows.specs.declared.row.Row.{Row}
 use Rattle.object_rows.specs.Numbers.{numbers_of}
@@ -17,7 +16,7 @@ use Rattle.object_rows.specs.Contents.{store_of}
 
 -- the context of a batch: the contents before it, its calls, and the pieces of each place
 abbrev pub RowContext : Type 0 → Type 0
-RowContext In = BatchContext Store (Vec In Global)
+RowContext In = BatchContext Store (Members In)
 
 -- the open structure had the content of its number, and belongs to a batch of its number's calls with these pieces
 pub record IsOpenFor {T R In : Type 0} (content : T → Objects) (is_context_of : R → BatchContext T In → Type 0)

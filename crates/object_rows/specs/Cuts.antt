@@ -1,12 +1,11 @@
 -- The pieces that the calls of each number are cut into.
 use Rattle.std.specs.Prelude.{◌≡◌, ℕ, max, List, [], ◌∷◌, length}
-use Rattle.std.specs.declared.vec.Vec.{Vec}
-use Rattle.std.specs.declared.alloc.Global.{Global}
 use Rattle.seq_objects.specs.declared.call.Call.{Call}
 use Rattle.seq_objects.specs.Objects.{Objects}
 use Rattle.seq_objects.specs.Stores.{Store}
 use Rattle.seq_objects.specs.Batches.{calls_at}
 use Rattle.seq_objects.specs.Pieces.{AllMeet}
+use Rattle.object_rows.specs.declared.members.Members.{Members}
 use Rattle.object_rows.specs.Numbers.{numbers_of}
 
 -- the length of the longest list; 0 without lists
@@ -16,7 +15,7 @@ longest (list ∷ lists) = max (length list) (longest lists)
 
 -- the calls of each number are cut into pieces, and there are as many places as the most pieces of a number
 pub record AreCut {In : Type 0} (cut : Objects → List Call → List In → Type 0) (store : Store) (calls : List Call)
-    (ins : List (Vec In Global)) : Type 0 where
+    (ins : List (Members In)) : Type 0 where
   pub lists : List (List In)
   pub each : AllMeet (λ number list. cut (store number) (calls_at number calls) list) (numbers_of calls) lists
   pub count : length ins ≡ longest lists

@@ -13,6 +13,7 @@ ghost use Rattle.object_rows.specs.Code.Closing.{ClosesOne};
 use crate::by_number::ByNumber;
 use crate::replies::{empty_replies, put_own};
 use crate::row::{Called, Row};
+use crate::row_list::RowList;
 use crate::rows::take_lasts;
 use seq_objects::{Batched, Call, Reply};
 use std::alloc::{AllocError, Global};
@@ -36,13 +37,34 @@ fn close_one<T: Batched>(
     Ok(replies)
 }
 
+/// Closes the only structure that a batch has opened, with the outs of each place, and returns the replies to its calls.
+fn close_only<T: Batched>(
+    alloc: Global,
+    row: &mut Row<T, T::Rest>,
+    outs: RowList<T::Out>,
+) -> Result<Vec<Reply>, AllocError>
+    requires one { length row.old.called.items ≡ 1 }
+    requires met { (o : RowContext T.In) × IsRowContextOf T.content T.is_context_of row.old o
+        × AllMeet (MembersMeet T.meets) o.ins outs.items }
+    ensures { IfOk result (λ v. (o : RowContext T.In) → IsRowContextOf T.content T.is_context_of row.old o
+        → AllMeet (MembersMeet T.meets) o.ins outs.items
+        → HasServed T.content row.new o.before o.calls v.items) }
+{
+    let Some(called) = row.called.pop() else {
+        unreachable!()
+    };
+    let own = outs.into_lasts(alloc, called.count)?;
+    let told = close_one(alloc, &mut row.closed, called, own)?;
+    Ok(told)
+}
+
 /// Closes the structures that a batch of these calls has opened, with the outs of each place, and returns the replies
 /// in the order of the calls.
 pub fn close_row<T: Batched>(
     alloc: Global,
     row: &mut Row<T, T::Rest>,
     calls: &[Call],
-    outs: Vec<Vec<T::Out>>,
+    outs: RowList<T::Out>,
 ) -> Result<Vec<Reply>, AllocError>
     requires met { (o : RowContext T.In) × IsRowContextOf T.content T.is_context_of row.old o × (o.calls ≡ calls.now)
         × AllMeet (MembersMeet T.meets) o.ins outs.items }
@@ -50,11 +72,15 @@ pub fn close_row<T: Batched>(
         → o.calls ≡ calls.now → AllMeet (MembersMeet T.meets) o.ins outs.items
         → HasServed T.content row.new o.before o.calls v.items) }
 {
-    let mut outs = outs;
+    if row.called.len() == 1 {
+        let only = close_only(alloc, row, outs)?;
+        return Ok(only);
+    }
+    let mut rows = outs.into_rows(alloc)?;
     let mut replies = empty_replies(alloc, calls)?;
     while let Some(called) = row.called.pop() {
         let number = called.number;
-        let own = take_lasts(alloc, &mut outs, called.count)?;
+        let own = take_lasts(alloc, &mut rows, called.count)?;
         let told = close_one(alloc, &mut row.closed, called, own)?;
         put_own(&mut replies, calls, number, &told);
     }

@@ -11,13 +11,17 @@ pub mod by_number;
 mod calls;
 pub mod close;
 pub mod fresh;
+pub mod members;
 mod numbers;
 pub mod open;
 mod replies;
 pub mod row;
+pub mod row_list;
 mod rows;
 pub mod run;
 
 pub use by_number::ByNumber;
 pub use fresh::Fresh;
+pub use members::Members;
 pub use row::{Called, Row};
+pub use row_list::RowList;

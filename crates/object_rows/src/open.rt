@@ -1,5 +1,6 @@
 //! Opens the structures that a batch calls.
-ghost use Rattle.std.specs.Prelude.{◌≡◌, ◌==◌, ◌≤◌, ◌<◌, ℕ, [], length, None, if◌then◌else◌, IfOk};
+ghost use Rattle.std.specs.Prelude.{◌≡◌, ◌==◌, ◌≤◌, ◌<◌, ℕ, [], List, length, None, if◌then◌else◌, IfOk};
+ghost use Rattle.seq_objects.specs.declared.call.Call.{Call as CallOf};
 ghost use Rattle.seq_objects.specs.Batches.{AreOneBatch, calls_at};
 ghost use Rattle.object_rows.specs.Contents.{structure_at, store_of};
 ghost use Rattle.object_rows.specs.Contexts.{IsRowContextOf};
@@ -7,10 +8,11 @@ ghost use Rattle.object_rows.specs.Code.Opening.{OpensOne};
 ghost use Rattle.object_rows.specs.Cuts.{AreCut};
 
 use crate::by_number::ByNumber;
-use crate::calls::calls_at;
+use crate::calls::{are_all_at, find_calls};
 use crate::fresh::Fresh;
 use crate::numbers::numbers_of;
 use crate::row::{Called, Row};
+use crate::row_list::RowList;
 use crate::rows::add_to_rows;
 use seq_objects::{Batched, Call};
 use std::alloc::{AllocError, Global};
@@ -31,12 +33,39 @@ fn taken_or_fresh<T: Batched, F: Fresh<T>>(
     }
 }
 
-/// Opens the structure of one number for its calls, and returns its pieces.
+/// Opens the structure of one number for calls that are all its own, and returns its pieces.
 fn open_one<T: Batched, F: Fresh<T>>(
     alloc: Global,
     row: &mut Row<T, T::Rest>,
     number: u32,
+    own: &[Call],
+) -> Result<Vec<T::In>, AllocError>
+    requires batch { AreOneBatch own.now }
+    requires one { calls_at number own.now ≡ own.now }
+    requires may { T.may_serve (store_of T.content row.old.closed number) own.now }
+    ensures count { IfOk result (λ v. (1 ≤ length v.items) × (length v.items ≤ T.MOST)) }
+    ensures cut { IfOk result (λ v. T.cut (store_of T.content row.old.closed number) own.now v.items) }
+    ensures opens { IfOk result (λ v. (calls : List CallOf) → calls_at number calls ≡ own.now
+        → OpensOne T.content T.is_context_of row.old row.new number calls v.items) }
+{
+    let structure = taken_or_fresh::<T, F>(alloc, &mut row.closed, number)?;
+    let (rest, ins) = structure.begin(alloc, own)?;
+    row.called.push(Called {
+        number,
+        count: ins.len(),
+        rest,
+    })?;
+    Ok(ins)
+}
+
+/// Opens the structure of one number for its calls among those of several, and returns its pieces. Its calls replace
+/// the content of `own`.
+fn open_among<T: Batched, F: Fresh<T>>(
+    alloc: Global,
+    row: &mut Row<T, T::Rest>,
+    number: u32,
     calls: &[Call],
+    own: &mut Vec<Call>,
 ) -> Result<Vec<T::In>, AllocError>
     requires batch { AreOneBatch calls.now }
     requires some { 0 < length (calls_at number calls.now) }
@@ -47,15 +76,8 @@ fn open_one<T: Batched, F: Fresh<T>>(
     ensures opens { IfOk result (λ v.
         OpensOne T.content T.is_context_of row.old row.new number calls.now v.items) }
 {
-    let mut own = Vec::new(alloc);
-    let calls = calls_at(calls, number, &mut own)?;
-    let structure = taken_or_fresh::<T, F>(alloc, &mut row.closed, number)?;
-    let (rest, ins) = structure.begin(alloc, calls)?;
-    row.called.push(Called {
-        number,
-        count: ins.len(),
-        rest,
-    })?;
+    find_calls(calls, number, own)?;
+    let ins = open_one::<T, F>(alloc, row, number, own.as_slice())?;
     Ok(ins)
 }
 
@@ -65,7 +87,7 @@ pub fn open_row<T: Batched, F: Fresh<T>>(
     alloc: Global,
     row: &mut Row<T, T::Rest>,
     calls: &[Call],
-) -> Result<Vec<Vec<T::In>>, AllocError>
+) -> Result<RowList<T::In>, AllocError>
     requires batch { 0 < length calls.now → AreOneBatch calls.now }
     requires closed { row.old.called.items ≡ [] }
     requires may { (number : ℕ) → T.may_serve (store_of T.content row.old.closed number) (calls_at number calls.now) }
@@ -75,14 +97,20 @@ pub fn open_row<T: Batched, F: Fresh<T>>(
     ensures context { IfOk result (λ v. IsRowContextOf T.content T.is_context_of row.new
         (record { before = store_of T.content row.old.closed; calls = calls.now; ins = v.items })) }
 {
-    let mut rows = Vec::new(alloc);
     if calls.is_empty() {
-        return Ok(rows);
+        return Ok(RowList::new(alloc));
+    }
+    let first = calls[0].op.number();
+    if are_all_at(calls, first) {
+        let pieces = open_one::<T, F>(alloc, row, first, calls)?;
+        return Ok(RowList::of_ones(alloc, pieces));
     }
     let numbers = numbers_of(alloc, calls)?;
+    let mut own = Vec::with_capacity(alloc, calls.len())?;
+    let mut rows = Vec::new(alloc);
     for place in 0..numbers.len() {
-        let ins = open_one::<T, F>(alloc, row, numbers[place], calls)?;
+        let ins = open_among::<T, F>(alloc, row, numbers[place], calls, &mut own)?;
         add_to_rows(alloc, &mut rows, ins)?;
     }
-    Ok(rows)
+    Ok(RowList::of_rows(alloc, rows))
 }

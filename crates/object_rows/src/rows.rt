@@ -4,12 +4,13 @@ ghost use Rattle.object_rows.specs.Rows.{members, added};
 ghost use Rattle.object_rows.specs.Code.Members.{with_member};
 ghost use Rattle.object_rows.specs.Code.Lasts.{lasts, fronts, last_at, without_last};
 
+use crate::members::{Members, pop_member, push_member};
 use std::alloc::{AllocError, Global};
 
 /// Puts a member at the end of the row at `place`, or into a row of its own behind the last.
 fn put_member<X: Drop>(
     alloc: Global,
-    rows: &mut Vec<Vec<X>>,
+    rows: &mut Vec<Members<X>>,
     place: usize,
     member: X,
 ) -> Result<(), AllocError>
@@ -18,11 +19,9 @@ fn put_member<X: Drop>(
 {
     if place < rows.len() {
         let row = &mut rows[place];
-        row.push(member)?;
+        push_member(alloc, row, member)?;
     } else {
-        let mut row = Vec::new(alloc);
-        row.push(member)?;
-        rows.push(row)?;
+        rows.push(Members::One(member))?;
     }
     Ok(())
 }
@@ -30,7 +29,7 @@ fn put_member<X: Drop>(
 /// Puts the members of a list into rows, each at the end of the row at its place.
 pub(crate) fn add_to_rows<X: Drop>(
     alloc: Global,
-    rows: &mut Vec<Vec<X>>,
+    rows: &mut Vec<Members<X>>,
     list: Vec<X>,
 ) -> Result<(), AllocError>
     ensures { OnOk result (members rows.new.items ≡ added (members rows.old.items) list.items) }
@@ -44,13 +43,13 @@ pub(crate) fn add_to_rows<X: Drop>(
 }
 
 /// Takes the last member out of the row at `place`, if there is one.
-fn take_last<X: Drop>(rows: &mut Vec<Vec<X>>, place: usize) -> Option<X>
+fn take_last<X: Drop>(alloc: Global, rows: &mut Vec<Members<X>>, place: usize) -> Option<X>
     ensures taken { option_to_list result ≡ last_at place (members rows.old.items) }
     ensures left { members rows.new.items ≡ without_last place (members rows.old.items) }
 {
     if place < rows.len() {
         let row = &mut rows[place];
-        row.pop()
+        pop_member(alloc, row)
     } else {
         None
     }
@@ -69,7 +68,7 @@ fn push_some<X: Drop>(taken: &mut Vec<X>, member: Option<X>) -> Result<(), Alloc
 /// Takes the last member out of each of the first `count` rows.
 pub(crate) fn take_lasts<X: Drop>(
     alloc: Global,
-    rows: &mut Vec<Vec<X>>,
+    rows: &mut Vec<Members<X>>,
     count: usize,
 ) -> Result<Vec<X>, AllocError>
     ensures taken { IfOk result (λ v. v.items ≡ lasts count (members rows.old.items)) }
@@ -77,7 +76,7 @@ pub(crate) fn take_lasts<X: Drop>(
 {
     let mut taken = Vec::with_capacity(alloc, count)?;
     for place in 0..count {
-        let last = take_last(rows, place);
+        let last = take_last(alloc, rows, place);
         push_some(&mut taken, last)?;
     }
     Ok(taken)

@@ -1,6 +1,6 @@
 use Rattle.std.proofs.Common.{◌≡◌, length}
 use Rattle.seq_objects.specs.Pieces.{AllMeet}
-use Rattle.object_rows.specs.Rows.{MembersMeet}
+use Rattle.object_rows.specs.Rows.{members, MembersMeet}
 use Rattle.object_rows.specs.Contexts.{RowContext, IsRowContextOf}
 use Rattle.object_rows.proofs.Closing.{AreClosing}
 use Rattle.object_rows.proofs.close.close_row.Given as goal
@@ -9,8 +9,8 @@ use Rattle.object_rows.proofs.close.close_row.Given as goal
 abbrev pub invariant-loop-called : goal.invariant-loop-called
 invariant-loop-called g l =
     (o : RowContext g.row.T-In.Denot) → IsRowContextOf g.T.Batched.content g.T.Batched.is_context_of l.initial.row o → o.calls ≡ l.calls
-    → AllMeet (MembersMeet g.T.Batched.meets) o.ins l.initial.outs.items
-    → AreClosing g.T.Batched.content g.T.Batched.is_context_of g.T.Batched.meets o l.row l.outs.items l.replies.items
+    → AllMeet (MembersMeet g.T.Batched.meets) o.ins l.initial.rows.items
+    → AreClosing g.T.Batched.content g.T.Batched.is_context_of g.T.Batched.meets o l.row (members l.rows.items) l.replies.items
 
 abbrev pub decreases-loop-called : goal.decreases-loop-called
 decreases-loop-called g l = length l.row.called.items

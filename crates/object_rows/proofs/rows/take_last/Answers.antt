@@ -1,21 +1,15 @@
-use Rattle.std.proofs.Common.{◌≡◌, None, IsSome, [], subst, arith}
-use Rattle.std.proofs.lemmas.Bool.{false≢true}
-use Rattle.object_rows.proofs.ListLemmas.{no_members}
+use Rattle.std.proofs.Common.{arith}
 use Rattle.object_rows.proofs.Taking.{taken_there, left_there, taken_beyond, left_beyond}
 use Rattle.object_rows.proofs.rows.take_last.Goals as goal
 
 pub returns-then-place-len-clause-taken : goal.returns-then-place-len-clause-taken
 returns-then-place-len-clause-taken g c =
-    let row = c.index_mut-row.result.now in
-    let none : c.pop.result ≡ None → row.items ≡ [] = λ is. no_members row.items (λ some. false≢true (subst IsSome is (c.pop.ensures.variant.1 (let all = row.ok.0 in omega (arith, some, all))))) in
-    taken_there c.pop.result row c.pop.new.self c.pop.ensures.items none c.args.rows.now.items c.args.place
+    taken_there c.pop_member.result c.index_mut-row.result.now c.pop_member.new.members c.pop_member.ensures.taken c.pop_member.ensures.left c.args.rows.now.items c.args.place
     (let len = c.len.ensures in let all = c.args.rows.now.ok.0 in omega (arith, c.if-place-len.true, len, all)) c.index_mut-row.ensures.value
 
 pub returns-then-place-len-clause-left : goal.returns-then-place-len-clause-left
 returns-then-place-len-clause-left g c =
-    let row = c.index_mut-row.result.now in
-    let none : c.pop.result ≡ None → row.items ≡ [] = λ is. no_members row.items (λ some. false≢true (subst IsSome is (c.pop.ensures.variant.1 (let all = row.ok.0 in omega (arith, some, all))))) in
-    left_there c.pop.result row c.pop.new.self c.pop.ensures.items none c.args.rows.now.items c.args.place
+    left_there c.pop_member.result c.index_mut-row.result.now c.pop_member.new.members c.pop_member.ensures.taken c.pop_member.ensures.left c.args.rows.now.items c.args.place
     (let len = c.len.ensures in let all = c.args.rows.now.ok.0 in omega (arith, c.if-place-len.true, len, all)) c.index_mut-row.ensures.value
 
 pub returns-else-place-len-clause-taken : goal.returns-else-place-len-clause-taken

@@ -1,7 +1,5 @@
 -- Re-exports the names that most lemmas use: calls, batches and books, pieces and outs, and the objects.
 pub use Rattle.std.specs.List.{AllByRecursion}
-pub use Rattle.std.specs.declared.vec.Vec.{Vec}
-pub use Rattle.std.specs.declared.alloc.Global.{Global}
 pub use Rattle.seq_objects.specs.declared.call.Call.{Call}
 pub use Rattle.seq_objects.specs.declared.reply.Reply.{Reply}
 pub use Rattle.seq_objects.specs.Objects.{Objects, opening, after, reply_to, argument_of, number_of}
@@ -14,6 +12,7 @@ pub use Rattle.batched_counter.specs.declared.piece.Piece.{Piece as CounterPiece
 pub use Rattle.batched_stack.specs.declared.piece.Piece.{Piece as StackPiece}
 pub use Rattle.batched_tree.specs.declared.piece.Piece.{Piece as TreePiece}
 pub use Rattle.batched_pq.specs.declared.piece.Piece.{Piece as QueuePiece}
+pub use Rattle.object_rows.specs.declared.members.Members.{Members}
 pub use Rattle.batch_history.specs.declared.batch.Entry.{Entry}
 pub use Rattle.batch_history.specs.Book.{flat, IsLegalFrom, IsBatch, IsHistory}
 pub use Rattle.batch_history.specs.Serving.{served, served_book, call_in, calls_in, replies_in}

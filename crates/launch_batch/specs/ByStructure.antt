@@ -1,7 +1,5 @@
 -- The pieces and the outs of a batch, selected by structure.
 use Rattle.std.specs.Prelude.{ℕ, ◌+◌, Option, Some, None, List, [], ◌∷◌, filter_map}
-use Rattle.std.specs.declared.vec.Vec.{Vec}
-use Rattle.std.specs.declared.alloc.Global.{Global}
 use Rattle.seq_objects.specs.Batches.{ObjectKind, calls_of}
 use Rattle.seq_objects.specs.declared.call.Call.{Call}
 use Rattle.batched_counter.specs.declared.piece.Piece.{Piece as CounterPiece}
@@ -12,6 +10,7 @@ use Rattle.batched_tree.specs.declared.piece.Piece.{Piece as TreePiece}
 use Rattle.batched_tree.specs.declared.piece.Served.{Served as TreeServed}
 use Rattle.batched_pq.specs.declared.piece.Piece.{Piece as QueuePiece}
 use Rattle.batched_pq.specs.Shards.{ShardView}
+use Rattle.object_rows.specs.declared.members.Members.{Members}
 use Rattle.object_rows.specs.Contexts.{RowContext}
 use Rattle.batch_history.specs.declared.batch.Entry.{Entry}
 use Rattle.batch_history.specs.Serving.{served_book}
@@ -27,41 +26,41 @@ placed make place [] = []
 placed make place (input ∷ ins) = make place input ∷ placed make (place + 1) ins
 
 -- the pieces of a kind at one place, if these are
-abbrev pub counter_piece : PieceIn → Option (Vec CounterPiece Global)
+abbrev pub counter_piece : PieceIn → Option (Members CounterPiece)
 counter_piece (piece.Counter place ins) = Some ins
 counter_piece _ = None
 
-abbrev pub stack_piece : PieceIn → Option (Vec StackPiece Global)
+abbrev pub stack_piece : PieceIn → Option (Members StackPiece)
 stack_piece (piece.Stack place ins) = Some ins
 stack_piece _ = None
 
-abbrev pub tree_piece : PieceIn → Option (Vec TreePiece Global)
+abbrev pub tree_piece : PieceIn → Option (Members TreePiece)
 tree_piece (piece.Tree place ins) = Some ins
 tree_piece _ = None
 
-abbrev pub queue_piece : PieceIn → Option (Vec QueuePiece Global)
+abbrev pub queue_piece : PieceIn → Option (Members QueuePiece)
 queue_piece (piece.Queue place ins) = Some ins
 queue_piece _ = None
 
 -- the outs of a kind at one place, if these are
-abbrev pub counter_out : PieceOut → Option (Vec CounterServed Global)
+abbrev pub counter_out : PieceOut → Option (Members CounterServed)
 counter_out (done.Counter outs) = Some outs
 counter_out _ = None
 
-abbrev pub stack_out : PieceOut → Option (Vec StackServed Global)
+abbrev pub stack_out : PieceOut → Option (Members StackServed)
 stack_out (done.Stack outs) = Some outs
 stack_out _ = None
 
-abbrev pub tree_out : PieceOut → Option (Vec TreeServed Global)
+abbrev pub tree_out : PieceOut → Option (Members TreeServed)
 tree_out (done.Tree outs) = Some outs
 tree_out _ = None
 
-abbrev pub queue_out : PieceOut → Option (Vec ShardView Global)
+abbrev pub queue_out : PieceOut → Option (Members ShardView)
 queue_out (done.Queue outs) = Some outs
 queue_out _ = None
 
 -- one kind's part of a batch: the contents after the book, its calls, and its pieces, which `own` selects
-abbrev pub part : {In : Type 0} → ObjectKind → (PieceIn → Option (Vec In Global)) → List (List Entry) → List Call → List PieceIn
+abbrev pub part : {In : Type 0} → ObjectKind → (PieceIn → Option (Members In)) → List (List Entry) → List Call → List PieceIn
     → RowContext In
 part kind own book calls ins =
     record { before = store_of_kind kind (served_book book); calls = calls_of kind calls; ins = filter_map own ins }

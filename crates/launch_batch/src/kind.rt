@@ -1,8 +1,7 @@
 //! The four kinds of structures: which operations are their own, and their pieces among those of a batch.
 ghost use Rattle.std.specs.Prelude.{◌≡◌, ℕ, IfOk};
 ghost use Rattle.seq_objects.specs.Objects.{opening};
-ghost use Rattle.std.specs.declared.vec.Vec.{Vec as VecOf};
-ghost use Rattle.std.specs.declared.alloc.Global.{Global as GlobalOf};
+ghost use Rattle.object_rows.specs.declared.members.Members.{Members as MembersOf};
 ghost use Rattle.seq_objects.specs.Batches as objects;
 ghost use Rattle.seq_objects.specs.Batches.{ObjectKind, kind_of, same_kind};
 ghost use Rattle.launch_batch.specs.declared.piece.PieceIn.{PieceIn as Input};
@@ -13,7 +12,7 @@ use batched_counter::Counter;
 use batched_pq::Queue;
 use batched_stack::Stack;
 use batched_tree::TreeSet;
-use object_rows::Fresh;
+use object_rows::{Fresh, Members};
 use seq_objects::{Batched, Op};
 use std::alloc::{AllocError, Global};
 
@@ -23,7 +22,7 @@ pub(crate) trait Kind: Batched {
     ghost kind: { ObjectKind };
 
     /// `at`, for contracts.
-    ghost at: { ℕ → VecOf Self.In GlobalOf → Input };
+    ghost at: { ℕ → MembersOf Self.In → Input };
 
     /// A structure with the opening content.
     fn fresh(alloc: Global) -> Result<Self, AllocError>
@@ -34,7 +33,7 @@ pub(crate) trait Kind: Batched {
         ensures { result ≡ same_kind kind (kind_of op) };
 
     /// Its pieces at this place as a piece of the batch.
-    fn at(place: u32, ins: Vec<Self::In>) -> PieceIn
+    fn at(place: u32, ins: Members<Self::In>) -> PieceIn
         ensures { result ≡ at place ins };
 }
 
@@ -60,7 +59,7 @@ impl Kind for Counter {
         matches!(op, Op::CounterAdd(..))
     }
 
-    fn at(place: u32, ins: Vec<Self::In>) -> PieceIn
+    fn at(place: u32, ins: Members<Self::In>) -> PieceIn
         ensures { result ≡ piece.Counter place ins }
     {
         PieceIn::Counter(place, ins)
@@ -80,7 +79,7 @@ impl Kind for Stack {
         matches!(op, Op::Push(..) | Op::Pop(_))
     }
 
-    fn at(place: u32, ins: Vec<Self::In>) -> PieceIn
+    fn at(place: u32, ins: Members<Self::In>) -> PieceIn
         ensures { result ≡ piece.Stack place ins }
     {
         PieceIn::Stack(place, ins)
@@ -103,7 +102,7 @@ impl Kind for TreeSet {
         )
     }
 
-    fn at(place: u32, ins: Vec<Self::In>) -> PieceIn
+    fn at(place: u32, ins: Members<Self::In>) -> PieceIn
         ensures { result ≡ piece.Tree place ins }
     {
         PieceIn::Tree(place, ins)
@@ -123,7 +122,7 @@ impl Kind for Queue {
         matches!(op, Op::PqInsert(..) | Op::PqTake(_))
     }
 
-    fn at(place: u32, ins: Vec<Self::In>) -> PieceIn
+    fn at(place: u32, ins: Members<Self::In>) -> PieceIn
         ensures { result ≡ piece.Queue place ins }
     {
         PieceIn::Queue(place, ins)

@@ -6,6 +6,7 @@ use batched_counter::{Counter, Piece as CounterPiece, Served as CounterServed};
 use batched_pq::{Piece as QueuePiece, Queue, Served as QueueServed};
 use batched_stack::{Piece as StackPiece, Served as StackServed, Stack};
 use batched_tree::{Piece as TreePiece, Served as TreeServed, TreeSet};
+use object_rows::Members;
 use object_rows::run::run_all;
 use std::alloc::{AllocError, Global};
 
@@ -13,19 +14,19 @@ use std::alloc::{AllocError, Global};
 /// owns all its data and is `Send`.
 #[derive(Drop)]
 pub enum PieceIn {
-    Counter(u32, Vec<CounterPiece>),
-    Stack(u32, Vec<StackPiece>),
-    Tree(u32, Vec<TreePiece>),
-    Queue(u32, Vec<QueuePiece>),
+    Counter(u32, Members<CounterPiece>),
+    Stack(u32, Members<StackPiece>),
+    Tree(u32, Members<TreePiece>),
+    Queue(u32, Members<QueuePiece>),
 }
 
 /// The outputs of a piece, one for each of its inputs. It is `Send`.
 #[derive(Drop)]
 pub enum PieceOut {
-    Counter(Vec<CounterServed>),
-    Stack(Vec<StackServed>),
-    Tree(Vec<TreeServed>),
-    Queue(Vec<QueueServed>),
+    Counter(Members<CounterServed>),
+    Stack(Members<StackServed>),
+    Tree(Members<TreeServed>),
+    Queue(Members<QueueServed>),
 }
 
 impl PieceIn {

@@ -8,15 +8,16 @@ use batched_counter::{Counter, Piece as CounterPiece};
 use batched_pq::{Piece as QueuePiece, Queue};
 use batched_stack::{Piece as StackPiece, Stack};
 use batched_tree::{Piece as TreePiece, TreeSet};
+use object_rows::RowList;
 use std::alloc::{AllocError, Global};
 
 /// The pieces of the four kinds, in ascending order of place.
 pub(crate) fn pieces_of(
     alloc: Global,
-    counter: Vec<Vec<CounterPiece>>,
-    stack: Vec<Vec<StackPiece>>,
-    tree: Vec<Vec<TreePiece>>,
-    queue: Vec<Vec<QueuePiece>>,
+    counter: RowList<CounterPiece>,
+    stack: RowList<StackPiece>,
+    tree: RowList<TreePiece>,
+    queue: RowList<QueuePiece>,
 ) -> Result<Vec<PieceIn>, AllocError>
     requires counter { length counter.items ≤ 16 }
     requires stack { length stack.items ≤ 16 }

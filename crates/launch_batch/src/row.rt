@@ -1,7 +1,8 @@
 //! The structures of one kind, which share a row of places.
-ghost use Rattle.std.specs.Prelude.{◌≡◌, ◌+◌, ◌^◌, ◌<◌, ◌≤◌, ◌++◌, ℕ, [], length, true, IfOk, OnOk};
+ghost use Rattle.std.specs.Prelude.{◌≡◌, ◌+◌, ◌^◌, ◌<◌, ◌≤◌, ◌++◌, ℕ, [], length, map, true, IfOk, OnOk};
 ghost use Rattle.seq_objects.specs.Batches.{AreOneBatch, calls_of, calls_at};
 ghost use Rattle.seq_objects.specs.Pieces.{AllMeet};
+ghost use Rattle.object_rows.specs.declared.members.Members.TheVariants.{One as OneOf};
 ghost use Rattle.object_rows.specs.Rows.{MembersMeet};
 ghost use Rattle.object_rows.specs.Contents.{store_of};
 ghost use Rattle.object_rows.specs.Cuts.{AreCut};
@@ -11,9 +12,9 @@ ghost use Rattle.launch_batch.specs.ByStructure.{placed};
 use crate::kind::{Kind, Maker};
 use crate::merge::ReplyCursor;
 use crate::piece::PieceIn;
-use object_rows::Row;
 use object_rows::close::close_row;
 use object_rows::open::open_row;
+use object_rows::{Members, Row, RowList};
 use seq_objects::{Batched, Call};
 use std::alloc::{AllocError, Global};
 
@@ -47,6 +48,9 @@ fn calls_of<'a, T: Kind>(
     for place in 0..calls.len() {
         let call = calls[place];
         if T::has(call.op) {
+            if own.is_empty() {
+                own.reserve_exact(calls.len() - place)?;
+            }
             own.push(call)?;
         }
     }
@@ -58,7 +62,7 @@ pub(crate) fn open<T: Kind>(
     alloc: Global,
     row: &mut RowOf<T>,
     calls: &[Call],
-) -> Result<Vec<Vec<T::In>>, AllocError>
+) -> Result<RowList<T::In>, AllocError>
     requires batch { AreOneBatch calls.now }
     requires closed { row.old.called.items ≡ [] }
     requires may { (number : ℕ)
@@ -75,10 +79,28 @@ pub(crate) fn open<T: Kind>(
     open_row::<T, Maker>(alloc, row, calls)
 }
 
-/// Appends the pieces of a row, at consecutive places from `first` on.
-pub(crate) fn place<T: Kind>(
+/// Appends pieces of one input each, at consecutive places from `first` on, and returns the place behind them.
+fn place_ones<T: Kind>(
     pieces: &mut Vec<PieceIn>,
-    ins: Vec<Vec<T::In>>,
+    ones: Vec<T::In>,
+    first: u32,
+) -> Result<u32, AllocError>
+    requires { first + length ones.items < 2 ^ 32 }
+    ensures behind { IfOk result (λ place. place ≡ first + length ones.items) }
+    ensures pieces { OnOk result (pieces.new.items ≡ pieces.old.items ++ placed T.at first (map OneOf ones.items)) }
+{
+    let mut place = first;
+    for input in ones {
+        pieces.push(T::at(place, Members::One(input)))?;
+        place += 1;
+    }
+    Ok(place)
+}
+
+/// Appends pieces at consecutive places from `first` on.
+fn place_others<T: Kind>(
+    pieces: &mut Vec<PieceIn>,
+    ins: Vec<Members<T::In>>,
     first: u32,
 ) -> Result<(), AllocError>
     requires { first + length ins.items < 2 ^ 32 }
@@ -92,13 +114,28 @@ pub(crate) fn place<T: Kind>(
     Ok(())
 }
 
+/// Appends the pieces of a row, at consecutive places from `first` on.
+pub(crate) fn place<T: Kind>(
+    pieces: &mut Vec<PieceIn>,
+    ins: RowList<T::In>,
+    first: u32,
+) -> Result<(), AllocError>
+    requires { first + length ins.items < 2 ^ 32 }
+    ensures { OnOk result (pieces.new.items ≡ pieces.old.items ++ placed T.at first ins.items) }
+{
+    let (ones, others) = ins.into_parts();
+    let behind = place_ones::<T>(pieces, ones, first)?;
+    place_others::<T>(pieces, others, behind)?;
+    Ok(())
+}
+
 /// Closes the structures of a row that a batch has called, with the outs of each place, and returns the replies to its
 /// calls.
 pub(crate) fn close<T: Kind>(
     alloc: Global,
     row: &mut RowOf<T>,
     calls: &[Call],
-    outs: Vec<Vec<T::Out>>,
+    outs: RowList<T::Out>,
 ) -> Result<ReplyCursor, AllocError>
     requires met { (o : RowContext T.In) × IsRowContextOf T.content T.is_context_of row.old o
         × (o.calls ≡ calls_of T.kind calls.now) × AllMeet (MembersMeet T.meets) o.ins outs.items }

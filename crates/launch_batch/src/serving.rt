@@ -15,9 +15,10 @@ fn run_pieces(alloc: Global, pieces: Vec<PieceIn>) -> Result<Outs, AllocError>
     ensures { IfOk result (HaveMet pieces.items) }
 {
     let mut all = Outs::new(alloc);
+    let room = pieces.len();
     for piece in pieces {
         let out = run_piece(alloc, piece)?;
-        all.put(out)?;
+        all.put(out, room)?;
     }
     Ok(all)
 }

@@ -1,6 +1,6 @@
 -- The facts at the opening of a batch.
 use Rattle.std.proofs.Common.{ℕ, ◌≡◌, ◌==◌, ◌≤◌, ◌<◌, ◌+◌, ◌*◌, ◌^◌, List, [], length, map, None, refl, ap, sym, subst, ◌∙◌, arith}
-use Rattle.launch_batch.proofs.Words.{AllByRecursion, Call, number_of, AreDistinct, ObjectKind, Counter, Stack, Tree, Queue, AreInBatchOrder, AreOneBatch, kind_of, same_kind, calls_of, calls_at, of_counter, Entry, flat, MayServe, AreSame, IsNarrow, Vec, Global, Objects, opening, alone, served_book, BatchContext, store_of_kind, MatchesHistory}
+use Rattle.launch_batch.proofs.Words.{AllByRecursion, Call, number_of, AreDistinct, ObjectKind, Counter, Stack, Tree, Queue, AreInBatchOrder, AreOneBatch, kind_of, same_kind, calls_of, calls_at, of_counter, Entry, flat, MayServe, AreSame, IsNarrow, Members, Objects, opening, alone, served_book, BatchContext, store_of_kind, MatchesHistory}
 use Rattle.seq_objects.specs.Batches.{AreOf}
 use Rattle.seq_objects.proofs.Filters.{each_filter, are_of}
 use Rattle.object_rows.specs.declared.row.Row.{Row}
@@ -72,12 +72,12 @@ store_is : {T R : Type 0} (content : T → Objects) (kind : ObjectKind) (row : R
     → store_of content row.closed ≡ store_of_kind kind (served_book history)
 store_is content kind row history m = λ i number. m.contents number i
 
-pub cut_for : {T R In : Type 0} (content : T → Objects) (kind : ObjectKind) (cut : Objects → List Call → List In → Type 0) (row : Row T R) (history : List (List Entry)) (calls : List Call) (ins : List (Vec In Global))
+pub cut_for : {T R In : Type 0} (content : T → Objects) (kind : ObjectKind) (cut : Objects → List Call → List In → Type 0) (row : Row T R) (history : List (List Entry)) (calls : List Call) (ins : List (Members In))
     → MatchesHistory content kind row history → AreCut cut (store_of content row.closed) calls ins → AreCut cut (store_of_kind kind (served_book history)) calls ins
 cut_for content kind cut row history calls ins m is = subst (λ store. AreCut cut store calls ins) (store_is content kind row history m) is
 
 pub context_for : {T R In : Type 0} (content : T → Objects) (kind : ObjectKind) (is_context_of : R → BatchContext T In → Type 0) (row now : Row T R) (history : List (List Entry)) (calls : List Call)
-    (ins own : List (Vec In Global)) → MatchesHistory content kind row history → own ≡ ins
+    (ins own : List (Members In)) → MatchesHistory content kind row history → own ≡ ins
     → IsRowContextOf content is_context_of now (record { before = store_of content row.closed; calls = calls; ins = ins })
     → IsRowContextOf content is_context_of now (record { before = store_of_kind kind (served_book history); calls = calls; ins = own })
 context_for content kind is_context_of row now history calls ins own m are is =

@@ -1,7 +1,7 @@
 -- The places of the pieces are those of the batch.
 use Rattle.std.proofs.Common.{◌≡◌, ℕ, List, length, refl, ap, ◌∙◌}
 use Rattle.std.specs.List.{range_with_len}
-use Rattle.launch_batch.proofs.Words.{Vec, Global, Call, Objects, Store, Counter, Stack, Tree, Queue, calls_of, calls_at, CounterPiece, StackPiece, TreePiece, QueuePiece, Entry, served_book, store_of_kind}
+use Rattle.launch_batch.proofs.Words.{Members, Call, Objects, Store, Counter, Stack, Tree, Queue, calls_of, calls_at, CounterPiece, StackPiece, TreePiece, QueuePiece, Entry, served_book, store_of_kind}
 use Rattle.batched_counter.specs.Pieces.{Cut as CounterCut, piece_count as counter_count}
 use Rattle.batched_counter.proofs.PieceCount.{pieces_counted as counter_counted}
 use Rattle.batched_stack.specs.Pieces.{Cut as StackCut, piece_count as stack_count}
@@ -20,14 +20,14 @@ use Rattle.launch_batch.specs.Code.Rows.{four_rows}
 -- the places of one kind
 row_is : {In : Type 0} (cut : Objects → List Call → List In → Type 0) (count : Objects → List Call → ℕ)
     → ((objects : Objects) (calls : List Call) (ins : List In) → cut objects calls ins → length ins ≡ count objects calls)
-    → (first : ℕ) (store : Store) (calls : List Call) (ins : List (Vec In Global)) → AreCut cut store calls ins → range_with_len first (length ins) ≡ row first count store calls
+    → (first : ℕ) (store : Store) (calls : List Call) (ins : List (Members In)) → AreCut cut store calls ins → range_with_len first (length ins) ≡ row first count store calls
 row_is cut count counted first store calls ins is =
     ap (range_with_len first) (is.count ∙ longest_is (λ number. count (store number) (calls_at number calls)) calls is.lists
     (meets_so (λ number list. cut (store number) (calls_at number calls) list) (λ number list. length list ≡ count (store number) (calls_at number calls))
     (λ number list own. counted (store number) (calls_at number calls) list own) (numbers_of calls) is.lists is.each))
 
 pub rows_are : (book : List (List Entry)) (ordered : List Call)
-    (counter : List (Vec CounterPiece Global)) (stack : List (Vec StackPiece Global)) (tree : List (Vec TreePiece Global)) (queue : List (Vec QueuePiece Global))
+    (counter : List (Members CounterPiece)) (stack : List (Members StackPiece)) (tree : List (Members TreePiece)) (queue : List (Members QueuePiece))
     → AreCut CounterCut (store_of_kind Counter (served_book book)) (calls_of Counter ordered) counter → AreCut StackCut (store_of_kind Stack (served_book book)) (calls_of Stack ordered) stack
     → AreCut TreeCut (store_of_kind Tree (served_book book)) (calls_of Tree ordered) tree → AreCut QueueCut (store_of_kind Queue (served_book book)) (calls_of Queue ordered) queue
     → four_rows (length counter) (length stack) (length tree) (length queue) ≡ places book ordered

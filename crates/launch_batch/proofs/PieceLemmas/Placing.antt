@@ -13,6 +13,15 @@ pub put_more : {In : Type 0} (make : ℕ → In → PieceIn) (old now : List Pie
 put_more make old now place n xs x is at =
     ap (λ l. l ++ make n x ∷ []) is ∙ append_assoc old (placed make place xs) (make n x ∷ []) ∙ ap (λ l. old ++ l) (sym (placed_more make place n xs x at))
 
+-- pieces in two parts, the second behind the first
+placed_append : {In : Type 0} (make : ℕ → In → PieceIn) (place behind : ℕ) (xs ys : List In) → behind ≡ place + length xs → placed make place (xs ++ ys) ≡ placed make place xs ++ placed make behind ys
+placed_append make place behind [] ys is = let e : place ≡ behind = omega (arith, is) in ap (λ p. placed make p ys) e
+placed_append make place behind (x ∷ xs) ys is = ap (λ l. make place x ∷ l) (placed_append make (place + 1) behind xs ys (omega (arith, is)))
+
+pub placed_both : {In : Type 0} (make : ℕ → In → PieceIn) (before : List PieceIn) (place behind : ℕ) (xs ys : List In) → behind ≡ place + length xs
+    → (before ++ placed make place xs) ++ placed make behind ys ≡ before ++ placed make place (xs ++ ys)
+placed_both make before place behind xs ys is = append_assoc before (placed make place xs) (placed make behind ys) ∙ ap (λ l. before ++ l) (sym (placed_append make place behind xs ys is))
+
 -- their places
 pub places_placed : {In : Type 0} (make : ℕ → In → PieceIn) (place : ℕ) (xs : List In) → ((n : ℕ) (x : In) → place_of (make n x) ≡ n)
     → map place_of (placed make place xs) ≡ range_with_len place (length xs)

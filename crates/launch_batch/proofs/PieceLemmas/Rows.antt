@@ -2,7 +2,7 @@
 use Rattle.std.proofs.Common.{◌≡◌, ◌≤◌, ◌<◌, List, [], ◌++◌, length, map, refl, sym, subst, append-nil, append_assoc, ◌∙◌, arith, Option, filter_map}
 use Rattle.std.proofs.lemmas.List.{map-append}
 use Rattle.std.proofs.lemmas.List.Elements.{filter_map-append}
-use Rattle.launch_batch.proofs.Words.{AllByRecursion, Vec, Global, CounterPiece, StackPiece, TreePiece, QueuePiece, PieceIn, place_of, placed, counter_piece, stack_piece, tree_piece, queue_piece}
+use Rattle.launch_batch.proofs.Words.{AllByRecursion, Members, CounterPiece, StackPiece, TreePiece, QueuePiece, PieceIn, place_of, placed, counter_piece, stack_piece, tree_piece, queue_piece}
 use Rattle.launch_batch.specs.declared.piece.PieceIn.TheVariants as piece
 use Rattle.launch_batch.specs.Places.{IsInOwnRow}
 use Rattle.launch_batch.specs.Code.Rows.{four_rows, AreInRows}
@@ -11,7 +11,7 @@ use Rattle.launch_batch.proofs.ListLemmas.Elements.{each_unmapped}
 use Rattle.launch_batch.proofs.PieceLemmas.Placing.{each_placed, places_placed, all_own, none_own}
 use Rattle.launch_batch.proofs.PieceLemmas.Ascending.{IsRow, row_of_four}
 
-module _ (counter : List (Vec CounterPiece Global)) (stack : List (Vec StackPiece Global)) (tree : List (Vec TreePiece Global)) (queue : List (Vec QueuePiece Global)) where
+module _ (counter : List (Members CounterPiece)) (stack : List (Members StackPiece)) (tree : List (Members TreePiece)) (queue : List (Members QueuePiece)) where
   abbrev all : List PieceIn
   all = placed piece.Counter 0 counter ++ placed piece.Stack 16 stack ++ placed piece.Tree 32 tree ++ placed piece.Queue 48 queue
 

@@ -1,13 +1,25 @@
-use Rattle.std.proofs.Common.{arith, ◌∷◌, [], length-append}
-use Rattle.std.proofs.lemmas.Grind.{common_steps}
-use Rattle.launch_batch.proofs.PieceLemmas.Placing.{put_more}
+use Rattle.std.proofs.Common.{◌≡◌, ◌+◌, ◌++◌, length, map, ap, sym, ◌∙◌, arith, length-append}
+use Rattle.std.proofs.lemmas.List.{length-map}
+use Rattle.object_rows.specs.declared.members.Members.TheVariants.{One}
+use Rattle.launch_batch.proofs.PieceLemmas.Placing.{placed_both}
 use Rattle.launch_batch.proofs.row.place.Goals as goal
 
-pub loop-input-preserved : goal.loop-input-preserved
-loop-input-preserved g c =
-    let before = c.loop-input.invariant in
-    record {
-      put = rw (c.in_ok-push.ensures.items, c.at.ensures) (put_more g.T.Kind.at c.args.pieces.now.items c.loop-input.pieces.items _ c.loop-input.place c.loop-input.yielded c.in-Some.input before.put before.place);
-      place = omega (arith, before.place, length-append c.loop-input.yielded (c.in-Some.input ∷ []));
-      all = grind (arith, common_steps, c.in-Some.ensures.steps, before.all);
-    }
+pub place_ones-requires : goal.place_ones-requires
+place_ones-requires g c = λ lifetimes bounds.
+    let ones = c.into_parts-ones.result.0.items in
+    let all = ap length c.into_parts-ones.ensures ∙ length-append (map One ones) c.into_parts-ones.result.1.items in
+    let long = length-map ones One in
+    omega (arith, c.requires, all, long)
+
+pub place_others-requires : goal.place_others-requires
+place_others-requires g c = λ lifetimes bounds.
+    let ones = c.into_parts-ones.result.0.items in
+    let all = ap length c.into_parts-ones.ensures ∙ length-append (map One ones) c.into_parts-ones.result.1.items in
+    let long = length-map ones One in
+    omega (arith, c.requires, all, long, c.in_ok-behind.ensures.behind)
+
+pub returns : goal.returns
+returns g c =
+    let ones = c.into_parts-ones.result.0.items in
+    let behind = let long = length-map ones One in let is = c.in_ok-behind.ensures.behind in omega (arith, is, long) in
+    rw (c.in_ok-place_others.ensures, c.in_ok-behind.ensures.pieces, c.into_parts-ones.ensures) (placed_both g.T.Kind.at c.args.pieces.now.items c.args.first c.in_ok-behind.behind (map One ones) c.into_parts-ones.result.1.items behind)

@@ -1,6 +1,6 @@
 use Rattle.std.proofs.Common.{◌≡◌, ◌+◌, ◌++◌, length}
 use Rattle.launch_batch.specs.ByStructure.{placed}
-use Rattle.launch_batch.proofs.row.place.Given as goal
+use Rattle.launch_batch.proofs.row.place_others.Given as goal
 
 abbrev pub invariant-loop-input : goal.invariant-loop-input
 invariant-loop-input g l = record {

@@ -37,7 +37,8 @@ fn close_one<T: Batched>(
     Ok(replies)
 }
 
-/// Closes the only structure that a batch has opened, with the outs of each place, and returns the replies to its calls.
+/// Closes the only structure that a batch has opened, with the outs of each place, and returns the replies to its
+/// calls.
 fn close_only<T: Batched>(
     alloc: Global,
     row: &mut Row<T, T::Rest>,

@@ -1,4 +1,3 @@
-pub mod Ends
 pub mod ClaimEnds
 pub mod Steals
 pub mod Allowed

@@ -1,6 +1,5 @@
--- Definitions that only code and proofs cite, here and in the core above: the stored ready lists, the invariant of a
--- stored state, and what a turn looks up.
-pub mod ReadyLists
+-- Definitions that only code and proofs cite, here and in the core above: the invariant of a stored state, and what a
+-- turn looks up.
 pub mod Sizes
 pub mod Gate
 pub mod Lookups

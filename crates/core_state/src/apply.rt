@@ -4,7 +4,7 @@ ghost use Rattle.core_model.specs.Settings.{job_of};
 ghost use Rattle.core_model.specs.Events.{Needs, Does};
 ghost use Rattle.core_model.specs.Ranges.{IsInRange};
 ghost use Rattle.core_state.specs.Code.Gate.{IsOfGate};
-ghost use Rattle.core_state.specs.Code.ReadyLists.{IsAtOneEnd};
+ghost use Rattle.ready_lists.specs.Ends.{IsAtOneEnd};
 ghost use Rattle.core_state.specs.Abstraction.{state_of, ready_of};
 ghost use Rattle.core_state.specs.Code.Sizes.{SameSizes};
 ghost use Rattle.core_model.specs.Lists.{ready_after};

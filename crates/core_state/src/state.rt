@@ -7,10 +7,10 @@ ghost use Rattle.core_model.specs.Tasks.{is_done as node_done};
 mod opening;
 
 use crate::hold::Hold;
-use crate::ready::ReadyLists;
 use batch_history::History;
 use core_model::{CallState, Progress, Status, Task};
 use launch_batch::Shop;
+use ready_lists::ReadyLists;
 
 /// The state of a core. `nodes`, `marks` and `values` are indexed by node; `tasks`, `statuses`, `calls` and `ready` by
 /// worker.

@@ -9,7 +9,7 @@ use Rattle.core_state.specs.declared.state.State.{State as StoredState}
 use Rattle.core_model.specs.Events.{Needs}
 use Rattle.core_model.specs.Choice.{choice}
 use Rattle.core_model.specs.Ranges.{IsInRange}
-use Rattle.core_state.specs.Code.ReadyLists.{IsAtOneEnd}
+use Rattle.ready_lists.specs.Ends.{IsAtOneEnd}
 use Rattle.core_state.specs.Abstraction.{state_of, ready_of, core_state_of, hold_of}
 use Rattle.core_state.specs.Code.Representation.{RepInvariant}
 use Rattle.core_model.proofs.InvariantLemmas.InRange.{event_in}

@@ -8,8 +8,8 @@ use Rattle.core_model.specs.Lists.{times}
 use Rattle.core_model.specs.Invariant.ReadyLists.{ReadyListsInvariant}
 use Rattle.core_model.proofs.Inductive.Parts.{InductiveParts}
 use Rattle.core_model.specs.Choice.{choice, LeavesAnEnd}
-use Rattle.core_state.specs.Code.ReadyLists.{IsOldest, IsNewest, IsAtEnd, IsAtOneEnd}
-use Rattle.core_state.proofs.ChoiceLemmas.Ends.{oldest_stands, newest_stands}
+use Rattle.ready_lists.specs.Ends.{IsOldest, IsNewest, IsAtEnd, IsAtOneEnd}
+use Rattle.ready_lists.proofs.ListLemmas.Ends.{oldest_stands, newest_stands}
 use Rattle.core_model.proofs.ChoiceLemmas.Ready.{once_there, idle_leaves, choice_of_idle}
 
 -- the node is at an end of a list

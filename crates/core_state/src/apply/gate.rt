@@ -23,7 +23,7 @@ fn is_pending(status: Status) -> bool
 
 impl State {
     /// `Post`: the worker's call becomes pending.
-    #[tactic(auto, using(crate::proofs::CodeLemmas::Written::at_written), unfolding(crate::specs::Abstraction::state_of, crate::specs::Abstraction::ready_of))]
+    #[tactic(auto, using(ready_lists::proofs::PlaceLemmas::Written::at_written), unfolding(crate::specs::Abstraction::state_of, crate::specs::Abstraction::ready_of))]
     pub(crate) fn post(&mut self, worker: u32)
         requires status_in { worker < length self.old.statuses.items }
         requires call_in { worker < length self.old.calls.items }
@@ -50,7 +50,7 @@ impl State {
     }
 
     /// `Take`: the flag's owner looks at the worker `other` and takes its call if that is pending.
-    #[tactic(auto, using(crate::proofs::CodeLemmas::Written::at_written), unfolding(crate::specs::Abstraction::state_of, crate::specs::Abstraction::ready_of))]
+    #[tactic(auto, using(ready_lists::proofs::PlaceLemmas::Written::at_written), unfolding(crate::specs::Abstraction::state_of, crate::specs::Abstraction::ready_of))]
     pub(crate) fn take(&mut self, other: u32)
         requires status_in { other < length self.old.statuses.items }
         requires other_in { other < 32 }
@@ -76,7 +76,7 @@ impl State {
     }
 
     /// `Answer`: the worker `other` gets its receipt.
-    #[tactic(auto, using(crate::proofs::CodeLemmas::Written::at_written), unfolding(crate::specs::Abstraction::state_of, crate::specs::Abstraction::ready_of))]
+    #[tactic(auto, using(ready_lists::proofs::PlaceLemmas::Written::at_written), unfolding(crate::specs::Abstraction::state_of, crate::specs::Abstraction::ready_of))]
     pub(crate) fn answer(&mut self, other: u32, receipt: Receipt)
         requires status_in { other < length self.old.statuses.items }
         requires other_in { other < 32 }
@@ -106,7 +106,7 @@ impl State {
     }
 
     /// `Leave`: the worker's status is free again, and its call has the receipt.
-    #[tactic(auto, using(crate::proofs::CodeLemmas::Written::at_written), unfolding(crate::specs::Abstraction::state_of, crate::specs::Abstraction::ready_of))]
+    #[tactic(auto, using(ready_lists::proofs::PlaceLemmas::Written::at_written), unfolding(crate::specs::Abstraction::state_of, crate::specs::Abstraction::ready_of))]
     pub(crate) fn leave(&mut self, worker: u32, receipt: Receipt)
         requires status_in { worker < length self.old.statuses.items }
         requires call_in { worker < length self.old.calls.items }

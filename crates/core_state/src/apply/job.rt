@@ -7,7 +7,7 @@ ghost use Rattle.core_model.specs.Events.{task_after as next_task};
 ghost use Rattle.core_model.specs.declared.progress.Progress.TheVariants.{Done, Ran, Ready, Taken};
 ghost use Rattle.core_model.specs.declared.task.Task.TheVariants.{Started, Kept, Ended, Run};
 ghost use Rattle.core_model.specs.declared.status.CallState.TheVariants.{NotCalled};
-ghost use Rattle.core_state.specs.Code.ReadyLists.{IsAtOneEnd};
+ghost use Rattle.ready_lists.specs.Ends.{IsAtOneEnd};
 ghost use Rattle.core_model.specs.Lists.{without};
 
 use crate::state::State;
@@ -27,7 +27,7 @@ fn task_after(node: u32) -> Task
 
 impl State {
     /// `Claim`: the worker takes a ready node from an end of some list.
-    #[tactic(auto, using(crate::proofs::CodeLemmas::Written::at_written), unfolding(crate::specs::Abstraction::state_of, crate::specs::Abstraction::ready_of))]
+    #[tactic(auto, using(ready_lists::proofs::PlaceLemmas::Written::at_written), unfolding(crate::specs::Abstraction::state_of, crate::specs::Abstraction::ready_of))]
     pub(crate) fn claim(&mut self, worker: u32, node: u32)
         requires worker_in { worker < length self.old.tasks.items }
         requires node_in { node < length self.old.nodes.items }
@@ -47,7 +47,7 @@ impl State {
 
     /// The four open events: a side becomes ready at the newest end of the worker's list. `then` is the worker's next
     /// task.
-    #[tactic(auto, using(crate::proofs::CodeLemmas::Written::at_written), unfolding(crate::specs::Abstraction::state_of, crate::specs::Abstraction::ready_of))]
+    #[tactic(auto, using(ready_lists::proofs::PlaceLemmas::Written::at_written), unfolding(crate::specs::Abstraction::state_of, crate::specs::Abstraction::ready_of))]
     pub(crate) fn open(&mut self, worker: u32, node: u32, then: Task) -> Result<(), AllocError>
         requires worker_in { worker < length self.old.tasks.items }
         requires node_in { node < length self.old.nodes.items }
@@ -67,7 +67,7 @@ impl State {
     }
 
     /// `Start`: the worker starts a leaf and draws a tick.
-    #[tactic(auto, using(crate::proofs::CodeLemmas::Written::at_written), unfolding(crate::specs::Abstraction::state_of, crate::specs::Abstraction::ready_of))]
+    #[tactic(auto, using(ready_lists::proofs::PlaceLemmas::Written::at_written), unfolding(crate::specs::Abstraction::state_of, crate::specs::Abstraction::ready_of))]
     pub(crate) fn start(&mut self, worker: u32, node: u32)
         requires worker_in { worker < length self.old.tasks.items }
         requires room { self.old.tick + 1 < 2 ^ 64 }
@@ -86,7 +86,7 @@ impl State {
     }
 
     /// `Keep`: the leaf's value is stored, and the worker's call state is reset.
-    #[tactic(auto, using(crate::proofs::CodeLemmas::Written::at_written), unfolding(crate::specs::Abstraction::state_of, crate::specs::Abstraction::ready_of))]
+    #[tactic(auto, using(ready_lists::proofs::PlaceLemmas::Written::at_written), unfolding(crate::specs::Abstraction::state_of, crate::specs::Abstraction::ready_of))]
     pub(crate) fn keep(&mut self, worker: u32, node: u32, start: u64, value: u64)
         requires worker_in { worker < length self.old.tasks.items }
         requires call_in { worker < length self.old.calls.items }
@@ -105,7 +105,7 @@ impl State {
     }
 
     /// `End`: the worker ends its leaf and draws a tick.
-    #[tactic(auto, using(crate::proofs::CodeLemmas::Written::at_written), unfolding(crate::specs::Abstraction::state_of, crate::specs::Abstraction::ready_of))]
+    #[tactic(auto, using(ready_lists::proofs::PlaceLemmas::Written::at_written), unfolding(crate::specs::Abstraction::state_of, crate::specs::Abstraction::ready_of))]
     pub(crate) fn end(&mut self, worker: u32, node: u32, start: u64)
         requires worker_in { worker < length self.old.tasks.items }
         requires room { self.old.tick + 1 < 2 ^ 64 }
@@ -125,7 +125,7 @@ impl State {
     }
 
     /// `FinishLeaf`: the leaf is done, with its worker and its two ticks.
-    #[tactic(auto, using(crate::proofs::CodeLemmas::Written::at_written), unfolding(crate::specs::Abstraction::state_of, crate::specs::Abstraction::ready_of))]
+    #[tactic(auto, using(ready_lists::proofs::PlaceLemmas::Written::at_written), unfolding(crate::specs::Abstraction::state_of, crate::specs::Abstraction::ready_of))]
     pub(crate) fn finish_leaf(&mut self, worker: u32, node: u32, start: u64, end: u64)
         requires worker_in { worker < length self.old.tasks.items }
         requires node_in { node < length self.old.nodes.items }
@@ -141,7 +141,7 @@ impl State {
     }
 
     /// `FinishSeq` and `FinishPar`: the block `node` is done.
-    #[tactic(auto, using(crate::proofs::CodeLemmas::Written::at_written), unfolding(crate::specs::Abstraction::state_of, crate::specs::Abstraction::ready_of))]
+    #[tactic(auto, using(ready_lists::proofs::PlaceLemmas::Written::at_written), unfolding(crate::specs::Abstraction::state_of, crate::specs::Abstraction::ready_of))]
     pub(crate) fn finish_block(&mut self, worker: u32, node: u32)
         requires worker_in { worker < length self.old.tasks.items }
         requires node_in { node < length self.old.nodes.items }
@@ -158,7 +158,7 @@ impl State {
 
     /// The two arrive events: a side of the parallel block `node` arrives. `mark` is the number of its sides that have
     /// arrived, this one included, and `then` the worker's next task.
-    #[tactic(auto, using(crate::proofs::CodeLemmas::Written::at_written), unfolding(crate::specs::Abstraction::state_of, crate::specs::Abstraction::ready_of))]
+    #[tactic(auto, using(ready_lists::proofs::PlaceLemmas::Written::at_written), unfolding(crate::specs::Abstraction::state_of, crate::specs::Abstraction::ready_of))]
     pub(crate) fn arrive(&mut self, worker: u32, node: u32, mark: u32, then: Task)
         requires worker_in { worker < length self.old.tasks.items }
         requires node_in { node < length self.old.marks.items }

@@ -6,10 +6,10 @@ ghost use Rattle.core_state.specs.Abstraction.{state_of, ready_of};
 ghost use Rattle.core_state.specs.Code.Sizes.{HasShop, Sizes};
 ghost use Rattle.core_model.specs.declared.progress.Progress.TheVariants.{Waiting};
 
-use crate::ready::ReadyLists;
 use crate::state::State;
 use core_model::{CallState, Progress, Status, Task};
 use launch_batch::Shop;
+use ready_lists::ReadyLists;
 use std::alloc::{AllocError, Global};
 
 /// A list of `count` copies of an item.

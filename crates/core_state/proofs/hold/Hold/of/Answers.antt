@@ -1,5 +1,5 @@
 use Rattle.std.proofs.Common.{refl, false}
-use Rattle.core_state.proofs.CodeLemmas.Copies.{at_copies}
+use Rattle.ready_lists.proofs.PlaceLemmas.Copies.{at_copies}
 use Rattle.core_state.proofs.hold.Hold.of.Goals as goal
 
 pub returns : goal.returns

@@ -1,7 +1,7 @@
 use Rattle.std.proofs.Common.{refl}
 use Rattle.core_state.specs.Abstraction.{state_of}
 use Rattle.core_state.specs.Words.{Waiting, Ready, Idle}
-use Rattle.core_state.proofs.CodeLemmas.Written.{at_written}
+use Rattle.ready_lists.proofs.PlaceLemmas.Written.{at_written}
 use Rattle.core_state.proofs.state.State.open.Goals as goal
 
 pub returns-clause-event : goal.returns-clause-event

@@ -2,7 +2,7 @@ use Rattle.std.proofs.Common.{length, refl, ap, ◌∙◌}
 use Rattle.std.proofs.lemmas.List.{length-replicate}
 use Rattle.core_model.specs.State.{opening_state}
 use Rattle.core_state.specs.Abstraction.{state_of, ready_of}
-use Rattle.core_state.proofs.CodeLemmas.Copies.{copied}
+use Rattle.ready_lists.proofs.PlaceLemmas.Copies.{copied}
 use Rattle.core_state.proofs.state.State.opening.Goals as goal
 
 pub returns-clause-sizes : goal.returns-clause-sizes

@@ -2,8 +2,8 @@ use Rattle.std.proofs.Common.{◌<◌, length, replicate, ap, ◌∙◌}
 use Rattle.std.proofs.lemmas.List.{length-replicate}
 use Rattle.core_model.specs.State.{put, opening_state}
 use Rattle.core_model.specs.declared.progress.Progress.TheVariants.{Waiting, Ready}
-use Rattle.core_state.proofs.CodeLemmas.Written.{at_written}
-use Rattle.core_state.proofs.CodeLemmas.Copies.{at_copies}
+use Rattle.ready_lists.proofs.PlaceLemmas.Written.{at_written}
+use Rattle.ready_lists.proofs.PlaceLemmas.Copies.{at_copies}
 use Rattle.core_state.proofs.state.opening.opening_nodes.Goals as goal
 
 pub returns-clause-items : goal.returns-clause-items

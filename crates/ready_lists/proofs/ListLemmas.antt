@@ -1,0 +1,2 @@
+pub mod NonEmpty
+pub mod Ends

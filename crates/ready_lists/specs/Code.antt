@@ -1,0 +1,2 @@
+-- Definitions that only code and proofs cite: how many of the lists are not empty.
+pub mod NonEmpty

@@ -1,5 +1,6 @@
 -- The code of a publish: its preconditions hold, and it performs the event.
 use Rattle.std.proofs.Common.{ℕ, ◌≡◌, false, true, Some, None, List, arith, refl, sym, subst, ◌∙◌, ap}
+use Rattle.std.proofs.lemmas.Option.{same_Some}
 use Rattle.sp_order.specs.Jobs.{JobValue}
 use Rattle.core_model.proofs.Words.{Entry, Hold, core_job}
 use Rattle.core_state.specs.Words.{Publish}
@@ -22,9 +23,6 @@ use Rattle.core_state.proofs.BatchLemmas.SameCalls.{taken_too}
 use Rattle.core_state.proofs.BatchLemmas.Serving.{may_serve}
 use Rattle.core_state.proofs.CodeLemmas.KeptParts.{kept_parts}
 
-same_hold : (a b : Hold) → Some a ≡ Some b → a ≡ b
-same_hold a b e = cc
-
 held : (t : StoredState) (hold : StoredHold) → t.hold ≡ Some hold → (state_of t).hold ≡ Some (hold_view hold)
 unfolding state_of
 held t hold there = rw there refl
@@ -33,10 +31,10 @@ objects_are : (t : StoredState) → (state_of t).objects ≡ served_book (state_
 unfolding state_of
 objects_are t = refl
 
-module _ (job : JobValue) (workers : ℕ) (t : StoredState) (hold : StoredHold) (w : ℕ) (h : RepInvariant job workers t)
+module _ {job : JobValue} {workers : ℕ} {t : StoredState} {hold : StoredHold} (w : ℕ) (h : RepInvariant job workers t)
     (needs : Needs (core_job job workers) (state_of t) w Publish) (there : t.hold ≡ Some hold) where
   same : needs.0 ≡ hold_view hold
-  same = same_hold needs.0 (hold_view hold) (sym needs.1.0 ∙ held t hold there)
+  same = same_Some needs.0 (hold_view hold) (sym needs.1.0 ∙ held t hold there)
 
   unpublished : (hold_view hold).published ≡ false
   unpublished = ap (λ (x : Hold). x.published) (sym same) ∙ needs.4
@@ -50,7 +48,7 @@ module _ (job : JobValue) (workers : ℕ) (t : StoredState) (hold : StoredHold) 
   some_taken : (u : ℕ) × (at hold.taken false u ≡ true)
   some_taken = (needs.3.0, ap (λ (x : Hold). x.taken needs.3.0) (sym same) ∙ needs.3.1)
 
-  module _ (calls : List Call) (taken : AreTakenCalls (core_job job workers) (state_of t).book (state_of t).task (at hold.taken false) calls) where
+  module _ {calls : List Call} (taken : AreTakenCalls (core_job job workers) (state_of t).book (state_of t).task (at hold.taken false) calls) where
     -- the shop may serve the taken calls
     pub can_serve : MayServe (state_of t).book calls
     can_serve = may_serve (core_job job workers) (state_of t) (hold_view hold) h.laws (kept_parts job workers t h) (held t hold there) unpublished calls taken

@@ -1,6 +1,7 @@
 -- A node chosen for a claim is at an end of one list and in no other.
-use Rattle.std.proofs.Common.{ℕ, ◌≡◌, ◌≢◌, ◌-◌, ◌⊎◌, List, [], ◌∷◌, ◌++◌, length, get_or, arith, refl, inl, inr, sym, ◌∙◌, length-append}
+use Rattle.std.proofs.Common.{ℕ, ◌≡◌, ◌≢◌, ◌-◌, ◌⊎◌, List, [], ◌∷◌, ◌++◌, length, arith, refl, inl, inr, sym, ◌∙◌, length-append}
 use Rattle.std.proofs.lemmas.Bool.{cases_eq}
+use Rattle.std.proofs.lemmas.List.{get_or_push}
 use Rattle.core_model.proofs.Words.{CoreJob, CoreState}
 use Rattle.core_state.specs.Words.{Progress, Idle, Free, Claim}
 use Rattle.std.proofs.Common.{Some}
@@ -16,14 +17,10 @@ use Rattle.core_model.proofs.ChoiceLemmas.Ready.{once_there, idle_leaves, choice
 abbrev EndsOne : (ℕ → List ℕ) → ℕ → Type 0
 EndsOne ready n = (v : ℕ) × (IsOldest n (ready v) ⊎ IsNewest n (ready v))
 
-last_get : (rest : List ℕ) (n : ℕ) → get_or (rest ++ n ∷ []) (length rest) n ≡ n
-last_get [] n = refl
-last_get (x ∷ xs) n = last_get xs n
-
 newest_end : (rest : List ℕ) (n : ℕ) → IsNewest n (rest ++ n ∷ [])
 newest_end rest n =
     let len = length-append rest (n ∷ []) in
-    let e : length (rest ++ n ∷ []) - 1 ≡ length rest = omega (arith, len) in (omega (arith, len), rw e (last_get rest n))
+    let e : length (rest ++ n ∷ []) - 1 ≡ length rest = omega (arith, len) in (omega (arith, len), rw e (get_or_push rest n n (length rest) refl))
 
 ends_one : (ready : ℕ → List ℕ) (w n : ℕ) → LeavesAnEnd ready w n → EndsOne ready n
 ends_one ready w n (inl (rest, at, off)) = (w, inr (rw at (newest_end rest n)))

@@ -1,12 +1,12 @@
 -- Removing a number that occurs once in a list, at one of its ends.
 use Rattle.std.proofs.Common.{ℕ, zero, suc, ◌≡◌, ◌≢◌, ◌<◌, ◌≤◌, ◌+◌, ◌-◌, ◌⊎◌, List, [], ◌∷◌, length, get_or, arith, refl, inl, inr, sym, ◌∙◌, Bool, true, false, take, drop}
 use Rattle.std.proofs.lemmas.Grind.{common_steps}
+use Rattle.std.proofs.lemmas.List.{get_or_past}
 use Rattle.std.proofs.lemmas.Bool.{cases_eq, cases_lt}
 use Rattle.std.proofs.lemmas.Bool.Decides.{nat_tests}
 use Rattle.core_model.specs.Lists.{without, times}
 use Rattle.ready_lists.specs.Places.{at}
 use Rattle.ready_lists.specs.Ends.{IsOldest, IsNewest, IsAtEnd}
-use Rattle.ready_lists.proofs.PlaceLemmas.Written.{at_beyond}
 use Rattle.core_model.proofs.InvariantLemmas.Puts.{put_at, put_other}
 use Rattle.core_model.specs.State.{put}
 use Rattle.core_model.proofs.ChoiceLemmas.Ready.{without_none}
@@ -83,7 +83,7 @@ removed_all xs n none = λ i v. removed v i
     removed : (v : ℕ) → at xs [] v ≡ without n (at xs [] v)
     removed v = elim (cases_lt v (length xs)) [
       | inl below ↦ sym (without_none n (at xs [] v) (none v below))
-      | inr past ↦ let e = at_beyond xs v [] past in rw e refl
+      | inr past ↦ let e = get_or_past xs v [] past in rw e refl
     ]
 
 pub oldest_stands : (n : ℕ) (xs : List ℕ) → IsOldest n xs → times n xs ≢ 0

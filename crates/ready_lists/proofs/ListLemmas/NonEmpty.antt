@@ -1,6 +1,6 @@
 -- Counting the non-empty lists of ready nodes.
 use Rattle.std.proofs.Common.{ℕ, zero, suc, ◌≡◌, ◌≢◌, ◌<◌, ◌≤◌, ◌+◌, ◌-◌, List, [], ◌∷◌, length, get_or, replicate, slice_set, arith, refl, inl, inr, sym, ap, subst}
-use Rattle.std.proofs.lemmas.List.{length-set}
+use Rattle.std.proofs.lemmas.List.{get_or_past, get_or_read, length-set}
 use Rattle.std.proofs.lemmas.Bool.{cases_eq, cases_lt}
 use Rattle.core_model.specs.State.{put}
 use Rattle.core_model.specs.Lists.{times}
@@ -11,7 +11,7 @@ use Rattle.ready_lists.proofs.PlaceLemmas.Copies.{at_copies}
 use Rattle.core_model.proofs.InvariantLemmas.Puts.{put_at, put_other}
 use Rattle.core_model.proofs.MeasureLemmas.Jobs.{total_change}
 use Rattle.core_model.proofs.MeasureLemmas.Lowers.{total_zero}
-use Rattle.ready_lists.proofs.PlaceLemmas.Written.{at_beyond, at_place, at_written}
+use Rattle.ready_lists.proofs.PlaceLemmas.Written.{at_written}
 
 one_at_most : (xs : List ℕ) → one_if_non_empty xs ≤ 1
 one_at_most [] = omega arith
@@ -39,21 +39,21 @@ count_set : (xs : List (List ℕ)) (w : ℕ) (old q : List ℕ) → w < length x
     → non_empty_in (slice_set xs w q) + one_if_non_empty old ≡ non_empty_in xs + one_if_non_empty q
 count_set xs w old q below is =
     subst (λ (f : ℕ → List ℕ). total (λ v. one_if_non_empty (f v)) (length (slice_set xs w q)) + one_if_non_empty old ≡ non_empty_in xs + one_if_non_empty q)
-    (sym (at_written xs w q [] below)) (rw (length-set xs w q, ← (at_place xs w old [] below is)) (put_count (at xs []) w (length xs) q below))
+    (sym (at_written xs w q [] below)) (rw (length-set xs w q, get_or_read xs w old below is []) (put_count (at xs []) w (length xs) q below))
 
 -- the count includes a list that is not empty
-pub counted : (xs : List (List ℕ)) (w before : ℕ) (old : List ℕ) → w < length xs → old ≡ get_or xs w old
+pub counted : (xs : List (List ℕ)) (w : ℕ) {before : ℕ} {old : List ℕ} → w < length xs → old ≡ get_or xs w old
     → before ≡ one_if_non_empty old → before ≤ non_empty_in xs
-counted xs w before old below is one =
-    let e = rw (at_place xs w old [] below is) at (put_count (at xs []) w (length xs) [] below) in omega (arith, e, one)
+counted xs w {before} {old} below is one =
+    let e = rw (← (get_or_read xs w old below is [])) at (put_count (at xs []) w (length xs) [] below) in omega (arith, e, one)
 
-module _ (xs : List (List ℕ)) (w number before after : ℕ) (old q : List ℕ) (below : w < length xs) (is : old ≡ get_or xs w old)
+module _ (xs : List (List ℕ)) (w : ℕ) {number before after : ℕ} {old : List ℕ} (q : List ℕ) (below : w < length xs) (is : old ≡ get_or xs w old)
     (count : number ≡ non_empty_in xs) (one : before ≡ one_if_non_empty old) (then : after ≡ one_if_non_empty q) where
   -- the incremental count is right after a list is replaced
   pub recounted : number - before + after ≡ non_empty_in (slice_set xs w q)
   recounted =
       let e = count_set xs w old q below is in
-      let l = counted xs w before old below is one in omega (arith, e, l, count, one, then)
+      let l = counted xs w below is one in omega (arith, e, l, count, one, then)
 
   pub recounted_at_most : number - before + after ≤ length xs
   recounted_at_most = rw (recounted, ← (length-set xs w q)) (count_at_most (slice_set xs w q))
@@ -78,7 +78,7 @@ each_zero f (suc n) e m below = elim (cases_eq m n) [
 pub each_empty : (xs : List (List ℕ)) → non_empty_in xs ≡ 0 → (w : ℕ) → at xs [] w ≡ []
 each_empty xs e w = elim (cases_lt w (length xs)) [
   | inl below ↦ none_in (at xs [] w) (each_zero (λ v. one_if_non_empty (at xs [] v)) (length xs) e w below)
-  | inr past ↦ at_beyond xs w [] past
+  | inr past ↦ get_or_past xs w [] past
 ]
 
 -- fresh empty lists count 0

@@ -1,5 +1,5 @@
 -- How writing an item of a list changes the function of its places.
-use Rattle.std.proofs.Common.{ℕ, ◌≡◌, ◌<◌, ◌≤◌, List, length, get_or, arith, slice_set}
+use Rattle.std.proofs.Common.{ℕ, ◌≡◌, ◌<◌, List, length, arith, slice_set}
 use Rattle.std.proofs.lemmas.Grind.{common_steps}
 use Rattle.std.proofs.lemmas.Bool.Decides.{nat_tests}
 use Rattle.core_model.specs.State.{put}
@@ -10,11 +10,3 @@ at_set xs n x d m below = grind (arith, nat_tests, common_steps)
 
 pub at_written : {A : Type 0} (xs : List A) (n : ℕ) (x d : A) → n < length xs → at (slice_set xs n x) d ≡ put (at xs d) n x
 at_written xs n x d below = λ i m. at_set xs n x d m below i
-
--- the item at an index within the list
-pub at_place : {A : Type 0} (xs : List A) (n : ℕ) (old d : A) → n < length xs → old ≡ get_or xs n old → at xs d n ≡ old
-at_place xs n old d below is = grind (arith, common_steps)
-
--- beyond the end the default stands
-pub at_beyond : {A : Type 0} (xs : List A) (n : ℕ) (d : A) → length xs ≤ n → at xs d n ≡ d
-at_beyond xs n d past = grind (arith, common_steps)

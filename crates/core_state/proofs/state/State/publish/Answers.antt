@@ -10,30 +10,25 @@ unreachable-requires c = no_hold c.args.self.now c.requires.needs.0 c.in_default
 
 pub taken_calls-requires-clause-started : goal.taken_calls-requires-clause-started
 unfolding state_of
-taken_calls-requires-clause-started c =
-    (λ w below took. (looks c.args.setting.now c.args.self.now c.requires.fits).owed w
-    (taken_owed c.args.setting.now.job c.args.setting.now.workers c.args.self.now c.in-Some.hold c.args.worker c.requires.fits c.requires.needs c.in-Some.is w took))
+taken_calls-requires-clause-started c = λ v below took.
+    (looks c.args.setting.now c.args.self.now c.requires.fits).owed v (taken_owed c.args.worker c.requires.fits c.requires.needs c.in-Some.is v took)
 
 pub taken_calls-requires-clause-at_call : goal.taken_calls-requires-clause-at_call
 unfolding state_of
-taken_calls-requires-clause-at_call c =
-    (λ w below took. at_call c.args.setting.now.job c.args.setting.now.workers c.args.self.now c.in-Some.hold c.args.worker c.requires.fits c.requires.needs c.in-Some.is w took)
+taken_calls-requires-clause-at_call c = λ v below took. at_call c.args.worker c.requires.fits c.requires.needs c.in-Some.is v took
 
-pub serve_taken-requires-clause-there : goal.serve_taken-requires-clause-there
-serve_taken-requires-clause-there c = rw c.take.ensures.value c.requires.fits.shop
-
-pub serve_taken-requires-clause-may : goal.serve_taken-requires-clause-may
+pub serve_taken-requires : goal.serve_taken-requires
 unfolding state_of
-serve_taken-requires-clause-may c =
-    let taken = c.in_ok-calls.ensures in
-    rw c.take.ensures.value (can_serve c.args.setting.now.job c.args.setting.now.workers c.args.self.now c.in-Some.hold c.args.worker c.requires.fits c.requires.needs c.in-Some.is c.in_ok-calls.calls.items taken)
+serve_taken-requires c = record {
+  there = rw c.take.ensures.value c.requires.fits.shop;
+  may = rw c.take.ensures.value (can_serve c.args.worker c.requires.fits c.requires.needs c.in-Some.is c.in_ok-calls.ensures);
+}
 
 pub returns-clause-event : goal.returns-clause-event
 unfolding state_of
 returns-clause-event c =
-    let taken = c.in_ok-calls.ensures in
     let served = rw c.take.ensures.value at c.in_ok-shop.ensures in
-    let batch = served_batch c.args.setting.now.job c.args.setting.now.workers c.args.self.now c.in-Some.hold c.args.worker c.requires.fits c.requires.needs c.in-Some.is c.in_ok-calls.calls.items taken served.0 served.1 in
+    let batch = served_batch c.args.worker c.requires.fits c.requires.needs c.in-Some.is c.in_ok-calls.ensures served.0 served.1 in
     (served.0, batch, rw (c.in-Some.is, c.publish.ensures, c.put_back.ensures, served.2, served_then (book_of c.args.self.now.shop) served.0) refl)
 
 pub returns-clause-lists : goal.returns-clause-lists

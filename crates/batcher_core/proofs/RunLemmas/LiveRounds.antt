@@ -1,7 +1,7 @@
 -- A round of the live workers: a turn of each, before the turns that are left.
 use Rattle.std.proofs.Common.{ℕ, ◌≡◌, ◌<◌, ◌≤◌, ◌+◌, ◌%◌, ◌||◌, Bool, true, false, Option, Some, None, arith, refl, inl, inr, sym, ◌∙◌, ap, subst, zero-add}
 use Rattle.std.specs.Option.{is_some}
-use Rattle.std.proofs.lemmas.Bool.{cases_eq}
+use Rattle.std.proofs.lemmas.Bool.{cases_eq, or_parts}
 use Rattle.std.proofs.Math.Nat.{add-mod_right, mod-eq_of_lt}
 use Rattle.core_model.proofs.Words.{IsPlan, CoreJob, CoreState, is_done}
 use Rattle.core_state.specs.Words.{Event}
@@ -84,10 +84,6 @@ rests_past job live s i off rest v below on = elim (cases_eq v i) [
   | inr other ↦ rest v (omega (arith, below, other)) on
 ]
 
-both_false : (a b : Bool) → (a || b) ≡ false → (a ≡ false) × (b ≡ false)
-both_false true b e = absurd cc
-both_false false b e = (refl, e)
-
 -- two consecutive parts of a round
 lowers_both : (before moved : Bool) (a b c : ℕ) → (b ≤ a) × (before ≡ true → b < a) → (c ≤ b) × (moved ≡ true → c < b) → (c ≤ a) × ((before || moved) ≡ true → c < a)
 lowers_both true moved a b c h g = (let low = h.0 in let then' = g.0 in omega (arith, low, then'), λ _. let less = h.1 refl in let then' = g.0 in omega (arith, less, then'))
@@ -105,7 +101,7 @@ module _ (first core next : CoreView) (live : ℕ → Bool) (i : ℕ) (same : Sa
 
   pub rests_after : (before ≡ false → RestBelow (job_in first) live (state_in core) i) → (before || moved) ≡ false → RestBelow (job_in first) live (state_in next) (i + 1)
   rests_after rest none v among on =
-      let both = both_false before moved none in
+      let both = or_parts before moved none in
       let this = turn_rests (job_in core) (state_in core) (state_in next) i turn moved is both.1 in
       let mine : choice (job_in first) (state_in core) i ≡ None = subst (λ (j : CoreJob). choice j (state_in core) i ≡ None) (job_same first core same) this.0 in
       subst (λ (s : CoreState). choice (job_in first) s v ≡ None) (sym this.1)

@@ -14,27 +14,19 @@ overflow_cast-leaf_total c =
     let count = (c.plan_stands_for_tree.ensures (job_tree c.self.inside.setting.job)).count in
     omega (arith, ap length c.acts.ensures.acts, fits.leaves, fits.most, few, count)
 
-pub rows_of-requires-clause-ran : goal.rows_of-requires-clause-ran
+pub rows_of-requires : goal.rows_of-requires
 unfolding state_of
-rows_of-requires-clause-ran c =
+rows_of-requires c =
     let over = over_is _ _ (rw (← c.self.view_is) at c.requires) in
     let fits = c.self.invariant.1 over.0 in
-    let job = core_job c.self.inside.setting.job c.self.inside.setting.workers in
-    let parts = fits.inv.parts in
-    let all : length c.acts.result.now ≡ leaves (job_tree c.self.inside.setting.job) = ap length c.acts.ensures.acts ∙ sym fits.leaves in
-    rw (c.deref.ensures.value, all)
-    (λ leaf below. (c.done_leaves_have_run.ensures job (job_tree c.self.inside.setting.job) (state_of c.self.inside.table) (c.plan_stands_for_tree.ensures (job_tree c.self.inside.setting.job)) parts over.1 leaf below).0)
-
-pub rows_of-requires-clause-valued : goal.rows_of-requires-clause-valued
-unfolding state_of
-rows_of-requires-clause-valued c =
-    let over = over_is _ _ (rw (← c.self.view_is) at c.requires) in
-    let fits = c.self.invariant.1 over.0 in
-    let job = core_job c.self.inside.setting.job c.self.inside.setting.workers in
-    let parts = fits.inv.parts in
-    let all : length c.acts.result.now ≡ leaves (job_tree c.self.inside.setting.job) = ap length c.acts.ensures.acts ∙ sym fits.leaves in
-    rw (c.deref-2.ensures.value, all)
-    (λ leaf below. (c.done_leaves_have_run.ensures job (job_tree c.self.inside.setting.job) (state_of c.self.inside.table) (c.plan_stands_for_tree.ensures (job_tree c.self.inside.setting.job)) parts over.1 leaf below).1)
+    let tree = job_tree c.self.inside.setting.job in
+    let all : length c.acts.result.now ≡ leaves tree = ap length c.acts.ensures.acts ∙ sym fits.leaves in
+    let run = c.done_leaves_have_run.ensures (core_job c.self.inside.setting.job c.self.inside.setting.workers) tree (state_of c.self.inside.table) (c.plan_stands_for_tree.ensures tree) fits.inv.parts over.1 in
+    record {
+      few = omega (arith, all);
+      ran = rw (c.deref.ensures.value, all) (λ leaf below. (run leaf below).0);
+      valued = rw (c.deref-2.ensures.value, all) (λ leaf below. (run leaf below).1);
+    }
 
 pub returns-clause-leaves : goal.returns-clause-leaves
 returns-clause-leaves c =

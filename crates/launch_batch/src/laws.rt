@@ -11,6 +11,7 @@ ghost use Rattle.launch_batch.specs.Calls.{AreSame, IsServiceOf};
 ghost use Rattle.launch_batch.specs.Pieces.{Run, Meets, place_of, ArePutBack};
 
 use crate::piece::{PieceIn, PieceOut};
+pub use crate::sending::shops_go_to_threads;
 
 fn can_be_sent<T: Send>() {}
 

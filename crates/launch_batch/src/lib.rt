@@ -19,6 +19,7 @@ mod outs;
 pub mod piece;
 mod pieces;
 pub mod row;
+mod sending;
 mod serving;
 pub mod shop;
 pub mod structures;
